@@ -1,0 +1,4 @@
+pub mod Naming
+pub mod Nulls
+pub mod RowMajor
+pub mod Table

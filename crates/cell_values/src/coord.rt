@@ -1,0 +1,83 @@
+//! Coordinates of cells and chunks, and the order of cells.
+ghost use Rattle.std.specs.Prelude.{◌≡◌, ◌≤◌, ◌↔◌, length, IsTrue};
+ghost use Rattle.arrayvec.specs.ArrayVec.{array_vec_len};
+ghost use Rattle.cell_values.specs.RowMajor.{row_order};
+
+use crate::{Copies, Memory};
+use arrayvec::ArrayVec;
+use std::cmp::Ordering;
+
+/// Where a cell is: a number for each dimension, the first dimension first.
+pub type Coord = ArrayVec<i64, 6>;
+
+/// Which chunk: for each dimension the number of chunks before it.
+pub type ChunkAt = ArrayVec<u64, 6>;
+
+/// How far chunks reach into their neighbours, for each dimension.
+pub type Margins = ArrayVec<u64, 6>;
+
+/// The order of cells in an array: the first dimension in which they differ decides.
+pub fn row_major(a: &Coord, b: &Coord) -> Ordering
+    requires { array_vec_len a.now ≡ array_vec_len b.now }
+    ensures { result ≡ row_order a.now.items b.now.items }
+{
+    a.as_slice().cmp(b.as_slice())
+}
+
+/// Whether two coordinates are the same.
+#[tactic(auto, using(crate::proofs::Places::equal_coords))]
+pub fn same_place(a: &Coord, b: &Coord) -> bool
+    ensures { IsTrue result ↔ (a.now ≡ b.now) }
+{
+    a.as_slice() == b.as_slice()
+}
+
+/// Whether two numbers of chunks, or two margins, are the same.
+#[tactic(auto, using(crate::proofs::Places::equal_numbers))]
+pub fn same_numbers(a: &ChunkAt, b: &ChunkAt) -> bool
+    ensures { IsTrue result ↔ (a.now ≡ b.now) }
+{
+    a.as_slice() == b.as_slice()
+}
+
+/// The coordinate of these numbers.
+pub fn coord_of(numbers: &[i64]) -> Coord
+    requires { length numbers.now ≤ 6 }
+    ensures { result.items ≡ numbers.now }
+{
+    let mut at = Coord::new();
+    for number in numbers {
+        at.push(*number);
+    }
+    at
+}
+
+/// The same coordinate once more.
+pub fn copy_coord(at: &Coord) -> Coord
+    ensures { result ≡ at.now }
+{
+    coord_of(at.as_slice())
+}
+
+/// The same numbers of chunks, or the same margins, once more.
+pub fn copy_numbers(at: &ChunkAt) -> ChunkAt
+    ensures { result ≡ at.now }
+{
+    let mut copy = ChunkAt::new();
+    for number in at.as_slice() {
+        copy.push(*number);
+    }
+    copy
+}
+
+impl Copies for Coord {
+    fn copy(&self) -> Result<Coord, Memory> {
+        Ok(copy_coord(self))
+    }
+}
+
+impl Copies for ChunkAt {
+    fn copy(&self) -> Result<ChunkAt, Memory> {
+        Ok(copy_numbers(self))
+    }
+}

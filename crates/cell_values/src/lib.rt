@@ -1,0 +1,22 @@
+//! The values of cells, their schemas, and the arithmetic and logic of expressions.
+#![tactic(auto)]
+
+pub mod coord;
+pub mod datum;
+pub mod list;
+pub mod memory;
+pub mod name;
+mod orders;
+pub mod schema;
+pub mod table;
+
+pub use coord::{
+    ChunkAt, Coord, Margins, coord_of, copy_coord, copy_numbers, row_major, same_numbers,
+    same_place,
+};
+pub use datum::{Broken, Cell, Code, CompareOp, Datum, FaultKind, Row};
+pub use list::{Bytes, Copies, List};
+pub use memory::Memory;
+pub use name::{Name, Span};
+pub use schema::{Attribute, Bounds, Dimension, Kind, Schema};
+pub use table::{MAX_TEXT, add, and3, compare, div, mul, neg, not3, or3, rem, sub};

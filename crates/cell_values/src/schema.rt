@@ -1,0 +1,125 @@
+//! The schemas of arrays.
+ghost use Rattle.std.specs.Prelude.{◌≡◌, IfOk};
+
+use crate::coord::copy_coord;
+use crate::{Coord, Copies, List, Memory, Name};
+
+/// Of which values an attribute is.
+#[derive(Clone, Copy, Debug, PartialEq, Eq)]
+pub enum Kind {
+    Int64,
+    Str,
+    Bool,
+}
+
+#[derive(Debug, Drop, PartialEq, Eq)]
+pub struct Attribute {
+    pub name: Name,
+    pub kind: Kind,
+    /// Whether a cell may hold a null here.
+    pub nullable: bool,
+}
+
+/// A dimension with the places `lo` to `hi`, cut into chunks.
+#[derive(Debug, Drop, PartialEq, Eq)]
+pub struct Dimension {
+    pub name: Name,
+    pub lo: i64,
+    /// The last place; 4611686018427387903 is written `*`.
+    pub hi: i64,
+    /// How many places a chunk has.
+    pub chunk: u64,
+    /// How many places a chunk shares with each neighbour.
+    pub overlap: u64,
+}
+
+#[derive(Debug, Drop, PartialEq, Eq)]
+pub struct Schema {
+    pub attributes: List<Attribute>,
+    pub dimensions: List<Dimension>,
+}
+
+/// A box of coordinates, both corners included. Where some `lo` is above its `hi`, it holds none.
+#[derive(Debug, Drop, PartialEq, Eq)]
+pub struct Bounds {
+    pub lo: Coord,
+    pub hi: Coord,
+}
+
+impl Attribute {
+    pub fn copy(&self) -> Result<Attribute, Memory>
+        ensures { IfOk result (λ copy. copy ≡ self.now) }
+    {
+        Ok(Attribute {
+            name: self.name.copy()?,
+            kind: self.kind,
+            nullable: self.nullable,
+        })
+    }
+}
+
+impl Copies for Attribute {
+    fn copy(&self) -> Result<Attribute, Memory> {
+        self.copy()
+    }
+}
+
+impl Dimension {
+    pub fn copy(&self) -> Result<Dimension, Memory>
+        ensures { IfOk result (λ copy. copy ≡ self.now) }
+    {
+        Ok(Dimension {
+            name: self.name.copy()?,
+            lo: self.lo,
+            hi: self.hi,
+            chunk: self.chunk,
+            overlap: self.overlap,
+        })
+    }
+}
+
+impl Copies for Dimension {
+    fn copy(&self) -> Result<Dimension, Memory> {
+        self.copy()
+    }
+}
+
+impl Schema {
+    pub fn copy(&self) -> Result<Schema, Memory>
+        ensures { IfOk result (λ copy. copy ≡ self.now) }
+    {
+        Ok(Schema {
+            attributes: self.attributes.copy()?,
+            dimensions: self.dimensions.copy()?,
+        })
+    }
+}
+
+impl Bounds {
+    pub fn copy(&self) -> Result<Bounds, Memory>
+        ensures { IfOk result (λ copy. copy ≡ self.now) }
+    {
+        Ok(Bounds {
+            lo: copy_coord(&self.lo),
+            hi: copy_coord(&self.hi),
+        })
+    }
+}
+
+impl Copies for Kind {
+    fn copy(&self) -> Result<Kind, Memory> {
+        Ok(*self)
+    }
+}
+
+impl Copies for Schema {
+    fn copy(&self) -> Result<Schema, Memory> {
+        self.copy()
+    }
+}
+
+impl Copies for Bounds {
+    fn copy(&self) -> Result<Bounds, Memory> {
+        self.copy()
+    }
+}
