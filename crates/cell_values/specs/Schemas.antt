@@ -1,5 +1,5 @@
 -- The rules of a schema. Names are names by their type, so that no rule speaks of their bytes.
-use Rattle.std.specs.Prelude.{ℕ, ◌+◌, ◌*◌, ◌^◌, ℤ, unsigned_abs, int_le, Bool, true, not, ◌&&◌, nat_le, List, [], ◌∷◌, ◌++◌, map, length, IsTrue}
+use Rattle.std.specs.Prelude.{ℕ, ◌+◌, ◌*◌, ℤ, unsigned_abs, int_le, Bool, true, not, ◌&&◌, nat_le, List, [], ◌∷◌, ◌++◌, map, length, IsTrue}
 use Rattle.std.specs.List.{list_all, list_any}
 use Rattle.std.specs.Str.{bytes_eq}
 use Rattle.cell_values.specs.declared.schema.Attribute.{Attribute}

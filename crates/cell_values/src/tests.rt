@@ -218,6 +218,16 @@ fn copies_are_equal(rt: HostRuntime) -> Result<(), Fail> {
         overlap: 1,
     })?;
     assert_eq!(rt; schema.copy()?, schema);
+    let bounds = Bounds {
+        lo: coord_of([0].as_slice()),
+        hi: coord_of([3].as_slice()),
+    };
+    assert_eq!(rt; bounds.copy()?, bounds);
+    let broken = Broken {
+        at: coord_of([2].as_slice()),
+        kind: FaultKind::Collision,
+    };
+    assert_eq!(rt; broken.copy()?, broken);
     let mut values = List::new(alloc);
     values.push(null(7))?;
     values.push(text(alloc, b"t".as_slice())?)?;
