@@ -1,5 +1,5 @@
 //! Values, cells and rows.
-ghost use Rattle.std.specs.Prelude.{◌≡◌, ◌≤◌, ◌↔◌, IsSome, IfSome, IfOk};
+ghost use Rattle.std.specs.Prelude.{◌≡◌, ◌≤◌, ◌↔◌, IsSome, IfSome, IsOk, IfOk};
 ghost use Rattle.cell_values.specs.Nulls.{is_null};
 
 use crate::coord::copy_coord;
@@ -145,8 +145,10 @@ impl Row {
 }
 
 impl Broken {
+    /// An equal value, which takes no memory.
     pub fn copy(&self) -> Result<Broken, Memory>
-        ensures { IfOk result (λ copy. copy ≡ self.now) }
+        ensures value { IfOk result (λ copy. copy ≡ self.now) }
+        ensures succeeds { IsOk result }
     {
         Ok(Broken {
             at: copy_coord(&self.at),

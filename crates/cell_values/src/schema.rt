@@ -1,5 +1,5 @@
 //! The schemas of arrays.
-ghost use Rattle.std.specs.Prelude.{◌≡◌, IfOk};
+ghost use Rattle.std.specs.Prelude.{◌≡◌, IsOk, IfOk};
 
 use crate::coord::copy_coord;
 use crate::{Coord, Copies, List, Memory, Name};
@@ -96,8 +96,10 @@ impl Schema {
 }
 
 impl Bounds {
+    /// An equal box, which takes no memory.
     pub fn copy(&self) -> Result<Bounds, Memory>
-        ensures { IfOk result (λ copy. copy ≡ self.now) }
+        ensures value { IfOk result (λ copy. copy ≡ self.now) }
+        ensures succeeds { IsOk result }
     {
         Ok(Bounds {
             lo: copy_coord(&self.lo),
