@@ -1,5 +1,5 @@
 -- One schema that meets the rules, and for each rule one that breaks it alone.
-use Rattle.std.proofs.Common.{◌≡◌, refl, ℕ, ℤ, pos, negsuc, true, false, List, [], ◌∷◌, codes}
+use Rattle.std.proofs.Common.{◌≡◌, refl, ℕ, zero, suc, ◌+◌, ◌/◌, ◌%◌, replicate, ℤ, pos, negsuc, true, false, List, [], ◌∷◌, codes}
 use Rattle.cell_values.specs.declared.schema.Attribute.{Attribute}
 use Rattle.cell_values.specs.declared.schema.Dimension.{Dimension}
 use Rattle.cell_values.specs.declared.schema.Schema.{Schema}
@@ -57,3 +57,26 @@ six_dimensions = refl
 
 seven_dimensions : is_valid (schema (attribute (codes "a") ∷ []) (dimension (codes "t") (pos 0) (pos 3) 2 0 ∷ six)) ≡ false
 seven_dimensions = refl
+
+-- `a`, `b` and so on, `aa` for the 27th
+abbrev name_of : ℕ → List ℕ
+name_of n = (97 + n % 26) ∷ replicate (n / 26) 97
+
+abbrev attributes_from : ℕ → ℕ → List Attribute
+attributes_from first zero = []
+attributes_from first (suc n) = attribute (name_of first) ∷ attributes_from (first + 1) n
+
+many_attributes : is_valid (schema (attributes_from 0 64) (dimension (codes "X") (pos 0) (pos 3) 2 0 ∷ [])) ≡ true
+many_attributes = refl
+
+too_many_attributes : is_valid (schema (attributes_from 0 65) (dimension (codes "X") (pos 0) (pos 3) 2 0 ∷ [])) ≡ false
+too_many_attributes = refl
+
+high_above_range : is_valid (schema (attribute (codes "a") ∷ []) (dimension (codes "x") (pos 0) (pos 4611686018427387904) 2 0 ∷ [])) ≡ false
+high_above_range = refl
+
+overlap_of_a_chunk : is_valid (schema (attribute (codes "a") ∷ []) (dimension (codes "x") (pos 0) (pos 3) 2 2 ∷ [])) ≡ true
+overlap_of_a_chunk = refl
+
+one_name_twice : is_valid (schema (attribute (codes "a") ∷ []) (x ∷ x ∷ [])) ≡ false
+one_name_twice = refl

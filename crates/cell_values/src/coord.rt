@@ -1,5 +1,5 @@
 //! Coordinates of cells and chunks, and the order of cells.
-ghost use Rattle.std.specs.Prelude.{◌≡◌, ◌≤◌, ◌↔◌, length, IsTrue};
+ghost use Rattle.std.specs.Prelude.{◌≡◌, ◌≤◌, ◌↔◌, length, IsTrue, IsOk, IfOk};
 ghost use Rattle.arrayvec.specs.ArrayVec.{array_vec_len};
 ghost use Rattle.cell_values.specs.RowMajor.{row_order};
 
@@ -71,13 +71,19 @@ pub fn copy_numbers(at: &ChunkAt) -> ChunkAt
 }
 
 impl Copies for Coord {
-    fn copy(&self) -> Result<Coord, Memory> {
+    fn copy(&self) -> Result<Coord, Memory>
+        ensures value { IfOk result (λ copy. copy ≡ self.now) }
+        ensures succeeds { IsOk result }
+    {
         Ok(copy_coord(self))
     }
 }
 
 impl Copies for ChunkAt {
-    fn copy(&self) -> Result<ChunkAt, Memory> {
+    fn copy(&self) -> Result<ChunkAt, Memory>
+        ensures value { IfOk result (λ copy. copy ≡ self.now) }
+        ensures succeeds { IsOk result }
+    {
         Ok(copy_numbers(self))
     }
 }

@@ -47,6 +47,7 @@ impl Code {
         }
     }
 
+    /// The number, from 1 to 127.
     pub fn number(&self) -> u8
         ensures value { result ≡ self.now }
         ensures range { (1 ≤ result) × (result ≤ 127) }
@@ -108,6 +109,7 @@ impl Datum {
         matches!(self, Datum::Null | Datum::Missing(_))
     }
 
+    /// An equal value.
     pub fn copy(&self) -> Result<Datum, Memory>
         ensures { IfOk result (λ copy. copy ≡ self.now) }
     {
@@ -123,6 +125,7 @@ impl Datum {
 }
 
 impl Cell {
+    /// An equal cell.
     pub fn copy(&self) -> Result<Cell, Memory>
         ensures { IfOk result (λ copy. copy ≡ self.now) }
     {
@@ -134,6 +137,7 @@ impl Cell {
 }
 
 impl Row {
+    /// An equal row.
     pub fn copy(&self) -> Result<Row, Memory>
         ensures { IfOk result (λ copy. copy ≡ self.now) }
     {
@@ -158,13 +162,19 @@ impl Broken {
 }
 
 impl Copies for Code {
-    fn copy(&self) -> Result<Code, Memory> {
+    fn copy(&self) -> Result<Code, Memory>
+        ensures value { IfOk result (λ copy. copy ≡ self.now) }
+        ensures succeeds { IsOk result }
+    {
         Ok(*self)
     }
 }
 
 impl Copies for FaultKind {
-    fn copy(&self) -> Result<FaultKind, Memory> {
+    fn copy(&self) -> Result<FaultKind, Memory>
+        ensures value { IfOk result (λ copy. copy ≡ self.now) }
+        ensures succeeds { IsOk result }
+    {
         Ok(*self)
     }
 }
@@ -188,7 +198,10 @@ impl Copies for Row {
 }
 
 impl Copies for Broken {
-    fn copy(&self) -> Result<Broken, Memory> {
+    fn copy(&self) -> Result<Broken, Memory>
+        ensures value { IfOk result (λ copy. copy ≡ self.now) }
+        ensures succeeds { IsOk result }
+    {
         self.copy()
     }
 }

@@ -1,5 +1,5 @@
 //! A list that contracts see as the list of its items, and copies of values.
-ghost use Rattle.std.specs.Prelude.{◌≡◌, ◌<◌, ◌≤◌, ◌^◌, ◌++◌, [], ◌∷◌, ◌↔◌, length, take, insert, remove, slice_get, slice_index_or, slice_set, IsTrue, IfOk, OnOk, OnErr, OnSome, MatchOption};
+ghost use Rattle.std.specs.Prelude.{◌≡◌, ◌<◌, ◌≤◌, ◌^◌, ◌++◌, [], ◌∷◌, ◌↔◌, length, take, insert, remove, slice_get, slice_index_or, slice_set, IsTrue, IsOk, IfOk, OnOk, OnErr, OnSome, MatchOption};
 ghost use Rattle.std.specs.Option.{option_copied};
 ghost use Rattle.std.specs.Iterator.Runs.{EveryRun, ItemsMapTo};
 ghost use Rattle.std.specs.Iterator.Adapters.{IterYieldsInOrder};
@@ -49,7 +49,7 @@ impl<T> List<T> {
         }
     }
 
-    /// No items, and room for `room` of them.
+    /// No items, and room for `room` of them. No clause tells the room.
     pub fn with_capacity(alloc: Global, room: usize) -> Result<List<T>, Memory>
         ensures { IfOk result (λ list. list ≡ []) }
     {
@@ -58,12 +58,14 @@ impl<T> List<T> {
         })
     }
 
+    /// The items of a vector, without new memory.
     pub fn from_vec(items: Vec<T>) -> List<T>
         ensures { result ≡ items.items }
     {
         List { items }
     }
 
+    /// The items as a vector, without new memory.
     pub fn into_vec(self) -> Vec<T>
         ensures { result.items ≡ self }
     {
@@ -78,10 +80,12 @@ impl<T> List<T> {
         List::new(self.allocator())
     }
 
+    /// The allocator with which the list was made.
     pub fn allocator(&self) -> Global {
         *self.items.allocator()
     }
 
+    /// How many items there are.
     pub fn len(&self) -> usize
         ensures { result ≡ length self.now }
     {
@@ -94,12 +98,14 @@ impl<T> List<T> {
         self.items.is_empty()
     }
 
+    /// The items.
     pub fn as_slice(&self) -> &[T]
         ensures { result.now ≡ self.now }
     {
         self.items.as_slice()
     }
 
+    /// Goes over the items, the first one first.
     pub fn iter(&self) -> Iter<'_, T>
         ensures rest { iter_rest result ≡ self.now }
         ensures bound { length (iter_rest result) < 2 ^ 64 }
@@ -264,43 +270,64 @@ impl<'a, T> IntoIterator for &'a List<T> {
 }
 
 impl Copies for u8 {
-    fn copy(&self) -> Result<u8, Memory> {
+    fn copy(&self) -> Result<u8, Memory>
+        ensures value { IfOk result (λ copy. copy ≡ self.now) }
+        ensures succeeds { IsOk result }
+    {
         Ok(*self)
     }
 }
 
 impl Copies for u16 {
-    fn copy(&self) -> Result<u16, Memory> {
+    fn copy(&self) -> Result<u16, Memory>
+        ensures value { IfOk result (λ copy. copy ≡ self.now) }
+        ensures succeeds { IsOk result }
+    {
         Ok(*self)
     }
 }
 
 impl Copies for u32 {
-    fn copy(&self) -> Result<u32, Memory> {
+    fn copy(&self) -> Result<u32, Memory>
+        ensures value { IfOk result (λ copy. copy ≡ self.now) }
+        ensures succeeds { IsOk result }
+    {
         Ok(*self)
     }
 }
 
 impl Copies for u64 {
-    fn copy(&self) -> Result<u64, Memory> {
+    fn copy(&self) -> Result<u64, Memory>
+        ensures value { IfOk result (λ copy. copy ≡ self.now) }
+        ensures succeeds { IsOk result }
+    {
         Ok(*self)
     }
 }
 
 impl Copies for usize {
-    fn copy(&self) -> Result<usize, Memory> {
+    fn copy(&self) -> Result<usize, Memory>
+        ensures value { IfOk result (λ copy. copy ≡ self.now) }
+        ensures succeeds { IsOk result }
+    {
         Ok(*self)
     }
 }
 
 impl Copies for i64 {
-    fn copy(&self) -> Result<i64, Memory> {
+    fn copy(&self) -> Result<i64, Memory>
+        ensures value { IfOk result (λ copy. copy ≡ self.now) }
+        ensures succeeds { IsOk result }
+    {
         Ok(*self)
     }
 }
 
 impl Copies for bool {
-    fn copy(&self) -> Result<bool, Memory> {
+    fn copy(&self) -> Result<bool, Memory>
+        ensures value { IfOk result (λ copy. copy ≡ self.now) }
+        ensures succeeds { IsOk result }
+    {
         Ok(*self)
     }
 }

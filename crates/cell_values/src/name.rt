@@ -1,5 +1,5 @@
 //! Names of arrays, attributes and dimensions, and spans of a text.
-ghost use Rattle.std.specs.Prelude.{◌≡◌, ◌↔◌, IsTrue, IfOk, IsSome, IfSome};
+ghost use Rattle.std.specs.Prelude.{◌≡◌, ◌↔◌, IsTrue, IsOk, IfOk, IsSome, IfSome};
 ghost use Rattle.std.specs.List.{list_all};
 ghost use Rattle.cell_values.specs.Naming.{IsName, is_name, begins_well, is_word_byte, is_first_byte, is_reserved};
 
@@ -97,6 +97,7 @@ impl Name {
         }
     }
 
+    /// The bytes of the name.
     pub fn as_slice(&self) -> &[u8]
         ensures value { result.now ≡ self.now }
         ensures valid { IsName self.now }
@@ -104,6 +105,7 @@ impl Name {
         self.bytes.as_slice()
     }
 
+    /// An equal name.
     pub fn copy(&self) -> Result<Name, Memory>
         ensures { IfOk result (λ copy. copy ≡ self.now) }
     {
@@ -120,7 +122,10 @@ impl Copies for Name {
 }
 
 impl Copies for Span {
-    fn copy(&self) -> Result<Span, Memory> {
+    fn copy(&self) -> Result<Span, Memory>
+        ensures value { IfOk result (λ copy. copy ≡ self.now) }
+        ensures succeeds { IsOk result }
+    {
         Ok(*self)
     }
 }

@@ -47,6 +47,7 @@ pub struct Bounds {
 }
 
 impl Attribute {
+    /// An equal attribute.
     pub fn copy(&self) -> Result<Attribute, Memory>
         ensures { IfOk result (λ copy. copy ≡ self.now) }
     {
@@ -65,6 +66,7 @@ impl Copies for Attribute {
 }
 
 impl Dimension {
+    /// An equal dimension.
     pub fn copy(&self) -> Result<Dimension, Memory>
         ensures { IfOk result (λ copy. copy ≡ self.now) }
     {
@@ -85,6 +87,7 @@ impl Copies for Dimension {
 }
 
 impl Schema {
+    /// An equal schema.
     pub fn copy(&self) -> Result<Schema, Memory>
         ensures { IfOk result (λ copy. copy ≡ self.now) }
     {
@@ -109,7 +112,10 @@ impl Bounds {
 }
 
 impl Copies for Kind {
-    fn copy(&self) -> Result<Kind, Memory> {
+    fn copy(&self) -> Result<Kind, Memory>
+        ensures value { IfOk result (λ copy. copy ≡ self.now) }
+        ensures succeeds { IsOk result }
+    {
         Ok(*self)
     }
 }
@@ -121,7 +127,10 @@ impl Copies for Schema {
 }
 
 impl Copies for Bounds {
-    fn copy(&self) -> Result<Bounds, Memory> {
+    fn copy(&self) -> Result<Bounds, Memory>
+        ensures value { IfOk result (λ copy. copy ≡ self.now) }
+        ensures succeeds { IsOk result }
+    {
         self.copy()
     }
 }

@@ -1,6 +1,6 @@
 //! The arithmetic, the comparisons and the logic of values.
 //!
-//! Operands of types that an operator does not have give null.
+//! For operands of types that an operator does not have the answer means nothing.
 ghost use Rattle.std.specs.Prelude.{◌≡◌, IfOk, MatchOption};
 ghost use Rattle.cell_values.specs.Table.{exact, joined, total, difference, product, quotient, remainder, negation, holds, comparison, both_of, either_of, opposite};
 
