@@ -1,7 +1,8 @@
 //! Cutting a script into statements, byte by byte.
-ghost use Rattle.std.specs.Prelude.{◌≡◌, ◌≢◌, ℕ, ◌<◌, ◌≤◌, ◌^◌, List, [], ◌∷◌, ◌++◌, length, IfOk};
-ghost use Rattle.afl_lexer.specs.Split.{Piece, last_piece, statements, closed_statements};
+ghost use Rattle.std.specs.Prelude.{◌≡◌, ◌≢◌, ℕ, ◌<◌, ◌≤◌, ◌^◌, ◌==◌, ◌&&◌, false, List, [], ◌∷◌, ◌++◌, length, IfOk};
+ghost use Rattle.afl_lexer.specs.Split.{next_place, is_outside, is_white, last_piece, statements, closed_statements};
 ghost use Rattle.afl_lexer.specs.Standing.{StandsAfter, Shows, bytes_read, step_of, step_at, told};
+ghost use Rattle.afl_lexer.specs.Standing.{keeps_blank, may_end_blank, reading, longer, ended, step_there};
 
 use cell_values::Memory;
 use std::alloc::Global;
@@ -35,25 +36,68 @@ enum Place {
     InComment,
 }
 
+impl Place {
+    /// Neither in a text nor in a comment.
+    fn is_outside(self) -> bool
+        ensures { result ≡ is_outside self }
+    {
+        matches!(self, Place::Outside | Place::AfterDash)
+    }
+
+    /// The place of the byte after this one.
+    fn after(self, byte: u8) -> Place
+        ensures { result ≡ next_place self byte }
+    {
+        match (self, byte) {
+            (Place::InText, b'\'') | (Place::InComment, b'\n') => Place::Outside,
+            (Place::InText, b'\\') => Place::AfterBackslash,
+            (Place::InText | Place::AfterBackslash, _) => Place::InText,
+            (Place::InComment, _) | (Place::AfterDash, b'-') => Place::InComment,
+            (_, b'\'') => Place::InText,
+            (_, b'-') => Place::AfterDash,
+            _ => Place::Outside,
+        }
+    }
+
+    /// Whether a blank piece stays blank with this byte, if a first `-` comes to open a comment.
+    fn keeps_blank(self, byte: u8) -> bool
+        ensures { result ≡ keeps_blank self byte }
+    {
+        match self {
+            Place::Outside => matches!(byte, b'\t' | b'\n' | b'\r' | b' ' | b'-'),
+            Place::AfterDash => byte == b'-',
+            Place::InText | Place::AfterBackslash => false,
+            Place::InComment => true,
+        }
+    }
+}
+
 /// Cuts a script into statements, with memory for one of them.
 #[derive(Debug, Drop)]
 pub struct Splitter {
+    /// Where the next byte stands.
     place: Place,
+    /// Where the piece starts, and where it ends so far.
     start: u64,
     end: u64,
+    /// Its bytes, none where there are too many.
     bytes: Vec<u8>,
+    /// Whether it is blank, if a `-` at its end comes to open a comment.
     is_blank: bool,
+    /// Whether a `;` ended it.
     is_ended: bool,
 }
 
 impl Model for Splitter {
-    ghost use Rattle.std.specs.Prelude.{◌≤◌, ◌-◌, ◌^◌, length};
-    ghost use Rattle.std.specs.Vec.{vec_capacity};
-    ghost use Rattle.afl_lexer.specs.Standing.{Splitting};
+    ghost use Rattle.std.specs.Prelude.{◌≤◌, ◌-◌, ◌+◌, ◌^◌, if◌then◌else◌};
+    ghost use Rattle.std.specs.Vec.{vec_len, vec_capacity};
+    ghost use Rattle.afl_lexer.specs.Standing.{Splitting, IsWithin};
 
     ghost Value = { Splitting };
 
     ghost view = { λ s. record { place = s.place; start = s.start; end = s.end; bytes = s.bytes.items; is_blank = s.is_blank; is_ended = s.is_ended } };
+
+    ghost invariant = { λ s. IsWithin s.start s.end s.is_ended (vec_len s.bytes) (vec_capacity s.bytes) };
 }
 
 impl Splitter {
@@ -80,6 +124,11 @@ impl Splitter {
         ensures shown { (script : List ℕ) → StandsAfter script self.old → result ≢ SplitStep.More → Shows self.new (last_piece script) }
         ensures statements { (script : List ℕ) → StandsAfter script self.old → closed_statements (script ++ byte ∷ []) ≡ closed_statements script ++ told result self.new }
     {
+        self.begin();
+        if self.ends_at(byte) {
+            return self.end();
+        }
+        self.read(byte);
         SplitStep::More
     }
 
@@ -90,7 +139,8 @@ impl Splitter {
         ensures shown { (script : List ℕ) → StandsAfter script self.old → Shows self.new (last_piece script) }
         ensures statements { (script : List ℕ) → StandsAfter script self.old → statements script ≡ closed_statements script ++ told result self.new }
     {
-        SplitStep::Blank
+        self.begin();
+        self.step()
     }
 
     /// Where in the script the last piece starts and ends, in bytes, and its bytes: none where it is too long.
@@ -101,5 +151,68 @@ impl Splitter {
         ensures limit { length self.now.bytes ≤ 1048576 }
     {
         (self.start, self.end, self.bytes.as_slice())
+    }
+
+    /// Leaves a piece that a `;` ended for the one behind it.
+    fn begin(&mut self)
+        ensures { self.new ≡ reading self.old }
+    {
+        if self.is_ended {
+            self.end += 1;
+            self.start = self.end;
+            self.bytes.clear();
+            self.is_blank = true;
+            self.is_ended = false;
+        }
+    }
+
+    /// Whether this byte ends the piece.
+    fn ends_at(&self, byte: u8) -> bool
+        ensures { result ≡ (byte == 59 && is_outside self.now.place) }
+    {
+        byte == b';' && self.place.is_outside()
+    }
+
+    /// Ends the piece at a `;`.
+    fn end(&mut self) -> SplitStep
+        requires room { self.old.end < 2 ^ 63 }
+        requires running { self.old.is_ended ≡ false }
+        ensures step { result ≡ step_there self.old }
+        ensures ended { self.new ≡ ended self.old }
+    {
+        let step = self.step();
+        self.place = Place::Outside;
+        self.is_ended = true;
+        step
+    }
+
+    /// Takes a byte into the piece.
+    fn read(&mut self, byte: u8)
+        requires room { self.old.end < 2 ^ 63 }
+        requires running { self.old.is_ended ≡ false }
+        ensures { self.new ≡ longer self.old byte }
+    {
+        self.is_blank = self.is_blank && self.place.keeps_blank(byte);
+        self.place = self.place.after(byte);
+        self.end += 1;
+        if self.end - self.start > LIMIT {
+            self.bytes.clear();
+        } else {
+            // There is room, so it takes no memory.
+            let _ = self.bytes.push(byte);
+        }
+    }
+
+    /// What is told of the piece if it ends here.
+    fn step(&self) -> SplitStep
+        ensures { result ≡ step_there self.now }
+    {
+        if self.end - self.start > LIMIT {
+            SplitStep::TooLong
+        } else if self.is_blank && self.place != Place::AfterDash {
+            SplitStep::Blank
+        } else {
+            SplitStep::Piece
+        }
     }
 }
