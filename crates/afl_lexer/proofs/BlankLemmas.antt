@@ -29,7 +29,7 @@ all_are : (place : Place) (bytes : List ℕ) → list_all (passed_from place byt
 all_are place [] = refl
 all_are place (byte ∷ rest) =
     ap (λ b. is_passed_over place byte (get_or rest 0 0) && b)
-      (shifted (passed_from place (byte ∷ rest)) (passed_from (next_place place byte) rest) 0 (length rest) (next_is place byte rest) ∙ all_are (next_place place byte) rest)
+    (shifted (passed_from place (byte ∷ rest)) (passed_from (next_place place byte) rest) 0 (length rest) (next_is place byte rest) ∙ all_are (next_place place byte) rest)
 
 -- a `-` that waits for another finds it
 abbrev waits : Place → List ℕ → Bool
@@ -58,15 +58,18 @@ and_one false = refl
 -- outside, by the byte: `'`, `-`, or another
 stays_outside : (byte : ℕ) (rest : List ℕ) → Stays Outside rest → Stays AfterDash rest → Stays Outside (byte ∷ rest)
 stays_outside byte rest other dash = elim (eqb_tells byte 39) [
-    inl (_, is) ↦ rw is
+  | inl (_, is) ↦ rw is
   | inr (quote, _) ↦ elim (eqb_tells byte 45) [
-      inl (_, is) ↦ rw (is, dash) (and_swap (all_passed AfterDash rest) (get_or rest 0 0 == 45))
-    | inr (hyphen, _) ↦ rw (quote, hyphen, other) (and_true (is_white byte) (all_passed Outside rest)) ] ]
+    | inl (_, is) ↦ rw (is, dash) (and_swap (all_passed AfterDash rest) (get_or rest 0 0 == 45))
+    | inr (hyphen, _) ↦ rw (quote, hyphen, other) (and_true (is_white byte) (all_passed Outside rest))
+  ]
+]
 
 stays_dash : (byte : ℕ) (rest : List ℕ) → Stays InComment rest → Stays AfterDash (byte ∷ rest)
 stays_dash byte rest comment = elim (eqb_tells byte 45) [
-    inl (_, is) ↦ rw is comment
-  | inr (hyphen, _) ↦ rw hyphen (sym (and_right _ false refl)) ]
+  | inl (_, is) ↦ rw is comment
+  | inr (hyphen, _) ↦ rw hyphen (sym (and_right _ false refl))
+]
 
 stays : (place : Place) (bytes : List ℕ) → Stays place bytes
 stays Outside [] = refl
@@ -80,7 +83,7 @@ stays InText (byte ∷ rest) = refl
 stays AfterBackslash (byte ∷ rest) = refl
 stays InComment (byte ∷ rest) =
     elim (byte == 10) as (λ ends. stays_blank (if ends then Outside else InComment) rest ≡ ((true && all_passed (if ends then Outside else InComment) rest) && true))
-      [ true ↦ stays Outside rest | false ↦ stays InComment rest ]
+    [ true ↦ stays Outside rest | false ↦ stays InComment rest ]
 
 -- blank bytes are those that leave a piece blank from its start
 pub blank_by_bytes : (bytes : List ℕ) → is_blank bytes ≡ stays_blank Outside bytes

@@ -24,7 +24,7 @@ kept_below p a zero m low = tt
 kept_below p a (suc n) m low =
     let rest : AllByRecursion (λ i. i < m) (filter p (range_with_len (a + 1) n)) = kept_below p (a + 1) n m (omega arith) in
     elim (p a) as (λ b. AllByRecursion (λ i. i < m) (cond b (a ∷ filter p (range_with_len (a + 1) n)) (filter p (range_with_len (a + 1) n))))
-      [ true ↦ (omega arith, rest) | false ↦ rest ]
+    [ true ↦ (omega arith, rest) | false ↦ rest ]
 
 -- the test of `ends`
 abbrev ends_at : List ℕ → ℕ → Bool
@@ -38,8 +38,8 @@ ends_more script byte =
     let len : length more ≡ suc n = length-append script (byte ∷ []) ∙ add-one n in
     let here : ends_at more n ≡ ends_piece script byte = rw (take_at script (byte ∷ []) n refl, get_or_at script byte [] 0 n refl) in
     let before : filter (ends_at more) (range_with_len 0 n) ≡ ends script =
-        filter_same (ends_at more) (ends_at script) 0 n
-          (λ i low high. rw (take-append-le i script (byte ∷ []) (omega arith), get_or_append_left script (byte ∷ []) 0 i (omega arith))) in
+    filter_same (ends_at more) (ends_at script) 0 n
+    (λ i low high. rw (take-append-le i script (byte ∷ []) (omega arith), get_or_append_left script (byte ∷ []) 0 i (omega arith))) in
     ap (λ k. filter (ends_at more) (range_with_len 0 k)) len
     ∙ ap (filter (ends_at more)) (range_more 0 n)
     ∙ filter-append (ends_at more) (range_with_len 0 n) ((0 + n) ∷ [])
@@ -83,11 +83,12 @@ pieces_are script =
 -- a piece has its bytes whatever comes behind
 bytes_stay : (script : List ℕ) (byte start end : ℕ) → end ≤ length script → slice_range (script ++ byte ∷ []) start end ≡ slice_range script start end
 bytes_stay script byte start end within = elim (cases_lt end start) [
-    inl above ↦ let none : end - start ≡ 0 = omega arith in rw none
+  | inl above ↦ let none : end - start ≡ 0 = omega arith in rw none
   | inr order ↦
       let low : start ≤ length script = omega arith in
       let room : end - start ≤ length (drop start script) = omega (arith, length-drop start script) in
-      rw (drop-append-le start script (byte ∷ []) low, take-append-le (end - start) (drop start script) (byte ∷ []) room) ]
+      rw (drop-append-le start script (byte ∷ []) low, take-append-le (end - start) (drop start script) (byte ∷ []) room)
+]
 
 pub piece_stays : (script : List ℕ) (byte start end : ℕ) → end ≤ length script → piece_at (script ++ byte ∷ []) start end ≡ piece_at script start end
 piece_stays script byte start end within = rw (bytes_stay script byte start end within)

@@ -37,7 +37,7 @@ and_assoc false y z = refl
 -- the bytes that a splitter keeps of a piece, with one byte more
 kept_longer : (bytes : List ℕ) (byte start end : ℕ)
     → (if nat_lt 1048576 (end + 1 - start) then [] else (if nat_lt 1048576 (end - start) then [] else bytes) ++ byte ∷ [])
-      ≡ (if nat_lt 1048576 (end + 1 - start) then [] else bytes ++ byte ∷ [])
+    ≡ (if nat_lt 1048576 (end + 1 - start) then [] else bytes ++ byte ∷ [])
 kept_longer bytes byte start end = cases (nat_lt 1048576 (end + 1 - start)) refl
   where
     cases : (t : Bool) → nat_lt 1048576 (end + 1 - start) ≡ t
@@ -62,14 +62,21 @@ tells piece s shows = by_length (is_too_long piece) shows.bytes
 
     by_length : (long : Bool) → s.bytes ≡ (if long then [] else piece.bytes)
         → cons_option (if long then Some (record { start = piece.start; end = piece.end; text = None })
-            else (if is_blank piece.bytes then None else Some (record { start = piece.start; end = piece.end; text = Some piece.bytes }))) []
-          ≡ told (if long then step.TooLong else (if is_blank piece.bytes then step.Blank else step.Piece)) s
+        else (if is_blank piece.bytes then None else Some (record { start = piece.start; end = piece.end; text = Some piece.bytes }))) []
+        ≡ told (if long then step.TooLong else (if is_blank piece.bytes then step.Blank else step.Piece)) s
     by_length true is = rw (shows.start, shows.end)
     by_length false is = by_blank (is_blank piece.bytes) is
 
 pub reads_nothing : Reads [] (record { place = Outside; start = 0; end = 0; bytes = []; is_blank = true; is_ended = false })
 reads_nothing = record {
-  place = refl; start = refl; end = refl; bytes = refl; order = omega arith; blank = blank_by_bytes; running = refl }
+  place = refl;
+  start = refl;
+  end = refl;
+  bytes = refl;
+  order = omega arith;
+  blank = blank_by_bytes;
+  running = refl;
+}
 
 module _ (script : List ℕ) (s : Splitting) (reads : Reads script s) where
   pub shows_last : Shows s (last_piece script)
@@ -78,7 +85,7 @@ module _ (script : List ℕ) (s : Splitting) (reads : Reads script s) where
   pub step_is : step_there s ≡ step_of (last_piece script)
   step_is =
       let blank : is_blank (last_piece script).bytes ≡ (s.is_blank && stays_blank s.place []) =
-          ap is_blank (sym (append-nil (last_piece script).bytes)) ∙ reads.blank [] in
+      ap is_blank (sym (append-nil (last_piece script).bytes)) ∙ reads.blank [] in
       rw (reads.start, reads.end, ← blank)
 
   pub rest_told : statements script ≡ closed_statements script ++ told (step_there s) s
@@ -102,7 +109,8 @@ module _ (script : List ℕ) (s : Splitting) (reads : Reads script s) where
           bytes = sym (ap kept_bytes last ∙ none_kept (length script + 1));
           order = omega arith;
           blank = λ rest. ap (λ (p : Piece). is_blank (p.bytes ++ rest)) last ∙ blank_by_bytes rest;
-          running = refl }
+          running = refl;
+        }
 
     pub end_step : (byte == 59 && is_outside s.place) ≡ true → step_there s ≡ step_at script byte
     end_step ends = rw (ends_is ∙ ends) step_is
@@ -117,7 +125,7 @@ module _ (script : List ℕ) (s : Splitting) (reads : Reads script s) where
     more_stands more =
         let last = last_longer script byte (ends_is ∙ more) in
         let kept : (longer s byte).bytes ≡ kept_bytes (record { start = (last_piece script).start; end = length script + 1; bytes = (last_piece script).bytes ++ byte ∷ [] }) =
-            rw (reads.end, reads.bytes, reads.start) (kept_longer (last_piece script).bytes byte (last_piece script).start (length script)) in
+        rw (reads.end, reads.bytes, reads.start) (kept_longer (last_piece script).bytes byte (last_piece script).start (length script)) in
         record {
           place = rw reads.place (sym (place_more script byte));
           start = reads.start ∙ sym (ap (λ p. p.start) last);
@@ -125,10 +133,11 @@ module _ (script : List ℕ) (s : Splitting) (reads : Reads script s) where
           bytes = kept ∙ sym (ap kept_bytes last);
           order = omega (arith, reads.order);
           blank = λ rest.
-            ap (λ (p : Piece). is_blank (p.bytes ++ rest)) last
-            ∙ ap is_blank (append_assoc (last_piece script).bytes (byte ∷ []) rest)
-            ∙ reads.blank (byte ∷ rest) ∙ and_assoc s.is_blank (keeps_blank s.place byte) (stays_blank (next_place s.place byte) rest);
-          running = refl }
+              ap (λ (p : Piece). is_blank (p.bytes ++ rest)) last
+              ∙ ap is_blank (append_assoc (last_piece script).bytes (byte ∷ []) rest)
+              ∙ reads.blank (byte ∷ rest) ∙ and_assoc s.is_blank (keeps_blank s.place byte) (stays_blank (next_place s.place byte) rest);
+          running = refl;
+        }
 
     pub more_step : (byte == 59 && is_outside s.place) ≡ false → step.More ≡ step_at script byte
     more_step more = rw (ends_is ∙ more)

@@ -9,12 +9,12 @@ use Rattle.afl_lexer.specs.Split.{Piece, Statement, place_after, next_place, las
 
 -- what a splitter holds: of the piece that it reads, or of the one that a `;` just ended
 pub record Splitting : Type 0 where
-  pub place : Place       -- where the next byte stands
+  pub place : Place  -- where the next byte stands
   pub start : ℕ
   pub end : ℕ
-  pub bytes : List ℕ      -- none where there are too many
-  pub is_blank : Bool     -- is it blank, if a `-` at its end comes to open a comment?
-  pub is_ended : Bool     -- did a `;` end it?
+  pub bytes : List ℕ  -- none where there are too many
+  pub is_blank : Bool  -- is it blank, if a `-` at its end comes to open a comment?
+  pub is_ended : Bool  -- did a `;` end it?
 
 -- the same, with the piece behind the `;` in place of the one that it ended
 abbrev pub reading : Splitting → Splitting
@@ -101,7 +101,8 @@ longer s byte = record {
   end = s.end + 1;
   bytes = if nat_lt 1048576 (s.end + 1 - s.start) then [] else s.bytes ++ byte ∷ [];
   is_blank = s.is_blank && keeps_blank s.place byte;
-  is_ended = false }
+  is_ended = false;
+}
 
 -- the piece, ended by a `;`
 abbrev pub ended : Splitting → Splitting

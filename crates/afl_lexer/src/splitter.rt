@@ -216,3 +216,6 @@ impl Splitter {
         }
     }
 }
+
+#[cfg(test)]
+mod tests;
