@@ -125,7 +125,7 @@ impl Splitter {
         ensures statements { (script : List ℕ) → StandsAfter script self.old → closed_statements (script ++ byte ∷ []) ≡ closed_statements script ++ told result self.new }
     {
         self.begin();
-        if self.ends_at(byte) {
+        if self.is_end(byte) {
             return self.end();
         }
         self.read(byte);
@@ -167,7 +167,7 @@ impl Splitter {
     }
 
     /// Whether this byte ends the piece.
-    fn ends_at(&self, byte: u8) -> bool
+    fn is_end(&self, byte: u8) -> bool
         ensures { result ≡ (byte == 59 && is_outside self.now.place) }
     {
         byte == b';' && self.place.is_outside()
