@@ -51,7 +51,7 @@ abbrev pub may_end_blank : Place → Bool
 may_end_blank AfterDash = false
 may_end_blank _ = true
 
--- a piece that is blank up to this place is blank with these bytes
+-- a piece that is blank up to this place, and then has just these bytes, is blank
 abbrev pub stays_blank : Place → List ℕ → Bool
 stays_blank place [] = may_end_blank place
 stays_blank place (byte ∷ rest) = keeps_blank place byte && stays_blank (next_place place byte) rest
@@ -66,7 +66,7 @@ pub record Reads (script : List ℕ) (s : Splitting) : Type 0 where
   pub blank : (rest : List ℕ) → is_blank ((last_piece script).bytes ++ rest) ≡ (s.is_blank && stays_blank s.place rest)
   pub running : s.is_ended ≡ false
 
--- the splitter stands after the bytes of a script: it was made, and just these were pushed
+-- the splitter stands after the bytes of a script: it holds what one does to which just these were pushed
 abbrev pub StandsAfter : List ℕ → Splitting → Type 0
 StandsAfter script s = Reads script (reading s)
 

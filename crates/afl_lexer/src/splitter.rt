@@ -72,7 +72,8 @@ impl Place {
     }
 }
 
-/// Cuts a script into statements, with memory for one of them.
+/// Cuts a script into statements, with memory for one of them. A text runs from a `'` to the next that no `\` escapes;
+/// a comment runs from `--` to the line feed, or to the script's end.
 #[derive(Debug, Drop)]
 pub struct Splitter {
     /// Where the next byte stands.
@@ -115,8 +116,8 @@ impl Splitter {
         })
     }
 
-    /// Takes the next byte of the script, and tells what it ended. After a step other than `More` the next byte begins
-    /// a new piece.
+    /// Takes the next byte of the script, and tells what it ended: a `;` outside texts and comments ends a piece, and
+    /// the next byte begins a new one. It takes no memory.
     pub fn push(&mut self, byte: u8) -> SplitStep
         requires { bytes_read self.old < 2 ^ 63 }
         ensures stands { (script : List ℕ) → StandsAfter script self.old → StandsAfter (script ++ byte ∷ []) self.new }
@@ -132,7 +133,7 @@ impl Splitter {
         SplitStep::More
     }
 
-    /// Tells what the last piece is, which the script's end ends.
+    /// Tells what the last piece is, which the script's end ends: `Blank` also where it has no bytes.
     pub fn finish(&mut self) -> SplitStep
         ensures stands { (script : List ℕ) → StandsAfter script self.old → StandsAfter script self.new }
         ensures step { (script : List ℕ) → StandsAfter script self.old → result ≡ step_of (last_piece script) }
@@ -143,7 +144,8 @@ impl Splitter {
         self.step()
     }
 
-    /// Where in the script the last piece starts and ends, in bytes, and its bytes: none where it is too long.
+    /// Where in the script the piece that was told last starts and ends, in bytes, and its bytes: none where it is too
+    /// long. After `More` it is the piece as far as it was read.
     pub fn piece(&self) -> (u64, u64, &[u8])
         ensures start { result.0 ≡ self.now.start }
         ensures end { result.1 ≡ self.now.end }

@@ -1,5 +1,5 @@
 -- One byte more closes the statement that its step tells.
-use Rattle.std.proofs.Common.{◌≡◌, ℕ, ◌+◌, List, [], ◌∷◌, ◌++◌, take, get_or, map, sym, ◌∙◌}
+use Rattle.std.proofs.Common.{◌≡◌, ℕ, ◌+◌, [], ◌∷◌, ◌++◌, take, get_or, sym, ◌∙◌}
 use Rattle.std.proofs.lemmas.List.{take_more, map-append}
 use Rattle.afl_lexer.specs.Split.{Statement, closed_statements}
 use Rattle.afl_lexer.specs.Standing.{told}
