@@ -1,0 +1,4 @@
+pub mod Lexemes
+pub mod Outcome
+pub mod Quoted
+pub mod Tokens
