@@ -1,4 +1,5 @@
 pub mod Lexemes
 pub mod Outcome
 pub mod Quoted
+pub mod Scan
 pub mod Tokens

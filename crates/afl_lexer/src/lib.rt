@@ -1,6 +1,11 @@
 //! Tokens of the array language, and where a text stops to have any.
 #![tactic(auto)]
 
+mod gap;
+pub mod lexer;
+mod quoted;
+mod reading;
 pub mod token;
 
+pub use lexer::{text_value, texts_have_tokens_or_stop, tokens};
 pub use token::{LexFault, LexKind, Symbol, Token, TokenKind, Word};
