@@ -1,2 +1,10 @@
+pub mod Forms
+pub mod Fronts
+pub mod Gaps
+pub mod Judged
 pub mod Numbers
+pub mod Readings
 pub mod Steps
+pub mod Symbols
+pub mod Texts
+pub mod Words
