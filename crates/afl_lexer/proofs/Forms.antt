@@ -34,7 +34,7 @@ choose_false : (v : Bool) (x y : Start) → v ≡ false → (if v then x else y)
 choose_false v x y e = ap (λ u. if u then x else y) e
 
 -- a digit is no letter and no `_`
-digit_not_first : (b : ℕ) → is_digit b ≡ true → is_first_byte b ≡ false
+pub digit_not_first : (b : ℕ) → is_digit b ≡ true → is_first_byte b ≡ false
 digit_not_first b d =
     let both : (nat_le 48 b ≡ true) × (nat_le b 57 ≡ true) = and_parts (nat_le 48 b) (nat_le b 57) d in
     let low : 48 ≤ b = leb-true 48 b both.0 in

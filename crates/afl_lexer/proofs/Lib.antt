@@ -4,6 +4,7 @@ pub mod Gaps
 pub mod Judged
 pub mod Numbers
 pub mod Readings
+pub mod Spelled
 pub mod Steps
 pub mod Symbols
 pub mod Texts

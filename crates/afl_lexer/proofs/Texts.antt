@@ -79,7 +79,7 @@ closes_by b c r behind false e t h i =
     let both : (is_item (b ∷ []) ≡ true) × (list_all is_item (items (c ∷ r)) ≡ true) = and_parts (is_item (b ∷ [])) (list_all is_item (items (c ∷ r))) t in
     one_on b c (r ++ 39 ∷ behind) (length (c ∷ r)) (plain_item b both.0).0 e (i both.1)
 
-closes : (inner behind : List ℕ) → list_all is_item (items inner) ≡ true → quote_at (inner ++ 39 ∷ behind) ≡ Some (length inner)
+pub closes : (inner behind : List ℕ) → list_all is_item (items inner) ≡ true → quote_at (inner ++ 39 ∷ behind) ≡ Some (length inner)
 closes [] behind t = quote_there behind
 closes (b ∷ []) behind t =
     let plain = plain_item b (and_parts (is_item (b ∷ [])) true t).0 in

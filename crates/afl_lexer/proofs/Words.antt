@@ -58,11 +58,11 @@ word_front b rest e = record {
 pub same_bytes : (xs ys : List ℕ) → bytes_eq xs ys ≡ true → xs ≡ ys
 same_bytes xs ys e = (bytes_eq-Decides xs ys).0 e
 
-abbrev WordTells : List ℕ → Option Word → Type 0
+abbrev pub WordTells : List ℕ → Option Word → Type 0
 WordTells bytes (Some word) = bytes ≡ word_bytes word
 WordTells bytes None = is_reserved bytes ≡ false
 
-word_tells : (bytes : List ℕ) → WordTells bytes (word_of bytes)
+pub word_tells : (bytes : List ℕ) → WordTells bytes (word_of bytes)
 word_tells bytes =
     let P : Option Word → Type 0 = WordTells bytes in
     let is : List ℕ → Bool = bytes_eq bytes in

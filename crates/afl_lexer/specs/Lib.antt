@@ -2,4 +2,5 @@ pub mod Lexemes
 pub mod Outcome
 pub mod Quoted
 pub mod Scan
+pub mod Spelling
 pub mod Tokens

@@ -1,5 +1,6 @@
 use Rattle.afl_lexer.proofs.lexer.texts_have_tokens_or_stop.Goals as goal
 use Rattle.afl_lexer.proofs.Readings.{reading_right}
+use Rattle.afl_lexer.proofs.Spelled.{wrong_alone}
 
 pub returns-clause-tokens_or_stop : goal.returns-clause-tokens_or_stop
 returns-clause-tokens_or_stop c = ?
