@@ -3,9 +3,11 @@ pub mod Fronts
 pub mod Gaps
 pub mod Judged
 pub mod Numbers
+pub mod Places
 pub mod Readings
 pub mod Spelled
 pub mod Steps
 pub mod Symbols
 pub mod Texts
+pub mod Walks
 pub mod Words
