@@ -16,11 +16,11 @@ slice_is text at n = let e : at + n - at ≡ n = omega arith in ap (λ k. take k
 
 pub longest_at : (P : List ℕ → Type 0) (text : List ℕ) (at n : ℕ) → at ≤ length text → IsFront P (drop at text) n → IsLongest P text at (at + n)
 longest_at P text at n h f = record {
-    rises = omega arith;
-    within = omega (arith, length-drop at text, f.within);
-    fits = subst P (sym (slice_is text at n)) f.fits;
-    longest = λ further more within p. f.longest (further - at) (omega arith) (simp length-drop (omega arith)) p
-  }
+  rises = omega arith;
+  within = omega (arith, length-drop at text, f.within);
+  fits = subst P (sym (slice_is text at n)) f.fits;
+  longest = λ further more within p. f.longest (further - at) (omega arith) (simp length-drop (omega arith)) p;
+}
 
 -- there is one longest piece
 pub one_longest : (P : List ℕ → Type 0) (text : List ℕ) (at a b : ℕ) → IsLongest P text at a → IsLongest P text at b → a ≡ b

@@ -52,8 +52,8 @@ mutual
   gap_fits (b ∷ c ∷ rest) =
       let P : ℕ → Type 0 = λ k. gap_test (take k (b ∷ c ∷ rest)) ≡ true in
       cond_both (b == 45 && c == 45) (2 + line_len rest) (if is_white b then 1 + gap_len (c ∷ rest) else 0) P
-          (λ d. fits_dash b c rest (line_len rest) d (line_fits rest))
-          (λ d. cond_both (is_white b) (1 + gap_len (c ∷ rest)) 0 P (λ w. fits_white b (c ∷ rest) (gap_len (c ∷ rest)) w (gap_fits (c ∷ rest))) (λ w. refl))
+      (λ d. fits_dash b c rest (line_len rest) d (line_fits rest))
+      (λ d. cond_both (is_white b) (1 + gap_len (c ∷ rest)) 0 P (λ w. fits_white b (c ∷ rest) (gap_len (c ∷ rest)) w (gap_fits (c ∷ rest))) (λ w. refl))
 
   line_fits : (xs : List ℕ) → line_test (take (line_len xs) xs) ≡ true
   line_fits [] = refl
@@ -196,7 +196,7 @@ mutual
 
 pub gap_front : (xs : List ℕ) → IsFront IsGap xs (gap_len xs)
 gap_front xs = record {
-    within = gap_within xs;
-    fits = tested_gap (take (gap_len xs) xs) (gap_fits xs);
-    longest = λ m more within g. let most : m ≤ gap_len xs = gap_most xs m within (gap_tested (take m xs) g) in omega arith
-  }
+  within = gap_within xs;
+  fits = tested_gap (take (gap_len xs) xs) (gap_fits xs);
+  longest = λ m more within g. let most : m ≤ gap_len xs = gap_most xs m within (gap_tested (take m xs) g) in omega arith;
+}

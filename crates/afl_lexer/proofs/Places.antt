@@ -50,10 +50,10 @@ token_at kind start end = record { kind = kind; span = record { start = start; e
 
 pub token_of : (text : List ℕ) (at n : ℕ) (kind : TokenKind) → at ≤ length text → 0 < n → IsFront IsForm (drop at text) n → IsSpelled kind (take n (drop at text)) → IsTokenOf text (token_at kind at (at + n))
 token_of text at n kind h some front spelled = record {
-    rises = omega arith;
-    within = omega (arith, length-drop at text, front.within);
-    spelled = subst (IsSpelled kind) (sym (slice_is text at n)) spelled
-  }
+  rises = omega arith;
+  within = omega (arith, length-drop at text, front.within);
+  spelled = subst (IsSpelled kind) (sym (slice_is text at n)) spelled;
+}
 
 pub reaches_more : (text : List ℕ) (from : ℕ) (tokens : List Token) (to : ℕ) (token : Token) → Reaches text from tokens to
     → IsLongest IsGap text to token.span.start → IsLongest IsForm text token.span.start token.span.end → IsTokenOf text token

@@ -22,7 +22,7 @@ use Rattle.afl_lexer.specs.Tokens.{is_word, is_number, is_code, word_bytes, symb
 use Rattle.afl_lexer.specs.Scan.{word_of, word_kind, word_reading, number_reading, code_reading, escape_at, escape_reading, content_reading, closed_reading, text_reading, double_symbol, symbol_reading, reading_of}
 use Rattle.afl_lexer.specs.Spelling.{lengthens, EndsBefore}
 use Rattle.afl_lexer.proofs.Forms.{digit_not_first}
-use Rattle.afl_lexer.proofs.Texts.{closes, EscapeTells, escape_tells}
+use Rattle.afl_lexer.proofs.Texts.{closes, EscapeTells, escape_tells, text_length}
 use Rattle.afl_lexer.proofs.Words.{number_digits, word_tells, WordTells}
 
 -- the front that passes is all of these bytes, if the next one does not
@@ -238,12 +238,6 @@ escape_none inner (Some n) (before, item, after, same, known, bad, place) k =
     let both = and_parts (list_all is_known before) (list_all is_known (item ∷ after)) all in
     let one = and_parts (is_known item) (list_all is_known after) both.1 in
     let no : true ≡ false = sym one.0 ∙ bad in cc
-
-text_length : (piece : List ℕ) → IsText piece → length (inside piece) + 2 ≡ length piece
-text_length piece text =
-    let whole : length piece ≡ length (39 ∷ (inside piece ++ 39 ∷ [])) = ap length text.quotes in
-    let sum : length (inside piece ++ 39 ∷ []) ≡ length (inside piece) + 1 = length-append (inside piece) (39 ∷ []) in
-    omega arith
 
 content_found : (piece : List ℕ) → IsText piece → list_all is_known (items_of piece) ≡ true → length (items_of piece) ≤ 65535 → content_reading (inside piece) ≡ Found Text (length piece)
 unfolding content_reading

@@ -90,7 +90,7 @@ content_more xs so_far at k h is pos e =
     let some : 0 < length (drop at xs) = simp length-drop (omega arith) in
     let place : at + (item_len (drop at xs) - 1) ≡ at + k - 1 = omega arith in
     let byte : byte_of (take (item_len (drop at xs)) (drop at xs)) ≡ get_or xs (at + k - 1) 0
-        = last_byte (drop at xs) some ∙ get_or-drop at xs (item_len (drop at xs) - 1) 0 ∙ ap (λ n. get_or xs n 0) place in
+    = last_byte (drop at xs) some ∙ get_or-drop at xs (item_len (drop at xs) - 1) 0 ∙ ap (λ n. get_or xs n 0) place in
     e ∙ ap (λ is. so_far ++ map byte_of is) (items_at xs at h)
     ∙ ap (λ b. so_far ++ b ∷ map byte_of (items (drop (at + item_len (drop at xs)) xs))) byte
     ∙ ap (λ n. so_far ++ get_or xs (at + k - 1) 0 ∷ map byte_of (items (drop (at + n) xs))) (sym is)
@@ -166,10 +166,10 @@ gap_step (b ∷ c ∷ rest) =
     let same : gap_len (drop n rest) ≡ gap_len (drop (2 + n) (b ∷ c ∷ rest)) = ap gap_len moved in
     let line : 2 + line_len rest ≡ 2 + n + gap_len (drop (2 + n) (b ∷ c ∷ rest)) = omega (arith, line_step rest) in
     cond_both (b == 45 && c == 45) (2 + n) (if is_white b then 1 else 0) P
-        (λ d. ap (λ v. if v then 2 + line_len rest else if is_white b then 1 + gap_len (c ∷ rest) else 0) d ∙ line)
-        (λ d. cond_both (is_white b) 1 0 P
-            (λ w. ap (λ v. if v then 2 + line_len rest else if is_white b then 1 + gap_len (c ∷ rest) else 0) d ∙ ap (λ v. if v then 1 + gap_len (c ∷ rest) else 0) w)
-            (λ w. gap_same (b ∷ c ∷ rest)))
+    (λ d. ap (λ v. if v then 2 + line_len rest else if is_white b then 1 + gap_len (c ∷ rest) else 0) d ∙ line)
+    (λ d. cond_both (is_white b) 1 0 P
+    (λ w. ap (λ v. if v then 2 + line_len rest else if is_white b then 1 + gap_len (c ∷ rest) else 0) d ∙ ap (λ v. if v then 1 + gap_len (c ∷ rest) else 0) w)
+    (λ w. gap_same (b ∷ c ∷ rest)))
 
 pub gap_more : (xs : List ℕ) (at k : ℕ) → k ≡ blank_len (drop at xs) → gap_len xs ≡ at + gap_len (drop at xs) → gap_len xs ≡ at + k + gap_len (drop (at + k) xs)
 gap_more xs at k is e =

@@ -155,31 +155,33 @@ by_size P (suc (suc (suc m))) h i p one two = omega arith
 
 double_right : (b c : ℕ) (rest : List ℕ) (s : Symbol) → start_of b ≡ other → b ∷ c ∷ [] ≡ symbol_bytes s → IsFront IsForm (b ∷ c ∷ rest) 2
 double_right b c rest s o e = record {
-    within = omega arith;
-    fits = symbol_form s e;
-    longest = λ m more within f. let most = symbol_most b (c ∷ rest) m o within f in omega (arith, most.1)
-  }
+  within = omega arith;
+  fits = symbol_form s e;
+  longest = λ m more within f. let most = symbol_most b (c ∷ rest) m o within f in omega (arith, most.1);
+}
 
 single_right : (b : ℕ) (rest : List ℕ) (o : Option Symbol) → single_symbol b ≡ o → SingleTells b o → start_of b ≡ other → NoDouble (b ∷ rest) → IsRight (b ∷ rest) (single_reading o)
 single_right b rest None is t o n =
-    let not_quote : Some b ≢ Some 39 = λ (q : Some b ≡ Some 39). let p : b ≡ 39 = cc in let k : other ≡ quote = sym o ∙ ap start_of p in cc in
-    (refl,
-     (λ m within f. let most = symbol_most b rest m o within f in
-         by_size (λ k. IsForm (take k (b ∷ rest)) × (k ≤ length (b ∷ rest))) m most.0 most.1 (f, within)
-             (λ g. let s = one_form b rest o g.0 in let e : None ≡ Some s.0 = sym is ∙ s.1 in cc)
-             (λ g. no_two b rest o n g.1 g.0)),
-     not_quote)
-single_right b rest (Some s) is t o n =
-    (omega arith,
-     record {
-       within = omega arith;
-       fits = symbol_form s t;
-       longest = λ m more within f. let most = symbol_most b rest m o within f in
-           by_size (λ k. IsForm (take k (b ∷ rest)) × (k ≤ length (b ∷ rest)) × (1 < k)) m most.0 most.1 (f, within, more)
-               (λ g. omega (arith, g.2))
-               (λ g. no_two b rest o n g.1 g.0)
-     },
-     t)
+    let not_quote : Some b ≢ Some 39 = λ (q : Some b ≡ Some 39). let p : b ≡ 39 = cc in let k : other ≡ quote = sym o ∙ ap start_of p in cc in (
+      refl,
+      (λ m within f. let most = symbol_most b rest m o within f in
+          by_size (λ k. IsForm (take k (b ∷ rest)) × (k ≤ length (b ∷ rest))) m most.0 most.1 (f, within)
+          (λ g. let s = one_form b rest o g.0 in let e : None ≡ Some s.0 = sym is ∙ s.1 in cc)
+          (λ g. no_two b rest o n g.1 g.0)),
+      not_quote,
+    )
+single_right b rest (Some s) is t o n = (
+  omega arith,
+  record {
+    within = omega arith;
+    fits = symbol_form s t;
+    longest = λ m more within f. let most = symbol_most b rest m o within f in
+        by_size (λ k. IsForm (take k (b ∷ rest)) × (k ≤ length (b ∷ rest)) × (1 < k)) m most.0 most.1 (f, within, more)
+        (λ g. omega (arith, g.2))
+        (λ g. no_two b rest o n g.1 g.0);
+  },
+  t,
+)
 
 both_right : (b c : ℕ) (rest : List ℕ) (o : Option Symbol) → double_symbol b c ≡ o → DoubleTells b c o → start_of b ≡ other → IsRight (b ∷ c ∷ rest) (double_reading b o)
 both_right b c rest None is t o = single_right b (c ∷ rest) (single_symbol b) refl (single_tells b) o is

@@ -1,9 +1,9 @@
 -- Texts in quotes at the front.
 use Rattle.std.proofs.Common.{◌≡◌, ◌≢◌, ℕ, zero, suc, ◌+◌, ◌-◌, ◌<◌, ◌≤◌, Bool, true, false, cond, List, [], ◌∷◌, ◌++◌, Option, Some, None, length, take, drop, get_or, refl, sym, ap, subst, ◌∙◌, arith}
-use Rattle.std.specs.Prelude.{if◌then◌else◌, ◌==◌, ◌&&◌, ◌||◌, not, nat_lt, ⊤}
+use Rattle.std.specs.Prelude.{if◌then◌else◌, ◌==◌, ◌&&◌, ◌||◌, not, nat_lt, slice_range, ⊤}
 use Rattle.std.specs.List.{list_all, concat}
 use Rattle.std.proofs.lemmas.Bool.{and_parts, and_from, or_parts, or_from, eqb-true, ltb-true, ltb-false, not-true, not_from_false, cond_both, cond-true, cond-false}
-use Rattle.std.proofs.lemmas.List.{length-append, length-take-le, take_at, take-append-drop, append_assoc}
+use Rattle.std.proofs.lemmas.List.{length-append, length-drop, length-take, length-take-le, take_at, take-take, drop-drop, drop-take, take-append-drop, append_assoc}
 use Rattle.afl_lexer.specs.declared.token.TokenKind.TheVariants.{Text}
 use Rattle.afl_lexer.specs.declared.token.LexKind.TheVariants.{OpenText, TextTooLong, BadEscape}
 use Rattle.afl_lexer.specs.declared.reading.Reading.{Reading}
@@ -37,9 +37,13 @@ tells_pair b c rest (Some k) e (inner, behind, same, size, ok) =
 
 tells_plain : (b : ℕ) (rest : List ℕ) (o : Option ℕ) → (b == 39) ≡ false → (b == 92) ≡ false → QuoteTells rest o → QuoteTells (b ∷ rest) (further 1 o)
 tells_plain b rest None f e t = tt
-tells_plain b rest (Some k) f e (inner, behind, same, size, ok) =
-    (b ∷ inner, behind, ap (λ ys. b ∷ ys) same, omega arith,
-     ap (list_all is_item) (items_plain b inner e) ∙ and_from (not (b == 39 || b == 92)) (list_all is_item (items inner)) (not_from_false (b == 39 || b == 92) (or_from (b == 39) (b == 92) f e)) ok)
+tells_plain b rest (Some k) f e (inner, behind, same, size, ok) = (
+  b ∷ inner,
+  behind,
+  ap (λ ys. b ∷ ys) same,
+  omega arith,
+  ap (list_all is_item) (items_plain b inner e) ∙ and_from (not (b == 39 || b == 92)) (list_all is_item (items inner)) (not_from_false (b == 39 || b == 92) (or_from (b == 39) (b == 92) f e)) ok,
+)
 
 quote_tells : (xs : List ℕ) → QuoteTells xs (quote_at xs)
 quote_tells [] = tt
@@ -47,9 +51,9 @@ quote_tells (b ∷ []) = cond_both (b == 39) (Some 0) None (QuoteTells (b ∷ []
 quote_tells (b ∷ c ∷ rest) =
     let P : Option ℕ → Type 0 = QuoteTells (b ∷ c ∷ rest) in
     cond_both (b == 39) (Some 0) _ P (λ e. quote_first b (c ∷ rest) e) (λ f.
-        cond_both (b == 92) (further 2 (quote_at rest)) (further 1 (quote_at (c ∷ rest))) P
-            (λ e. tells_pair b c rest (quote_at rest) e (quote_tells rest))
-            (λ e. tells_plain b (c ∷ rest) (quote_at (c ∷ rest)) f e (quote_tells (c ∷ rest))))
+    cond_both (b == 92) (further 2 (quote_at rest)) (further 1 (quote_at (c ∷ rest))) P
+    (λ e. tells_pair b c rest (quote_at rest) e (quote_tells rest))
+    (λ e. tells_plain b (c ∷ rest) (quote_at (c ∷ rest)) f e (quote_tells (c ∷ rest))))
 
 quote_there : (behind : List ℕ) → quote_at (39 ∷ behind) ≡ Some 0
 quote_there [] = refl
@@ -96,9 +100,9 @@ inside_quoted inner =
 
 pub quoted_text : (inner : List ℕ) → list_all is_item (items inner) ≡ true → IsText (quoted inner)
 quoted_text inner t = record {
-    quotes = ap quoted (sym (inside_quoted inner));
-    closed = ap (λ ys. list_all is_item (items ys)) (inside_quoted inner) ∙ t
-  }
+  quotes = ap quoted (sym (inside_quoted inner));
+  closed = ap (λ ys. list_all is_item (items ys)) (inside_quoted inner) ∙ t;
+}
 
 text_closes : (rest : List ℕ) (m : ℕ) → m ≤ length rest → IsText (39 ∷ take m rest) → (k : ℕ) × (quote_at rest ≡ Some k) × (m ≡ k + 1)
 text_closes rest m within text =
@@ -134,10 +138,10 @@ escape_tells (b ∷ []) = refl
 escape_tells (b ∷ c ∷ rest) =
     let P : Option ℕ → Type 0 = EscapeTells (b ∷ c ∷ rest) in
     cond_both (b == 92) _ (further 1 (escape_at (c ∷ rest))) P
-        (λ e. cond_both (c == 39 || c == 92) (further 2 (escape_at rest)) (Some 0) P
-            (λ k. escape_on (b ∷ c ∷ []) 2 (b ∷ c ∷ rest) rest (escape_at rest) (items_pair b c rest e) k refl (escape_tells rest))
-            (λ k. ([], b ∷ c ∷ [], items rest, items_pair b c rest e, refl, k, refl)))
-        (λ e. escape_on (b ∷ []) 1 (b ∷ c ∷ rest) (c ∷ rest) (escape_at (c ∷ rest)) (items_plain b (c ∷ rest) e) refl refl (escape_tells (c ∷ rest)))
+    (λ e. cond_both (c == 39 || c == 92) (further 2 (escape_at rest)) (Some 0) P
+    (λ k. escape_on (b ∷ c ∷ []) 2 (b ∷ c ∷ rest) rest (escape_at rest) (items_pair b c rest e) k refl (escape_tells rest))
+    (λ k. ([], b ∷ c ∷ [], items rest, items_pair b c rest e, refl, k, refl)))
+    (λ e. escape_on (b ∷ []) 1 (b ∷ c ∷ rest) (c ∷ rest) (escape_at (c ∷ rest)) (items_plain b (c ∷ rest) e) refl refl (escape_tells (c ∷ rest)))
 
 module _ (bytes inner : List ℕ) (n : ℕ) (front : IsFront IsForm bytes n) (some : n ≡ length inner + 2) (same : take n bytes ≡ quoted inner) (closed : list_all is_item (items inner) ≡ true) where
   is_text : IsText (take n bytes)
@@ -149,7 +153,7 @@ module _ (bytes inner : List ℕ) (n : ℕ) (front : IsFront IsForm bytes n) (so
   escape_right : (o : Option ℕ) → EscapeTells inner o → length (items inner) ≤ 65535 → IsRight bytes (escape_reading (length inner) o)
   escape_right None t h =
       subst (λ k. (0 < k) × IsFront IsForm bytes k × IsSpelled Text (take k bytes)) some
-          (omega arith, front, (is_text, ap (list_all is_known) same_items ∙ t, subst (λ is. length is ≤ 65535) (sym same_items) h))
+      (omega arith, front, (is_text, ap (list_all is_known) same_items ∙ t, subst (λ is. length is ≤ 65535) (sym same_items) h))
   escape_right (Some k) (before, item, after, parts, known, bad, place) h =
       let escape : IsBadEscape (take n bytes) (k + 1) = record { before = before; item = item; after = after; parts = same_items ∙ parts; known = known; bad = bad; place = omega arith } in
       (n, front, (is_text, subst (λ is. length is ≤ 65535) (sym same_items) h, escape))
@@ -171,12 +175,36 @@ closed_right b rest (Some k) s e is (inner, behind, same, size, closed) =
     let n : ℕ = length inner + 2 in
     let front_is : take n (b ∷ rest) ≡ quoted inner = ap (take n) whole ∙ take_at (quoted inner) behind n (omega arith) in
     let front : IsFront IsForm (b ∷ rest) n = record {
-        within = omega arith;
-        fits = text_form (subst IsText (sym front_is) (quoted_text inner closed));
-        longest = λ m more within f. let found = text_most b rest m s e within f in let equal : Some k ≡ Some found.0 = sym is ∙ found.1 in let equals : k ≡ found.0 = cc in omega (arith, found.2)
-      } in
+      within = omega arith;
+      fits = text_form (subst IsText (sym front_is) (quoted_text inner closed));
+      longest = λ m more within f. let found = text_most b rest m s e within f in let equal : Some k ≡ Some found.0 = sym is ∙ found.1 in let equals : k ≡ found.0 = cc in omega (arith, found.2);
+    } in
     subst (λ ys. IsRight (b ∷ rest) (content_reading ys)) (sym piece) (content_right (b ∷ rest) inner n front refl front_is closed)
 
 pub text_right : (b : ℕ) (rest : List ℕ) → start_of b ≡ quote → b ≡ 39 → IsRight (b ∷ rest) (text_reading rest)
 unfolding text_reading
 text_right b rest s e = closed_right b rest (quote_at rest) s e refl (quote_tells rest)
+
+pub text_length : (piece : List ℕ) → IsText piece → length (inside piece) + 2 ≡ length piece
+text_length piece text =
+    let whole : length piece ≡ length (39 ∷ (inside piece ++ 39 ∷ [])) = ap length text.quotes in
+    let sum : length (inside piece ++ 39 ∷ []) ≡ length (inside piece) + 1 = length-append (inside piece) (39 ∷ []) in
+    omega arith
+
+-- what stands inside a piece of a text
+inside_slice : (text : List ℕ) (start end : ℕ) → start + 2 ≤ end → end ≤ length text → inside (slice_range text start end) ≡ slice_range text (start + 1) (end - 1)
+inside_slice text start end h within =
+    let m : ℕ = end - start - 1 in
+    let k : ℕ = end - 1 - (start + 1) in
+    let e : end - start ≡ 1 + m = omega arith in
+    let size : length (slice_range text start end) ≡ end - start = length-take-le (end - start) (drop start text) (simp length-drop (omega arith)) in
+    let less : length (slice_range text start end) - 1 - 1 ≡ k = omega arith in
+    ap (λ n. take n (drop 1 (slice_range text start end))) less
+    ∙ ap (λ n. take k (drop 1 (take n (drop start text)))) e
+    ∙ ap (take k) (drop-take 1 m (drop start text) ∙ ap (take m) (drop-drop 1 start text))
+    ∙ take-take k m (drop (start + 1) text) (omega arith)
+
+pub inside_text : (text : List ℕ) (start end : ℕ) → end ≤ length text → IsText (slice_range text start end) → inside (slice_range text start end) ≡ slice_range text (start + 1) (end - 1)
+inside_text text start end within is =
+    let size : length (inside (slice_range text start end)) + 2 ≡ length (slice_range text start end) = text_length (slice_range text start end) is in
+    inside_slice text start end (omega (arith, length-take (end - start) (drop start text))) within

@@ -1,7 +1,8 @@
 -- Each text has one list of tokens or one stop.
-use Rattle.std.proofs.Common.{◌≡◌, ◌⊎◌, inl, inr, ℕ, zero, suc, ◌+◌, ◌<◌, ◌≤◌, List, [], ◌∷◌, ◌++◌, length, drop, refl, sym, ap, subst, ◌∙◌, arith}
+use Rattle.std.proofs.Common.{◌≡◌, ◌⊎◌, inl, inr, ℕ, zero, suc, ◌+◌, ◌<◌, ◌≤◌, All, List, [], ◌∷◌, ◌++◌, length, drop, refl, sym, ap, subst, ◌∙◌, arith}
 use Rattle.std.proofs.lemmas.Bool.{cases_eq}
 use Rattle.std.proofs.lemmas.List.{length-drop}
+use Rattle.std.proofs.lemmas.List.Elements.{All-nil, All-cons}
 use Rattle.afl_lexer.specs.declared.token.Token.{Token}
 use Rattle.afl_lexer.specs.declared.token.TokenKind.{TokenKind}
 use Rattle.afl_lexer.specs.declared.token.LexKind.{LexKind}
@@ -9,7 +10,7 @@ use Rattle.afl_lexer.specs.declared.reading.Reading.{Reading}
 use Rattle.afl_lexer.specs.declared.reading.Reading.TheVariants.{Found, Wrong}
 use Rattle.afl_lexer.specs.Outcome.{HasTokensOrStop, HasNotBoth, HasOneList, HasOneStop}
 use Rattle.afl_lexer.specs.Scan.{gap_len, reading_of}
-use Rattle.afl_lexer.specs.Tokens.{IsForm, IsGap, IsTokenOf, IsLongest, Reaches, FailsAt, AreTokens, LexStops}
+use Rattle.afl_lexer.specs.Tokens.{IsForm, IsGap, IsTokenOf, IsLongest, Reaches, BeginsAt, FailsAt, AreTokens, AreRising, LexStops}
 use Rattle.afl_lexer.proofs.Fronts.{one_longest, longest_at}
 use Rattle.afl_lexer.proofs.Judged.{IsRight}
 use Rattle.afl_lexer.proofs.Places.{gap_at, fails_at, token_at, token_of, reaches_more, NoToken, no_token_at_end, fails_within, fails_no_token, fails_same, same_token}
@@ -62,28 +63,6 @@ reached_first text =
     let none : 0 + gap_len text ≡ gap_len text = omega arith in
     record { end = 0; reached = refl; gap = subst (λ (k : ℕ). IsLongest IsGap text 0 k) none (gap_at text 0 (omega arith)) }
 
--- one more token
-pub reached_next : (text : List ℕ) (tokens : List Token) (at : ℕ) → IsReached text tokens at → at < length text → (kind : TokenKind) (n : ℕ) → IsRight (drop at text) (Found kind n)
-    → IsReached text (tokens ++ token_at kind at (at + n) ∷ []) (at + n + gap_len (drop (at + n) text))
-reached_next text tokens at r h kind n (some, front, spelled) =
-    let before : at ≤ length text = omega arith in
-    let is : IsTokenOf text (token_at kind at (at + n)) = token_of text at n kind before some front spelled in
-    record {
-      end = at + n;
-      reached = reaches_more text 0 tokens r.end (token_at kind at (at + n)) r.reached r.gap (longest_at IsForm text at n before front) is;
-      gap = gap_at text (at + n) is.within
-    }
-
-pub reached_stop : (text : List ℕ) (tokens : List Token) (at : ℕ) → IsReached text tokens at → at < length text → (kind : LexKind) (off : ℕ) → IsRight (drop at text) (Wrong kind off) → LexStops text (at + off) kind
-reached_stop text tokens at r h kind off right = record {
-    tokens = tokens;
-    end = r.end;
-    start = at;
-    reached = r.reached;
-    last_gap = r.gap;
-    fault = fails_at kind text at off h right
-  }
-
 pub reached_end : (text : List ℕ) (tokens : List Token) (at : ℕ) → IsReached text tokens at → at ≡ length text → AreTokens text tokens
 reached_end text tokens at r e = record { end = r.end; reached = r.reached; last_gap = subst (λ (k : ℕ). IsLongest IsGap text r.end k) e r.gap }
 
@@ -93,11 +72,41 @@ TokensOrStop text = ((tokens : List Token) × AreTokens text tokens) ⊎ ((at : 
 pub reached_within : (text : List ℕ) (tokens : List Token) (at : ℕ) → IsReached text tokens at → at ≤ length text
 reached_within text tokens at r = r.gap.within
 
+-- each token is one of the text
+pub reaches_each : (text : List ℕ) (from : ℕ) (tokens : List Token) (to : ℕ) → Reaches text from tokens to → All (IsTokenOf text) tokens
+reaches_each text from [] to r = All-nil (IsTokenOf text)
+reaches_each text from (t ∷ tokens) to (gap, form, is, r) = All-cons (IsTokenOf text) t tokens is (reaches_each text t.span.end tokens to r)
+
+-- and none begins before the one before it has ended
+pub reaches_rising : (text : List ℕ) (from : ℕ) (tokens : List Token) (to : ℕ) → Reaches text from tokens to → AreRising from tokens
+reaches_rising text from [] to r = tt
+reaches_rising text from (t ∷ tokens) to (gap, form, is, r) = (gap.rises, reaches_rising text t.span.end tokens to r)
+
+-- one more token, as code finds it
+pub reached_more : (text : List ℕ) (tokens : List Token) (at : ℕ) (token : Token) (next : ℕ) → IsReached text tokens at → BeginsAt text at token → IsLongest IsGap text token.span.end next
+    → IsReached text (tokens ++ token ∷ []) next
+reached_more text tokens at token next r b gap = record {
+  end = token.span.end;
+  reached = reaches_more text 0 tokens r.end token r.reached (subst (λ (k : ℕ). IsLongest IsGap text r.end k) (sym b.start) r.gap) b.form b.is_token;
+  gap = gap;
+}
+
+pub reached_fault : (text : List ℕ) (tokens : List Token) (at place : ℕ) (kind : LexKind) → IsReached text tokens at → FailsAt text at place kind → LexStops text place kind
+reached_fault text tokens at place kind r f = record { tokens = tokens; end = r.end; start = at; reached = r.reached; last_gap = r.gap; fault = f }
+
+-- what code reads from a place on
+pub begins_at : (text : List ℕ) (at : ℕ) (kind : TokenKind) (n : ℕ) → at < length text → IsRight (drop at text) (Found kind n) → BeginsAt text at (token_at kind at (at + n))
+begins_at text at kind n h (some, front, spelled) =
+    let before : at ≤ length text = omega arith in
+    record { start = refl; form = longest_at IsForm text at n before front; is_token = token_of text at n kind before some front spelled }
+
 go_on : (text : List ℕ) (tokens : List Token) (at n : ℕ) (reading : Reading) → IsReached text tokens at → at < length text → IsRight (drop at text) reading → length text ≤ at + suc n
     → ((more : List Token) (to : ℕ) → IsReached text more to → length text ≤ to + n → TokensOrStop text) → TokensOrStop text
 go_on text tokens at n (Found kind size) r h right room next =
-    next (tokens ++ token_at kind at (at + size) ∷ []) (at + size + gap_len (drop (at + size) text)) (reached_next text tokens at r h kind size right) (omega (arith, right.0))
-go_on text tokens at n (Wrong kind off) r h right room next = inr (at + off, kind, reached_stop text tokens at r h kind off right)
+    let token : BeginsAt text at (token_at kind at (at + size)) = begins_at text at kind size h right in
+    next (tokens ++ token_at kind at (at + size) ∷ []) (at + size + gap_len (drop (at + size) text))
+    (reached_more text tokens at (token_at kind at (at + size)) _ r token (gap_at text (at + size) token.form.within)) (omega (arith, right.0))
+go_on text tokens at n (Wrong kind off) r h right room next = inr (at + off, kind, reached_fault text tokens at (at + off) kind r (fails_at kind text at off h right))
 
 below : (a b : ℕ) → (a ≡ b → ⊥) → a ≤ b → a < b
 below a b e h = omega arith

@@ -40,14 +40,14 @@ front_is p b rest e = ap (λ n. take n (b ∷ rest)) (one_passes p b rest e) ∙
 word_fits : (b : ℕ) (rest : List ℕ) → is_first_byte b ≡ true → is_word (take (prefix_len is_word_byte (b ∷ rest)) (b ∷ rest)) ≡ true
 word_fits b rest e =
     and_from (begins_well (take (prefix_len is_word_byte (b ∷ rest)) (b ∷ rest))) (list_all is_word_byte (take (prefix_len is_word_byte (b ∷ rest)) (b ∷ rest)))
-        (ap begins_well (front_is is_word_byte b rest (first_in_word b e)) ∙ e) (front_passes is_word_byte (b ∷ rest))
+    (ap begins_well (front_is is_word_byte b rest (first_in_word b e)) ∙ e) (front_passes is_word_byte (b ∷ rest))
 
 word_front : (b : ℕ) (rest : List ℕ) → is_first_byte b ≡ true → IsFront IsForm (b ∷ rest) (prefix_len is_word_byte (b ∷ rest))
 word_front b rest e = record {
-    within = prefix_len-le-length is_word_byte (b ∷ rest);
-    fits = word_form (word_fits b rest e);
-    longest = longest
-  } where
+  within = prefix_len-le-length is_word_byte (b ∷ rest);
+  fits = word_form (word_fits b rest e);
+  longest = longest;
+} where
   longest : (m : ℕ) → prefix_len is_word_byte (b ∷ rest) < m → m ≤ length (b ∷ rest) → IsForm (take m (b ∷ rest)) → ⊥
   longest zero more within f = omega arith
   longest (suc m) more within f =
@@ -81,8 +81,8 @@ word_spelled bytes (Some word) t w h = t
 word_spelled bytes None t w h =
     let both : (begins_well bytes ≡ true) × (list_all is_word_byte bytes ≡ true) = and_parts (begins_well bytes) (list_all is_word_byte bytes) w in
     and_from (nat_le (length bytes) 64 && begins_well bytes && list_all is_word_byte bytes) (not (is_reserved bytes))
-        (and_from (nat_le (length bytes) 64 && begins_well bytes) (list_all is_word_byte bytes) (and_from (nat_le (length bytes) 64) (begins_well bytes) (le-leb (length bytes) 64 h) both.0) both.1)
-        (not_from_false (is_reserved bytes) t)
+    (and_from (nat_le (length bytes) 64 && begins_well bytes) (list_all is_word_byte bytes) (and_from (nat_le (length bytes) 64) (begins_well bytes) (le-leb (length bytes) 64 h) both.0) both.1)
+    (not_from_false (is_reserved bytes) t)
 
 pub word_right : (b : ℕ) (rest : List ℕ) → is_first_byte b ≡ true → IsRight (b ∷ rest) (word_reading (b ∷ rest))
 unfolding word_reading
@@ -93,8 +93,8 @@ word_right b rest e =
     let size : length (take n bytes) ≡ n = length-take-le n bytes front.within in
     let one : n ≡ 1 + prefix_len is_word_byte rest = one_passes is_word_byte b rest (first_in_word b e) in
     cond_both (nat_lt 64 n) (Wrong NameTooLong 0) (Found (word_kind (word_of (take n bytes))) n) (IsRight bytes)
-        (λ h. (n, front, (refl, word_fits b rest e, omega (arith, ltb-true 64 n h))))
-        (λ h. (omega arith, front, word_spelled (take n bytes) (word_of (take n bytes)) (word_tells (take n bytes)) (word_fits b rest e) (omega (arith, ltb-false 64 n h))))
+    (λ h. (n, front, (refl, word_fits b rest e, omega (arith, ltb-true 64 n h))))
+    (λ h. (omega arith, front, word_spelled (take n bytes) (word_of (take n bytes)) (word_tells (take n bytes)) (word_fits b rest e) (omega (arith, ltb-false 64 n h))))
 
 number_fits : (b : ℕ) (rest : List ℕ) → is_digit b ≡ true → is_number (take (prefix_len is_digit (b ∷ rest)) (b ∷ rest)) ≡ true
 number_fits b rest e =
@@ -103,10 +103,10 @@ number_fits b rest e =
 
 number_front : (b : ℕ) (rest : List ℕ) → is_digit b ≡ true → IsFront IsForm (b ∷ rest) (prefix_len is_digit (b ∷ rest))
 number_front b rest e = record {
-    within = prefix_len-le-length is_digit (b ∷ rest);
-    fits = number_form (number_fits b rest e);
-    longest = longest
-  } where
+  within = prefix_len-le-length is_digit (b ∷ rest);
+  fits = number_form (number_fits b rest e);
+  longest = longest;
+} where
   longest : (m : ℕ) → prefix_len is_digit (b ∷ rest) < m → m ≤ length (b ∷ rest) → IsForm (take m (b ∷ rest)) → ⊥
   longest zero more within f = omega arith
   longest (suc m) more within f =
@@ -123,8 +123,8 @@ number_right b rest e =
     let front : IsFront IsForm bytes n = number_front b rest e in
     let one : n ≡ 1 + prefix_len is_digit rest = one_passes is_digit b rest e in
     cond_both (nat_lt value 9223372036854775808) (Found (Int (pos value)) n) (Wrong LiteralTooLarge 0) (IsRight bytes)
-        (λ h. (omega arith, front, (number_fits b rest e, refl, ltb-true value 9223372036854775808 h)))
-        (λ h. (n, front, (refl, inl (number_fits b rest e, ltb-false value 9223372036854775808 h))))
+    (λ h. (omega arith, front, (number_fits b rest e, refl, ltb-true value 9223372036854775808 h)))
+    (λ h. (n, front, (refl, inl (number_fits b rest e, ltb-false value 9223372036854775808 h))))
 
 number_from : (ds : List ℕ) → 0 < length ds → list_all is_digit ds ≡ true → is_number ds ≡ true
 number_from [] h t = absurd (omega arith)
@@ -162,10 +162,10 @@ code_digits b rest =
 
 code_front : (b : ℕ) (rest : List ℕ) → (b == 63) ≡ true → 0 < prefix_len is_digit rest → IsFront IsForm (b ∷ rest) (prefix_len is_digit rest + 1)
 code_front b rest e h = record {
-    within = omega (arith, prefix_len-le-length is_digit rest);
-    fits = code_form (code_fits b rest e h);
-    longest = λ m more within f. let most = code_most b rest m e within f in omega (arith, most.1)
-  }
+  within = omega (arith, prefix_len-le-length is_digit rest);
+  fits = code_form (code_fits b rest e h);
+  longest = λ m more within f. let most = code_most b rest m e within f in omega (arith, most.1);
+}
 
 pub code_right : (b : ℕ) (rest : List ℕ) → (b == 63) ≡ true → IsRight (b ∷ rest) (code_reading rest)
 unfolding code_reading
@@ -176,9 +176,9 @@ code_right b rest e =
     let not_quote : Some b ≢ Some 39 = λ (q : Some b ≡ Some 39). let p : b ≡ 39 = cc in absurd (omega (arith, eqb-true b 63 e)) in
     let same : digits_value 10 (drop 1 (take (n + 1) bytes)) ≡ value = ap (digits_value 10) (code_digits b rest) in
     cond_both (n == 0) (Wrong UnknownCharacter 0) _ (IsRight bytes)
-        (λ z. (refl, code_none b rest e (eqb-true n 0 z), not_quote))
-        (λ z.
-          let some : 0 < n = omega (arith, eqb-false n 0 z) in
-          cond_both (nat_le value 127) (Found (Code value) (n + 1)) (Wrong LiteralTooLarge 0) (IsRight bytes)
-            (λ h. (omega arith, code_front b rest e some, (code_fits b rest e some, sym same, leb-true value 127 h)))
-            (λ h. (n + 1, code_front b rest e some, (refl, inr (code_fits b rest e some, omega (arith, leb-false value 127 h))))))
+    (λ z. (refl, code_none b rest e (eqb-true n 0 z), not_quote))
+    (λ z.
+    let some : 0 < n = omega (arith, eqb-false n 0 z) in
+    cond_both (nat_le value 127) (Found (Code value) (n + 1)) (Wrong LiteralTooLarge 0) (IsRight bytes)
+    (λ h. (omega arith, code_front b rest e some, (code_fits b rest e some, sym same, leb-true value 127 h)))
+    (λ h. (n + 1, code_front b rest e some, (refl, inr (code_fits b rest e some, omega (arith, leb-false value 127 h))))))

@@ -105,6 +105,12 @@ pub record IsLongest (P : List ℕ → Type 0) (text : List ℕ) (from to : ℕ)
   pub fits : P (slice_range text from to)
   pub longest : (further : ℕ) → to < further → further ≤ length text → P (slice_range text from further) → ⊥
 
+-- The token begins at the place, and is as long as it can be.
+pub record BeginsAt (text : List ℕ) (at : ℕ) (token : Token) : Type 0 where
+  pub start : token.span.start ≡ at
+  pub form : IsLongest IsForm text token.span.start token.span.end
+  pub is_token : IsTokenOf text token
+
 -- From one place to the other the text has these tokens, each behind a gap. Gaps are as long as they can be, and so are tokens.
 abbrev pub Reaches : List ℕ → ℕ → List Token → ℕ → Type 0
 Reaches text from [] to = from ≡ to

@@ -1,10 +1,10 @@
 //! The tokens of a text, and the content of a text token.
-ghost use Rattle.std.specs.Prelude.{◌≡◌, ◌≤◌, ℕ, List, All, length, IfOk, IfErr};
+ghost use Rattle.std.specs.Prelude.{◌≡◌, ◌<◌, ◌≤◌, ℕ, List, All, length, IfOk, IfErr};
 ghost use Rattle.afl_lexer.specs.declared.token.TokenKind.{TokenKind};
 ghost use Rattle.afl_lexer.specs.Lexemes.{bytes_of};
 ghost use Rattle.afl_lexer.specs.Outcome.{IsStop, AnswersTokens, AnswersStop, HasTokensOrStop, HasNotBoth, HasOneList, HasOneStop};
 ghost use Rattle.afl_lexer.specs.Quoted.{content_of};
-ghost use Rattle.afl_lexer.specs.Tokens.{AreTokens, AreRising, IsTokenOf, LexStops};
+ghost use Rattle.afl_lexer.specs.Tokens.{AreTokens, AreRising, IsTokenOf, LexStops, IsGap, IsLongest, BeginsAt, FailsAt};
 
 use crate::gap::gap_end;
 use crate::quoted::content;
@@ -26,29 +26,64 @@ pub fn tokens(alloc: Global, text: &[u8]) -> Result<List<Token>, LexFault>
     ensures only_stop { (at : ℕ) (kind : LexKind) → LexStops text.now at kind → AnswersStop result at kind }
 {
     let mut tokens = List::new(alloc);
-    let mut at = gap_end(text);
+    let mut at = gap_after(text, 0);
     while at < text.len() {
-        match read(&text[at..]) {
-            Reading::Wrong(kind, further) => {
-                return Err(LexFault::At {
-                    at: (at + further) as u32,
-                    kind,
-                });
-            }
-            Reading::Found(kind, len) => {
-                let end = at + len;
-                tokens.push(Token {
-                    kind,
-                    span: Span {
-                        start: at as u32,
-                        end: end as u32,
-                    },
-                })?;
-                at = end + gap_end(&text[end..]);
-            }
-        }
+        let token = token_at(text, at)?;
+        tokens.push(token)?;
+        at = gap_after(text, token.span.end as usize);
     }
     Ok(tokens)
+}
+
+/// A fault and its place.
+#[derive(Clone, Copy)]
+struct Stop {
+    at: u32,
+    kind: LexKind,
+}
+
+impl From<Stop> for LexFault {
+    ghost use Rattle.std.specs.Prelude.{◌≡◌};
+    ghost use Rattle.afl_lexer.specs.declared.token.LexFault.{LexFault};
+
+    ghost from_gives = { λ stop fault. fault ≡ LexFault.At stop.at stop.kind };
+
+    fn from(stop: Stop) -> LexFault {
+        LexFault::At {
+            at: stop.at,
+            kind: stop.kind,
+        }
+    }
+}
+
+/// Where the gap ends that begins at a place.
+fn gap_after(text: &[u8], from: usize) -> usize
+    requires { from ≤ length text.now }
+    ensures { IsLongest IsGap text.now from result }
+{
+    from + gap_end(&text[from..])
+}
+
+/// The token that begins at a place.
+fn token_at(text: &[u8], at: usize) -> Result<Token, Stop>
+    requires within { at < length text.now }
+    requires small { length text.now ≤ 1048576 }
+    ensures token { IfOk result (λ token. BeginsAt text.now at token) }
+    ensures fault { IfErr result (λ stop. FailsAt text.now at stop.at stop.kind) }
+{
+    match read(&text[at..]) {
+        Reading::Found(kind, len) => Ok(Token {
+            kind,
+            span: Span {
+                start: at as u32,
+                end: (at + len) as u32,
+            },
+        }),
+        Reading::Wrong(kind, further) => Err(Stop {
+            at: (at + further) as u32,
+            kind,
+        }),
+    }
 }
 
 /// The content of a text token: the bytes between its quotes, with `\'` and `\\` read.

@@ -97,7 +97,9 @@ fn capped_value(digits: &[u8]) -> u64
 {
     let mut value = 0u64;
     for digit in digits {
-        value = value.saturating_mul(10).saturating_add(u64::from(*digit - b'0'));
+        value = value
+            .saturating_mul(10)
+            .saturating_add(u64::from(*digit - b'0'));
     }
     value
 }

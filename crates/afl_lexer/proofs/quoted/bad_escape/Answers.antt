@@ -19,6 +19,7 @@ loop-at-preserved c =
     let bytes = c.args.bytes.now in
     let at = c.loop-at.at in
     let is : c.front_len-at.result ≡ item_len (drop at bytes) = c.front_len-at.ensures.len ∙ ap item_len (take_rest bytes at) in
-    let good : begins_badly (drop at bytes) ≡ false = ap begins_badly (sym (take_rest bytes at)) ∙ sym c.is_bad_escape.ensures ∙ c.if-is_bad_escape.false in
-    (step_within bytes at c.front_len-at.result c.loop-at.invariant.0 c.front_len-at.ensures.within,
-     subst (λ (k : ℕ). escape_at bytes ≡ further (at + k) (escape_at (drop (at + k) bytes))) (sym is) (escape_more bytes at good c.loop-at.invariant.1))
+    let good : begins_badly (drop at bytes) ≡ false = ap begins_badly (sym (take_rest bytes at)) ∙ sym c.is_bad_escape.ensures ∙ c.if-is_bad_escape.false in (
+      step_within bytes at c.front_len-at.result c.loop-at.invariant.0 c.front_len-at.ensures.within,
+      subst (λ (k : ℕ). escape_at bytes ≡ further (at + k) (escape_at (drop (at + k) bytes))) (sym is) (escape_more bytes at good c.loop-at.invariant.1),
+    )

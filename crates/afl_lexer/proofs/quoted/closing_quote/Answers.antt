@@ -14,6 +14,7 @@ pub loop-at-preserved : goal.loop-at-preserved
 loop-at-preserved c =
     let bytes = c.args.bytes.now in
     let at = c.loop-at.at in
-    let is : c.front_len-at.result ≡ item_len (drop at bytes) = c.front_len-at.ensures.len ∙ ap item_len (take_rest bytes at) in
-    (step_within bytes at c.front_len-at.result c.loop-at.invariant.0 c.front_len-at.ensures.within,
-     subst (λ (k : ℕ). quote_at bytes ≡ further (at + k) (quote_at (drop (at + k) bytes))) (sym is) (quote_more bytes at c.if-bytes-at-eq39.false c.loop-at.invariant.1))
+    let is : c.front_len-at.result ≡ item_len (drop at bytes) = c.front_len-at.ensures.len ∙ ap item_len (take_rest bytes at) in (
+      step_within bytes at c.front_len-at.result c.loop-at.invariant.0 c.front_len-at.ensures.within,
+      subst (λ (k : ℕ). quote_at bytes ≡ further (at + k) (quote_at (drop (at + k) bytes))) (sym is) (quote_more bytes at c.if-bytes-at-eq39.false c.loop-at.invariant.1),
+    )

@@ -11,6 +11,8 @@ loop-at-preserved c =
     let at = c.loop-at.at in
     let k = c.front_len-at.result in
     let is : k ≡ item_len (drop at bytes) = c.front_len-at.ensures.len ∙ ap item_len (take_rest bytes at) in
-    let pos : 0 < k = c.front_len-at.ensures.some (some_left bytes at c.loop-at-test.true) in
-    (step_within bytes at k c.loop-at.invariant.0 c.front_len-at.ensures.within, omega (arith, pos, c.loop-at.invariant.1),
-     subst (λ (n : ℕ). length (items bytes) ≡ c.loop-at.count + 1 + length (items (drop (at + n) bytes))) (sym is) (count_more bytes at c.loop-at.count c.loop-at-test.true c.loop-at.invariant.2))
+    let pos : 0 < k = c.front_len-at.ensures.some (some_left bytes at c.loop-at-test.true) in (
+      step_within bytes at k c.loop-at.invariant.0 c.front_len-at.ensures.within,
+      omega (arith, pos, c.loop-at.invariant.1),
+      subst (λ (n : ℕ). length (items bytes) ≡ c.loop-at.count + 1 + length (items (drop (at + n) bytes))) (sym is) (count_more bytes at c.loop-at.count c.loop-at-test.true c.loop-at.invariant.2),
+    )
