@@ -9,3 +9,6 @@ pub mod token;
 
 pub use lexer::{text_value, texts_have_tokens_or_stop, tokens};
 pub use token::{LexFault, LexKind, Symbol, Token, TokenKind, Word};
+
+#[cfg(test)]
+mod tests;
