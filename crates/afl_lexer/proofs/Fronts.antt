@@ -1,5 +1,5 @@
 -- The longest front of some bytes that has a form, and the longest piece of a text from a place on.
-use Rattle.std.proofs.Common.{◌≡◌, ℕ, suc, ◌+◌, ◌-◌, ◌<◌, ◌≤◌, List, ◌∷◌, length, take, drop, refl, sym, ap, subst, ◌∙◌, arith}
+use Rattle.std.proofs.Common.{◌≡◌, ℕ, suc, ◌+◌, ◌-◌, ◌<◌, ◌≤◌, List, ◌∷◌, length, take, drop, sym, ap, subst, arith}
 use Rattle.std.specs.Prelude.{slice_range}
 use Rattle.std.proofs.Common.{◌⊎◌, inl, inr}
 use Rattle.std.proofs.lemmas.Bool.{cases_order}

@@ -1,8 +1,8 @@
 -- The longest gap at the front.
-use Rattle.std.proofs.Common.{◌≡◌, ℕ, zero, suc, ◌+◌, ◌<◌, ◌≤◌, Bool, true, false, cond, List, [], ◌∷◌, ◌++◌, length, take, drop, refl, sym, ap, subst, ◌∙◌, arith}
-use Rattle.std.specs.Prelude.{if◌then◌else◌, ◌==◌, ◌&&◌, ◌||◌, not, nat_le}
+use Rattle.std.proofs.Common.{◌≡◌, ℕ, zero, suc, ◌+◌, ◌≤◌, Bool, true, false, List, [], ◌∷◌, ◌++◌, length, take, refl, sym, ap, subst, ◌∙◌, arith}
+use Rattle.std.specs.Prelude.{if◌then◌else◌, ◌==◌, ◌&&◌, not}
 use Rattle.std.specs.List.{list_all, concat}
-use Rattle.std.proofs.lemmas.Bool.{and_parts, and_from, and_left, eqb-true, or_cases, cases_Bool, cond_both, not-true, not_from_false}
+use Rattle.std.proofs.lemmas.Bool.{and_parts, and_from, and_left, eqb-true, cond_both, not-true, not_from_false}
 use Rattle.afl_lexer.specs.Tokens.{is_white, is_blank, IsGap}
 use Rattle.afl_lexer.specs.Scan.{is_in_line, gap_len, line_len}
 use Rattle.afl_lexer.proofs.Fronts.{IsFront, take_one, take_two}

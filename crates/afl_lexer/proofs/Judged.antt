@@ -2,7 +2,7 @@
 use Rattle.std.proofs.Common.{◌≡◌, ◌≢◌, ℕ, ◌<◌, ◌≤◌, List, Some, length, take}
 use Rattle.std.specs.Prelude.{slice_get}
 use Rattle.afl_lexer.specs.declared.token.LexKind.{LexKind}
-use Rattle.afl_lexer.specs.declared.token.LexKind.TheVariants.{UnknownCharacter, OpenText, BadEscape, TextTooLong, NameTooLong, LiteralTooLarge}
+use Rattle.afl_lexer.specs.declared.token.LexKind.TheVariants.{UnknownCharacter, OpenText}
 use Rattle.afl_lexer.specs.declared.reading.Reading.{Reading}
 use Rattle.afl_lexer.specs.declared.reading.Reading.TheVariants.{Found, Wrong}
 use Rattle.afl_lexer.specs.Tokens.{IsForm, IsSpelled, IsWrong}

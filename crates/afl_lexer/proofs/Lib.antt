@@ -4,6 +4,7 @@ pub mod Gaps
 pub mod Judged
 pub mod Numbers
 pub mod Places
+pub mod Printing
 pub mod Readings
 pub mod Spelled
 pub mod Steps

@@ -1,13 +1,11 @@
 -- What stands from a place of a text on, and that it is one thing.
-use Rattle.std.proofs.Common.{◌≡◌, ◌≢◌, ◌⊎◌, inl, inr, ℕ, zero, suc, ◌+◌, ◌-◌, ◌<◌, ◌≤◌, List, [], ◌∷◌, ◌++◌, Option, Some, None, length, take, drop, refl, sym, ap, subst, ◌∙◌, arith}
+use Rattle.std.proofs.Common.{◌≡◌, ◌≢◌, ◌⊎◌, inl, inr, ℕ, zero, suc, ◌+◌, ◌-◌, ◌<◌, ◌≤◌, List, [], ◌∷◌, ◌++◌, Some, length, take, drop, refl, sym, ap, subst, ◌∙◌, arith}
 use Rattle.std.specs.Prelude.{slice_range, slice_get}
 use Rattle.std.proofs.lemmas.List.{length-drop, length-take}
-use Rattle.cell_values.specs.declared.name.Span.{Span}
 use Rattle.afl_lexer.specs.declared.token.Token.{Token}
 use Rattle.afl_lexer.specs.declared.token.TokenKind.{TokenKind}
 use Rattle.afl_lexer.specs.declared.token.LexKind.{LexKind}
 use Rattle.afl_lexer.specs.declared.token.LexKind.TheVariants.{UnknownCharacter, OpenText, BadEscape, TextTooLong, NameTooLong, LiteralTooLarge}
-use Rattle.afl_lexer.specs.declared.reading.Reading.{Reading}
 use Rattle.afl_lexer.specs.declared.reading.Reading.TheVariants.{Found, Wrong}
 use Rattle.afl_lexer.specs.Lexemes.{bytes_of}
 use Rattle.afl_lexer.specs.Tokens.{IsForm, IsGap, IsSpelled, IsTokenOf, IsLongest, Reaches, HasNoForm, IsWrong, FailsAt}
@@ -15,7 +13,7 @@ use Rattle.afl_lexer.specs.Scan.{gap_len, reading_of}
 use Rattle.afl_lexer.proofs.Forms.{nil_no_form}
 use Rattle.afl_lexer.proofs.Fronts.{IsFront, longest_at, one_longest, slice_is}
 use Rattle.afl_lexer.proofs.Gaps.{gap_front}
-use Rattle.afl_lexer.proofs.Judged.{NoFront, FailsFront, IsRight}
+use Rattle.afl_lexer.proofs.Judged.{NoFront, FailsFront}
 use Rattle.afl_lexer.proofs.Spelled.{spelled_alone, wrong_alone}
 
 pub gap_at : (text : List ℕ) (at : ℕ) → at ≤ length text → IsLongest IsGap text at (at + gap_len (drop at text))

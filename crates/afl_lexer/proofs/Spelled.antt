@@ -1,10 +1,10 @@
 -- What the reading of a form is, before bytes that do not lengthen it.
-use Rattle.std.proofs.Common.{◌≡◌, ℕ, ℤ, zero, suc, ◌+◌, ◌<◌, ◌≤◌, Bool, true, false, cond, List, [], ◌∷◌, ◌++◌, Option, Some, None, length, take, drop, get_or, refl, sym, ap, subst, ◌∙◌, arith, inl, inr}
-use Rattle.std.specs.Prelude.{if◌then◌else◌, ◌==◌, ◌&&◌, ◌||◌, not, nat_le, nat_lt, pos, ⊤}
-use Rattle.std.specs.List.{list_all, list_any, prefix_len, concat}
+use Rattle.std.proofs.Common.{◌≡◌, ℕ, ◌+◌, ◌<◌, ◌≤◌, Bool, true, false, List, [], ◌∷◌, ◌++◌, Option, Some, None, length, take, drop, refl, sym, ap, subst, ◌∙◌, arith, inl, inr}
+use Rattle.std.specs.Prelude.{if◌then◌else◌, ◌==◌, ◌&&◌, not, nat_le, nat_lt, pos, ⊤}
+use Rattle.std.specs.List.{list_all, prefix_len, concat}
 use Rattle.std.specs.Str.Parse.{digits_value}
 use Rattle.std.proofs.lemmas.Bool.{and_parts, and_from, or_parts, eqb-true, leb-true, ne_eqb, not-true, lt-ltb, le-ltb, le-leb, lt-leb, cond-true, cond-false}
-use Rattle.std.proofs.lemmas.List.{append-nil, take_at, append_assoc, length-append}
+use Rattle.std.proofs.lemmas.List.{append-nil, take_at, append_assoc}
 use Rattle.std.proofs.lemmas.List.Folds.{list_all-append}
 use Rattle.cell_values.specs.Naming.{is_digit, is_first_byte, is_word_byte, begins_well, is_reserved, is_name}
 use Rattle.afl_lexer.specs.declared.token.Word.{Word as AWord}
@@ -19,7 +19,7 @@ use Rattle.afl_lexer.specs.declared.reading.Reading.{Reading}
 use Rattle.afl_lexer.specs.declared.reading.Reading.TheVariants.{Found, Wrong}
 use Rattle.afl_lexer.specs.Quoted.{items, items_of, is_item, is_known, inside, IsText}
 use Rattle.afl_lexer.specs.Tokens.{is_word, is_number, is_code, word_bytes, symbol_bytes, IsSpelled, IsWrong, IsBadEscape}
-use Rattle.afl_lexer.specs.Scan.{word_of, word_kind, word_reading, number_reading, code_reading, escape_at, escape_reading, content_reading, closed_reading, text_reading, double_symbol, symbol_reading, reading_of}
+use Rattle.afl_lexer.specs.Scan.{word_of, word_kind, word_reading, number_reading, code_reading, escape_at, escape_reading, content_reading, closed_reading, text_reading, symbol_reading, reading_of}
 use Rattle.afl_lexer.specs.Spelling.{lengthens, EndsBefore}
 use Rattle.afl_lexer.proofs.Forms.{digit_not_first}
 use Rattle.afl_lexer.proofs.Texts.{closes, EscapeTells, escape_tells, text_length}

@@ -1,15 +1,15 @@
 -- Symbols at the front.
-use Rattle.std.proofs.Common.{◌≡◌, ◌≢◌, ℕ, zero, suc, ◌+◌, ◌<◌, ◌≤◌, Bool, true, false, cond, List, [], ◌∷◌, ◌++◌, Option, Some, None, length, take, drop, get_or, refl, sym, ap, subst, ◌∙◌, arith}
-use Rattle.std.specs.Prelude.{if◌then◌else◌, ◌==◌, ◌&&◌, ⊤}
+use Rattle.std.proofs.Common.{◌≡◌, ◌≢◌, ℕ, zero, suc, ◌<◌, ◌≤◌, true, List, [], ◌∷◌, Option, Some, None, length, take, get_or, refl, sym, ap, subst, ◌∙◌, arith}
+use Rattle.std.specs.Prelude.{◌==◌, ◌&&◌, ⊤}
 use Rattle.std.proofs.lemmas.Bool.{and_parts, eqb-true, cond_both}
 use Rattle.std.proofs.lemmas.List.{length-take-le}
 use Rattle.afl_lexer.specs.declared.token.Symbol.{Symbol}
 use Rattle.afl_lexer.specs.declared.token.Symbol.TheVariants.{LeftParen, RightParen, LeftBracket, RightBracket, Less, More, AtMost, AtLeast, Equal, Differs, NotEqual, Comma, Colon, Star, Plus, Minus, Slash, Percent, At}
 use Rattle.afl_lexer.specs.Tokens.{symbol_bytes, IsForm, symbol_form}
 use Rattle.afl_lexer.specs.Scan.{double_symbol, single_symbol, single_reading, double_reading, symbol_reading}
-use Rattle.afl_lexer.proofs.Forms.{Start, other, quote, start_of, FormBy, form_by, nil_no_form}
+use Rattle.afl_lexer.proofs.Forms.{other, quote, start_of, FormBy, form_by, nil_no_form}
 use Rattle.afl_lexer.proofs.Fronts.{IsFront}
-use Rattle.afl_lexer.proofs.Judged.{NoFront, IsRight}
+use Rattle.afl_lexer.proofs.Judged.{IsRight}
 
 abbrev SingleTells : ℕ → Option Symbol → Type 0
 SingleTells b (Some symbol) = b ∷ [] ≡ symbol_bytes symbol

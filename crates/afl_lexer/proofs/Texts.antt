@@ -1,19 +1,18 @@
 -- Texts in quotes at the front.
-use Rattle.std.proofs.Common.{◌≡◌, ◌≢◌, ℕ, zero, suc, ◌+◌, ◌-◌, ◌<◌, ◌≤◌, Bool, true, false, cond, List, [], ◌∷◌, ◌++◌, Option, Some, None, length, take, drop, get_or, refl, sym, ap, subst, ◌∙◌, arith}
-use Rattle.std.specs.Prelude.{if◌then◌else◌, ◌==◌, ◌&&◌, ◌||◌, not, nat_lt, slice_range, ⊤}
+use Rattle.std.proofs.Common.{◌≡◌, ℕ, zero, suc, ◌+◌, ◌-◌, ◌<◌, ◌≤◌, Bool, true, false, List, [], ◌∷◌, ◌++◌, Option, Some, None, length, take, drop, refl, sym, ap, subst, ◌∙◌, arith}
+use Rattle.std.specs.Prelude.{if◌then◌else◌, ◌==◌, ◌||◌, not, nat_lt, slice_range, ⊤}
 use Rattle.std.specs.List.{list_all, concat}
 use Rattle.std.proofs.lemmas.Bool.{and_parts, and_from, or_parts, or_from, eqb-true, ltb-true, ltb-false, not-true, not_from_false, cond_both, cond-true, cond-false}
 use Rattle.std.proofs.lemmas.List.{length-append, length-drop, length-take, length-take-le, take_at, take-take, drop-drop, drop-take, take-append-drop, append_assoc}
 use Rattle.afl_lexer.specs.declared.token.TokenKind.TheVariants.{Text}
-use Rattle.afl_lexer.specs.declared.token.LexKind.TheVariants.{OpenText, TextTooLong, BadEscape}
-use Rattle.afl_lexer.specs.declared.reading.Reading.{Reading}
-use Rattle.afl_lexer.specs.declared.reading.Reading.TheVariants.{Found, Wrong}
+use Rattle.afl_lexer.specs.declared.token.LexKind.TheVariants.{TextTooLong}
+use Rattle.afl_lexer.specs.declared.reading.Reading.TheVariants.{Wrong}
 use Rattle.afl_lexer.specs.Quoted.{items, items_of, is_item, is_known, inside, IsText}
-use Rattle.afl_lexer.specs.Tokens.{IsForm, text_form, IsSpelled, IsWrong, IsBadEscape}
+use Rattle.afl_lexer.specs.Tokens.{IsForm, text_form, IsSpelled, IsBadEscape}
 use Rattle.afl_lexer.specs.Scan.{further, quote_at, escape_at, escape_reading, content_reading, closed_reading, text_reading}
-use Rattle.afl_lexer.proofs.Forms.{Start, quote, start_of, FormBy, form_by, nil_no_form}
+use Rattle.afl_lexer.proofs.Forms.{quote, start_of, FormBy, form_by, nil_no_form}
 use Rattle.afl_lexer.proofs.Fronts.{IsFront}
-use Rattle.afl_lexer.proofs.Judged.{NoFront, IsRight}
+use Rattle.afl_lexer.proofs.Judged.{IsRight}
 
 pub items_pair : (b c : ℕ) (rest : List ℕ) → (b == 92) ≡ true → items (b ∷ c ∷ rest) ≡ (b ∷ c ∷ []) ∷ items rest
 items_pair b c rest e = cond-true (b == 92) ((b ∷ c ∷ []) ∷ items rest) ((b ∷ []) ∷ items (c ∷ rest)) e
@@ -98,8 +97,8 @@ inside_quoted inner =
     let size : length (39 ∷ inner ++ 39 ∷ []) - 1 - 1 ≡ length inner = omega (arith, length-append inner (39 ∷ [])) in
     ap (λ n. take n (inner ++ 39 ∷ [])) size ∙ take_at inner (39 ∷ []) (length inner) refl
 
-pub quoted_text : (inner : List ℕ) → list_all is_item (items inner) ≡ true → IsText (quoted inner)
-quoted_text inner t = record {
+pub quoted_is_text : (inner : List ℕ) → list_all is_item (items inner) ≡ true → IsText (quoted inner)
+quoted_is_text inner t = record {
   quotes = ap quoted (sym (inside_quoted inner));
   closed = ap (λ ys. list_all is_item (items ys)) (inside_quoted inner) ∙ t;
 }
@@ -145,7 +144,7 @@ escape_tells (b ∷ c ∷ rest) =
 
 module _ (bytes inner : List ℕ) (n : ℕ) (front : IsFront IsForm bytes n) (some : n ≡ length inner + 2) (same : take n bytes ≡ quoted inner) (closed : list_all is_item (items inner) ≡ true) where
   is_text : IsText (take n bytes)
-  is_text = subst IsText (sym same) (quoted_text inner closed)
+  is_text = subst IsText (sym same) (quoted_is_text inner closed)
 
   same_items : items_of (take n bytes) ≡ items inner
   same_items = ap items_of same ∙ ap items (inside_quoted inner)
@@ -176,7 +175,7 @@ closed_right b rest (Some k) s e is (inner, behind, same, size, closed) =
     let front_is : take n (b ∷ rest) ≡ quoted inner = ap (take n) whole ∙ take_at (quoted inner) behind n (omega arith) in
     let front : IsFront IsForm (b ∷ rest) n = record {
       within = omega arith;
-      fits = text_form (subst IsText (sym front_is) (quoted_text inner closed));
+      fits = text_form (subst IsText (sym front_is) (quoted_is_text inner closed));
       longest = λ m more within f. let found = text_most b rest m s e within f in let equal : Some k ≡ Some found.0 = sym is ∙ found.1 in let equals : k ≡ found.0 = cc in omega (arith, found.2);
     } in
     subst (λ ys. IsRight (b ∷ rest) (content_reading ys)) (sym piece) (content_right (b ∷ rest) inner n front refl front_is closed)

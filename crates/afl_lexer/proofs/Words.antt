@@ -1,23 +1,21 @@
 -- Names, reserved words, numbers and codes at the front.
-use Rattle.std.proofs.Common.{◌≡◌, ◌≢◌, ℕ, zero, suc, ◌+◌, ◌<◌, ◌≤◌, ◌^◌, Bool, true, false, cond, List, [], ◌∷◌, ◌++◌, Option, Some, None, length, take, drop, get_or, refl, sym, ap, subst, ◌∙◌, arith, inl, inr}
-use Rattle.std.specs.Prelude.{if◌then◌else◌, ◌==◌, ◌&&◌, ◌||◌, not, nat_le, nat_lt, codes, pos}
+use Rattle.std.proofs.Common.{◌≡◌, ◌≢◌, ℕ, zero, suc, ◌+◌, ◌<◌, ◌≤◌, Bool, true, false, List, [], ◌∷◌, Option, Some, None, length, take, drop, refl, sym, ap, subst, ◌∙◌, arith, inl, inr}
+use Rattle.std.specs.Prelude.{◌==◌, ◌&&◌, ◌||◌, not, nat_le, nat_lt, codes, pos}
 use Rattle.std.specs.List.{list_all, prefix_len}
 use Rattle.std.specs.Str.{bytes_eq}
 use Rattle.std.specs.Str.Parse.{digits_value}
-use Rattle.std.proofs.lemmas.Bool.{and_parts, and_from, eqb-true, eq-eqb, leb-true, le-leb, ltb-true, ltb-false, leb-false, or_from, or_left, or_right, not_from_false, cond_both, cond-true, eqb-false}
+use Rattle.std.proofs.lemmas.Bool.{and_parts, and_from, eqb-true, leb-true, le-leb, ltb-true, ltb-false, leb-false, not_from_false, cond_both, cond-true, eqb-false}
 use Rattle.std.proofs.lemmas.Slice.Eq.{bytes_eq-Decides}
 use Rattle.std.proofs.lemmas.List.{length-take-le}
 use Rattle.std.proofs.lemmas.List.Sums.{prefix_len-le-length}
-use Rattle.cell_values.specs.Naming.{is_letter, is_digit, is_first_byte, is_word_byte, begins_well, is_reserved, is_name}
+use Rattle.cell_values.specs.Naming.{is_letter, is_digit, is_first_byte, is_word_byte, begins_well, is_reserved}
 use Rattle.afl_lexer.specs.declared.token.Word.{Word}
-use Rattle.afl_lexer.specs.declared.token.Word.TheVariants.{And, Or, Not, Null, True, False, As, Create, Array}
-use Rattle.afl_lexer.specs.declared.token.TokenKind.TheVariants.{Name, Int, Code}
+use Rattle.afl_lexer.specs.declared.token.TokenKind.TheVariants.{Int, Code}
 use Rattle.afl_lexer.specs.declared.token.LexKind.TheVariants.{UnknownCharacter, NameTooLong, LiteralTooLarge}
-use Rattle.afl_lexer.specs.declared.reading.Reading.{Reading}
 use Rattle.afl_lexer.specs.declared.reading.Reading.TheVariants.{Found, Wrong}
 use Rattle.afl_lexer.specs.Tokens.{is_word, is_number, is_code, word_bytes, IsForm, word_form, number_form, code_form, IsSpelled}
 use Rattle.afl_lexer.specs.Scan.{word_of, word_kind, word_reading, number_reading, code_reading}
-use Rattle.afl_lexer.proofs.Forms.{Start, letter, digit, question, start_of, FormBy, form_by, at_letter, at_digit, at_question, nil_no_form}
+use Rattle.afl_lexer.proofs.Forms.{FormBy, form_by, at_letter, at_digit, at_question, nil_no_form}
 use Rattle.afl_lexer.proofs.Fronts.{IsFront, take_one}
 use Rattle.afl_lexer.proofs.Judged.{NoFront, IsRight}
 use Rattle.afl_lexer.proofs.Numbers.{front_passes, front_longest}

@@ -1,5 +1,5 @@
 -- Texts in quotes: `'`, the content, `'`. In the content `\'` stands for `'` and `\\` for `\`, and any other byte for itself.
-use Rattle.std.specs.Prelude.{◌≡◌, ℕ, ◌-◌, Bool, true, false, not, ◌&&◌, ◌||◌, ◌==◌, IsTrue, List, [], ◌∷◌, ◌++◌, length, map, slice_range, if◌then◌else◌}
+use Rattle.std.specs.Prelude.{◌≡◌, ℕ, ◌-◌, Bool, true, false, not, ◌||◌, ◌==◌, IsTrue, List, [], ◌∷◌, ◌++◌, length, map, slice_range, if◌then◌else◌}
 use Rattle.std.specs.List.{list_all}
 
 -- the bytes one by one, a `\` with the byte behind it

@@ -1,5 +1,5 @@
 -- The tokens of a text, and where a text stops to have any.
-use Rattle.std.specs.Prelude.{◌≡◌, ◌≢◌, ◌⊎◌, ℕ, pos, ◌+◌, ◌^◌, ◌<◌, ◌≤◌, Bool, true, false, not, ◌&&◌, ◌||◌, ◌==◌, IsTrue, ⊤, Some, Ok, Err, Result, List, [], ◌∷◌, ◌++◌, length, drop, slice_range, slice_get, codes}
+use Rattle.std.specs.Prelude.{◌≡◌, ◌≢◌, ◌⊎◌, ℕ, pos, ◌+◌, ◌^◌, ◌<◌, ◌≤◌, Bool, false, not, ◌&&◌, ◌||◌, ◌==◌, IsTrue, ⊤, Some, List, [], ◌∷◌, ◌++◌, length, drop, slice_range, slice_get, codes}
 use Rattle.std.specs.List.{list_all, concat}
 use Rattle.std.specs.Str.Parse.{digits_value}
 use Rattle.cell_values.specs.Naming.{is_digit, is_word_byte, begins_well, IsName}

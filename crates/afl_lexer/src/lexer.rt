@@ -4,6 +4,7 @@ ghost use Rattle.afl_lexer.specs.declared.token.TokenKind.{TokenKind};
 ghost use Rattle.afl_lexer.specs.Lexemes.{bytes_of};
 ghost use Rattle.afl_lexer.specs.Outcome.{IsStop, AnswersTokens, AnswersStop, HasTokensOrStop, HasNotBoth, HasOneList, HasOneStop};
 ghost use Rattle.afl_lexer.specs.Quoted.{content_of};
+ghost use Rattle.afl_lexer.specs.Spelling.{AreReadAgain};
 ghost use Rattle.afl_lexer.specs.Tokens.{AreTokens, AreRising, IsTokenOf, LexStops, IsGap, IsLongest, BeginsAt, FailsAt};
 
 use crate::gap::gap_end;
@@ -103,4 +104,9 @@ pub fn texts_have_tokens_or_stop()
     ensures not_both { HasNotBoth }
     ensures one_list { HasOneList }
     ensures one_stop { HasOneStop }
+{}
+
+/// What a printer spells is read as what it said, where nothing behind a token lengthens it.
+pub fn spelled_lexemes_are_read_again()
+    ensures { AreReadAgain }
 {}

@@ -7,7 +7,7 @@ mod quoted;
 mod reading;
 pub mod token;
 
-pub use lexer::{text_value, texts_have_tokens_or_stop, tokens};
+pub use lexer::{spelled_lexemes_are_read_again, text_value, texts_have_tokens_or_stop, tokens};
 pub use token::{LexFault, LexKind, Symbol, Token, TokenKind, Word};
 
 #[cfg(test)]

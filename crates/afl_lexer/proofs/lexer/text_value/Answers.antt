@@ -1,5 +1,5 @@
-use Rattle.std.proofs.Common.{◌≡◌, ℕ, List, map, ap, subst, sym}
-use Rattle.std.specs.Prelude.{slice_range, IfOk}
+use Rattle.std.proofs.Common.{◌≡◌, ℕ, List, map, subst, sym}
+use Rattle.std.specs.Prelude.{IfOk}
 use Rattle.afl_lexer.specs.declared.token.TokenKind.{TokenKind}
 use Rattle.afl_lexer.specs.Lexemes.{bytes_of}
 use Rattle.afl_lexer.specs.Quoted.{items, byte_of}

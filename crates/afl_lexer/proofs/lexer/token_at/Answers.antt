@@ -1,4 +1,4 @@
-use Rattle.std.proofs.Common.{◌+◌, ◌<◌, ◌≤◌, length, drop, arith}
+use Rattle.std.proofs.Common.{◌+◌, ◌≤◌, length, drop, arith}
 use Rattle.std.proofs.lemmas.List.{length-drop}
 use Rattle.afl_lexer.specs.declared.reading.Reading.TheVariants.{Found, Wrong}
 use Rattle.afl_lexer.proofs.Judged.{IsRight}

@@ -1,4 +1,4 @@
-use Rattle.std.proofs.Common.{◌≡◌, ℕ, ◌≤◌, ◌+◌, length, drop, true, false, ap, subst, ◌∙◌, sym, arith}
+use Rattle.std.proofs.Common.{◌≡◌, ℕ, ◌+◌, drop, true, false, ap, subst, ◌∙◌, sym, arith}
 use Rattle.std.proofs.lemmas.List.{take_rest}
 use Rattle.afl_lexer.specs.Scan.{item_len, begins_badly, escape_at, further}
 use Rattle.afl_lexer.proofs.quoted.bad_escape.Goals as goal

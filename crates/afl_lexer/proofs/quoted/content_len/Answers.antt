@@ -1,5 +1,5 @@
-use Rattle.std.proofs.Common.{◌≡◌, ℕ, ◌≤◌, ◌<◌, ◌+◌, length, drop, ap, subst, ◌∙◌, sym, arith}
-use Rattle.std.proofs.lemmas.List.{take_rest, length-drop}
+use Rattle.std.proofs.Common.{◌≡◌, ℕ, ◌<◌, ◌+◌, length, drop, ap, subst, ◌∙◌, sym, arith}
+use Rattle.std.proofs.lemmas.List.{take_rest}
 use Rattle.afl_lexer.specs.Quoted.{items}
 use Rattle.afl_lexer.specs.Scan.{item_len}
 use Rattle.afl_lexer.proofs.quoted.content_len.Goals as goal
