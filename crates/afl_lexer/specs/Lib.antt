@@ -1,2 +1,8 @@
+pub mod Lexemes
+pub mod Outcome
+pub mod Quoted
+pub mod Scan
+pub mod Spelling
 pub mod Split
 pub mod Standing
+pub mod Tokens

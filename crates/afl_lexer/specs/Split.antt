@@ -8,6 +8,7 @@
 use Rattle.std.specs.Prelude.{ℕ, ◌+◌, ◌-◌, Bool, true, false, ◌==◌, ◌&&◌, ◌||◌, nat_lt, if◌then◌else◌}
 use Rattle.std.specs.Prelude.{List, [], ◌∷◌, ◌++◌, length, take, map, filter, slice_index, Option, Some, None}
 use Rattle.std.specs.List.{fold, zip, filter_map, list_all, range_with_len, slice_range}
+pub use Rattle.afl_lexer.specs.Tokens.{is_white}
 use Rattle.afl_lexer.specs.declared.splitter.Place.{Place}
 use Rattle.afl_lexer.specs.declared.splitter.Place.TheVariants.{Outside, AfterDash, InText, AfterBackslash, InComment}
 
@@ -71,9 +72,6 @@ abbrev pub last_piece : List ℕ → Piece
 last_piece script = piece_at script (fold (λ _ end. end + 1) 0 (ends script)) (length script)
 
 -- Blank pieces
-
-abbrev pub is_white : ℕ → Bool
-is_white byte = byte == 9 || byte == 10 || byte == 13 || byte == 32
 
 -- a byte that stands at this place, before the byte `next`, is white space outside, or part of a comment:
 -- one of the two dashes that open it, or a byte in it

@@ -1,6 +1,18 @@
-//! The lexical half of the query language: cutting a script into statements.
+//! The lexical half of the query language: the statements of a script, and the tokens of a statement.
 #![tactic(auto)]
 
+mod gap;
+mod lexer;
+mod quoted;
+mod reading;
 mod splitter;
+mod token;
 
+pub use lexer::{
+    name_value, spelled_lexemes_are_read_again, text_value, texts_have_tokens_or_stop, tokens,
+};
 pub use splitter::{SplitStep, Splitter};
+pub use token::{LexFault, LexKind, Symbol, Token, TokenKind, Word};
+
+#[cfg(test)]
+mod tests;
