@@ -66,13 +66,6 @@ module _ {E : Type 0} (owner : E → Option ℕ) where
   all_seen k seen log e = ([], sym e ∙ sym (append-nil seen), refl)
 
 module _ {A : Type 0} where
-  -- a list of one item
-  pub single : (l : List A) → length l ≡ 1 → (a : A) × (l ≡ a ∷ [])
-  single [] e = absurd (omega arith)
-  single (x ∷ []) e = (x, refl)
-  single (x ∷ y ∷ ys) e = absurd (omega arith)
-
-module _ {A : Type 0} where
   pub total_append : (f : A → ℕ) (l m : List A) → total f (l ++ m) ≡ total f l + total f m
   total_append f [] m = omega arith
   total_append f (x ∷ xs) m = let h = total_append f xs m in let a : ℕ = total f (xs ++ m) in let b : ℕ = total f xs in let c : ℕ = total f m in let h' : a ≡ b + c = h in let g : f x + a ≡ f x + b + c = omega arith in g
@@ -102,11 +95,6 @@ module _ {A : Type 0} where
   at_either [] m j b e = inr (j, e)
   at_either (x ∷ xs) m zero b e = inl (zero, e)
   at_either (x ∷ xs) m (suc j) b e = ⊎_elim (λ h. inl (suc h.0, h.1)) (λ h. inr h) (at_either xs m j b e)
-
-  pub at_below : (l : List A) (j : ℕ) (b : A) → get_elem? l j ≡ some b → j < length l
-  at_below [] j b e = absurd (some-ne-none b (sym e))
-  at_below (x ∷ xs) zero b e = let n : ℕ = length xs in let g : 0 < suc n = omega arith in g
-  at_below (x ∷ xs) (suc j) b e = let h : j < length xs = at_below xs j b e in let n : ℕ = length xs in let g : suc j < suc n = omega arith in g
 
 pub length-new_claims : (E : Type 0) (k n : ℕ) → length (new_claims {E = E} k n) ≡ n
 length-new_claims E k zero = refl

@@ -27,9 +27,6 @@ module _ {E : Type 0} where
   renewed_seen xs [] e = absurd (omega arith)
   renewed_seen xs (c ∷ cs) e = refl
 
-  pub renewed_one : (xs : List E) (cs : List (Claim E)) → length cs ≡ 1 → claims_seeing xs cs ≡ claim (first_number cs) xs ∷ []
-  renewed_one xs cs e = ap (claims_seeing xs) (one_claim cs e)
-
 module _ {V : Type 0} where
   abbrev value_or : V → Option V → V
   value_or x (Some y) = y

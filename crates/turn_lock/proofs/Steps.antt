@@ -1,5 +1,5 @@
 -- Each step of the lock's table keeps the rule.
-use Rattle.std.proofs.Common.{◌≡◌, ◌≢◌, ℕ, zero, suc, ◌+◌, ◌%◌, ◌^◌, ◌<◌, ◌≤◌, inl, inr, ⊎_elim, eqb, List, [], ◌∷◌, length, get_or, set, sym, refl, ap, subst, ◌∙◌, arith, Option, Some, ne_eqb, eq-eqb}
+use Rattle.std.proofs.Common.{◌≡◌, ◌≢◌, ℕ, zero, suc, ◌+◌, ◌%◌, ◌^◌, ◌<◌, ◌≤◌, inl, inr, ⊎_elim, eqb, List, [], ◌∷◌, ◌++◌, length, get_or, set, sym, refl, ap, subst, ◌∙◌, arith, Option, Some, ne_eqb, eq-eqb}
 use mathlib.Core.Logic.{dite}
 use mathlib.Core.Option.{some, none, some-injective, some-ne-none}
 use native.Mathlib.Decide.{ℕ_discrete}
@@ -222,10 +222,10 @@ module _ {V O E : Type 0} (origin : V → O) (entries : V → List E) (owner : E
       let mine : get_elem? me.0.claims 0 ≡ some (claim number seen) = ap (λ l. get_elem? l 0) one in
       let whole : seen ≡ k.log = now.3 0 (claim number seen) mine in
       let held : k.holder number ≡ id = (fit.claimed 0 (claim number seen) mine).0 in
-      let added : ExtendsByOwn owner number k.log xs = subst (λ l. ExtendsByOwn owner number l xs) whole more in
+      let added : ExtendsByOwn owner number k.log xs = (more.0, more.1 ∙ ap (λ l. l ++ more.0) whole, more.2) in
       let tq = total_set ticket_count s.views id me.0 w at in let tn = total_set number_count s.views id me.0 w at in let one_q : tickets_at me.0.stage ≡ 1 = ap tickets_at holds in
       let n1 : length me.0.claims ≡ 1 = ap length one in let n2 : length cs ≡ 1 = ap length cs_is in
-      let l : ℕ = length k.log in let m : ℕ = length xs in let sum : l + d ≡ m = subst (λ z. length z + d ≡ m) whole long in (
+      let l : ℕ = length k.log in let m : ℕ = length xs in let sum : l + d ≡ m = (let before : ℕ = length seen in let same : before ≡ l = ap length whole in let all : before + d ≡ m = long in omega arith) in (
         w,
         keeps,
         tt,

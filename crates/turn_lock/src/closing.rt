@@ -5,7 +5,7 @@ ghost use Rattle.turn_lock.specs.declared.view.Stage.TheVariants.{Idle};
 use crate::history::History;
 use crate::lock::{COUNT, SLOT, TurnLock};
 use crate::rule::{Arrive, Gather};
-use crate::seat::{LockSeat, TurnSeat};
+use crate::seat::TurnSeat;
 use crate::view::SeatView;
 use atomic_table::Seat;
 use cell_values::List;
@@ -35,7 +35,6 @@ impl<V: History> TurnLock<V> {
         while let Some(last) = seats.pop() {
             closing.take_back(last);
         }
-        seats.into_vec().destroy_empty();
         closing.end()
     }
 
@@ -62,7 +61,7 @@ impl<V: History> Closing<V> {
         ensures claims { claims_of self.new ≡ claim_of seat ∷ claims_of self.old }
     {
         let lock = &self.lock;
-        let LockSeat { seat, number: _ } = seat;
+        let seat = seat.into_seat();
         lock.table.shared.join_seat::<Gather>(&mut self.all, seat);
     }
 

@@ -36,7 +36,6 @@ impl<V: History> TurnLock<V> {
             return Err((Memory, value));
         };
         let Ok(mut slots) = Vec::with_capacity(alloc, 1) else {
-            places.destroy_empty();
             return Err((Memory, value));
         };
         slots.push_reserved(Some(value));
@@ -46,17 +45,14 @@ impl<V: History> TurnLock<V> {
                 let dealt = lock.deal(first, places, seats);
                 Ok((lock, dealt))
             }
-            Err(Refused { mut slots }) => {
-                places.destroy_empty();
-                match slots.pop() {
-                    Some(Some(value)) => {
-                        slots.destroy_empty();
-                        Err((Memory, value))
-                    }
-                    Some(None) => unreachable!(),
-                    None => unreachable!(),
+            Err(Refused { mut slots }) => match slots.pop() {
+                Some(Some(value)) => {
+                    slots.destroy_empty();
+                    Err((Memory, value))
                 }
-            }
+                Some(None) => unreachable!(),
+                None => unreachable!(),
+            },
         }
     }
 

@@ -8,12 +8,17 @@ use atomic_table::Seat;
 
 /// A place at a lock, for one thread at a time. Beside its number it has no bytes.
 /// It has no bound, so that a struct which is generic itself can hold it beside ghost fields.
-#[derive(Drop)]
 pub struct LockSeat<V, E> {
     pub(crate) seat: Seat<Option<V>, SeatView<V, E>>,
     pub(crate) number: u32,
     ghost one: { length seat.me.0.claims ≡ 1 },
     ghost numbered: { first_number seat.me.0.claims ≡ number },
+}
+
+impl<V, E> Drop for LockSeat<V, E> {
+    fn drop(self) {
+        let LockSeat { seat: _, number: _ } = self;
+    }
 }
 
 /// A seat of the locks of a type.
@@ -27,6 +32,14 @@ impl<V, E> LockSeat<V, E> {
         ensures { result ≡ seat_number self.now }
     {
         self.number
+    }
+
+    // Its seat at the lock's table.
+    pub(crate) fn into_seat(self) -> Seat<Option<V>, SeatView<V, E>>
+        ensures { result ≡ self.seat }
+    {
+        let LockSeat { seat, number: _ } = self;
+        seat
     }
 }
 

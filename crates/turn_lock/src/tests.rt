@@ -58,8 +58,7 @@ impl Tally {
     {
         if self.last_turn(by) == turn.checked_sub(1)
             && self.marks.push(Mark { by, turn }).is_err()
-        {
-        }
+        {}
     }
 }
 
