@@ -9,7 +9,6 @@ use Rattle.atomic_table.specs.Table.{State, Me, step, Splits, Joins, Enters, Fin
 use Rattle.atomic_table.proofs.Lists.{at_set, set_else, at_longer, at_last}
 use Rattle.turn_lock.specs.declared.view.Claim.{Claim}
 use Rattle.turn_lock.specs.declared.view.SeatView.{SeatView}
-use Rattle.turn_lock.specs.declared.view.Stage.{Stage}
 use Rattle.turn_lock.specs.declared.view.Stage.TheVariants.{Idle, Holding}
 use Rattle.turn_lock.specs.Owners.{ExtendsByOthers}
 use Rattle.turn_lock.specs.Views.{tickets_at, claim, new_claims, first_of, later_of, first_view, spent_view, first_share, later_share, both_shares, ticket_count, number_count, HasNumber}

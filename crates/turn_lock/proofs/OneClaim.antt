@@ -5,10 +5,10 @@ use lib.ListN.{get_elem?}
 use Rattle.atomic_table.specs.Table.{Me, Step, rest}
 use Rattle.turn_lock.specs.declared.view.Claim.{Claim}
 use Rattle.turn_lock.specs.declared.view.SeatView.{SeatView}
-use Rattle.turn_lock.specs.declared.view.Stage.TheVariants.{Idle, Holding}
+use Rattle.turn_lock.specs.declared.view.Stage.TheVariants.{Holding}
 use Rattle.turn_lock.specs.Owners.{ExtendsByOthers, ExtendsByOwn}
 use Rattle.turn_lock.specs.Views.{claim, first_number, first_seen, claims_seeing}
-use Rattle.turn_lock.specs.Steps.{Draws, Begins, Counts, Serves}
+use Rattle.turn_lock.specs.Steps.{Draws, Begins}
 
 module _ {E : Type 0} where
   pub one_claim : (cs : List (Claim E)) → length cs ≡ 1 → cs ≡ claim (first_number cs) (first_seen cs) ∷ []
