@@ -15,7 +15,8 @@ use std::alloc::Global;
 use std::snapshot::Snapshot;
 
 impl<V: History> TurnLock<V> {
-    /// A lock of a value with no entries, and its seats, in the order of their numbers. Without memory the value comes back.
+    /// A lock of a value with no entries, and its seats, 1 to 17, in the order of their numbers.
+    /// Without memory the value comes back.
     pub fn new(
         alloc: Global,
         value: V,

@@ -1,7 +1,7 @@
 //! Turns of several threads on a counter that remembers who counted.
-ghost use Rattle.std.specs.Prelude.{◌≡◌, ◌<◌, ℕ, length, slice_index_or, Some};
+ghost use Rattle.std.specs.Prelude.{◌≡◌};
 ghost use Rattle.turn_lock.specs.Owners.{ExtendsByOwn};
-ghost use Rattle.turn_lock.specs.Seats.{seat_number, IsSeatOf, IsIdle, AreIdleSeats};
+ghost use Rattle.turn_lock.specs.Seats.{IsSeatOf, IsIdle, AreIdleSeats};
 
 use crate::{History, TurnLock, TurnSeat};
 use cell_values::List;
@@ -56,9 +56,9 @@ impl Tally {
         ensures start { self.new.start ≡ self.old.start }
         ensures marks { ExtendsByOwn (λ mark. Some mark.by) by self.old.marks self.new.marks }
     {
-        if self.last_turn(by) == turn.checked_sub(1)
-            && self.marks.push(Mark { by, turn }).is_err()
-        {}
+        if self.last_turn(by) == turn.checked_sub(1) {
+            let _ = self.marks.push(Mark { by, turn });
+        }
     }
 }
 

@@ -1,5 +1,5 @@
 //! How a seat takes its turn and ends it.
-ghost use Rattle.std.specs.Prelude.{◌≡◌, ◌%◌, ◌^◌, length};
+ghost use Rattle.std.specs.Prelude.{◌≡◌, ◌%◌, ◌^◌};
 ghost use Rattle.turn_lock.specs.declared.view.Stage.TheVariants.{Waiting};
 ghost use Rattle.turn_lock.specs.Owners.{ExtendsByOthers, ExtendsByOwn};
 ghost use Rattle.turn_lock.specs.Seats.{seat_number, seen_by, first_value, IsSeatOf, IsIdle, HasSlot, HasTurn};

@@ -17,13 +17,14 @@ pub struct Claim<E> {
     pub seen: LinkedList<E>,
 }
 
+/// What one seat knows.
 pub struct SeatView<V, E> {
     pub stage: Stage,
     /// Counted without end, where its word counts modulo 2^64.
     pub ticket: u64,
     /// The value that the lock was made with, which each seat with a number knows.
     pub first: Option<V>,
-    /// One for a seat. The first seat of a new lock has all of them, and so has the last of a lock that ends.
+    /// A caller's seat has one. The first seat of a new lock has all, and so has the one that gathers them at the end.
     pub claims: LinkedList<Claim<E>>,
 }
 
