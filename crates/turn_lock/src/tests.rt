@@ -1,0 +1,118 @@
+//! Turns of several threads on a counter that remembers who counted.
+ghost use Rattle.std.specs.Prelude.{◌≡◌};
+ghost use Rattle.turn_lock.specs.Owners.{ExtendsByOwn};
+ghost use Rattle.turn_lock.specs.Seats.{IsSeatOf, IsIdle, AreIdleSeats};
+
+use crate::{History, TurnLock, TurnSeat};
+use cell_values::List;
+use std::sync::Wait;
+use std::test::*;
+use std::thread;
+use std::thread::Threads;
+
+#[derive(Clone, Copy)]
+struct Mark {
+    by: u32,
+    turn: u32,
+}
+
+#[derive(Drop)]
+struct Tally {
+    start: u64,
+    marks: List<Mark>,
+}
+
+impl History for Tally {
+    ghost use Rattle.std.specs.Prelude.{Some};
+
+    type Origin = u64;
+
+    type Entry = Mark;
+
+    ghost origin = { λ tally. tally.start };
+
+    ghost entries = { λ tally. tally.marks };
+
+    ghost owner = { λ mark. Some mark.by };
+
+    fn count(&self) -> u64 {
+        self.marks.len() as u64
+    }
+}
+
+impl Tally {
+    // Which turn a seat's last mark is of.
+    fn last_turn(&self, by: u32) -> Option<u32> {
+        for mark in self.marks.as_slice().iter().rev() {
+            if mark.by == by {
+                return Some(mark.turn);
+            }
+        }
+        None
+    }
+
+    // Marks a turn, if the seat's own last mark is of its turn before.
+    fn mark(&mut self, by: u32, turn: u32)
+        ensures start { self.new.start ≡ self.old.start }
+        ensures marks { ExtendsByOwn (λ mark. Some mark.by) by self.old.marks self.new.marks }
+    {
+        if self.last_turn(by) == turn.checked_sub(1) {
+            let _ = self.marks.push(Mark { by, turn });
+        }
+    }
+}
+
+fn one_turn<R: Wait>(rt: &R, lock: &TurnLock<Tally>, seat: &mut TurnSeat<Tally>, number: u32)
+    requires { IsSeatOf lock.now seat.old × IsIdle seat.old }
+    ensures { IsSeatOf lock.now seat.new × IsIdle seat.new }
+{
+    let mut turn = lock.enter(rt, seat);
+    turn.value().mark(seat.number(), number);
+    lock.leave(seat, turn);
+}
+
+fn turns<R: Wait>(rt: &R, lock: &TurnLock<Tally>, seat: &mut TurnSeat<Tally>, count: u32)
+    requires { IsSeatOf lock.now seat.old × IsIdle seat.old }
+    ensures { IsSeatOf lock.now seat.new × IsIdle seat.new }
+{
+    for number in 0..count {
+        one_turn(rt, lock, seat, number);
+    }
+}
+
+fn all_turns<R: Threads + Wait + Sync>(
+    rt: &R,
+    lock: &TurnLock<Tally>,
+    seats: &mut [TurnSeat<Tally>],
+    count: u32,
+)
+    requires { AreIdleSeats lock.now seats.old }
+    ensures { AreIdleSeats lock.now seats.new }
+{
+    let each = |_: usize, seat: &mut TurnSeat<Tally>|
+        requires { IsSeatOf lock.now seat.now × IsIdle seat.now }
+        ensures { IsSeatOf lock.entry.now seat.exit.now × IsIdle seat.exit.now }
+    { turns(rt, lock, seat, count) };
+    thread::for_each_mut(rt, seats, 4, &each);
+}
+
+#[test]
+fn each_of_four_threads_finds_its_own_marks_in_order(rt: HostRuntime) -> Result<(), Fail> {
+    let tally = Tally {
+        start: 7,
+        marks: List::new(rt.alloc()),
+    };
+    let Ok((lock, seats)) = TurnLock::new(rt.alloc(), tally, 4) else {
+        panic!(rt; "no memory")
+    };
+    let mut seats = seats.into_vec();
+    all_turns(&rt, &lock, seats.as_mut_slice(), 10_000);
+    let tally = lock.close(List::from_vec(seats));
+    assert!(rt; tally.start == 7);
+    // A mark is missing where a seat did not find its own last one.
+    assert_eq!(rt; tally.count(), 40_000);
+    for by in 0..4 {
+        assert!(rt; tally.last_turn(by) == Some(9_999), "at seat {by}");
+    }
+    Ok(())
+}
