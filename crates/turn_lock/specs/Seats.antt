@@ -5,6 +5,7 @@ use Rattle.turn_lock.specs.declared.seat.LockSeat.{LockSeat}
 use Rattle.turn_lock.specs.declared.seat.Turn.{Turn}
 use Rattle.turn_lock.specs.declared.view.Claim.{Claim}
 use Rattle.turn_lock.specs.declared.view.Stage.TheVariants.{Idle, Holding}
+use Rattle.turn_lock.specs.Lent.{count_before}
 use Rattle.turn_lock.specs.Owners.{ExtendsByOthers}
 use Rattle.turn_lock.specs.Views.{claim, first_number, first_seen}
 
@@ -30,7 +31,7 @@ module _ {V E : Type 0} where
 
   -- the turn is this seat's
   abbrev pub HasTurn : LockSeat V E → Turn V → Type 0
-  HasTurn s t = HasSlot s × (t.before ≡ length (seen_by s))
+  HasTurn s t = HasSlot s × (count_before t ≡ length (seen_by s))
 
   -- the list extends all that each of the seats has seen, and none of the entries past that is the seat's own
   abbrev pub ExtendsEach : (E → Option ℕ) → List (LockSeat V E) → List E → Type 0

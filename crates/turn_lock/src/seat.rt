@@ -52,12 +52,12 @@ pub struct Turn<V> {
 impl<V> Turn<V> {
     ghost use Rattle.std.specs.Borrow.{sem, follows};
     ghost use Rattle.turn_lock.specs.contracts.seat.Turn.{the_row};
-    ghost use Rattle.turn_lock.specs.Lent.{turn_with};
+    ghost use Rattle.turn_lock.specs.Lent.{turn_with, value_of};
 
     /// The value. When the borrow ends, the turn has what was written through it.
     pub fn value(&mut self) -> &mut V
         ensures* writes_back { sem 𝓛 (follows (the_row V.row) V.row self.entry.ghost_name result.ghost_name (turn_with self.old)) }
-        ensures value { result.now ≡ self.old.value }
+        ensures value { result.now ≡ value_of self.old }
     {
         &mut self.value
     }

@@ -1,6 +1,7 @@
 //! How a seat takes its turn and ends it.
 ghost use Rattle.std.specs.Prelude.{◌≡◌, ◌%◌, ◌^◌};
 ghost use Rattle.turn_lock.specs.declared.view.Stage.TheVariants.{Waiting};
+ghost use Rattle.turn_lock.specs.Lent.{value_of};
 ghost use Rattle.turn_lock.specs.Owners.{ExtendsByOthers, ExtendsByOwn};
 ghost use Rattle.turn_lock.specs.Seats.{seat_number, seen_by, first_value, IsSeatOf, IsIdle, HasSlot, HasTurn};
 ghost use Rattle.turn_lock.specs.Steps.{Begins};
@@ -24,9 +25,9 @@ impl<V: History> TurnLock<V> {
         ensures lock { IsSeatOf self.now seat.new }
         ensures number { seat_number seat.new ≡ seat_number seat.old }
         ensures turn { HasTurn seat.new result }
-        ensures origin { V.origin result.value ≡ V.origin (first_value self.now) }
-        ensures entries { ExtendsByOthers V.owner (seat_number seat.old) (seen_by seat.old) (V.entries result.value) }
-        ensures seen { seen_by seat.new ≡ V.entries result.value }
+        ensures origin { V.origin (value_of result) ≡ V.origin (first_value self.now) }
+        ensures entries { ExtendsByOthers V.owner (seat_number seat.old) (seen_by seat.old) (V.entries (value_of result)) }
+        ensures seen { seen_by seat.new ≡ V.entries (value_of result) }
     {
         let shared = &self.table.shared;
         let ticket = shared.fetch_add::<Draw>(&mut seat.seat, NEXT, 1);
@@ -59,12 +60,12 @@ impl<V: History> TurnLock<V> {
     /// Ends a turn. The seat then has seen just the entries that the value has.
     pub fn leave(&self, seat: &mut TurnSeat<V>, turn: Turn<V>)
         requires seat { IsSeatOf self.now seat.old × HasTurn seat.old turn }
-        requires origin { V.origin turn.value ≡ V.origin (first_value self.now) }
-        requires entries { ExtendsByOwn V.owner (seat_number seat.old) (seen_by seat.old) (V.entries turn.value) }
+        requires origin { V.origin (value_of turn) ≡ V.origin (first_value self.now) }
+        requires entries { ExtendsByOwn V.owner (seat_number seat.old) (seen_by seat.old) (V.entries (value_of turn)) }
         ensures lock { IsSeatOf self.now seat.new }
         ensures number { seat_number seat.new ≡ seat_number seat.old }
         ensures idle { IsIdle seat.new }
-        ensures seen { seen_by seat.new ≡ V.entries turn.value }
+        ensures seen { seen_by seat.new ≡ V.entries (value_of turn) }
     {
         let shared = &self.table.shared;
         self.make_known::<Brand>(seat, &turn);
@@ -80,7 +81,7 @@ impl<V: History> TurnLock<V> {
     // Adds the new entries of a turn to the count, by which they become known.
     fn make_known<H: InHand<V::Entry>>(&self, seat: &mut TurnSeat<V>, turn: &Turn<V>)
         requires seat { IsSeatOf self.now seat.old × HasTurn seat.old turn.now }
-        requires hand { H.entries ≡ V.entries turn.now.value }
+        requires hand { H.entries ≡ V.entries (value_of turn.now) }
         requires entries { ExtendsByOwn V.owner (seat_number seat.old) (seen_by seat.old) H.entries }
         ensures lock { IsSeatOf self.now seat.new }
         ensures number { seat_number seat.new ≡ seat_number seat.old }
