@@ -38,7 +38,7 @@ impl<V: History> TurnLock<V> {
         closing.end()
     }
 
-    /// Begins to end the lock, seat by seat, for a caller whose seats lie in no list of their own.
+    /// Begins to end the lock. A caller whose seats lie within values of its own hands them back one by one.
     pub fn closing(self) -> Closing<V>
         ensures lock { lock_of result ≡ self }
         ensures none { claims_of result ≡ [] }

@@ -8,11 +8,13 @@ pub trait History {
 
     type Entry;
 
+    /// What the value was made from. No turn changes it.
     ghost origin: { Self → Self.Origin };
 
+    /// The list, to which a turn only adds, at its end.
     ghost entries: { Self → List Self.Entry };
 
-    // The number of the seat that owns an entry, if one does.
+    /// The number of the seat that owns an entry, if one does.
     ghost owner: { Self.Entry → Option ℕ };
 
     /// How many entries there are.

@@ -6,7 +6,7 @@ use crate::history::History;
 use crate::view::SeatView;
 use atomic_table::Seat;
 
-/// A place at a lock, for one thread at a time. Beside its number it has no bytes.
+/// A place at a lock, for one thread at a time.
 /// It has no bound, so that a struct which is generic itself can hold it beside ghost fields.
 pub struct LockSeat<V, E> {
     pub(crate) seat: Seat<Option<V>, SeatView<V, E>>,

@@ -57,7 +57,7 @@ impl<V: History> TurnLock<V> {
         unreachable!()
     }
 
-    /// Ends a turn. The seat then has seen just the entries that the value has.
+    /// Ends the turn that `enter` gave this seat. The seat then has seen just the entries that the value has.
     pub fn leave(&self, seat: &mut TurnSeat<V>, turn: Turn<V>)
         requires seat { IsSeatOf self.now seat.old × HasTurn seat.old turn }
         requires origin { V.origin (value_of turn) ≡ V.origin (first_value self.now) }
