@@ -1,0 +1,3 @@
+pub mod ShapeComplete
+pub mod ShapeEnds
+pub mod ShapeSound

@@ -1,0 +1,9 @@
+//! Schemas: their grammar, their rules and their printed form.
+#![tactic(auto)]
+
+pub mod laws;
+pub mod shape_text;
+pub mod state;
+
+pub use shape_text::{AttrText, DimText, SchemaText};
+pub use state::{ShapeState, ShapeStep};
