@@ -1,3 +1,4 @@
+mod Numbers
 pub mod ShapeComplete
 pub mod ShapeEnds
 pub mod ShapeSound

@@ -14,12 +14,19 @@ use Rattle.schema_grammar.specs.declared.state.AttrPlace.{AttrPlace}
 use Rattle.schema_grammar.specs.declared.state.AttrPlace.TheVariants as attr
 use Rattle.schema_grammar.specs.declared.state.DimPlace.{DimPlace}
 use Rattle.schema_grammar.specs.declared.state.DimPlace.TheVariants as dim
+use Rattle.schema_grammar.specs.declared.state.Head.{Head}
+use Rattle.schema_grammar.specs.declared.state.BoundPlace.{BoundPlace}
+use Rattle.schema_grammar.specs.declared.state.BoundPlace.TheVariants.{Low, LowMinus, Lowered, High, HighMinus}
+use Rattle.schema_grammar.specs.declared.state.NumberPlace.{NumberPlace}
+use Rattle.schema_grammar.specs.declared.state.NumberPlace.TheVariants.{Bounded, Chunk, Chunked, Overlap}
+use Rattle.schema_grammar.specs.declared.state.PartStep.{PartStep}
+use Rattle.schema_grammar.specs.declared.state.PartStep.TheVariants as part
 use Rattle.schema_grammar.specs.declared.state.ShapeState.{ShapeState}
 use Rattle.schema_grammar.specs.declared.state.ShapeState.TheVariants.{Start, Attributes, Between, Dimensions}
 use Rattle.schema_grammar.specs.declared.state.ShapeStep.{ShapeStep}
 use Rattle.schema_grammar.specs.declared.state.ShapeStep.TheVariants.{On, Whole, Unexpected}
 use Rattle.schema_grammar.specs.Spelling.{placed, across, unbounded, SpellsNull, SpellsAttr, SpellsAttrs, SpellsBound, SpellsHigh, SpellsDim, SpellsDims, SpellsSchema}
-use Rattle.schema_grammar.specs.Reading.{label, bound, count, attribute, not_null, dimension, whole_schema, start_turn, attr_end_turn, attr_turn, between_turn, dim_end_turn, dim_turn, shape_turn, ShapeRun, Read, Open, Stuck, shape_go, shape_run}
+use Rattle.schema_grammar.specs.Reading.{label, bound, count, attribute, not_null, dimension, whole_schema, head, attr_end, attr_word, attr_step, bound_step, number_step, dim_step, attr_goes, dim_goes, start_turn, between_turn, shape_turn, ShapeRun, Read, Open, Stuck, shape_go, shape_run}
 
 -- what ends an attribute
 abbrev EndsAttr : Lexeme → Type 0
@@ -27,10 +34,10 @@ EndsAttr (a_symbol Comma) = Unit {0}
 EndsAttr (a_symbol More) = Unit {0}
 EndsAttr _ = ⊥
 
-ends_word : (l : Span) (done : List AttrText) (a : AttrText) (s : Span) (what : Lexeme) → EndsAttr what → attr_turn l done (attr.Worded a) s what ≡ attr_end_turn l done a what
-ends_word l done a s (a_symbol Comma) h = refl
-ends_word l done a s (a_symbol More) h = refl
-ends_word l done a s _ h = absurd h
+ends_word : (a : AttrText) (what : Lexeme) → EndsAttr what → attr_word a what ≡ attr_end a what
+ends_word a (a_symbol Comma) h = refl
+ends_word a (a_symbol More) h = refl
+ends_word a _ h = absurd h
 
 abbrev of_null : AttrText → Bool → AttrText
 of_null a null = record { name = a.name; name_span = a.name_span; word = a.word; word_span = a.word_span; nullable = null }
@@ -40,7 +47,7 @@ read_null : (null : Bool) (a : AttrText) (l : Span) (done : List AttrText) (xs :
     → shape_run (Attributes l done (attr.Worded (of_null a true))) xs ≡ shape_run (Attributes l done (attr.Ended (of_null a null))) (placed what s ∷ zs)
 read_null true a l done xs what s zs h (inl e) =
     ap (shape_run (Attributes l done (attr.Worded (of_null a true)))) e
-    ∙ ap (λ step. shape_go step zs (λ state. shape_run state zs)) (ends_word l done (of_null a true) s what h)
+    ∙ ap (λ step. shape_go (attr_goes l done step) zs (λ state. shape_run state zs)) (ends_word (of_null a true) what h)
 read_null true a l done xs what s zs h (inr (n, e)) = ap (shape_run (Attributes l done (attr.Worded (of_null a true)))) e
 read_null false a l done xs what s zs h (m, n, e) = ap (shape_run (Attributes l done (attr.Worded (of_null a true)))) e
 
@@ -62,27 +69,27 @@ read_attrs (a ∷ b ∷ bs) done l g xs zs (c, ys, h, m) =
 
 module _ (l : Span) (attrs : List AttrText) (b : Span) where
   abbrev at : List DimText → DimPlace → ShapeState
-  at done place = Dimensions l attrs b done place
+  at done place = Dimensions (head l attrs b) done place
 
   read_low : (z : ℤ) (s : Span) (n : Label) (done : List DimText) (xs zs : List Placed) → SpellsBound z s xs zs
-      → shape_run (at done (dim.Low n)) xs ≡ shape_run (at done (dim.Lowered n (bound z s))) zs
+      → shape_run (at done (dim.Bounds n Low)) xs ≡ shape_run (at done (dim.Bounds n (Lowered (bound z s)))) zs
   read_low z s n done xs zs (inl (v, p, e)) =
-      ap (shape_run (at done (dim.Low n))) e ∙ ap (λ z. shape_run (at done (dim.Lowered n (bound z s))) zs) (sym p)
+      ap (shape_run (at done (dim.Bounds n Low))) e ∙ ap (λ z. shape_run (at done (dim.Bounds n (Lowered (bound z s)))) zs) (sym p)
   read_low z s n done xs zs (inr (v, m, t, p, q, e)) =
-      ap (shape_run (at done (dim.Low n))) e
-      ∙ ap (λ z. shape_run (at done (dim.Lowered n (bound z (across m t)))) zs) (sym p)
-      ∙ ap (λ s. shape_run (at done (dim.Lowered n (bound z s))) zs) (sym q)
+      ap (shape_run (at done (dim.Bounds n Low))) e
+      ∙ ap (λ z. shape_run (at done (dim.Bounds n (Lowered (bound z (across m t))))) zs) (sym p)
+      ∙ ap (λ s. shape_run (at done (dim.Bounds n (Lowered (bound z s)))) zs) (sym q)
 
   read_high : (z : ℤ) (s : Span) (n : Label) (lo : Bound) (done : List DimText) (xs zs : List Placed) → SpellsHigh z s xs zs
-      → shape_run (at done (dim.High n lo)) xs ≡ shape_run (at done (dim.Bounded n lo (bound z s))) zs
+      → shape_run (at done (dim.Bounds n (High lo))) xs ≡ shape_run (at done (dim.Numbers n lo (bound z s) Bounded)) zs
   read_high z s n lo done xs zs (inl (inl (v, p, e))) =
-      ap (shape_run (at done (dim.High n lo))) e ∙ ap (λ z. shape_run (at done (dim.Bounded n lo (bound z s))) zs) (sym p)
+      ap (shape_run (at done (dim.Bounds n (High lo)))) e ∙ ap (λ z. shape_run (at done (dim.Numbers n lo (bound z s) Bounded)) zs) (sym p)
   read_high z s n lo done xs zs (inl (inr (v, m, t, p, q, e))) =
-      ap (shape_run (at done (dim.High n lo))) e
-      ∙ ap (λ z. shape_run (at done (dim.Bounded n lo (bound z (across m t)))) zs) (sym p)
-      ∙ ap (λ s. shape_run (at done (dim.Bounded n lo (bound z s))) zs) (sym q)
+      ap (shape_run (at done (dim.Bounds n (High lo)))) e
+      ∙ ap (λ z. shape_run (at done (dim.Numbers n lo (bound z (across m t)) Bounded)) zs) (sym p)
+      ∙ ap (λ s. shape_run (at done (dim.Numbers n lo (bound z s) Bounded)) zs) (sym q)
   read_high z s n lo done xs zs (inr (p, e)) =
-      ap (shape_run (at done (dim.High n lo))) e ∙ ap (λ z. shape_run (at done (dim.Bounded n lo (bound z s))) zs) (sym p)
+      ap (shape_run (at done (dim.Bounds n (High lo)))) e ∙ ap (λ z. shape_run (at done (dim.Numbers n lo (bound z s) Bounded)) zs) (sym p)
 
   read_dim : (d : DimText) (done : List DimText) (xs zs : List Placed) → SpellsDim d xs zs
       → shape_run (at done dim.First) xs ≡ shape_run (at done (dim.Ended d)) zs

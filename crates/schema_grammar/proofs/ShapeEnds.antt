@@ -14,12 +14,19 @@ use Rattle.schema_grammar.specs.declared.state.AttrPlace.{AttrPlace}
 use Rattle.schema_grammar.specs.declared.state.AttrPlace.TheVariants as attr
 use Rattle.schema_grammar.specs.declared.state.DimPlace.{DimPlace}
 use Rattle.schema_grammar.specs.declared.state.DimPlace.TheVariants as dim
+use Rattle.schema_grammar.specs.declared.state.Head.{Head}
+use Rattle.schema_grammar.specs.declared.state.BoundPlace.{BoundPlace}
+use Rattle.schema_grammar.specs.declared.state.BoundPlace.TheVariants.{Low, LowMinus, Lowered, High, HighMinus}
+use Rattle.schema_grammar.specs.declared.state.NumberPlace.{NumberPlace}
+use Rattle.schema_grammar.specs.declared.state.NumberPlace.TheVariants.{Bounded, Chunk, Chunked, Overlap}
+use Rattle.schema_grammar.specs.declared.state.PartStep.{PartStep}
+use Rattle.schema_grammar.specs.declared.state.PartStep.TheVariants as part
 use Rattle.schema_grammar.specs.declared.state.ShapeState.{ShapeState}
 use Rattle.schema_grammar.specs.declared.state.ShapeState.TheVariants.{Start, Attributes, Between, Dimensions}
 use Rattle.schema_grammar.specs.declared.state.ShapeStep.{ShapeStep}
 use Rattle.schema_grammar.specs.declared.state.ShapeStep.TheVariants.{On, Whole, Unexpected}
 use Rattle.schema_grammar.specs.Spelling.{placed, across, unbounded, SpellsNull, SpellsAttr, SpellsAttrs, SpellsBound, SpellsHigh, SpellsDim, SpellsDims, SpellsSchema}
-use Rattle.schema_grammar.specs.Reading.{label, bound, count, attribute, not_null, dimension, whole_schema, start_turn, attr_end_turn, attr_turn, between_turn, dim_end_turn, dim_turn, shape_turn, ShapeRun, Read, Open, Stuck, shape_go, shape_run}
+use Rattle.schema_grammar.specs.Reading.{label, bound, count, attribute, not_null, dimension, whole_schema, head, attr_end, attr_word, attr_step, bound_step, number_step, dim_step, attr_goes, dim_goes, start_turn, between_turn, shape_turn, ShapeRun, Read, Open, Stuck, shape_go, shape_run}
 
 abbrev nowhere : Span
 nowhere = record { start = 0; end = 0 }
@@ -56,15 +63,15 @@ end_name zs = placed (a_symbol Equal) nowhere ∷ placed one nowhere ∷ end_low
 abbrev dim_enders : DimPlace → List Placed → List Placed
 dim_enders dim.First zs = placed (a_name name_a) nowhere ∷ end_name zs
 dim_enders (dim.Named n) zs = end_name zs
-dim_enders (dim.Low n) zs = placed one nowhere ∷ end_low zs
-dim_enders (dim.LowMinus n m) zs = placed one nowhere ∷ end_low zs
-dim_enders (dim.Lowered n lo) zs = end_low zs
-dim_enders (dim.High n lo) zs = placed one nowhere ∷ end_bounds zs
-dim_enders (dim.HighMinus n lo m) zs = placed one nowhere ∷ end_bounds zs
-dim_enders (dim.Bounded n lo hi) zs = end_bounds zs
-dim_enders (dim.Chunk n lo hi) zs = placed one nowhere ∷ end_chunk zs
-dim_enders (dim.Chunked n lo hi c) zs = end_chunk zs
-dim_enders (dim.Overlap n lo hi c) zs = placed one nowhere ∷ end_dims zs
+dim_enders (dim.Bounds n Low) zs = placed one nowhere ∷ end_low zs
+dim_enders (dim.Bounds n (LowMinus m)) zs = placed one nowhere ∷ end_low zs
+dim_enders (dim.Bounds n (Lowered lo)) zs = end_low zs
+dim_enders (dim.Bounds n (High lo)) zs = placed one nowhere ∷ end_bounds zs
+dim_enders (dim.Bounds n (HighMinus lo m)) zs = placed one nowhere ∷ end_bounds zs
+dim_enders (dim.Numbers n lo hi Bounded) zs = end_bounds zs
+dim_enders (dim.Numbers n lo hi Chunk) zs = placed one nowhere ∷ end_chunk zs
+dim_enders (dim.Numbers n lo hi (Chunked c)) zs = end_chunk zs
+dim_enders (dim.Numbers n lo hi (Overlap c)) zs = placed one nowhere ∷ end_dims zs
 dim_enders (dim.Ended d) zs = end_dims zs
 
 -- `[ a = 1 : 1 , 1 , 1 ]`
@@ -89,25 +96,25 @@ abbrev pub shape_enders : ShapeState → List Placed → List Placed
 shape_enders Start zs = placed (a_symbol Less) nowhere ∷ attr_enders attr.First zs
 shape_enders (Attributes l done place) zs = attr_enders place zs
 shape_enders (Between l attrs) zs = all_dims zs
-shape_enders (Dimensions l attrs b done place) zs = dim_enders place zs
+shape_enders (Dimensions h done place) zs = dim_enders place zs
 
 -- they end it with some schema
 abbrev pub Ends : ShapeState → List Placed → Type 0
 Ends state zs = (t : SchemaText) × (s : Span) × (shape_run state (shape_enders state zs) ≡ Read t s zs)
 
-dims_end : (l : Span) (attrs : List AttrText) (b : Span) (done : List DimText) (place : DimPlace) (zs : List Placed) → Ends (Dimensions l attrs b done place) zs
-dims_end l attrs b done dim.First zs = (_, _, refl)
-dims_end l attrs b done (dim.Named n) zs = (_, _, refl)
-dims_end l attrs b done (dim.Low n) zs = (_, _, refl)
-dims_end l attrs b done (dim.LowMinus n m) zs = (_, _, refl)
-dims_end l attrs b done (dim.Lowered n lo) zs = (_, _, refl)
-dims_end l attrs b done (dim.High n lo) zs = (_, _, refl)
-dims_end l attrs b done (dim.HighMinus n lo m) zs = (_, _, refl)
-dims_end l attrs b done (dim.Bounded n lo hi) zs = (_, _, refl)
-dims_end l attrs b done (dim.Chunk n lo hi) zs = (_, _, refl)
-dims_end l attrs b done (dim.Chunked n lo hi c) zs = (_, _, refl)
-dims_end l attrs b done (dim.Overlap n lo hi c) zs = (_, _, refl)
-dims_end l attrs b done (dim.Ended d) zs = (_, _, refl)
+dims_end : (h : Head) (done : List DimText) (place : DimPlace) (zs : List Placed) → Ends (Dimensions h done place) zs
+dims_end h done dim.First zs = (_, _, refl)
+dims_end h done (dim.Named n) zs = (_, _, refl)
+dims_end h done (dim.Bounds n Low) zs = (_, _, refl)
+dims_end h done (dim.Bounds n (LowMinus m)) zs = (_, _, refl)
+dims_end h done (dim.Bounds n (Lowered lo)) zs = (_, _, refl)
+dims_end h done (dim.Bounds n (High lo)) zs = (_, _, refl)
+dims_end h done (dim.Bounds n (HighMinus lo m)) zs = (_, _, refl)
+dims_end h done (dim.Numbers n lo hi Bounded) zs = (_, _, refl)
+dims_end h done (dim.Numbers n lo hi Chunk) zs = (_, _, refl)
+dims_end h done (dim.Numbers n lo hi (Chunked c)) zs = (_, _, refl)
+dims_end h done (dim.Numbers n lo hi (Overlap c)) zs = (_, _, refl)
+dims_end h done (dim.Ended d) zs = (_, _, refl)
 
 attrs_end : (l : Span) (done : List AttrText) (place : AttrPlace) (zs : List Placed) → Ends (Attributes l done place) zs
 attrs_end l done attr.First zs = (_, _, refl)
@@ -121,4 +128,4 @@ pub shape_ends : (state : ShapeState) (zs : List Placed) → Ends state zs
 shape_ends Start zs = (_, _, refl)
 shape_ends (Attributes l done place) zs = attrs_end l done place zs
 shape_ends (Between l attrs) zs = (_, _, refl)
-shape_ends (Dimensions l attrs b done place) zs = dims_end l attrs b done place zs
+shape_ends (Dimensions h done place) zs = dims_end h done place zs

@@ -2,8 +2,10 @@
 #![tactic(auto)]
 
 pub mod laws;
+pub mod reader;
 pub mod shape_text;
 pub mod state;
 
+pub use reader::read_shape;
 pub use shape_text::{AttrText, DimText, SchemaText};
 pub use state::{ShapeState, ShapeStep};

@@ -1,16 +1,7 @@
-//! The reader of schemas, one step a token.
-ghost use Rattle.std.specs.Prelude.{◌≡◌, [], ◌∷◌, ◌++◌, IfOk};
-ghost use Rattle.afl_lexer.specs.Lexemes.{bytes_of, lexeme_of};
-ghost use Rattle.afl_lexer.specs.Tokens.{IsTokenOf};
-ghost use Rattle.schema_grammar.specs.Reading.{attribute, dimension, attr_end_turn, attr_turn, between_turn, dim_end_turn, dim_turn, shape_turn, start_turn};
+//! Places in a schema, and what a token does there.
 
 use crate::{AttrText, DimText, SchemaText};
-use afl_lexer::{Symbol, Token, TokenKind, Word};
-use cell_values::{List, Memory, Name, Span};
-use std::alloc::Global;
-
-/// The number that the high bound `*` stands for, 2^62 - 1.
-const UNBOUNDED: i64 = 4611686018427387903;
+use cell_values::{List, Name, Span};
 
 /// A name and its place.
 #[derive(Debug, Drop)]
@@ -58,28 +49,62 @@ pub enum DimPlace {
     /// Behind its name.
     Named(Label),
     /// Behind the equals sign.
-    Low(Label),
-    /// Behind the low bound's `-`.
-    LowMinus(Label, Span),
-    /// Behind the low bound.
-    Lowered(Label, Bound),
-    /// Behind the colon.
-    High(Label, Bound),
-    /// Behind the high bound's `-`.
-    HighMinus(Label, Bound, Span),
+    Bounds(Label, BoundPlace),
     /// Behind the high bound.
-    Bounded(Label, Bound, Bound),
-    /// Behind the comma after the bounds.
-    Chunk(Label, Bound, Bound),
-    /// Behind the chunk's length.
-    Chunked(Label, Bound, Bound, Count),
-    /// Behind the comma after it.
-    Overlap(Label, Bound, Bound, Count),
+    Numbers(Label, Bound, Bound, NumberPlace),
     /// Behind the overlap.
     Ended(DimText),
 }
 
-/// Where a reader stands in a schema. `start` is the place of `<`, and `open` that of `[`.
+/// Where a reader stands between a dimension's `=` and its high bound.
+#[derive(Clone, Copy, Debug, PartialEq, Eq)]
+pub enum BoundPlace {
+    /// Before the low bound.
+    Low,
+    /// Behind its `-`.
+    LowMinus(Span),
+    /// Behind the low bound.
+    Lowered(Bound),
+    /// Before the high bound.
+    High(Bound),
+    /// Behind its `-`.
+    HighMinus(Bound, Span),
+}
+
+/// Where a reader stands behind a dimension's bounds.
+#[derive(Clone, Copy, Debug, PartialEq, Eq)]
+pub enum NumberPlace {
+    /// Before the comma.
+    Bounded,
+    /// Before the chunk's length.
+    Chunk,
+    /// Behind it.
+    Chunked(Count),
+    /// Before the overlap.
+    Overlap(Count),
+}
+
+/// What a token does in one of the attributes or dimensions.
+#[derive(Debug, Drop)]
+pub enum PartStep<P, T> {
+    /// It leads to another place.
+    On(P),
+    /// It ends one, and another follows.
+    Next(T),
+    /// It ends the last one.
+    Last(T),
+    Unexpected,
+}
+
+/// What stands before the dimensions: the place of `<`, the attributes, and the place of `[`.
+#[derive(Debug, Drop)]
+pub struct Head {
+    pub start: Span,
+    pub attributes: List<AttrText>,
+    pub bracket: Span,
+}
+
+/// Where a reader stands in a schema. `start` is the place of `<`.
 #[derive(Debug, Drop)]
 pub enum ShapeState {
     /// Before `<`.
@@ -95,9 +120,7 @@ pub enum ShapeState {
         attributes: List<AttrText>,
     },
     Dimensions {
-        start: Span,
-        attributes: List<AttrText>,
-        open: Span,
+        head: Head,
         dimensions: List<DimText>,
         place: DimPlace,
     },
@@ -110,91 +133,4 @@ pub enum ShapeStep {
     /// The token ends the schema, whose whole place is given.
     Whole(SchemaText, Span),
     Unexpected,
-}
-
-/// The name at a token.
-fn name_at(alloc: Global, text: &[u8], token: Token) -> Result<Name, Memory>
-    requires token { IsTokenOf text.now token }
-    requires name { token.kind ≡ TokenKind.Name }
-    ensures { IfOk result (λ name. name ≡ bytes_of text.now token.span) }
-{
-    let bytes = List::from_slice(
-        alloc,
-        &text[token.span.start as usize..token.span.end as usize],
-    )?;
-    match Name::new(bytes) {
-        Some(name) => Ok(name),
-        None => unreachable!(),
-    }
-}
-
-impl Label {
-    /// The attribute of this name with the type's word behind it.
-    fn with_word(self, word: Name, word_span: Span) -> AttrText
-        ensures { result ≡ attribute self word word_span }
-    {
-        let Label { name, span } = self;
-        AttrText {
-            name,
-            name_span: span,
-            word,
-            word_span,
-            nullable: true,
-        }
-    }
-
-    /// The dimension of this name with the numbers behind it.
-    fn with_numbers(self, lo: Bound, hi: Bound, chunk: Count, overlap: Count) -> DimText
-        ensures { result ≡ dimension self lo hi chunk overlap.value overlap.span }
-    {
-        let Label { name, span } = self;
-        DimText {
-            name,
-            name_span: span,
-            lo: lo.value,
-            lo_span: lo.span,
-            hi: hi.value,
-            hi_span: hi.span,
-            chunk: chunk.value,
-            chunk_span: chunk.span,
-            overlap: overlap.value,
-            overlap_span: overlap.span,
-        }
-    }
-}
-
-fn among_attributes(start: Span, attributes: List<AttrText>, place: AttrPlace) -> ShapeStep
-    ensures { result ≡ ShapeStep.On (ShapeState.Attributes start attributes place) }
-{
-    ShapeStep::On(ShapeState::Attributes {
-        start,
-        attributes,
-        place,
-    })
-}
-
-/// At the comma behind an attribute.
-fn next_attribute(
-    start: Span,
-    attributes: List<AttrText>,
-    attribute: AttrText,
-) -> Result<ShapeStep, Memory>
-    ensures { IfOk result (λ step. step ≡ ShapeStep.On (ShapeState.Attributes start (attributes ++ attribute ∷ []) AttrPlace.First)) }
-{
-    let mut attributes = attributes;
-    attributes.push(attribute)?;
-    Ok(among_attributes(start, attributes, AttrPlace::First))
-}
-
-/// At the `>` behind the last attribute.
-fn end_attributes(
-    start: Span,
-    attributes: List<AttrText>,
-    attribute: AttrText,
-) -> Result<ShapeStep, Memory>
-    ensures { IfOk result (λ step. step ≡ ShapeStep.On (ShapeState.Between start (attributes ++ attribute ∷ []))) }
-{
-    let mut attributes = attributes;
-    attributes.push(attribute)?;
-    Ok(ShapeStep::On(ShapeState::Between { start, attributes }))
 }
