@@ -1,4 +1,5 @@
 pub mod Laws
+pub mod Outcome
 pub mod Reading
 pub mod Spelling
 pub mod Unsigned

@@ -4,8 +4,10 @@
 pub mod laws;
 pub mod reader;
 pub mod shape_text;
+pub mod shapes;
 pub mod state;
 
 pub use reader::read_shape;
 pub use shape_text::{AttrText, DimText, SchemaText};
+pub use shapes::{ShapeFault, shape};
 pub use state::{ShapeState, ShapeStep};
