@@ -1,4 +1,6 @@
 mod Numbers
+mod RuleLemmas
+mod RulesValid
 pub mod ShapeComplete
 pub mod ShapeEnds
 pub mod ShapeRuns

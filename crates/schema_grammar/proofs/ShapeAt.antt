@@ -58,9 +58,9 @@ stops_in text tokens from at r =
     let e : from + (at - from) ≡ at = omega (arith, r.behind) in
     let f : from + (at - from + 1) ≡ at + 1 = omega (arith, r.behind) in
     let here : take (at - from) (after text tokens from) ≡ lexemes text (slice_range tokens from at)
-        = between text tokens from (at - from) ∙ ap (λ n. lexemes text (slice_range tokens from n)) e in
+    = between text tokens from (at - from) ∙ ap (λ n. lexemes text (slice_range tokens from n)) e in
     let next : take (at - from + 1) (after text tokens from) ≡ lexemes text (slice_range tokens from (at + 1))
-        = between text tokens from (at - from + 1) ∙ ap (λ n. lexemes text (slice_range tokens from n)) f in
+    = between text tokens from (at - from + 1) ∙ ap (λ n. lexemes text (slice_range tokens from n)) f in
     record {
       within = omega (arith, r.within, r.behind, length_after text tokens from);
       front = subst IsFront (sym here) r.front;
@@ -108,7 +108,7 @@ module _ (text : List ℕ) (tokens : List Token) (from i : ℕ) (d : Token) (sta
   whole_at t s w h e g =
       let read : shape_run Start (take (i + 1) ls) ≡ Read t s [] = one_token h e ∙ ap (λ step. shape_go step [] (λ state. Open state)) g in
       let run : shape_run Start ls ≡ Read t s (drop (i + 1) ls)
-          = ap (shape_run Start) (sym (take-append-drop (i + 1) ls)) ∙ run_append (take (i + 1) ls) (drop (i + 1) ls) Start ∙ ap (λ run. run_on run (drop (i + 1) ls)) read in
+      = ap (shape_run Start) (sym (take-append-drop (i + 1) ls)) ∙ run_append (take (i + 1) ls) (drop (i + 1) ls) Start ∙ ap (λ run. run_on run (drop (i + 1) ls)) read in
       record {
         within = omega (arith, within_after h, length_after text tokens from);
         span = s;
@@ -121,7 +121,7 @@ pub end_at : (text : List ℕ) (tokens : List Token) (from i : ℕ) (state : Sha
 end_at text tokens from i state w h g e =
     let n : i ≡ length (after text tokens from) = omega (arith, length-map (from_on tokens from) (lexeme_of text)) in
     subst (StopsAt text tokens from) (omega (arith, w, length_after text tokens from))
-        (stops_at text tokens from (length (after text tokens from)) w (stops_at_end (after text tokens from) state (ap (λ n. shape_run Start (take n (after text tokens from))) (sym n) ∙ e)))
+    (stops_at text tokens from (length (after text tokens from)) w (stops_at_end (after text tokens from) state (ap (λ n. shape_run Start (take n (after text tokens from))) (sym n) ∙ e)))
 
 -- One answer.
 

@@ -58,9 +58,13 @@ read_sound xs rest t s e = sound xs xs rest t s Start refl e
 -- tokens after which the reader stands in a schema are a front, and no whole one
 open_front : (xs : List Placed) (state : ShapeState) → shape_run Start xs ≡ Open state → IsFront xs
 open_front xs state e =
-    let r = shape_ends state [] in
-    (shape_enders state [], r.0, r.1, read_sound (xs ++ shape_enders state []) [] r.0 r.1
-        (run_append xs (shape_enders state []) Start ∙ ap (λ run. run_on run (shape_enders state [])) e ∙ r.2))
+    let r = shape_ends state [] in (
+      shape_enders state [],
+      r.0,
+      r.1,
+      read_sound (xs ++ shape_enders state []) [] r.0 r.1
+          (run_append xs (shape_enders state []) Start ∙ ap (λ run. run_on run (shape_enders state [])) e ∙ r.2),
+    )
 
 open_part : (xs : List Placed) (state : ShapeState) → shape_run Start xs ≡ Open state → (t : SchemaText) (s : Span) → SpellsSchema t s xs [] → ⊥
 open_part xs state e t s h = let r : shape_run Start xs ≡ Read t s [] = shape_read t s xs [] h in cc
@@ -133,7 +137,7 @@ stuck_behind : (ls : List Placed) (i : ℕ) → i < length ls → StopsIn ls i �
 stuck_behind ls i h r =
     let q = stop_run ls i r in
     let e : shape_run Start (take (i + 1) ls) ≡ shape_go (shape_turn q.0 (slice_index_or ls i some_token)) [] (λ state. Open state)
-        = ap (shape_run Start) (take_more ls i some_token h) ∙ one_more (take i ls) (slice_index_or ls i some_token) q.0 q.1 in
+    = ap (shape_run Start) (take_more ls i some_token h) ∙ one_more (take i ls) (slice_index_or ls i some_token) q.0 q.1 in
     e ∙ ap (λ step. shape_go step [] (λ state. Open state)) (refused _ (take (i + 1) ls) e (r.stop h))
 
 -- no schema begins where tokens stop
@@ -146,7 +150,7 @@ whole_at_end ls rest t s e r =
 whole_behind : (ls rest : List Placed) (t : SchemaText) (s : Span) (i : ℕ) → i < length ls → shape_run Start ls ≡ Read t s rest → StopsIn ls i → ⊥
 whole_behind ls rest t s i h e r =
     let f : shape_run Start ls ≡ Stuck
-        = ap (shape_run Start) (sym (take-append-drop (i + 1) ls)) ∙ run_append (take (i + 1) ls) (drop (i + 1) ls) Start ∙ ap (λ run. run_on run (drop (i + 1) ls)) (stuck_behind ls i h r) in
+    = ap (shape_run Start) (sym (take-append-drop (i + 1) ls)) ∙ run_append (take (i + 1) ls) (drop (i + 1) ls) Start ∙ ap (λ run. run_on run (drop (i + 1) ls)) (stuck_behind ls i h r) in
     cc
 
 -- One schema, one stop, and not both.
@@ -170,7 +174,7 @@ not_before ls i j r q h =
     let e : j ≡ i + 1 + (j - (i + 1)) = omega arith in
     let p : take j ls ≡ take (i + 1) ls ++ take (j - (i + 1)) (drop (i + 1) ls) = ap (λ n. take n ls) e ∙ take-add (i + 1) (j - (i + 1)) ls in
     let f : shape_run Start (take j ls) ≡ Stuck
-        = ap (shape_run Start) p ∙ run_append (take (i + 1) ls) (take (j - (i + 1)) (drop (i + 1) ls)) Start ∙ ap (λ run. run_on run (take (j - (i + 1)) (drop (i + 1) ls))) (stuck_behind ls i w r) in
+    = ap (shape_run Start) p ∙ run_append (take (i + 1) ls) (take (j - (i + 1)) (drop (i + 1) ls)) Start ∙ ap (λ run. run_on run (take (j - (i + 1)) (drop (i + 1) ls))) (stuck_behind ls i w r) in
     stuck_front (take j ls) f q.front
 
 pub one_stop : (ls : List Placed) (i j : ℕ) → StopsIn ls i → StopsIn ls j → i ≡ j
