@@ -1,3 +1,4 @@
+mod Joined
 mod Numbers
 mod RuleLemmas
 mod RulesValid

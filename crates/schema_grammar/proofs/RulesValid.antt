@@ -55,7 +55,7 @@ distinct_more (x ∷ xs) n d h =
     let f = both_false (bytes_eq n x) (is_among n xs) h in
     let apart : bytes_eq x n ≡ false = differ_back (bytes_eq x n) n x refl f.0 in
     let none : is_among x (xs ++ n ∷ []) ≡ false
-        = list_any-append (bytes_eq x) xs (n ∷ []) ∙ or_false (is_among x xs) (bytes_eq x n || false) (not_true (is_among x xs) e.0) (ap (λ b. b || false) apart) in
+    = list_any-append (bytes_eq x) xs (n ∷ []) ∙ or_false (is_among x xs) (bytes_eq x n || false) (not_true (is_among x xs) e.0) (ap (λ b. b || false) apart) in
     and_true (not (is_among x (xs ++ n ∷ []))) (are_distinct (xs ++ n ∷ [])) (not_false (is_among x (xs ++ n ∷ [])) none) (distinct_more xs n e.1 f.1)
 
 -- what the rules of attributes say behind those of some names
@@ -90,11 +90,11 @@ dims_hold (x ∷ xs) names before n d e =
     let count : length before < 6 = ltb-true (length before) 6 hold.0 in
     let size : length (before ++ x.name ∷ []) ≡ length before + 1 = length-append before (x.name ∷ []) in
     let fresh : are_distinct (names ++ (before ++ x.name ∷ [])) ≡ true
-        = ap are_distinct (sym (append_assoc names before (x.name ∷ []))) ∙ distinct_more (names ++ before) x.name d (not_true (is_among x.name (names ++ before)) hold.1.0) in
+    = ap are_distinct (sym (append_assoc names before (x.name ∷ []))) ∙ distinct_more (names ++ before) x.name d (not_true (is_among x.name (names ++ before)) hold.1.0) in
     let rest = dims_hold xs names (before ++ x.name ∷ []) (omega (arith, size)) fresh parts.1 in
     let one : is_dimension (dimension_of x) ≡ true = and_true (bounds_in_range (dimension_of x) && bounds_in_order (dimension_of x) && has_chunk (dimension_of x)) (overlap_fits (dimension_of x))
-        (and_true (bounds_in_range (dimension_of x) && bounds_in_order (dimension_of x)) (has_chunk (dimension_of x))
-            (and_true (bounds_in_range (dimension_of x)) (bounds_in_order (dimension_of x)) (and_true (is_bound x.lo) (is_bound x.hi) hold.1.1.0 hold.1.1.1.0) fits.0) fits.1.0) fits.1.1.0 in
+    (and_true (bounds_in_range (dimension_of x) && bounds_in_order (dimension_of x)) (has_chunk (dimension_of x))
+    (and_true (bounds_in_range (dimension_of x)) (bounds_in_order (dimension_of x)) (and_true (is_bound x.lo) (is_bound x.hi) hold.1.1.0 hold.1.1.1.0) fits.0) fits.1.0) fits.1.1.0 in
     record {
       count = omega (arith, size, rest.count);
       distinct = ap are_distinct (sym (ap (λ l. l ++ dimension_names (map dimension_of xs)) (sym (append_assoc names before (x.name ∷ []))) ∙ append_assoc (names ++ before) (x.name ∷ []) (dimension_names (map dimension_of xs)))) ∙ rest.distinct;
@@ -114,14 +114,14 @@ rules_valid t e =
     let few : length schema.attributes ≤ 64 = omega (arith, attributes.count, length-map t.attributes attribute_of) in
     let flat : length schema.dimensions ≤ 6 = omega (arith, dimensions.count, length-map t.dimensions dimension_of) in
     let distinct : are_distinct (names_of schema) ≡ true
-        = ap (λ l. are_distinct (l ++ dimension_names schema.dimensions)) (sym (append-nil (attribute_names schema.attributes))) ∙ dimensions.distinct in
+    = ap (λ l. are_distinct (l ++ dimension_names schema.dimensions)) (sym (append-nil (attribute_names schema.attributes))) ∙ dimensions.distinct in
     and_true (has_attributes schema.attributes && has_dimensions schema.dimensions && are_distinct (names_of schema) && list_all is_dimension schema.dimensions) (frame_fits schema.dimensions)
-        (and_true (has_attributes schema.attributes && has_dimensions schema.dimensions && are_distinct (names_of schema)) (list_all is_dimension schema.dimensions)
-            (and_true (has_attributes schema.attributes && has_dimensions schema.dimensions) (are_distinct (names_of schema))
-                (and_true (has_attributes schema.attributes) (has_dimensions schema.dimensions)
-                    (and_true (nat_le 1 (length schema.attributes)) (nat_le (length schema.attributes) 64) some.0 (le-leb (length schema.attributes) 64 few))
-                    (and_true (nat_le 1 (length schema.dimensions)) (nat_le (length schema.dimensions) 6) some.1 (le-leb (length schema.dimensions) 6 flat)))
-                distinct) dimensions.each) whole.0
+    (and_true (has_attributes schema.attributes && has_dimensions schema.dimensions && are_distinct (names_of schema)) (list_all is_dimension schema.dimensions)
+    (and_true (has_attributes schema.attributes && has_dimensions schema.dimensions) (are_distinct (names_of schema))
+    (and_true (has_attributes schema.attributes) (has_dimensions schema.dimensions)
+    (and_true (nat_le 1 (length schema.attributes)) (nat_le (length schema.attributes) 64) some.0 (le-leb (length schema.attributes) 64 few))
+    (and_true (nat_le 1 (length schema.dimensions)) (nat_le (length schema.dimensions) 6) some.1 (le-leb (length schema.dimensions) 6 flat)))
+    distinct) dimensions.each) whole.0
 
 -- the same of the parts, as a call comes to them
 pub parts_valid : (t : SchemaText) (texts : List AttrText) (dims : List DimText) (names : List Attribute) (attributes : List Attribute) (dimensions : List Dimension)
@@ -136,14 +136,14 @@ parts_valid t texts dims names attributes dimensions p q r (a, m) (d, n) w =
     let same_dimensions : dimensions ≡ schema.dimensions = n ∙ ap (map dimension_of) q in
     let first : first_broken (attrs_rules [] t.attributes) ≡ None = ap (λ l. first_broken (attrs_rules [] l)) (sym p) ∙ a in
     let second : first_broken (dims_rules (attribute_names schema.attributes) [] t.dimensions) ≡ None
-        = ap (λ l. first_broken (dims_rules (attribute_names l) [] t.dimensions)) (sym (r ∙ same_attributes)) ∙ ap (λ l. first_broken (dims_rules (attribute_names names) [] l)) (sym q) ∙ d in
+    = ap (λ l. first_broken (dims_rules (attribute_names l) [] t.dimensions)) (sym (r ∙ same_attributes)) ∙ ap (λ l. first_broken (dims_rules (attribute_names names) [] l)) (sym q) ∙ d in
     let third : first_broken (whole_rules schema.attributes schema.dimensions t.brackets) ≡ None
-        = ap (λ l. first_broken (whole_rules l schema.dimensions t.brackets)) (sym same_attributes) ∙ ap (λ l. first_broken (whole_rules attributes l t.brackets)) (sym same_dimensions) ∙ w in
+    = ap (λ l. first_broken (whole_rules l schema.dimensions t.brackets)) (sym same_attributes) ∙ ap (λ l. first_broken (whole_rules attributes l t.brackets)) (sym same_dimensions) ∙ w in
     let both : first_broken (attrs_rules [] t.attributes ++ dims_rules (attribute_names schema.attributes) [] t.dimensions) ≡ None
-        = broken_then (attrs_rules [] t.attributes) (dims_rules (attribute_names schema.attributes) [] t.dimensions)
-        ∙ ap (λ o. or_else o (first_broken (dims_rules (attribute_names schema.attributes) [] t.dimensions))) first ∙ second in
+    = broken_then (attrs_rules [] t.attributes) (dims_rules (attribute_names schema.attributes) [] t.dimensions)
+    ∙ ap (λ o. or_else o (first_broken (dims_rules (attribute_names schema.attributes) [] t.dimensions))) first ∙ second in
     let all : first_broken (rules t) ≡ None
-        = broken_then (attrs_rules [] t.attributes ++ dims_rules (attribute_names schema.attributes) [] t.dimensions) (whole_rules schema.attributes schema.dimensions t.brackets)
-        ∙ ap (λ o. or_else o (first_broken (whole_rules schema.attributes schema.dimensions t.brackets))) both ∙ third in
+    = broken_then (attrs_rules [] t.attributes ++ dims_rules (attribute_names schema.attributes) [] t.dimensions) (whole_rules schema.attributes schema.dimensions t.brackets)
+    ∙ ap (λ o. or_else o (first_broken (whole_rules schema.attributes schema.dimensions t.brackets))) both ∙ third in
     subst (λ l. IsValid (record { attributes = l; dimensions = dimensions })) (sym same_attributes)
-        (subst (λ l. IsValid (record { attributes = schema.attributes; dimensions = l })) (sym same_dimensions) (rules_valid t all))
+    (subst (λ l. IsValid (record { attributes = schema.attributes; dimensions = l })) (sym same_dimensions) (rules_valid t all))

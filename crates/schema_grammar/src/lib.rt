@@ -2,14 +2,15 @@
 #![tactic(auto)]
 
 pub mod kinds;
-pub mod laws;
-pub mod reader;
+mod printer;
+mod reader;
 pub mod rules;
 pub mod shape_text;
 pub mod shapes;
 pub mod state;
 
 pub use kinds::{SchemaFault, TypeKind};
+pub use printer::{print_shape, schema_text};
 pub use reader::read_shape;
 pub use rules::meaning;
 pub use shape_text::{AttrText, DimText, SchemaText};
