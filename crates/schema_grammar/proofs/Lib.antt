@@ -2,6 +2,7 @@ mod Joined
 mod Numbers
 mod RuleLemmas
 mod RulesValid
+pub mod SchemaPrinted
 pub mod ShapeComplete
 pub mod ShapeEnds
 pub mod ShapeRuns

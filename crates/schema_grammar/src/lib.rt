@@ -2,6 +2,7 @@
 #![tactic(auto)]
 
 pub mod kinds;
+pub mod laws;
 mod printer;
 mod reader;
 pub mod rules;
