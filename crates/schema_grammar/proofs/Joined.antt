@@ -1,6 +1,7 @@
 -- Texts with commas between.
-use Rattle.std.proofs.Common.{◌≡◌, ℕ, zero, suc, ◌+◌, ◌<◌, List, [], ◌∷◌, ◌++◌, map, length, take, slice_index_or, true, refl, sym, ap, ◌∙◌, arith, append_assoc}
-use Rattle.std.specs.List.{join_with_byte}
+use Rattle.std.proofs.Common.{◌≡◌, ℕ, zero, suc, ◌+◌, ◌<◌, List, [], ◌∷◌, ◌++◌, map, length, take, slice_index_or, true, refl, sym, ap, subst, ◌∙◌, arith, append_assoc}
+use Rattle.std.specs.List.{All, join_with_byte}
+use Rattle.std.proofs.lemmas.List.Elements.{All-append}
 use Rattle.std.specs.Prelude.{nat_lt, if◌then◌else◌}
 use Rattle.std.proofs.lemmas.Bool.{lt-ltb}
 use Rattle.std.proofs.lemmas.List.{take_more, map-append, length-map, length-take}
@@ -38,3 +39,14 @@ joined_after bytes parts at part start before between after h is p q r =
     ∙ append_assoc start (joined ++ separator at) (bytes part)
     ∙ ap (λ x. start ++ (joined ++ separator at ++ bytes x)) is
     ∙ ap (λ l. start ++ l) (sym (joined_step bytes parts at part h))
+
+-- what holds of each part before, and of the part, holds of each up to it
+all_one : {T : Type 0} (P : T → Type 0) (x : T) → P x → All P (x ∷ [])
+all_one P x h zero d w = h
+all_one P x h (suc k) d w = let no : ⊥ = omega arith in absurd no
+
+pub all_after : {T : Type 0} (P : T → Type 0) (parts : List T) (at : ℕ) (part : T) → at < length parts → part ≡ slice_index_or parts at part
+    → All P (take at parts) → P part → All P (take (at + 1) parts)
+all_after P parts at part h is all here =
+    let both : All P (take at parts ++ part ∷ []) = All-append P (take at parts) (part ∷ []) all (all_one P part here) in
+    subst (All P) (ap (λ x. take at parts ++ x ∷ []) is ∙ sym (take_more parts at part h)) both

@@ -1,7 +1,9 @@
 mod Joined
 mod Numbers
 mod RuleLemmas
+mod RulesHold
 mod RulesValid
+mod SchemaAgain
 pub mod SchemaPrinted
 pub mod ShapeComplete
 pub mod ShapeEnds

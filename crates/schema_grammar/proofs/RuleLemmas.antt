@@ -53,7 +53,7 @@ frame_size-append (x ∷ xs) d = ap (λ n. frame_length x * n) (frame_size-appen
 large : (a b m : ℕ) → m ≤ a → m ≤ b → min a m ≡ min b m
 large a b m f g = min-eq_right f ∙ sym (min-eq_right g)
 
-at_least : (k n : ℕ) → zero < k → n ≤ k * n
+pub at_least : (k n : ℕ) → zero < k → n ≤ k * n
 at_least k n h = subst (λ m. n ≤ m) (mul_comm n k) (le-mul_of_pos_right n h)
 
 capped_both : (p l m : ℕ) → 1 ≤ m → (m < suc p) ⊎ (suc p ≤ m) → (m < suc l) ⊎ (suc l ≤ m) → min (min (suc p) m * min (suc l) m) m ≡ min (suc p * suc l) m

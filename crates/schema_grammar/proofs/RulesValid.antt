@@ -40,7 +40,7 @@ not_false : (a : Bool) → a ≡ false → not a ≡ true
 not_false a e = ap not e
 
 -- names differ both ways
-differ_back : (b : Bool) (xs ys : List ℕ) → bytes_eq ys xs ≡ b → bytes_eq xs ys ≡ false → b ≡ false
+pub differ_back : (b : Bool) (xs ys : List ℕ) → bytes_eq ys xs ≡ b → bytes_eq xs ys ≡ false → b ≡ false
 differ_back false xs ys e h = refl
 differ_back true xs ys e h =
     let same : xs ≡ ys = sym ((bytes_eq-Decides ys xs).0 e) in

@@ -60,10 +60,10 @@ dim_spelled : (d : DimText) (rest : List Mark) → spelled (dim_marks d rest) �
 dim_spelled d rest =
     let ends = codes "," ++ (lengths_bytes d.chunk d.overlap ++ spelled rest) in
     let high : spelled (high_marks d.hi (lengths_marks d.chunk d.overlap rest)) ≡ high_bytes d.hi ++ ends
-        = high_spelled d.hi (lengths_marks d.chunk d.overlap rest) ∙ ap (λ l. high_bytes d.hi ++ l) (lengths_spelled d.chunk d.overlap rest) in
+    = high_spelled d.hi (lengths_marks d.chunk d.overlap rest) ∙ ap (λ l. high_bytes d.hi ++ l) (lengths_spelled d.chunk d.overlap rest) in
     let bounds : spelled (bound_marks d.lo (says (a_symbol Colon) ∷ high_marks d.hi (lengths_marks d.chunk d.overlap rest))) ≡ bounds_bytes d.lo d.hi ++ ends
-        = bound_spelled d.lo (says (a_symbol Colon) ∷ high_marks d.hi (lengths_marks d.chunk d.overlap rest))
-        ∙ ap (λ l. signed_decimal d.lo ++ 58 ∷ l) high ∙ sym (assoc3 (signed_decimal d.lo) (codes ":") (high_bytes d.hi) ends) in
+    = bound_spelled d.lo (says (a_symbol Colon) ∷ high_marks d.hi (lengths_marks d.chunk d.overlap rest))
+    ∙ ap (λ l. signed_decimal d.lo ++ 58 ∷ l) high ∙ sym (assoc3 (signed_decimal d.lo) (codes ":") (high_bytes d.hi) ends) in
     ap (λ l. d.name ++ 61 ∷ l) bounds
     ∙ sym (assoc5 d.name (codes "=") (bounds_bytes d.lo d.hi) (codes ",") (lengths_bytes d.chunk d.overlap) (spelled rest))
 
@@ -165,7 +165,7 @@ high_apart (negsuc n) rest h e r = bound_apart (negsuc n) rest h e r
 dim_apart : (d : DimText) (rest : List Mark) → IsDimPrintable d → EndsBefore (Int (pos d.overlap)) (spelled rest) → AreApart rest → AreApart (dim_marks d rest)
 dim_apart d rest p e r =
     let lengths : AreApart (lengths_marks d.chunk d.overlap rest)
-        = (tt, free_ends Comma (λ b. refl) _, (p.chunk, refl, (tt, free_ends Comma (λ b. refl) _, (p.overlap, e, r)))) in
+    = (tt, free_ends Comma (λ b. refl) _, (p.chunk, refl, (tt, free_ends Comma (λ b. refl) _, (p.overlap, e, r)))) in
     let high : AreApart (high_marks d.hi (lengths_marks d.chunk d.overlap rest)) = high_apart d.hi (lengths_marks d.chunk d.overlap rest) p.hi refl lengths in
     (p.name, refl, (tt, free_ends Equal (λ b. refl) _, bound_apart d.lo (says (a_symbol Colon) ∷ high_marks d.hi (lengths_marks d.chunk d.overlap rest)) p.lo refl (tt, free_ends Colon (λ b. refl) _, high)))
 
@@ -190,9 +190,9 @@ first_attr (a ∷ b ∷ bs) rest some p = begins_more is_first_byte a.name _ (na
 pub shape_apart : (t : SchemaText) (rest : List Mark) → IsPrintable t → AreApart rest → AreApart (shape_marks t rest)
 shape_apart t rest p r =
     let dimensions : AreApart (dims_marks t.dimensions (says (a_symbol RightBracket) ∷ rest))
-        = dims_apart t.dimensions (says (a_symbol RightBracket) ∷ rest) p.dimensions (λ n. refl) (tt, free_ends RightBracket (λ b. refl) (spelled rest), r) in
+    = dims_apart t.dimensions (says (a_symbol RightBracket) ∷ rest) p.dimensions (λ n. refl) (tt, free_ends RightBracket (λ b. refl) (spelled rest), r) in
     let behind : AreApart (says (a_symbol More) ∷ says (a_symbol LeftBracket) ∷ dims_marks t.dimensions (says (a_symbol RightBracket) ∷ rest))
-        = (tt, refl, (tt, free_ends LeftBracket (λ b. refl) _, dimensions)) in
+    = (tt, refl, (tt, free_ends LeftBracket (λ b. refl) _, dimensions)) in
     (tt, less_ends _ (first_attr t.attributes _ p.some_attribute p.attributes), attrs_apart t.attributes _ p.attributes refl refl behind)
 
 -- The tokens spell the same tree.
@@ -264,8 +264,8 @@ dim_again d us rest e =
     let (f2, ds, h3, p3) = front (a_symbol Comma) (a_number (pos d.overlap) ∷ said rest) cs p2 in
     let (v, es, h4, p4) = front (a_number (pos d.overlap)) (said rest) ds p3 in
     let ends : after ≡ placed (a_symbol Comma) f1 ∷ placed (a_number (pos d.chunk)) k ∷ placed (a_symbol Comma) f2 ∷ placed (a_number (pos d.overlap)) v ∷ es
-        = h1 ∙ ap (λ l. placed (a_symbol Comma) f1 ∷ l) h2 ∙ ap (λ l. placed (a_symbol Comma) f1 ∷ placed (a_number (pos d.chunk)) k ∷ l) h3
-        ∙ ap (λ l. placed (a_symbol Comma) f1 ∷ placed (a_number (pos d.chunk)) k ∷ placed (a_symbol Comma) f2 ∷ l) h4 in (
+    = h1 ∙ ap (λ l. placed (a_symbol Comma) f1 ∷ l) h2 ∙ ap (λ l. placed (a_symbol Comma) f1 ∷ placed (a_number (pos d.chunk)) k ∷ l) h3
+    ∙ ap (λ l. placed (a_symbol Comma) f1 ∷ placed (a_number (pos d.chunk)) k ∷ placed (a_symbol Comma) f2 ∷ l) h4 in (
       record {
         name = d.name;
         name_span = s;

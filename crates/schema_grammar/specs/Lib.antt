@@ -1,5 +1,5 @@
-pub mod Laws
 pub mod Outcome
+pub mod ReadAs
 pub mod Reading
 pub mod Rules
 pub mod SchemaBytes

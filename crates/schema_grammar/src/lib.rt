@@ -2,7 +2,6 @@
 #![tactic(auto)]
 
 pub mod kinds;
-pub mod laws;
 mod printer;
 mod reader;
 pub mod rules;

@@ -1,7 +1,10 @@
 //! The text of a schema.
 ghost use Rattle.std.specs.Prelude.{◌≡◌, ℕ, ℤ, ◌++◌, [], ◌∷◌, List, map, IfOk, OnOk};
 ghost use Rattle.std.specs.Fmt.{decimal, signed_decimal};
-ghost use Rattle.std.specs.List.{join_with_byte};
+ghost use Rattle.std.specs.List.{All, join_with_byte};
+ghost use Rattle.cell_values.specs.Naming.{IsName};
+ghost use Rattle.cell_values.specs.Schemas.{IsValid};
+ghost use Rattle.schema_grammar.specs.ReadAs.{IsReadAs};
 ghost use Rattle.schema_grammar.specs.SchemaBytes.{attr_bytes, bounds_bytes, high_bytes, kind_bytes, lengths_bytes, parts_bytes, schema_bytes, separator, shape_bytes};
 
 use crate::{AttrText, DimText, SchemaText};
@@ -15,9 +18,12 @@ const UNBOUNDED: i64 = 4611686018427387903;
 trait Written {
     ghost bytes: { Self → List ℕ };
 
+    ghost named: { Self → List ℕ };
+
     /// Adds the text at the end.
     fn write(&self, out: &mut Bytes) -> Result<(), Memory>
-        ensures { OnOk result (out.new ≡ out.old ++ bytes self.now) };
+        ensures text { OnOk result (out.new ≡ out.old ++ bytes self.now) }
+        ensures name { IsName (named self.now) };
 }
 
 fn kind_word(kind: Kind) -> &'static [u8]
@@ -53,7 +59,8 @@ fn write_high(out: &mut Bytes, bound: i64) -> Result<(), Memory>
 }
 
 fn write_attribute(out: &mut Bytes, name: &Name, word: &[u8], nullable: bool) -> Result<(), Memory>
-    ensures { OnOk result (out.new ≡ out.old ++ attr_bytes name.now word.now nullable) }
+    ensures text { OnOk result (out.new ≡ out.old ++ attr_bytes name.now word.now nullable) }
+    ensures name { IsName name.now }
 {
     out.extend(name.as_slice())?;
     out.push(b':')?;
@@ -86,6 +93,8 @@ impl Written for Attribute {
 
     ghost bytes = { attribute_bytes };
 
+    ghost named = { λ part. part.name };
+
     fn write(&self, out: &mut Bytes) -> Result<(), Memory> {
         write_attribute(out, &self.name, kind_word(self.kind), self.nullable)
     }
@@ -96,6 +105,8 @@ impl Written for AttrText {
 
     ghost bytes = { attr_text_bytes };
 
+    ghost named = { λ part. part.name };
+
     fn write(&self, out: &mut Bytes) -> Result<(), Memory> {
         write_attribute(out, &self.name, self.word.as_slice(), self.nullable)
     }
@@ -105,6 +116,8 @@ impl Written for Dimension {
     ghost use Rattle.schema_grammar.specs.SchemaBytes.{dimension_bytes};
 
     ghost bytes = { dimension_bytes };
+
+    ghost named = { λ part. part.name };
 
     fn write(&self, out: &mut Bytes) -> Result<(), Memory> {
         out.extend(self.name.as_slice())?;
@@ -119,6 +132,8 @@ impl Written for DimText {
     ghost use Rattle.schema_grammar.specs.SchemaBytes.{dim_text_bytes};
 
     ghost bytes = { dim_text_bytes };
+
+    ghost named = { λ part. part.name };
 
     fn write(&self, out: &mut Bytes) -> Result<(), Memory> {
         out.extend(self.name.as_slice())?;
@@ -139,7 +154,8 @@ fn separate(out: &mut Bytes, at: usize) -> Result<(), Memory>
 /// Adds the texts of parts, with commas between.
 
 fn write_all<T: Written>(out: &mut Bytes, parts: &[T]) -> Result<(), Memory>
-    ensures { OnOk result (out.new ≡ out.old ++ join_with_byte 44 (map T.bytes parts.now)) }
+    ensures text { OnOk result (out.new ≡ out.old ++ join_with_byte 44 (map T.bytes parts.now)) }
+    ensures names { OnOk result (All (λ part. IsName (T.named part)) parts.now) }
 {
     for (at, part) in parts.iter().enumerate() {
         separate(out, at)?;
@@ -153,7 +169,9 @@ fn write_parts<A: Written, D: Written>(
     attributes: &[A],
     dimensions: &[D],
 ) -> Result<Bytes, Memory>
-    ensures { IfOk result (λ text. text ≡ parts_bytes (map A.bytes attributes.now) (map D.bytes dimensions.now)) }
+    ensures text { IfOk result (λ text. text ≡ parts_bytes (map A.bytes attributes.now) (map D.bytes dimensions.now)) }
+    ensures attributes { OnOk result (All (λ part. IsName (A.named part)) attributes.now) }
+    ensures dimensions { OnOk result (All (λ part. IsName (D.named part)) dimensions.now) }
 {
     let mut text = List::new(alloc);
     text.push(b'<')?;
@@ -164,9 +182,11 @@ fn write_parts<A: Written, D: Written>(
     Ok(text)
 }
 
-/// The one text of a schema, as `<v:int64 not null>[x=0:*,100,2]`.
+/// The one text of a schema, as `<v:int64 not null>[x=0:*,100,2]`. Read again, it means the schema.
+#[tactic(auto, using(crate::proofs::SchemaAgain::read_as))]
 pub fn schema_text(alloc: Global, schema: &Schema) -> Result<Bytes, Memory>
-    ensures { IfOk result (λ text. text ≡ schema_bytes schema.now) }
+    ensures text { IfOk result (λ text. text ≡ schema_bytes schema.now) }
+    ensures read { IsValid schema.now → IfOk result (λ text. IsReadAs text schema.now) }
 {
     write_parts(
         alloc,
