@@ -104,7 +104,7 @@ pub fn read_text(bytes: &[u8]) -> Reading
 pub fn content(alloc: Global, bytes: &[u8]) -> Result<Bytes, Memory>
     ensures { IfOk result (λ content. content ≡ map byte_of (items bytes.now)) }
 {
-    let mut content = List::new(alloc);
+    let mut content = List::with_capacity(alloc, bytes.len())?;
     let mut at = 0;
     while at < bytes.len() {
         let len = front_len(&bytes[at..]);

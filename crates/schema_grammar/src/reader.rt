@@ -1,0 +1,447 @@
+//! The reader of schemas, one step a token.
+ghost use Rattle.std.specs.Prelude.{◌≡◌, ℕ, ◌≤ℤ◌, pos, neg_ℤ, List, [], ◌∷◌, ◌++◌, IfOk};
+ghost use Rattle.afl_lexer.specs.Lexemes.{bytes_of, lexeme_of, what_of, a_symbol};
+ghost use Rattle.afl_lexer.specs.Tokens.{IsTokenOf};
+ghost use Rattle.schema_grammar.specs.Spelling.{across};
+ghost use Rattle.schema_grammar.specs.Reading.{attribute, bound, attr_end, attr_goes, attr_step, attr_word, bound_step, dim_goes, dim_step, dimension, number_step, shape_turn};
+ghost use Rattle.schema_grammar.specs.Unsigned.{IsUnsigned};
+
+use crate::state::{
+    AttrPlace, Bound, BoundPlace, Count, DimPlace, Head, Label, NumberPlace, PartStep,
+};
+use crate::{AttrText, DimText, SchemaText, ShapeState, ShapeStep};
+use afl_lexer::{Symbol, Token, TokenKind, Word};
+use cell_values::{List, Memory, Name, Span};
+use std::alloc::Global;
+
+/// The number that the high bound `*` stands for, 2^62 - 1.
+const UNBOUNDED: i64 = 4611686018427387903;
+
+/// The name at a token.
+fn name_at(alloc: Global, text: &[u8], token: Token) -> Result<Name, Memory>
+    requires token { IsTokenOf text.now token }
+    requires name { token.kind ≡ TokenKind.Name }
+    ensures { IfOk result (λ name. name ≡ bytes_of text.now token.span) }
+{
+    let bytes = List::from_slice(
+        alloc,
+        &text[token.span.start as usize..token.span.end as usize],
+    )?;
+    match Name::new(bytes) {
+        Some(name) => Ok(name),
+        None => unreachable!(),
+    }
+}
+
+/// From the start of the first to the end of the second.
+fn across(first: Span, second: Span) -> Span
+    ensures { result ≡ across first second }
+{
+    Span {
+        start: first.start,
+        end: second.end,
+    }
+}
+
+impl Label {
+    /// The attribute of this name with the type's word behind it.
+    fn with_word(self, word: Name, word_span: Span) -> AttrText
+        ensures { result ≡ attribute self word word_span }
+    {
+        let Label { name, span } = self;
+        AttrText {
+            name,
+            name_span: span,
+            word,
+            word_span,
+            nullable: true,
+        }
+    }
+
+    /// The dimension of this name with the numbers behind it.
+    fn with_numbers(self, lo: Bound, hi: Bound, chunk: Count, overlap: Count) -> DimText
+        ensures { result ≡ dimension self lo hi chunk overlap.value overlap.span }
+    {
+        let Label { name, span } = self;
+        DimText {
+            name,
+            name_span: span,
+            lo: lo.value,
+            lo_span: lo.span,
+            hi: hi.value,
+            hi_span: hi.span,
+            chunk: chunk.value,
+            chunk_span: chunk.span,
+            overlap: overlap.value,
+            overlap_span: overlap.span,
+        }
+    }
+}
+
+/// At the symbol behind an attribute.
+fn end_attribute(attribute: AttrText, symbol: Symbol) -> PartStep<AttrPlace, AttrText>
+    ensures { result ≡ attr_end attribute (a_symbol symbol) }
+{
+    match symbol {
+        Symbol::Comma => PartStep::Next(attribute),
+        Symbol::More => PartStep::Last(attribute),
+        _ => PartStep::Unexpected,
+    }
+}
+
+/// Behind a type's word.
+fn read_null(attribute: AttrText, kind: TokenKind) -> PartStep<AttrPlace, AttrText>
+    ensures { (bytes : List ℕ) → result ≡ attr_word attribute (what_of kind bytes) }
+{
+    match kind {
+        TokenKind::Word(Word::Not) => {
+            let attribute = AttrText {
+                nullable: false,
+                ..attribute
+            };
+            PartStep::On(AttrPlace::Negated(attribute))
+        }
+        TokenKind::Word(Word::Null) => PartStep::On(AttrPlace::Ended(attribute)),
+        TokenKind::Symbol(symbol) => end_attribute(attribute, symbol),
+        _ => PartStep::Unexpected,
+    }
+}
+
+/// Reads one token among the attributes.
+fn read_attribute(
+    alloc: Global,
+    text: &[u8],
+    place: AttrPlace,
+    token: Token,
+) -> Result<PartStep<AttrPlace, AttrText>, Memory>
+    requires { IsTokenOf text.now token }
+    ensures { IfOk result (λ step. step ≡ attr_step place token.span (lexeme_of text.now token).what) }
+{
+    match place {
+        AttrPlace::First => match token.kind {
+            TokenKind::Name => {
+                let name = name_at(alloc, text, token)?;
+                let span = token.span;
+                Ok(PartStep::On(AttrPlace::Named(Label { name, span })))
+            }
+            _ => Ok(PartStep::Unexpected),
+        },
+        AttrPlace::Named(label) => match token.kind {
+            TokenKind::Symbol(Symbol::Colon) => Ok(PartStep::On(AttrPlace::Typed(label))),
+            _ => Ok(PartStep::Unexpected),
+        },
+        AttrPlace::Typed(label) => match token.kind {
+            TokenKind::Name => {
+                let word = name_at(alloc, text, token)?;
+                let attribute = label.with_word(word, token.span);
+                Ok(PartStep::On(AttrPlace::Worded(attribute)))
+            }
+            _ => Ok(PartStep::Unexpected),
+        },
+        AttrPlace::Worded(attribute) => Ok(read_null(attribute, token.kind)),
+        AttrPlace::Negated(attribute) => match token.kind {
+            TokenKind::Word(Word::Null) => Ok(PartStep::On(AttrPlace::Ended(attribute))),
+            _ => Ok(PartStep::Unexpected),
+        },
+        AttrPlace::Ended(attribute) => match token.kind {
+            TokenKind::Symbol(symbol) => Ok(end_attribute(attribute, symbol)),
+            _ => Ok(PartStep::Unexpected),
+        },
+    }
+}
+
+/// A bound behind its sign.
+fn negated(value: i64, minus: Span, span: Span) -> Bound
+    requires { pos 0 ≤ℤ value }
+    ensures { result ≡ bound (neg_ℤ value) (across minus span) }
+{
+    Bound {
+        value: -value,
+        span: across(minus, span),
+    }
+}
+
+/// Before the low bound.
+#[tactic(auto, using(crate::proofs::Numbers::low_read))]
+fn read_low(label: Label, token: Token) -> PartStep<DimPlace, DimText>
+    requires { IsUnsigned token.kind }
+    ensures { (bytes : List ℕ) → result ≡ bound_step label BoundPlace.Low token.span (what_of token.kind bytes) }
+{
+    let span = token.span;
+    match token.kind {
+        TokenKind::Symbol(Symbol::Minus) => {
+            PartStep::On(DimPlace::Bounds(label, BoundPlace::LowMinus(span)))
+        }
+        TokenKind::Int(value) => {
+            let lo = Bound { value, span };
+            PartStep::On(DimPlace::Bounds(label, BoundPlace::Lowered(lo)))
+        }
+        _ => PartStep::Unexpected,
+    }
+}
+
+/// Before the high bound.
+#[tactic(auto, using(crate::proofs::Numbers::high_read))]
+fn read_high(label: Label, lo: Bound, token: Token) -> PartStep<DimPlace, DimText>
+    requires { IsUnsigned token.kind }
+    ensures { (bytes : List ℕ) → result ≡ bound_step label (BoundPlace.High lo) token.span (what_of token.kind bytes) }
+{
+    let span = token.span;
+    match token.kind {
+        TokenKind::Symbol(Symbol::Minus) => {
+            PartStep::On(DimPlace::Bounds(label, BoundPlace::HighMinus(lo, span)))
+        }
+        TokenKind::Symbol(Symbol::Star) => {
+            let value = UNBOUNDED;
+            let hi = Bound { value, span };
+            PartStep::On(DimPlace::Numbers(label, lo, hi, NumberPlace::Bounded))
+        }
+        TokenKind::Int(value) => {
+            let hi = Bound { value, span };
+            PartStep::On(DimPlace::Numbers(label, lo, hi, NumberPlace::Bounded))
+        }
+        _ => PartStep::Unexpected,
+    }
+}
+
+/// Reads one token of a dimension's bounds.
+#[tactic(auto, using(crate::proofs::Numbers::low_minus_read, crate::proofs::Numbers::high_minus_read))]
+fn read_bound(label: Label, place: BoundPlace, token: Token) -> PartStep<DimPlace, DimText>
+    requires { IsUnsigned token.kind }
+    ensures { (bytes : List ℕ) → result ≡ bound_step label place token.span (what_of token.kind bytes) }
+{
+    match place {
+        BoundPlace::Low => read_low(label, token),
+        BoundPlace::LowMinus(minus) => match token.kind {
+            TokenKind::Int(value) => {
+                let lo = negated(value, minus, token.span);
+                PartStep::On(DimPlace::Bounds(label, BoundPlace::Lowered(lo)))
+            }
+            _ => PartStep::Unexpected,
+        },
+        BoundPlace::Lowered(lo) => match token.kind {
+            TokenKind::Symbol(Symbol::Colon) => {
+                PartStep::On(DimPlace::Bounds(label, BoundPlace::High(lo)))
+            }
+            _ => PartStep::Unexpected,
+        },
+        BoundPlace::High(lo) => read_high(label, lo, token),
+        BoundPlace::HighMinus(lo, minus) => match token.kind {
+            TokenKind::Int(value) => {
+                let hi = negated(value, minus, token.span);
+                PartStep::On(DimPlace::Numbers(label, lo, hi, NumberPlace::Bounded))
+            }
+            _ => PartStep::Unexpected,
+        },
+    }
+}
+
+/// Reads one token behind a dimension's bounds.
+#[tactic(auto, using(crate::proofs::Numbers::chunk_read, crate::proofs::Numbers::overlap_read))]
+fn read_number(
+    label: Label,
+    lo: Bound,
+    hi: Bound,
+    place: NumberPlace,
+    token: Token,
+) -> PartStep<DimPlace, DimText>
+    requires { IsUnsigned token.kind }
+    ensures { (bytes : List ℕ) → result ≡ number_step label lo hi place token.span (what_of token.kind bytes) }
+{
+    let span = token.span;
+    match place {
+        NumberPlace::Bounded => match token.kind {
+            TokenKind::Symbol(Symbol::Comma) => {
+                PartStep::On(DimPlace::Numbers(label, lo, hi, NumberPlace::Chunk))
+            }
+            _ => PartStep::Unexpected,
+        },
+        NumberPlace::Chunk => match token.kind {
+            TokenKind::Int(value) => {
+                let value = value.unsigned_abs();
+                let chunk = Count { value, span };
+                PartStep::On(DimPlace::Numbers(label, lo, hi, NumberPlace::Chunked(chunk)))
+            }
+            _ => PartStep::Unexpected,
+        },
+        NumberPlace::Chunked(chunk) => match token.kind {
+            TokenKind::Symbol(Symbol::Comma) => {
+                PartStep::On(DimPlace::Numbers(label, lo, hi, NumberPlace::Overlap(chunk)))
+            }
+            _ => PartStep::Unexpected,
+        },
+        NumberPlace::Overlap(chunk) => match token.kind {
+            TokenKind::Int(value) => {
+                let value = value.unsigned_abs();
+                let overlap = Count { value, span };
+                PartStep::On(DimPlace::Ended(label.with_numbers(lo, hi, chunk, overlap)))
+            }
+            _ => PartStep::Unexpected,
+        },
+    }
+}
+
+/// Reads one token among the dimensions.
+#[tactic(auto, using(crate::proofs::Numbers::unsigned))]
+fn read_dimension(
+    alloc: Global,
+    text: &[u8],
+    place: DimPlace,
+    token: Token,
+) -> Result<PartStep<DimPlace, DimText>, Memory>
+    requires { IsTokenOf text.now token }
+    ensures { IfOk result (λ step. step ≡ dim_step place token.span (lexeme_of text.now token).what) }
+{
+    match place {
+        DimPlace::First => match token.kind {
+            TokenKind::Name => {
+                let name = name_at(alloc, text, token)?;
+                let span = token.span;
+                Ok(PartStep::On(DimPlace::Named(Label { name, span })))
+            }
+            _ => Ok(PartStep::Unexpected),
+        },
+        DimPlace::Named(label) => match token.kind {
+            TokenKind::Symbol(Symbol::Equal) => {
+                Ok(PartStep::On(DimPlace::Bounds(label, BoundPlace::Low)))
+            }
+            _ => Ok(PartStep::Unexpected),
+        },
+        DimPlace::Bounds(label, place) => Ok(read_bound(label, place, token)),
+        DimPlace::Numbers(label, lo, hi, place) => Ok(read_number(label, lo, hi, place, token)),
+        DimPlace::Ended(dimension) => match token.kind {
+            TokenKind::Symbol(Symbol::Comma) => Ok(PartStep::Next(dimension)),
+            TokenKind::Symbol(Symbol::RightBracket) => Ok(PartStep::Last(dimension)),
+            _ => Ok(PartStep::Unexpected),
+        },
+    }
+}
+
+/// Where the attributes stand after a step.
+fn after_attribute(
+    start: Span,
+    attributes: List<AttrText>,
+    step: PartStep<AttrPlace, AttrText>,
+) -> Result<ShapeStep, Memory>
+    ensures { IfOk result (λ next. next ≡ attr_goes start attributes step) }
+{
+    let mut attributes = attributes;
+    match step {
+        PartStep::On(place) => Ok(ShapeStep::On(ShapeState::Attributes {
+            start,
+            attributes,
+            place,
+        })),
+        PartStep::Next(attribute) => {
+            attributes.push(attribute)?;
+            let place = AttrPlace::First;
+            Ok(ShapeStep::On(ShapeState::Attributes {
+                start,
+                attributes,
+                place,
+            }))
+        }
+        PartStep::Last(attribute) => {
+            attributes.push(attribute)?;
+            Ok(ShapeStep::On(ShapeState::Between { start, attributes }))
+        }
+        PartStep::Unexpected => Ok(ShapeStep::Unexpected),
+    }
+}
+
+/// Where the dimensions stand after a step at a token of this place.
+fn after_dimension(
+    head: Head,
+    dimensions: List<DimText>,
+    step: PartStep<DimPlace, DimText>,
+    span: Span,
+) -> Result<ShapeStep, Memory>
+    ensures { IfOk result (λ next. next ≡ dim_goes head dimensions step span) }
+{
+    let mut dimensions = dimensions;
+    match step {
+        PartStep::On(place) => Ok(ShapeStep::On(ShapeState::Dimensions {
+            head,
+            dimensions,
+            place,
+        })),
+        PartStep::Next(dimension) => {
+            dimensions.push(dimension)?;
+            let place = DimPlace::First;
+            Ok(ShapeStep::On(ShapeState::Dimensions {
+                head,
+                dimensions,
+                place,
+            }))
+        }
+        PartStep::Last(dimension) => {
+            dimensions.push(dimension)?;
+            let Head {
+                start,
+                attributes,
+                bracket,
+            } = head;
+            let brackets = across(bracket, span);
+            let schema = SchemaText {
+                attributes,
+                dimensions,
+                brackets,
+            };
+            Ok(ShapeStep::Whole(schema, across(start, span)))
+        }
+        PartStep::Unexpected => Ok(ShapeStep::Unexpected),
+    }
+}
+
+/// Reads one token of a schema.
+pub fn read_shape(
+    alloc: Global,
+    text: &[u8],
+    state: ShapeState,
+    token: Token,
+) -> Result<ShapeStep, Memory>
+    requires { IsTokenOf text.now token }
+    ensures { IfOk result (λ step. step ≡ shape_turn state (lexeme_of text.now token)) }
+{
+    match state {
+        ShapeState::Start => match token.kind {
+            TokenKind::Symbol(Symbol::Less) => Ok(ShapeStep::On(ShapeState::Attributes {
+                start: token.span,
+                attributes: List::new(alloc),
+                place: AttrPlace::First,
+            })),
+            _ => Ok(ShapeStep::Unexpected),
+        },
+        ShapeState::Attributes {
+            start,
+            attributes,
+            place,
+        } => {
+            let step = read_attribute(alloc, text, place, token)?;
+            after_attribute(start, attributes, step)
+        }
+        ShapeState::Between { start, attributes } => match token.kind {
+            TokenKind::Symbol(Symbol::LeftBracket) => {
+                let bracket = token.span;
+                Ok(ShapeStep::On(ShapeState::Dimensions {
+                    head: Head {
+                        start,
+                        attributes,
+                        bracket,
+                    },
+                    dimensions: List::new(alloc),
+                    place: DimPlace::First,
+                }))
+            }
+            _ => Ok(ShapeStep::Unexpected),
+        },
+        ShapeState::Dimensions {
+            head,
+            dimensions,
+            place,
+        } => {
+            let step = read_dimension(alloc, text, place, token)?;
+            after_dimension(head, dimensions, step, token.span)
+        }
+    }
+}
