@@ -1,0 +1,5 @@
+pub mod Counts
+pub mod InMemory
+pub mod Sink
+pub mod Source
+pub mod Turns
