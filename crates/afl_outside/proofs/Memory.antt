@@ -1,6 +1,8 @@
 -- What reads and writes of objects in memory do to what they tell.
-use Rattle.std.proofs.Common.{◌≡◌, ◌≤◌, ℕ, ◌+◌, List, [], ◌++◌, ◌⊎◌, inl, inr, length, take, drop, refl, sym, ◌∙◌, ap, subst, arith, append-nil, take-append-drop, Some, Result, Ok, Err, MatchResult}
-use Rattle.std.proofs.lemmas.List.{length-take-le}
+use Rattle.std.proofs.Common.{◌≡◌, ◌≤◌, ◌<◌, ℕ, ◌+◌, ◌-◌, max, replicate, append_assoc, length-append, List, [], ◌++◌, ◌⊎◌, inl, inr, length, take, drop, refl, sym, ◌∙◌, ap, subst, arith, append-nil, take-append-drop, Some, Result, Ok, Err, MatchResult}
+use Rattle.std.proofs.lemmas.List.{take_all, take_at, length-drop, length-take-le, take-replicate, take-append-le, length-replicate}
+use Rattle.std.proofs.Math.ListN.{drop_of_length-le}
+use Rattle.afl_outside.specs.Disk.{written}
 use Rattle.std.proofs.Math.Seq.{take-length}
 use Rattle.afl_outside.specs.Source.{SourceState, Gives}
 use Rattle.afl_outside.specs.Sink.{SinkState, Takes}
@@ -63,3 +65,49 @@ sure_takes_what_was_written piece old new (Ok n) (size, is) wants =
     subst (λ k. Takes (sure_sink_state old) (sure_sink_state new) (take k piece)) (sym size) whole
 sure_takes_what_was_written piece old new (Err e) is wants =
     Takes-same [] [] old new 0 0 refl (ap (λ (h : Holding). h.first) is) (ap (λ (h : Holding). h.held) is) (omega arith) wants
+
+le_or_more : (a b : ℕ) → (a ≤ b) ⊎ (b < a)
+le_or_more a b = grind arith
+
+-- as many zeros as reach the place, of more that stand there
+front_of-zeros : (at m : ℕ) (old : List ℕ) → at - length old ≤ m → take at (old ++ replicate m 0) ≡ take at (old ++ replicate (at - length old) 0)
+front_of-zeros at m old le =
+    let gap = at - length old in
+    let zeros : List ℕ = replicate m 0 in
+    let split : old ++ zeros ≡ (old ++ replicate gap 0) ++ drop gap zeros =
+        ap (λ (l : List ℕ). old ++ l) (sym (take-append-drop gap zeros) ∙ ap (λ (l : List ℕ). l ++ drop gap zeros) (take-replicate gap m 0 le)) ∙ sym (append_assoc old (replicate gap 0) (drop gap zeros)) in
+    ap (take at) split ∙ take-append-le at (old ++ replicate gap 0) (drop gap zeros) (omega (arith, length-append old (replicate {A = ℕ} gap 0), length-replicate {A = ℕ} gap 0))
+
+-- nothing but what was there stands past the end of a write
+back_of-zeros : (end : ℕ) (old : List ℕ) → drop end (old ++ replicate (max (length old) end - length old) 0) ≡ drop end old
+back_of-zeros end old = split (le_or_more end (length old))
+  where
+    split : (end ≤ length old) ⊎ (length old < end) → drop end (old ++ replicate (max (length old) end - length old) 0) ≡ drop end old
+    split (inl fits) = ap (λ m. drop end (old ++ replicate m 0)) (let none : max (length old) end - length old ≡ 0 = omega (arith, fits) in none) ∙ ap (drop end) (append-nil old)
+    split (inr past) =
+        let zeros : List ℕ = replicate (max (length old) end - length old) 0 in
+        drop_of_length-le (old ++ zeros) (omega (arith, past, length-append old zeros, length-replicate {A = ℕ} (max (length old) end - length old) 0)) ∙ sym (drop_of_length-le old (omega (arith, past)))
+
+-- a part that was written over in bytes that reach its end
+pub written_over : (at : ℕ) (bytes old : List ℕ) → let end = at + length bytes in let grown = old ++ replicate (max (length old) end - length old) 0 in
+    take at grown ++ (bytes ++ drop end grown) ≡ written at bytes old
+written_over at bytes old =
+    let end = at + length bytes in
+    let m = max (length old) end - length old in
+    let grown = old ++ replicate m 0 in
+    ap (λ (l : List ℕ). l ++ (bytes ++ drop end grown)) (front_of-zeros at m old (omega arith))
+    ∙ ap (λ (l : List ℕ). take at (old ++ replicate (at - length old) 0) ++ (bytes ++ l)) (back_of-zeros end old)
+    ∙ sym (append_assoc (take at (old ++ replicate (at - length old) 0)) bytes (drop end old))
+
+-- a vector was made long enough, and then written over
+pub laid : (at m len : ℕ) (bytes old items lent new : List ℕ) → new ≡ take at lent ++ (bytes ++ drop (at + length bytes) lent) → lent ≡ items → items ≡ take m old ++ replicate (m - length old) 0
+    → m ≡ max (length old) (at + length bytes) → len ≡ m → take len (new ++ drop (length new) items) ≡ written at bytes old
+laid at m len bytes old items lent new over lends grows most size =
+    let end = at + length bytes in
+    let zeros : List ℕ = replicate (max (length old) end - length old) 0 in
+    let grown : lent ≡ old ++ zeros = lends ∙ grows ∙ ap (λ (l : List ℕ). l ++ replicate (m - length old) 0) (take_all m old (omega (arith, most))) ∙ ap (λ k. old ++ replicate (k - length old) 0) most in
+    let long : length (old ++ zeros) ≡ m = omega (arith, most, length-append old zeros, length-replicate {A = ℕ} (max (length old) end - length old) 0) in
+    let is : new ≡ take at (old ++ zeros) ++ (bytes ++ drop end (old ++ zeros)) = over ∙ ap (λ (l : List ℕ). take at l ++ (bytes ++ drop end l)) grown in
+    let front : length (take at (old ++ zeros)) ≡ at = length-take-le at (old ++ zeros) (omega (arith, most, long)) in
+    let all : length new ≡ len = omega (arith, ap length is, length-append (take at (old ++ zeros)) (bytes ++ drop end (old ++ zeros)), length-append bytes (drop end (old ++ zeros)), length-drop end (old ++ zeros), front, long, most, size) in
+    take_at new (drop (length new) items) len all ∙ is ∙ written_over at bytes old

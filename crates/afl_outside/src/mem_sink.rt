@@ -62,7 +62,6 @@ impl MemSink {
 impl Sink for MemSink {
     ghost state = { memory_sink_state };
 
-    #[tactic(auto, using(crate::proofs::Memory::takes_what_was_written))]
     fn write(&mut self, bytes: &[u8]) -> Result<usize, Failed>
         ensures exact { MemoryWrites bytes.now self.old self.new result }
         ensures later { self.old.turns.faults ≤ self.new.turns.faults }

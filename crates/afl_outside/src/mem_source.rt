@@ -52,7 +52,6 @@ impl MemSource {
 impl Source for MemSource {
     ghost state = { memory_source_state };
 
-    #[tactic(auto, using(crate::proofs::Memory::gives_what_was_read))]
     fn read(&mut self, into: &mut [u8]) -> Result<usize, Failed>
         ensures exact { MemoryReads into.new self.old self.new result }
         ensures bound { OnOk result (self.new.bytes.given < 2 ^ 63) }

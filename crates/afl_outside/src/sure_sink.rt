@@ -49,7 +49,6 @@ impl SureSink {
 impl Sink for SureSink {
     ghost state = { sure_sink_state };
 
-    #[tactic(auto, using(crate::proofs::Memory::sure_takes_what_was_written))]
     fn write(&mut self, bytes: &[u8]) -> Result<usize, Failed>
         ensures exact { SureWrites bytes.now self.old self.new result }
         ensures wants_later { self.old.wants ≤ self.new.wants }

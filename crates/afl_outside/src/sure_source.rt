@@ -37,7 +37,6 @@ impl SureSource {
 impl Source for SureSource {
     ghost state = { sure_source_state };
 
-    #[tactic(auto, using(crate::proofs::Memory::sure_gives_what_was_read))]
     fn read(&mut self, into: &mut [u8]) -> Result<usize, Failed>
         ensures exact { SureReads into.new self.old self.new result }
         ensures bound { OnOk result (self.new.given < 2 ^ 63) }

@@ -1,6 +1,7 @@
 //! Which calls of an object in memory are to fail.
 ghost use Rattle.std.specs.Prelude.{◌≡◌, ◌≤◌, IsTrue, ◌↔◌};
 ghost use Rattle.std.specs.Bool.{OnTrue, OnFalse};
+ghost use Rattle.afl_outside.specs.Counts.{risen};
 ghost use Rattle.afl_outside.specs.Turns.{no_turns, IsListed, passed, failed};
 
 use cell_values::List;
@@ -46,6 +47,14 @@ impl FailingCalls {
             self.faults = self.faults.saturating_add(1);
         }
         is_listed
+    }
+
+    /// Counts the call that was last counted as a fault.
+    pub(crate) fn fault(&mut self)
+        ensures faults { self.new ≡ record self.old { faults = risen self.old.faults } }
+        ensures later { self.old.faults ≤ self.new.faults }
+    {
+        self.faults = self.faults.saturating_add(1);
     }
 
     pub(crate) fn faults(&self) -> u64
