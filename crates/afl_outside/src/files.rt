@@ -1,5 +1,5 @@
 //! A list of files, by name.
-ghost use Rattle.std.specs.Prelude.{◌≡◌, ◌<◌, length, remove, None, Some, IfSome, MatchOption};
+ghost use Rattle.std.specs.Prelude.{◌≡◌, ◌<◌, length, remove, None, Some, IfSome, IfNone, MatchOption};
 ghost use Rattle.std.specs.List.{HoldsAt};
 ghost use Rattle.afl_outside.specs.Files.{file_of, without};
 
@@ -24,6 +24,7 @@ pub(crate) fn take_file(files: &mut List<MemFile>, name: &[u8]) -> Option<MemFil
     ensures file { result ≡ file_of files.old name.now }
     ensures named { IfSome result (λ f. f.name ≡ name.now) }
     ensures rest { files.new ≡ without files.old name.now }
+    ensures none { IfNone result (files.new ≡ files.old) }
 {
     let place = place_of(files, name)?;
     Some(files.remove(place))
