@@ -7,6 +7,7 @@ mod disk;
 mod disk_record;
 mod files;
 mod gate;
+mod images;
 mod mem_disk;
 mod mem_file;
 mod mem_shelf;

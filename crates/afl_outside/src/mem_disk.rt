@@ -1,13 +1,14 @@
 //! A disk in memory whose calls fail where a list says so. It keeps a record of all its calls.
-ghost use Rattle.std.specs.Prelude.{◌≡◌, ◌≤◌, ◌↔◌, [], length, IsTrue, IfOk, true, false};
+ghost use Rattle.std.specs.Prelude.{◌≡◌, ◌≤◌, ◌↔◌, [], length, take, IsTrue, IfOk, true, false};
 ghost use Rattle.std.specs.Io.{ReadsAtMost};
 ghost use Rattle.afl_outside.specs.Disk.{ReadsAt};
-ghost use Rattle.afl_outside.specs.Images.{IsNote};
+ghost use Rattle.afl_outside.specs.Images.{IsNote, Leaves, stopped_image};
 ghost use Rattle.afl_outside.specs.ImageLaws.{now_counts, only_images_now, content_is_left};
 ghost use Rattle.afl_outside.specs.Records.{new_disk, content_of, images_of, images_since, memory_disk_state, FailsNext, MemoryCalls};
 
 use crate::device_call::DeviceCall;
 use crate::disk_record::DiskRecord;
+use crate::images::image_after;
 use crate::{Disk, Failed};
 use cell_values::{Bytes, List, Memory};
 use std::marker::Model;
@@ -57,6 +58,19 @@ impl MemDisk {
         ensures { result.now ≡ self.now.bytes.calls }
     {
         self.kept.calls()
+    }
+
+    /// One image that a stop right after the first `calls` calls may leave: what the last sync that was done left, with
+    /// the writes since then in order. The k-th of these writes stands as written, or where `kept[k]` is false leaves
+    /// `fill` in every byte that it wrote. A write past the end of `kept` stands as written, and places of `kept` past
+    /// the last write are not read.
+    pub fn image(&self, calls: u64, kept: &[bool], fill: u8) -> Result<Bytes, Memory>
+        requires { calls ≤ length self.now.bytes.calls }
+        ensures bytes { IfOk result (λ image. image ≡ stopped_image self.now.bytes.first (take calls self.now.bytes.calls) kept.now fill) }
+        ensures left { IfOk result (λ image. Leaves self.now.bytes.first (take calls self.now.bytes.calls) image) }
+    {
+        let (calls, _) = self.kept.calls().split_at(calls as usize);
+        image_after(self.kept.first(), calls, kept, fill)
     }
 
     fn fails_next(&self) -> bool
