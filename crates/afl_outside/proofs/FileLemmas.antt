@@ -75,7 +75,7 @@ record KeepsOthers (asked : List ℕ) (old new : MemoryShelf) : Type 0 where
 leaves : (asked : List ℕ) (old new : MemoryShelf) → KeepsOthers asked old new → old.turns.faults ≤ new.turns.faults → old.wants ≤ new.wants → LeavesOthers asked (memory_shelf_state old) (memory_shelf_state new)
 leaves asked old new keeps later wants_later =
     let sure : (n : List ℕ) → n ≢ asked → if_sure new.turns.fails (content_of new.files n) ≡ if_sure old.turns.fails (content_of old.files n) =
-        λ n other. ap (λ (l : List ℕ). if_sure l (content_of new.files n)) keeps.fails ∙ ap (if_sure old.turns.fails) (keeps.files n other) in
+    λ n other. ap (λ (l : List ℕ). if_sure l (content_of new.files n)) keeps.fails ∙ ap (if_sure old.turns.fails) (keeps.files n other) in
     record {
       scripts = sure;
       replies = λ n other. ap (λ (l : List ℕ). if_sure l (Some (unwrap_or (content_of new.replies n) []))) keeps.fails ∙ ap (λ (o : Option (List ℕ)). if_sure old.turns.fails (Some (unwrap_or o []))) (keeps.replies n other);

@@ -79,5 +79,5 @@ stopped_left first calls kept fill image is =
     let back = drop (synced_count calls) calls in
     let stopped = stopped_image first calls kept fill in
     subst (Leaves first calls) (sym is) (subst (λ (l : List DeviceCall). Leaves first l stopped) (take-append-drop (synced_count calls) calls)
-      (ImagesAfter-append first (λ d. d ≡ first) front back stopped
-        (with_writes_left (content_after first front) (Leaves first front) back kept fill (content_after first front) (ArePending-unsynced calls) (content_is_left first front))))
+    (ImagesAfter-append first (λ d. d ≡ first) front back stopped
+    (with_writes_left (content_after first front) (Leaves first front) back kept fill (content_after first front) (ArePending-unsynced calls) (content_is_left first front))))

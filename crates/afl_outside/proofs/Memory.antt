@@ -75,7 +75,7 @@ front_of-zeros at m old le =
     let gap = at - length old in
     let zeros : List ℕ = replicate m 0 in
     let split : old ++ zeros ≡ (old ++ replicate gap 0) ++ drop gap zeros =
-        ap (λ (l : List ℕ). old ++ l) (sym (take-append-drop gap zeros) ∙ ap (λ (l : List ℕ). l ++ drop gap zeros) (take-replicate gap m 0 le)) ∙ sym (append_assoc old (replicate gap 0) (drop gap zeros)) in
+    ap (λ (l : List ℕ). old ++ l) (sym (take-append-drop gap zeros) ∙ ap (λ (l : List ℕ). l ++ drop gap zeros) (take-replicate gap m 0 le)) ∙ sym (append_assoc old (replicate gap 0) (drop gap zeros)) in
     ap (take at) split ∙ take-append-le at (old ++ replicate gap 0) (drop gap zeros) (omega (arith, length-append old (replicate {A = ℕ} gap 0), length-replicate {A = ℕ} gap 0))
 
 -- nothing but what was there stands past the end of a write

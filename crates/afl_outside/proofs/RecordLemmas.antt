@@ -81,10 +81,10 @@ pub memory_written : (at : ℕ) (bytes : List ℕ) (old new : MemoryDisk) (resul
     → Writes at bytes (memory_disk_state old) (memory_disk_state new) result
 memory_written at bytes old new (Ok x) (fits, is) = λ honest. ap (λ (m : MemoryDisk). Some (content_of m.bytes)) is ∙ ap Some (content_after_push old.bytes.first old.bytes.calls (Write at bytes))
 memory_written at bytes old new (Err e) (inl (listed, is)) = λ honest. (
-    written at bytes (content_of old.bytes),
-    ap (λ (m : MemoryDisk). Some (content_of m.bytes)) is ∙ ap Some (content_after_push old.bytes.first old.bytes.calls (Write at bytes)),
-    Torn-written at bytes (content_of old.bytes),
-  )
+  written at bytes (content_of old.bytes),
+  ap (λ (m : MemoryDisk). Some (content_of m.bytes)) is ∙ ap Some (content_after_push old.bytes.first old.bytes.calls (Write at bytes)),
+  Torn-written at bytes (content_of old.bytes),
+)
 memory_written at bytes old new (Err e) (inr is) = λ honest. (content_of old.bytes, ap (λ (m : MemoryDisk). Some (content_of m.bytes)) is, Torn-same at (length bytes) (content_of old.bytes))
 
 pub memory_torn : {T : Type 0} (at : ℕ) (bytes : List ℕ) (old new : MemoryDisk) (result : Result T Failed) → MemoryCalls (Write at bytes) (Write at bytes) old new result

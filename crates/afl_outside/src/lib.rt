@@ -20,6 +20,8 @@ mod source;
 mod sure_disk;
 mod sure_sink;
 mod sure_source;
+#[cfg(test)]
+mod tests;
 mod turns;
 
 pub use counts::has_risen;

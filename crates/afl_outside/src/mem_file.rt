@@ -4,7 +4,7 @@ ghost use Rattle.std.specs.Prelude.{◌≡◌, IfOk};
 use cell_values::{Bytes, Copies, List, Memory};
 
 /// A file in memory, and the numbers, from 0, of the calls on it that are to fail.
-#[derive(Debug, Drop)]
+#[derive(Debug, Drop, PartialEq, Eq)]
 pub struct MemFile {
     pub name: Bytes,
     pub content: Bytes,

@@ -60,11 +60,13 @@ impl Shelf for MemShelf {
             return Err(Failed);
         }
         match take_file(&mut self.files, name.as_bytes()) {
-            Some(MemFile {
-                name,
-                content,
-                fails,
-            }) => Ok(MemSource::named(name, content, fails)),
+            Some(
+                MemFile {
+                    name,
+                    content,
+                    fails,
+                },
+            ) => Ok(MemSource::named(name, content, fails)),
             None => {
                 self.turns.fault();
                 Err(Failed)
@@ -81,11 +83,13 @@ impl Shelf for MemShelf {
             return Err(Failed);
         }
         match take_file(&mut self.replies, name.as_bytes()) {
-            Some(MemFile {
-                name,
-                content,
-                fails,
-            }) => Ok(MemSink::named(name, content, fails)),
+            Some(
+                MemFile {
+                    name,
+                    content,
+                    fails,
+                },
+            ) => Ok(MemSink::named(name, content, fails)),
             None => match Bytes::from_slice(self.replies.allocator(), name.as_bytes()) {
                 Ok(name) => {
                     let content = self.replies.another();
@@ -108,11 +112,13 @@ impl Shelf for MemShelf {
             return Err(Failed);
         }
         match take_file(&mut self.files, name.as_bytes()) {
-            Some(MemFile {
-                name,
-                content,
-                fails,
-            }) => Ok(MemDisk::named(name, content, fails)),
+            Some(
+                MemFile {
+                    name,
+                    content,
+                    fails,
+                },
+            ) => Ok(MemDisk::named(name, content, fails)),
             None => {
                 self.turns.fault();
                 Err(Failed)
