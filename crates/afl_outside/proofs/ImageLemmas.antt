@@ -1,10 +1,10 @@
 -- One image by the places of the writes that are kept.
-use Rattle.std.proofs.Common.{◌≡◌, ◌≤◌, ◌<◌, ℕ, suc, ◌+◌, ◌-◌, List, [], ◌∷◌, ◌++◌, Bool, true, false, cond, length, take, drop, replicate, refl, sym, ◌∙◌, ap, subst, arith, length-append, append-nil, append_assoc, take-append-drop}
+use Rattle.std.proofs.Common.{◌≡◌, ℕ, ◌+◌, List, [], ◌∷◌, ◌++◌, Bool, true, false, cond, length, take, drop, refl, sym, ◌∙◌, ap, subst, arith, length-append, append-nil, append_assoc, take-append-drop}
 use Rattle.std.proofs.lemmas.List.{drop-append-le, length-replicate, reverse-append}
 use Rattle.std.proofs.Math.ListN.{drop_of_length-le}
 use Rattle.std.proofs.lemmas.List.Sums.{suffix_len-le-length}
 use Rattle.std.specs.List.{suffix_len, prefix_len}
-use Rattle.afl_outside.specs.Disk.{written, Torn}
+use Rattle.afl_outside.specs.Disk.{written}
 use Rattle.afl_outside.specs.Images.{next_content, NextImages, content_after, ImagesAfter, Leaves, is_pending, synced_count, left_bytes, with_writes, stopped_image}
 use Rattle.afl_outside.specs.ImageLaws.{content_is_left, torn_over}
 use Rattle.afl_outside.specs.declared.device_call.DeviceCall.{DeviceCall}

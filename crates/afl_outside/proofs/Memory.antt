@@ -4,9 +4,9 @@ use Rattle.std.proofs.lemmas.List.{take_all, take_at, length-drop, length-take-l
 use Rattle.std.proofs.Math.ListN.{drop_of_length-le}
 use Rattle.afl_outside.specs.Disk.{written}
 use Rattle.std.proofs.Math.Seq.{take-length}
-use Rattle.afl_outside.specs.Source.{SourceState, Gives}
-use Rattle.afl_outside.specs.Sink.{SinkState, Takes}
-use Rattle.afl_outside.specs.InMemory.{Reading, read_on, ReadsPiece, MemorySource, MemoryReads, SureReads, told_source, memory_source_state, sure_source_state, Holding, written_on, starved, MemorySink, MemoryWrites, SureWrites, told_sink, memory_sink_state, sure_sink_state}
+use Rattle.afl_outside.specs.Source.{Gives}
+use Rattle.afl_outside.specs.Sink.{Takes}
+use Rattle.afl_outside.specs.InMemory.{Reading, read_on, ReadsPiece, MemorySource, MemoryReads, SureReads, told_source, memory_source_state, sure_source_state, Holding, written_on, MemorySink, MemoryWrites, SureWrites, told_sink, memory_sink_state, sure_sink_state}
 use Rattle.afl_outside.specs.declared.source.Failed.{Failed}
 
 Gives-read_on : (name : List ℕ) (old : Reading) (n faults later : ℕ) (into : List ℕ) → ReadsPiece old n into → faults ≤ later

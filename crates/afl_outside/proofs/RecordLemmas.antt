@@ -1,8 +1,8 @@
 -- What one call more does to the record of a disk in memory.
-use Rattle.std.proofs.Common.{◌≡◌, ◌≤◌, ◌⊎◌, inl, inr, ℕ, List, [], ◌∷◌, ◌++◌, length, Bool, true, false, IsTrue, refl, sym, ◌∙◌, ap, subst, arith, Result, Ok, Err, IsOk, OnOk, OnErr, Some, IfSome}
+use Rattle.std.proofs.Common.{◌≡◌, ◌≤◌, ◌⊎◌, inl, inr, ℕ, List, [], ◌∷◌, ◌++◌, length, true, false, IsTrue, refl, sym, ◌∙◌, ap, subst, arith, Result, Ok, Err, IsOk, OnOk, OnErr, Some, IfSome}
 use Rattle.afl_outside.specs.Counts.{risen, Rose}
 use Rattle.afl_outside.specs.Disk.{written, Torn, Elapses, Follows, Only, Writes, DiskGoesOn}
-use Rattle.afl_outside.specs.Images.{next_content, NextImages, content_after, Leaves, LeftSince, IsNote}
+use Rattle.afl_outside.specs.Images.{next_content, NextImages, content_after, IsNote}
 use Rattle.afl_outside.specs.ImageLaws.{content_after_push, images-push, elapses_push, elapses_same, content_is_left, Torn-written, Torn-same}
 use Rattle.afl_outside.specs.Records.{Recorded, with_call, content_of, images_of, images_since, MemoryDisk, MemoryCalls, SureBytes, SureCalls, memory_disk_state, sure_disk_state}
 use Rattle.afl_outside.specs.declared.source.Failed.{Failed}

@@ -1,5 +1,5 @@
 -- What the calls of a disk in memory do.
-use Rattle.std.specs.Prelude.{◌≡◌, ℕ, List, [], ◌∷◌, ◌++◌, Bool, true, false, length, Contains, Some, Result, Ok, Err, ◌⊎◌}
+use Rattle.std.specs.Prelude.{◌≡◌, ℕ, List, [], ◌∷◌, ◌++◌, true, length, Contains, Some, Result, Ok, Err, ◌⊎◌}
 use Rattle.afl_outside.specs.Counts.{risen}
 use Rattle.afl_outside.specs.Disk.{DiskState}
 use Rattle.afl_outside.specs.Images.{content_after, Leaves, LeftSince}

@@ -1,4 +1,4 @@
-use Rattle.std.proofs.Common.{ℕ, List, sym, ◌∙◌, ap}
+use Rattle.std.proofs.Common.{sym, ◌∙◌, ap}
 use Rattle.afl_outside.specs.Images.{content_after}
 use Rattle.afl_outside.specs.Records.{content_of}
 use Rattle.afl_outside.proofs.RecordLemmas.{content_of-note, content_after-note}
