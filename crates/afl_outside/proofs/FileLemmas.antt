@@ -10,7 +10,7 @@ use Rattle.afl_outside.specs.Turns.{Turns, passed, failed}
 use Rattle.afl_outside.specs.Sink.{IsNewSink}
 use Rattle.afl_outside.specs.InMemory.{MemorySink, memory_sink_state}
 use Rattle.afl_outside.specs.Shelf.{KeepsWord, LeavesOthers}
-use Rattle.afl_outside.specs.Files.{file_of, without, content_of, if_sure, MemoryShelf, OpensFile, OpensReply, made_reply, memory_shelf_state}
+use Rattle.afl_outside.specs.Files.{file_of, without, file_bytes, if_sure, MemoryShelf, OpensFile, OpensReply, made_reply, memory_shelf_state}
 use Rattle.afl_outside.specs.declared.source.Failed.{Failed}
 use Rattle.afl_outside.specs.declared.mem_file.MemFile.{MemFile}
 
@@ -36,8 +36,8 @@ file_of-without (g ∷ files) name n other = elim (bytes_eq g.name name) as (λ 
   | false ↦ λ e. ap (λ (o : Option MemFile). cond (bytes_eq g.name n) (Some g) o) (file_of-without files name n other)
 ] refl
 
-pub content_of-without : (files : List MemFile) (name n : List ℕ) → n ≢ name → content_of (without files name) n ≡ content_of files n
-content_of-without files name n other = ap (option_map (λ (f : MemFile). f.content)) (file_of-without files name n other)
+pub file_bytes-without : (files : List MemFile) (name n : List ℕ) → n ≢ name → file_bytes (without files name) n ≡ file_bytes files n
+file_bytes-without files name n other = ap (option_map (λ (f : MemFile). f.content)) (file_of-without files name n other)
 
 module _ (files : List MemFile) (i : ℕ) (name : List ℕ) (f : MemFile) (lt : i < length files) (is : f ≡ get_or files i f) where
   here : (d : MemFile) → drop i files ≡ f ∷ drop (suc i) files
@@ -68,17 +68,17 @@ module _ (files : List MemFile) (i : ℕ) (name : List ℕ) (f : MemFile) (lt : 
 
 -- what a shelf leaves of other names, whichever name was asked
 record KeepsOthers (asked : List ℕ) (old new : MemoryShelf) : Type 0 where
-  pub files : (n : List ℕ) → n ≢ asked → content_of new.files n ≡ content_of old.files n
-  pub replies : (n : List ℕ) → n ≢ asked → content_of new.replies n ≡ content_of old.replies n
+  pub files : (n : List ℕ) → n ≢ asked → file_bytes new.files n ≡ file_bytes old.files n
+  pub replies : (n : List ℕ) → n ≢ asked → file_bytes new.replies n ≡ file_bytes old.replies n
   pub fails : new.turns.fails ≡ old.turns.fails
 
 leaves : (asked : List ℕ) (old new : MemoryShelf) → KeepsOthers asked old new → old.turns.faults ≤ new.turns.faults → old.wants ≤ new.wants → LeavesOthers asked (memory_shelf_state old) (memory_shelf_state new)
 leaves asked old new keeps later wants_later =
-    let sure : (n : List ℕ) → n ≢ asked → if_sure new.turns.fails (content_of new.files n) ≡ if_sure old.turns.fails (content_of old.files n) =
-    λ n other. ap (λ (l : List ℕ). if_sure l (content_of new.files n)) keeps.fails ∙ ap (if_sure old.turns.fails) (keeps.files n other) in
+    let sure : (n : List ℕ) → n ≢ asked → if_sure new.turns.fails (file_bytes new.files n) ≡ if_sure old.turns.fails (file_bytes old.files n) =
+    λ n other. ap (λ (l : List ℕ). if_sure l (file_bytes new.files n)) keeps.fails ∙ ap (if_sure old.turns.fails) (keeps.files n other) in
     record {
       scripts = sure;
-      replies = λ n other. ap (λ (l : List ℕ). if_sure l (Some (unwrap_or (content_of new.replies n) []))) keeps.fails ∙ ap (λ (o : Option (List ℕ)). if_sure old.turns.fails (Some (unwrap_or o []))) (keeps.replies n other);
+      replies = λ n other. ap (λ (l : List ℕ). if_sure l (Some (unwrap_or (file_bytes new.replies n) []))) keeps.fails ∙ ap (λ (o : Option (List ℕ)). if_sure old.turns.fails (Some (unwrap_or o []))) (keeps.replies n other);
       devices = sure;
       later = later;
       wants_later = wants_later;
@@ -117,7 +117,7 @@ module _ {T : Type 0} (made : MemFile → T) where
   pub opened_others : (name : List ℕ) (old new : MemoryShelf) (result : Result T Failed) → OpensFile made name old new result → old.turns.faults ≤ new.turns.faults
       → LeavesOthers name (memory_shelf_state old) (memory_shelf_state new)
   opened_others name old new result opens later =
-      leaves name old new (outcomes (KeepsOthers name old) name old new result opens (record { files = content_of-without old.files name; replies = λ n other. refl; fails = refl }) (record { files = λ n other. refl; replies = λ n other. refl; fails = refl })) later
+      leaves name old new (outcomes (KeepsOthers name old) name old new result opens (record { files = file_bytes-without old.files name; replies = λ n other. refl; fails = refl }) (record { files = λ n other. refl; replies = λ n other. refl; fails = refl })) later
       (outcomes (λ s. old.wants ≤ s.wants) name old new result opens (omega arith) (omega arith))
 
   pub opened_replies : (name : List ℕ) (old new : MemoryShelf) (result : Result T Failed) → OpensFile made name old new result → (n : List ℕ) → (memory_shelf_state new).replies n ≡ (memory_shelf_state old).replies n
@@ -156,14 +156,14 @@ reply_word [] call before now bytes (Err e) ok (inr rose) = rose
 pub reply_told : (name : List ℕ) (old new : MemoryShelf) (result : Result MemorySink Failed) → OpensReply name old new result
     → KeepsWord ((memory_shelf_state old).replies name) old.wants new.wants (λ k. (memory_sink_state k).first) result
 reply_told name old new (Ok x) opens =
-    reply_word old.turns.fails old.turns.calls old.wants new.wants (unwrap_or (content_of old.replies name) []) (Ok x) (ap (λ (k : MemorySink). (memory_sink_state k).first) opens.1 ∙ made_first name (file_of old.replies name)) tt
-reply_told name old new (Err e) (inl opens) = reply_word old.turns.fails old.turns.calls old.wants new.wants (unwrap_or (content_of old.replies name) []) (Err e) tt (inl opens.0)
-reply_told name old new (Err e) (inr opens) = reply_word old.turns.fails old.turns.calls old.wants new.wants (unwrap_or (content_of old.replies name) []) (Err e) tt (inr (omega (arith, ap (λ (s : MemoryShelf). s.wants) opens.2)))
+    reply_word old.turns.fails old.turns.calls old.wants new.wants (unwrap_or (file_bytes old.replies name) []) (Ok x) (ap (λ (k : MemorySink). (memory_sink_state k).first) opens.1 ∙ made_first name (file_of old.replies name)) tt
+reply_told name old new (Err e) (inl opens) = reply_word old.turns.fails old.turns.calls old.wants new.wants (unwrap_or (file_bytes old.replies name) []) (Err e) tt (inl opens.0)
+reply_told name old new (Err e) (inr opens) = reply_word old.turns.fails old.turns.calls old.wants new.wants (unwrap_or (file_bytes old.replies name) []) (Err e) tt (inr (omega (arith, ap (λ (s : MemoryShelf). s.wants) opens.2)))
 
 pub reply_others : (name : List ℕ) (old new : MemoryShelf) (result : Result MemorySink Failed) → OpensReply name old new result → old.turns.faults ≤ new.turns.faults → old.wants ≤ new.wants
     → LeavesOthers name (memory_shelf_state old) (memory_shelf_state new)
 reply_others name old new result opens later wants_later =
-    leaves name old new (reply_outcomes (KeepsOthers name old) name old new result opens (record { files = λ n other. refl; replies = content_of-without old.replies name; fails = refl }) (λ turns wants fails. record { files = λ n other. refl; replies = λ n other. refl; fails = fails })) later wants_later
+    leaves name old new (reply_outcomes (KeepsOthers name old) name old new result opens (record { files = λ n other. refl; replies = file_bytes-without old.replies name; fails = refl }) (λ turns wants fails. record { files = λ n other. refl; replies = λ n other. refl; fails = fails })) later wants_later
 
 pub reply_cause : (name : List ℕ) (old new : MemoryShelf) (result : Result MemorySink Failed) → OpensReply name old new result → OnErr result (Rose old.turns.faults new.turns.faults ⊎ Rose old.wants new.wants)
 reply_cause name old new (Ok x) opens = tt

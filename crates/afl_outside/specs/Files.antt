@@ -21,8 +21,8 @@ without [] name = []
 without (file ∷ files) name = if bytes_eq file.name name then files else file ∷ without files name
 
 -- what the first file of a name holds
-abbrev pub content_of : List MemFile → List ℕ → Option (List ℕ)
-content_of files name = option_map (λ f. f.content) (file_of files name)
+abbrev pub file_bytes : List MemFile → List ℕ → Option (List ℕ)
+file_bytes files name = option_map (λ f. f.content) (file_of files name)
 
 -- the reply of a name: made from its file, or empty and without failing calls
 abbrev pub made_reply : List ℕ → Option MemFile → MemorySink
@@ -63,9 +63,9 @@ if_sure (call ∷ fails) told = None
 -- it tells that it opens the names of its files, and every name as a reply
 abbrev pub memory_shelf_state : MemoryShelf → ShelfState
 memory_shelf_state s = record {
-  scripts = λ name. if_sure s.turns.fails (content_of s.files name);
-  replies = λ name. if_sure s.turns.fails (Some (unwrap_or (content_of s.replies name) []));
-  devices = λ name. if_sure s.turns.fails (content_of s.files name);
+  scripts = λ name. if_sure s.turns.fails (file_bytes s.files name);
+  replies = λ name. if_sure s.turns.fails (Some (unwrap_or (file_bytes s.replies name) []));
+  devices = λ name. if_sure s.turns.fails (file_bytes s.files name);
   faults = s.turns.faults;
   wants = s.wants;
 }

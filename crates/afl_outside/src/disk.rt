@@ -6,6 +6,9 @@ ghost use Rattle.afl_outside.specs.Disk.{DiskState, DiskGoesOn, ReadsAt, Writes,
 
 use crate::Failed;
 
+/// A disk, which a crash may stop at any moment. Where it tells its bytes, it tells what a read gives, and the images that
+/// a crash may leave. Between two syncs each written range, and what lies past the old end, may hold any bytes after a
+/// crash; bytes outside stay. A call fails only where the count of faults or that of wants rises.
 pub trait Disk {
     ghost state: { Self → DiskState };
 
@@ -34,7 +37,8 @@ pub trait Disk {
         ensures time { Elapses (state self.old).moment (state self.new).moment (left_since self.old) (left_since self.new) (may_leave self.new) }
         ensures cause { OnErr result (Rose (state self.old).faults (state self.new).faults ⊎ Rose (state self.old).wants (state self.new).wants) };
 
-    /// Writes over what is there, and past the end. Until a sync, a crash may leave any bytes in the range.
+    /// Writes over what is there, and past the end, with zeros in a gap. A call that fails may have written, or have left
+    /// any bytes in the range. Until a sync that is done a crash may leave any bytes there.
     fn write_at(&mut self, at: u64, bytes: &[u8]) -> Result<(), Failed>
         ensures written { Writes at bytes.now (state self.old) (state self.new) result }
         ensures same { DiskGoesOn (state self.old) (state self.new) }
@@ -42,7 +46,7 @@ pub trait Disk {
         ensures time { Elapses (state self.old).moment (state self.new).moment (left_since self.old) (left_since self.new) (may_leave self.new) }
         ensures cause { OnErr result (Rose (state self.old).faults (state self.new).faults ⊎ Rose (state self.old).wants (state self.new).wants) };
 
-    /// After it, a crash leaves what a read gives.
+    /// After a sync that is done a crash leaves what a read gives, on a disk that is honest.
     fn sync(&mut self) -> Result<(), Failed>
         ensures durable { OnOk result (IsTrue (state self.old).honest → IfSome (state self.old).seen (λ seen. Only seen (may_leave self.new))) }
         ensures seen { (state self.new).seen ≡ (state self.old).seen }
@@ -51,9 +55,11 @@ pub trait Disk {
         ensures time { Elapses (state self.old).moment (state self.new).moment (left_since self.old) (left_since self.new) (may_leave self.new) }
         ensures cause { OnErr result (Rose (state self.old).faults (state self.new).faults ⊎ Rose (state self.old).wants (state self.new).wants) };
 
+    /// How often it has found no memory of its own. The count never falls.
     fn wants(&self) -> u64
         ensures { result ≡ (state self.now).wants };
 
+    /// How often it has failed, but for want of memory. The count never falls.
     fn faults(&self) -> u64
         ensures { result ≡ (state self.now).faults };
 

@@ -14,7 +14,7 @@ use cell_values::{Bytes, List, Memory};
 use std::marker::Model;
 
 /// A disk in memory, some of whose calls fail. It keeps a record of all its calls.
-#[derive(Drop)]
+#[derive(Debug, Drop)]
 pub struct MemDisk {
     name: Bytes,
     kept: DiskRecord,

@@ -8,6 +8,10 @@ ghost use Rattle.afl_outside.specs.Shelf.{ShelfState, LeavesOthers, KeepsWord};
 
 use crate::{Disk, Failed, Sink, Source};
 
+/// What opens the names that the program's words give: scripts, replies and devices. The name `-` means the standard
+/// streams. A shelf may tell of a name that it opens it, and with which first bytes; the call then succeeds, or finds no
+/// memory. What is handed out has the name that was asked, where it tells names, and counts of 0, and what it has left,
+/// holds or reads as is still its first bytes. A call fails only where the count of faults or that of wants rises.
 pub trait Shelf {
     type S: Source + Send + Drop;
 
@@ -17,7 +21,7 @@ pub trait Shelf {
 
     ghost state: { Self → ShelfState };
 
-    /// Opens a script.
+    /// Opens a script, and leaves what is told of replies.
     fn script(&mut self, name: &str) -> Result<Self::S, Failed>
         ensures handed { IfOk result (λ s. IsNewSource name.now (Self.S.state s)) }
         ensures told { KeepsWord ((state self.old).scripts name.now) (state self.old).wants (state self.new).wants (λ s. (Self.S.state s).first) result }
@@ -39,9 +43,11 @@ pub trait Shelf {
         ensures others { LeavesOthers name.now (state self.old) (state self.new) }
         ensures cause { OnErr result (Rose (state self.old).faults (state self.new).faults ⊎ Rose (state self.old).wants (state self.new).wants) };
 
+    /// How often it has found no memory of its own. The count never falls.
     fn wants(&self) -> u64
         ensures { result ≡ (state self.now).wants };
 
+    /// How often it has failed, but for want of memory. The count never falls.
     fn faults(&self) -> u64
         ensures { result ≡ (state self.now).faults };
 }

@@ -12,7 +12,7 @@ use cell_values::{Bytes, Memory};
 use std::marker::Model;
 
 /// A disk in memory that fails only where no memory is found. It keeps a record of its writes and syncs.
-#[derive(Drop)]
+#[derive(Debug, Drop)]
 pub struct SureDisk {
     kept: DiskRecord,
     wants: u64,

@@ -7,7 +7,7 @@ use cell_values::{Bytes, Memory};
 use std::marker::Model;
 
 /// A sink in memory that fails only where no memory is found.
-#[derive(Drop)]
+#[derive(Debug, Drop)]
 pub struct SureSink {
     held: Bytes,
     begun: usize,

@@ -8,7 +8,7 @@ use cell_values::Bytes;
 use std::marker::Model;
 
 /// A source in memory that never fails.
-#[derive(Drop)]
+#[derive(Debug, Drop)]
 pub struct SureSource {
     content: Bytes,
     at: usize,

@@ -49,24 +49,16 @@ fn expect_reads<S: Source>(
 fn a_source_gives_its_bytes_and_fails_at_the_listed_reads(rt: HostRuntime) -> Result<(), Fail> {
     let alloc = rt.alloc();
     let mut source = MemSource::new(text(alloc, b"build(")?, numbers(alloc, &[1, 3])?);
-    let reads = [
-        Some(b"bui".as_slice()),
-        None,
-        Some(b"ld(".as_slice()),
-        None,
-        Some(b"".as_slice()),
-    ];
+    let reads: [Option<&[u8]>; 5] = [Some(b"bui"), None, Some(b"ld("), None, Some(b"")];
     expect_reads(&rt, alloc, &mut source, &reads)?;
-    assert_eq!(rt; source.faults(), 2);
     let mut sure = SureSource::new(text(alloc, b"ab;c")?);
-    let reads = [
-        Some(b"ab;".as_slice()),
-        Some(b"c".as_slice()),
-        Some(b"".as_slice()),
-        Some(b"".as_slice()),
-    ];
-    expect_reads(&rt, alloc, &mut sure, &reads)?;
-    assert_eq!(rt; sure.faults(), 0);
+    expect_reads(
+        &rt,
+        alloc,
+        &mut sure,
+        &[Some(b"ab;"), Some(b"c"), Some(b""), Some(b"")],
+    )?;
+    assert_eq!(rt; (source.faults(), sure.faults()), (2, 0));
     Ok(())
 }
 
@@ -74,15 +66,18 @@ fn a_source_gives_its_bytes_and_fails_at_the_listed_reads(rt: HostRuntime) -> Re
 fn a_sink_takes_whole_pieces_and_fails_at_the_listed_writes(rt: HostRuntime) -> Result<(), Fail> {
     let alloc = rt.alloc();
     let mut sink = MemSink::new(text(alloc, b"ok ")?, numbers(alloc, &[1])?);
-    assert_eq!(rt; sink.write(b"A@1"), Ok(3));
-    assert_eq!(rt; sink.write(b"lost"), Err(Failed));
-    assert_eq!(rt; sink.write(b";"), Ok(1));
-    assert_eq!(rt; sink.bytes(), b"ok A@1;".as_slice());
-    assert_eq!(rt; (sink.faults(), sink.wants()), (1, 0));
+    let done = [sink.write(b"A@1"), sink.write(b"lost"), sink.write(b";")];
+    assert_eq!(rt;
+        (done, sink.bytes()),
+        ([Ok(3), Err(Failed), Ok(1)], b"ok A@1;".as_slice())
+    );
     let mut sure = SureSink::new(text(alloc, b"{i} ")?);
-    assert_eq!(rt; sure.write(b"v"), Ok(1));
-    assert_eq!(rt; sure.bytes(), b"{i} v".as_slice());
-    assert_eq!(rt; (sure.faults(), sure.wants()), (0, 0));
+    assert_eq!(rt;
+        (sure.write(b"v"), sure.bytes()),
+        (Ok(1), b"{i} v".as_slice())
+    );
+    let counts = (sink.faults(), sink.wants(), sure.faults(), sure.wants());
+    assert_eq!(rt; counts, (1, 0, 0, 0));
     Ok(())
 }
 
@@ -108,86 +103,64 @@ fn a_disk_does_and_records_its_calls_and_fails_at_the_listed_ones(
     rt: HostRuntime,
 ) -> Result<(), Fail> {
     let alloc = rt.alloc();
-    let mut disk = MemDisk::new(text(alloc, b"abcdef")?, numbers(alloc, &[2])?);
-    let mut piece = [0u8; 4];
-    assert_eq!(rt; disk.len(), Ok(6));
-    assert_eq!(rt; disk.write_at(1, b"XY"), Ok(()));
-    assert_eq!(rt;
+    let mut disk = MemDisk::new(text(alloc, b"abcdef")?, numbers(alloc, &[1])?);
+    let done = [
+        disk.write_at(1, b"XY"),
         disk.write_at(4, b"PQR"),
-        Err(Failed),
-        "its number is listed"
-    );
-    assert_eq!(rt; disk.sync(), Ok(()));
-    assert_eq!(rt; disk.write_at(8, b"Z"), Ok(()));
-    assert_eq!(rt; disk.write_at(0, b"bb"), Ok(()));
-    assert_eq!(rt; disk.read_at(3, &mut piece), Ok(4));
-    assert_eq!(rt; &piece, b"dPQR");
-    assert_eq!(rt; disk.read_at(8, &mut piece), Ok(1));
-    assert_eq!(rt; (disk.faults(), disk.wants()), (1, 0));
-    let calls = [
-        DeviceCall::Length,
-        DeviceCall::Write {
-            at: 1,
-            bytes: text(alloc, b"XY")?,
-        },
-        DeviceCall::Write {
-            at: 4,
-            bytes: text(alloc, b"PQR")?,
-        },
-        DeviceCall::Sync { done: true },
-        DeviceCall::Write {
-            at: 8,
-            bytes: text(alloc, b"Z")?,
-        },
-        DeviceCall::Write {
-            at: 0,
-            bytes: text(alloc, b"bb")?,
-        },
-        DeviceCall::Read { at: 3, length: 4 },
-        DeviceCall::Read { at: 8, length: 4 },
+        disk.sync(),
+        disk.write_at(8, b"Z"),
+        disk.write_at(0, b"bb"),
     ];
-    assert_eq!(rt; disk.calls(), calls.as_slice());
+    assert_eq!(rt; done, [Ok(()), Err(Failed), Ok(()), Ok(()), Ok(())]);
+    let mut piece = [0u8; 4];
+    let read = disk.read_at(5, &mut piece);
+    assert_eq!(rt; (read, disk.len(), piece), (Ok(4), Ok(9), *b"QR\0Z"));
+    assert_eq!(rt; (disk.faults(), disk.wants()), (1, 0));
     Ok(expect_images(
         &rt,
         &disk,
         &[
             (0, &[], b"abcdef"),
-            (2, &[true], b"aXYdef"),
-            (2, &[false], b"a..def"),
-            (3, &[false, true], b"a..dPQR"),
-            (3, &[true, false], b"aXYd..."),
-            (4, &[false, false], b"aXYdPQR"),
-            (6, &[false, true], b"bbYdPQR\0."),
-            (6, &[], b"bbYdPQR\0Z"),
-            (7, &[true, false], b"..YdPQR\0Z"),
-            (8, &[true, true, false], b"bbYdPQR\0Z"),
+            (1, &[true], b"aXYdef"),
+            (1, &[false], b"a..def"),
+            (2, &[false, true], b"a..dPQR"),
+            (2, &[true, false], b"aXYd..."),
+            (3, &[false, false], b"aXYdPQR"),
+            (5, &[false, true], b"bbYdPQR\0."),
+            (5, &[], b"bbYdPQR\0Z"),
+            (6, &[true, false], b"..YdPQR\0Z"),
+            (7, &[true, true, false], b"bbYdPQR\0Z"),
         ],
     )?)
 }
 
 #[test]
-fn a_sync_that_fails_makes_no_write_last(rt: HostRuntime) -> Result<(), Fail> {
+fn a_sync_that_fails_is_recorded_and_makes_no_write_last(rt: HostRuntime) -> Result<(), Fail> {
     let alloc = rt.alloc();
     let mut disk = MemDisk::new(text(alloc, b"abc")?, numbers(alloc, &[1])?);
-    assert_eq!(rt; disk.write_at(0, b"x"), Ok(()));
-    assert_eq!(rt; disk.sync(), Err(Failed));
-    assert_eq!(rt;
-        disk.calls().last(),
-        Some(&DeviceCall::Sync { done: false })
-    );
+    let done = [disk.write_at(0, b"x"), disk.sync()];
+    assert_eq!(rt; done, [Ok(()), Err(Failed)]);
+    let calls = [
+        DeviceCall::Write {
+            at: 0,
+            bytes: text(alloc, b"x")?,
+        },
+        DeviceCall::Sync { done: false },
+    ];
+    assert_eq!(rt; disk.calls(), calls.as_slice());
     Ok(expect_images(&rt, &disk, &[(2, &[false], b".bc"), (2, &[true], b"xbc")])?)
 }
 
 #[test]
 fn a_sure_disk_gives_back_what_was_written(rt: HostRuntime) -> Result<(), Fail> {
-    let alloc = rt.alloc();
-    let mut disk = SureDisk::new(text(alloc, b"")?);
+    let mut disk = SureDisk::new(List::new(rt.alloc()));
+    let done = [disk.write_at(2, b"xy"), disk.sync()];
     let mut piece = [0u8; 4];
-    assert_eq!(rt; disk.write_at(2, b"xy"), Ok(()));
-    assert_eq!(rt; disk.sync(), Ok(()));
-    assert_eq!(rt; disk.len(), Ok(4));
-    assert_eq!(rt; disk.read_at(1, &mut piece), Ok(3));
-    assert_eq!(rt; piece, [0, b'x', b'y', 0]);
+    let read = disk.read_at(1, &mut piece);
+    assert_eq!(rt;
+        (done, read, disk.len(), piece),
+        ([Ok(()), Ok(())], Ok(3), Ok(4), *b"\0xy\0")
+    );
     assert_eq!(rt; (disk.faults(), disk.wants()), (0, 0));
     Ok(())
 }
@@ -217,22 +190,20 @@ fn a_shelf_opens_each_file_once_under_its_name(rt: HostRuntime) -> Result<(), Fa
         &rt,
         alloc,
         &mut shelf.script("s")?,
-        &[None, Some(b"a;".as_slice()), Some(b"".as_slice())],
+        &[None, Some(b"a;"), Some(b"")],
     )?;
-    assert_eq!(rt; shelf.script("s").err(), Some(Failed), "it was taken out");
     let mut disk = shelf.device("db")?;
     assert_eq!(rt; (disk.len(), disk.sync()), (Ok(4), Err(Failed)));
-    assert_eq!(rt; shelf.device("none").err(), Some(Failed));
-    let mut begun = shelf.reply("s.out")?;
+    let mut reply = shelf.reply("s.out")?;
+    let done = [reply.write(b"x"), reply.write(b"y")];
     assert_eq!(rt;
-        (begun.write(b"x"), begun.write(b"y")),
-        (Ok(1), Err(Failed))
+        (done, reply.bytes()),
+        ([Ok(1), Err(Failed)], b"old:x".as_slice())
     );
-    assert_eq!(rt; begun.bytes(), b"old:x".as_slice());
+    let gone = [shelf.script("s").is_err(), shelf.device("db").is_err()];
     assert_eq!(rt;
-        shelf.reply("s.out")?.bytes(),
-        b"".as_slice(),
-        "it was taken out"
+        (gone, shelf.reply("s.out")?.bytes()),
+        ([true, true], b"".as_slice())
     );
     assert_eq!(rt; (shelf.faults(), shelf.wants()), (2, 0));
     Ok(())
@@ -241,43 +212,45 @@ fn a_shelf_opens_each_file_once_under_its_name(rt: HostRuntime) -> Result<(), Fa
 #[test]
 fn a_shelf_fails_at_the_listed_calls(rt: HostRuntime) -> Result<(), Fail> {
     let mut shelf = shelf(rt.alloc(), &[0, 2, 3])?;
-    assert_eq!(rt; shelf.script("s").err(), Some(Failed));
-    assert_eq!(rt; shelf.script("s").err(), None);
-    assert_eq!(rt; shelf.reply("s.out").err(), Some(Failed));
-    assert_eq!(rt; shelf.device("db").err(), Some(Failed));
-    assert_eq!(rt; shelf.device("db").err(), None);
-    assert_eq!(rt; shelf.faults(), 3);
+    let failed = [
+        shelf.script("s").is_err(),
+        shelf.script("s").is_err(),
+        shelf.reply("s.out").is_err(),
+        shelf.device("db").is_err(),
+        shelf.device("db").is_err(),
+    ];
+    assert_eq!(rt;
+        (failed, shelf.faults()),
+        ([true, false, true, true, false], 3)
+    );
     Ok(())
 }
 
 #[test]
 fn copies_are_equal(rt: HostRuntime) -> Result<(), Fail> {
     let alloc = rt.alloc();
-    let calls = [
-        DeviceCall::Length,
-        DeviceCall::Read { at: 3, length: 4 },
-        DeviceCall::Write {
-            at: 1,
-            bytes: text(alloc, b"XY")?,
-        },
-        DeviceCall::Sync { done: true },
-    ];
-    for call in &calls {
-        assert_eq!(rt; call.copy()?, *call);
-    }
-    let file = file(alloc, b"db", b"page", &[1])?;
-    assert_eq!(rt; file.copy()?, file);
+    let mut calls = List::new(alloc);
+    calls.push(DeviceCall::Length)?;
+    calls.push(DeviceCall::Read { at: 3, length: 4 })?;
+    let bytes = text(alloc, b"XY")?;
+    calls.push(DeviceCall::Write { at: 1, bytes })?;
+    calls.push(DeviceCall::Sync { done: true })?;
+    assert_eq!(rt; calls.copy()?.as_slice(), calls.as_slice());
+    let mut files = List::new(alloc);
+    files.push(file(alloc, b"db", b"page", &[1])?)?;
+    assert_eq!(rt; files.copy()?.as_slice(), files.as_slice());
     Ok(())
 }
 
 #[test]
 fn a_count_at_its_last_value_counts_as_risen(rt: HostRuntime) {
-    for (before, now, risen) in [
+    let rows = [
         (0, 0, false),
         (0, 1, true),
         (u64::MAX - 1, u64::MAX - 1, false),
         (u64::MAX, u64::MAX, true),
-    ] {
+    ];
+    for (before, now, risen) in rows {
         assert!(rt; before <= now);
         assert_eq!(rt; has_risen(before, now), risen, "from {before} to {now}");
     }
