@@ -1,0 +1,12 @@
+pub mod Counts
+pub mod Disk
+pub mod Files
+pub mod ImageLaws
+pub mod Images
+pub mod InMemory
+pub mod Overlay
+pub mod Records
+pub mod Shelf
+pub mod Sink
+pub mod Source
+pub mod Turns
