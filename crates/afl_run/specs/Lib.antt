@@ -1,0 +1,7 @@
+pub mod Built
+pub mod ExprValue
+pub mod Notice
+pub mod Reply
+pub mod Run
+pub mod Session
+pub mod Words

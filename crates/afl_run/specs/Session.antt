@@ -1,0 +1,67 @@
+-- What a session shows: which statements it answered, and what it wrote.
+--
+-- The statements of its script are answered in order, each by its reply, or by the line that no memory was found for it.
+-- At the end Whole all was read, answered and written. Where the source failed, the bytes read since the last `;` are no
+-- statement, and all others are answered. At another end some first statements are, and the sink has a front of their texts.
+use Rattle.std.specs.Prelude.{◌≡◌, ◌⊎◌, ℕ, Bool, true, false, List, [], ◌∷◌, ◌++◌, Option, Some, None}
+use Rattle.std.specs.List.{concat}
+use Rattle.std.specs.Io.KnownBytes.{IsAtEnd}
+use Rattle.afl_lexer.specs.Split.{Statement, statements, closed_statements}
+use Rattle.afl_outside.specs.Counts.{Rose}
+use Rattle.afl_outside.specs.Source.{SourceState, Gives}
+use Rattle.afl_outside.specs.Sink.{SinkState, Takes}
+use Rattle.afl_run.specs.Reply.{IsReplyTo, memory_line, not_built}
+use Rattle.afl_run.specs.declared.reply.Refusal.TheVariants.{Memory}
+use Rattle.afl_run.specs.declared.reply.Reply.{Reply}
+use Rattle.afl_run.specs.declared.report.Mark.{Mark}
+use Rattle.afl_run.specs.declared.report.SessionEnd.{SessionEnd}
+use Rattle.afl_run.specs.declared.report.SessionEnd.TheVariants.{Whole, Source, Sink}
+
+-- the reply to a statement, which has no bytes where it is too long
+abbrev pub IsReplyToStatement : Option (List ℕ) → Reply → Type 0
+IsReplyToStatement None reply = reply ≡ not_built
+IsReplyToStatement (Some text) reply = IsReplyTo text reply
+
+-- a statement's mark, and the text that it was answered
+pub record IsAnswered (statement : Statement) (mark : Mark) (text : List ℕ) : Type 0 where
+  pub start : mark.start ≡ statement.start
+  pub end : mark.end ≡ statement.end
+  pub place : mark.place ≡ 0
+  pub reply : IsReplyToStatement statement.text (record { text = text; refusal = mark.refusal }) ⊎ ((mark.refusal ≡ Some Memory) × (text ≡ memory_line))
+
+-- the marks of these statements, and the texts that they were answered, in order
+abbrev pub AreAnswered : List Statement → List Mark → List (List ℕ) → Type 0
+AreAnswered [] [] [] = Unit {0}
+AreAnswered (s ∷ statements) (m ∷ marks) (t ∷ texts) = IsAnswered s m t × AreAnswered statements marks texts
+AreAnswered _ _ _ = ⊥
+
+-- the statements that these bytes decide, where they are the whole script, or where more may come
+abbrev pub decided : Bool → List ℕ → List Statement
+decided true script = statements script
+decided false script = closed_statements script
+
+-- over the bytes that were read a session has written these bytes and made these marks, and ended so
+pub record Answers (read : List ℕ) (is_whole : Bool) (written : List ℕ) (marks : List Mark) (end : SessionEnd) : Type 0 where
+  pub answered : List Statement
+  pub unanswered : List Statement
+  pub texts : List (List ℕ)
+  pub unwritten : List ℕ
+  pub in_order : decided is_whole read ≡ answered ++ unanswered
+  pub each : AreAnswered answered marks texts
+  pub front : concat texts ≡ written ++ unwritten
+  pub whole : end ≡ Whole → (is_whole ≡ true) × (unanswered ≡ []) × (unwritten ≡ [])
+  pub source : end ≡ Source → (is_whole ≡ false) × (unanswered ≡ []) × (unwritten ≡ [])
+
+-- Between its start and its end a session has read these bytes and written those.
+pub record Serves (source source' : SourceState) (sink sink' : SinkState) (marks : List Mark) (end : SessionEnd) : Type 0 where
+  pub read : List ℕ
+  -- bytes that the source gave and that were not looked at
+  pub unread : List ℕ
+  pub is_whole : Bool
+  pub written : List ℕ
+  pub gives : Gives source source' (read ++ unread)
+  pub takes : Takes sink sink' written
+  pub answers : Answers read is_whole written marks end
+  pub at_end : is_whole ≡ true → IsAtEnd source'.left × (unread ≡ [])
+  pub source_fault : end ≡ Source → Rose source.faults source'.faults × (unread ≡ [])
+  pub sink_fault : end ≡ Sink → Rose sink.faults sink'.faults
