@@ -8,7 +8,7 @@ use Rattle.cell_values.specs.declared.datum.Datum.TheVariants.{Int, Bad}
 use Rattle.cell_values.specs.declared.datum.FaultKind.{FaultKind}
 use Rattle.afl_parser.specs.Term.{Term}
 use Rattle.afl_run.specs.ExprValue.{value}
-use Rattle.afl_run.specs.Built.{Fault, Placed, cells_at, numbers_from, fault_or, first_fault, line_of}
+use Rattle.afl_run.specs.Built.{Fault, CellAt, cells_at, numbers_from, fault_or, first_fault, line_of}
 use Rattle.afl_run.specs.Reply.{fault_reply, fault_or_text}
 use Rattle.afl_run.specs.declared.reply.Reply.{Reply}
 
@@ -17,7 +17,7 @@ reply_or at (Bad kind) later = fault_reply (record { at = at; kind = kind })
 reply_or at v later = later
 
 -- the reply with these cells to come behind a text
-abbrev pub onto : List ℕ → List Placed → Reply
+abbrev pub onto : List ℕ → List CellAt → Reply
 onto text [] = record { text = text; refusal = None }
 onto text (cell ∷ cells) = reply_or cell.at cell.value (onto (text ++ line_of cell) cells)
 
@@ -25,7 +25,7 @@ later_is : (at : ℤ) (v : Datum) (later : Reply) (o : Option Fault) (text : Lis
 later_is at (Bad kind) later o text e = refl
 later_is at _ later o text e = e
 
-pub onto_is : (text : List ℕ) (cells : List Placed) → onto text cells ≡ fault_or_text (first_fault cells) (text ++ flat_map line_of cells)
+pub onto_is : (text : List ℕ) (cells : List CellAt) → onto text cells ≡ fault_or_text (first_fault cells) (text ++ flat_map line_of cells)
 onto_is text [] = ap (λ (t : List ℕ). fault_or_text None t) (sym (append-nil text))
 onto_is text (cell ∷ cells) =
     later_is cell.at cell.value (onto (text ++ line_of cell) cells) (first_fault cells) (text ++ (line_of cell ++ flat_map line_of cells))
@@ -50,7 +50,7 @@ module _ (tree : Term) (text : List ℕ) where
       ∙ ap (λ (v : Datum). reply_or at v (onto (text ++ line_of (record { at = at; value = v })) (cells_at tree (numbers_from (at +ℤ pos 1) later)))) is
 
 -- what is told of the cells that are left, behind the text so far, is told of all of them
-module _ (tree : Term) (text head : List ℕ) (cells : List Placed) (at : ℤ) (left : ℕ) (same : onto text (cells_at tree (numbers_from at left)) ≡ onto head cells) where
+module _ (tree : Term) (text head : List ℕ) (cells : List CellAt) (at : ℤ) (left : ℕ) (same : onto text (cells_at tree (numbers_from at left)) ≡ onto head cells) where
   pub done : left ≡ 0 → record { text = text; refusal = None } ≡ fault_or_text (first_fault cells) (head ++ flat_map line_of cells)
   done none = sym (ends tree text at left none) ∙ same ∙ onto_is head cells
 

@@ -14,7 +14,7 @@ use Rattle.afl_run.specs.ExprValue.{value}
 -- Cells
 
 -- a cell with one value, and its coordinate
-pub record Placed : Type 0 where
+pub record CellAt : Type 0 where
   pub at : ℤ
   pub value : Datum
 
@@ -33,11 +33,11 @@ numbers_from first zero = []
 numbers_from first (suc n) = first ∷ numbers_from (first +ℤ pos 1) n
 
 -- the cells at these coordinates
-abbrev pub cells_at : Term → List ℤ → List Placed
+abbrev pub cells_at : Term → List ℤ → List CellAt
 cells_at tree = map (λ at. record { at = at; value = value tree at })
 
 -- the cells from `lo` to `hi`
-abbrev pub cells_between : Term → ℤ → ℤ → List Placed
+abbrev pub cells_between : Term → ℤ → ℤ → List CellAt
 cells_between tree lo hi = cells_at tree (numbers_from lo (count_between lo hi))
 
 -- The first fault
@@ -52,7 +52,7 @@ fault_or at (Bad kind) later = Some (record { at = at; kind = kind })
 fault_or at value later = later
 
 -- the fault of the first cell that has one
-abbrev pub first_fault : List Placed → Option Fault
+abbrev pub first_fault : List CellAt → Option Fault
 first_fault [] = None
 first_fault (cell ∷ cells) = fault_or cell.at cell.value (first_fault cells)
 
@@ -68,9 +68,9 @@ abbrev pub header : List ℕ → List ℕ → List ℕ
 header dimension attribute = codes "{" ++ dimension ++ codes "} " ++ attribute ++ codes "\n"
 
 -- `{3} 9`
-abbrev pub line_of : Placed → List ℕ
+abbrev pub line_of : CellAt → List ℕ
 line_of cell = codes "{" ++ signed_decimal cell.at ++ codes "} " ++ spelled cell.value ++ codes "\n"
 
 -- the header, and a line for each cell
-abbrev pub printed : List ℕ → List ℕ → List Placed → List ℕ
+abbrev pub printed : List ℕ → List ℕ → List CellAt → List ℕ
 printed dimension attribute cells = header dimension attribute ++ flat_map line_of cells

@@ -1,7 +1,7 @@
 -- The value of an expression over one dimension, at a coordinate.
 --
--- A number is worth itself, the dimension's name the coordinate, and a group what it holds. What a sign makes of the
--- values beside it is the table of values'. An expression of numbers has no other parts.
+-- A number is worth itself, a name the coordinate, since only the dimension's name stands there, and a group what it holds.
+-- What a sign makes of the values beside it is the table of values'. An expression of numbers has no other parts.
 use Rattle.std.specs.Prelude.{ℤ, Result, Ok, Err}
 use Rattle.cell_values.specs.declared.datum.Datum.{Datum}
 use Rattle.cell_values.specs.declared.datum.Datum.TheVariants.{Null, Int, Bad}

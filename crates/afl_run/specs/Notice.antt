@@ -1,5 +1,5 @@
 -- How a run ends: its notice, the line that the notice is printed as, and its status.
-use Rattle.std.specs.Prelude.{ℕ, Bool, true, false, List, [], ◌++◌, codes, Option, Some, is_some}
+use Rattle.std.specs.Prelude.{ℕ, Bool, true, false, List, [], ◌++◌, codes, Option, None, Some}
 use Rattle.std.specs.List.{list_any}
 use Rattle.std.specs.Fmt.{decimal}
 use Rattle.afl_run.specs.declared.reply.Refusal.{Refusal}
@@ -24,11 +24,18 @@ line_of_notice (Usage word) = codes "aflshell: usage at word " ++ decimal word +
 line_of_notice (Stream session) = codes "aflshell: stream fault in session " ++ decimal session ++ codes "\n"
 line_of_notice Memory = codes "aflshell: out of memory\n"
 
+-- no memory was found for the reply
 abbrev pub is_want : Option Refusal → Bool
 is_want (Some refusals.Memory) = true
 is_want _ = false
 
--- by the session's end, and by whether some statement found no memory, and some was refused
+-- the statement was refused for another reason
+abbrev pub is_refusal : Option Refusal → Bool
+is_refusal None = false
+is_refusal (Some refusals.Memory) = false
+is_refusal _ = true
+
+-- by the session's end, and by whether some statement found no memory, and some was refused for another reason
 abbrev pub notice_at : SessionEnd → Bool → Bool → Notice
 notice_at ends.Memory wants refused = Memory
 notice_at end true refused = Memory
@@ -40,4 +47,4 @@ notice_at ends.Whole false false = Done
 -- the notice of a run with one session, which ended so and made these marks: want of memory comes before a stream's fault,
 -- and that before a refusal
 abbrev pub notice_of : SessionEnd → List Mark → Notice
-notice_of end marks = notice_at end (list_any (λ mark. is_want mark.refusal) marks) (list_any (λ mark. is_some mark.refusal) marks)
+notice_of end marks = notice_at end (list_any (λ mark. is_want mark.refusal) marks) (list_any (λ mark. is_refusal mark.refusal) marks)

@@ -5,10 +5,10 @@ use Rattle.afl_outside.specs.Counts.{Rose}
 use Rattle.afl_outside.specs.Source.{SourceState}
 use Rattle.afl_outside.specs.Sink.{SinkState}
 use Rattle.afl_outside.specs.Shelf.{ShelfState}
-use Rattle.afl_run.specs.Session.{Answers}
+use Rattle.afl_run.specs.Session.{Replies}
 use Rattle.afl_run.specs.declared.report.Mark.{Mark}
 use Rattle.afl_run.specs.declared.report.SessionEnd.{SessionEnd}
-use Rattle.afl_run.specs.declared.report.SessionEnd.TheVariants.{Whole}
+use Rattle.afl_run.specs.declared.report.SessionEnd.TheVariants.{Source, Sink}
 
 -- the name of the standard streams
 abbrev pub standard : List ℕ
@@ -27,22 +27,21 @@ pub record IsOpenedAs (asked : List ℕ) (shelf : ShelfState) (source : SourceSt
   pub script : IfSome (shelf.scripts asked) (λ bytes. source.first ≡ Some bytes)
   pub reply : IfSome (shelf.replies asked) (λ bytes. sink.first ≡ Some bytes)
 
--- A session's streams at its end: some front of the script was read, at the end Whole all of it, and the sink holds its
--- first bytes and behind them what was written.
+-- A session's streams at its end. What was read, and what was not looked at, are the script without the bytes that the source
+-- has left. Behind its first bytes the sink holds what was written.
 pub record Prints (source : SourceState) (sink : SinkState) (marks : List Mark) (end : SessionEnd) : Type 0 where
   pub read : List ℕ
+  pub unread : List ℕ
   pub is_whole : Bool
   pub written : List ℕ
-  pub script : IfSome source.first (λ script. (left : List ℕ) × (script ≡ read ++ left) × (is_whole ≡ true → left ≡ []))
-  pub at_end : end ≡ Whole → IsAtEnd source.left
+  pub script : IfSome source.first (λ script. (left : List ℕ) × (source.left ≡ Some left) × (script ≡ (read ++ unread) ++ left))
   pub text : IfSome sink.first (λ begun. sink.held ≡ Some (begun ++ written))
-  pub answers : Answers read is_whole written marks end
+  pub replies : Replies end is_whole read marks written
+  pub at_end : is_whole ≡ true → IsAtEnd source.left × (unread ≡ [])
+  pub source_fault : end ≡ Source → Rose 0 source.faults × (unread ≡ [])
+  pub sink_fault : end ≡ Sink → Rose 0 sink.faults
 
--- a count of the shelf rose, which had not told that it opens both names
+-- a count of the shelf rose, which had not told that it opens the script and the reply of this name
 pub record IsUnopened (asked : List ℕ) (old new : ShelfState) : Type 0 where
   pub rose : Rose old.faults new.faults
   pub untold : (old.scripts asked ≡ None) ⊎ (old.replies asked ≡ None)
-
--- a count of the source or of the sink rose, from 0
-abbrev pub HasFault : SourceState → SinkState → Type 0
-HasFault source sink = Rose 0 source.faults ⊎ Rose 0 sink.faults

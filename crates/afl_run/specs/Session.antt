@@ -2,8 +2,9 @@
 --
 -- The statements of its script are answered in order, each by its reply, or by the line that no memory was found for it.
 -- At the end Whole all was read, answered and written. Where the source failed, the bytes read since the last `;` are no
--- statement, and all others are answered. At another end some first statements are, and the sink has a front of their texts.
-use Rattle.std.specs.Prelude.{◌≡◌, ◌⊎◌, ℕ, Bool, true, false, List, [], ◌∷◌, ◌++◌, Option, Some, None}
+-- statement, and all others are answered. At another end some first statements are answered; the texts of all but the last of
+-- them are written, and a front of the last one's.
+use Rattle.std.specs.Prelude.{◌≡◌, ◌⊎◌, ℕ, ◌≤◌, Bool, true, false, List, [], ◌∷◌, ◌++◌, length, Option, Some, None}
 use Rattle.std.specs.List.{concat}
 use Rattle.std.specs.Io.KnownBytes.{IsAtEnd}
 use Rattle.afl_lexer.specs.Split.{Statement, statements, closed_statements}
@@ -40,28 +41,43 @@ abbrev pub decided : Bool → List ℕ → List Statement
 decided true script = statements script
 decided false script = closed_statements script
 
--- over the bytes that were read a session has written these bytes and made these marks, and ended so
-pub record Answers (read : List ℕ) (is_whole : Bool) (written : List ℕ) (marks : List Mark) (end : SessionEnd) : Type 0 where
+-- these statements are all answered, by these marks and these bytes
+pub record AnswersAll (statements : List Statement) (marks : List Mark) (written : List ℕ) : Type 0 where
+  pub texts : List (List ℕ)
+  pub each : AreAnswered statements marks texts
+  pub whole : written ≡ concat texts
+
+-- some first ones of these statements are answered by these marks; these bytes are their texts, of which the last may lack its end
+pub record AnswersFront (statements : List Statement) (marks : List Mark) (written : List ℕ) : Type 0 where
   pub answered : List Statement
   pub unanswered : List Statement
+  pub in_order : statements ≡ answered ++ unanswered
+  -- the texts that were written whole, and at most one that was begun
   pub texts : List (List ℕ)
+  pub begun : List (List ℕ)
+  pub at_most_one : length begun ≤ 1
+  pub each : AreAnswered answered marks (texts ++ begun)
+  pub front : List ℕ
   pub unwritten : List ℕ
-  pub in_order : decided is_whole read ≡ answered ++ unanswered
-  pub each : AreAnswered answered marks texts
-  pub front : concat texts ≡ written ++ unwritten
-  pub whole : end ≡ Whole → (is_whole ≡ true) × (unanswered ≡ []) × (unwritten ≡ [])
-  pub source : end ≡ Source → (is_whole ≡ false) × (unanswered ≡ []) × (unwritten ≡ [])
+  pub parts : concat begun ≡ front ++ unwritten
+  pub printed : written ≡ concat texts ++ front
+
+-- what a session that ended so has answered of the bytes that it read, which are the whole script or not
+abbrev pub Replies : SessionEnd → Bool → List ℕ → List Mark → List ℕ → Type 0
+Replies Whole is_whole read marks written = (is_whole ≡ true) × AnswersAll (statements read) marks written
+Replies Source is_whole read marks written = (is_whole ≡ false) × AnswersAll (closed_statements read) marks written
+Replies _ is_whole read marks written = AnswersFront (decided is_whole read) marks written
 
 -- Between its start and its end a session has read these bytes and written those.
 pub record Serves (source source' : SourceState) (sink sink' : SinkState) (marks : List Mark) (end : SessionEnd) : Type 0 where
   pub read : List ℕ
-  -- bytes that the source gave and that were not looked at
+  -- bytes that the source gave, and that were not looked at
   pub unread : List ℕ
   pub is_whole : Bool
   pub written : List ℕ
   pub gives : Gives source source' (read ++ unread)
   pub takes : Takes sink sink' written
-  pub answers : Answers read is_whole written marks end
+  pub replies : Replies end is_whole read marks written
   pub at_end : is_whole ≡ true → IsAtEnd source'.left × (unread ≡ [])
   pub source_fault : end ≡ Source → Rose source.faults source'.faults × (unread ≡ [])
   pub sink_fault : end ≡ Sink → Rose sink.faults sink'.faults

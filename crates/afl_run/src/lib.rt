@@ -1,9 +1,16 @@
 //! The top call of the shell.
 #![tactic(auto)]
 
+mod arg;
 mod reply;
 mod report;
+mod session;
+mod streams;
+mod top;
 mod value;
 
-pub use reply::{Refusal, Reply, reply_to};
+pub use arg::Arg;
+pub use reply::Refusal;
 pub use report::{Mark, Notice, Report, SessionEnd, SessionReport, notice_line};
+pub use session::serve;
+pub use top::run;

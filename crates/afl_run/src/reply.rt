@@ -1,7 +1,7 @@
 //! The reply to a statement.
 ghost use Rattle.std.specs.Prelude.{◌≡◌, ◌≤◌, ◌++◌, ◌<◌, ◌+ℤ◌, pos, length, IsTrue, IfOk, OnOk, All};
 ghost use Rattle.cell_values.specs.declared.datum.Datum.{Datum};
-ghost use Rattle.afl_run.specs.Built.{Fault, Placed, cells_between, count_between, first_fault, header, line_of, printed};
+ghost use Rattle.afl_run.specs.Built.{Fault, CellAt, cells_between, count_between, first_fault, header, line_of, printed};
 ghost use Rattle.afl_parser.specs.FirstForm.{is_plain};
 ghost use Rattle.afl_run.specs.Reply.{IsReplyTo, fault_line, fault_or_text, fault_reply, kind_text, not_built, reply_to_build};
 
@@ -24,13 +24,13 @@ pub enum Refusal {
 
 /// What a statement is answered.
 #[derive(Debug, Drop, PartialEq, Eq)]
-pub struct Reply {
+pub(crate) struct Reply {
     pub text: Bytes,
     pub refusal: Option<Refusal>,
 }
 
 /// The reply to a statement's bytes.
-pub fn reply_to(alloc: Global, text: &[u8]) -> Result<Reply, Memory>
+pub(crate) fn reply_to(alloc: Global, text: &[u8]) -> Result<Reply, Memory>
     requires { length text.now ≤ 1048576 }
     ensures { IfOk result (IsReplyTo text.now) }
 {
