@@ -1,5 +1,5 @@
 -- One statement more is answered.
-use Rattle.std.proofs.Common.{◌≡◌, ℕ, List, [], ◌∷◌, ◌++◌, take, drop, Result, Ok, Err, OnOk, OnErr, IfErr, IsErrOf, refl, sym, ◌∙◌, ap, subst, arith, append-nil}
+use Rattle.std.proofs.Common.{◌≡◌, ℕ, List, [], ◌∷◌, ◌++◌, take, drop, Option, Some, inl, inr, Result, Ok, Err, OnOk, OnErr, IfErr, IsErrOf, refl, sym, ◌∙◌, ap, subst, arith, append-nil}
 use Rattle.std.proofs.lemmas.List.{take-append-drop}
 use Rattle.std.proofs.lemmas.List.Folds.{concat-append}
 use Rattle.std.specs.List.{concat}
@@ -7,8 +7,11 @@ use Rattle.afl_lexer.specs.Split.{Statement}
 use Rattle.afl_outside.specs.Counts.{Rose}
 use Rattle.afl_outside.specs.Sink.{SinkState, Takes}
 use Rattle.afl_outside.proofs.Streams.{Takes-more}
-use Rattle.afl_run.specs.Session.{AreAnswered, IsAnswered}
-use Rattle.afl_run.specs.Serving.{HasAnswered, HasStopped}
+use Rattle.afl_run.specs.Reply.{memory_line}
+use Rattle.afl_run.specs.Session.{AreAnswered, IsAnswered, IsReplyToStatement}
+use Rattle.afl_run.specs.Serving.{HasAnswered, HasStopped, mark_at, statement_at}
+use Rattle.afl_run.specs.declared.reply.Refusal.TheVariants as refusals
+use Rattle.afl_run.specs.declared.reply.Reply.{Reply}
 use Rattle.afl_run.specs.declared.report.Mark.{Mark}
 use Rattle.afl_run.specs.declared.streams.Stopped.{Stopped}
 use Rattle.afl_run.specs.declared.streams.Stopped.TheVariants.{Fault, Memory}
@@ -24,6 +27,24 @@ AreAnswered-snoc (s' ∷ ss) (m' ∷ ms) [] s m t all one = absurd all
 
 concat-snoc : (ts : List (List ℕ)) (t : List ℕ) → concat (ts ++ t ∷ []) ≡ concat ts ++ t
 concat-snoc ts t = concat-append ts (t ∷ []) ∙ ap (λ (x : List ℕ). concat ts ++ x) (append-nil t)
+
+-- a statement's mark and text are those of its reply
+pub replied : (start end : ℕ) (text : Option (List ℕ)) (reply : Reply) (written : List ℕ) → written ≡ reply.text → IsReplyToStatement text reply
+    → IsAnswered (statement_at start end text) (mark_at start end reply.refusal) written
+replied start end text reply written is replies = record {
+  start = refl;
+  end = refl;
+  place = refl;
+  reply = inl (subst (λ (t : List ℕ). IsReplyToStatement text (record { text = t; refusal = reply.refusal })) (sym is) replies);
+}
+
+-- they tell that no memory was found for it
+pub unreplied : (start end : ℕ) (text : Option (List ℕ)) → IsAnswered (statement_at start end text) (mark_at start end (Some refusals.Memory)) memory_line
+unreplied start end text = record { start = refl; end = refl; place = refl; reply = inr (refl, refl) }
+
+-- a mark was added where room was made for it
+pub kept_after : (old reserved new : List Mark) (mark : Mark) → new ≡ reserved ++ mark ∷ [] → reserved ≡ old → new ≡ old ++ mark ∷ []
+kept_after old reserved new mark added same = added ∙ ap (λ (ms : List Mark). ms ++ mark ∷ []) same
 
 -- no room was found for its mark
 pub stops_before : (origin now : SinkState) (before more : List Statement) (marks : List Mark) → HasAnswered origin now before marks

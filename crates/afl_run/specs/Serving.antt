@@ -5,6 +5,7 @@ use Rattle.afl_lexer.specs.Standing.{Splitting, StandsAfter}
 use Rattle.afl_outside.specs.Counts.{Rose}
 use Rattle.afl_outside.specs.Sink.{SinkState, Takes}
 use Rattle.afl_run.specs.Session.{AnswersAll, AnswersFront, Replies}
+use Rattle.afl_run.specs.declared.reply.Refusal.{Refusal}
 use Rattle.afl_run.specs.declared.report.Mark.{Mark}
 use Rattle.afl_run.specs.declared.streams.Stopped.{Stopped}
 use Rattle.afl_run.specs.declared.streams.Stopped.TheVariants.{Fault}
@@ -15,6 +16,10 @@ use Rattle.afl_run.specs.declared.report.SessionEnd.TheVariants.{Sink}
 
 abbrev pub statement_at : ℕ → ℕ → Option (List ℕ) → Statement
 statement_at start end text = record { start = start; end = end; text = text }
+
+-- the mark of that statement, which rests on no entry of a history
+abbrev pub mark_at : ℕ → ℕ → Option Refusal → Mark
+mark_at start end refusal = record { start = start; end = end; place = 0; refusal = refusal }
 
 -- since a start these statements were all answered
 pub record HasAnswered (start now : SinkState) (statements : List Statement) (marks : List Mark) : Type 0 where

@@ -6,6 +6,8 @@ mod reply;
 mod report;
 mod session;
 mod streams;
+#[cfg(test)]
+mod tests;
 mod top;
 mod value;
 

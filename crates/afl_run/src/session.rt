@@ -3,7 +3,7 @@ ghost use Rattle.std.specs.Prelude.{◌≡◌, ℕ, List, [], ◌∷◌, ◌++�
 ghost use Rattle.afl_lexer.specs.Split.{Statement};
 ghost use Rattle.afl_lexer.specs.Standing.{StandsAfter, told};
 ghost use Rattle.afl_outside.specs.Sink.{SinkState};
-ghost use Rattle.afl_run.specs.Serving.{EndsServing, HasAnswered, HasStopped, IsServing, StopsWithin, end_of, statement_at};
+ghost use Rattle.afl_run.specs.Serving.{EndsServing, HasAnswered, HasStopped, IsServing, StopsWithin, end_of, mark_at, statement_at};
 ghost use Rattle.afl_run.specs.Session.{IsReplyToStatement, Serves};
 
 use crate::reply::{Refusal, Reply, refuse_form, reply_to};
@@ -69,7 +69,7 @@ fn answer_statement<K: Sink>(
 
 fn keep_mark(marks: &mut Vec<Mark>, start: u64, end: u64, refusal: Option<Refusal>)
     requires { vec_len marks.old < vec_capacity marks.old }
-    ensures { marks.new.items ≡ marks.old.items ++ record { start = start; end = end; place = 0; refusal = refusal } ∷ [] }
+    ensures { marks.new.items ≡ marks.old.items ++ mark_at start end refusal ∷ [] }
 {
     marks.push_reserved(Mark {
         start,
