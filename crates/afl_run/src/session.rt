@@ -100,29 +100,11 @@ impl<K: Sink> Session<K> {
             IfErr result (HasStopped origin (K.state self.new.sink) (before ++ told step self.old.splitter) self.new.marks.items) }
     {
         let (start, end, bytes) = self.splitter.piece();
+        let (alloc, sink, marks) = (self.alloc, &mut self.sink, &mut self.marks);
         match step {
             SplitStep::More | SplitStep::Blank => Ok(()),
-            SplitStep::Piece => {
-                let text = Some(bytes);
-                answer_statement(
-                    self.alloc,
-                    start,
-                    end,
-                    text,
-                    &mut self.sink,
-                    &mut self.marks,
-                )
-            }
-            SplitStep::TooLong => {
-                answer_statement(
-                    self.alloc,
-                    start,
-                    end,
-                    None,
-                    &mut self.sink,
-                    &mut self.marks,
-                )
-            }
+            SplitStep::Piece => answer_statement(alloc, start, end, Some(bytes), sink, marks),
+            SplitStep::TooLong => answer_statement(alloc, start, end, None, sink, marks),
         }
     }
 
