@@ -1,0 +1,6 @@
+pub mod Grammar
+pub mod Statement
+pub mod Term
+pub mod TermCode
+pub mod TreeFalls
+pub mod View
