@@ -1,3 +1,4 @@
+pub mod FirstForm
 pub mod Grammar
 pub mod Statement
 pub mod Term
