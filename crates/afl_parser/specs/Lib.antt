@@ -1,5 +1,6 @@
 pub mod FirstForm
 pub mod Grammar
+pub mod Machine
 pub mod Statement
 pub mod Term
 pub mod TermCode

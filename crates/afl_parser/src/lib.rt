@@ -1,8 +1,12 @@
 //! Syntax trees of statements, the grammar, and its parser.
 #![tactic(auto)]
 
+pub mod frame;
+pub mod grown;
 pub mod kind;
 pub mod tree;
 
+pub use frame::{Focus, Frame, Stack};
+pub use grown::{Arguments, Grown};
 pub use kind::{ParseFault, ParseKind, StopKind};
 pub use tree::{BinaryOp, Node, Tree};
