@@ -155,14 +155,14 @@ abbrev mutual
   SpellsMore (and_term t ts) r xs zs = (w : Span) × (ys : List Placed) × (ws : List Placed) × (xs ≡ placed (Symbol symbol.Comma) w ∷ ys) × Spells t ys ws × SpellsMore ts r ws zs
 
 -- `create array` with a name and a schema
-abbrev pub SpellsCreate : Term → List Placed → Type 0
-SpellsCreate (create s n m) xs = (c : Span) × (a : Span) × (b : Span) × (e : Span) × (ys : List Placed)
-    × (xs ≡ placed (Word Create) c ∷ placed (Word Array) a ∷ placed (Name n) b ∷ ys) × (s ≡ across c e) × SpellsSchema m e ys []
-SpellsCreate _ xs = ⊥
+abbrev pub SpellsCreate : Term → List Placed → List Placed → Type 0
+SpellsCreate (create s n m) xs zs = (c : Span) × (a : Span) × (b : Span) × (e : Span) × (ys : List Placed)
+    × (xs ≡ placed (Word Create) c ∷ placed (Word Array) a ∷ placed (Name n) b ∷ ys) × (s ≡ across c e) × SpellsSchema m e ys zs
+SpellsCreate _ xs zs = ⊥
 
 -- the tokens are a statement, and this is its tree
 abbrev pub Derives : List Placed → Term → Type 0
-Derives ts t = SpellsCreate t ts ⊎ ((1 ≤ line t) × Spells t ts [])
+Derives ts t = SpellsCreate t ts [] ⊎ ((1 ≤ line t) × Spells t ts [])
 
 -- A tree without parts has height 1. So a root has depth 1, and the height is the greatest depth.
 abbrev mutual

@@ -1,6 +1,8 @@
 pub mod FirstForm
 pub mod Grammar
 pub mod Machine
+pub mod Outcome
+pub mod Reply
 pub mod Statement
 pub mod Term
 pub mod TermCode

@@ -58,7 +58,3 @@ pub record StopsAtToken (text : List ℕ) (at : ℕ) (kind : ParseKind) : Type 0
 -- where the text stops to be the front of a statement, and why
 abbrev pub StopsText : List ℕ → ℕ → ParseKind → Type 0
 StopsText text at kind = StopsInToken text at kind ⊎ StopsAtToken text at kind
-
--- Each text has a tree or a stop, and never both.
-abbrev pub HasTreeOrStop : List ℕ → Type 0
-HasTreeOrStop text = ((t : Term) × DerivesText text t) ⊎ ((at : ℕ) × (kind : ParseKind) × StopsText text at kind)
