@@ -250,6 +250,12 @@ high_again (pos n) us rest e = cases (n == 4611686018427387903) refl e
         (s, vs, m, inl (inl (n, refl, f)))
 high_again (negsuc n) us rest e = let (s, vs, m, h) = bound_again (negsuc n) us rest e in (s, vs, m, inl h)
 
+-- four tokens, one by one
+four : (a b c d : Lexeme) (s1 s2 s3 s4 : Span) (us vs ws xs ys : List Placed) → us ≡ placed a s1 ∷ vs → vs ≡ placed b s2 ∷ ws → ws ≡ placed c s3 ∷ xs → xs ≡ placed d s4 ∷ ys
+    → us ≡ placed a s1 ∷ placed b s2 ∷ placed c s3 ∷ placed d s4 ∷ ys
+four a b c d s1 s2 s3 s4 us vs ws xs ys h1 h2 h3 h4 =
+    h1 ∙ ap (λ l. placed a s1 ∷ l) h2 ∙ ap (λ l. placed a s1 ∷ placed b s2 ∷ l) h3 ∙ ap (λ l. placed a s1 ∷ placed b s2 ∷ placed c s3 ∷ l) h4
+
 dim_again : (d : DimText) (us : List Placed) (rest : List Mark) → whats us ≡ said (dim_marks d rest)
     → (u : DimText) × (vs : List Placed) × (whats vs ≡ said rest) × (bare_dim u ≡ bare_dim d) × SpellsDim u us vs
 dim_again d us rest e =
@@ -264,8 +270,7 @@ dim_again d us rest e =
     let (f2, ds, h3, p3) = front (a_symbol Comma) (a_number (pos d.overlap) ∷ said rest) cs p2 in
     let (v, es, h4, p4) = front (a_number (pos d.overlap)) (said rest) ds p3 in
     let ends : after ≡ placed (a_symbol Comma) f1 ∷ placed (a_number (pos d.chunk)) k ∷ placed (a_symbol Comma) f2 ∷ placed (a_number (pos d.overlap)) v ∷ es
-    = h1 ∙ ap (λ l. placed (a_symbol Comma) f1 ∷ l) h2 ∙ ap (λ l. placed (a_symbol Comma) f1 ∷ placed (a_number (pos d.chunk)) k ∷ l) h3
-    ∙ ap (λ l. placed (a_symbol Comma) f1 ∷ placed (a_number (pos d.chunk)) k ∷ placed (a_symbol Comma) f2 ∷ l) h4 in (
+    = four (a_symbol Comma) (a_number (pos d.chunk)) (a_symbol Comma) (a_number (pos d.overlap)) f1 k f2 v after bs cs ds es h1 h2 h3 h4 in (
       record {
         name = d.name;
         name_span = s;

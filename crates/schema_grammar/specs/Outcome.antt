@@ -18,7 +18,8 @@ pub record IsSchemaAt (text : List ℕ) (tokens : List Token) (from : ℕ) (sche
   pub span : Span
   pub spelled : SpellsSchema schema span (lexemes text (drop from tokens)) (lexemes text (drop next tokens))
 
--- the tokens can be continued to a schema
+-- The tokens can be continued to a schema. What they are continued by may be what no token says, as an empty name:
+-- where one name can stand, so can each other.
 abbrev pub IsFront : List Placed → Type 0
 IsFront xs = (more : List Placed) × (schema : SchemaText) × (span : Span) × SpellsSchema schema span (xs ++ more) []
 

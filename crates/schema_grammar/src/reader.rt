@@ -393,7 +393,7 @@ fn after_dimension(
     }
 }
 
-/// Reads one token of a schema.
+/// Reads one token of a schema. Called token after token, as `shape` does, it comes to the schema's syntax tree.
 pub fn read_shape(
     alloc: Global,
     text: &[u8],
