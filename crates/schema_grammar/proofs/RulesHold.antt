@@ -1,15 +1,13 @@
 -- The rules of a schema that is valid hold.
-use Rattle.std.proofs.Common.{◌≡◌, ℕ, ◌+◌, ◌≤◌, ◌<◌, Bool, true, false, not, cond, ◌&&◌, ◌||◌, List, [], ◌∷◌, ◌++◌, map, length, Option, Some, None, is_some, refl, sym, ap, subst, ◌∙◌, arith, append_assoc}
-use Rattle.std.specs.Prelude.{nat_le, nat_lt, int_le}
-use Rattle.std.specs.List.{list_all, list_any, find, AllByRecursion}
+use Rattle.std.proofs.Common.{◌≡◌, ℕ, ◌+◌, ◌≤◌, Bool, true, false, not, cond, ◌&&◌, ◌||◌, List, [], ◌∷◌, ◌++◌, map, length, Some, None, is_some, refl, sym, ap, ◌∙◌, arith, append_assoc}
+use Rattle.std.specs.Prelude.{nat_le}
+use Rattle.std.specs.List.{list_all, find, AllByRecursion}
 use Rattle.std.specs.Option.{option_map}
 use Rattle.std.specs.Str.{bytes_eq}
 use Rattle.std.proofs.lemmas.Bool.{and_parts, or_parts, not-true, leb-true, lt-ltb}
 use Rattle.std.proofs.lemmas.List.{length-map, length-append, append-nil}
 use Rattle.std.proofs.lemmas.List.Folds.{list_any-append}
 use Rattle.cell_values.specs.Schemas.{attribute_names, dimension_names, names_of, is_among, are_distinct, has_attributes, has_dimensions, is_dimension, is_bound, bounds_in_range, bounds_in_order, has_chunk, overlap_fits, frame_fits, IsValid}
-use Rattle.cell_values.specs.declared.schema.Attribute.{Attribute}
-use Rattle.cell_values.specs.declared.schema.Dimension.{Dimension}
 use Rattle.schema_grammar.specs.declared.shape_text.SchemaText.{SchemaText}
 use Rattle.schema_grammar.specs.declared.shape_text.AttrText.{AttrText}
 use Rattle.schema_grammar.specs.declared.shape_text.DimText.{DimText}

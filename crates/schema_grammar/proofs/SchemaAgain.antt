@@ -1,11 +1,11 @@
 -- The text of a schema is read as the schema.
-use Rattle.std.proofs.Common.{◌≡◌, ◌≢◌, ℕ, zero, suc, ◌+◌, ◌*◌, ◌≤◌, ◌<◌, ◌^◌, Bool, true, false, ◌&&◌, List, [], ◌∷◌, ◌++◌, map, length, drop, slice_index_or, Some, is_some, refl, sym, ap, subst, ◌∙◌, arith}
-use Rattle.std.specs.Prelude.{nat_le, unsigned_abs, unwrap_or, codes}
-use Rattle.std.specs.List.{All, list_all, AllByRecursion, join_with_byte}
+use Rattle.std.proofs.Common.{◌≡◌, ◌≢◌, ℕ, suc, ◌*◌, ◌≤◌, true, ◌&&◌, List, [], ◌∷◌, map, length, drop, Some, is_some, refl, sym, ap, subst, ◌∙◌, arith}
+use Rattle.std.specs.Prelude.{nat_le, unsigned_abs, unwrap_or}
+use Rattle.std.specs.List.{All, list_all, AllByRecursion}
 use Rattle.std.proofs.lemmas.Bool.{and_parts, leb-true}
 use Rattle.std.proofs.lemmas.List.{append-nil}
 use Rattle.std.proofs.Math.Seq.{drop-length}
-use Rattle.std.proofs.Math.Nat.{mul-le-mul_left, le-mul_of_pos_right, mul_comm}
+use Rattle.std.proofs.Math.Nat.{le-mul_of_pos_right}
 use Rattle.cell_values.specs.Naming.{IsName}
 use Rattle.cell_values.specs.Schemas.{is_dimension, is_bound, bounds_in_range, bounds_in_order, has_chunk, overlap_fits, has_attributes, has_dimensions, are_distinct, names_of, frame_length, frame_size, frame_fits, IsValid}
 use Rattle.cell_values.specs.declared.schema.Kind.{Kind}
@@ -13,17 +13,17 @@ use Rattle.cell_values.specs.declared.schema.Kind.TheVariants.{Int64, Str, Bool 
 use Rattle.cell_values.specs.declared.schema.Attribute.{Attribute}
 use Rattle.cell_values.specs.declared.schema.Dimension.{Dimension}
 use Rattle.cell_values.specs.declared.schema.Schema.{Schema}
-use Rattle.afl_lexer.specs.Lexemes.{Lexeme, Placed, lexeme_of}
+use Rattle.afl_lexer.specs.Lexemes.{Placed, lexeme_of}
 use Rattle.afl_lexer.specs.declared.token.Token.{Token}
 use Rattle.afl_lexer.specs.Tokens.{AreTokens}
-use Rattle.afl_lexer.specs.Spelling.{Mark, spelled, said, AreApart, lexemes as lexemes_said}
+use Rattle.afl_lexer.specs.Spelling.{spelled, said, lexemes as lexemes_said}
 use Rattle.afl_lexer.proofs.Printing.{read_again}
 use Rattle.schema_grammar.specs.declared.shape_text.SchemaText.{SchemaText}
 use Rattle.schema_grammar.specs.declared.shape_text.AttrText.{AttrText}
 use Rattle.schema_grammar.specs.declared.shape_text.DimText.{DimText}
 use Rattle.schema_grammar.specs.Spelling.{SpellsSchema}
-use Rattle.schema_grammar.specs.Outcome.{lexemes, IsSchemaAt}
-use Rattle.schema_grammar.specs.Rules.{first_broken, kind_named, rules, attribute_of, dimension_of, schema_of}
+use Rattle.schema_grammar.specs.Outcome.{lexemes}
+use Rattle.schema_grammar.specs.Rules.{kind_named, attribute_of, dimension_of, schema_of}
 use Rattle.schema_grammar.specs.SchemaBytes.{kind_bytes, attribute_bytes, dimension_bytes, attr_text_bytes, dim_text_bytes, parts_bytes, schema_bytes, shape_bytes}
 use Rattle.schema_grammar.specs.SchemaMarks.{nowhere, bare_attr, bare_dim, bare_shape, shape_marks, IsAttrPrintable, IsDimPrintable, IsPrintable}
 use Rattle.schema_grammar.specs.ReadAs.{IsReadAs}

@@ -1,10 +1,10 @@
 -- What a schema's syntax tree is printed as is read as the same tree but for places.
-use Rattle.std.proofs.Common.{◌≡◌, ◌≢◌, ◌⊎◌, inl, inr, ℕ, zero, suc, ◌+◌, ◌≤◌, ◌<◌, ◌^◌, ℤ, pos, negsuc, neg_ℤ, Bool, true, false, ◌&&◌, ◌||◌, List, [], ◌∷◌, ◌++◌, map, refl, sym, ap, subst, ◌∙◌, arith, append_assoc}
+use Rattle.std.proofs.Common.{◌≡◌, ◌≢◌, ◌⊎◌, inl, inr, ℕ, suc, ◌≤◌, ◌<◌, ◌^◌, ℤ, pos, negsuc, Bool, true, false, ◌&&◌, List, [], ◌∷◌, ◌++◌, map, refl, sym, ap, subst, ◌∙◌, arith, append_assoc}
 use Rattle.std.specs.Prelude.{◌==◌, nat_le, if◌then◌else◌, unsigned_abs, codes, length, not}
 use Rattle.std.specs.List.{join_with_byte, list_all, AllByRecursion}
 use Rattle.std.specs.Fmt.{decimal, signed_decimal}
 use Rattle.std.proofs.lemmas.Bool.{and_parts, ne_eqb, eqb-true, leb-true, lt-leb, cases_lt}
-use Rattle.cell_values.specs.Naming.{IsName, is_name, is_first_byte, is_digit, is_word_byte, begins_well, is_reserved}
+use Rattle.cell_values.specs.Naming.{IsName, is_first_byte, is_digit, is_word_byte, begins_well, is_reserved}
 use Rattle.cell_values.specs.declared.name.Span.{Span}
 use Rattle.afl_lexer.specs.declared.token.TokenKind.TheVariants.{Name, Int, Word, Symbol}
 use Rattle.afl_lexer.specs.declared.token.Word.TheVariants.{Not, Null}
@@ -12,13 +12,13 @@ use Rattle.afl_lexer.specs.declared.token.Symbol.{Symbol as ASymbol}
 use Rattle.afl_lexer.specs.declared.token.Symbol.TheVariants.{LeftBracket, RightBracket, Less, More, Equal, Comma, Colon, Star, Minus}
 use Rattle.afl_lexer.specs.Lexemes.{Lexeme, a_name, a_number, a_word, a_symbol, Placed}
 use Rattle.afl_lexer.specs.Tokens.{is_number}
-use Rattle.afl_lexer.specs.Spelling.{Mark, a_space, says, spelled, said, kind_of, spelling_of, IsLexeme, EndsBefore, AreApart, lengthens_symbol}
+use Rattle.afl_lexer.specs.Spelling.{Mark, says, spelled, said, EndsBefore, AreApart, lengthens_symbol}
 use Rattle.afl_lexer.proofs.Printing.{lexeme_spelled}
 use Rattle.schema_grammar.specs.declared.shape_text.SchemaText.{SchemaText}
 use Rattle.schema_grammar.specs.declared.shape_text.AttrText.{AttrText}
 use Rattle.schema_grammar.specs.declared.shape_text.DimText.{DimText}
-use Rattle.schema_grammar.specs.Spelling.{placed, across, unbounded, SpellsNull, SpellsAttr, SpellsAttrs, SpellsBound, SpellsHigh, SpellsDim, SpellsDims, SpellsSchema}
-use Rattle.schema_grammar.specs.SchemaBytes.{null_bytes, attr_bytes, high_bytes, bounds_bytes, lengths_bytes, dim_bytes, parts_bytes, attr_text_bytes, dim_text_bytes, shape_bytes}
+use Rattle.schema_grammar.specs.Spelling.{placed, across, SpellsNull, SpellsAttr, SpellsAttrs, SpellsBound, SpellsHigh, SpellsDim, SpellsDims, SpellsSchema}
+use Rattle.schema_grammar.specs.SchemaBytes.{null_bytes, high_bytes, bounds_bytes, lengths_bytes, attr_text_bytes, dim_text_bytes, shape_bytes}
 use Rattle.schema_grammar.specs.SchemaMarks.{nowhere, bare_attr, bare_dim, bare_shape, null_marks, attr_marks, bound_marks, high_marks, lengths_marks, dim_marks, attrs_marks, dims_marks, shape_marks, IsAttrPrintable, IsDimPrintable, IsPrintable}
 
 -- The bytes.

@@ -1,10 +1,10 @@
 -- Schemas among tokens: what the reader's steps say of them.
-use Rattle.std.proofs.Common.{◌≡◌, ℕ, zero, suc, ◌+◌, ◌-◌, ◌≤◌, ◌<◌, List, [], ◌∷◌, ◌++◌, length, map, take, drop, slice_index_or, refl, sym, ap, subst, ◌∙◌, arith, add-one}
+use Rattle.std.proofs.Common.{◌≡◌, ℕ, ◌+◌, ◌-◌, ◌≤◌, ◌<◌, List, [], length, take, drop, slice_index_or, sym, ap, subst, ◌∙◌, arith}
 use Rattle.std.specs.Prelude.{slice_range}
 use Rattle.std.specs.List.{drop-map, take-map}
 use Rattle.std.proofs.lemmas.List.{take_more, length-map, length-drop, drop-drop, take-append-drop}
 use Rattle.std.proofs.Math.ListN.{get_or-map}
-use Rattle.std.proofs.Math.Seq.{take-length, drop-length, drop-cons}
+use Rattle.std.proofs.Math.Seq.{take-length}
 use Rattle.cell_values.specs.declared.name.Span.{Span}
 use Rattle.afl_lexer.specs.Lexemes.{Placed, lexeme_of}
 use Rattle.afl_lexer.specs.declared.token.Token.{Token}

@@ -1,13 +1,10 @@
 -- Where the reader ends a schema, and where it stops.
-use Rattle.std.proofs.Common.{◌≡◌, ℕ, zero, suc, ◌+◌, ◌-◌, ◌≤◌, ◌<◌, List, [], ◌∷◌, ◌++◌, length, map, take, drop, slice_index_or, refl, sym, ap, subst, ◌∙◌, arith, append_assoc}
-use Rattle.std.specs.Prelude.{slice_range}
-use Rattle.std.specs.List.{drop-map, take-map}
-use Rattle.std.proofs.lemmas.List.{take-append-drop, append-nil, take_more, length-map, length-drop, drop-drop}
-use Rattle.std.proofs.Math.Seq.{take-length, drop-length, drop-cons, take-add}
+use Rattle.std.proofs.Common.{◌≡◌, ℕ, ◌+◌, ◌-◌, ◌≤◌, ◌<◌, List, [], ◌∷◌, ◌++◌, length, take, drop, slice_index_or, refl, sym, ap, subst, ◌∙◌, arith}
+use Rattle.std.proofs.lemmas.List.{take-append-drop, append-nil, take_more}
+use Rattle.std.proofs.Math.Seq.{take-length, take-add}
 use Rattle.cell_values.specs.declared.name.Span.{Span}
-use Rattle.afl_lexer.specs.Lexemes.{Placed, a_symbol, lexeme_of}
+use Rattle.afl_lexer.specs.Lexemes.{Placed, a_symbol}
 use Rattle.afl_lexer.specs.declared.token.Symbol.TheVariants.{Comma}
-use Rattle.afl_lexer.specs.declared.token.Token.{Token}
 use Rattle.schema_grammar.specs.declared.shape_text.SchemaText.{SchemaText}
 use Rattle.schema_grammar.specs.declared.state.ShapeState.{ShapeState}
 use Rattle.schema_grammar.specs.declared.state.ShapeState.TheVariants.{Start}
@@ -15,7 +12,7 @@ use Rattle.schema_grammar.specs.declared.state.ShapeStep.{ShapeStep}
 use Rattle.schema_grammar.specs.declared.state.ShapeStep.TheVariants.{On, Whole, Unexpected}
 use Rattle.schema_grammar.specs.Spelling.{placed, SpellsSchema}
 use Rattle.schema_grammar.specs.Reading.{shape_turn, ShapeRun, Read, Open, Stuck, shape_go, shape_run}
-use Rattle.schema_grammar.specs.Outcome.{lexemes, IsSchemaAt, IsFront, StopsAt}
+use Rattle.schema_grammar.specs.Outcome.{IsFront}
 use Rattle.schema_grammar.proofs.ShapeComplete.{shape_read}
 use Rattle.schema_grammar.proofs.ShapeSound.{HoldsShape, HoldsStep, holds_turn}
 use Rattle.schema_grammar.proofs.ShapeEnds.{shape_enders, shape_ends}

@@ -1,32 +1,26 @@
 -- What is read is spelled: the reader holds the tokens that it went over.
-use Rattle.std.proofs.Common.{◌≡◌, ◌⊎◌, inl, inr, ℕ, ℤ, pos, Bool, true, false, List, [], ◌∷◌, ◌++◌, refl, sym, subst}
+use Rattle.std.proofs.Common.{◌≡◌, inl, inr, pos, true, false, List, [], ◌∷◌, ◌++◌, refl, sym, subst}
 use Rattle.cell_values.specs.declared.name.Span.{Span}
 use Rattle.afl_lexer.specs.Lexemes.{Lexeme, a_name, a_number, a_word, a_symbol, Placed}
 use Rattle.afl_lexer.specs.declared.token.Word.TheVariants.{Not, Null}
 use Rattle.afl_lexer.specs.declared.token.Symbol.TheVariants.{LeftBracket, RightBracket, Less, More, Equal, Comma, Colon, Star, Minus}
-use Rattle.schema_grammar.specs.declared.shape_text.SchemaText.{SchemaText}
 use Rattle.schema_grammar.specs.declared.shape_text.AttrText.{AttrText}
 use Rattle.schema_grammar.specs.declared.shape_text.DimText.{DimText}
 use Rattle.schema_grammar.specs.declared.state.Label.{Label}
 use Rattle.schema_grammar.specs.declared.state.Bound.{Bound}
-use Rattle.schema_grammar.specs.declared.state.Count.{Count}
 use Rattle.schema_grammar.specs.declared.state.AttrPlace.{AttrPlace}
 use Rattle.schema_grammar.specs.declared.state.AttrPlace.TheVariants as attr
 use Rattle.schema_grammar.specs.declared.state.DimPlace.{DimPlace}
 use Rattle.schema_grammar.specs.declared.state.DimPlace.TheVariants as dim
 use Rattle.schema_grammar.specs.declared.state.Head.{Head}
-use Rattle.schema_grammar.specs.declared.state.BoundPlace.{BoundPlace}
 use Rattle.schema_grammar.specs.declared.state.BoundPlace.TheVariants.{Low, LowMinus, Lowered, High, HighMinus}
-use Rattle.schema_grammar.specs.declared.state.NumberPlace.{NumberPlace}
 use Rattle.schema_grammar.specs.declared.state.NumberPlace.TheVariants.{Bounded, Chunk, Chunked, Overlap}
-use Rattle.schema_grammar.specs.declared.state.PartStep.{PartStep}
-use Rattle.schema_grammar.specs.declared.state.PartStep.TheVariants as part
 use Rattle.schema_grammar.specs.declared.state.ShapeState.{ShapeState}
 use Rattle.schema_grammar.specs.declared.state.ShapeState.TheVariants.{Start, Attributes, Between, Dimensions}
 use Rattle.schema_grammar.specs.declared.state.ShapeStep.{ShapeStep}
 use Rattle.schema_grammar.specs.declared.state.ShapeStep.TheVariants.{On, Whole, Unexpected}
-use Rattle.schema_grammar.specs.Spelling.{placed, across, unbounded, SpellsNull, SpellsAttr, SpellsAttrs, SpellsBound, SpellsHigh, SpellsDim, SpellsDims, SpellsSchema}
-use Rattle.schema_grammar.specs.Reading.{label, bound, count, attribute, not_null, dimension, whole_schema, head, attr_end, attr_word, attr_step, bound_step, number_step, dim_step, attr_goes, dim_goes, start_turn, between_turn, shape_turn, ShapeRun, Read, Open, Stuck, shape_go, shape_run}
+use Rattle.schema_grammar.specs.Spelling.{placed, SpellsNull, SpellsAttr, SpellsAttrs, SpellsBound, SpellsHigh, SpellsDim, SpellsDims, SpellsSchema}
+use Rattle.schema_grammar.specs.Reading.{attr_end, attr_word, attr_step, dim_step, attr_goes, dim_goes, start_turn, between_turn, shape_turn}
 
 -- these attributes, each with a comma behind it
 abbrev pub PassedAttrs : List AttrText → List Placed → List Placed → Type 0

@@ -1,6 +1,6 @@
 -- The text of a schema: no spaces but those in ` not null`, which stands exactly where an attribute takes no null,
 -- and `*` exactly where a high bound is 4611686018427387903.
-use Rattle.std.specs.Prelude.{ℕ, ℤ, pos, negsuc, Bool, true, false, ◌==◌, nat_lt, if◌then◌else◌, List, [], ◌∷◌, ◌++◌, map, codes}
+use Rattle.std.specs.Prelude.{ℕ, ℤ, pos, negsuc, Bool, true, false, ◌==◌, nat_lt, if◌then◌else◌, List, [], ◌++◌, map, codes}
 use Rattle.std.specs.List.{join_with_byte}
 use Rattle.std.specs.Fmt.{decimal, signed_decimal}
 use Rattle.cell_values.specs.declared.schema.Kind.{Kind}

@@ -1,4 +1,4 @@
-use Rattle.std.proofs.Common.{◌≡◌, ◌+◌, length, sym, ◌∙◌}
+use Rattle.std.proofs.Common.{◌+◌, length, sym, ◌∙◌}
 use Rattle.schema_grammar.specs.Outcome.{IsSchemaAt, StopsAt}
 use Rattle.schema_grammar.proofs.ShapeAt.{next_at, unexpected_at, whole_at, end_at, one_schema_at, no_stop_at, one_stop_at}
 use Rattle.schema_grammar.proofs.shapes.shape.Goals as goal
