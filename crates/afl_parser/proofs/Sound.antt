@@ -68,7 +68,7 @@ opens_expected : (xs zs : List Placed) (b : Bool) (t : Turn) → (b ≡ true →
 opens_expected xs zs true t h = h refl
 opens_expected xs zs false t h = tt
 
-both_of : (a b : Bool) → (a && b) ≡ true → (a ≡ true) × (b ≡ true)
+pub both_of : (a b : Bool) → (a && b) ≡ true → (a ≡ true) × (b ≡ true)
 both_of true b e = (refl, e)
 both_of false b e = cc
 
