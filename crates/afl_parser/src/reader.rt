@@ -1,6 +1,6 @@
 //! The reader: one turn a token.
 ghost use Rattle.std.specs.Prelude.{◌≡◌, ℕ, ◌+◌, ◌≤◌, List, [], ◌∷◌, length, nat_lt, IfOk};
-ghost use Rattle.afl_lexer.specs.Lexemes.{bytes_of, what_of, lexeme_of};
+ghost use Rattle.afl_lexer.specs.Lexemes.{what_of, lexeme_of};
 ghost use Rattle.afl_lexer.specs.Tokens.{IsTokenOf};
 ghost use Rattle.schema_grammar.specs.Reading.{shape_turn};
 ghost use Rattle.afl_parser.specs.Grammar.{op_of};
@@ -9,8 +9,8 @@ ghost use Rattle.afl_parser.specs.Reply.{Gives, GivesWhole};
 
 use crate::tree::across;
 use crate::{Arguments, BinaryOp, Focus, Frame, Grown, Node, Stack, StopKind, Tree};
-use afl_lexer::{Symbol, Token, TokenKind, Word, text_value};
-use cell_values::{Code, List, Memory, Name, Span};
+use afl_lexer::{Symbol, Token, TokenKind, Word, name_value, text_value};
+use cell_values::{Code, Memory, Name, Span};
 use schema_grammar::{ShapeState, ShapeStep, read_shape};
 use std::alloc::Global;
 
@@ -42,29 +42,13 @@ impl From<Memory> for Fault {
     }
 }
 
-/// The name that a token is.
-fn name_at(alloc: Global, text: &[u8], token: Token) -> Result<Name, Memory>
-    requires token { IsTokenOf text.now token }
-    requires name { token.kind ≡ TokenKind.Name }
-    ensures { IfOk result (λ name. name ≡ bytes_of text.now token.span) }
-{
-    let bytes = List::from_slice(
-        alloc,
-        &text[token.span.start as usize..token.span.end as usize],
-    )?;
-    match Name::new(bytes) {
-        Some(name) => Ok(name),
-        None => unreachable!(),
-    }
-}
-
 /// The tree that one token is.
 fn leaf_at(alloc: Global, text: &[u8], token: Token) -> Result<Option<Tree>, Memory>
     requires { IsTokenOf text.now token }
     ensures { IfOk result (λ leaf. leaf ≡ leaf_of token.span (lexeme_of text.now token).what) }
 {
     let node = match token.kind {
-        TokenKind::Name => Node::Ref(name_at(alloc, text, token)?),
+        TokenKind::Name => Node::Ref(name_value(alloc, text, &token)?),
         TokenKind::Int(n) => Node::Number(n),
         TokenKind::Text => Node::Text(text_value(alloc, text, &token)?),
         TokenKind::Code(n) => match Code::new(n) {
@@ -234,7 +218,7 @@ fn title(
 {
     match token.kind {
         TokenKind::Name => {
-            let name = name_at(alloc, text, token)?;
+            let name = name_value(alloc, text, &token)?;
             Ok(Reader {
                 stack,
                 focus: Focus::NewShape(start, name, ShapeState::Start),
@@ -545,7 +529,7 @@ fn name_it(
 {
     match token.kind {
         TokenKind::Name => {
-            let name = name_at(alloc, text, token)?;
+            let name = name_value(alloc, text, &token)?;
             let whole = across(tree.tree().span(), token.span);
             let renamed = Grown::renamed(alloc, whole, tree, name)?;
             Ok(Reader {

@@ -1,6 +1,6 @@
 //! The reader of schemas, one step a token.
 ghost use Rattle.std.specs.Prelude.{◌≡◌, ℕ, ◌≤ℤ◌, pos, neg_ℤ, List, [], ◌∷◌, ◌++◌, IfOk};
-ghost use Rattle.afl_lexer.specs.Lexemes.{bytes_of, lexeme_of, what_of, a_symbol};
+ghost use Rattle.afl_lexer.specs.Lexemes.{lexeme_of, what_of, a_symbol};
 ghost use Rattle.afl_lexer.specs.Tokens.{IsTokenOf};
 ghost use Rattle.schema_grammar.specs.Spelling.{across};
 ghost use Rattle.schema_grammar.specs.Reading.{attribute, bound, attr_end, attr_goes, attr_step, attr_word, bound_step, dim_goes, dim_step, dimension, number_step, shape_turn};
@@ -10,28 +10,12 @@ use crate::state::{
     AttrPlace, Bound, BoundPlace, Count, DimPlace, Head, Label, NumberPlace, PartStep,
 };
 use crate::{AttrText, DimText, SchemaText, ShapeState, ShapeStep};
-use afl_lexer::{Symbol, Token, TokenKind, Word};
+use afl_lexer::{Symbol, Token, TokenKind, Word, name_value};
 use cell_values::{List, Memory, Name, Span};
 use std::alloc::Global;
 
 /// The number that the high bound `*` stands for, 2^62 - 1.
 const UNBOUNDED: i64 = 4611686018427387903;
-
-/// The name at a token.
-fn name_at(alloc: Global, text: &[u8], token: Token) -> Result<Name, Memory>
-    requires token { IsTokenOf text.now token }
-    requires name { token.kind ≡ TokenKind.Name }
-    ensures { IfOk result (λ name. name ≡ bytes_of text.now token.span) }
-{
-    let bytes = List::from_slice(
-        alloc,
-        &text[token.span.start as usize..token.span.end as usize],
-    )?;
-    match Name::new(bytes) {
-        Some(name) => Ok(name),
-        None => unreachable!(),
-    }
-}
 
 /// From the start of the first to the end of the second.
 fn across(first: Span, second: Span) -> Span
@@ -120,7 +104,7 @@ fn read_attribute(
     match place {
         AttrPlace::First => match token.kind {
             TokenKind::Name => {
-                let name = name_at(alloc, text, token)?;
+                let name = name_value(alloc, text, &token)?;
                 let span = token.span;
                 Ok(PartStep::On(AttrPlace::Named(Label { name, span })))
             }
@@ -132,7 +116,7 @@ fn read_attribute(
         },
         AttrPlace::Typed(label) => match token.kind {
             TokenKind::Name => {
-                let word = name_at(alloc, text, token)?;
+                let word = name_value(alloc, text, &token)?;
                 let attribute = label.with_word(word, token.span);
                 Ok(PartStep::On(AttrPlace::Worded(attribute)))
             }
@@ -295,7 +279,7 @@ fn read_dimension(
     match place {
         DimPlace::First => match token.kind {
             TokenKind::Name => {
-                let name = name_at(alloc, text, token)?;
+                let name = name_value(alloc, text, &token)?;
                 let span = token.span;
                 Ok(PartStep::On(DimPlace::Named(Label { name, span })))
             }
