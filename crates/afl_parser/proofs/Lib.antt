@@ -1,0 +1,9 @@
+pub mod Complete
+pub mod Either
+pub mod Fitting
+pub mod Heights
+pub mod Parsing
+pub mod Settling
+pub mod Sound
+pub mod Stopping
+pub mod Texts

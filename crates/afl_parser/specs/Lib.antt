@@ -1,0 +1,10 @@
+pub mod FirstForm
+pub mod Grammar
+pub mod Machine
+pub mod Outcome
+pub mod Reply
+pub mod Statement
+pub mod Term
+pub mod TermCode
+pub mod TreeFalls
+pub mod View

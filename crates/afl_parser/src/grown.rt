@@ -1,0 +1,196 @@
+//! Trees and argument lists with their heights.
+ghost use Rattle.std.specs.Prelude.{◌≡◌, ◌+◌, ◌<◌, ◌≤◌, ◌^◌, [], ◌∷◌, ◌++◌, IfOk};
+ghost use Rattle.afl_parser.specs.Term.{call, renamed, opposite, negative, group, binary, to_terms, no_terms};
+ghost use Rattle.afl_parser.specs.Grammar.{height, heights};
+
+use crate::{BinaryOp, Node, Tree};
+use cell_values::{List, Memory, Name, Span};
+use std::alloc::Global;
+use std::marker::Model;
+
+/// A tree that knows its height.
+#[derive(Drop)]
+pub struct Grown {
+    tree: Tree,
+    depth: usize,
+}
+
+impl Model for Grown {
+    ghost use Rattle.std.specs.Prelude.{◌≡◌};
+    ghost use Rattle.afl_parser.specs.Term.{Term};
+    ghost use Rattle.afl_parser.specs.TermCode.{term_code};
+    ghost use Rattle.afl_parser.specs.Grammar.{height};
+
+    ghost Value = { Term };
+
+    ghost coded = { term_code };
+
+    ghost view = { λ g. g.tree };
+
+    ghost invariant = { λ g. g.depth ≡ height g.tree };
+}
+
+/// Arguments that know the height of the highest.
+#[derive(Drop)]
+pub struct Arguments {
+    trees: List<Tree>,
+    depth: usize,
+}
+
+impl Model for Arguments {
+    ghost use Rattle.std.specs.Prelude.{◌≡◌, List};
+    ghost use Rattle.std.specs.Coded.{coded_list};
+    ghost use Rattle.afl_parser.specs.Term.{Term, to_terms};
+    ghost use Rattle.afl_parser.specs.TermCode.{term_code};
+    ghost use Rattle.afl_parser.specs.Grammar.{heights};
+
+    ghost Value = { List Term };
+
+    ghost coded = { coded_list term_code };
+
+    ghost view = { λ g. g.trees };
+
+    ghost invariant = { λ g. g.depth ≡ heights (to_terms g.trees) };
+}
+
+impl Grown {
+    /// A tree without parts.
+    pub fn leaf(tree: Tree) -> Grown
+        requires { height tree ≡ 1 }
+        ensures { result ≡ tree }
+    {
+        Grown { tree, depth: 1 }
+    }
+
+    pub fn empty_call(alloc: Global, span: Span, name: Name) -> Grown
+        ensures { result ≡ call span name no_terms }
+    {
+        let node = Node::Call(name, Vec::new(alloc));
+        Grown {
+            tree: Tree { span, node },
+            depth: 1,
+        }
+    }
+
+    pub fn renamed(alloc: Global, span: Span, a: Grown, name: Name) -> Result<Grown, Memory>
+        requires { height a + 1 < 2 ^ 64 }
+        ensures { IfOk result (λ t. t ≡ renamed span a name) }
+    {
+        let Grown { tree, depth } = a;
+        let node = Node::As(Box::new(alloc, tree)?, name);
+        Ok(Grown {
+            tree: Tree { span, node },
+            depth: depth + 1,
+        })
+    }
+
+    pub fn opposite(alloc: Global, span: Span, a: Grown) -> Result<Grown, Memory>
+        requires { height a + 1 < 2 ^ 64 }
+        ensures { IfOk result (λ t. t ≡ opposite span a) }
+    {
+        let Grown { tree, depth } = a;
+        let node = Node::Not(Box::new(alloc, tree)?);
+        Ok(Grown {
+            tree: Tree { span, node },
+            depth: depth + 1,
+        })
+    }
+
+    pub fn negative(alloc: Global, span: Span, a: Grown) -> Result<Grown, Memory>
+        requires { height a + 1 < 2 ^ 64 }
+        ensures { IfOk result (λ t. t ≡ negative span a) }
+    {
+        let Grown { tree, depth } = a;
+        let node = Node::Minus(Box::new(alloc, tree)?);
+        Ok(Grown {
+            tree: Tree { span, node },
+            depth: depth + 1,
+        })
+    }
+
+    pub fn group(alloc: Global, span: Span, a: Grown) -> Result<Grown, Memory>
+        requires { height a + 1 < 2 ^ 64 }
+        ensures { IfOk result (λ t. t ≡ group span a) }
+    {
+        let Grown { tree, depth } = a;
+        let node = Node::Group(Box::new(alloc, tree)?);
+        Ok(Grown {
+            tree: Tree { span, node },
+            depth: depth + 1,
+        })
+    }
+
+    pub fn binary(
+        alloc: Global,
+        span: Span,
+        op: BinaryOp,
+        a: Grown,
+        b: Grown,
+    ) -> Result<Grown, Memory>
+        requires left { height a + 1 < 2 ^ 64 }
+        requires right { height b + 1 < 2 ^ 64 }
+        ensures { IfOk result (λ t. t ≡ binary span op a b) }
+    {
+        let depth = a.depth.max(b.depth) + 1;
+        let left = Box::new(alloc, a.into_tree())?;
+        let right = Box::new(alloc, b.into_tree())?;
+        let node = Node::Binary(op, left, right);
+        Ok(Grown {
+            tree: Tree { span, node },
+            depth,
+        })
+    }
+
+    pub fn call(span: Span, name: Name, arguments: Arguments) -> Grown
+        requires { heights (to_terms arguments) + 1 < 2 ^ 64 }
+        ensures { result ≡ call span name (to_terms arguments) }
+    {
+        let Arguments { trees, depth } = arguments;
+        let node = Node::Call(name, trees.into_vec());
+        Grown {
+            tree: Tree { span, node },
+            depth: depth + 1,
+        }
+    }
+
+    pub fn height(&self) -> usize
+        ensures { result ≡ height self.now }
+    {
+        self.depth
+    }
+
+    pub fn tree(&self) -> &Tree
+        ensures { result.now ≡ self.now }
+    {
+        &self.tree
+    }
+
+    pub fn into_tree(self) -> Tree
+        ensures { result ≡ self }
+    {
+        let Grown { tree, depth: _ } = self;
+        tree
+    }
+}
+
+impl Arguments {
+    pub fn none(alloc: Global) -> Arguments
+        ensures { result ≡ [] }
+    {
+        Arguments {
+            trees: List::new(alloc),
+            depth: 0,
+        }
+    }
+
+    /// The arguments with one more.
+    #[tactic(auto, using(crate::proofs::Heights::heights_of_more))]
+    pub fn with(self, argument: Grown) -> Result<Arguments, Memory>
+        ensures { IfOk result (λ all. all ≡ self ++ argument ∷ []) }
+    {
+        let Arguments { mut trees, depth } = self;
+        let depth = depth.max(argument.depth);
+        trees.push(argument.into_tree())?;
+        Ok(Arguments { trees, depth })
+    }
+}

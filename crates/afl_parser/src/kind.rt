@@ -1,0 +1,64 @@
+//! Why a text is no statement.
+ghost use Rattle.std.specs.Prelude.{◌≡◌};
+ghost use Rattle.afl_parser.specs.Statement.{syntactic, lexical};
+
+use afl_lexer::LexKind;
+
+/// Why a token cannot stand where it stands.
+#[derive(Clone, Copy, Debug, PartialEq, Eq)]
+pub enum StopKind {
+    /// No statement goes on so.
+    Unexpected,
+    /// Only a deeper statement does.
+    TooDeep,
+}
+
+/// Why a text is no statement.
+#[derive(Clone, Copy, Debug, PartialEq, Eq)]
+pub enum ParseKind {
+    UnknownCharacter,
+    OpenText,
+    BadEscape,
+    TextTooLong,
+    NameTooLong,
+    LiteralTooLarge,
+    /// No statement begins with the tokens up to this place.
+    Unexpected,
+    /// Only statements of a depth above 128 begin with the tokens up to this place.
+    TooDeep,
+}
+
+/// Why there is no tree.
+#[derive(Clone, Copy, Debug, PartialEq, Eq)]
+pub enum ParseFault {
+    /// The text stops to be the front of a statement at this place, in bytes from its first one.
+    At { at: u32, kind: ParseKind },
+    /// No memory was left.
+    Memory,
+}
+
+impl ParseKind {
+    /// The kind of a fault within a token.
+    pub fn lexical(kind: LexKind) -> ParseKind
+        ensures { result ≡ lexical kind }
+    {
+        match kind {
+            LexKind::UnknownCharacter => ParseKind::UnknownCharacter,
+            LexKind::OpenText => ParseKind::OpenText,
+            LexKind::BadEscape => ParseKind::BadEscape,
+            LexKind::TextTooLong => ParseKind::TextTooLong,
+            LexKind::NameTooLong => ParseKind::NameTooLong,
+            LexKind::LiteralTooLarge => ParseKind::LiteralTooLarge,
+        }
+    }
+
+    /// The kind of a fault between tokens.
+    pub fn syntactic(kind: StopKind) -> ParseKind
+        ensures { result ≡ syntactic kind }
+    {
+        match kind {
+            StopKind::Unexpected => ParseKind::Unexpected,
+            StopKind::TooDeep => ParseKind::TooDeep,
+        }
+    }
+}

@@ -1,0 +1,16 @@
+//! Syntax trees of statements, the grammar, and its parser.
+#![tactic(auto)]
+
+pub mod frame;
+pub mod grown;
+pub mod kind;
+pub mod parser;
+pub mod reader;
+pub mod tree;
+
+pub use frame::{Focus, Frame, Stack};
+pub use grown::{Arguments, Grown};
+pub use kind::{ParseFault, ParseKind, StopKind};
+pub use parser::{TokenFault, parse, read_tokens};
+pub use reader::{Fault, Reader};
+pub use tree::{BinaryOp, Node, Tree};

@@ -1,0 +1,186 @@
+//! The tree of a statement.
+ghost use Rattle.std.specs.Prelude.{◌≡◌};
+ghost use Rattle.schema_grammar.specs.Spelling.{across};
+ghost use Rattle.afl_parser.specs.Grammar.{line_of, left_line, right_line, line, span_of};
+ghost use Rattle.afl_parser.specs.Machine.{reference_of};
+
+use cell_values::{Bytes, Code, Name, Span};
+use schema_grammar::SchemaText;
+use std::marker::Model;
+
+/// A tree. Contracts see it as a `Term`, without its boxes.
+#[cycle(tree)]
+#[derive(Debug, Drop)]
+pub struct Tree {
+    /// From the start of the first token to the end of the last.
+    pub span: Span,
+    pub node: Node,
+}
+
+#[cycle(tree)]
+#[derive(Debug, Drop)]
+pub enum Node {
+    /// `create array` with a name and a schema.
+    Create(Name, SchemaText),
+    Number(i64),
+    Text(Bytes),
+    Truth(bool),
+    /// `null`, or the code `?0`.
+    Null,
+    Missing(Code),
+    Ref(Name),
+    /// A name with `@` and a number.
+    Version(Name, i64),
+    Call(Name, Vec<Tree>),
+    Schema(SchemaText),
+    Star,
+    As(Box<Tree>, Name),
+    Not(Box<Tree>),
+    Minus(Box<Tree>),
+    Binary(BinaryOp, Box<Tree>, Box<Tree>),
+    /// A bracketed expression.
+    Group(Box<Tree>),
+}
+
+/// An operator between two operands.
+#[derive(Clone, Copy, Debug, PartialEq, Eq)]
+pub enum BinaryOp {
+    Or,
+    And,
+    Equal,
+    /// `<>` or `!=`.
+    Differs,
+    Less,
+    AtMost,
+    More,
+    AtLeast,
+    Add,
+    Sub,
+    Mul,
+    Div,
+    Rem,
+}
+
+impl Model for Tree {
+    ghost use Rattle.afl_parser.specs.Term.{Term, term_size};
+    ghost use Rattle.afl_parser.specs.TermCode.{term_code};
+
+    ghost Value = { Term };
+
+    ghost coded = { term_code };
+
+    ghost use Rattle.afl_parser.specs.View.{term_of};
+
+    ghost view = { λ a. term_of a.span a.node };
+
+    ghost size = { term_size };
+
+    ghost use Rattle.afl_parser.specs.TreeFalls.{depth_le-size};
+
+    ghost size_decreases = { λ a h. depth_le-size a.span a.node };
+}
+
+/// From the start of the first to the end of the second.
+pub fn across(first: Span, last: Span) -> Span
+    ensures { result ≡ across first last }
+{
+    Span {
+        start: first.start,
+        end: last.end,
+    }
+}
+
+impl BinaryOp {
+    /// The line of the grammar that has the operator.
+    pub fn line(self) -> u8
+        ensures { result ≡ line_of self }
+    {
+        match self {
+            BinaryOp::Or => 1,
+            BinaryOp::And => 2,
+            BinaryOp::Equal
+            | BinaryOp::Differs
+            | BinaryOp::Less
+            | BinaryOp::AtMost
+            | BinaryOp::More
+            | BinaryOp::AtLeast => 4,
+            BinaryOp::Add | BinaryOp::Sub => 5,
+            BinaryOp::Mul | BinaryOp::Div | BinaryOp::Rem => 6,
+        }
+    }
+
+    /// The line of its left operand.
+    pub fn left_line(self) -> u8
+        ensures { result ≡ left_line self }
+    {
+        match self {
+            BinaryOp::Or => 1,
+            BinaryOp::And => 2,
+            BinaryOp::Equal
+            | BinaryOp::Differs
+            | BinaryOp::Less
+            | BinaryOp::AtMost
+            | BinaryOp::More
+            | BinaryOp::AtLeast => 5,
+            BinaryOp::Add | BinaryOp::Sub => 5,
+            BinaryOp::Mul | BinaryOp::Div | BinaryOp::Rem => 6,
+        }
+    }
+
+    /// The line of its right operand.
+    pub fn right_line(self) -> u8
+        ensures { result ≡ right_line self }
+    {
+        match self {
+            BinaryOp::Or => 2,
+            BinaryOp::And => 3,
+            BinaryOp::Equal
+            | BinaryOp::Differs
+            | BinaryOp::Less
+            | BinaryOp::AtMost
+            | BinaryOp::More
+            | BinaryOp::AtLeast => 5,
+            BinaryOp::Add | BinaryOp::Sub => 6,
+            BinaryOp::Mul | BinaryOp::Div | BinaryOp::Rem => 7,
+        }
+    }
+}
+
+impl Tree {
+    /// The line of the grammar that has the tree's top.
+    pub fn line(&self) -> u8
+        ensures { result ≡ line self.now }
+    {
+        match &self.node {
+            Node::Create(_, _) | Node::Schema(_) | Node::Star | Node::As(_, _) => 0,
+            Node::Not(_) => 3,
+            Node::Minus(_) => 7,
+            Node::Binary(op, _, _) => op.line(),
+            Node::Number(_)
+            | Node::Text(_)
+            | Node::Truth(_)
+            | Node::Null
+            | Node::Missing(_)
+            | Node::Ref(_)
+            | Node::Version(_, _)
+            | Node::Call(_, _)
+            | Node::Group(_) => 8,
+        }
+    }
+
+    pub fn span(&self) -> Span
+        ensures { result ≡ span_of self.now }
+    {
+        self.span
+    }
+
+    /// The name, where the tree is one.
+    pub fn into_reference(self) -> Option<Name>
+        ensures { result ≡ reference_of self }
+    {
+        match self.node {
+            Node::Ref(name) => Some(name),
+            _ => None,
+        }
+    }
+}
