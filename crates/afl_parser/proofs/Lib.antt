@@ -1,5 +1,6 @@
 pub mod Complete
 pub mod Either
+pub mod FirstForms
 pub mod Fitting
 pub mod Heights
 pub mod Parsing
@@ -7,3 +8,4 @@ pub mod Settling
 pub mod Sound
 pub mod Stopping
 pub mod Texts
+pub mod Unfinished

@@ -1,4 +1,5 @@
 pub mod FirstForm
+pub mod FirstReading
 pub mod Grammar
 pub mod Machine
 pub mod Outcome

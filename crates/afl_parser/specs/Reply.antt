@@ -1,10 +1,16 @@
 -- What the reader's calls give.
-use Rattle.std.specs.Prelude.{◌≡◌, ℕ, Result, Ok, Err, Option, Some, None, List}
+use Rattle.std.specs.Prelude.{◌≡◌, ℕ, Result, Ok, Err, Option, Some, None, List, drop}
+use Rattle.afl_lexer.specs.declared.token.Token.{Token}
+use Rattle.afl_lexer.specs.declared.token.LexFault.{LexFault}
+use Rattle.afl_lexer.specs.declared.token.LexFault.TheVariants as lex
 use Rattle.afl_lexer.specs.Lexemes.{Placed}
 use Rattle.afl_parser.specs.Term.{Term}
 use Rattle.afl_parser.specs.Grammar.{Stops}
+use Rattle.afl_parser.specs.Statement.{start_of, lexical, syntactic}
 use Rattle.afl_parser.specs.Machine.{Turn, Go, Stop}
 use Rattle.afl_parser.specs.declared.kind.StopKind.TheVariants.{Unexpected}
+use Rattle.afl_parser.specs.declared.kind.ParseFault.{ParseFault}
+use Rattle.afl_parser.specs.declared.kind.ParseFault.TheVariants.{At, Memory}
 use Rattle.afl_parser.specs.declared.reader.Reader.{Reader}
 use Rattle.afl_parser.specs.declared.reader.Fault.{Fault}
 use Rattle.afl_parser.specs.declared.reader.Fault.TheVariants as fault
@@ -31,3 +37,13 @@ placed index fault.Memory = token_fault.Memory
 abbrev pub IsTokenStop : ℕ → List Placed → TokenFault → Type 0
 IsTokenStop limit ts (token_fault.At index kind) = Stops limit ts index kind
 IsTokenStop limit ts token_fault.Memory = Unit {0}
+
+-- a fault among the tokens as a fault in the text
+abbrev pub at_token : List ℕ → List Token → TokenFault → ParseFault
+at_token text ts (token_fault.At index kind) = At (start_of text (drop index ts)) (syntactic kind)
+at_token text ts token_fault.Memory = Memory
+
+-- a fault within a token as a fault in the text
+abbrev pub in_token : LexFault → ParseFault
+in_token (lex.At at kind) = At at (lexical kind)
+in_token lex.Memory = Memory

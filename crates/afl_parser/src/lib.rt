@@ -1,6 +1,7 @@
 //! Syntax trees of statements, the grammar, and its parser.
 #![tactic(auto)]
 
+pub mod first;
 pub mod frame;
 pub mod grown;
 pub mod kind;
@@ -8,6 +9,7 @@ pub mod parser;
 pub mod reader;
 pub mod tree;
 
+pub use first::{FirstForm, first_form};
 pub use frame::{Focus, Frame, Stack};
 pub use grown::{Arguments, Grown};
 pub use kind::{ParseFault, ParseKind, StopKind};

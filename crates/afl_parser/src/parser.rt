@@ -4,7 +4,7 @@ ghost use Rattle.afl_lexer.specs.Tokens.{IsTokenOf};
 ghost use Rattle.afl_parser.specs.Term.{Term};
 ghost use Rattle.afl_parser.specs.Grammar.{IsStatement};
 ghost use Rattle.afl_parser.specs.Statement.{lexemes, DerivesText, StopsText, start_of};
-ghost use Rattle.afl_parser.specs.Reply.{placed, IsTokenStop};
+ghost use Rattle.afl_parser.specs.Reply.{placed, IsTokenStop, at_token, in_token};
 ghost use Rattle.afl_parser.specs.Outcome.{IsTextStop, AnswersTree, AnswersStop};
 ghost use Rattle.afl_parser.specs.declared.kind.ParseKind.{ParseKind};
 
@@ -57,13 +57,39 @@ pub fn read_tokens(alloc: Global, text: &[u8], tokens: &[Token]) -> Result<Tree,
 
 /// Where a token starts, or the text ends.
 fn place_of(text: &[u8], tokens: &[Token], index: usize) -> u32
-    requires text { length text.now ≤ 1048576 }
-    requires index { index ≤ length tokens.now }
+    requires { length text.now ≤ 1048576 }
     ensures { result ≡ start_of text.now (drop index tokens.now) }
 {
     match tokens.get(index) {
         Some(token) => token.span.start,
         None => text.len() as u32,
+    }
+}
+
+/// A fault among the tokens as a fault in the text.
+fn at_token(text: &[u8], tokens: &[Token], fault: TokenFault) -> ParseFault
+    requires { length text.now ≤ 1048576 }
+    ensures { result ≡ at_token text.now tokens.now fault }
+{
+    match fault {
+        TokenFault::At { index, kind } => ParseFault::At {
+            at: place_of(text, tokens, index),
+            kind: ParseKind::syntactic(kind),
+        },
+        TokenFault::Memory => ParseFault::Memory,
+    }
+}
+
+/// A fault within a token as a fault in the text.
+fn in_token(fault: LexFault) -> ParseFault
+    ensures { result ≡ in_token fault }
+{
+    match fault {
+        LexFault::At { at, kind } => ParseFault::At {
+            at,
+            kind: ParseKind::lexical(kind),
+        },
+        LexFault::Memory => ParseFault::Memory,
     }
 }
 
@@ -78,18 +104,13 @@ pub fn parse(alloc: Global, text: &[u8]) -> Result<Tree, ParseFault>
     ensures only_stop { (at : ℕ) (kind : ParseKind) → StopsText text.now at kind → AnswersStop result at kind }
 {
     match tokens(alloc, text) {
-        Ok(tokens) => match read_tokens(alloc, text, tokens.as_slice()) {
-            Ok(tree) => Ok(tree),
-            Err(TokenFault::At { index, kind }) => Err(ParseFault::At {
-                at: place_of(text, tokens.as_slice(), index),
-                kind: ParseKind::syntactic(kind),
-            }),
-            Err(TokenFault::Memory) => Err(ParseFault::Memory),
-        },
-        Err(LexFault::At { at, kind }) => Err(ParseFault::At {
-            at,
-            kind: ParseKind::lexical(kind),
-        }),
-        Err(LexFault::Memory) => Err(ParseFault::Memory),
+        Ok(tokens) => {
+            let tokens = tokens.as_slice();
+            match read_tokens(alloc, text, tokens) {
+                Ok(tree) => Ok(tree),
+                Err(fault) => Err(at_token(text, tokens, fault)),
+            }
+        }
+        Err(fault) => Err(in_token(fault)),
     }
 }
