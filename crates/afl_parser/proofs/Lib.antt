@@ -4,6 +4,8 @@ pub mod FirstForms
 pub mod Fitting
 pub mod Heights
 pub mod Parsing
+pub mod PrintedAgain
+pub mod Printing
 pub mod Settling
 pub mod Sound
 pub mod Stopping

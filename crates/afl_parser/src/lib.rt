@@ -1,11 +1,13 @@
 //! Syntax trees of statements, the grammar, and its parser.
 #![tactic(auto)]
 
+mod copies;
 pub mod first;
 pub mod frame;
 pub mod grown;
 pub mod kind;
 pub mod parser;
+mod printer;
 pub mod reader;
 pub mod tree;
 
@@ -14,5 +16,6 @@ pub use frame::{Focus, Frame, Stack};
 pub use grown::{Arguments, Grown};
 pub use kind::{ParseFault, ParseKind, StopKind};
 pub use parser::{TokenFault, parse, read_tokens};
+pub use printer::{print, printed_trees_are_read_again};
 pub use reader::{Fault, Reader};
 pub use tree::{BinaryOp, Node, Tree};

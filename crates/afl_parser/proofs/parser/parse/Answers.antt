@@ -7,9 +7,9 @@ use Rattle.afl_parser.proofs.parser.parse.Goals as goal
 pub returns-in-Ok-read_tokens-clause-only_tree : goal.returns-in-Ok-read_tokens-clause-only_tree
 returns-in-Ok-read_tokens-clause-only_tree c =
     tree_only_tree c.args.text.now c.as_slice-tokens.result.now c.in-Ok-read_tokens.tree
-        ((λ us a. c.as_slice-tokens.ensures ∙ c.in-Ok.ensures.only_tokens us a), c.in-Ok.ensures.only_stop) c.in-Ok-read_tokens.ensures.tree
+    ((λ us a. c.as_slice-tokens.ensures ∙ c.in-Ok.ensures.only_tokens us a), c.in-Ok.ensures.only_stop) c.in-Ok-read_tokens.ensures.tree
 
 pub returns-in-Ok-read_tokens-clause-only_stop : goal.returns-in-Ok-read_tokens-clause-only_stop
 returns-in-Ok-read_tokens-clause-only_stop c =
     tree_no_stop c.args.text.now c.as_slice-tokens.result.now c.in-Ok-read_tokens.tree
-        ((λ us a. c.as_slice-tokens.ensures ∙ c.in-Ok.ensures.only_tokens us a), c.in-Ok.ensures.only_stop) c.in-Ok-read_tokens.ensures.tree
+    ((λ us a. c.as_slice-tokens.ensures ∙ c.in-Ok.ensures.only_tokens us a), c.in-Ok.ensures.only_stop) c.in-Ok-read_tokens.ensures.tree
