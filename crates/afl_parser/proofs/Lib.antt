@@ -5,6 +5,7 @@ pub mod Fitting
 pub mod Heights
 pub mod Parsing
 pub mod PrintedAgain
+pub mod PrintedParts
 pub mod Printing
 pub mod Settling
 pub mod Sound

@@ -1,13 +1,14 @@
 //! The printed form of a tree.
-ghost use Rattle.std.specs.Prelude.{◌≡◌, ◌++◌, map, codes, IfOk, OnOk};
+ghost use Rattle.std.specs.Prelude.{◌≡◌, ◌++◌, codes, IfOk, OnOk};
 ghost use Rattle.std.specs.Fmt.{decimal, signed_decimal};
 ghost use Rattle.std.specs.List.{join_with_byte};
 ghost use Rattle.afl_lexer.specs.Spelling.{escaped, quoted_text};
-ghost use Rattle.schema_grammar.specs.SchemaBytes.{separator, shape_bytes};
-ghost use Rattle.afl_parser.specs.Print.{op_bytes, truth_bytes, printed, AreReadAgain};
+ghost use Rattle.schema_grammar.specs.SchemaBytes.{shape_bytes};
+ghost use Rattle.afl_parser.specs.Print.{op_bytes, truth_bytes, printed, all_printed, AreReadAgain};
+ghost use Rattle.afl_parser.specs.Term.{to_terms};
 
 use crate::{BinaryOp, Node, Tree};
-use cell_values::{Bytes, List, Memory};
+use cell_values::{Bytes, List, Memory, Name};
 use schema_grammar::{SchemaText, print_shape};
 use std::alloc::Global;
 
@@ -85,20 +86,26 @@ fn write_schema(out: &mut Bytes, schema: &SchemaText) -> Result<(), Memory>
     out.append(print_shape(out.allocator(), schema)?)
 }
 
-/// Adds what stands before an argument.
-fn separate(out: &mut Bytes, at: usize) -> Result<(), Memory>
-    ensures { OnOk result (out.new ≡ out.old ++ separator at) }
+/// Adds these words, a name and a space.
+fn write_title(out: &mut Bytes, words: &[u8], name: &Name) -> Result<(), Memory>
+    ensures { OnOk result (out.new ≡ out.old ++ (words.now ++ name.now ++ codes " ")) }
 {
-    if at > 0 { out.push(b',') } else { Ok(()) }
+    out.extend(words)?;
+    out.extend(name.as_slice())?;
+    out.push(b' ')
 }
 
 /// Adds the printed forms of arguments, with commas between.
 #[cycle(print)]
 fn write_trees(out: &mut Bytes, trees: &[Tree]) -> Result<(), Memory>
-    ensures { OnOk result (out.new ≡ out.old ++ join_with_byte 44 (map printed trees.now)) }
+    ensures { OnOk result (out.new ≡ out.old ++ join_with_byte 44 (all_printed (to_terms trees.now))) }
 {
-    for (at, tree) in trees.iter().enumerate() {
-        separate(out, at)?;
+    let [first, rest @ ..] = trees else {
+        return Ok(());
+    };
+    write_tree(out, first)?;
+    for tree in rest {
+        out.push(b',')?;
         write_tree(out, tree)?;
     }
     Ok(())
@@ -111,9 +118,7 @@ fn write_tree(out: &mut Bytes, tree: &Tree) -> Result<(), Memory>
 {
     match &tree.node {
         Node::Create(name, schema) => {
-            out.extend(b"create array ")?;
-            out.extend(name.as_slice())?;
-            out.push(b' ')?;
+            write_title(out, b"create array ", name)?;
             write_schema(out, schema)
         }
         Node::Number(number) => write_number(out, *number),
