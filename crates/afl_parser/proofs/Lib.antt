@@ -4,6 +4,9 @@ pub mod FirstForms
 pub mod Fitting
 pub mod Heights
 pub mod Parsing
+pub mod PrintedAgain
+pub mod PrintedParts
+pub mod Printing
 pub mod Settling
 pub mod Sound
 pub mod Stopping

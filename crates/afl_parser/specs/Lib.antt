@@ -3,6 +3,7 @@ pub mod FirstReading
 pub mod Grammar
 pub mod Machine
 pub mod Outcome
+pub mod Print
 pub mod Reply
 pub mod Statement
 pub mod Term
