@@ -1,4 +1,8 @@
 //! Schema texts, with what they mean or why they are refused.
+use crate::TypeKind::{
+    BoundsOrder, BoundsRange, ChunkTooLarge, OverlapTooLarge, RepeatedName, TooManyDimensions,
+    UnknownType, ZeroChunk,
+};
 use crate::{
     SchemaFault, SchemaText, ShapeFault, TypeKind, meaning, print_shape, schema_text, shape,
 };
@@ -42,85 +46,47 @@ fn stop(alloc: Global, text: &[u8], from: usize) -> Option<usize> {
     }
 }
 
-/// The rule that a text breaks first.
-#[derive(Clone, Copy)]
-struct Broken {
-    text: &'static [u8],
-    kind: TypeKind,
-    start: u32,
-    end: u32,
-}
-
-const fn breaks(text: &'static [u8], kind: TypeKind, start: u32, end: u32) -> Broken {
-    Broken {
-        text,
-        kind,
-        start,
-        end,
-    }
-}
-
 #[test]
 fn first_broken_rules(rt: HostRuntime) {
     let rows = [
-        breaks(b"<v:int65>[x=0:3,2,0]", TypeKind::UnknownType, 3, 8),
-        breaks(
-            b"<v:int64,v:text>[x=0:3,2,0]",
-            TypeKind::UnknownType,
-            11,
-            15,
-        ),
-        breaks(
-            b"<v:int64,v:bool>[x=0:3,2,0]",
-            TypeKind::RepeatedName,
-            9,
-            10,
-        ),
-        breaks(b"<v:int64>[v=0:3,2,0]", TypeKind::RepeatedName, 10, 11),
-        breaks(
-            b"<v:int64>[x=0:3,2,0,x=5:3,0,1]",
-            TypeKind::RepeatedName,
-            20,
-            21,
-        ),
-        breaks(
-            b"<v:int64>[x=-4611686018427387904:3,2,0]",
-            TypeKind::BoundsRange,
+        ("<v:int65>[x=0:3,2,0]", UnknownType, 3, 8),
+        ("<v:int64,v:text>[x=0:3,2,0]", UnknownType, 11, 15),
+        ("<v:int64,v:bool>[x=0:3,2,0]", RepeatedName, 9, 10),
+        ("<v:int64>[v=0:3,2,0]", RepeatedName, 10, 11),
+        ("<v:int64>[x=0:3,2,0,x=5:3,0,1]", RepeatedName, 20, 21),
+        (
+            "<v:int64>[x=-4611686018427387904:3,2,0]",
+            BoundsRange,
             12,
             32,
         ),
-        breaks(
-            b"<v:int64>[x=0:4611686018427387904,2,0]",
-            TypeKind::BoundsRange,
+        (
+            "<v:int64>[x=0:4611686018427387904,2,0]",
+            BoundsRange,
             14,
             33,
         ),
-        breaks(b"<v:int64>[x=3:2,0,1]", TypeKind::BoundsOrder, 14, 15),
-        breaks(b"<v:int64>[x=3:-2,0,1]", TypeKind::BoundsOrder, 14, 16),
-        breaks(b"<v:int64>[x=0:3,0,1]", TypeKind::ZeroChunk, 16, 17),
-        breaks(b"<v:int64>[x=0:3,2,3]", TypeKind::OverlapTooLarge, 18, 19),
-        breaks(
-            b"<v:int64>[a=0:0,1,0,b=0:0,1,0,c=0:0,1,0,d=0:0,1,0,e=0:0,1,0,f=0:0,1,0,g=0:0,1,0]",
-            TypeKind::TooManyDimensions,
+        ("<v:int64>[x=3:2,0,1]", BoundsOrder, 14, 15),
+        ("<v:int64>[x=3:-2,0,1]", BoundsOrder, 14, 16),
+        ("<v:int64>[x=0:3,0,1]", ZeroChunk, 16, 17),
+        ("<v:int64>[x=0:3,2,3]", OverlapTooLarge, 18, 19),
+        (
+            "<v:int64>[a=0:0,1,0,b=0:0,1,0,c=0:0,1,0,d=0:0,1,0,e=0:0,1,0,f=0:0,1,0,g=0:0,1,0]",
+            TooManyDimensions,
             70,
             71,
         ),
-        breaks(
-            b"<v:int64>[x=0:*,281474976710657,0]",
-            TypeKind::ChunkTooLarge,
-            9,
-            34,
-        ),
-        breaks(
-            b"<v:int64>[x=0:*,16777216,0,y=0:9,16777215,1]",
-            TypeKind::ChunkTooLarge,
+        ("<v:int64>[x=0:*,281474976710657,0]", ChunkTooLarge, 9, 34),
+        (
+            "<v:int64>[x=0:*,16777216,0,y=0:9,16777215,1]",
+            ChunkTooLarge,
             9,
             44,
         ),
     ];
-    for row in rows {
-        let rule = broken_rule(rt.alloc(), row.text);
-        assert!(rt; rule == Some((row.kind, row.start, row.end)));
+    for (text, kind, start, end) in rows {
+        let rule = broken_rule(rt.alloc(), text.as_bytes());
+        assert!(rt; rule == Some((kind, start, end)));
     }
 }
 
@@ -144,17 +110,17 @@ fn sixty_five_attributes(rt: HostRuntime) -> Result<(), Fail> {
 #[test]
 fn stops_of_schemas(rt: HostRuntime) {
     let rows = [
-        (b"<v:int64>[x=0:3,2,0".as_slice(), 0, 15),
-        (b"<v:int64,>[x=0:3,2,0]".as_slice(), 0, 5),
-        (b"<v:int64 not>[x=0:3,2,0]".as_slice(), 0, 5),
-        (b"<v:int64>[x=*:3,2,0]".as_slice(), 0, 8),
-        (b"<v:int64>[x=0:3,2,-1]".as_slice(), 0, 14),
-        (b"1 + <v:int64>[]".as_slice(), 2, 8),
-        (b"v".as_slice(), 0, 0),
-        (b"".as_slice(), 0, 0),
+        ("<v:int64>[x=0:3,2,0", 0, 15),
+        ("<v:int64,>[x=0:3,2,0]", 0, 5),
+        ("<v:int64 not>[x=0:3,2,0]", 0, 5),
+        ("<v:int64>[x=*:3,2,0]", 0, 8),
+        ("<v:int64>[x=0:3,2,-1]", 0, 14),
+        ("1 + <v:int64>[]", 2, 8),
+        ("v", 0, 0),
+        ("", 0, 0),
     ];
     for (text, from, token) in rows {
-        assert!(rt; stop(rt.alloc(), text, from) == Some(token));
+        assert!(rt; stop(rt.alloc(), text.as_bytes(), from) == Some(token));
     }
 }
 
