@@ -1,0 +1,71 @@
+//! The files of the system.
+ghost use Rattle.std.specs.Prelude.{◌≡◌, None};
+
+use crate::host_sink::HostSink;
+use crate::host_source::HostSource;
+use afl_outside::{Failed, Shelf, SureDisk};
+use std::fs;
+
+#[derive(Drop)]
+pub struct HostShelf {
+    rt: HostRuntime,
+    faults: u64,
+}
+
+impl HostShelf {
+    pub fn new(rt: HostRuntime) -> Self {
+        HostShelf { rt, faults: 0 }
+    }
+}
+
+impl Shelf for HostShelf {
+    type S = HostSource;
+
+    type K = HostSink;
+
+    type Device = SureDisk;
+
+    ghost use Rattle.aflshell.specs.Host.{host_shelf_state};
+
+    ghost state = { host_shelf_state };
+
+    fn script(&mut self, name: &str) -> Result<HostSource, Failed> {
+        if name == "-" {
+            return Ok(HostSource::standard(self.rt.stdin()));
+        }
+        match fs::open(&self.rt, name) {
+            Ok(file) => Ok(HostSource::named(file)),
+            Err(_) => {
+                self.faults = self.faults.saturating_add(1);
+                Err(Failed)
+            }
+        }
+    }
+
+    fn reply(&mut self, name: &str) -> Result<HostSink, Failed> {
+        if name == "-" {
+            return Ok(HostSink::standard(self.rt.stdout()));
+        }
+        match fs::create(&self.rt, name) {
+            Ok(file) => Ok(HostSink::named(file)),
+            Err(_) => {
+                self.faults = self.faults.saturating_add(1);
+                Err(Failed)
+            }
+        }
+    }
+
+    fn device(&mut self, name: &str) -> Result<SureDisk, Failed> {
+        let _ = name;
+        self.faults = self.faults.saturating_add(1);
+        Err(Failed)
+    }
+
+    fn wants(&self) -> u64 {
+        0
+    }
+
+    fn faults(&self) -> u64 {
+        self.faults
+    }
+}
