@@ -10,5 +10,6 @@ pub mod Printing
 pub mod Settling
 pub mod Sound
 pub mod Stopping
+pub mod TextLaws
 pub mod Texts
 pub mod Unfinished

@@ -1,11 +1,12 @@
 //! The first form of a statement: `build` of a schema with one attribute and one dimension, and of an expression made of numbers.
-ghost use Rattle.std.specs.Prelude.{◌≡◌, ◌≤◌, length, Some, IfOk, IfSome};
+ghost use Rattle.std.specs.Prelude.{◌≡◌, ◌≤◌, ◌||◌, length, IfOk, IfSome};
 ghost use Rattle.cell_values.specs.declared.schema.Schema.{Schema};
 ghost use Rattle.afl_parser.specs.Term.{Term, to_terms};
 ghost use Rattle.afl_parser.specs.FirstForm.{IsFirstForm, is_plain, is_arithmetic, has_null_word, has_star_bound, schema_with};
 ghost use Rattle.afl_parser.specs.FirstReading.{only, two_of, build_of, written_of, are_valid, is_small, is_first, form_of};
 
-use crate::{BinaryOp, Node, TokenFault, Tree, read_tokens};
+use crate::parser::{TokenFault, read_tokens};
+use crate::{BinaryOp, Node, Tree};
 use afl_lexer::{LexFault, Symbol, Token, TokenKind, Word, tokens};
 use cell_values::{Attribute, Dimension, Kind, List, Memory, Schema};
 use schema_grammar::{AttrText, DimText, SchemaText};
@@ -32,7 +33,9 @@ pub struct FirstForm {
 fn has_null_word(tokens: &[Token]) -> bool
     ensures { result ≡ has_null_word tokens.now }
 {
-    tokens.iter().any(|token| matches!(token.kind, TokenKind::Word(Word::Null | Word::Not)))
+    tokens
+        .iter()
+        .any(|token| matches!(token.kind, TokenKind::Word(Word::Null | Word::Not)))
 }
 
 /// Whether a `*` is written behind a colon.
@@ -43,6 +46,13 @@ fn has_star_bound(tokens: &[Token]) -> bool
         matches!(first.kind, TokenKind::Symbol(Symbol::Colon))
             && matches!(second.kind, TokenKind::Symbol(Symbol::Star))
     })
+}
+
+/// Whether a `null`, a `not` or a `*` as a high bound is written.
+fn has_extras(tokens: &[Token]) -> bool
+    ensures { result ≡ (has_null_word tokens.now || has_star_bound tokens.now) }
+{
+    has_null_word(tokens) || has_star_bound(tokens)
 }
 
 /// The item of a list that has one.
@@ -208,7 +218,7 @@ pub fn first_form(alloc: Global, text: &[u8]) -> Result<Option<FirstForm>, Memor
     match tokens(alloc, text) {
         Ok(tokens) => {
             let tokens = tokens.as_slice();
-            if has_null_word(tokens) || has_star_bound(tokens) {
+            if has_extras(tokens) {
                 return Ok(None);
             }
             match read_tokens(alloc, text, tokens) {

@@ -2,20 +2,22 @@
 #![tactic(auto)]
 
 mod copies;
-pub mod first;
-pub mod frame;
-pub mod grown;
-pub mod kind;
-pub mod parser;
+mod first;
+mod frame;
+mod grown;
+mod kind;
+mod laws;
+mod parser;
 mod printer;
-pub mod reader;
-pub mod tree;
+mod reader;
+mod tree;
 
 pub use first::{FirstForm, first_form};
-pub use frame::{Focus, Frame, Stack};
-pub use grown::{Arguments, Grown};
 pub use kind::{ParseFault, ParseKind, StopKind};
-pub use parser::{TokenFault, parse, read_tokens};
+pub use laws::texts_have_tree_or_stop;
+pub use parser::parse;
 pub use printer::{print, printed_trees_are_read_again};
-pub use reader::{Fault, Reader};
 pub use tree::{BinaryOp, Node, Tree};
+
+#[cfg(test)]
+mod tests;

@@ -1,16 +1,18 @@
 //! The reader: one turn a token.
 ghost use Rattle.std.specs.Prelude.{◌≡◌, ℕ, ◌+◌, ◌≤◌, List, [], ◌∷◌, length, nat_lt, IfOk};
-ghost use Rattle.afl_lexer.specs.Lexemes.{bytes_of, what_of, lexeme_of};
+ghost use Rattle.afl_lexer.specs.Lexemes.{what_of, lexeme_of};
 ghost use Rattle.afl_lexer.specs.Tokens.{IsTokenOf};
 ghost use Rattle.schema_grammar.specs.Reading.{shape_turn};
 ghost use Rattle.afl_parser.specs.Grammar.{op_of};
 ghost use Rattle.afl_parser.specs.Machine.{Go, shaped, shallow, settle, leaf_of, opening, begin, start, array_word, title, made, first, operated, named, opened, dated, date, closed, separated, joined, extend, name_it, turn, whole, finished, FitsBelow, Fits};
 ghost use Rattle.afl_parser.specs.Reply.{Gives, GivesWhole};
 
+use crate::frame::{Focus, Frame, Stack};
+use crate::grown::{Arguments, Grown};
 use crate::tree::across;
-use crate::{Arguments, BinaryOp, Focus, Frame, Grown, Node, Stack, StopKind, Tree};
-use afl_lexer::{Symbol, Token, TokenKind, Word, text_value};
-use cell_values::{Code, List, Memory, Name, Span};
+use crate::{BinaryOp, Node, StopKind, Tree};
+use afl_lexer::{Symbol, Token, TokenKind, Word, name_value, text_value};
+use cell_values::{Code, Memory, Name, Span};
 use schema_grammar::{ShapeState, ShapeStep, read_shape};
 use std::alloc::Global;
 
@@ -19,14 +21,14 @@ const DEPTH: usize = 128;
 
 /// What is open, and where the reader stands.
 #[derive(Drop)]
-pub struct Reader {
-    pub stack: Stack,
-    pub focus: Focus,
+pub(crate) struct Reader {
+    pub(crate) stack: Stack,
+    pub(crate) focus: Focus,
 }
 
 /// Why a token was not read.
 #[derive(Clone, Copy, Debug, PartialEq, Eq)]
-pub enum Fault {
+pub(crate) enum Fault {
     Stop(StopKind),
     Memory,
 }
@@ -42,29 +44,13 @@ impl From<Memory> for Fault {
     }
 }
 
-/// The name that a token is.
-fn name_at(alloc: Global, text: &[u8], token: Token) -> Result<Name, Memory>
-    requires token { IsTokenOf text.now token }
-    requires name { token.kind ≡ TokenKind.Name }
-    ensures { IfOk result (λ name. name ≡ bytes_of text.now token.span) }
-{
-    let bytes = List::from_slice(
-        alloc,
-        &text[token.span.start as usize..token.span.end as usize],
-    )?;
-    match Name::new(bytes) {
-        Some(name) => Ok(name),
-        None => unreachable!(),
-    }
-}
-
 /// The tree that one token is.
 fn leaf_at(alloc: Global, text: &[u8], token: Token) -> Result<Option<Tree>, Memory>
     requires { IsTokenOf text.now token }
     ensures { IfOk result (λ leaf. leaf ≡ leaf_of token.span (lexeme_of text.now token).what) }
 {
     let node = match token.kind {
-        TokenKind::Name => Node::Ref(name_at(alloc, text, token)?),
+        TokenKind::Name => Node::Ref(name_value(alloc, text, &token)?),
         TokenKind::Int(n) => Node::Number(n),
         TokenKind::Text => Node::Text(text_value(alloc, text, &token)?),
         TokenKind::Code(n) => match Code::new(n) {
@@ -234,7 +220,7 @@ fn title(
 {
     match token.kind {
         TokenKind::Name => {
-            let name = name_at(alloc, text, token)?;
+            let name = name_value(alloc, text, &token)?;
             Ok(Reader {
                 stack,
                 focus: Focus::NewShape(start, name, ShapeState::Start),
@@ -384,7 +370,12 @@ fn start_version(stack: Stack, tree: Grown) -> Result<Reader, Fault>
 }
 
 /// Behind a name and `@`.
-fn end_version(stack: Stack, name: Name, start: Span, token: Token) -> Result<Reader, Fault>
+fn end_version(
+    stack: Stack,
+    name: Name,
+    start: Span,
+    token: Token,
+) -> Result<Reader, Fault>
     ensures { (bytes : List ℕ) → Gives result (date stack name start token.span (what_of token.kind bytes)) }
 {
     match token.kind {
@@ -540,7 +531,7 @@ fn name_it(
 {
     match token.kind {
         TokenKind::Name => {
-            let name = name_at(alloc, text, token)?;
+            let name = name_value(alloc, text, &token)?;
             let whole = across(tree.tree().span(), token.span);
             let renamed = Grown::renamed(alloc, whole, tree, name)?;
             Ok(Reader {
@@ -566,7 +557,7 @@ fn whole(alloc: Global, stack: Stack, tree: Grown) -> Result<Tree, Fault>
 
 impl Reader {
     /// Reads one token.
-    pub fn read(self, alloc: Global, text: &[u8], token: Token) -> Result<Reader, Fault>
+    pub(crate) fn read(self, alloc: Global, text: &[u8], token: Token) -> Result<Reader, Fault>
         requires fits { Fits 128 self.stack self.focus }
         requires token { IsTokenOf text.now token }
         ensures { Gives result (turn 128 self.stack self.focus (lexeme_of text.now token)) }
@@ -594,7 +585,7 @@ impl Reader {
     }
 
     /// The whole tree, where nothing is open.
-    pub fn finish(self, alloc: Global) -> Result<Tree, Fault>
+    pub(crate) fn finish(self, alloc: Global) -> Result<Tree, Fault>
         requires { Fits 128 self.stack self.focus }
         ensures { GivesWhole result (finished self.stack self.focus) }
     {

@@ -1,0 +1,5 @@
+pub mod Cells
+pub mod Ending
+pub mod Outcomes
+pub mod Reports
+pub mod ServingLemmas

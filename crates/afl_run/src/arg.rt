@@ -1,0 +1,45 @@
+//! The words of the command line.
+ghost use Rattle.std.specs.Prelude.{◌≡◌, string_bytes};
+ghost use Rattle.afl_run.specs.Words.{wrong_word};
+
+use std::marker::Model;
+
+/// A word, which contracts see as its bytes.
+#[derive(Debug, Drop)]
+pub struct Arg {
+    text: String,
+}
+
+impl Model for Arg {
+    ghost use Rattle.std.specs.Prelude.{List, ℕ, string_bytes};
+
+    ghost Value = { List ℕ };
+
+    ghost view = { λ arg. string_bytes arg.text };
+}
+
+impl Arg {
+    pub fn new(text: String) -> Arg
+        ensures { result ≡ string_bytes text }
+    {
+        Arg { text }
+    }
+
+    pub fn as_str(&self) -> &str
+        ensures { result.now ≡ self.now }
+    {
+        self.text.as_str()
+    }
+}
+
+/// The place, from 0, of the first word that no form has there, or the number of words where one is missing. None where
+/// the words have a form.
+pub(crate) fn wrong_place(words: &[Arg]) -> Option<u32>
+    ensures { result ≡ wrong_word words.now }
+{
+    match words {
+        [first] if first.as_str() == "try" => None,
+        [first, ..] if first.as_str() == "try" => Some(1),
+        _ => Some(0),
+    }
+}

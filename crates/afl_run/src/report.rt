@@ -1,0 +1,94 @@
+//! What sessions and runs report.
+ghost use Rattle.std.specs.Prelude.{◌≡◌, ◌++◌, IfOk, codes};
+ghost use Rattle.std.specs.Fmt.{decimal};
+ghost use Rattle.afl_run.specs.Notice.{line_of_notice};
+
+use crate::reply::Refusal;
+use afl_outside::Shelf;
+use cell_values::{Bytes, List, Memory};
+use itoa::Buffer;
+use std::alloc::Global;
+
+/// What became of a statement.
+#[derive(Debug, Drop, PartialEq, Eq)]
+pub struct Mark {
+    /// Its first byte's place in the script.
+    pub start: u64,
+    /// The place behind its last byte.
+    pub end: u64,
+    /// How many entries of the history its reply rests on: 0, since there is no history yet.
+    pub place: u64,
+    pub refusal: Option<Refusal>,
+}
+
+/// How a session ended.
+#[derive(Clone, Copy, Debug, PartialEq, Eq)]
+pub enum SessionEnd {
+    /// The script was read to its end, and each statement answered.
+    Whole,
+    /// The source failed.
+    Source,
+    /// The sink failed.
+    Sink,
+    /// No memory was found.
+    Memory,
+}
+
+/// A session at its end.
+#[derive(Debug, Drop)]
+pub struct SessionReport<S, K> {
+    pub source: S,
+    pub sink: K,
+    /// The marks of the statements that were answered, in order.
+    pub marks: List<Mark>,
+    pub end: SessionEnd,
+}
+
+/// How a run ended.
+#[derive(Clone, Copy, Debug, PartialEq, Eq)]
+pub enum Notice {
+    /// Each statement was accepted.
+    Done,
+    /// Some statement was refused.
+    Refused,
+    /// The words have no form, first at this word.
+    Usage { word: u32 },
+    /// A stream of this session failed.
+    Stream { session: u32 },
+    /// No memory was found.
+    Memory,
+}
+
+/// A run at its end.
+#[derive(Drop)]
+pub struct Report<F: Shelf> {
+    /// The status with which the program ends.
+    pub status: u8,
+    pub notice: Notice,
+    pub sessions: List<SessionReport<F::S, F::K>>,
+    pub shelf: F,
+}
+
+/// The line that a notice is printed as: none where the replies say all.
+pub fn notice_line(alloc: Global, notice: &Notice) -> Result<Bytes, Memory>
+    ensures { IfOk result (λ line. line ≡ line_of_notice notice.now) }
+{
+    match notice {
+        Notice::Done | Notice::Refused => Ok(Bytes::new(alloc)),
+        Notice::Usage { word } => numbered_line(alloc, b"aflshell: usage at word ", *word),
+        Notice::Stream { session } => {
+            numbered_line(alloc, b"aflshell: stream fault in session ", *session)
+        }
+        Notice::Memory => Bytes::from_slice(alloc, b"aflshell: out of memory\n"),
+    }
+}
+
+fn numbered_line(alloc: Global, words: &[u8], number: u32) -> Result<Bytes, Memory>
+    ensures { IfOk result (λ line. line ≡ words.now ++ decimal number ++ codes "\n") }
+{
+    let mut buffer = Buffer::new();
+    let mut line = Bytes::from_slice(alloc, words)?;
+    line.extend(buffer.format(number).as_bytes())?;
+    line.extend(b"\n")?;
+    Ok(line)
+}

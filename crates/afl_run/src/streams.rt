@@ -1,0 +1,48 @@
+//! Writing to a sink to the end.
+ghost use Rattle.std.specs.Prelude.{◌≡◌, ◌≤◌, ℕ, take, OnOk, OnErr, IsErrOf};
+ghost use Rattle.afl_outside.specs.Counts.{Rose};
+ghost use Rattle.afl_outside.specs.Sink.{Takes};
+
+use afl_outside::{Failed, Sink, has_risen};
+use std::alloc::AllocError;
+
+/// Why a session goes no further.
+#[derive(Clone, Copy, Debug, PartialEq, Eq)]
+pub(crate) enum Stopped {
+    /// Its sink failed.
+    Fault,
+    /// No memory was found.
+    Memory,
+}
+
+impl From<AllocError> for Stopped {
+    ghost use Rattle.afl_run.specs.declared.streams.Stopped.TheVariants.{Memory};
+
+    ghost from_gives = { λ _ stopped. stopped ≡ Memory };
+
+    fn from(_error: AllocError) -> Stopped {
+        Stopped::Memory
+    }
+}
+
+/// Writes all of a text.
+pub(crate) fn write_whole<K: Sink>(sink: &mut K, text: &[u8]) -> Result<(), Stopped>
+    ensures ok { OnOk result (Takes (K.state sink.old) (K.state sink.new) text.now) }
+    ensures err { OnErr result ((n : ℕ) × Takes (K.state sink.old) (K.state sink.new) (take n text.now)) }
+    ensures fault { IsErrOf result Stopped.Fault → Rose (K.state sink.old).faults (K.state sink.new).faults }
+{
+    let mut done = 0;
+    'pieces: while done < text.len() {
+        let before = sink.faults();
+        match sink.write(text.split_at(done).1) {
+            Ok(count) => done += count,
+            Err(Failed) => {
+                if has_risen(before, sink.faults()) {
+                    return Err(Stopped::Fault);
+                }
+                return Err(Stopped::Memory);
+            }
+        }
+    }
+    Ok(())
+}

@@ -1,0 +1,200 @@
+//! The top call.
+ghost use Rattle.std.specs.Prelude.{◌≡◌, ◌≢◌, ◌↔◌, ◌⊎◌, ◌≤◌, ℕ, Some, None, All, Any, IsSome, IsTrue, IfOk, [], ◌∷◌, ◌<◌, vec_capacity};
+ghost use Rattle.afl_lexer.specs.Standing.{StandsAfter};
+ghost use Rattle.std.specs.List.{list_any};
+ghost use Rattle.afl_outside.specs.Counts.{Rose};
+ghost use Rattle.afl_outside.specs.Sink.{IsNewSink};
+ghost use Rattle.afl_outside.specs.Source.{IsNewSource};
+ghost use Rattle.afl_run.specs.Notice.{is_refusal, is_want, notice_of, status_of};
+ghost use Rattle.afl_run.specs.Run.{IsOpenedAs, IsUnopened, Only, Prints, standard};
+ghost use Rattle.afl_run.specs.Words.{wrong_word};
+
+use crate::arg::{Arg, wrong_place};
+use crate::reply::Refusal;
+use crate::report::{Mark, Notice, Report, SessionEnd, SessionReport};
+use crate::session::serve;
+use afl_lexer::Splitter;
+use afl_outside::{Failed, Gate, Shelf, has_risen};
+use cell_values::{List, Memory};
+use std::alloc::Global;
+
+/// Runs what the words say: `try` answers the script that the shelf opens as `-` on the reply that it opens as `-`.
+pub fn run<F: Shelf, G: Gate>(alloc: Global, words: &[Arg], shelf: F, _gate: &G) -> Report<F>
+    ensures status { result.status ≡ status_of result.notice }
+
+    // Exactly where the words have no form, and at the first word that none has there.
+    ensures usage { (word : ℕ) → (result.notice ≡ Notice.Usage word) ↔ (wrong_word words.now ≡ Some word) }
+
+    // What is opened has the name of the standard streams, and began as the shelf told.
+    ensures opened { All (λ r. IsOpenedAs standard (F.state shelf) (F.S.state r.source) (F.K.state r.sink)) result.sessions }
+
+    // The statements of the script are answered in order.
+    ensures prints { All (λ r. Prints (F.S.state r.source) (F.K.state r.sink) r.marks r.end) result.sessions }
+
+    // Of a session the notice tells its end and its marks.
+    ensures session { All (λ r. result.notice ≡ notice_of r.end r.marks) result.sessions }
+    ensures done { result.notice ≡ Notice.Done → Only (λ r. (r.end ≡ SessionEnd.Whole) × All (λ m. m.refusal ≡ None) r.marks) result.sessions }
+    ensures refused { result.notice ≡ Notice.Refused → Only (λ r. (r.end ≡ SessionEnd.Whole) × Any (λ m. IsTrue (is_refusal m.refusal)) r.marks) result.sessions }
+
+    // Before the session a stream fails only where the shelf's count rose, at a name that it hadn't told.
+    ensures stream { (session : ℕ) → result.notice ≡ Notice.Stream session → (session ≡ 0) ×
+        (((result.sessions ≡ []) × IsUnopened standard (F.state shelf) (F.state result.shelf))
+        ⊎ Only (λ r. (r.end ≡ SessionEnd.Source) ⊎ (r.end ≡ SessionEnd.Sink)) result.sessions) }
+    ensures later { (F.state shelf).faults ≤ (F.state result.shelf).faults }
+
+    // Where the shelf tells that it opens both, and no stream's count rose, the script was answered, but for memory.
+    ensures complete { wrong_word words.now ≡ None → IsSome ((F.state shelf).scripts standard) → IsSome ((F.state shelf).replies standard) →
+        All (λ r. (Rose 0 (F.S.state r.source).faults → ⊥) × (Rose 0 (F.K.state r.sink).faults → ⊥)) result.sessions →
+        (result.status ≡ 0) ⊎ ((result.status ≡ 1) ⊎ (result.status ≡ 5)) }
+{
+    match wrong_place(words) {
+        Some(word) => unopened(alloc, Notice::Usage { word }, shelf),
+        None => run_try(alloc, shelf),
+    }
+}
+
+/// A report of a run that opened nothing.
+fn unopened<F: Shelf>(alloc: Global, notice: Notice, shelf: F) -> Report<F>
+    ensures status { result.status ≡ status_of notice }
+    ensures notice { result.notice ≡ notice }
+    ensures sessions { result.sessions ≡ [] }
+    ensures shelf { result.shelf ≡ shelf }
+{
+    Report {
+        status: status(notice),
+        notice,
+        sessions: List::new(alloc),
+        shelf,
+    }
+}
+
+fn status(notice: Notice) -> u8
+    ensures { result ≡ status_of notice }
+{
+    match notice {
+        Notice::Done => 0,
+        Notice::Refused => 1,
+        Notice::Usage { word: _ } => 2,
+        Notice::Stream { session: _ } => 4,
+        Notice::Memory => 5,
+    }
+}
+
+/// One session from the standard input to the standard output. The memory that it takes besides its replies is there before
+/// its first statement.
+fn run_try<F: Shelf>(alloc: Global, shelf: F) -> Report<F>
+    ensures status { result.status ≡ status_of result.notice }
+    ensures opened { All (λ r. IsOpenedAs standard (F.state shelf) (F.S.state r.source) (F.K.state r.sink)) result.sessions }
+    ensures prints { All (λ r. Prints (F.S.state r.source) (F.K.state r.sink) r.marks r.end) result.sessions }
+    ensures notice { Only (λ r. result.notice ≡ notice_of r.end r.marks) result.sessions
+        ⊎ ((result.sessions ≡ []) × ((result.notice ≡ Notice.Memory)
+        ⊎ ((result.notice ≡ Notice.Stream 0) × IsUnopened standard (F.state shelf) (F.state result.shelf)))) }
+    ensures later { (F.state shelf).faults ≤ (F.state result.shelf).faults }
+{
+    let mut shelf = shelf;
+    let wants = shelf.wants();
+    let source = match shelf.script("-") {
+        Ok(source) => source,
+        Err(Failed) => {
+            let notice = unopened_notice(wants, shelf.wants());
+            return unopened(alloc, notice, shelf);
+        }
+    };
+    let wants = shelf.wants();
+    let sink = match shelf.reply("-") {
+        Ok(sink) => sink,
+        Err(Failed) => {
+            let notice = unopened_notice(wants, shelf.wants());
+            return unopened(alloc, notice, shelf);
+        }
+    };
+    match room(alloc) {
+        Ok((splitter, sessions)) => {
+            report_of(sessions, serve(alloc, source, sink, splitter), shelf)
+        }
+        Err(Memory) => unopened(alloc, Notice::Memory, shelf),
+    }
+}
+
+/// A call of the shelf found no memory, or else it failed.
+fn unopened_notice(before: u64, now: u64) -> Notice
+    requires { before ≤ now }
+    ensures { ((result ≡ Notice.Memory) × Rose before now) ⊎ ((result ≡ Notice.Stream 0) × (Rose before now → ⊥)) }
+{
+    if has_risen(before, now) {
+        Notice::Memory
+    } else {
+        Notice::Stream { session: 0 }
+    }
+}
+
+/// The splitter of a session, and the room for its report.
+fn room<T: Drop>(alloc: Global) -> Result<(Splitter, Vec<T>), Memory>
+    ensures { IfOk result (λ r. StandsAfter [] r.0 × (r.1.items ≡ []) × (0 < vec_capacity r.1)) }
+{
+    let sessions = Vec::with_capacity(alloc, 1)?;
+    Ok((Splitter::new(alloc)?, sessions))
+}
+
+fn report_of<F: Shelf>(
+    sessions: Vec<SessionReport<F::S, F::K>>,
+    session: SessionReport<F::S, F::K>,
+    shelf: F,
+) -> Report<F>
+    requires none { sessions.items ≡ [] }
+    requires room { 0 < vec_capacity sessions }
+    ensures status { result.status ≡ status_of result.notice }
+    ensures notice { result.notice ≡ notice_of session.end session.marks }
+    ensures sessions { result.sessions ≡ session ∷ [] }
+    ensures shelf { result.shelf ≡ shelf }
+{
+    let notice = notice_after(session.end, &session.marks);
+    let mut sessions = sessions;
+    sessions.push_reserved(session);
+    Report {
+        status: status(notice),
+        notice,
+        sessions: List::from_vec(sessions),
+        shelf,
+    }
+}
+
+/// What is told of a session that ended so and made these marks.
+fn notice_after(end: SessionEnd, marks: &List<Mark>) -> Notice
+    ensures { result ≡ notice_of end marks.now }
+{
+    let lacks_memory = has_want(marks);
+    match end {
+        SessionEnd::Memory => Notice::Memory,
+        _ if lacks_memory => Notice::Memory,
+        SessionEnd::Source | SessionEnd::Sink => Notice::Stream { session: 0 },
+        SessionEnd::Whole if has_refusal(marks) => Notice::Refused,
+        SessionEnd::Whole => Notice::Done,
+    }
+}
+
+/// Whether a statement was refused for another reason than want of memory.
+fn has_refusal(marks: &List<Mark>) -> bool
+    ensures { result ≡ list_any (λ m. is_refusal m.refusal) marks.now }
+{
+    marks.as_slice().iter().any(is_refused)
+}
+
+fn is_refused(mark: &Mark) -> bool
+    ensures { result ≡ is_refusal mark.now.refusal }
+{
+    matches!(mark.refusal, Some(Refusal::NotBuilt | Refusal::Cell { .. }))
+}
+
+/// Whether no memory was found for some reply.
+fn has_want(marks: &List<Mark>) -> bool
+    ensures { result ≡ list_any (λ m. is_want m.refusal) marks.now }
+{
+    marks.as_slice().iter().any(is_unanswered)
+}
+
+fn is_unanswered(mark: &Mark) -> bool
+    ensures { result ≡ is_want mark.now.refusal }
+{
+    matches!(mark.refusal, Some(Refusal::Memory))
+}
