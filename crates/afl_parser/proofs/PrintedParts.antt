@@ -29,7 +29,7 @@ joined_after (u ∷ us) t i start first all some is whole p q =
     ∙ append_assoc start (printed u) (flat_map behind_comma us) ∙ ap (λ l. start ++ l) (sym (joined u us))
 
 -- an argument is no larger than all of them
-part_size : (ts : List Term) (i : ℕ) (d : Term) → i < length ts → term_size (slice_index_or ts i d) ≤ terms_size (to_terms ts)
+pub part_size : (ts : List Term) (i : ℕ) (d : Term) → i < length ts → term_size (slice_index_or ts i d) ≤ terms_size (to_terms ts)
 part_size [] i d h = absurd (omega arith)
 part_size (t ∷ ts) zero d h = omega arith
 part_size (t ∷ ts) (suc i) d h = omega (arith, part_size ts i d (omega arith))

@@ -24,7 +24,6 @@ fn copy_trees(trees: &Vec<Tree>) -> Result<Vec<Tree>, Memory>
     Ok(copy)
 }
 
-/// A node with equal parts.
 #[cycle(copy_tree)]
 fn copy_node(node: &Node) -> Result<Node, Memory>
     ensures { IfOk result (λ copy. (span : Span) → term_of span copy ≡ term_of span node.now) }

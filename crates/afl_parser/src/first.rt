@@ -33,7 +33,9 @@ pub struct FirstForm {
 fn has_null_word(tokens: &[Token]) -> bool
     ensures { result ≡ has_null_word tokens.now }
 {
-    tokens.iter().any(|token| matches!(token.kind, TokenKind::Word(Word::Null | Word::Not)))
+    tokens
+        .iter()
+        .any(|token| matches!(token.kind, TokenKind::Word(Word::Null | Word::Not)))
 }
 
 /// Whether a `*` is written behind a colon.
