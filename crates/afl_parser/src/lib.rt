@@ -17,4 +17,6 @@ pub use parser::parse;
 pub use tree::{BinaryOp, Node, Tree};
 
 #[cfg(test)]
+mod faults;
+#[cfg(test)]
 mod tests;
