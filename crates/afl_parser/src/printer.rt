@@ -179,3 +179,6 @@ pub fn print(alloc: Global, tree: &Tree) -> Result<Bytes, Memory>
 pub fn printed_trees_are_read_again()
     ensures { AreReadAgain }
 {}
+
+#[cfg(test)]
+mod tests;
