@@ -7,5 +7,6 @@ pub mod Parsing
 pub mod Settling
 pub mod Sound
 pub mod Stopping
+pub mod TextLaws
 pub mod Texts
 pub mod Unfinished

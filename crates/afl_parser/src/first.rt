@@ -5,7 +5,8 @@ ghost use Rattle.afl_parser.specs.Term.{Term, to_terms};
 ghost use Rattle.afl_parser.specs.FirstForm.{IsFirstForm, is_plain, is_arithmetic, has_null_word, has_star_bound, schema_with};
 ghost use Rattle.afl_parser.specs.FirstReading.{only, two_of, build_of, written_of, are_valid, is_small, is_first, form_of};
 
-use crate::{BinaryOp, Node, TokenFault, Tree, read_tokens};
+use crate::parser::{TokenFault, read_tokens};
+use crate::{BinaryOp, Node, Tree};
 use afl_lexer::{LexFault, Symbol, Token, TokenKind, Word, tokens};
 use cell_values::{Attribute, Dimension, Kind, List, Memory, Schema};
 use schema_grammar::{AttrText, DimText, SchemaText};

@@ -3,8 +3,9 @@ ghost use Rattle.std.specs.Prelude.{◌≡◌, [], ◌∷◌, ◌+◌, ◌<◌, 
 ghost use Rattle.afl_parser.specs.Grammar.{height};
 ghost use Rattle.afl_parser.specs.Machine.{wanted, want, ends, close, frame_height};
 
+use crate::grown::{Arguments, Grown};
 use crate::tree::across;
-use crate::{Arguments, BinaryOp, Grown, Tree};
+use crate::{BinaryOp, Tree};
 use cell_values::{Memory, Name, Span};
 use schema_grammar::ShapeState;
 use std::alloc::Global;
@@ -12,7 +13,7 @@ use std::marker::Model;
 
 /// A node whose last child is still to come.
 #[derive(Drop)]
-pub enum Frame {
+pub(crate) enum Frame {
     Group(Span),
     Not(Span),
     Minus(Span),
@@ -22,7 +23,7 @@ pub enum Frame {
 
 /// Where the reader stands below the open nodes.
 #[derive(Drop)]
-pub enum Focus {
+pub(crate) enum Focus {
     /// At the start of the statement.
     Start,
     /// Behind `create`.
@@ -49,7 +50,7 @@ pub enum Focus {
 
 /// The open nodes. Contracts see them as a list, the innermost first.
 #[derive(Drop)]
-pub struct Stack {
+pub(crate) struct Stack {
     frames: Vec<Frame>,
 }
 
@@ -68,7 +69,7 @@ impl Model for Stack {
 }
 
 impl Stack {
-    pub fn new(alloc: Global) -> Stack
+    pub(crate) fn new(alloc: Global) -> Stack
         ensures { result ≡ [] }
     {
         Stack {
@@ -76,13 +77,13 @@ impl Stack {
         }
     }
 
-    pub fn len(&self) -> usize
+    pub(crate) fn len(&self) -> usize
         ensures { result ≡ length self.now }
     {
         self.frames.len()
     }
 
-    pub fn push(&mut self, frame: Frame) -> Result<(), Memory>
+    pub(crate) fn push(&mut self, frame: Frame) -> Result<(), Memory>
         ensures { OnOk result (self.new ≡ frame ∷ self.old) }
     {
         self.frames.push(frame)?;
@@ -90,7 +91,7 @@ impl Stack {
     }
 
     /// The line that the innermost open node wants of its last child.
-    pub fn want(&self) -> u8
+    pub(crate) fn want(&self) -> u8
         ensures { result ≡ want self.now }
     {
         match self.frames.last() {
@@ -99,7 +100,7 @@ impl Stack {
         }
     }
 
-    pub fn pop(&mut self) -> Option<Frame>
+    pub(crate) fn pop(&mut self) -> Option<Frame>
         ensures { MatchOption result ((self.old ≡ []) × (self.new ≡ [])) (λ frame. self.old ≡ frame ∷ self.new) }
     {
         self.frames.pop()
@@ -108,7 +109,7 @@ impl Stack {
 
 impl Frame {
     /// The line that the node wants of its last child.
-    pub fn wanted(&self) -> u8
+    pub(crate) fn wanted(&self) -> u8
         ensures { result ≡ wanted self.now }
     {
         match self {
@@ -121,7 +122,7 @@ impl Frame {
     }
 
     /// Whether the node ends before a node of this line.
-    pub fn ends(&self, line: u8) -> bool
+    pub(crate) fn ends(&self, line: u8) -> bool
         ensures { result ≡ ends line self.now }
     {
         match self {
@@ -134,7 +135,7 @@ impl Frame {
     }
 
     /// The node with its last child, where no bracket has to follow.
-    pub fn close(self, alloc: Global, tree: Grown) -> Result<Grown, Memory>
+    pub(crate) fn close(self, alloc: Global, tree: Grown) -> Result<Grown, Memory>
         requires frame { frame_height self + 1 < 2 ^ 64 }
         requires tree { height tree + 1 < 2 ^ 64 }
         ensures { IfOk result (λ t. t ≡ close self tree) }

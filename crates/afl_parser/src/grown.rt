@@ -10,7 +10,7 @@ use std::marker::Model;
 
 /// A tree that knows its height.
 #[derive(Drop)]
-pub struct Grown {
+pub(crate) struct Grown {
     tree: Tree,
     depth: usize,
 }
@@ -32,7 +32,7 @@ impl Model for Grown {
 
 /// Arguments that know the height of the highest.
 #[derive(Drop)]
-pub struct Arguments {
+pub(crate) struct Arguments {
     trees: List<Tree>,
     depth: usize,
 }
@@ -55,14 +55,14 @@ impl Model for Arguments {
 
 impl Grown {
     /// A tree without parts.
-    pub fn leaf(tree: Tree) -> Grown
+    pub(crate) fn leaf(tree: Tree) -> Grown
         requires { height tree ≡ 1 }
         ensures { result ≡ tree }
     {
         Grown { tree, depth: 1 }
     }
 
-    pub fn empty_call(alloc: Global, span: Span, name: Name) -> Grown
+    pub(crate) fn empty_call(alloc: Global, span: Span, name: Name) -> Grown
         ensures { result ≡ call span name no_terms }
     {
         let node = Node::Call(name, Vec::new(alloc));
@@ -72,7 +72,7 @@ impl Grown {
         }
     }
 
-    pub fn renamed(alloc: Global, span: Span, a: Grown, name: Name) -> Result<Grown, Memory>
+    pub(crate) fn renamed(alloc: Global, span: Span, a: Grown, name: Name) -> Result<Grown, Memory>
         requires { height a + 1 < 2 ^ 64 }
         ensures { IfOk result (λ t. t ≡ renamed span a name) }
     {
@@ -84,7 +84,7 @@ impl Grown {
         })
     }
 
-    pub fn opposite(alloc: Global, span: Span, a: Grown) -> Result<Grown, Memory>
+    pub(crate) fn opposite(alloc: Global, span: Span, a: Grown) -> Result<Grown, Memory>
         requires { height a + 1 < 2 ^ 64 }
         ensures { IfOk result (λ t. t ≡ opposite span a) }
     {
@@ -96,7 +96,7 @@ impl Grown {
         })
     }
 
-    pub fn negative(alloc: Global, span: Span, a: Grown) -> Result<Grown, Memory>
+    pub(crate) fn negative(alloc: Global, span: Span, a: Grown) -> Result<Grown, Memory>
         requires { height a + 1 < 2 ^ 64 }
         ensures { IfOk result (λ t. t ≡ negative span a) }
     {
@@ -108,7 +108,7 @@ impl Grown {
         })
     }
 
-    pub fn group(alloc: Global, span: Span, a: Grown) -> Result<Grown, Memory>
+    pub(crate) fn group(alloc: Global, span: Span, a: Grown) -> Result<Grown, Memory>
         requires { height a + 1 < 2 ^ 64 }
         ensures { IfOk result (λ t. t ≡ group span a) }
     {
@@ -120,7 +120,7 @@ impl Grown {
         })
     }
 
-    pub fn binary(
+    pub(crate) fn binary(
         alloc: Global,
         span: Span,
         op: BinaryOp,
@@ -141,7 +141,7 @@ impl Grown {
         })
     }
 
-    pub fn call(span: Span, name: Name, arguments: Arguments) -> Grown
+    pub(crate) fn call(span: Span, name: Name, arguments: Arguments) -> Grown
         requires { heights (to_terms arguments) + 1 < 2 ^ 64 }
         ensures { result ≡ call span name (to_terms arguments) }
     {
@@ -153,19 +153,19 @@ impl Grown {
         }
     }
 
-    pub fn height(&self) -> usize
+    pub(crate) fn height(&self) -> usize
         ensures { result ≡ height self.now }
     {
         self.depth
     }
 
-    pub fn tree(&self) -> &Tree
+    pub(crate) fn tree(&self) -> &Tree
         ensures { result.now ≡ self.now }
     {
         &self.tree
     }
 
-    pub fn into_tree(self) -> Tree
+    pub(crate) fn into_tree(self) -> Tree
         ensures { result ≡ self }
     {
         let Grown { tree, depth: _ } = self;
@@ -174,7 +174,7 @@ impl Grown {
 }
 
 impl Arguments {
-    pub fn none(alloc: Global) -> Arguments
+    pub(crate) fn none(alloc: Global) -> Arguments
         ensures { result ≡ [] }
     {
         Arguments {
@@ -185,7 +185,7 @@ impl Arguments {
 
     /// The arguments with one more.
     #[tactic(auto, using(crate::proofs::Heights::heights_of_more))]
-    pub fn with(self, argument: Grown) -> Result<Arguments, Memory>
+    pub(crate) fn with(self, argument: Grown) -> Result<Arguments, Memory>
         ensures { IfOk result (λ all. all ≡ self ++ argument ∷ []) }
     {
         let Arguments { mut trees, depth } = self;

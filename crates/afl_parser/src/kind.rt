@@ -39,7 +39,7 @@ pub enum ParseFault {
 
 impl ParseKind {
     /// The kind of a fault within a token.
-    pub fn lexical(kind: LexKind) -> ParseKind
+    pub(crate) fn lexical(kind: LexKind) -> ParseKind
         ensures { result ≡ lexical kind }
     {
         match kind {
@@ -53,7 +53,7 @@ impl ParseKind {
     }
 
     /// The kind of a fault between tokens.
-    pub fn syntactic(kind: StopKind) -> ParseKind
+    pub(crate) fn syntactic(kind: StopKind) -> ParseKind
         ensures { result ≡ syntactic kind }
     {
         match kind {

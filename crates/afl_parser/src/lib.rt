@@ -1,18 +1,20 @@
 //! Syntax trees of statements, the grammar, and its parser.
 #![tactic(auto)]
 
-pub mod first;
-pub mod frame;
-pub mod grown;
-pub mod kind;
-pub mod parser;
-pub mod reader;
-pub mod tree;
+mod first;
+mod frame;
+mod grown;
+mod kind;
+mod laws;
+mod parser;
+mod reader;
+mod tree;
 
 pub use first::{FirstForm, first_form};
-pub use frame::{Focus, Frame, Stack};
-pub use grown::{Arguments, Grown};
 pub use kind::{ParseFault, ParseKind, StopKind};
-pub use parser::{TokenFault, parse, read_tokens};
-pub use reader::{Fault, Reader};
+pub use laws::texts_have_tree_or_stop;
+pub use parser::parse;
 pub use tree::{BinaryOp, Node, Tree};
+
+#[cfg(test)]
+mod tests;

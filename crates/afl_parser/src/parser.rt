@@ -8,13 +8,15 @@ ghost use Rattle.afl_parser.specs.Reply.{placed, IsTokenStop, at_token, in_token
 ghost use Rattle.afl_parser.specs.Outcome.{IsTextStop, AnswersTree, AnswersStop};
 ghost use Rattle.afl_parser.specs.declared.kind.ParseKind.{ParseKind};
 
-use crate::{Fault, Focus, ParseFault, ParseKind, Reader, Stack, StopKind, Tree};
+use crate::frame::{Focus, Stack};
+use crate::reader::{Fault, Reader};
+use crate::{ParseFault, ParseKind, StopKind, Tree};
 use afl_lexer::{LexFault, Token, tokens};
 use std::alloc::Global;
 
 /// Why tokens have no tree.
 #[derive(Clone, Copy, Debug, PartialEq, Eq)]
-pub enum TokenFault {
+pub(crate) enum TokenFault {
     /// The place of the token among the tokens, or their number.
     At { index: usize, kind: StopKind },
     /// No memory was left.
@@ -34,7 +36,7 @@ impl Fault {
 }
 
 /// The tree of a text's tokens, or where and why they stop to be the front of a statement.
-pub fn read_tokens(alloc: Global, text: &[u8], tokens: &[Token]) -> Result<Tree, TokenFault>
+pub(crate) fn read_tokens(alloc: Global, text: &[u8], tokens: &[Token]) -> Result<Tree, TokenFault>
     requires { All (IsTokenOf text.now) tokens.now }
     ensures tree { IfOk result (λ t. IsStatement 128 (lexemes text.now tokens.now) t) }
     ensures stop { IfErr result (λ fault. IsTokenStop 128 (lexemes text.now tokens.now) fault) }

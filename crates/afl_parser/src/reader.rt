@@ -7,8 +7,10 @@ ghost use Rattle.afl_parser.specs.Grammar.{op_of};
 ghost use Rattle.afl_parser.specs.Machine.{Go, shaped, shallow, settle, leaf_of, opening, begin, start, array_word, title, made, first, operated, named, opened, dated, date, closed, separated, joined, extend, name_it, turn, whole, finished, FitsBelow, Fits};
 ghost use Rattle.afl_parser.specs.Reply.{Gives, GivesWhole};
 
+use crate::frame::{Focus, Frame, Stack};
+use crate::grown::{Arguments, Grown};
 use crate::tree::across;
-use crate::{Arguments, BinaryOp, Focus, Frame, Grown, Node, Stack, StopKind, Tree};
+use crate::{BinaryOp, Node, StopKind, Tree};
 use afl_lexer::{Symbol, Token, TokenKind, Word, name_value, text_value};
 use cell_values::{Code, Memory, Name, Span};
 use schema_grammar::{ShapeState, ShapeStep, read_shape};
@@ -19,14 +21,14 @@ const DEPTH: usize = 128;
 
 /// What is open, and where the reader stands.
 #[derive(Drop)]
-pub struct Reader {
-    pub stack: Stack,
-    pub focus: Focus,
+pub(crate) struct Reader {
+    pub(crate) stack: Stack,
+    pub(crate) focus: Focus,
 }
 
 /// Why a token was not read.
 #[derive(Clone, Copy, Debug, PartialEq, Eq)]
-pub enum Fault {
+pub(crate) enum Fault {
     Stop(StopKind),
     Memory,
 }
@@ -555,7 +557,7 @@ fn whole(alloc: Global, stack: Stack, tree: Grown) -> Result<Tree, Fault>
 
 impl Reader {
     /// Reads one token.
-    pub fn read(self, alloc: Global, text: &[u8], token: Token) -> Result<Reader, Fault>
+    pub(crate) fn read(self, alloc: Global, text: &[u8], token: Token) -> Result<Reader, Fault>
         requires fits { Fits 128 self.stack self.focus }
         requires token { IsTokenOf text.now token }
         ensures { Gives result (turn 128 self.stack self.focus (lexeme_of text.now token)) }
@@ -583,7 +585,7 @@ impl Reader {
     }
 
     /// The whole tree, where nothing is open.
-    pub fn finish(self, alloc: Global) -> Result<Tree, Fault>
+    pub(crate) fn finish(self, alloc: Global) -> Result<Tree, Fault>
         requires { Fits 128 self.stack self.focus }
         ensures { GivesWhole result (finished self.stack self.focus) }
     {

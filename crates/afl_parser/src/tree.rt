@@ -81,7 +81,7 @@ impl Model for Tree {
 }
 
 /// From the start of the first to the end of the second.
-pub fn across(first: Span, last: Span) -> Span
+pub(crate) fn across(first: Span, last: Span) -> Span
     ensures { result ≡ across first last }
 {
     Span {
@@ -92,7 +92,7 @@ pub fn across(first: Span, last: Span) -> Span
 
 impl BinaryOp {
     /// The line of the grammar that has the operator.
-    pub fn line(self) -> u8
+    pub(crate) fn line(self) -> u8
         ensures { result ≡ line_of self }
     {
         match self {
@@ -110,7 +110,7 @@ impl BinaryOp {
     }
 
     /// The line of its left operand.
-    pub fn left_line(self) -> u8
+    pub(crate) fn left_line(self) -> u8
         ensures { result ≡ left_line self }
     {
         match self {
@@ -128,7 +128,7 @@ impl BinaryOp {
     }
 
     /// The line of its right operand.
-    pub fn right_line(self) -> u8
+    pub(crate) fn right_line(self) -> u8
         ensures { result ≡ right_line self }
     {
         match self {
@@ -148,7 +148,7 @@ impl BinaryOp {
 
 impl Tree {
     /// The line of the grammar that has the tree's top.
-    pub fn line(&self) -> u8
+    pub(crate) fn line(&self) -> u8
         ensures { result ≡ line self.now }
     {
         match &self.node {
@@ -168,14 +168,14 @@ impl Tree {
         }
     }
 
-    pub fn span(&self) -> Span
+    pub(crate) fn span(&self) -> Span
         ensures { result ≡ span_of self.now }
     {
         self.span
     }
 
     /// The name, where the tree is one.
-    pub fn into_reference(self) -> Option<Name>
+    pub(crate) fn into_reference(self) -> Option<Name>
         ensures { result ≡ reference_of self }
     {
         match self.node {
