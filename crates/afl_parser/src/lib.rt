@@ -1,7 +1,6 @@
 //! Syntax trees of statements, the grammar, and its parser.
 #![tactic(auto)]
 
-mod first;
 mod frame;
 mod grown;
 mod kind;
@@ -10,7 +9,6 @@ mod parser;
 mod reader;
 mod tree;
 
-pub use first::{FirstForm, first_form};
 pub use kind::{ParseFault, ParseKind, StopKind};
 pub use laws::texts_have_tree_or_stop;
 pub use parser::parse;

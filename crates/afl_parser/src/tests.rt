@@ -1,7 +1,7 @@
-//! Trees and stops of statements, and statements of the first form.
+//! Trees and stops of statements.
 
 use crate::BinaryOp::{Add, And, Differs, Mul, Or, Sub};
-use crate::{Node, ParseFault, ParseKind, Tree, first_form, parse};
+use crate::{Node, ParseFault, ParseKind, Tree, parse};
 
 /// The tree's span, for a statement that has one.
 fn outline(tree: &Tree) -> (u32, u32) {
