@@ -1,6 +1,5 @@
 pub mod Complete
 pub mod Either
-pub mod FirstForms
 pub mod Fitting
 pub mod Heights
 pub mod Parsing

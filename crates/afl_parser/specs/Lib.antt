@@ -1,5 +1,3 @@
-pub mod FirstForm
-pub mod FirstReading
 pub mod Grammar
 pub mod Machine
 pub mod Outcome

@@ -2,7 +2,6 @@
 #![tactic(auto)]
 
 mod copies;
-mod first;
 mod frame;
 mod grown;
 mod kind;
@@ -12,7 +11,6 @@ mod printer;
 mod reader;
 mod tree;
 
-pub use first::{FirstForm, first_form};
 pub use kind::{ParseFault, ParseKind, StopKind};
 pub use laws::texts_have_tree_or_stop;
 pub use parser::parse;
