@@ -28,7 +28,7 @@ stops_after : (done : List Placed) (x : Placed) (rest : List Placed) (k : List F
     → run 128 [] Start done ≡ Go k f → turn 128 k f x ≡ Stop kind → Stops 128 (done ++ x ∷ rest) (length done) kind
 stops_after done x rest k f kind e s =
     stops_here 128 (done ++ x ∷ rest) (length done) x rest k f kind (omega arith) (omega (arith, length-append done (x ∷ rest)))
-        (ap (run 128 [] Start) (take-append_seam done (x ∷ rest)) ∙ e) (drop-append_seam done (x ∷ rest)) s
+    (ap (run 128 [] Start) (take-append_seam done (x ∷ rest)) ∙ e) (drop-append_seam done (x ∷ rest)) s
 
 after_turn : (done : List Placed) (x : Placed) (rest : List Placed) (k : List Frame) (f : Focus) (next : Turn)
     → run 128 [] Start done ≡ Go k f → turn 128 k f x ≡ next

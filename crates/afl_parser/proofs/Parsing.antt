@@ -48,7 +48,7 @@ module _ (text : List ℕ) (ts : List Token) where
       → Gives (Err e) (turn 128 k f (lexeme_of text (slice_index_or ts i d))) → IsTokenStop 128 (lexemes text ts) (placed i e)
   stops_at i d k f (fault.Stop kind) h e s =
       stops_here 128 (lexemes text ts) i (lexeme_of text (slice_index_or ts i d)) (lexemes text (drop (suc i) ts)) k f kind
-          (omega arith) (omega (arith, length-map ts (lexeme_of text))) (front_is i k f e) (rest_is i d h) s
+      (omega arith) (omega (arith, length-map ts (lexeme_of text))) (front_is i k f e) (rest_is i d h) s
   stops_at i d k f fault.Memory h e s = tt
 
   pub all_reached : (i : ℕ) (k : List Frame) (f : Focus) → i ≤ length ts → length ts ≤ i → Reached i k f → run 128 [] Start (lexemes text ts) ≡ Go k f
@@ -60,7 +60,7 @@ module _ (text : List ℕ) (ts : List Token) where
       → GivesWhole (Err e) (finished k f) → IsTokenStop 128 (lexemes text ts) (placed (length ts) e)
   stop_at_end k f (fault.Stop kind) e s =
       subst (λ n. Stops 128 (lexemes text ts) n kind) (length-map ts (lexeme_of text))
-          (subst (λ kind. Stops 128 (lexemes text ts) (length (lexemes text ts)) kind) (sym s.0) (stops_at_end 128 (lexemes text ts) k f (omega arith) e s.1))
+      (subst (λ kind. Stops 128 (lexemes text ts) (length (lexemes text ts)) kind) (sym s.0) (stops_at_end 128 (lexemes text ts) k f (omega arith) e s.1))
   stop_at_end k f fault.Memory e s = tt
 
 -- The whole tree.

@@ -134,8 +134,8 @@ opens_opening limit k s (a_symbol Star) xs zs o =
     opens_expected xs zs _ _ (λ e. opens_shallow xs zs _ (Go k (Have (star s))) (placed (a_symbol Star) s ∷ zs, o, leb-true (want k) 0 e, refl))
 opens_opening limit k s (a_symbol Less) xs zs o =
     opens_expected xs zs _ _ (λ e. opens_shallow xs zs _ (shaped k (shape_turn ShapeStart (placed (a_symbol Less) s)))
-        (opens_shaped k xs (placed (a_symbol Less) s ∷ zs) zs (shape_turn ShapeStart (placed (a_symbol Less) s)) o (leb-true (want k) 0 e)
-            (holds_turn ShapeStart (placed (a_symbol Less) s) (placed (a_symbol Less) s ∷ zs) zs refl)))
+    (opens_shaped k xs (placed (a_symbol Less) s ∷ zs) zs (shape_turn ShapeStart (placed (a_symbol Less) s)) o (leb-true (want k) 0 e)
+    (holds_turn ShapeStart (placed (a_symbol Less) s) (placed (a_symbol Less) s ∷ zs) zs refl)))
 opens_opening limit k s (a_symbol LeftParen) xs zs o = opens_shallow xs zs _ (Go (Group s ∷ k) Want) (placed (a_symbol LeftParen) s ∷ zs, o, refl)
 opens_opening limit k s _ xs zs o = tt
 

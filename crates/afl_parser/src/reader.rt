@@ -370,12 +370,7 @@ fn start_version(stack: Stack, tree: Grown) -> Result<Reader, Fault>
 }
 
 /// Behind a name and `@`.
-fn end_version(
-    stack: Stack,
-    name: Name,
-    start: Span,
-    token: Token,
-) -> Result<Reader, Fault>
+fn end_version(stack: Stack, name: Name, start: Span, token: Token) -> Result<Reader, Fault>
     ensures { (bytes : List ℕ) → Gives result (date stack name start token.span (what_of token.kind bytes)) }
 {
     match token.kind {

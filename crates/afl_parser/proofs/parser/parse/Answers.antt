@@ -7,24 +7,24 @@ use Rattle.afl_parser.proofs.parser.parse.Goals as goal
 pub returns-in-Ok-read_tokens-clause-only_tree : goal.returns-in-Ok-read_tokens-clause-only_tree
 returns-in-Ok-read_tokens-clause-only_tree c =
     tree_only_tree c.args.text.now c.as_slice-tokens.result.now c.in-Ok-read_tokens.tree
-        ((λ us a. c.as_slice-tokens.ensures ∙ c.in-Ok.ensures.only_tokens us a), c.in-Ok.ensures.only_stop) c.in-Ok-read_tokens.ensures.tree
+    ((λ us a. c.as_slice-tokens.ensures ∙ c.in-Ok.ensures.only_tokens us a), c.in-Ok.ensures.only_stop) c.in-Ok-read_tokens.ensures.tree
 
 pub returns-in-Ok-read_tokens-clause-only_stop : goal.returns-in-Ok-read_tokens-clause-only_stop
 returns-in-Ok-read_tokens-clause-only_stop c =
     tree_no_stop c.args.text.now c.as_slice-tokens.result.now c.in-Ok-read_tokens.tree
-        ((λ us a. c.as_slice-tokens.ensures ∙ c.in-Ok.ensures.only_tokens us a), c.in-Ok.ensures.only_stop) c.in-Ok-read_tokens.ensures.tree
+    ((λ us a. c.as_slice-tokens.ensures ∙ c.in-Ok.ensures.only_tokens us a), c.in-Ok.ensures.only_stop) c.in-Ok-read_tokens.ensures.tree
 
 pub returns-in-Ok-clause-only_tree : goal.returns-in-Ok-clause-only_tree
 returns-in-Ok-clause-only_tree c t d =
     subst (λ (e : ParseFault). AnswersTree (Err e) t) (sym c.at_token.ensures)
-        (token_only_tree c.args.text.now c.as_slice-tokens.result.now c.in-Err-read_tokens.fault
-            ((λ us a. c.as_slice-tokens.ensures ∙ c.in-Ok.ensures.only_tokens us a), c.in-Ok.ensures.only_stop) c.in-Err-read_tokens.ensures.stop t d)
+    (token_only_tree c.args.text.now c.as_slice-tokens.result.now c.in-Err-read_tokens.fault
+    ((λ us a. c.as_slice-tokens.ensures ∙ c.in-Ok.ensures.only_tokens us a), c.in-Ok.ensures.only_stop) c.in-Err-read_tokens.ensures.stop t d)
 
 pub returns-in-Ok-clause-only_stop : goal.returns-in-Ok-clause-only_stop
 returns-in-Ok-clause-only_stop c at kind s =
     subst (λ (e : ParseFault). AnswersStop (Err e) at kind) (sym c.at_token.ensures)
-        (token_only_stop c.args.text.now c.as_slice-tokens.result.now c.in-Err-read_tokens.fault
-            ((λ us a. c.as_slice-tokens.ensures ∙ c.in-Ok.ensures.only_tokens us a), c.in-Ok.ensures.only_stop) c.in-Err-read_tokens.ensures.stop at kind s)
+    (token_only_stop c.args.text.now c.as_slice-tokens.result.now c.in-Err-read_tokens.fault
+    ((λ us a. c.as_slice-tokens.ensures ∙ c.in-Ok.ensures.only_tokens us a), c.in-Ok.ensures.only_stop) c.in-Err-read_tokens.ensures.stop at kind s)
 
 pub returns-clause-only_tree : goal.returns-clause-only_tree
 returns-clause-only_tree c t d =
@@ -33,4 +33,4 @@ returns-clause-only_tree c t d =
 pub returns-clause-only_stop : goal.returns-clause-only_stop
 returns-clause-only_stop c at kind s =
     subst (λ (e : ParseFault). AnswersStop (Err e) at kind) (sym c.in_token.ensures)
-        (lex_only_stop c.args.text.now c.in-Err.fault c.in-Err.ensures.only_tokens c.in-Err.ensures.only_stop at kind s)
+    (lex_only_stop c.args.text.now c.in-Err.fault c.in-Err.ensures.only_tokens c.in-Err.ensures.only_stop at kind s)

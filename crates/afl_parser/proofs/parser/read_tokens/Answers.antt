@@ -12,7 +12,7 @@ read-requires-clause-fits c =
 pub returns-in-Err-clause-stop : goal.returns-in-Err-clause-stop
 returns-in-Err-clause-stop c =
     subst (λ (e : TokenFault). IsTokenStop 128 (lexemes c.args.text.now c.args.tokens.now) e) (sym c.placed.ensures)
-        (stops_at c.args.text.now c.args.tokens.now c.loop-index.index _ c.loop-index.reader.stack c.loop-index.reader.focus c.in-Err.fault c.loop-index-test.true c.loop-index.invariant c.in-Err.ensures)
+    (stops_at c.args.text.now c.args.tokens.now c.loop-index.index _ c.loop-index.reader.stack c.loop-index.reader.focus c.in-Err.fault c.loop-index-test.true c.loop-index.invariant c.in-Err.ensures)
 
 pub loop-index-preserved : goal.loop-index-preserved
 loop-index-preserved c =
@@ -25,12 +25,12 @@ finish-requires c =
 pub returns-in-Ok-finish-clause-tree : goal.returns-in-Ok-finish-clause-tree
 returns-in-Ok-finish-clause-tree c =
     statement_reached (lexemes c.args.text.now c.args.tokens.now) c.loop-index.reader.stack c.loop-index.reader.focus c.in-Ok-finish.tree
-        (all_reached c.args.text.now c.args.tokens.now c.loop-index.index c.loop-index.reader.stack c.loop-index.reader.focus c.loop-index.auto.index-end c.loop-index-test.false c.loop-index.invariant)
-        c.in-Ok-finish.ensures
+    (all_reached c.args.text.now c.args.tokens.now c.loop-index.index c.loop-index.reader.stack c.loop-index.reader.focus c.loop-index.auto.index-end c.loop-index-test.false c.loop-index.invariant)
+    c.in-Ok-finish.ensures
 
 pub returns-in-Err-finish-clause-stop : goal.returns-in-Err-finish-clause-stop
 returns-in-Err-finish-clause-stop c =
     subst (λ (e : TokenFault). IsTokenStop 128 (lexemes c.args.text.now c.args.tokens.now) e) (sym c.placed-in-Err-finish.ensures)
-        (stop_at_end c.args.text.now c.args.tokens.now c.loop-index.reader.stack c.loop-index.reader.focus c.in-Err-finish.fault
-            (all_reached c.args.text.now c.args.tokens.now c.loop-index.index c.loop-index.reader.stack c.loop-index.reader.focus c.loop-index.auto.index-end c.loop-index-test.false c.loop-index.invariant)
-            c.in-Err-finish.ensures)
+    (stop_at_end c.args.text.now c.args.tokens.now c.loop-index.reader.stack c.loop-index.reader.focus c.in-Err-finish.fault
+    (all_reached c.args.text.now c.args.tokens.now c.loop-index.index c.loop-index.reader.stack c.loop-index.reader.focus c.loop-index.auto.index-end c.loop-index-test.false c.loop-index.invariant)
+    c.in-Err-finish.ensures)
