@@ -2,7 +2,8 @@
 use Rattle.std.specs.Prelude.{ℕ, List, Contains}
 use Rattle.afl_outside.specs.Counts.{risen}
 
--- The numbers, from 0, of the calls that are to fail, how many calls there were, and how many of them were faults.
+-- The numbers, from 0, of the calls that are to fail, how many calls there were, and how many of them were faults. Both counts stand
+-- still at the end of a `u64`.
 pub record Turns : Type 0 where
   pub fails : List ℕ
   pub calls : ℕ

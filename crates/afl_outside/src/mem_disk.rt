@@ -13,7 +13,8 @@ use crate::{Disk, Failed};
 use cell_values::{Bytes, List, Memory};
 use std::marker::Model;
 
-/// A disk in memory, some of whose calls fail. It keeps a record of all its calls.
+/// A disk in memory, some of whose calls fail. It keeps a record of all its calls, failed ones included. A write that the
+/// list lets fail has written all its bytes. A call that finds no memory changes no byte and isn't recorded.
 #[derive(Debug, Drop)]
 pub struct MemDisk {
     name: Bytes,

@@ -11,7 +11,8 @@ use crate::{Disk, Failed};
 use cell_values::{Bytes, Memory};
 use std::marker::Model;
 
-/// A disk in memory that fails only where no memory is found. It keeps a record of its writes and syncs.
+/// A disk in memory that fails only where no memory is found; its reads never fail. It keeps a record of its writes and
+/// syncs, from which the images that a stop might have left are told, so its memory grows with each write.
 #[derive(Debug, Drop)]
 pub struct SureDisk {
     kept: DiskRecord,

@@ -250,14 +250,65 @@ high_again (pos n) us rest e = cases (n == 4611686018427387903) refl e
         (s, vs, m, inl (inl (n, refl, f)))
 high_again (negsuc n) us rest e = let (s, vs, m, h) = bound_again (negsuc n) us rest e in (s, vs, m, inl h)
 
--- four tokens, one by one
-four : (a b c d : Lexeme) (s1 s2 s3 s4 : Span) (us vs ws xs ys : List Placed) → us ≡ placed a s1 ∷ vs → vs ≡ placed b s2 ∷ ws → ws ≡ placed c s3 ∷ xs → xs ≡ placed d s4 ∷ ys
-    → us ≡ placed a s1 ∷ placed b s2 ∷ placed c s3 ∷ placed d s4 ∷ ys
-four a b c d s1 s2 s3 s4 us vs ws xs ys h1 h2 h3 h4 =
-    h1 ∙ ap (λ l. placed a s1 ∷ l) h2 ∙ ap (λ l. placed a s1 ∷ placed b s2 ∷ l) h3 ∙ ap (λ l. placed a s1 ∷ placed b s2 ∷ placed c s3 ∷ l) h4
+-- the tokens of a chunk's length and an overlap, each with its comma
+pub record Lengths (chunk overlap : ℕ) (us : List Placed) (rest : List Mark) : Type 0 where
+  pub first : Span
+  pub chunk_span : Span
+  pub second : Span
+  pub overlap_span : Span
+  pub after : List Placed
+  pub is : us ≡ placed (a_symbol Comma) first ∷ placed (a_number (pos chunk)) chunk_span ∷ placed (a_symbol Comma) second ∷ placed (a_number (pos overlap)) overlap_span ∷ after
+  pub left : whats after ≡ said rest
 
-dim_again : (d : DimText) (us : List Placed) (rest : List Mark) → whats us ≡ said (dim_marks d rest)
-    → (u : DimText) × (vs : List Placed) × (whats vs ≡ said rest) × (bare_dim u ≡ bare_dim d) × SpellsDim u us vs
+lengths_are : (chunk overlap : ℕ) (s1 s2 s3 s4 : Span) (us vs ws xs ys : List Placed) (rest : List Mark)
+    → us ≡ placed (a_symbol Comma) s1 ∷ vs → vs ≡ placed (a_number (pos chunk)) s2 ∷ ws → ws ≡ placed (a_symbol Comma) s3 ∷ xs → xs ≡ placed (a_number (pos overlap)) s4 ∷ ys
+    → whats ys ≡ said rest → Lengths chunk overlap us rest
+lengths_are chunk overlap s1 s2 s3 s4 us vs ws xs ys rest h1 h2 h3 h4 e = record {
+  first = s1;
+  chunk_span = s2;
+  second = s3;
+  overlap_span = s4;
+  after = ys;
+  is = h1 ∙ ap (λ l. placed (a_symbol Comma) s1 ∷ l) h2 ∙ ap (λ l. placed (a_symbol Comma) s1 ∷ placed (a_number (pos chunk)) s2 ∷ l) h3
+      ∙ ap (λ l. placed (a_symbol Comma) s1 ∷ placed (a_number (pos chunk)) s2 ∷ placed (a_symbol Comma) s3 ∷ l) h4;
+  left = e;
+}
+
+lengths_again : (chunk overlap : ℕ) (us : List Placed) (rest : List Mark) → whats us ≡ said (lengths_marks chunk overlap rest) → Lengths chunk overlap us rest
+lengths_again chunk overlap us rest e =
+    let (f1, bs, h1, p1) = front (a_symbol Comma) (a_number (pos chunk) ∷ a_symbol Comma ∷ a_number (pos overlap) ∷ said rest) us e in
+    let (k, cs, h2, p2) = front (a_number (pos chunk)) (a_symbol Comma ∷ a_number (pos overlap) ∷ said rest) bs p1 in
+    let (f2, ds, h3, p3) = front (a_symbol Comma) (a_number (pos overlap) ∷ said rest) cs p2 in
+    let (v, es, h4, p4) = front (a_number (pos overlap)) (said rest) ds p3 in
+    lengths_are chunk overlap f1 k f2 v us bs cs ds es rest h1 h2 h3 h4 p4
+
+-- the same dimension at other places
+abbrev DimAgain : DimText → List Placed → List Mark → Type 0
+DimAgain d us rest = (u : DimText) × (vs : List Placed) × (whats vs ≡ said rest) × (bare_dim u ≡ bare_dim d) × SpellsDim u us vs
+
+dim_is : (d : DimText) (s q c lo hi : Span) (us vs ws ys zs after : List Placed) (rest : List Mark)
+    → us ≡ placed (a_name d.name) s ∷ vs → vs ≡ placed (a_symbol Equal) q ∷ ws → SpellsBound d.lo lo ws ys → ys ≡ placed (a_symbol Colon) c ∷ zs → SpellsHigh d.hi hi zs after
+    → Lengths d.chunk d.overlap after rest → DimAgain d us rest
+dim_is d s q c lo hi us vs ws ys zs after rest f g low h high l = (
+  record {
+    name = d.name;
+    name_span = s;
+    lo = d.lo;
+    lo_span = lo;
+    hi = d.hi;
+    hi_span = hi;
+    chunk = d.chunk;
+    chunk_span = l.chunk_span;
+    overlap = d.overlap;
+    overlap_span = l.overlap_span;
+  },
+  l.after,
+  l.left,
+  refl,
+  (q, c, l.first, l.second, ws, zs, f ∙ ap (λ r. placed (a_name d.name) s ∷ r) g, subst (SpellsBound d.lo lo ws) h low, subst (SpellsHigh d.hi hi zs) l.is high),
+)
+
+dim_again : (d : DimText) (us : List Placed) (rest : List Mark) → whats us ≡ said (dim_marks d rest) → DimAgain d us rest
 dim_again d us rest e =
     let lengths = lengths_marks d.chunk d.overlap rest in
     let (s, vs, f, m) = front (a_name d.name) _ us e in
@@ -265,29 +316,7 @@ dim_again d us rest e =
     let (lo, ys, o, low) = bound_again d.lo ws (says (a_symbol Colon) ∷ high_marks d.hi lengths) n in
     let (c, zs, h, p) = front (a_symbol Colon) (said (high_marks d.hi lengths)) ys o in
     let (hi, after, r, high) = high_again d.hi zs lengths p in
-    let (f1, bs, h1, p1) = front (a_symbol Comma) (a_number (pos d.chunk) ∷ a_symbol Comma ∷ a_number (pos d.overlap) ∷ said rest) after r in
-    let (k, cs, h2, p2) = front (a_number (pos d.chunk)) (a_symbol Comma ∷ a_number (pos d.overlap) ∷ said rest) bs p1 in
-    let (f2, ds, h3, p3) = front (a_symbol Comma) (a_number (pos d.overlap) ∷ said rest) cs p2 in
-    let (v, es, h4, p4) = front (a_number (pos d.overlap)) (said rest) ds p3 in
-    let ends : after ≡ placed (a_symbol Comma) f1 ∷ placed (a_number (pos d.chunk)) k ∷ placed (a_symbol Comma) f2 ∷ placed (a_number (pos d.overlap)) v ∷ es
-    = four (a_symbol Comma) (a_number (pos d.chunk)) (a_symbol Comma) (a_number (pos d.overlap)) f1 k f2 v after bs cs ds es h1 h2 h3 h4 in (
-      record {
-        name = d.name;
-        name_span = s;
-        lo = d.lo;
-        lo_span = lo;
-        hi = d.hi;
-        hi_span = hi;
-        chunk = d.chunk;
-        chunk_span = k;
-        overlap = d.overlap;
-        overlap_span = v;
-      },
-      es,
-      p4,
-      refl,
-      (q, c, f1, f2, ws, zs, f ∙ ap (λ l. placed (a_name d.name) s ∷ l) g, subst (SpellsBound d.lo lo ws) h low, subst (SpellsHigh d.hi hi zs) ends high),
-    )
+    dim_is d s q c lo hi us vs ws ys zs after rest f g low h high (lengths_again d.chunk d.overlap after rest r)
 
 attrs_cons : (a : AttrText) (bs : List AttrText) (c : Span) (xs ys zs : List Placed) → SpellsAttr a xs (placed (a_symbol Comma) c ∷ ys) → SpellsAttrs bs ys zs → SpellsAttrs (a ∷ bs) xs zs
 attrs_cons a [] c xs ys zs g h = absurd h
@@ -321,6 +350,20 @@ dims_again (d ∷ b ∷ bs) us rest some e =
     let (xs, zs, o, all, g) = dims_again (b ∷ bs) ws rest (λ q. cc) n in
     (x ∷ xs, zs, o, ap (λ y. y ∷ map bare_dim xs) same ∙ ap (λ l. bare_dim d ∷ l) all, dims_cons x xs c us ws zs (subst (SpellsDim x us) f h) g)
 
+shape_is : (t : SchemaText) (attrs : List AttrText) (dims : List DimText) (l k b c : Span) (us xs ys zs ws vs ts : List Placed) (rest : List Mark)
+    → us ≡ placed (a_symbol Less) l ∷ xs → SpellsAttrs attrs xs ys → ys ≡ placed (a_symbol More) k ∷ zs → zs ≡ placed (a_symbol LeftBracket) b ∷ ws
+    → SpellsDims dims ws vs → vs ≡ placed (a_symbol RightBracket) c ∷ ts → map bare_attr attrs ≡ map bare_attr t.attributes → map bare_dim dims ≡ map bare_dim t.dimensions → whats ts ≡ said rest
+    → (u : SchemaText) × (s : Span) × (vs : List Placed) × SpellsSchema u s us vs × (bare_shape u ≡ bare_shape t) × (whats vs ≡ said rest)
+shape_is t attrs dims l k b c us xs ys zs ws vs ts rest f g h p i j same_attrs same_dims last =
+    let behind : ys ≡ placed (a_symbol More) k ∷ placed (a_symbol LeftBracket) b ∷ ws = h ∙ ap (λ x. placed (a_symbol More) k ∷ x) p in (
+      record { attributes = attrs; dimensions = dims; brackets = across b c },
+      across l c,
+      ts,
+      (l, k, b, c, xs, ws, f, subst (SpellsAttrs attrs xs) behind g, subst (SpellsDims dims ws) j i, refl, refl),
+      ap (λ attrs. record { attributes = attrs; dimensions = map bare_dim dims; brackets = nowhere }) same_attrs ∙ ap (λ ds. record { attributes = map bare_attr t.attributes; dimensions = ds; brackets = nowhere }) same_dims,
+      last,
+    )
+
 -- whatever tokens say what a tree is printed as spell that tree, but for places
 pub shape_again : (t : SchemaText) (us : List Placed) (rest : List Mark) → t.attributes ≢ [] → t.dimensions ≢ [] → whats us ≡ said (shape_marks t rest)
     → (u : SchemaText) × (s : Span) × (vs : List Placed) × SpellsSchema u s us vs × (bare_shape u ≡ bare_shape t) × (whats vs ≡ said rest)
@@ -332,11 +375,4 @@ shape_again t us rest some_attribute some_dimension e =
     let (b, ws, p, q) = front (a_symbol LeftBracket) (said (dims_marks t.dimensions dimensions)) zs o in
     let (dims, vs, r, same_dims, i) = dims_again t.dimensions ws dimensions some_dimension q in
     let (c, ts, j, last) = front (a_symbol RightBracket) (said rest) vs r in
-    let behind : ys ≡ placed (a_symbol More) k ∷ placed (a_symbol LeftBracket) b ∷ ws = h ∙ ap (λ x. placed (a_symbol More) k ∷ x) p in (
-      record { attributes = attrs; dimensions = dims; brackets = across b c },
-      across l c,
-      ts,
-      (l, k, b, c, xs, ws, f, subst (SpellsAttrs attrs xs) behind g, subst (SpellsDims dims ws) j i, refl, refl),
-      ap (λ attrs. record { attributes = attrs; dimensions = map bare_dim dims; brackets = nowhere }) same_attrs ∙ ap (λ ds. record { attributes = map bare_attr t.attributes; dimensions = ds; brackets = nowhere }) same_dims,
-      last,
-    )
+    shape_is t attrs dims l k b c us xs ys zs ws vs ts rest f g h p i j same_attrs same_dims last

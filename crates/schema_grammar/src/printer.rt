@@ -7,12 +7,10 @@ ghost use Rattle.cell_values.specs.Schemas.{IsValid};
 ghost use Rattle.schema_grammar.specs.ReadAs.{IsReadAs};
 ghost use Rattle.schema_grammar.specs.SchemaBytes.{attr_bytes, bounds_bytes, high_bytes, kind_bytes, lengths_bytes, parts_bytes, schema_bytes, separator, shape_bytes};
 
+use crate::shape_text::UNBOUNDED;
 use crate::{AttrText, DimText, SchemaText};
 use cell_values::{Attribute, Bytes, Dimension, Kind, List, Memory, Name, Schema};
 use std::alloc::Global;
-
-/// The high bound that is written `*`, 2^62 - 1.
-const UNBOUNDED: i64 = 4611686018427387903;
 
 /// An attribute or a dimension, which has a text.
 trait Written {

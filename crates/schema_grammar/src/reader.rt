@@ -1,11 +1,12 @@
 //! The reader of schemas, one step a token.
-ghost use Rattle.std.specs.Prelude.{◌≡◌, ℕ, ◌≤ℤ◌, pos, neg_ℤ, List, [], ◌∷◌, ◌++◌, IfOk};
-ghost use Rattle.afl_lexer.specs.Lexemes.{lexeme_of, what_of, a_symbol};
+ghost use Rattle.std.specs.Prelude.{◌≡◌, ℕ, ◌≤ℤ◌, pos, neg_ℤ, unsigned_abs, List, [], ◌∷◌, ◌++◌, IfOk};
+ghost use Rattle.afl_lexer.specs.Lexemes.{bytes_of, lexeme_of, what_of, a_symbol};
 ghost use Rattle.afl_lexer.specs.Tokens.{IsTokenOf};
 ghost use Rattle.schema_grammar.specs.Spelling.{across};
-ghost use Rattle.schema_grammar.specs.Reading.{attribute, bound, attr_end, attr_goes, attr_step, attr_word, bound_step, dim_goes, dim_step, dimension, number_step, shape_turn};
+ghost use Rattle.schema_grammar.specs.Reading.{attribute, between_turn, bound, count, label, start_turn, whole_schema, attr_end, attr_goes, attr_step, attr_word, bound_step, dim_goes, dim_step, dimension, number_step, shape_turn};
 ghost use Rattle.schema_grammar.specs.Unsigned.{IsUnsigned};
 
+use crate::shape_text::UNBOUNDED;
 use crate::state::{
     AttrPlace, Bound, BoundPlace, Count, DimPlace, Head, Label, NumberPlace, PartStep,
 };
@@ -14,8 +15,17 @@ use afl_lexer::{Symbol, Token, TokenKind, Word, name_value};
 use cell_values::{List, Memory, Name, Span};
 use std::alloc::Global;
 
-/// The number that the high bound `*` stands for, 2^62 - 1.
-const UNBOUNDED: i64 = 4611686018427387903;
+/// The name at a token, with its place.
+fn label_at(alloc: Global, text: &[u8], token: Token) -> Result<Label, Memory>
+    requires token { IsTokenOf text.now token }
+    requires name { token.kind ≡ TokenKind.Name }
+    ensures { IfOk result (λ name. name ≡ label (bytes_of text.now token.span) token.span) }
+{
+    Ok(Label {
+        name: name_value(alloc, text, &token)?,
+        span: token.span,
+    })
+}
 
 /// From the start of the first to the end of the second.
 fn across(first: Span, second: Span) -> Span
@@ -104,9 +114,8 @@ fn read_attribute(
     match place {
         AttrPlace::First => match token.kind {
             TokenKind::Name => {
-                let name = name_value(alloc, text, &token)?;
-                let span = token.span;
-                Ok(PartStep::On(AttrPlace::Named(Label { name, span })))
+                let label = label_at(alloc, text, token)?;
+                Ok(PartStep::On(AttrPlace::Named(label)))
             }
             _ => Ok(PartStep::Unexpected),
         },
@@ -220,6 +229,16 @@ fn read_bound(label: Label, place: BoundPlace, token: Token) -> PartStep<DimPlac
     }
 }
 
+/// A chunk's length or an overlap.
+fn count_of(value: i64, span: Span) -> Count
+    ensures { result ≡ count (unsigned_abs value) span }
+{
+    Count {
+        value: value.unsigned_abs(),
+        span,
+    }
+}
+
 /// Reads one token behind a dimension's bounds.
 #[tactic(auto, using(crate::proofs::Numbers::chunk_read, crate::proofs::Numbers::overlap_read))]
 fn read_number(
@@ -232,7 +251,6 @@ fn read_number(
     requires { IsUnsigned token.kind }
     ensures { (bytes : List ℕ) → result ≡ number_step label lo hi place token.span (what_of token.kind bytes) }
 {
-    let span = token.span;
     match place {
         NumberPlace::Bounded => match token.kind {
             TokenKind::Symbol(Symbol::Comma) => {
@@ -242,8 +260,7 @@ fn read_number(
         },
         NumberPlace::Chunk => match token.kind {
             TokenKind::Int(value) => {
-                let value = value.unsigned_abs();
-                let chunk = Count { value, span };
+                let chunk = count_of(value, token.span);
                 PartStep::On(DimPlace::Numbers(label, lo, hi, NumberPlace::Chunked(chunk)))
             }
             _ => PartStep::Unexpected,
@@ -256,8 +273,7 @@ fn read_number(
         },
         NumberPlace::Overlap(chunk) => match token.kind {
             TokenKind::Int(value) => {
-                let value = value.unsigned_abs();
-                let overlap = Count { value, span };
+                let overlap = count_of(value, token.span);
                 PartStep::On(DimPlace::Ended(label.with_numbers(lo, hi, chunk, overlap)))
             }
             _ => PartStep::Unexpected,
@@ -279,9 +295,8 @@ fn read_dimension(
     match place {
         DimPlace::First => match token.kind {
             TokenKind::Name => {
-                let name = name_value(alloc, text, &token)?;
-                let span = token.span;
-                Ok(PartStep::On(DimPlace::Named(Label { name, span })))
+                let label = label_at(alloc, text, token)?;
+                Ok(PartStep::On(DimPlace::Named(label)))
             }
             _ => Ok(PartStep::Unexpected),
         },
@@ -333,6 +348,24 @@ fn after_attribute(
     }
 }
 
+/// The schema that ends at a `]` of this place.
+fn whole(head: Head, dimensions: List<DimText>, end: Span) -> ShapeStep
+    ensures { result ≡ ShapeStep.Whole (whole_schema head.attributes dimensions (across head.bracket end)) (across head.start end) }
+{
+    let Head {
+        start,
+        attributes,
+        bracket,
+    } = head;
+    let brackets = across(bracket, end);
+    let schema = SchemaText {
+        attributes,
+        dimensions,
+        brackets,
+    };
+    ShapeStep::Whole(schema, across(start, end))
+}
+
 /// Where the dimensions stand after a step at a token of this place.
 fn after_dimension(
     head: Head,
@@ -360,20 +393,46 @@ fn after_dimension(
         }
         PartStep::Last(dimension) => {
             dimensions.push(dimension)?;
-            let Head {
-                start,
-                attributes,
-                bracket,
-            } = head;
-            let brackets = across(bracket, span);
-            let schema = SchemaText {
-                attributes,
-                dimensions,
-                brackets,
-            };
-            Ok(ShapeStep::Whole(schema, across(start, span)))
+            Ok(whole(head, dimensions, span))
         }
         PartStep::Unexpected => Ok(ShapeStep::Unexpected),
+    }
+}
+
+/// Before `<`.
+fn open_attributes(alloc: Global, token: Token) -> ShapeStep
+    ensures { (bytes : List ℕ) → result ≡ start_turn token.span (what_of token.kind bytes) }
+{
+    match token.kind {
+        TokenKind::Symbol(Symbol::Less) => ShapeStep::On(ShapeState::Attributes {
+            start: token.span,
+            attributes: List::new(alloc),
+            place: AttrPlace::First,
+        }),
+        _ => ShapeStep::Unexpected,
+    }
+}
+
+/// Before `[`.
+fn open_dimensions(
+    alloc: Global,
+    start: Span,
+    attributes: List<AttrText>,
+    token: Token,
+) -> ShapeStep
+    ensures { (bytes : List ℕ) → result ≡ between_turn start attributes token.span (what_of token.kind bytes) }
+{
+    match token.kind {
+        TokenKind::Symbol(Symbol::LeftBracket) => ShapeStep::On(ShapeState::Dimensions {
+            head: Head {
+                start,
+                attributes,
+                bracket: token.span,
+            },
+            dimensions: List::new(alloc),
+            place: DimPlace::First,
+        }),
+        _ => ShapeStep::Unexpected,
     }
 }
 
@@ -388,14 +447,7 @@ pub fn read_shape(
     ensures { IfOk result (λ step. step ≡ shape_turn state (lexeme_of text.now token)) }
 {
     match state {
-        ShapeState::Start => match token.kind {
-            TokenKind::Symbol(Symbol::Less) => Ok(ShapeStep::On(ShapeState::Attributes {
-                start: token.span,
-                attributes: List::new(alloc),
-                place: AttrPlace::First,
-            })),
-            _ => Ok(ShapeStep::Unexpected),
-        },
+        ShapeState::Start => Ok(open_attributes(alloc, token)),
         ShapeState::Attributes {
             start,
             attributes,
@@ -404,21 +456,9 @@ pub fn read_shape(
             let step = read_attribute(alloc, text, place, token)?;
             after_attribute(start, attributes, step)
         }
-        ShapeState::Between { start, attributes } => match token.kind {
-            TokenKind::Symbol(Symbol::LeftBracket) => {
-                let bracket = token.span;
-                Ok(ShapeStep::On(ShapeState::Dimensions {
-                    head: Head {
-                        start,
-                        attributes,
-                        bracket,
-                    },
-                    dimensions: List::new(alloc),
-                    place: DimPlace::First,
-                }))
-            }
-            _ => Ok(ShapeStep::Unexpected),
-        },
+        ShapeState::Between { start, attributes } => {
+            Ok(open_dimensions(alloc, start, attributes, token))
+        }
         ShapeState::Dimensions {
             head,
             dimensions,

@@ -3,6 +3,9 @@ ghost use Rattle.std.specs.Prelude.{◌≡◌, IfOk};
 
 use cell_values::{Copies, List, Memory, Name, Span};
 
+/// The high bound that is written `*`, 2^62 - 1.
+pub(crate) const UNBOUNDED: i64 = 4611686018427387903;
+
 /// A schema's syntax tree: each name, type's word and number with its place in the text.
 #[derive(Debug, Drop, PartialEq, Eq)]
 pub struct SchemaText {
