@@ -1,3 +1,4 @@
+pub mod Arguments
 pub mod Cells
 pub mod Ending
 pub mod Outcomes

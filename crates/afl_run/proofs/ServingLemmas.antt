@@ -1,5 +1,5 @@
 -- One statement more is answered.
-use Rattle.std.proofs.Common.{◌≡◌, ℕ, List, [], ◌∷◌, ◌++◌, take, drop, Option, Some, inl, inr, Result, Ok, Err, OnOk, OnErr, IfErr, IsErrOf, refl, sym, ◌∙◌, ap, subst, arith, append-nil}
+use Rattle.std.proofs.Common.{◌≡◌, ℕ, ◌-◌, List, [], ◌∷◌, ◌++◌, take, drop, Option, Some, inl, inr, Result, Ok, Err, OnOk, OnErr, IfErr, IsErrOf, refl, sym, ◌∙◌, ap, subst, arith, append-nil}
 use Rattle.std.proofs.lemmas.List.{take-append-drop}
 use Rattle.std.proofs.lemmas.List.Folds.{concat-append}
 use Rattle.std.specs.List.{concat}
@@ -29,13 +29,13 @@ concat-snoc : (ts : List (List ℕ)) (t : List ℕ) → concat (ts ++ t ∷ []) 
 concat-snoc ts t = concat-append ts (t ∷ []) ∙ ap (λ (x : List ℕ). concat ts ++ x) (append-nil t)
 
 -- a statement's mark and text are those of its reply
-pub replied : (start end : ℕ) (text : Option (List ℕ)) (reply : Reply) (written : List ℕ) → written ≡ reply.text → IsReplyToStatement text reply
+pub replied : (start end : ℕ) (text : Option (List ℕ)) (reply : Reply) (written : List ℕ) → written ≡ reply.text → IsReplyToStatement (end - start) text reply
     → IsAnswered (statement_at start end text) (mark_at start end reply.refusal) written
 replied start end text reply written is replies = record {
   start = refl;
   end = refl;
   place = refl;
-  reply = inl (subst (λ (t : List ℕ). IsReplyToStatement text (record { text = t; refusal = reply.refusal })) (sym is) replies);
+  reply = inl (subst (λ (t : List ℕ). IsReplyToStatement (end - start) text (record { text = t; refusal = reply.refusal })) (sym is) replies);
 }
 
 -- they tell that no memory was found for it

@@ -1,5 +1,6 @@
 pub mod Built
 pub mod ExprValue
+pub mod FirstForm
 pub mod Notice
 pub mod Reply
 pub mod Run

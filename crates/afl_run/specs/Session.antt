@@ -4,31 +4,31 @@
 -- At the end Whole all was read, answered and written. Where the source failed, the bytes read since the last `;` are no
 -- statement, and all others are answered. At another end some first statements are answered; the texts of all but the last of
 -- them are written, and a front of the last one's.
-use Rattle.std.specs.Prelude.{◌≡◌, ◌⊎◌, ℕ, ◌≤◌, Bool, true, false, List, [], ◌∷◌, ◌++◌, length, Option, Some, None}
+use Rattle.std.specs.Prelude.{◌≡◌, ◌⊎◌, ℕ, ◌-◌, ◌≤◌, Bool, true, false, List, [], ◌∷◌, ◌++◌, length, Option, Some, None}
 use Rattle.std.specs.List.{concat}
 use Rattle.std.specs.Io.KnownBytes.{IsAtEnd}
 use Rattle.afl_lexer.specs.Split.{Statement, statements, closed_statements}
 use Rattle.afl_outside.specs.Counts.{Rose}
 use Rattle.afl_outside.specs.Source.{SourceState, Gives}
 use Rattle.afl_outside.specs.Sink.{SinkState, Takes}
-use Rattle.afl_run.specs.Reply.{IsReplyTo, memory_line, not_built}
+use Rattle.afl_run.specs.Reply.{IsReplyTo, memory_line, too_long}
 use Rattle.afl_run.specs.declared.reply.Refusal.TheVariants.{Memory}
 use Rattle.afl_run.specs.declared.reply.Reply.{Reply}
 use Rattle.afl_run.specs.declared.report.Mark.{Mark}
 use Rattle.afl_run.specs.declared.report.SessionEnd.{SessionEnd}
 use Rattle.afl_run.specs.declared.report.SessionEnd.TheVariants.{Whole, Source, Sink}
 
--- the reply to a statement, which has no bytes where it is too long
-abbrev pub IsReplyToStatement : Option (List ℕ) → Reply → Type 0
-IsReplyToStatement None reply = reply ≡ not_built
-IsReplyToStatement (Some text) reply = IsReplyTo text reply
+-- The reply to a statement, of which this is the number of bytes, and these are the bytes. It is too long where they aren't there.
+abbrev pub IsReplyToStatement : ℕ → Option (List ℕ) → Reply → Type 0
+IsReplyToStatement bytes None reply = reply ≡ too_long bytes
+IsReplyToStatement bytes (Some text) reply = IsReplyTo text reply
 
 -- a statement's mark, and the text that it was answered
 pub record IsAnswered (statement : Statement) (mark : Mark) (text : List ℕ) : Type 0 where
   pub start : mark.start ≡ statement.start
   pub end : mark.end ≡ statement.end
   pub place : mark.place ≡ 0
-  pub reply : IsReplyToStatement statement.text (record { text = text; refusal = mark.refusal }) ⊎ ((mark.refusal ≡ Some Memory) × (text ≡ memory_line))
+  pub reply : IsReplyToStatement (statement.end - statement.start) statement.text (record { text = text; refusal = mark.refusal }) ⊎ ((mark.refusal ≡ Some Memory) × (text ≡ memory_line))
 
 -- the marks of these statements, and the texts that they were answered, in order
 abbrev pub AreAnswered : List Statement → List Mark → List (List ℕ) → Type 0

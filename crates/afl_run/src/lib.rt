@@ -2,6 +2,7 @@
 #![tactic(auto)]
 
 mod arg;
+mod first;
 mod reply;
 mod report;
 mod session;

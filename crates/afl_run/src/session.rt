@@ -1,12 +1,12 @@
 //! A session, from the bytes of its script to the texts of its replies.
-ghost use Rattle.std.specs.Prelude.{◌≡◌, ℕ, List, [], ◌∷◌, ◌++◌, ◌+◌, ◌<◌, ◌≤◌, ◌^◌, length, option_map, vec_capacity, vec_len, IfErr, IfOk, IfSome, OnOk};
+ghost use Rattle.std.specs.Prelude.{◌≡◌, ℕ, List, [], ◌∷◌, ◌++◌, ◌+◌, ◌-◌, ◌<◌, ◌≤◌, ◌^◌, length, option_map, vec_capacity, vec_len, IfErr, IfOk, IfSome, OnOk};
 ghost use Rattle.afl_lexer.specs.Split.{Statement};
 ghost use Rattle.afl_lexer.specs.Standing.{StandsAfter, told};
 ghost use Rattle.afl_outside.specs.Sink.{SinkState};
 ghost use Rattle.afl_run.specs.Serving.{EndsServing, HasAnswered, HasStopped, IsServing, StopsWithin, end_of, mark_at, statement_at};
 ghost use Rattle.afl_run.specs.Session.{IsReplyToStatement, Serves};
 
-use crate::reply::{Refusal, Reply, refuse_form, reply_to};
+use crate::reply::{Refusal, Reply, refuse_length, reply_to};
 use crate::report::{Mark, SessionEnd, SessionReport};
 use crate::streams::{Stopped, write_whole};
 use afl_lexer::{SplitStep, Splitter};
@@ -26,14 +26,14 @@ struct Session<K> {
     marks: Vec<Mark>,
 }
 
-/// The reply to a statement, which has no text where it is too long.
-fn answer(alloc: Global, text: Option<&[u8]>) -> Result<Reply, Memory>
+/// The reply to a statement between these places, which has no text where it is too long.
+fn answer(alloc: Global, start: u64, end: u64, text: Option<&[u8]>) -> Result<Reply, Memory>
     requires { IfSome text (λ t. length t.now ≤ 1048576) }
-    ensures { IfOk result (IsReplyToStatement (option_map (λ t. t.now) text.entry)) }
+    ensures { IfOk result (IsReplyToStatement (end - start) (option_map (λ t. t.now) text.entry)) }
 {
     match text {
         Some(text) => reply_to(alloc, text),
-        None => refuse_form(alloc),
+        None => refuse_length(alloc, end.saturating_sub(start)),
     }
 }
 
@@ -55,7 +55,7 @@ fn answer_statement<K: Sink>(
         IfErr result (HasStopped origin (K.state sink.new) (before ++ statement ∷ []) marks.new.items) }
 {
     marks.reserve(1)?;
-    match answer(alloc, text) {
+    match answer(alloc, start, end, text) {
         Ok(Reply { text, refusal }) => {
             keep_mark(marks, start, end, refusal);
             write_whole(sink, text.as_slice())

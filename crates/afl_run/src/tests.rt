@@ -42,9 +42,23 @@ fn written(sessions: &[SessionReport<MemSource, MemSink>]) -> &[u8] {
     }
 }
 
+/// A `build` over one place, of a number in brackets.
+fn bracketed(
+    alloc: Global,
+    opening: &[u8],
+    number: &[u8],
+    closing: &[u8],
+) -> Result<Bytes, Memory> {
+    let mut script = Bytes::from_slice(alloc, b"build(<v:int64>[i=0:0,1,0], ")?;
+    script.extend(opening)?;
+    script.extend(number)?;
+    script.extend(closing)?;
+    Ok(script)
+}
+
 #[test]
 fn scripts_are_answered(rt: HostRuntime) -> Result<(), Fail> {
-    let rows: [(&[u8], &[u8], u8); 8] = [
+    let rows: [(&[u8], &[u8], u8); 9] = [
         (
             b"build(<v:int64>[i=0:3,2,0], i*i);",
             b"{i} v\n{0} 0\n{1} 1\n{2} 4\n{3} 9\n",
@@ -76,12 +90,116 @@ fn scripts_are_answered(rt: HostRuntime) -> Result<(), Fail> {
             b"{i} v\n{0} -1\n",
             0,
         ),
-        (b"'a;\\'b';'c", b"error: not built\nerror: not built\n", 1),
+        (
+            b"'a;\\'b';'c",
+            b"error: not built\nerror: parse at 0: open text\n",
+            1,
+        ),
+        (
+            b"build(<v:int64 null>[i=4611686018427387902:*,1,0], -i+i)",
+            b"{i} v\n{4611686018427387902} 0\n{4611686018427387903} 0\n",
+            0,
+        ),
     ];
     for (script, reply, status) in rows {
         let report = run_words(rt.alloc(), &["try"], script, &[], &[])?;
         let sessions = report.sessions.as_slice();
         assert_eq!(rt; (written(sessions), report.status), (reply, status));
+    }
+    Ok(())
+}
+
+#[test]
+fn texts_that_stop_are_told_where_and_why(rt: HostRuntime) -> Result<(), Fail> {
+    let rows: [(&[u8], &[u8]); 9] = [
+        (b"1 & 2", b"error: parse at 2: unknown character\n"),
+        (
+            b"build(<v:int64>[i=0:0,1,0], 'abc",
+            b"error: parse at 28: open text\n",
+        ),
+        (b"('a\\n');", b"error: parse at 3: bad escape\n"),
+        (
+            b"build(<v:int64>[i=0:0,1,0], ?128);",
+            b"error: parse at 28: literal too large\n",
+        ),
+        (
+            b"i+9223372036854775808",
+            b"error: parse at 2: literal too large\n",
+        ),
+        (
+            b"filter(A,, v>1);",
+            b"error: parse at 9: unexpected\n",
+        ),
+        (
+            b"build(<v:int64>[i=0:0,1,0], 7;",
+            b"error: parse at 29: unexpected\n",
+        ),
+        (
+            b"build(<v:int64>[i=0:0,1,0], 7));",
+            b"error: parse at 30: unexpected\n",
+        ),
+        (
+            b"a1234567890123456789012345678901234567890123456789012345678901234",
+            b"error: parse at 0: name too long\n",
+        ),
+    ];
+    for (script, reply) in rows {
+        let report = run_words(rt.alloc(), &["try"], script, &[], &[])?;
+        let sessions = report.sessions.as_slice();
+        assert_eq!(rt; (written(sessions), report.status), (reply, 1));
+    }
+    Ok(())
+}
+
+#[test]
+fn the_depth_of_a_statement_is_limited(rt: HostRuntime) -> Result<(), Fail> {
+    let alloc = rt.alloc();
+    let deepest = bracketed(alloc, &[b'('; 126], b"7", &[b')'; 127])?;
+    let report = run_words(alloc, &["try"], deepest.as_slice(), &[], &[])?;
+    assert_eq!(rt; written(report.sessions.as_slice()), b"{i} v\n{0} 7\n");
+    let deeper = bracketed(alloc, &[b'('; 127], b"", b"")?;
+    let report = run_words(alloc, &["try"], deeper.as_slice(), &[], &[])?;
+    assert_eq!(rt; written(report.sessions.as_slice()), b"error: parse at 154: too deep\n");
+    Ok(())
+}
+
+#[test]
+fn the_length_of_a_statement_is_limited(rt: HostRuntime) -> Result<(), Fail> {
+    let alloc = rt.alloc();
+    let mut script = Bytes::new(alloc);
+    for _ in 0..256 {
+        script.extend(&[b' '; 4096])?;
+    }
+    script.extend(b" ;build(<v:int64>[i=0:0,1,0], 7)")?;
+    let report = run_words(alloc, &["try"], script.as_slice(), &[], &[])?;
+    let reply = b"error: too long: 1048577 bytes\n{i} v\n{0} 7\n".as_slice();
+    assert_eq!(rt; (written(report.sessions.as_slice()), report.status), (reply, 1));
+    Ok(())
+}
+
+#[test]
+fn other_trees_are_not_built(rt: HostRuntime) -> Result<(), Fail> {
+    let rows: [&[u8]; 14] = [
+        b"list('arrays');",
+        b"create array A <v:int64>[i=0:0,1,0]",
+        b"scan(<v:int64>[i=0:0,1,0], 7)",
+        b"build(7, <v:int64>[i=0:0,1,0])",
+        b"build(<v:int64>[i=0:0,1,0])",
+        b"build(<v:int64>[i=0:0,1,0], 7, true)",
+        b"build(<v:int64 not null>[i=0:0,1,0], 7)",
+        b"build(<v:string>[i=0:0,1,0], 7)",
+        b"build(<v:int64,w:int64>[i=0:0,1,0], 7)",
+        b"build(<v:int64>[i=0:0,1,0,j=0:0,1,0], 7)",
+        b"build(<v:int64>[i=0:16777216,1,0], 7)",
+        b"build(<v:int64>[i=0:0,1,2], 7)",
+        b"build(<v:int64>[i=0:0,1,0], 7+j)",
+        b"build(<v:int64>[i=0:0,1,0], -(7=i))",
+    ];
+    for script in rows {
+        let report = run_words(rt.alloc(), &["try"], script, &[], &[])?;
+        let sessions = report.sessions.as_slice();
+        let reply = b"error: not built\n".as_slice();
+        assert_eq!(rt; (written(sessions), report.status), (reply, 1));
     }
     Ok(())
 }

@@ -183,7 +183,15 @@ fn has_refusal(marks: &List<Mark>) -> bool
 fn is_refused(mark: &Mark) -> bool
     ensures { result ≡ is_refusal mark.now.refusal }
 {
-    matches!(mark.refusal, Some(Refusal::NotBuilt | Refusal::Cell { .. }))
+    match mark.refusal {
+        None | Some(Refusal::Memory) => false,
+        Some(
+            Refusal::TooLong { .. }
+            | Refusal::Parse { .. }
+            | Refusal::NotBuilt
+            | Refusal::Cell { .. },
+        ) => true,
+    }
 }
 
 /// Whether no memory was found for some reply.

@@ -1,6 +1,6 @@
 //! The value of an expression over one dimension.
 ghost use Rattle.std.specs.Prelude.{◌≡◌, ℕ, List, IsTrue, MatchOption};
-ghost use Rattle.afl_parser.specs.FirstForm.{is_arithmetic, is_plain};
+ghost use Rattle.afl_run.specs.FirstForm.{is_arithmetic, is_plain};
 ghost use Rattle.afl_run.specs.ExprValue.{value, computed, number_or_fault};
 ghost use Rattle.cell_values.specs.Table.{negation};
 
