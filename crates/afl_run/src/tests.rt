@@ -126,10 +126,7 @@ fn texts_that_stop_are_told_where_and_why(rt: HostRuntime) -> Result<(), Fail> {
             b"i+9223372036854775808",
             b"error: parse at 2: literal too large\n",
         ),
-        (
-            b"filter(A,, v>1);",
-            b"error: parse at 9: unexpected\n",
-        ),
+        (b"filter(A,, v>1);", b"error: parse at 9: unexpected\n"),
         (
             b"build(<v:int64>[i=0:0,1,0], 7;",
             b"error: parse at 29: unexpected\n",
@@ -159,7 +156,10 @@ fn the_depth_of_a_statement_is_limited(rt: HostRuntime) -> Result<(), Fail> {
     assert_eq!(rt; written(report.sessions.as_slice()), b"{i} v\n{0} 7\n");
     let deeper = bracketed(alloc, &[b'('; 127], b"", b"")?;
     let report = run_words(alloc, &["try"], deeper.as_slice(), &[], &[])?;
-    assert_eq!(rt; written(report.sessions.as_slice()), b"error: parse at 154: too deep\n");
+    assert_eq!(rt;
+        written(report.sessions.as_slice()),
+        b"error: parse at 154: too deep\n"
+    );
     Ok(())
 }
 
@@ -173,7 +173,10 @@ fn the_length_of_a_statement_is_limited(rt: HostRuntime) -> Result<(), Fail> {
     script.extend(b" ;build(<v:int64>[i=0:0,1,0], 7)")?;
     let report = run_words(alloc, &["try"], script.as_slice(), &[], &[])?;
     let reply = b"error: too long: 1048577 bytes\n{i} v\n{0} 7\n".as_slice();
-    assert_eq!(rt; (written(report.sessions.as_slice()), report.status), (reply, 1));
+    assert_eq!(rt;
+        (written(report.sessions.as_slice()), report.status),
+        (reply, 1)
+    );
     Ok(())
 }
 
