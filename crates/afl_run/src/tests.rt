@@ -153,12 +153,15 @@ fn the_depth_of_a_statement_is_limited(rt: HostRuntime) -> Result<(), Fail> {
     let alloc = rt.alloc();
     let deepest = bracketed(alloc, &[b'('; 126], b"7", &[b')'; 127])?;
     let report = run_words(alloc, &["try"], deepest.as_slice(), &[], &[])?;
-    assert_eq!(rt; written(report.sessions.as_slice()), b"{i} v\n{0} 7\n");
+    assert_eq!(rt;
+        written(report.sessions.as_slice()),
+        b"{i} v\n{0} 7\n".as_slice()
+    );
     let deeper = bracketed(alloc, &[b'('; 127], b"", b"")?;
     let report = run_words(alloc, &["try"], deeper.as_slice(), &[], &[])?;
     assert_eq!(rt;
         written(report.sessions.as_slice()),
-        b"error: parse at 154: too deep\n"
+        b"error: parse at 154: too deep\n".as_slice()
     );
     Ok(())
 }
