@@ -1,6 +1,7 @@
 //! The value of an expression at a cell.
 ghost use Rattle.std.specs.Prelude.{◌≡◌, IsTrue, IfOk, slice_index_or};
 ghost use Rattle.expr_nulls.specs.ExprValue.{value_of, calculated, number_at};
+ghost use Rattle.expr_nulls.specs.Typing.{TypedValuesFit};
 ghost use Rattle.expr_nulls.specs.Seen.{datum_of, DecidesBoth, DecidesEither};
 
 use crate::functions::{make_null, measure_text, spell_number, tell_reason, test_null};
@@ -170,4 +171,10 @@ fn decides_or(value: &Datum) -> bool
     ensures { IsTrue result → DecidesEither value.now }
 {
     matches!(value, Datum::Bad(_) | Datum::Truth(true))
+}
+
+/// An expression of a kind has a value of this kind, wherever the cell's values are of their attributes' kinds.
+pub fn typed_values_fit()
+    ensures { TypedValuesFit }
+{
 }

@@ -6,5 +6,5 @@ mod evaluate;
 mod expr;
 mod functions;
 
-pub use evaluate::eval;
+pub use evaluate::{eval, typed_values_fit};
 pub use expr::{ArithOp, ExprNode, TypedExpr};
