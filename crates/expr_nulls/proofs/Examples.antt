@@ -130,9 +130,9 @@ reasons = refl
 sums_of_nulls : over nulls (calculation Add v (number 1)) ≡ Missing 7 ∷ Null ∷ Int (pos 5) ∷ []
 sums_of_nulls = refl
 
--- `strlen('it')`, `string(-120)`, `'a' + 'b'`, `'a' < 'b'`
-texts : map (λ e. value_of e [] []) (byte_length (literal (Text (codes "it"))) ∷ decimal_text (minus (number 120)) ∷ calculation Add (literal (Text (codes "a"))) (literal (Text (codes "b"))) ∷ relation Less (literal (Text (codes "a"))) (literal (Text (codes "b"))) ∷ [])
-    ≡ Int (pos 2) ∷ Text (codes "-120") ∷ Text (codes "ab") ∷ Truth true ∷ []
+-- `strlen('it')`, `'a' + 'b'`, `'a' < 'b'`
+texts : map (λ e. value_of e [] []) (byte_length (literal (Text (codes "it"))) ∷ calculation Add (literal (Text (codes "a"))) (literal (Text (codes "b"))) ∷ relation Less (literal (Text (codes "a"))) (literal (Text (codes "b"))) ∷ [])
+    ≡ Int (pos 2) ∷ Text (codes "ab") ∷ Truth true ∷ []
 texts = refl
 
 -- which kinds an expression has over an attribute `v` of numbers and a dimension `i`: numbers, texts, truths
