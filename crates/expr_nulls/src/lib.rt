@@ -1,0 +1,13 @@
+//! Typed expressions: their kinds, and their values at a cell.
+#![tactic(auto)]
+
+mod copies;
+mod evaluate;
+mod expr;
+mod functions;
+
+pub use evaluate::{eval, typed_values_fit};
+pub use expr::{ArithOp, ExprNode, TypedExpr};
+
+#[cfg(test)]
+mod tests;
