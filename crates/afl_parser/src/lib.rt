@@ -18,6 +18,4 @@ pub use printer::{print, printed_trees_are_read_again};
 pub use tree::{BinaryOp, Node, Tree};
 
 #[cfg(test)]
-mod faults;
-#[cfg(test)]
 mod tests;

@@ -1,0 +1,14 @@
+//! The texts that statements are answered with.
+#![tactic(auto)]
+
+mod array;
+mod kinds;
+mod lines;
+mod refusal;
+mod spelling;
+#[cfg(test)]
+mod tests;
+
+pub use array::dcsv;
+pub use lines::refusal_line;
+pub use refusal::Refusal;

@@ -1,0 +1,10 @@
+//! A log that several threads share: each appends its entries in turn, behind all that were appended before.
+#![tactic(auto)]
+
+mod appending;
+mod log;
+#[cfg(test)]
+mod tests;
+
+pub use appending::append;
+pub use log::{Entry, Log};
