@@ -83,12 +83,12 @@ cut_bytes n bytes small = text_bytes (take n bytes) (drop n bytes) (subst AreByt
 long_enough : (n : ℕ) (text rest : List ℕ) → length text ≡ n → ltb (length (text ++ rest)) n ≡ false
 long_enough n text rest len = le-ltb _ _ (omega (arith, len, length-append text rest))
 
-pub bytes_reads : (n : ℕ) → Reads (bytes_at n) (λ text. text) (λ text. length text ≡ n)
+pub bytes_reads : (n : ℕ) → Reads (bytes_at n) (λ text. text) (λ text. (length text ≡ n) × AreBytes text)
 bytes_reads n = record {
   takes = λ bytes text rest small e.
       let p = parts_are (ltb (length bytes) n) (length bytes) (take n bytes) (drop n bytes) text rest e in
-      (rw (← p.1) (cut_begins n bytes rest small p.2), rw (← p.1) (cut_there n bytes p.0));
-  again = λ text rest len. rw (long_enough n text rest len, take_at text rest n len, drop_at text rest n len) refl;
+      (rw (← p.1) (cut_begins n bytes rest small p.2), (rw (← p.1) (cut_there n bytes p.0), subst AreBytes p.1 (cut_bytes n bytes small)));
+  again = λ text rest good. let len = good.0 in rw (long_enough n text rest len, take_at text rest n len, drop_at text rest n len) refl;
 }
 
 -- ---- numbers
