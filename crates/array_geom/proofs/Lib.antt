@@ -1,0 +1,7 @@
+mod AreaLaws
+pub mod CoreLaws
+pub mod LawProofs
+pub mod NearLemmas
+pub mod PlaceLaws
+pub mod TestLaws
+mod Worked

@@ -1,0 +1,5 @@
+pub mod Areas
+pub mod Chunks
+pub mod Geometry
+pub mod Laws
+pub mod Ranges

@@ -1,0 +1,27 @@
+//! Laws of boxes, cores, frames and places.
+ghost use Rattle.array_geom.specs.Laws.{MeetHoldsBoth, ShiftedHoldsMoved, LowestIsInside, WhatHoldsIsOrdered, CoresCover, CoresLieApart, CoreIsWithinBounds, CoreIsInFrame, PlaceOfCoordinate, CoordinateAtPlace};
+
+/// What a box holds that two boxes share, or that is moved, and which boxes hold something.
+#[tactic(auto, using(crate::proofs::LawProofs::meet_holds_both, crate::proofs::LawProofs::shifted_holds_moved, crate::proofs::LawProofs::lowest_is_inside, crate::proofs::LawProofs::what_holds_is_ordered))]
+pub fn boxes_hold_coordinates()
+    ensures meet { MeetHoldsBoth }
+    ensures shift { ShiftedHoldsMoved }
+    ensures lowest { LowestIsInside }
+    ensures ordered { WhatHoldsIsOrdered }
+{}
+
+/// Cores cover the bounds, lie apart, and lie within the bounds and in their frames.
+#[tactic(auto, using(crate::proofs::LawProofs::cores_cover, crate::proofs::LawProofs::cores_lie_apart, crate::proofs::LawProofs::core_is_within_bounds, crate::proofs::LawProofs::core_is_in_frame))]
+pub fn cores_are_parts()
+    ensures cover { CoresCover }
+    ensures apart { CoresLieApart }
+    ensures within { CoreIsWithinBounds }
+    ensures framed { CoreIsInFrame }
+{}
+
+/// `position` and `place` are inverse on a frame.
+#[tactic(auto, using(crate::proofs::LawProofs::place_of_coordinate, crate::proofs::LawProofs::coordinate_at_place))]
+pub fn position_and_place_are_inverse()
+    ensures place { PlaceOfCoordinate }
+    ensures position { CoordinateAtPlace }
+{}

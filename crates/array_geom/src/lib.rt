@@ -1,0 +1,19 @@
+//! Arrays in chunks: which coordinates belong to a chunk, and where each stands in the chunk's frame.
+#![tactic(auto)]
+
+mod boxes;
+mod chunk;
+mod cores;
+mod frames;
+mod grid;
+mod laws;
+
+pub use boxes::Boxes;
+pub use chunk::{Changed, Chunk, ChunkedArray};
+pub use cores::{chunk_of, chunks_meeting, core_box};
+pub use frames::{frame, grid_of, place, position};
+pub use grid::{Grid, Lengths};
+pub use laws::{boxes_hold_coordinates, cores_are_parts, position_and_place_are_inverse};
+
+#[cfg(test)]
+mod tests;

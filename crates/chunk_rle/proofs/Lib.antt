@@ -1,0 +1,11 @@
+pub mod ChunkLaws
+pub mod PayloadLaws
+pub mod PlaceLemmas
+pub mod PositionLaws
+pub mod RunLemmas
+pub mod Steps
+pub mod StoredLaws
+pub mod Telling
+pub mod Tested
+pub mod ValueLaws
+mod Worked

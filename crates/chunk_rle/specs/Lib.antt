@@ -1,0 +1,9 @@
+pub mod Chunks
+pub mod Decoding
+pub mod Frames
+pub mod Longest
+pub mod Ready
+pub mod Spelling
+pub mod Stored
+pub mod Table
+pub mod Valid

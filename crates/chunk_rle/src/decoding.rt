@@ -1,0 +1,115 @@
+//! Decoding payloads.
+ghost use Rattle.std.specs.Prelude.{◌≡◌, ◌+◌, ◌<◌, ◌^◌, All, IfOk, IsTrue, Ok};
+ghost use Rattle.byte_items.specs.Items.{IsRead};
+ghost use Rattle.cell_values.specs.Schemas.{IsValid};
+ghost use Rattle.cell_values.specs.declared.schema.Schema.{Schema as ASchema};
+ghost use Rattle.array_geom.specs.Geometry.{has_core};
+ghost use Rattle.array_geom.specs.declared.chunk.Chunk.{Chunk as AChunk};
+ghost use Rattle.chunk_rle.specs.Chunks.{spelling, chunk_of, chunk_payload};
+ghost use Rattle.chunk_rle.specs.Decoding.{Answers, Told};
+ghost use Rattle.chunk_rle.specs.Frames.{frame_in, frame_of};
+ghost use Rattle.chunk_rle.specs.Ready.{IsReady};
+ghost use Rattle.chunk_rle.specs.Stored.{IsStored};
+
+use crate::expanding::{all_values, cells, positions};
+use crate::places::{Places, places_of};
+use crate::reading::payload;
+use crate::runs::ChunkRuns;
+use array_geom::Chunk;
+use byte_items::Stop;
+use cell_values::{Attribute, ChunkAt, Memory, Schema, copy_numbers};
+use std::alloc::Global;
+
+/// Why a payload could not be decoded.
+#[derive(Clone, Copy, Debug, PartialEq, Eq)]
+pub enum BadPayload {
+    /// The offset of the first wrong item.
+    At { at: u64 },
+    Memory,
+}
+
+/// How a stop is told: by the offset from the front.
+fn told(bytes: &[u8], stop: Stop) -> BadPayload
+    ensures { Told result bytes.now stop }
+{
+    match stop {
+        Stop::Memory => BadPayload::Memory,
+        Stop::Left(left) => BadPayload::At {
+            at: bytes.len().saturating_sub(left) as u64,
+        },
+    }
+}
+
+/// The chunk that these runs are of.
+fn chunk(alloc: Global, at: &ChunkAt, runs: &ChunkRuns) -> Result<Chunk, Memory>
+    requires { All (λ run. run.start + run.length < 2 ^ 64) runs.now.positions }
+    ensures { IfOk result (λ chunk. chunk ≡ chunk_of at.now runs.now) }
+{
+    let positions = positions(alloc, runs.positions.as_slice())?;
+    let columns = all_values(alloc, runs.columns.as_slice())?;
+    let cells = cells(alloc, columns.as_slice(), positions.len())?;
+    Ok(Chunk {
+        at: copy_numbers(at),
+        positions,
+        cells,
+    })
+}
+
+fn chunk_at(
+    alloc: Global,
+    places: &Places,
+    at: &ChunkAt,
+    attributes: &[Attribute],
+    bytes: &[u8],
+) -> Result<Chunk, Stop>
+    requires { IsReady places.now }
+    ensures { IsRead (λ x. x) result (chunk_payload (frame_in places.now) at.now attributes.now bytes.now) }
+{
+    match payload(alloc, places, attributes, bytes) {
+        Ok(runs) => match chunk(alloc, at, &runs) {
+            Ok(chunk) => Ok(chunk),
+            Err(Memory) => Err(Stop::Memory),
+        },
+        Err(stop) => Err(stop),
+    }
+}
+
+fn stored_chunk(alloc: Global, schema: &Schema, at: &ChunkAt, bytes: &[u8]) -> Result<Chunk, Stop>
+    requires valid { IsValid schema.now }
+    requires core { IsTrue (has_core schema.now.dimensions at.now.items) }
+    ensures { IsRead (λ x. x) result (chunk_payload (frame_of schema.now at.now.items) at.now schema.now.attributes bytes.now) }
+{
+    let places = places_of(schema, at);
+    let attributes = schema.attributes.as_slice();
+    chunk_at(alloc, &places, at, attributes, bytes)
+}
+
+/// The chunk with this number that these bytes spell. Bytes that spell none are refused at the offset
+/// of the first item that the rules do not allow, that the end cuts, or that follows the last one.
+pub fn decode(
+    alloc: Global,
+    schema: &Schema,
+    at: &ChunkAt,
+    bytes: &[u8],
+) -> Result<Chunk, BadPayload>
+    requires valid { IsValid schema.now }
+    requires core { IsTrue (has_core schema.now.dimensions at.now.items) }
+    // What is answered is a chunk that is spelled so.
+    ensures stored { IfOk result (IsStored schema.now) }
+    ensures number { IfOk result (λ chunk. chunk.at ≡ at.now) }
+    ensures spelled { IfOk result (λ chunk. bytes.now ≡ spelling schema.now.attributes chunk) }
+    // A chunk that is spelled so is answered, unless memory runs out.
+    ensures only { (chunk : AChunk) → IsStored schema.now chunk → chunk.at ≡ at.now → bytes.now ≡ spelling schema.now.attributes chunk → Answers (λ x. x) result bytes.now (Ok chunk) }
+    // Which item is the first wrong one.
+    ensures exact { Answers (λ x. x) result bytes.now (chunk_payload (frame_of schema.now at.now.items) at.now schema.now.attributes bytes.now) }
+{
+    match stored_chunk(alloc, schema, at, bytes) {
+        Ok(chunk) => Ok(chunk),
+        Err(stop) => Err(told(bytes, stop)),
+    }
+}
+
+/// Two chunks with one number and one spelling are the same.
+pub fn same_spelling_same_chunk()
+    ensures { (schema : ASchema) (a b : AChunk) → IsStored schema a → IsStored schema b → a.at ≡ b.at → spelling schema.attributes a ≡ spelling schema.attributes b → a ≡ b }
+{}

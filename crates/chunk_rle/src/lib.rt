@@ -1,0 +1,17 @@
+//! Payloads of chunks: the one spelling of a chunk, and the offset of the first wrong item.
+#![tactic(auto)]
+
+mod collecting;
+mod decoding;
+mod encoding;
+mod expanding;
+mod places;
+mod reading;
+mod runs;
+mod writing;
+
+pub use decoding::{BadPayload, decode, same_spelling_same_chunk};
+pub use encoding::encode;
+
+#[cfg(test)]
+mod tests;
