@@ -22,27 +22,21 @@ fn source(alloc: Global, content: &[u8], fails: &[u64]) -> Result<MemSource, Mem
 #[test]
 fn a_source_gives_its_bytes_and_fails_at_the_listed_reads(rt: HostRuntime) -> Result<(), Fail> {
     let mut source = source(rt.alloc(), b"build(", &[1, 3])?;
-    let given = [
-        gives(&mut source, b"bui"),
-        gives(&mut source, b"ld("),
-        gives(&mut source, b"ld("),
-        gives(&mut source, b""),
-        gives(&mut source, b""),
-    ];
-    assert_eq!(rt; given, [true, false, true, false, true]);
-    assert_eq!(rt; source.faults(), 2);
+    assert!(rt; gives(&mut source, b"bui"));
+    assert!(rt; !gives(&mut source, b"ld("));
+    assert!(rt; gives(&mut source, b"ld("));
+    assert!(rt; !gives(&mut source, b""));
+    assert!(rt; gives(&mut source, b""));
+    assert!(rt; source.faults() == 2);
     Ok(())
 }
 
 #[test]
 fn a_sure_source_gives_its_bytes(rt: HostRuntime) -> Result<(), Fail> {
     let mut source = SureSource::new(Bytes::from_slice(rt.alloc(), b"ab;c")?);
-    let given = [
-        gives(&mut source, b"ab;"),
-        gives(&mut source, b"c"),
-        gives(&mut source, b""),
-    ];
-    assert_eq!(rt; given, [true; 3]);
+    assert!(rt; gives(&mut source, b"ab;"));
+    assert!(rt; gives(&mut source, b"c"));
+    assert!(rt; gives(&mut source, b""));
     Ok(())
 }
 
@@ -54,25 +48,20 @@ fn sink(alloc: Global, content: &[u8], fails: &[u64]) -> Result<MemSink, Memory>
 #[test]
 fn a_sink_takes_whole_pieces_and_fails_at_the_listed_writes(rt: HostRuntime) -> Result<(), Fail> {
     let mut sink = sink(rt.alloc(), b"ok ", &[1])?;
-    let done = [
-        matches!(sink.write(b"A@1"), Ok(3)),
-        matches!(sink.write(b"lost"), Ok(_)),
-        matches!(sink.write(b";"), Ok(1)),
-        sink.bytes() == b"ok A@1;".as_slice(),
-    ];
-    assert_eq!(rt; done, [true, false, true, true]);
-    assert_eq!(rt; [sink.faults(), sink.wants()], [1, 0]);
+    assert!(rt; matches!(sink.write(b"A@1"), Ok(3)));
+    assert!(rt; sink.write(b"lost").is_err());
+    assert!(rt; matches!(sink.write(b";"), Ok(1)));
+    assert!(rt; sink.bytes() == b"ok A@1;".as_slice());
+    assert!(rt; sink.faults() == 1);
+    assert!(rt; sink.wants() == 0);
     Ok(())
 }
 
 #[test]
 fn a_sure_sink_takes_whole_pieces(rt: HostRuntime) -> Result<(), Fail> {
     let mut sink = SureSink::new(Bytes::from_slice(rt.alloc(), b"{i} ")?);
-    let done = [
-        matches!(sink.write(b"v"), Ok(1)),
-        sink.bytes() == b"{i} v".as_slice(),
-    ];
-    assert_eq!(rt; done, [true, true]);
+    assert!(rt; matches!(sink.write(b"v"), Ok(1)));
+    assert!(rt; sink.bytes() == b"{i} v".as_slice());
     Ok(())
 }
 
@@ -81,61 +70,54 @@ fn disk(alloc: Global, content: &[u8], fails: &[u64]) -> Result<MemDisk, Memory>
     Ok(MemDisk::new(content, List::from_slice(alloc, fails)?))
 }
 
-/// How many of the images are right, up to the first that is not. Each is that after so many calls, with these writes
-/// kept and dots for the others.
-fn right_images(disk: &MemDisk, images: &[(u64, &[bool], &[u8])]) -> Result<usize, Memory> {
-    for (row, (calls, kept, want)) in images.iter().enumerate() {
-        if *calls > disk.calls().len() as u64 {
-            return Ok(row);
-        }
-        let image = disk.image(*calls, kept, b'.')?;
-        if image.as_slice() != *want {
-            return Ok(row);
-        }
+/// Whether this is the image after so many calls, with these writes kept and dots for the others.
+fn leaves(disk: &MemDisk, calls: u64, kept: &[bool], want: &[u8]) -> bool {
+    if calls > disk.calls().len() as u64 {
+        return false;
     }
-    Ok(images.len())
+    match disk.image(calls, kept, b'.') {
+        Ok(image) => image.as_slice() == want,
+        Err(Memory) => false,
+    }
 }
 
 #[test]
 fn a_disk_does_its_calls_and_fails_at_the_listed_ones(rt: HostRuntime) -> Result<(), Fail> {
     let mut disk = disk(rt.alloc(), b"abcdef", &[1])?;
     let mut piece = [0u8; 4];
-    let done = [
-        disk.write_at(1, b"XY").is_ok(),
-        disk.write_at(4, b"PQR").is_ok(),
-        disk.sync().is_ok(),
-        disk.write_at(8, b"Z").is_ok(),
-        disk.write_at(0, b"bb").is_ok(),
-        matches!(disk.read_at(5, &mut piece), Ok(4)),
-        matches!(disk.len(), Ok(9)),
-        piece == *b"QR\0Z",
-    ];
-    assert_eq!(rt; done, [true, false, true, true, true, true, true, true]);
-    assert_eq!(rt; [disk.faults(), disk.wants()], [1, 0]);
-    let right = right_images(
-        &disk,
-        &[
-            (0, &[], b"abcdef"),
-            (1, &[true], b"aXYdef"),
-            (1, &[false], b"a..def"),
-            (2, &[false, true], b"a..dPQR"),
-            (2, &[true, false], b"aXYd..."),
-            (3, &[false, false], b"aXYdPQR"),
-            (5, &[false, true], b"bbYdPQR\0."),
-            (5, &[], b"bbYdPQR\0Z"),
-            (6, &[true, false], b"..YdPQR\0Z"),
-            (7, &[true, true, false], b"bbYdPQR\0Z"),
-        ],
-    )?;
-    assert_eq!(rt; right, 10);
+    assert!(rt; disk.write_at(1, b"XY").is_ok());
+    assert!(rt; disk.write_at(4, b"PQR").is_err());
+    assert!(rt; disk.sync().is_ok());
+    assert!(rt; disk.write_at(8, b"Z").is_ok());
+    assert!(rt; disk.write_at(0, b"bb").is_ok());
+    assert!(rt; matches!(disk.read_at(5, &mut piece), Ok(4)));
+    assert!(rt; matches!(disk.len(), Ok(9)));
+    assert!(rt; piece.as_slice() == b"QR\0Z".as_slice());
+    assert!(rt; disk.faults() == 1);
+    assert!(rt; disk.wants() == 0);
+    assert!(rt; has_its_images(&disk));
     Ok(())
+}
+
+/// After XY at 1, PQR at 4, a sync, Z at 8 and bb at 0.
+fn has_its_images(disk: &MemDisk) -> bool {
+    leaves(disk, 0, &[], b"abcdef")
+        && leaves(disk, 1, &[true], b"aXYdef")
+        && leaves(disk, 1, &[false], b"a..def")
+        && leaves(disk, 2, &[false, true], b"a..dPQR")
+        && leaves(disk, 2, &[true, false], b"aXYd...")
+        && leaves(disk, 3, &[false, false], b"aXYdPQR")
+        && leaves(disk, 5, &[false, true], b"bbYdPQR\0.")
+        && leaves(disk, 5, &[], b"bbYdPQR\0Z")
+        && leaves(disk, 6, &[true, false], b"..YdPQR\0Z")
+        && leaves(disk, 7, &[true, true, false], b"bbYdPQR\0Z")
 }
 
 #[test]
 fn a_sync_that_fails_is_recorded_and_makes_no_write_last(rt: HostRuntime) -> Result<(), Fail> {
     let mut disk = disk(rt.alloc(), b"abc", &[1])?;
-    let done = [disk.write_at(0, b"x").is_ok(), disk.sync().is_ok()];
-    assert_eq!(rt; done, [true, false]);
+    assert!(rt; disk.write_at(0, b"x").is_ok());
+    assert!(rt; disk.sync().is_err());
     let recorded = matches!(
         disk.calls(),
         [
@@ -144,8 +126,8 @@ fn a_sync_that_fails_is_recorded_and_makes_no_write_last(rt: HostRuntime) -> Res
         ]
     );
     assert!(rt; recorded);
-    let right = right_images(&disk, &[(2, &[false], b".bc"), (2, &[true], b"xbc")])?;
-    assert_eq!(rt; right, 2);
+    assert!(rt; leaves(&disk, 2, &[false], b".bc"));
+    assert!(rt; leaves(&disk, 2, &[true], b"xbc"));
     Ok(())
 }
 
@@ -153,14 +135,11 @@ fn a_sync_that_fails_is_recorded_and_makes_no_write_last(rt: HostRuntime) -> Res
 fn a_sure_disk_gives_back_what_was_written(rt: HostRuntime) {
     let mut disk = SureDisk::new(List::new(rt.alloc()));
     let mut piece = [0u8; 4];
-    let done = [
-        disk.write_at(2, b"xy").is_ok(),
-        disk.sync().is_ok(),
-        matches!(disk.read_at(1, &mut piece), Ok(3)),
-        matches!(disk.len(), Ok(4)),
-        piece == *b"\0xy\0",
-    ];
-    assert_eq!(rt; done, [true; 5]);
+    assert!(rt; disk.write_at(2, b"xy").is_ok());
+    assert!(rt; disk.sync().is_ok());
+    assert!(rt; matches!(disk.read_at(1, &mut piece), Ok(3)));
+    assert!(rt; matches!(disk.len(), Ok(4)));
+    assert!(rt; piece.as_slice() == b"\0xy\0".as_slice());
 }
 
 fn file(alloc: Global, name: &[u8], content: &[u8], fails: &[u64]) -> Result<MemFile, Memory> {
@@ -184,13 +163,13 @@ fn shelf(alloc: Global, fails: &[u64]) -> Result<MemShelf, Memory> {
 fn a_script_and_a_device_are_opened_once(rt: HostRuntime) -> Result<(), Fail> {
     let mut shelf = shelf(rt.alloc(), &[])?;
     let mut script = shelf.script("s")?;
-    let given = [gives(&mut script, b"a;"), gives(&mut script, b"a;")];
-    assert_eq!(rt; given, [false, true], "its first read is to fail");
+    assert!(rt; !gives(&mut script, b"a;"), "its first read is to fail");
+    assert!(rt; gives(&mut script, b"a;"));
     let mut device = shelf.device("db")?;
-    let done = [matches!(device.len(), Ok(4)), device.sync().is_ok()];
-    assert_eq!(rt; done, [true, false], "its second call is to fail");
-    let again = [shelf.script("s").is_ok(), shelf.device("db").is_ok()];
-    assert_eq!(rt; again, [false, false]);
+    assert!(rt; matches!(device.len(), Ok(4)));
+    assert!(rt; device.sync().is_err(), "its second call is to fail");
+    assert!(rt; shelf.script("s").is_err());
+    assert!(rt; shelf.device("db").is_err());
     Ok(())
 }
 
@@ -198,28 +177,24 @@ fn a_script_and_a_device_are_opened_once(rt: HostRuntime) -> Result<(), Fail> {
 fn a_reply_begins_with_its_file_or_empty(rt: HostRuntime) -> Result<(), Fail> {
     let mut shelf = shelf(rt.alloc(), &[])?;
     let mut reply = shelf.reply("s.out")?;
-    let done = [reply.write(b"x").is_ok(), reply.write(b"y").is_ok()];
-    assert_eq!(rt; done, [true, false], "its second write is to fail");
-    let held = [
-        reply.bytes() == b"old:x".as_slice(),
-        shelf.reply("s.out")?.bytes().is_empty(),
-    ];
-    assert_eq!(rt; held, [true, true]);
+    assert!(rt; reply.write(b"x").is_ok());
+    assert!(rt; reply.write(b"y").is_err(), "its second write is to fail");
+    assert!(rt; reply.bytes() == b"old:x".as_slice());
+    let fresh = shelf.reply("s.out")?;
+    assert!(rt; fresh.bytes().is_empty());
     Ok(())
 }
 
 #[test]
 fn a_shelf_fails_at_the_listed_calls(rt: HostRuntime) -> Result<(), Fail> {
     let mut shelf = shelf(rt.alloc(), &[0, 2, 3])?;
-    let done = [
-        shelf.script("s").is_ok(),
-        shelf.script("s").is_ok(),
-        shelf.reply("s.out").is_ok(),
-        shelf.device("db").is_ok(),
-        shelf.device("db").is_ok(),
-    ];
-    assert_eq!(rt; done, [false, true, false, false, true]);
-    assert_eq!(rt; [shelf.faults(), shelf.wants()], [3, 0]);
+    assert!(rt; shelf.script("s").is_err());
+    assert!(rt; shelf.script("s").is_ok());
+    assert!(rt; shelf.reply("s.out").is_err());
+    assert!(rt; shelf.device("db").is_err());
+    assert!(rt; shelf.device("db").is_ok());
+    assert!(rt; shelf.faults() == 3);
+    assert!(rt; shelf.wants() == 0);
     Ok(())
 }
 
@@ -237,23 +212,19 @@ fn calls(alloc: Global) -> Result<List<DeviceCall>, Memory> {
 fn copies_are_equal(rt: HostRuntime) -> Result<(), Fail> {
     let calls = calls(rt.alloc())?;
     let file = file(rt.alloc(), b"db", b"page", &[1])?;
-    let equal = [
-        calls.copy()?.as_slice() == calls.as_slice(),
-        file.copy()? == file,
-    ];
-    assert_eq!(rt; equal, [true, true]);
+    let again = calls.copy()?;
+    assert!(rt; again.as_slice() == calls.as_slice());
+    let other = file.copy()?;
+    assert!(rt; other == file);
     Ok(())
 }
 
 #[test]
 fn a_count_at_its_last_value_counts_as_risen(rt: HostRuntime) {
     let last = u64::MAX;
-    let risen = [
-        has_risen(0, 0),
-        has_risen(0, 1),
-        has_risen(last - 1, last - 1),
-        has_risen(last, last),
-    ];
-    assert_eq!(rt; risen, [false, true, false, true]);
+    assert!(rt; !has_risen(0, 0));
+    assert!(rt; has_risen(0, 1));
+    assert!(rt; !has_risen(last - 1, last - 1));
+    assert!(rt; has_risen(last, last));
     OpenGate.pass(0, Point::Statement(0));
 }
