@@ -1,7 +1,10 @@
 mod AreaLaws
 pub mod CoreLaws
+pub mod ExampleLaws
 pub mod LawProofs
+mod LinkWitness
 pub mod NearLemmas
+pub mod NumberLaws
 pub mod PlaceLaws
 pub mod TestLaws
 mod Worked

@@ -10,15 +10,10 @@ use Rattle.array_rows.specs.Boxes.{corners, is_inside}
 use Rattle.array_geom.specs.declared.chunk.Chunk.{Chunk}
 use Rattle.array_geom.specs.Geometry.{chunk_of, core, core_meets, frame, frame_lengths, has_core, volume, coordinate_at, position_of, overlaps, HasFrame}
 use Rattle.array_geom.specs.Chunks.{IsChunk}
-
-abbrev dimension : List ℕ → ℤ → ℤ → ℕ → ℕ → Dimension
-dimension name lo hi chunk overlap = record { name = name; lo = lo; hi = hi; chunk = chunk; overlap = overlap }
+use Rattle.array_geom.specs.Example.{dimension, example, schema_of}
 
 abbrev dims : List Dimension
-dims = dimension (codes "x") (negsuc 0) (pos 2) 2 1 ∷ dimension (codes "y") (pos 0) (pos 4) 3 1 ∷ []
-
-abbrev schema : List Dimension → Schema
-schema ds = record { attributes = record { name = codes "v"; kind = Int64; nullable = true } ∷ []; dimensions = ds }
+dims = example.dimensions
 
 number : chunk_of dims (pos 1 ∷ pos 4 ∷ []) ≡ 1 ∷ 1 ∷ []
 number = refl
@@ -53,18 +48,18 @@ margin_is_not_met = refl
 
 -- ---- chunks that have a frame
 
-framed : HasFrame (schema dims) (1 ∷ 1 ∷ []) (1 ∷ 1 ∷ [])
+framed : HasFrame example (1 ∷ 1 ∷ []) (1 ∷ 1 ∷ [])
 framed = record { valid = refl; core = refl; each = refl; places = omega arith }
 
 -- a chunk of 2^48 places at the lowest bound
-greatest : HasFrame (schema (dimension (codes "x") (negsuc 4611686018427387902) (pos 4611686018427387903) 281474976710656 0 ∷ [])) (0 ∷ []) (0 ∷ [])
+greatest : HasFrame (schema_of (dimension (codes "x") (negsuc 4611686018427387902) (pos 4611686018427387903) 281474976710656 0 ∷ [])) (0 ∷ []) (0 ∷ [])
 greatest = record { valid = refl; core = refl; each = refl; places = omega arith }
 
 -- an overlap as large as the chunk at the lowest bound, and at the highest
-widest : HasFrame (schema (dimension (codes "x") (negsuc 4611686018427387902) (pos 4611686018427387903) 10 10 ∷ [])) (10 ∷ []) (0 ∷ [])
+widest : HasFrame (schema_of (dimension (codes "x") (negsuc 4611686018427387902) (pos 4611686018427387903) 10 10 ∷ [])) (10 ∷ []) (0 ∷ [])
 widest = record { valid = refl; core = refl; each = refl; places = omega arith }
 
-last : HasFrame (schema (dimension (codes "x") (negsuc 4611686018427387902) (pos 4611686018427387903) 10 10 ∷ [])) (10 ∷ []) (922337203685477580 ∷ [])
+last : HasFrame (schema_of (dimension (codes "x") (negsuc 4611686018427387902) (pos 4611686018427387903) 10 10 ∷ [])) (10 ∷ []) (922337203685477580 ∷ [])
 last = record { valid = refl; core = refl; each = refl; places = omega arith }
 
 -- ---- a chunk: a cell of its core, and a copy of a neighbour's
@@ -72,7 +67,7 @@ last = record { valid = refl; core = refl; each = refl; places = omega arith }
 abbrev chunk : Chunk
 chunk = record { at = record { items = 1 ∷ 1 ∷ [] }; positions = 1 ∷ 7 ∷ []; cells = Full (Null ∷ []) ∷ Full (Int (pos 5) ∷ []) ∷ [] }
 
-witness : IsChunk (schema dims) (1 ∷ 1 ∷ []) chunk
+witness : IsChunk example (1 ∷ 1 ∷ []) chunk
 witness = record {
   framed = framed;
   each = refl;

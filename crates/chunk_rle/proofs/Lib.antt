@@ -8,4 +8,5 @@ pub mod StoredLaws
 pub mod Telling
 pub mod Tested
 pub mod ValueLaws
+pub mod WholeFrames
 mod Worked

@@ -10,13 +10,14 @@ use Rattle.cell_values.specs.declared.schema.Attribute.{Attribute}
 use Rattle.cell_values.specs.declared.schema.Kind.TheVariants.{Int64}
 use Rattle.array_geom.specs.declared.chunk.Chunk.{Chunk}
 use Rattle.chunk_rle.specs.Frames.{all_from, any_from, frame_of, is_held, Frame}
+use Rattle.chunk_rle.specs.Example.{example}
 use Rattle.chunk_rle.specs.Stored.{IsStored}
 use Rattle.chunk_rle.specs.Spelling.{spell_value, spell_runs}
 use Rattle.chunk_rle.specs.Table.{position_run_at, position_runs_at, value_fields, is_same, is_allowed, run_at, column_at, columns_at, runs_at}
 use Rattle.chunk_rle.specs.Chunks.{spelling, chunk_payload}
 
 abbrev schema : Schema
-schema = record { attributes = record { name = codes "v"; kind = Int64; nullable = true } ∷ []; dimensions = record { name = codes "i"; lo = pos 0; hi = pos 1; chunk = 2; overlap = 0 } ∷ [] }
+schema = example
 
 abbrev frame : Frame
 frame = frame_of schema (0 ∷ [])

@@ -1,5 +1,6 @@
 pub mod Chunks
 pub mod Decoding
+pub mod Example
 pub mod Frames
 pub mod Longest
 pub mod Ready

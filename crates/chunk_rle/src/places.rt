@@ -1,13 +1,13 @@
 //! Which positions of a chunk's frame are within the schema's bounds, and which in its core.
-ghost use Rattle.std.specs.Prelude.{◌≡◌, ◌+◌, ◌<◌, ◌≤◌, length, map, IsTrue};
+ghost use Rattle.std.specs.Prelude.{◌≡◌, ◌+◌, ◌<◌, ◌≤◌, ◌&&◌, length, map, IsTrue};
 ghost use Rattle.cell_values.specs.Schemas.{IsValid};
-ghost use Rattle.array_rows.specs.Boxes.{bounds_of};
+ghost use Rattle.array_rows.specs.Boxes.{bounds_of, is_inside};
 ghost use Rattle.array_geom.specs.Geometry.{core, frame_lengths, frame_low, has_core, overlaps, volume};
 ghost use Rattle.array_geom.specs.Ranges.{IsGrid};
 ghost use Rattle.chunk_rle.specs.Frames.{all_from, any_from, frame_in, frame_of};
-ghost use Rattle.chunk_rle.specs.Ready.{IsReady};
+ghost use Rattle.chunk_rle.specs.Ready.{IsReady, LiesWithin};
 
-use array_geom::{Boxes, Grid, core_box, grid_of};
+use array_geom::{Boxes, Grid, core_box, frame, grid_of};
 use cell_values::{Bounds, ChunkAt, Coord, Dimension, Margins, Schema};
 
 /// The frame of a chunk, and the boxes that its positions are looked up in.
@@ -17,6 +17,8 @@ pub struct Places {
     pub grid: Grid,
     pub bounds: Bounds,
     pub core: Bounds,
+    /// Whether the whole frame lies within the bounds.
+    pub whole: bool,
 }
 
 fn low_of(dims: &[Dimension]) -> Coord
@@ -75,6 +77,24 @@ fn grid(schema: &Schema, at: &ChunkAt) -> Grid
     grid_of(schema, &margins, at)
 }
 
+fn holds_corners(area: &Bounds, corners: &Bounds) -> bool
+    ensures { result ≡ (is_inside area.now corners.now.lo.items && is_inside area.now corners.now.hi.items) }
+{
+    area.holds(&corners.lo) && area.holds(&corners.hi)
+}
+
+/// Whether a chunk's frame lies in a box: its two corners do.
+fn lies_within(schema: &Schema, at: &ChunkAt, area: &Bounds) -> bool
+    requires valid { IsValid schema.now }
+    requires core { IsTrue (has_core schema.now.dimensions at.now.items) }
+    ensures { IsTrue result → LiesWithin schema.now at.now.items area.now }
+{
+    let dims = schema.dimensions.as_slice();
+    let margins = overlaps_of(dims);
+    let frame = frame(schema, &margins, at);
+    holds_corners(area, &frame)
+}
+
 /// The frame of a chunk whose margins are the overlaps.
 pub(crate) fn places_of(schema: &Schema, at: &ChunkAt) -> Places
     requires valid { IsValid schema.now }
@@ -86,11 +106,13 @@ pub(crate) fn places_of(schema: &Schema, at: &ChunkAt) -> Places
     let bounds = bounds(schema);
     let core = core_box(schema, at);
     let volume = grid.volume();
+    let whole = lies_within(schema, at, &bounds);
     Places {
         volume,
         grid,
         bounds,
         core,
+        whole,
     }
 }
 
@@ -122,6 +144,9 @@ impl Places {
         requires within { start + length ≤ self.now.volume }
         ensures { result ≡ all_from (frame_in self.now).is_inside start length }
     {
+        if self.whole {
+            return true;
+        }
         for index in 0..length {
             if !self.is_inside(start + index) {
                 return false;

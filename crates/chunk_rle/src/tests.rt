@@ -1,3 +1,8 @@
+ghost use Rattle.std.specs.Prelude.{◌≡◌, [], ◌∷◌, IfOk, IsTrue};
+ghost use Rattle.cell_values.specs.Schemas.{IsValid};
+ghost use Rattle.array_geom.specs.Geometry.{has_core};
+ghost use Rattle.chunk_rle.specs.Example.{example};
+
 use super::*;
 use array_geom::Chunk;
 use cell_values::{
@@ -21,7 +26,9 @@ const TWO_CELLS: [u8; 40] = [
 /// A run of one 5 in the place of the one run of values.
 const ONE_FIVE: [u8; 17] = [1, 0, 0, 0, 0, 0, 0, 0, 1, 5, 0, 0, 0, 0, 0, 0, 0];
 
-fn name(alloc: Global, bytes: &[u8]) -> Result<Name, Memory> {
+fn name(alloc: Global, bytes: &[u8]) -> Result<Name, Memory>
+    ensures { IfOk result (λ name. name ≡ bytes.now) }
+{
     match Name::new(List::from_slice(alloc, bytes)?) {
         Some(name) => Ok(name),
         None => Err(Memory),
@@ -29,7 +36,9 @@ fn name(alloc: Global, bytes: &[u8]) -> Result<Name, Memory> {
 }
 
 /// Places 0 and 1 in one chunk, with a number each.
-fn schema(alloc: Global) -> Result<Schema, Memory> {
+fn schema(alloc: Global) -> Result<Schema, Memory>
+    ensures { IfOk result (λ schema. schema ≡ example) }
+{
     let mut attributes = List::new(alloc);
     attributes.push(Attribute {
         name: name(alloc, b"v")?,
@@ -50,7 +59,9 @@ fn schema(alloc: Global) -> Result<Schema, Memory> {
     })
 }
 
-fn first() -> ChunkAt {
+fn first() -> ChunkAt
+    ensures { result.items ≡ 0 ∷ [] }
+{
     let mut at = ChunkAt::new();
     at.push(0);
     at
@@ -77,8 +88,15 @@ fn joined(alloc: Global, front: &[u8], behind: &[u8]) -> Result<Bytes, Memory> {
     Ok(bytes)
 }
 
-fn offset(alloc: Global, schema: &Schema, bytes: &[u8]) -> Option<u64> {
-    match decode(alloc, schema, &first(), bytes) {
+fn decoded(alloc: Global, bytes: &[u8]) -> Result<Chunk, BadPayload> {
+    match schema(alloc) {
+        Ok(schema) => decode(alloc, &schema, &first(), bytes),
+        Err(Memory) => Err(BadPayload::Memory),
+    }
+}
+
+fn offset(alloc: Global, bytes: &[u8]) -> Option<u64> {
+    match decoded(alloc, bytes) {
         Err(BadPayload::At { at }) => Some(at),
         Ok(_) | Err(BadPayload::Memory) => None,
     }
@@ -89,7 +107,7 @@ fn equal_values_are_one_run(rt: HostRuntime) -> Result<(), Memory> {
     let schema = schema(rt.alloc())?;
     let bytes = encode(rt.alloc(), &schema, &twice(rt.alloc(), &Datum::Int(5))?)?;
     assert!(rt; bytes.as_slice() == FIVES.as_slice());
-    let back = decode(rt.alloc(), &schema, &first(), &FIVES).map_err(|_| Memory)?;
+    let back = decoded(rt.alloc(), &FIVES).map_err(|_| Memory)?;
     assert!(rt; back.positions.as_slice() == [0, 1].as_slice());
     assert_eq!(rt; back.cells.len(), 2);
     Ok(())
@@ -106,7 +124,7 @@ fn nulls_keep_their_codes(rt: HostRuntime) -> Result<(), Memory> {
     let spelled = joined(alloc, &TWO_CELLS, &[5, 7])?;
     let bytes = encode(alloc, &schema, &twice(alloc, &seven)?)?;
     assert!(rt; bytes == spelled);
-    let back = decode(alloc, &schema, &first(), spelled.as_slice()).map_err(|_| Memory)?;
+    let back = decoded(alloc, spelled.as_slice()).map_err(|_| Memory)?;
     assert!(rt; back.cells == twice(alloc, &seven)?.cells);
     Ok(())
 }
@@ -114,7 +132,6 @@ fn nulls_keep_their_codes(rt: HostRuntime) -> Result<(), Memory> {
 #[test]
 fn the_first_wrong_item_is_told(rt: HostRuntime) -> Result<(), Memory> {
     let alloc = rt.alloc();
-    let schema = schema(alloc)?;
     let longer = joined(alloc, &FIVES, &[0])?;
     let no_code = joined(alloc, &TWO_CELLS, &[5, 0])?;
     let mut apart = joined(alloc, &TWO_CELLS[..24], &[2, 0, 0, 0, 0, 0, 0, 0])?;
@@ -128,7 +145,7 @@ fn the_first_wrong_item_is_told(rt: HostRuntime) -> Result<(), Memory> {
         (&FIVES[..0], 0),
     ];
     for (bytes, at) in cases {
-        assert!(rt; offset(alloc, &schema, bytes) == Some(at));
+        assert!(rt; offset(alloc, bytes) == Some(at));
     }
     Ok(())
 }
