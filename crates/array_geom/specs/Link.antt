@@ -11,7 +11,7 @@ use Rattle.cell_values.specs.declared.datum.Cell.{Cell}
 use Rattle.cell_values.specs.declared.datum.Row.{Row}
 use Rattle.cell_values.specs.declared.schema.Dimension.{Dimension}
 use Rattle.cell_values.specs.declared.schema.Schema.{Schema}
-use Rattle.array_rows.specs.Arrays.{AreRowsOf}
+use Rattle.array_rows.specs.Arrays.{AreRowsOf, Meant}
 use Rattle.array_rows.specs.Boxes.{by_pairs, within}
 use Rattle.array_rows.specs.Rows.{placed}
 use Rattle.array_geom.specs.declared.chunk.Chunk.{Chunk}
@@ -66,11 +66,6 @@ pub record AreChunksOf (dims : List Dimension) (margins : List ℕ) (rows : List
   pub parts : AllByRecursion (IsPart dims margins rows) chunks
 
 -- ---- a chunked array
-
--- what an array stands for: its rows, or why it could not be computed
-pub record Meant : Type 0 where
-  pub schema : Schema
-  pub rows : Result (List Row) Broken
 
 -- the rows of a valid schema in chunks, with a margin for each dimension and at most 2^48 places in a frame
 pub record HoldsRows (schema : Schema) (array : ChunkedArray) (rows : List Row) : Type 0 where

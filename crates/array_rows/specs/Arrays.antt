@@ -1,6 +1,7 @@
 -- Rows that are an array of a schema.
-use Rattle.std.specs.Prelude.{List, IsTrue}
+use Rattle.std.specs.Prelude.{List, Result, IsTrue}
 use Rattle.std.specs.List.{AllByRecursion}
+use Rattle.cell_values.specs.declared.datum.Broken.{Broken}
 use Rattle.cell_values.specs.declared.datum.Row.{Row}
 use Rattle.cell_values.specs.declared.schema.Dimension.{Dimension}
 use Rattle.cell_values.specs.declared.schema.Schema.{Schema}
@@ -19,3 +20,8 @@ pub record AreRowsOf (schema : Schema) (rows : List Row) : Type 0 where
   pub valid : IsValid schema
   pub are_rows : AreRows schema.dimensions rows
   pub kinds : AllByRecursion (λ row. IsCellOf schema.attributes row.cell) rows
+
+-- what an array stands for: its schema, and its rows, or where and why it is broken as a whole
+pub record Meant : Type 0 where
+  pub schema : Schema
+  pub rows : Result (List Row) Broken
