@@ -1,0 +1,20 @@
+//! Plans of queries: their schemas, their leaves, and what they mean.
+#![tactic(auto)]
+
+mod attributes;
+mod copies;
+mod dimensions;
+mod leaves;
+mod names;
+mod parts;
+mod places;
+mod plan;
+
+mod schema;
+
+pub use expr_nulls::{ArithOp, ExprNode, TypedExpr};
+pub use names::{NameEntry, Names};
+pub use parts::{AggFunction, Aggregate, Applied, Fixed, Leaf, Pair, Reach};
+pub use plan::{Plan, PlanNode};
+pub use leaves::reads;
+pub use schema::schema_of;
