@@ -1,5 +1,5 @@
 -- The schema of a plan.
-use Rattle.std.specs.Prelude.{ℕ, zero, suc, ◌+◌, ℤ, pos, ◌-ℤ◌, if◌then◌else◌, List, [], ◌∷◌, ◌++◌, map, length, take, drop, slice_get, codes, Option, Some, None}
+use Rattle.std.specs.Prelude.{ℕ, zero, suc, ◌+◌, ℤ, pos, ◌-ℤ◌, if◌then◌else◌, true, List, [], ◌∷◌, ◌++◌, map, length, take, drop, slice_get, codes, Option, Some, None}
 use Rattle.std.specs.Int.{int_max, int_min, w64, saturate_signed}
 use Rattle.std.specs.Fmt.{decimal}
 use Rattle.cell_values.specs.declared.schema.Attribute.{Attribute}
@@ -60,8 +60,10 @@ from_zero d low high = record {
 }
 
 abbrev pub subarray_dimensions : List Dimension → List ℤ → List ℤ → List Dimension
+subarray_dimensions [] lo hi = []
+subarray_dimensions (d ∷ dims) [] hi = []
+subarray_dimensions (d ∷ dims) (low ∷ lo) [] = []
 subarray_dimensions (d ∷ dims) (low ∷ lo) (high ∷ hi) = from_zero d low high ∷ subarray_dimensions dims lo hi
-subarray_dimensions dims lo hi = []
 
 -- the blocks along a dimension, from that of the low bound, which keeps its number, to that of the high bound
 abbrev pub in_blocks : Dimension → ℕ → Dimension

@@ -30,6 +30,18 @@ fn moved_to_zero(dimension: &Dimension, low: i64, high: i64) -> Result<Dimension
     })
 }
 
+fn push_part(
+    parts: &mut List<Dimension>,
+    dimension: &Dimension,
+    low: i64,
+    high: i64,
+) -> Result<(), Memory>
+    ensures { OnOk result (parts.new ≡ parts.old ++ from_zero dimension.now low high ∷ []) }
+{
+    parts.push(moved_to_zero(dimension, low, high)?)
+}
+
+/// Adds the part of each dimension between its numbers in `lo` and `hi`, moved to 0.
 pub(crate) fn push_parts(
     parts: &mut List<Dimension>,
     dimensions: &[Dimension],
@@ -38,12 +50,18 @@ pub(crate) fn push_parts(
 ) -> Result<(), Memory>
     ensures { OnOk result (parts.new ≡ parts.old ++ subarray_dimensions dimensions.now lo.now hi.now) }
 {
-    match (dimensions, lo, hi) {
-        ([dimension, dimensions @ ..], [low, lo @ ..], [high, hi @ ..]) => {
-            parts.push(moved_to_zero(dimension, *low, *high)?)?;
-            push_parts(parts, dimensions, lo, hi)
-        }
-        _ => Ok(()),
+    match dimensions {
+        [] => Ok(()),
+        [dimension, dimensions @ ..] => match lo {
+            [] => Ok(()),
+            [low, lo @ ..] => match hi {
+                [] => Ok(()),
+                [high, hi @ ..] => {
+                    push_part(parts, dimension, *low, *high)?;
+                    push_parts(parts, dimensions, lo, hi)
+                }
+            },
+        },
     }
 }
 
@@ -65,6 +83,7 @@ fn blocks_along(dimension: &Dimension, size: u64) -> Result<Dimension, Memory>
     })
 }
 
+/// Adds the blocks along each dimension.
 pub(crate) fn push_blocks(
     blocks: &mut List<Dimension>,
     dimensions: &[Dimension],
@@ -72,17 +91,20 @@ pub(crate) fn push_blocks(
 ) -> Result<(), Memory>
     ensures { OnOk result (blocks.new ≡ blocks.old ++ by_pairs in_blocks dimensions.now sizes.now) }
 {
-    match (dimensions, sizes) {
-        ([dimension, dimensions @ ..], [size, sizes @ ..]) => {
-            blocks.push(blocks_along(dimension, *size)?)?;
-            push_blocks(blocks, dimensions, sizes)
-        }
-        _ => Ok(()),
+    match dimensions {
+        [] => Ok(()),
+        [dimension, dimensions @ ..] => match sizes {
+            [] => Ok(()),
+            [size, sizes @ ..] => {
+                blocks.push(blocks_along(dimension, *size)?)?;
+                push_blocks(blocks, dimensions, sizes)
+            }
+        },
     }
 }
 
 fn is_fixed(fixed: &List<Fixed>, place: usize) -> bool
-    ensures { result ≡ list_any (λ p. p == place) (fixed_places fixed.now) }
+    ensures { result ≡ list_any (λ f. f.dimension == place) fixed.now }
 {
     fixed
         .as_slice()

@@ -1,15 +1,19 @@
 //! Items at places of a list.
-ghost use Rattle.std.specs.Prelude.{◌≡◌, ◌++◌, IfOk, OnOk};
-ghost use Rattle.std.specs.Option.{option_copied, option_to_list};
+ghost use Rattle.std.specs.Prelude.{◌≡◌, ◌++◌, slice_get, IfOk, OnOk};
+ghost use Rattle.std.specs.Option.{option_to_list};
 ghost use Rattle.logical_plan.specs.BoxOps.{items_at};
 
 use cell_values::{Copies, List, Memory};
 
-fn push_copy<T: Copies + Drop>(items: &mut List<T>, item: Option<&T>) -> Result<(), Memory>
-    ensures { OnOk result (items.new ≡ items.old ++ option_to_list (option_copied item)) }
+fn push_from<T: Copies + Drop>(
+    found: &mut List<T>,
+    items: &List<T>,
+    place: usize,
+) -> Result<(), Memory>
+    ensures { OnOk result (found.new ≡ found.old ++ option_to_list (slice_get items.now place)) }
 {
-    match item {
-        Some(item) => items.push(item.copy()?),
+    match items.get(place) {
+        Some(item) => found.push(item.copy()?),
         None => Ok(()),
     }
 }
@@ -20,7 +24,7 @@ pub(crate) fn at_places<T: Copies + Drop>(items: &List<T>, places: &List<u32>) -
 {
     let mut found = List::with_capacity(items.allocator(), places.len())?;
     for place in places.as_slice() {
-        push_copy(&mut found, items.get(*place as usize))?;
+        push_from(&mut found, items, *place as usize)?;
     }
     Ok(found)
 }
