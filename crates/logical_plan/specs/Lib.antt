@@ -3,6 +3,7 @@ pub mod CellOps
 pub mod Faults
 pub mod Groups
 pub mod Joins
+pub mod Laws
 pub mod Leaves
 pub mod Meaning
 pub mod PlanSchema
@@ -11,3 +12,4 @@ pub mod QueryCode
 pub mod QueryFalls
 pub mod QueryView
 pub mod Redimension
+pub mod Typing

@@ -1,5 +1,5 @@
 -- The meaning of a plan over a database.
-use Rattle.std.specs.Prelude.{◌≡◌, ℕ, zero, suc, ◌+◌, ℤ, pos, ◌+ℤ◌, ◌-ℤ◌, int_le, unsigned_abs, if◌then◌else◌, List, [], ◌∷◌, map, Result, Ok, Err}
+use Rattle.std.specs.Prelude.{ℕ, zero, suc, ◌+◌, ℤ, pos, ◌+ℤ◌, ◌-ℤ◌, int_le, unsigned_abs, if◌then◌else◌, List, [], ◌∷◌, map, Result, Ok, Err}
 use Rattle.std.specs.List.{flat_map}
 use Rattle.cell_values.specs.declared.datum.Cell.TheVariants.{Full}
 use Rattle.cell_values.specs.declared.datum.Row.{Row}
@@ -16,7 +16,7 @@ use Rattle.logical_plan.specs.CellOps.{filter_rows, apply_rows, project_rows, fi
 use Rattle.logical_plan.specs.Faults.{if_whole, and_then}
 use Rattle.logical_plan.specs.Groups.{regrid_rows, window_rows, aggregate_rows}
 use Rattle.logical_plan.specs.Joins.{join_rows, cross_rows}
-use Rattle.logical_plan.specs.PlanSchema.{schema_of, apply_schema, project_schema, subarray_schema, slice_schema, regrid_schema, window_schema, aggregate_schema}
+use Rattle.logical_plan.specs.PlanSchema.{apply_schema, project_schema, subarray_schema, slice_schema, regrid_schema, window_schema, aggregate_schema}
 use Rattle.logical_plan.specs.Query.{Query, built, listed, scanned, filtered, applied, projected, between, subarray, sliced, joined, crossed, redimensioned, regridded, windowed, aggregated}
 use Rattle.logical_plan.specs.Redimension.{redimension_rows}
 
@@ -90,7 +90,3 @@ meaning db (redimensioned source schema gs) = redimensioned_from schema gs (mean
 meaning db (regridded source sizes gs) = made (regrid_schema sizes gs) (λ s. regrid_rows (bounds_of s.dimensions).lo.items sizes gs) (meaning db source)
 meaning db (windowed source reach gs) = made (window_schema gs) (λ s. window_rows reach gs) (meaning db source)
 meaning db (aggregated source gs places) = made (aggregate_schema gs places) (λ s. aggregate_rows places gs) (meaning db source)
-
--- a plan's meaning has the plan's schema
-abbrev pub MeaningHasSchema : Type 0
-MeaningHasSchema = (db : Database) (query : Query) → (meaning db query).schema ≡ schema_of query
