@@ -19,3 +19,6 @@ pub use plan::{Plan, PlanNode};
 pub use laws::plans_mean_arrays_of_their_schema;
 pub use leaves::reads;
 pub use schema::schema_of;
+
+#[cfg(test)]
+mod tests;
