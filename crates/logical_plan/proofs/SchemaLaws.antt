@@ -1,5 +1,8 @@
 -- The schema of a plan is that of its meaning, and a typed plan's is valid.
-use Rattle.std.proofs.Common.{◌≡◌, refl, ap}
+use Rattle.std.proofs.Common.{◌≡◌, Result, Ok, Err, refl, sym, ap, ◌∙◌}
+use Rattle.std.specs.Prelude.{IfOk}
+use Rattle.cell_values.specs.declared.memory.Memory.{Memory}
+use Rattle.cell_values.specs.declared.schema.Schema.{Schema}
 use Rattle.cell_values.specs.Schemas.{IsValid}
 use Rattle.logical_plan.specs.Meaning.{Database, meaning}
 use Rattle.logical_plan.specs.PlanSchema.{schema_of, apply_schema, project_schema, subarray_schema, slice_schema, regrid_schema, window_schema, aggregate_schema}
@@ -22,6 +25,11 @@ meaning_schema db (redimensioned source schema gs) = refl
 meaning_schema db (regridded source sizes gs) = ap (regrid_schema sizes gs) (meaning_schema db source)
 meaning_schema db (windowed source reach gs) = ap (window_schema gs) (meaning_schema db source)
 meaning_schema db (aggregated source gs places) = ap (aggregate_schema gs places) (meaning_schema db source)
+
+-- what answers the schema of a plan answers that of its meaning
+pub schema_meant : (answer : Result Schema Memory) (query : Query) → IfOk answer (λ schema. schema ≡ schema_of query) → IfOk answer (λ schema. (db : Database) → (meaning db query).schema ≡ schema)
+schema_meant (Ok schema) query h = λ db. meaning_schema db query ∙ sym h
+schema_meant (Err memory) query h = h
 
 pub typed_valid : (query : Query) → IsTyped query → IsValid (schema_of query)
 typed_valid (built schema e) t = t.0

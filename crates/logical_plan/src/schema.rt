@@ -102,8 +102,7 @@ fn groups(
     })
 }
 
-/// The schema of the result. Joins and redimension carry theirs.
-pub fn schema_of(alloc: Global, plan: &Plan) -> Result<Schema, Memory>
+fn schema_within(alloc: Global, plan: &Plan) -> Result<Schema, Memory>
     ensures { IfOk result (λ schema. schema ≡ query_schema plan.now) }
 {
     match &plan.node {
@@ -113,17 +112,25 @@ pub fn schema_of(alloc: Global, plan: &Plan) -> Result<Schema, Memory>
         | PlanNode::CrossJoin(_, _, _, schema)
         | PlanNode::Redimension(_, schema, _) => schema.copy(),
         PlanNode::Scan(leaf) => leaf.schema.copy(),
-        PlanNode::Filter(source, _) | PlanNode::Between(source, _) => schema_of(alloc, source),
-        PlanNode::Apply(source, values) => with_applied(schema_of(alloc, source)?, values),
-        PlanNode::Project(source, places) => projection(schema_of(alloc, source)?, places),
-        PlanNode::Subarray(source, area) => part(schema_of(alloc, source)?, area),
-        PlanNode::Slice(source, fixed) => slice(schema_of(alloc, source)?, fixed),
+        PlanNode::Filter(source, _) | PlanNode::Between(source, _) => schema_within(alloc, source),
+        PlanNode::Apply(source, values) => with_applied(schema_within(alloc, source)?, values),
+        PlanNode::Project(source, places) => projection(schema_within(alloc, source)?, places),
+        PlanNode::Subarray(source, area) => part(schema_within(alloc, source)?, area),
+        PlanNode::Slice(source, fixed) => slice(schema_within(alloc, source)?, fixed),
         PlanNode::Regrid(source, sizes, aggregates) => {
-            regrid(schema_of(alloc, source)?, sizes, aggregates)
+            regrid(schema_within(alloc, source)?, sizes, aggregates)
         }
-        PlanNode::Window(source, _, aggregates) => window(schema_of(alloc, source)?, aggregates),
+        PlanNode::Window(source, _, aggregates) => window(schema_within(alloc, source)?, aggregates),
         PlanNode::Aggregate(source, aggregates, places) => {
-            groups(alloc, schema_of(alloc, source)?, aggregates, places)
+            groups(alloc, schema_within(alloc, source)?, aggregates, places)
         }
     }
+}
+
+/// The schema of the array that the plan means. Joins and redimension carry theirs.
+pub fn schema_of(alloc: Global, plan: &Plan) -> Result<Schema, Memory>
+    ensures value { IfOk result (λ schema. schema ≡ query_schema plan.now) }
+    ensures meaning { IfOk result (λ schema. (db : Database) → (meaning db plan.now).schema ≡ schema) }
+{
+    schema_within(alloc, plan)
 }
