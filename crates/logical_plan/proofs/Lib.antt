@@ -1,3 +1,4 @@
+mod BuiltRows
 mod Items
 mod Samples
 mod SchemaLaws
