@@ -1,3 +1,4 @@
+mod ArrayLaws
 mod BuiltRows
 mod Items
 mod Samples
