@@ -5,3 +5,4 @@ mod Samples
 mod SchemaLaws
 mod WorkedGroups
 mod WorkedRows
+mod WorkedTyping
