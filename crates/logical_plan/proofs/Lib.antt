@@ -1,8 +1,8 @@
-mod ArrayLaws
-mod BuiltRows
-mod Items
+pub mod ArrayLaws
+pub mod BuiltRows
+pub mod Items
 mod Samples
-mod SchemaLaws
+pub mod SchemaLaws
 mod WorkedGroups
 mod WorkedRows
 mod WorkedTyping
