@@ -1,7 +1,7 @@
 -- The cells of a typed plan are those of an array of its schema.
-use Rattle.std.proofs.Common.{◌≡◌, ℕ, suc, ℤ, Bool, true, false, cond, List, [], ◌∷◌, ◌++◌, map, length, Option, Some, None, Result, Ok, Err, refl, sym, ap, ◌∙◌, subst, arith}
-use Rattle.std.specs.Prelude.{◌&&◌, not, filter, int_le, IfOk, IsTrue}
-use Rattle.std.specs.List.{AllByRecursion, AllZip, list_all}
+use Rattle.std.proofs.Common.{◌≡◌, ℕ, zero, suc, ℤ, Bool, true, false, cond, List, [], ◌∷◌, ◌++◌, map, length, Option, Some, None, Result, Ok, Err, refl, sym, ap, ◌∙◌, subst, arith}
+use Rattle.std.specs.Prelude.{◌&&◌, not, filter, int_le, nat_le, nat_lt, slice_get, slice_index_or, IfOk, IsTrue}
+use Rattle.std.specs.List.{AllByRecursion, AllZip, list_all, cons_option}
 use Rattle.cell_values.specs.declared.datum.Broken.{Broken}
 use Rattle.cell_values.specs.declared.datum.Cell.{Cell}
 use Rattle.cell_values.specs.declared.datum.Cell.TheVariants.{Full, Doubt}
@@ -29,15 +29,15 @@ use Rattle.expr_nulls.specs.ExprValue.{value_of}
 use Rattle.expr_nulls.specs.Typing.{has_kind}
 use Rattle.expr_nulls.proofs.Sound.{sound}
 use Rattle.logical_plan.specs.declared.parts.Applied.{Applied}
-use Rattle.logical_plan.specs.CellOps.{kept, filter_cell, filter_rows, apply_cell, apply_rows, fit_value, fit_values, fit_cell}
+use Rattle.logical_plan.specs.BoxOps.{items_at}
+use Rattle.logical_plan.specs.CellOps.{kept, filter_cell, filter_rows, apply_cell, apply_rows, project_cell, project_rows, fit_value, fit_values, fit_cell}
 use Rattle.logical_plan.specs.Faults.{if_whole}
 use Rattle.logical_plan.specs.Laws.{HasLeaves, keeps_places}
 use Rattle.logical_plan.specs.Leaves.{leaves}
 use Rattle.logical_plan.specs.Meaning.{Database, meaning, built_rows, coordinates}
-use Rattle.logical_plan.specs.PlanSchema.{schema_of, derived, apply_schema}
+use Rattle.logical_plan.specs.PlanSchema.{schema_of, derived, apply_schema, project_schema}
 use Rattle.logical_plan.specs.Query.{Query, built, listed, scanned, filtered, applied, projected, between, subarray, sliced, joined, crossed, redimensioned, regridded, windowed, aggregated}
-use Rattle.logical_plan.specs.Typing.{IsTyped, is_bounded, places_in, fits_one, fits_apply, is_over, is_null_alone, kinds_of, builds}
-use Rattle.std.specs.Prelude.{nat_le}
+use Rattle.logical_plan.specs.Typing.{IsTyped, is_bounded, places_in, fits_one, fits_apply, is_over, is_null_alone, kinds_of, builds, are_below}
 use Rattle.logical_plan.proofs.BuiltRows.{all-map, all-follows, both, rows_rise, coordinates_rise, coordinates_inside, between_fits}
 
 -- ---- changes cell by cell
@@ -227,6 +227,41 @@ applied_array source values t v rows a = record {
       (all-both (λ row. IsTrue (is_inside (bounds_of source.dimensions) row.at.items)) (λ row. IsCellOf source.attributes row.cell) rows a.are_rows.in_bounds a.kinds);
 }
 
+-- ---- project
+
+below_zero : (p : ℕ) → nat_lt p 0 ≡ true → ⊥
+below_zero p h = grind arith
+
+below_more : (p n : ℕ) → nat_lt (suc p) (suc n) ≡ true → nat_lt p n ≡ true
+below_more p n h = grind arith
+
+-- the value at a place is of the kind of the attribute there
+at_place : (attributes : List Attribute) (vs : List Datum) (p : ℕ) → AreOfKinds attributes vs → nat_lt p (length attributes) ≡ true → (more : List Attribute) (ws : List Datum) → AreOfKinds more ws
+    → AreOfKinds (cons_option (slice_get attributes p) more) (slice_index_or vs p Null ∷ ws)
+at_place [] vs p k b more ws m = absurd (below_zero p b)
+at_place (a ∷ attributes) [] p k b more ws m = absurd k
+at_place (a ∷ attributes) (v ∷ vs) zero k b more ws m = (k.0, m)
+at_place (a ∷ attributes) (v ∷ vs) (suc p) k b more ws m = at_place attributes vs p k.1 (below_more p (length attributes) b) more ws m
+
+values_at : (attributes : List Attribute) (vs : List Datum) (places : List ℕ) → AreOfKinds attributes vs → are_below (length attributes) places ≡ true
+    → AreOfKinds (items_at places attributes) (map (λ place. slice_index_or vs place Null) places)
+values_at attributes vs [] k b = tt
+values_at attributes vs (p ∷ places) k b =
+    let parts = both (nat_lt p (length attributes)) (are_below (length attributes) places) b in
+    at_place attributes vs p k parts.0 (items_at places attributes) (map (λ place. slice_index_or vs place Null) places) (values_at attributes vs places k parts.1)
+
+project_kinds : (source : Schema) (places : List ℕ) → are_below (length source.attributes) places ≡ true → (c : Coordinate) (cell : Cell) → IsCellOf source.attributes cell
+    → Holds (IsCellOf (project_schema places source).attributes) (project_cell places c cell)
+project_kinds source places b c (Full vs) k = values_at source.attributes vs places k b
+project_kinds source places b c (Doubt kind) k = tt
+
+projected_array : (source : Schema) (places : List ℕ) → are_below (length source.attributes) places ≡ true → IsValid (project_schema places source) → (rows : List Row) → AreRowsOf source rows → AreRowsOf (project_schema places source) (project_rows places rows)
+projected_array source places b v rows a = record {
+  valid = v;
+  are_rows = kept_rows source.dimensions (project_cell places) rows a.are_rows;
+  kinds = all-cell_wise (λ row. IsCellOf source.attributes row.cell) (λ row. IsCellOf (project_schema places source).attributes row.cell) (project_cell places) (λ row q. project_kinds source places b row.at.items row.cell q) rows a.kinds;
+}
+
 -- ---- plans
 
 whole_follows : (P Q : List Row → Type 0) (f : List Row → List Row) → ((rows : List Row) → P rows → Q (f rows)) → (r : Result (List Row) Broken) → IfOk r P → IfOk (if_whole f r) Q
@@ -241,9 +276,10 @@ typed_arrays db (filtered source test) k t l =
     whole_follows (AreRowsOf (schema_of source)) (AreRowsOf (schema_of source)) (filter_rows test) (filtered_array (schema_of source) test) (meaning db source).rows (typed_arrays db source k t.0 l)
 typed_arrays db (applied source values) k t l =
     whole_follows (AreRowsOf (schema_of source)) (AreRowsOf (schema_of (applied source values))) (apply_rows values) (applied_array (schema_of source) values t.1 t.2) (meaning db source).rows (typed_arrays db source k t.0 l)
+typed_arrays db (projected source places) k t l =
+    whole_follows (AreRowsOf (schema_of source)) (AreRowsOf (schema_of (projected source places))) (project_rows places) (projected_array (schema_of source) places t.1 t.2) (meaning db source).rows (typed_arrays db source k t.0 l)
 typed_arrays db (between source area) k t l =
     whole_follows (AreRowsOf (schema_of source)) (AreRowsOf (schema_of source)) (within area) (boxed_array (schema_of source) area) (meaning db source).rows (typed_arrays db source k t.0 l)
-typed_arrays db (projected source places) k t l = cc
 typed_arrays db (subarray source area) k t l = cc
 typed_arrays db (sliced source fixed) k t l = cc
 typed_arrays db (joined left right schema) k t l = cc

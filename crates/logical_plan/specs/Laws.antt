@@ -7,7 +7,7 @@ use Rattle.logical_plan.specs.declared.parts.Leaf.{Leaf}
 use Rattle.logical_plan.specs.Leaves.{leaves}
 use Rattle.logical_plan.specs.Meaning.{Database, meaning, version_rows}
 use Rattle.logical_plan.specs.PlanSchema.{schema_of}
-use Rattle.logical_plan.specs.Query.{Query, built, listed, scanned, filtered, applied, between}
+use Rattle.logical_plan.specs.Query.{Query, built, listed, scanned, filtered, applied, projected, between}
 use Rattle.logical_plan.specs.Typing.{IsTyped}
 
 -- the array that a plan means has the plan's schema
@@ -24,13 +24,14 @@ TypedPlansHaveValidSchemas = (query : Query) → IsTyped query → IsValid (sche
 abbrev pub HasLeaves : Database → List Leaf → Type 0
 HasLeaves db = AllByRecursion (λ leaf. AreRowsOf leaf.schema (version_rows db leaf.name leaf.version))
 
--- builds, literals and scans, filtered, cut to boxes, and with further attributes
+-- builds, literals and scans, filtered, cut to boxes, and with more or fewer attributes
 abbrev pub keeps_places : Query → Bool
 keeps_places (built schema e) = true
 keeps_places (listed schema rows) = true
 keeps_places (scanned leaf) = true
 keeps_places (filtered source test) = keeps_places source
 keeps_places (applied source values) = keeps_places source
+keeps_places (projected source places) = keeps_places source
 keeps_places (between source area) = keeps_places source
 keeps_places query = false
 
