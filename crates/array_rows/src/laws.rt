@@ -4,8 +4,7 @@ ghost use Rattle.array_rows.specs.Laws.{SameCellsAreSameRows, CellWiseRises, Par
 /// Two arrays with the same cell at each coordinate have the same rows.
 pub fn same_cells_are_same_rows()
     ensures { SameCellsAreSameRows }
-{
-}
+{}
 
 /// Changes cell by cell, parts, and unions of rows in row-major order are in row-major order.
 pub fn rows_rise()
@@ -14,8 +13,7 @@ pub fn rows_rise()
     ensures put_row { PutRowRises }
     ensures put_all { PutAllRises }
     ensures in_order { InOrderRises }
-{
-}
+{}
 
 /// Which cell changes cell by cell, parts, and unions of rows have at a coordinate.
 pub fn cells_at_coordinates()
@@ -24,5 +22,4 @@ pub fn cells_at_coordinates()
     ensures put_row { PutRowCells }
     ensures put_all { PutAllCells }
     ensures in_order { InOrderCells }
-{
-}
+{}

@@ -205,9 +205,11 @@ values_fit : (source : Schema) (c : Coordinate) (vs : List Datum) (values : List
 values_fit source c vs [] v i k t = tt
 values_fit source c vs (a ∷ values) v i k t =
     let parts = both (is_over source a.kind a.value && not (is_null_alone a.value)) (fits_apply source values) t in
-    let typed = (both (is_over source a.kind a.value) (not (is_null_alone a.value)) parts.0).0 in
-    (sound (kinds_of source.attributes) c vs (inside_fits source.dimensions c v i) (kinds_fit source.attributes vs k) a.value a.kind
-    (subst (λ n. has_kind (kinds_of source.attributes) n a.value a.kind ≡ true) (sym (inside_length source.dimensions c i)) typed), values_fit source c vs values v i k parts.1)
+    let typed = (both (is_over source a.kind a.value) (not (is_null_alone a.value)) parts.0).0 in (
+      sound (kinds_of source.attributes) c vs (inside_fits source.dimensions c v i) (kinds_fit source.attributes vs k) a.value a.kind
+          (subst (λ n. has_kind (kinds_of source.attributes) n a.value a.kind ≡ true) (sym (inside_length source.dimensions c i)) typed),
+      values_fit source c vs values v i k parts.1,
+    )
 
 apply_kinds : (source : Schema) (values : List Applied) → list_all is_dimension source.dimensions ≡ true → fits_apply source values ≡ true → (c : Coordinate) (cell : Cell)
     → is_inside (bounds_of source.dimensions) c ≡ true → IsCellOf source.attributes cell → Holds (IsCellOf (apply_schema values source).attributes) (apply_cell values c cell)

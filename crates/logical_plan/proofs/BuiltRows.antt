@@ -153,7 +153,6 @@ rows_rise cell (c ∷ cs) r = (all-map (λ row. row_major c row.at.items ≡ Les
 
 -- ---- coordinates of a valid schema
 
-
 -- a number between bounds is one of 64 bits
 pub between_fits : (lo hi x : ℤ) → is_bound lo ≡ true → is_bound hi ≡ true → int_le lo x ≡ true → int_le x hi ≡ true → fits_int64 x ≡ true
 between_fits (pos l) (pos h) (pos n) a b c d = grind (arith, ints)

@@ -13,11 +13,11 @@ mod plan;
 mod schema;
 
 pub use expr_nulls::{ArithOp, ExprNode, TypedExpr};
+pub use laws::{plans_mean_arrays_of_their_schema, typed_plans_mean_arrays};
+pub use leaves::reads;
 pub use names::{NameEntry, Names};
 pub use parts::{AggFunction, Aggregate, Applied, Fixed, Leaf, Pair, Reach};
 pub use plan::{Plan, PlanNode};
-pub use laws::{plans_mean_arrays_of_their_schema, typed_plans_mean_arrays};
-pub use leaves::reads;
 pub use schema::schema_of;
 
 #[cfg(test)]

@@ -19,7 +19,10 @@ fn push_from<T: Copies + Drop>(
 }
 
 /// The items at these places, of those that there are.
-pub(crate) fn at_places<T: Copies + Drop>(items: &List<T>, places: &List<u32>) -> Result<List<T>, Memory>
+pub(crate) fn at_places<T: Copies + Drop>(
+    items: &List<T>,
+    places: &List<u32>,
+) -> Result<List<T>, Memory>
     ensures { IfOk result (λ found. found ≡ items_at places.now items.now) }
 {
     let mut found = List::with_capacity(items.allocator(), places.len())?;

@@ -60,19 +60,11 @@ fn slice(source: Schema, fixed: &List<Fixed>) -> Result<Schema, Memory>
     })
 }
 
-fn regrid(
-    source: Schema,
-    sizes: &List<u64>,
-    aggregates: &List<Aggregate>,
-) -> Result<Schema, Memory>
+fn regrid(source: Schema, sizes: &List<u64>, aggregates: &List<Aggregate>) -> Result<Schema, Memory>
     ensures { IfOk result (λ schema. schema ≡ regrid_schema sizes.now aggregates.now source) }
 {
     let mut blocks = source.dimensions.another();
-    push_blocks(
-        &mut blocks,
-        source.dimensions.as_slice(),
-        sizes.as_slice(),
-    )?;
+    push_blocks(&mut blocks, source.dimensions.as_slice(), sizes.as_slice())?;
     Ok(Schema {
         attributes: attributes_of_aggregates(&source.attributes, aggregates)?,
         dimensions: blocks,
@@ -120,7 +112,10 @@ fn schema_within(alloc: Global, plan: &Plan) -> Result<Schema, Memory>
         PlanNode::Regrid(source, sizes, aggregates) => {
             regrid(schema_within(alloc, source)?, sizes, aggregates)
         }
-        PlanNode::Window(source, _, aggregates) => window(schema_within(alloc, source)?, aggregates),
+        PlanNode::Window(source, _, aggregates) => window(
+            schema_within(alloc, source)?,
+            aggregates,
+        ),
         PlanNode::Aggregate(source, aggregates, places) => {
             groups(alloc, schema_within(alloc, source)?, aggregates, places)
         }

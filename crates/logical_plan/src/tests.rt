@@ -137,7 +137,12 @@ fn parts_begin_at_zero(rt: HostRuntime) -> Result<(), Fail> {
 fn groups(rt: HostRuntime) -> Result<(), Fail> {
     let alloc = rt.alloc();
     let total = aggregate(alloc, AggFunction::Sum, b"t".as_slice())?;
-    let regrid = Plan::regrid(alloc, stored(alloc, b"A".as_slice())?, one(alloc, 2)?, total)?;
+    let regrid = Plan::regrid(
+        alloc,
+        stored(alloc, b"A".as_slice())?,
+        one(alloc, 2)?,
+        total,
+    )?;
     let schema = schema_of(alloc, &regrid)?;
     assert!(rt; has_one_attribute(&schema, b"t".as_slice(), true));
     assert!(rt; has_one_dimension(&schema, 1, 3, 0));
