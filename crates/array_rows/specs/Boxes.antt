@@ -1,5 +1,5 @@
 -- Boxes of coordinates, and the rows in them.
-use Rattle.std.specs.Prelude.{ℤ, int_le, Bool, true, false, ◌&&◌, List, [], ◌∷◌, map}
+use Rattle.std.specs.Prelude.{int_le, Bool, true, false, ◌&&◌, List, [], ◌∷◌, map}
 use Rattle.std.specs.Int.{int_max, int_min}
 use Rattle.cell_values.specs.declared.datum.Row.{Row}
 use Rattle.cell_values.specs.declared.schema.Bounds.{Bounds}
