@@ -1,10 +1,10 @@
 -- What derives is read.
-use Rattle.std.proofs.Common.{◌≡◌, ◌⊎◌, ℕ, zero, suc, pos, ◌+◌, ◌≤◌, Bool, true, false, ◌&&◌, Option, Some, None, List, [], ◌∷◌, ◌++◌, inl, inr, length, refl, sym, ap, subst, ◌∙◌, arith}
+use Rattle.std.proofs.Common.{◌≡◌, ◌⊎◌, ℕ, zero, suc, ◌+◌, ◌≤◌, Bool, true, false, ◌&&◌, Option, Some, None, List, [], ◌∷◌, ◌++◌, inl, inr, length, refl, sym, ap, subst, ◌∙◌, arith}
 use Rattle.std.specs.Prelude.{nat_le, nat_lt}
 use Rattle.std.proofs.lemmas.Bool.{lt-ltb, le-leb}
 use Rattle.cell_values.specs.declared.name.Span.{Span}
-use Rattle.afl_lexer.specs.declared.token.Word.TheVariants.{Not as NotWord, Null, As, Create, Array as ArrayWord}
-use Rattle.afl_lexer.specs.declared.token.Symbol.TheVariants.{LeftParen, RightParen, Less, Comma, Star, Minus as MinusSign, At as AtSign}
+use Rattle.afl_lexer.specs.declared.token.Word.TheVariants.{Null, As, Create}
+use Rattle.afl_lexer.specs.declared.token.Symbol.TheVariants.{LeftParen, RightParen, Less, At as AtSign}
 use Rattle.afl_lexer.specs.Lexemes.{Lexeme, a_name, a_number, a_text, a_code, a_word, a_symbol, Placed}
 use Rattle.schema_grammar.specs.declared.shape_text.SchemaText.{SchemaText}
 use Rattle.schema_grammar.specs.declared.state.ShapeState.{ShapeState}
@@ -15,11 +15,11 @@ use Rattle.schema_grammar.specs.Spelling.{placed, across, SpellsSchema}
 use Rattle.schema_grammar.specs.Reading.{shape_turn, ShapeRun, Read, Open as OpenShape, Stuck, shape_go, shape_run}
 use Rattle.schema_grammar.proofs.ShapeComplete.{shape_read}
 use Rattle.afl_parser.specs.Term.{Term, create, number, text, truth, null, missing, reference, version, call, schema, star, renamed, opposite, negative, binary, group, Terms, no_terms, and_term, to_terms}
-use Rattle.afl_parser.specs.Grammar.{line_of, left_line, op_of, line, height, heights, truth_word, Spells, SpellsArguments, SpellsMore, SpellsCreate, IsStatement}
-use Rattle.afl_parser.specs.Machine.{Turn, Go, Stop, want, expected, shallow, leaf_of, leaf_or_open, shaped, made, operated, operated_or_joined, named, turn, begin, start, first, verdict, run, go_on, finish}
+use Rattle.afl_parser.specs.Grammar.{line_of, left_line, line, height, heights, truth_word, Spells, SpellsArguments, SpellsMore, SpellsCreate, IsStatement}
+use Rattle.afl_parser.specs.Machine.{Turn, Go, want, expected, shallow, leaf_of, leaf_or_open, shaped, made, operated, operated_or_joined, named, turn, begin, start, first, verdict, run, go_on, finish}
 use Rattle.afl_parser.specs.declared.frame.Frame.{Frame}
 use Rattle.afl_parser.specs.declared.frame.Frame.TheVariants.{Group, Not, Minus, Left, Call}
-use Rattle.afl_parser.specs.declared.frame.Focus.TheVariants.{Start, NewShape, Made, Want, First, Have, At, Naming, Shape}
+use Rattle.afl_parser.specs.declared.frame.Focus.TheVariants.{Start, NewShape, Made, Want, First, Have, Naming, Shape}
 use Rattle.afl_parser.proofs.Heights.{one_le}
 use Rattle.afl_parser.proofs.Settling.{line_le_left, line_lt_right, ClosesBy, Closes, closes_more, past, past_not, past_minus, past_left, settle_stays}
 

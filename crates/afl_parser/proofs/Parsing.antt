@@ -1,5 +1,5 @@
 -- From token to token.
-use Rattle.std.proofs.Common.{◌≡◌, ℕ, suc, ◌+◌, ◌≤◌, ◌<◌, Some, None, List, [], ◌∷◌, length, map, take, drop, sym, ap, subst, ◌∙◌, arith, slice_index_or, Err}
+use Rattle.std.proofs.Common.{◌≡◌, ℕ, suc, ◌+◌, ◌≤◌, ◌<◌, Some, List, [], ◌∷◌, length, map, take, drop, sym, ap, subst, ◌∙◌, arith, slice_index_or, Err}
 use Rattle.std.proofs.Math.Seq.{take-length, drop-cons}
 use Rattle.std.proofs.lemmas.List.{map_more, take-map, drop-map, length-map}
 use Rattle.afl_lexer.specs.declared.token.Token.{Token}
@@ -9,7 +9,6 @@ use Rattle.afl_parser.specs.Grammar.{IsStatement, Stops}
 use Rattle.afl_parser.specs.Statement.{lexemes}
 use Rattle.afl_parser.specs.Machine.{Go, turn, run, go_on, finish, finished, Fits}
 use Rattle.afl_parser.specs.Reply.{Gives, GivesWhole, placed, IsTokenStop}
-use Rattle.afl_parser.specs.declared.kind.StopKind.{StopKind}
 use Rattle.afl_parser.specs.declared.frame.Frame.{Frame}
 use Rattle.afl_parser.specs.declared.frame.Focus.{Focus}
 use Rattle.afl_parser.specs.declared.frame.Focus.TheVariants.{Start}

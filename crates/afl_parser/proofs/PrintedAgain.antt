@@ -1,12 +1,11 @@
 -- Whatever tokens say what a tree is printed as spell that tree but for places.
-use Rattle.std.proofs.Common.{◌≡◌, ◌≢◌, inl, inr, ℕ, ◌+◌, ◌≤◌, max, Some, List, [], ◌∷◌, map, refl, sym, ap, subst, ◌∙◌}
+use Rattle.std.proofs.Common.{◌≡◌, ◌≢◌, inl, inr, ℕ, ◌+◌, ◌≤◌, max, Some, List, [], ◌∷◌, refl, sym, ap, subst, ◌∙◌}
 use Rattle.std.proofs.lemmas.List.{append-nil}
 use Rattle.cell_values.specs.declared.name.Span.{Span}
 use Rattle.afl_lexer.specs.declared.token.Token.{Token}
 use Rattle.afl_lexer.specs.declared.token.Word.TheVariants.{Not, Null, As, Create, Array}
 use Rattle.afl_lexer.specs.declared.token.Symbol.TheVariants as symbol
 use Rattle.afl_lexer.specs.Lexemes.{Lexeme, a_name, a_number, a_text, a_code, a_word, a_symbol, Placed, lexeme_of}
-use Rattle.afl_lexer.specs.Tokens.{AreTokens}
 use Rattle.afl_lexer.specs.Spelling.{Mark, a_space, says, spelled, said, AreApart, lexemes as lexemes_said}
 use Rattle.afl_lexer.proofs.Printing.{read_again}
 use Rattle.schema_grammar.specs.declared.shape_text.SchemaText.{SchemaText}
@@ -16,7 +15,7 @@ use Rattle.schema_grammar.specs.Spelling.{placed, across, SpellsAttrs, SpellsDim
 use Rattle.schema_grammar.specs.SchemaMarks.{nowhere, bare_shape, shape_marks}
 use Rattle.schema_grammar.proofs.SchemaPrinted.{whats, shape_again}
 use Rattle.afl_parser.specs.Term.{Term, create, number, text, truth, null, missing, reference, version, call, schema, star, renamed, opposite, negative, binary, group, Terms, no_terms, and_term}
-use Rattle.afl_parser.specs.Grammar.{left_line, right_line, op_of, line, span_of, truth_word, height, heights, Spells, SpellsArguments, SpellsMore, SpellsCreate, Derives, IsStatement}
+use Rattle.afl_parser.specs.Grammar.{left_line, right_line, op_of, line, span_of, truth_word, height, heights, Spells, SpellsArguments, SpellsMore, SpellsCreate, Derives}
 use Rattle.afl_parser.specs.Statement.{lexemes, DerivesText}
 use Rattle.afl_parser.specs.Print.{printed, without_spans, all_without_spans, AreReadAgain}
 use Rattle.afl_parser.specs.declared.tree.BinaryOp.{BinaryOp}

@@ -1,9 +1,9 @@
 -- What a tree is printed as is read as the same tree but for places.
-use Rattle.std.proofs.Common.{◌≡◌, ◌≢◌, ◌⊎◌, inl, inr, ℕ, zero, suc, ◌+◌, ◌≤◌, ◌<◌, ◌^◌, max, ℤ, pos, negsuc, neg_ℤ, Bool, true, false, ◌||◌, Some, List, [], ◌∷◌, ◌++◌, map, refl, sym, ap, subst, ◌∙◌, arith, append_assoc}
-use Rattle.std.specs.Prelude.{◌==◌, ⊤, unsigned_abs, codes, length}
-use Rattle.std.specs.Fmt.{decimal, signed_decimal}
+use Rattle.std.proofs.Common.{◌≡◌, ◌≢◌, inl, inr, ℕ, zero, suc, ◌<◌, ◌^◌, ℤ, pos, neg_ℤ, Bool, true, false, List, [], ◌∷◌, ◌++◌, refl, sym, ap, subst, ◌∙◌, arith, append_assoc}
+use Rattle.std.specs.Prelude.{◌==◌, ⊤, unsigned_abs, codes}
+use Rattle.std.specs.Fmt.{signed_decimal}
 use Rattle.std.specs.List.{join_with_byte, AllByRecursion}
-use Rattle.std.proofs.lemmas.List.{append-nil, length-map}
+use Rattle.std.proofs.lemmas.List.{length-map}
 use Rattle.cell_values.specs.Naming.{IsName, is_word_byte, is_digit}
 use Rattle.cell_values.specs.declared.name.Span.{Span}
 use Rattle.afl_lexer.specs.declared.token.Token.{Token}
@@ -12,22 +12,21 @@ use Rattle.afl_lexer.specs.declared.token.TokenKind.TheVariants.{Name, Int, Text
 use Rattle.afl_lexer.specs.declared.token.Word.TheVariants.{And as AndWord, Or as OrWord, Not, Null, True, False, As, Create, Array}
 use Rattle.afl_lexer.specs.declared.token.Symbol.{Symbol as ASymbol}
 use Rattle.afl_lexer.specs.declared.token.Symbol.TheVariants as symbol
-use Rattle.afl_lexer.specs.Lexemes.{Lexeme, a_name, a_number, a_text, a_code, a_word, a_symbol, Placed, what_of, lexeme_of, bytes_of}
+use Rattle.afl_lexer.specs.Lexemes.{Lexeme, a_name, a_number, a_text, a_code, a_word, a_symbol, Placed, what_of, bytes_of}
 use Rattle.afl_lexer.specs.Quoted.{items_of, byte_of}
-use Rattle.afl_lexer.specs.Tokens.{IsSpelled, Reaches, AreTokens}
-use Rattle.afl_lexer.specs.Spelling.{Mark, a_space, says, spelled, said, kind_of, spelling_of, quoted_text, IsLexeme, lengthens, lengthens_symbol, EndsBefore, AreApart, lexemes as lexemes_said}
-use Rattle.afl_lexer.proofs.Printing.{read_again}
+use Rattle.afl_lexer.specs.Tokens.{IsSpelled, Reaches}
+use Rattle.afl_lexer.specs.Spelling.{Mark, a_space, says, spelled, kind_of, spelling_of, IsLexeme, lengthens, lengthens_symbol, EndsBefore, AreApart}
 use Rattle.schema_grammar.specs.declared.shape_text.SchemaText.{SchemaText}
 use Rattle.schema_grammar.specs.declared.shape_text.AttrText.{AttrText}
 use Rattle.schema_grammar.specs.declared.shape_text.DimText.{DimText}
-use Rattle.schema_grammar.specs.Spelling.{placed, across, unbounded, SpellsNull, SpellsAttr, SpellsAttrs, SpellsBound, SpellsHigh, SpellsDim, SpellsDims, SpellsSchema}
+use Rattle.schema_grammar.specs.Spelling.{unbounded, SpellsNull, SpellsAttr, SpellsAttrs, SpellsBound, SpellsHigh, SpellsDim, SpellsDims, SpellsSchema}
 use Rattle.schema_grammar.specs.SchemaBytes.{shape_bytes}
-use Rattle.schema_grammar.specs.SchemaMarks.{nowhere, bare_shape, shape_marks, IsAttrPrintable, IsDimPrintable, IsPrintable}
-use Rattle.schema_grammar.proofs.SchemaPrinted.{whats, shape_spelled, shape_apart, shape_again}
+use Rattle.schema_grammar.specs.SchemaMarks.{shape_marks, IsAttrPrintable, IsDimPrintable, IsPrintable}
+use Rattle.schema_grammar.proofs.SchemaPrinted.{shape_spelled, shape_apart}
 use Rattle.afl_parser.specs.Term.{Term, create, number, text, truth, null, missing, reference, version, call, schema, star, renamed, opposite, negative, binary, group, Terms, no_terms, and_term}
-use Rattle.afl_parser.specs.Grammar.{line_of, left_line, right_line, op_of, line, span_of, truth_word, height, heights, Spells, SpellsArguments, SpellsMore, SpellsCreate, Derives, IsStatement}
-use Rattle.afl_parser.specs.Statement.{lexemes, DerivesText}
-use Rattle.afl_parser.specs.Print.{op_bytes, truth_bytes, printed, all_printed, without_spans, all_without_spans, AreReadAgain}
+use Rattle.afl_parser.specs.Grammar.{truth_word, Spells, SpellsArguments, SpellsMore, SpellsCreate, Derives}
+use Rattle.afl_parser.specs.Statement.{lexemes}
+use Rattle.afl_parser.specs.Print.{op_bytes, truth_bytes, printed, all_printed}
 use Rattle.afl_parser.specs.declared.tree.BinaryOp.{BinaryOp}
 use Rattle.afl_parser.specs.declared.tree.BinaryOp.TheVariants.{Or, And, Equal, Differs, Less, AtMost, More, AtLeast, Add, Sub, Mul, Div, Rem}
 

@@ -5,9 +5,9 @@ use Rattle.std.proofs.lemmas.Bool.{ltb-true, leb-true, lt-ltb, le-leb}
 use Rattle.std.proofs.lemmas.List.{take-append-drop, append-nil, length-drop}
 use Rattle.std.proofs.Math.Seq.{take-add, take-length, drop-length}
 use Rattle.cell_values.specs.declared.name.Span.{Span}
-use Rattle.afl_lexer.specs.declared.token.Word.TheVariants.{Not as NotWord, Null, True, False, As, Create, Array as ArrayWord}
+use Rattle.afl_lexer.specs.declared.token.Word.TheVariants.{Not as NotWord, As, Create, Array as ArrayWord}
 use Rattle.afl_lexer.specs.declared.token.Symbol.TheVariants.{LeftParen, RightParen, Less, Comma, Star, Minus as MinusSign, At as AtSign}
-use Rattle.afl_lexer.specs.Lexemes.{Lexeme, a_name, a_number, a_text, a_code, a_word, a_symbol, Placed}
+use Rattle.afl_lexer.specs.Lexemes.{Lexeme, a_name, a_number, a_word, a_symbol, Placed}
 use Rattle.schema_grammar.specs.declared.state.ShapeState.{ShapeState}
 use Rattle.schema_grammar.specs.declared.state.ShapeState.TheVariants.{Start as ShapeStart}
 use Rattle.schema_grammar.specs.declared.state.ShapeStep.{ShapeStep}
@@ -17,7 +17,7 @@ use Rattle.schema_grammar.specs.Reading.{shape_turn}
 use Rattle.schema_grammar.proofs.ShapeEnds.{shape_enders, Ends, shape_ends}
 use Rattle.afl_parser.specs.Term.{Term, create, number, reference, version, call, schema, star, renamed, group, no_terms, to_terms}
 use Rattle.afl_parser.specs.Grammar.{line_of, left_line, op_of, line, span_of, height, IsStatement, IsFront, IsKind, StopsBefore, Stops}
-use Rattle.afl_parser.specs.Machine.{Turn, Go, Stop, want, close, ends, settle, expected, shallow, leaf_of, shaped, opening, leaf_or_open, begin, start, array_word, title, made, first, opened, dated, date, operated, named, closed, separated, joined, operated_or_joined, extend, turn, name_it, verdict, run, go_on, finish, finished, Fits}
+use Rattle.afl_parser.specs.Machine.{Turn, Go, Stop, want, close, ends, settle, expected, shallow, leaf_of, shaped, opening, leaf_or_open, begin, start, array_word, title, made, first, opened, dated, date, operated, named, closed, separated, joined, operated_or_joined, turn, name_it, verdict, run, go_on, finish, finished, Fits}
 use Rattle.afl_parser.specs.declared.tree.BinaryOp.{BinaryOp}
 use Rattle.afl_parser.specs.declared.kind.StopKind.{StopKind}
 use Rattle.afl_parser.specs.declared.kind.StopKind.TheVariants.{Unexpected, TooDeep}

@@ -1,5 +1,5 @@
 -- Each text has a tree or a stop, and only one.
-use Rattle.std.proofs.Common.{◌≡◌, ◌⊎◌, inl, inr, ℕ, List, drop, refl, sym, ap, ◌∙◌}
+use Rattle.std.proofs.Common.{◌⊎◌, inl, inr, ℕ, List, drop, refl, sym, ap, ◌∙◌}
 use Rattle.afl_lexer.specs.declared.token.Token.{Token}
 use Rattle.afl_lexer.specs.declared.token.LexKind.{LexKind}
 use Rattle.afl_lexer.specs.Tokens.{AreTokens, LexStops}

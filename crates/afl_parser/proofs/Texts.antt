@@ -1,5 +1,5 @@
 -- From tokens to texts.
-use Rattle.std.proofs.Common.{◌≡◌, ◌⊎◌, inl, inr, ℕ, Err, List, drop, refl, sym, ap, subst, ◌∙◌}
+use Rattle.std.proofs.Common.{◌≡◌, inl, inr, ℕ, Err, List, drop, refl, sym, ap, subst, ◌∙◌}
 use Rattle.afl_lexer.specs.declared.token.Token.{Token}
 use Rattle.afl_lexer.specs.declared.token.LexKind.{LexKind}
 use Rattle.afl_lexer.specs.declared.token.LexFault.{LexFault}
@@ -9,7 +9,7 @@ use Rattle.afl_lexer.specs.Outcome as lexer
 use Rattle.afl_lexer.specs.Outcome.{IsStop, AnswersTokens}
 use Rattle.afl_parser.specs.Term.{Term}
 use Rattle.afl_parser.specs.Grammar.{IsStatement, Stops}
-use Rattle.afl_parser.specs.Statement.{lexemes, DerivesText, StopsText, StopsInToken, StopsAtToken, start_of, lexical, syntactic}
+use Rattle.afl_parser.specs.Statement.{lexemes, DerivesText, StopsText, start_of, lexical, syntactic}
 use Rattle.afl_parser.specs.Reply.{IsTokenStop, at_token, in_token}
 use Rattle.afl_parser.specs.Outcome.{IsTextStop, AnswersTree, AnswersStop}
 use Rattle.afl_parser.specs.declared.kind.StopKind.{StopKind}

@@ -16,6 +16,3 @@ pub use laws::texts_have_tree_or_stop;
 pub use parser::parse;
 pub use printer::{print, printed_trees_are_read_again};
 pub use tree::{BinaryOp, Node, Tree};
-
-#[cfg(test)]
-mod tests;

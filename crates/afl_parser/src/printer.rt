@@ -179,6 +179,3 @@ pub fn print(alloc: Global, tree: &Tree) -> Result<Bytes, Memory>
 pub fn printed_trees_are_read_again()
     ensures { AreReadAgain }
 {}
-
-#[cfg(test)]
-mod tests;
