@@ -1,0 +1,2 @@
+pub mod LexedLemmas
+pub mod ReadLemmas
