@@ -1,0 +1,5 @@
+pub mod Arrays
+pub mod Boxes
+pub mod Cellwise
+pub mod Laws
+pub mod Rows
