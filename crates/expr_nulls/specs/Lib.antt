@@ -1,0 +1,6 @@
+pub mod Expr
+pub mod ExprCode
+pub mod ExprFalls
+pub mod ExprValue
+pub mod ExprView
+pub mod Typing

@@ -1,0 +1,198 @@
+//! Expressions whose names are resolved.
+ghost use Rattle.std.specs.Prelude.{◌≡◌, IfOk};
+ghost use Rattle.expr_nulls.specs.Expr.{literal, attribute_value, dimension_value, minus, denial, calculation, relation, conjunction, disjunction, conditional, null_test, byte_length, decimal_text, coded_null, null_code};
+
+use cell_values::{CompareOp, Datum, Memory};
+use std::alloc::Global;
+use std::marker::Model;
+
+/// An operator on two numbers; `Add` also joins two texts.
+#[derive(Clone, Copy, Debug, PartialEq, Eq)]
+pub enum ArithOp {
+    Add,
+    Sub,
+    Mul,
+    Div,
+    Rem,
+}
+
+/// An expression over the values and the coordinate of a cell. Contracts see it as an `Expr`, without its boxes.
+#[cycle(expr)]
+#[derive(Debug, Drop)]
+pub struct TypedExpr {
+    pub node: ExprNode,
+}
+
+#[cycle(expr)]
+#[derive(Debug, Drop)]
+pub enum ExprNode {
+    Lit(Datum),
+    /// The value of an attribute, by its place from 0.
+    Attr(u32),
+    /// The number of a dimension, by its place from 0.
+    Dim(u32),
+    /// Prefix `-`.
+    Neg(Box<TypedExpr>),
+    Not(Box<TypedExpr>),
+    Arith(ArithOp, Box<TypedExpr>, Box<TypedExpr>),
+    Compare(CompareOp, Box<TypedExpr>, Box<TypedExpr>),
+    And(Box<TypedExpr>, Box<TypedExpr>),
+    Or(Box<TypedExpr>, Box<TypedExpr>),
+    /// The second operand where the first is true, else the third.
+    Iif(Box<TypedExpr>, Box<TypedExpr>, Box<TypedExpr>),
+    IsNull(Box<TypedExpr>),
+    /// The number of bytes of a text.
+    StrLen(Box<TypedExpr>),
+    /// The decimal text of a number.
+    ToText(Box<TypedExpr>),
+    /// The null whose code is a number.
+    Missing(Box<TypedExpr>),
+    /// The code of a null, -1 where the value is not null.
+    Reason(Box<TypedExpr>),
+}
+
+impl Model for TypedExpr {
+    ghost use Rattle.expr_nulls.specs.Expr.{Expr, expr_size};
+    ghost use Rattle.expr_nulls.specs.ExprCode.{expr_code};
+
+    ghost Value = { Expr };
+
+    ghost coded = { expr_code };
+
+    ghost use Rattle.expr_nulls.specs.ExprView.{expr_of};
+
+    ghost view = { λ e. expr_of e.node };
+
+    ghost size = { expr_size };
+
+    ghost use Rattle.expr_nulls.specs.ExprFalls.{depth_le-size};
+
+    ghost size_decreases = { λ e h. depth_le-size e.node };
+}
+
+impl TypedExpr {
+    pub fn lit(value: Datum) -> TypedExpr
+        ensures { result ≡ literal value }
+    {
+        TypedExpr {
+            node: ExprNode::Lit(value),
+        }
+    }
+
+    pub fn attr(place: u32) -> TypedExpr
+        ensures { result ≡ attribute_value place }
+    {
+        TypedExpr {
+            node: ExprNode::Attr(place),
+        }
+    }
+
+    pub fn dim(place: u32) -> TypedExpr
+        ensures { result ≡ dimension_value place }
+    {
+        TypedExpr {
+            node: ExprNode::Dim(place),
+        }
+    }
+
+    pub fn neg(alloc: Global, a: TypedExpr) -> Result<TypedExpr, Memory>
+        ensures { IfOk result (λ e. e ≡ minus a) }
+    {
+        let node = ExprNode::Neg(Box::new(alloc, a)?);
+        Ok(TypedExpr { node })
+    }
+
+    pub fn not(alloc: Global, a: TypedExpr) -> Result<TypedExpr, Memory>
+        ensures { IfOk result (λ e. e ≡ denial a) }
+    {
+        let node = ExprNode::Not(Box::new(alloc, a)?);
+        Ok(TypedExpr { node })
+    }
+
+    pub fn arith(
+        alloc: Global,
+        op: ArithOp,
+        a: TypedExpr,
+        b: TypedExpr,
+    ) -> Result<TypedExpr, Memory>
+        ensures { IfOk result (λ e. e ≡ calculation op a b) }
+    {
+        let node = ExprNode::Arith(op, Box::new(alloc, a)?, Box::new(alloc, b)?);
+        Ok(TypedExpr { node })
+    }
+
+    pub fn compare(
+        alloc: Global,
+        op: CompareOp,
+        a: TypedExpr,
+        b: TypedExpr,
+    ) -> Result<TypedExpr, Memory>
+        ensures { IfOk result (λ e. e ≡ relation op a b) }
+    {
+        let node = ExprNode::Compare(op, Box::new(alloc, a)?, Box::new(alloc, b)?);
+        Ok(TypedExpr { node })
+    }
+
+    pub fn and(alloc: Global, a: TypedExpr, b: TypedExpr) -> Result<TypedExpr, Memory>
+        ensures { IfOk result (λ e. e ≡ conjunction a b) }
+    {
+        let node = ExprNode::And(Box::new(alloc, a)?, Box::new(alloc, b)?);
+        Ok(TypedExpr { node })
+    }
+
+    pub fn or(alloc: Global, a: TypedExpr, b: TypedExpr) -> Result<TypedExpr, Memory>
+        ensures { IfOk result (λ e. e ≡ disjunction a b) }
+    {
+        let node = ExprNode::Or(Box::new(alloc, a)?, Box::new(alloc, b)?);
+        Ok(TypedExpr { node })
+    }
+
+    /// `a` where `test` is true, else `b`.
+    pub fn iif(
+        alloc: Global,
+        test: TypedExpr,
+        a: TypedExpr,
+        b: TypedExpr,
+    ) -> Result<TypedExpr, Memory>
+        ensures { IfOk result (λ e. e ≡ conditional test a b) }
+    {
+        let test = Box::new(alloc, test)?;
+        let node = ExprNode::Iif(test, Box::new(alloc, a)?, Box::new(alloc, b)?);
+        Ok(TypedExpr { node })
+    }
+
+    pub fn is_null(alloc: Global, a: TypedExpr) -> Result<TypedExpr, Memory>
+        ensures { IfOk result (λ e. e ≡ null_test a) }
+    {
+        let node = ExprNode::IsNull(Box::new(alloc, a)?);
+        Ok(TypedExpr { node })
+    }
+
+    pub fn str_len(alloc: Global, a: TypedExpr) -> Result<TypedExpr, Memory>
+        ensures { IfOk result (λ e. e ≡ byte_length a) }
+    {
+        let node = ExprNode::StrLen(Box::new(alloc, a)?);
+        Ok(TypedExpr { node })
+    }
+
+    pub fn to_text(alloc: Global, a: TypedExpr) -> Result<TypedExpr, Memory>
+        ensures { IfOk result (λ e. e ≡ decimal_text a) }
+    {
+        let node = ExprNode::ToText(Box::new(alloc, a)?);
+        Ok(TypedExpr { node })
+    }
+
+    pub fn missing(alloc: Global, a: TypedExpr) -> Result<TypedExpr, Memory>
+        ensures { IfOk result (λ e. e ≡ coded_null a) }
+    {
+        let node = ExprNode::Missing(Box::new(alloc, a)?);
+        Ok(TypedExpr { node })
+    }
+
+    pub fn reason(alloc: Global, a: TypedExpr) -> Result<TypedExpr, Memory>
+        ensures { IfOk result (λ e. e ≡ null_code a) }
+    {
+        let node = ExprNode::Reason(Box::new(alloc, a)?);
+        Ok(TypedExpr { node })
+    }
+}
