@@ -1,2 +1,3 @@
 pub mod LexedLemmas
 pub mod ReadLemmas
+mod WorkedLiterals

@@ -1,2 +1,5 @@
+pub mod Checked
 pub mod Lexed
+pub mod LiteralRows
 pub mod Literals
+pub mod Operators

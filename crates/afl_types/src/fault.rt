@@ -1,4 +1,6 @@
 //! Why a statement is not typed.
+ghost use Rattle.std.specs.Prelude.{◌≡◌};
+ghost use Rattle.afl_types.specs.declared.fault.TypeFault.{TypeFault};
 
 use cell_values::{Memory, Span};
 use schema_grammar::{SchemaFault, TypeKind};
@@ -38,6 +40,8 @@ impl From<SchemaFault> for TypeFault {
 }
 
 /// A fault at a place.
-pub(crate) fn broken(span: Span, kind: TypeKind) -> TypeFault {
+pub(crate) fn broken(span: Span, kind: TypeKind) -> TypeFault
+    ensures { result ≡ TypeFault.Rule span kind }
+{
     TypeFault::Rule { span, kind }
 }
