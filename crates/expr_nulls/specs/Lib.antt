@@ -3,4 +3,5 @@ pub mod ExprCode
 pub mod ExprFalls
 pub mod ExprValue
 pub mod ExprView
+pub mod Seen
 pub mod Typing

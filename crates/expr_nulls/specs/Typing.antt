@@ -1,6 +1,6 @@
 -- When an expression is of a kind. A null of any code and a made null are of every kind.
-use Rattle.std.specs.Prelude.{ℕ, ℤ, Bool, true, false, ◌&&◌, ◌||◌, nat_lt, List, [], ◌∷◌, length, All, slice_get, Option, Some, None, IsTrue}
-use Rattle.std.specs.List.{AllZip}
+use Rattle.std.specs.Prelude.{ℕ, ℤ, Bool, true, false, ◌&&◌, ◌||◌, nat_lt, List, [], ◌∷◌, length, slice_get, Option, Some, None, IsTrue}
+use Rattle.std.specs.List.{list_all, AllZip}
 use Rattle.cell_values.specs.declared.datum.Datum.{Datum}
 use Rattle.cell_values.specs.declared.datum.CompareOp.{CompareOp}
 use Rattle.cell_values.specs.declared.datum.CompareOp.TheVariants.{Equal, Differs}
@@ -62,5 +62,5 @@ has_kind kinds dims (null_code a) k = (has_kind kinds dims a Int64 || has_kind k
 -- An expression of a kind has a value of this kind at each coordinate of 64-bit numbers, over values of the attributes' kinds.
 abbrev pub TypedValuesFit : Type 0
 TypedValuesFit = (kinds : List Kind) (at : List ℤ) (values : List Datum)
-    → All (λ n. IsTrue (fits_int64 n)) at → AllZip (λ kind v. IsTrue (is_of_kind kind v)) kinds values
+    → IsTrue (list_all fits_int64 at) → AllZip (λ kind v. IsTrue (is_of_kind kind v)) kinds values
     → (e : Expr) (k : Kind) → IsTrue (has_kind kinds (length at) e k) → IsTrue (is_of_kind k (value_of e at values))

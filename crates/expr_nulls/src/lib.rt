@@ -2,6 +2,9 @@
 #![tactic(auto)]
 
 mod copies;
+mod evaluate;
 mod expr;
+mod functions;
 
+pub use evaluate::{eval, typed_values_fit};
 pub use expr::{ArithOp, ExprNode, TypedExpr};

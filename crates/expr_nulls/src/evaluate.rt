@@ -1,0 +1,180 @@
+//! The value of an expression at a cell.
+ghost use Rattle.std.specs.Prelude.{◌≡◌, IsTrue, IfOk, slice_index_or};
+ghost use Rattle.expr_nulls.specs.ExprValue.{value_of, calculated, number_at};
+ghost use Rattle.expr_nulls.specs.Typing.{TypedValuesFit};
+ghost use Rattle.expr_nulls.specs.Seen.{datum_of, DecidesBoth, DecidesEither};
+
+use crate::functions::{make_null, measure_text, spell_number, tell_reason, test_null};
+use crate::{ArithOp, ExprNode, TypedExpr};
+use cell_values::{
+    Coord, Datum, Memory, add, and3, compare, div, mul, neg, not3, or3, rem, sub,
+};
+use std::alloc::Global;
+
+/// A value of the expression or of the cell, or one that was computed. So no text is copied where it is only looked at.
+#[derive(Drop)]
+enum Seen<'a> {
+    Held(&'a Datum),
+    Made(Datum),
+}
+
+impl<'a> Seen<'a> {
+    fn get(&self) -> &Datum
+        ensures { result.now ≡ datum_of self.now }
+    {
+        match self {
+            Seen::Held(value) => value,
+            Seen::Made(value) => value,
+        }
+    }
+
+    /// The value itself, copied where it is held.
+    fn into_datum(self) -> Result<Datum, Memory>
+        ensures { IfOk result (λ value. value ≡ datum_of self.entry) }
+    {
+        match self {
+            Seen::Held(value) => value.copy(),
+            Seen::Made(value) => Ok(value),
+        }
+    }
+}
+
+/// The value of an expression at a coordinate, over the values of the cell there.
+///
+/// Memory is taken for texts alone: for each that is joined or spelled, and for the result's.
+pub fn eval(alloc: Global, expr: &TypedExpr, at: &Coord, values: &[Datum]) -> Result<Datum, Memory>
+    ensures { IfOk result (λ value. value ≡ value_of expr.now at.now.items values.now) }
+{
+    see(alloc, expr, at, values)?.into_datum()
+}
+
+/// The value of an expression, not copied where it stands in the expression or in the cell.
+fn see<'a>(
+    alloc: Global,
+    expr: &'a TypedExpr,
+    at: &Coord,
+    values: &'a [Datum],
+) -> Result<Seen<'a>, Memory>
+    ensures { IfOk result (λ seen. datum_of seen ≡ value_of expr.now at.now.items values.now) }
+{
+    match &expr.node {
+        ExprNode::Lit(value) => Ok(Seen::Held(value)),
+        ExprNode::Attr(place) => Ok(attribute(values, *place)),
+        ExprNode::Dim(place) => Ok(Seen::Made(dimension(at, *place))),
+        ExprNode::Neg(a) => {
+            let a = see(alloc, a, at, values)?;
+            Ok(Seen::Made(neg(a.get())))
+        }
+        ExprNode::Not(a) => {
+            let a = see(alloc, a, at, values)?;
+            Ok(Seen::Made(not3(a.get())))
+        }
+        ExprNode::Arith(op, a, b) => {
+            let a = see(alloc, a, at, values)?;
+            let b = see(alloc, b, at, values)?;
+            Ok(Seen::Made(calculate(alloc, *op, a.get(), b.get())?))
+        }
+        ExprNode::Compare(op, a, b) => {
+            let a = see(alloc, a, at, values)?;
+            let b = see(alloc, b, at, values)?;
+            Ok(Seen::Made(compare(*op, a.get(), b.get())))
+        }
+        ExprNode::And(a, b) => {
+            let a = see(alloc, a, at, values)?;
+            if decides_and(a.get()) {
+                return Ok(a);
+            }
+            let b = see(alloc, b, at, values)?;
+            Ok(Seen::Made(and3(a.get(), b.get())))
+        }
+        ExprNode::Or(a, b) => {
+            let a = see(alloc, a, at, values)?;
+            if decides_or(a.get()) {
+                return Ok(a);
+            }
+            let b = see(alloc, b, at, values)?;
+            Ok(Seen::Made(or3(a.get(), b.get())))
+        }
+        ExprNode::Iif(test, a, b) => {
+            let test = see(alloc, test, at, values)?;
+            match test.get() {
+                Datum::Truth(true) => see(alloc, a, at, values),
+                Datum::Truth(false) => see(alloc, b, at, values),
+                _ => Ok(test),
+            }
+        }
+        ExprNode::IsNull(a) => {
+            let a = see(alloc, a, at, values)?;
+            Ok(Seen::Made(test_null(a.get())))
+        }
+        ExprNode::StrLen(a) => {
+            let a = see(alloc, a, at, values)?;
+            Ok(Seen::Made(measure_text(a.get())))
+        }
+        ExprNode::ToText(a) => {
+            let a = see(alloc, a, at, values)?;
+            Ok(Seen::Made(spell_number(alloc, a.get())?))
+        }
+        ExprNode::Missing(a) => {
+            let a = see(alloc, a, at, values)?;
+            Ok(Seen::Made(make_null(a.get())))
+        }
+        ExprNode::Reason(a) => {
+            let a = see(alloc, a, at, values)?;
+            Ok(Seen::Made(tell_reason(a.get())))
+        }
+    }
+}
+
+/// The value in a place of the cell, null where there is none.
+fn attribute<'a>(values: &'a [Datum], place: u32) -> Seen<'a>
+    ensures { datum_of result ≡ slice_index_or values.now place Datum.Null }
+{
+    match values.get(place as usize) {
+        Some(value) => Seen::Held(value),
+        None => Seen::Made(Datum::Null),
+    }
+}
+
+/// The number in a place of the coordinate, null where there is none.
+fn dimension(at: &Coord, place: u32) -> Datum
+    ensures { result ≡ number_at at.now.items place }
+{
+    match at.as_slice().get(place as usize) {
+        Some(number) => Datum::Int(*number),
+        None => Datum::Null,
+    }
+}
+
+/// What an operator makes of two values.
+fn calculate(alloc: Global, op: ArithOp, a: &Datum, b: &Datum) -> Result<Datum, Memory>
+    ensures { IfOk result (λ value. value ≡ calculated op a.now b.now) }
+{
+    match op {
+        ArithOp::Add => add(alloc, a, b),
+        ArithOp::Sub => Ok(sub(a, b)),
+        ArithOp::Mul => Ok(mul(a, b)),
+        ArithOp::Div => Ok(div(a, b)),
+        ArithOp::Rem => Ok(rem(a, b)),
+    }
+}
+
+/// Whether a value is that of `and` for each second operand.
+fn decides_and(value: &Datum) -> bool
+    ensures { IsTrue result → DecidesBoth value.now }
+{
+    matches!(value, Datum::Bad(_) | Datum::Truth(false))
+}
+
+/// Whether a value is that of `or` for each second operand.
+fn decides_or(value: &Datum) -> bool
+    ensures { IsTrue result → DecidesEither value.now }
+{
+    matches!(value, Datum::Bad(_) | Datum::Truth(true))
+}
+
+/// An expression of a kind has a value of this kind, wherever the cell's values are of their attributes' kinds.
+pub fn typed_values_fit()
+    ensures { TypedValuesFit }
+{
+}
