@@ -1,5 +1,5 @@
 -- The reader of literals, from token to token.
-use Rattle.std.proofs.Common.{◌≡◌, ℕ, ◌+◌, ◌<◌, Bool, List, [], ◌∷◌, length, map, drop, slice_index_or, Option, None, refl, sym, ap, ◌∙◌, add-one}
+use Rattle.std.proofs.Common.{◌≡◌, ℕ, suc, ◌+◌, ◌<◌, Bool, List, [], ◌∷◌, length, map, drop, slice_index_or, Option, None, refl, sym, ap, ◌∙◌, arith}
 use Rattle.std.proofs.Math.Seq.{drop-cons}
 use Rattle.cell_values.specs.declared.datum.Datum.{Datum}
 use Rattle.afl_lexer.specs.declared.token.Token.{Token}
@@ -14,4 +14,8 @@ read_tokens bare text tokens b = read_marks bare (map mark_of (whats text tokens
 
 pub next_token : (bare : Bool) (text : List ℕ) (tokens : List Token) (i : ℕ) (d : Token) (b : Begun) → i < length tokens
     → read_tokens bare text (drop i tokens) b ≡ read_next (turn bare b (mark_of (lexeme_of text (slice_index_or tokens i d)).what)) (read_tokens bare text (drop (i + 1) tokens))
-next_token bare text tokens i d b h = ap (λ (ts : List Token). read_tokens bare text ts b) (drop-cons tokens i d h)
+next_token bare text tokens i d b h =
+    let more : suc i ≡ i + 1 = omega arith in
+    let seen : Option Begun = turn bare b (mark_of (lexeme_of text (slice_index_or tokens i d)).what) in
+    ap (λ (ts : List Token). read_tokens bare text ts b) (drop-cons tokens i d h)
+    ∙ ap (λ (k : ℕ). read_next seen (read_tokens bare text (drop k tokens))) more

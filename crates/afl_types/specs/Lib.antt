@@ -1,4 +1,5 @@
 pub mod Checked
+pub mod Expressions
 pub mod Lexed
 pub mod LiteralRows
 pub mod Literals

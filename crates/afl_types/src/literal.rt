@@ -274,6 +274,7 @@ impl Begun {
 }
 
 /// The elements that tokens spell.
+#[tactic(auto, using(crate::proofs::ReadLemmas::next_token))]
 fn read_tokens(
     alloc: Global,
     text: &[u8],
@@ -299,6 +300,7 @@ fn read_tokens(
 
 /// The elements that a text spells, each the list of its values. None where it spells no literal; `is_bare` says
 /// whether an element of one value may stand without brackets.
+#[tactic(auto, using(crate::proofs::LexedLemmas::tokens_are, crate::proofs::LexedLemmas::tokens_stop))]
 pub(crate) fn elements_of(
     alloc: Global,
     is_bare: bool,

@@ -30,15 +30,13 @@ fn fits_attribute(attribute: &Attribute, value: &Datum) -> bool
 fn fit_attributes(attributes: &[Attribute], values: &[Datum]) -> bool
     ensures { result ≡ fit_attributes attributes.now values.now }
 {
-    if attributes.len() != values.len() {
-        return false;
-    }
-    for (place, value) in values.iter().enumerate() {
-        if !fits_attribute(&attributes[place], value) {
-            return false;
+    match (attributes, values) {
+        ([], []) => true,
+        ([attribute, attributes @ ..], [value, values @ ..]) => {
+            fits_attribute(attribute, value) && fit_attributes(attributes, values)
         }
+        _ => false,
     }
-    true
 }
 
 /// Whether an element leaves its place empty, or has one value for each attribute.
