@@ -88,7 +88,6 @@ small_fits n h = lt-ltb n 9223372036854775808 (omega arith)
 
 -- ---- texts
 
-
 joined_by : (s t : List ℕ) (b : Bool) → nat_le (length s + length t) 65535 ≡ b → IsTrue (list_all (λ x. nat_lt x 256) s) → IsTrue (list_all (λ x. nat_lt x 256) t)
     → IsTrue (is_of_kind Str (if b then Text (s ++ t) else Bad Overflow))
 joined_by s t false e p q = refl

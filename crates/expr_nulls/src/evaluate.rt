@@ -6,9 +6,7 @@ ghost use Rattle.expr_nulls.specs.Seen.{datum_of, DecidesBoth, DecidesEither};
 
 use crate::functions::{make_null, measure_text, spell_number, tell_reason, test_null};
 use crate::{ArithOp, ExprNode, TypedExpr};
-use cell_values::{
-    Coord, Datum, Memory, add, and3, compare, div, mul, neg, not3, or3, rem, sub,
-};
+use cell_values::{Coord, Datum, Memory, add, and3, compare, div, mul, neg, not3, or3, rem, sub};
 use std::alloc::Global;
 
 /// A value of the expression or of the cell, or one that was computed. So no text is copied where it is only looked at.
@@ -176,5 +174,4 @@ fn decides_or(value: &Datum) -> bool
 /// An expression of a kind has a value of this kind, wherever the cell's values are of their attributes' kinds.
 pub fn typed_values_fit()
     ensures { TypedValuesFit }
-{
-}
+{}
