@@ -257,8 +257,8 @@ module _ (attributes : List Attribute) (dimensions : List Dimension) where
 
   no_none : (place : ℕ) → ((x : Attribute) × (place < length attributes) × (slice_get attributes place ≡ Some x) × (get_or attributes place x ≡ x)) ⊎ ((length attributes ≤ place) × (slice_get attributes place ≡ None))
       → place < length attributes → kind_at attributes place ≡ None → ⊥
-  no_none place (inl (x, (h, e, same))) within none = let some : kind_at attributes place ≡ Some x.kind = ap (option_map (λ (attribute : Attribute). attribute.kind)) e in cc
-  no_none place (inr (out, e)) within none = omega arith
+  no_none place (inl (x, h, e, same)) inside none = let some : kind_at attributes place ≡ Some x.kind = ap (option_map (λ (attribute : Attribute). attribute.kind)) e in cc
+  no_none place (inr (out, e)) inside none = omega arith
 
   there : (place : ℕ) → place < length attributes → kind_at attributes place ≡ None → ⊥
   there place h none = no_none place (slice_get_cases attributes place).1 h none

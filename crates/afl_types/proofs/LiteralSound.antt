@@ -17,7 +17,7 @@ After bare (f ∷ fs) xs = (ys : List Mark) × (xs ≡ Symbol Comma ∷ ys) × S
 
 elements_of : (bare : Bool) (e : List Datum) (fs : List (List Datum)) (xs zs : List Mark) → SpellsElement bare e xs zs → After bare fs zs → SpellsElements bare e fs xs
 elements_of bare e [] xs zs h a = subst (SpellsElement bare e xs) a h
-elements_of bare e (f ∷ fs) xs zs h (ys, (at, r)) = (ys, subst (SpellsElement bare e xs) at h, r)
+elements_of bare e (f ∷ fs) xs zs h (ys, at, r) = (ys, subst (SpellsElement bare e xs) at h, r)
 
 -- the marks behind a value of an element are those of further ones
 abbrev More : List Datum → List Mark → List Mark → Type 0
@@ -26,7 +26,7 @@ More (w ∷ ws) xs zs = (ys : List Mark) × (xs ≡ Symbol Comma ∷ ys) × Spel
 
 values_of : (v : Datum) (ws : List Datum) (xs ys zs : List Mark) → SpellsValue v xs ys → More ws ys zs → SpellsValues v ws xs zs
 values_of v [] xs ys zs h m = subst (SpellsValue v xs) m h
-values_of v (w ∷ ws) xs ys zs h (us, (at, r)) = (us, subst (SpellsValue v xs) at h, r)
+values_of v (w ∷ ws) xs ys zs h (us, at, r) = (us, subst (SpellsValue v xs) at h, r)
 
 abbrev InBrackets : List Datum → List Mark → List Mark → Type 0
 InBrackets [] xs zs = xs ≡ Symbol RightParen ∷ zs

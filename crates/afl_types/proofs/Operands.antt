@@ -1,5 +1,5 @@
 -- Parts that are checked before the whole, and operands that are too few or too many.
-use Rattle.std.proofs.Common.{◌≡◌, ◌<◌, ◌≤◌, ℕ, List, [], ◌∷◌, length, Some, None, Ok, Err, Result, refl, sym, ap, subst, arith}
+use Rattle.std.proofs.Common.{◌≡◌, ◌<◌, ◌≤◌, ℕ, List, [], ◌∷◌, length, get_or, Some, None, Ok, Err, Result, refl, sym, ap, subst, ◌∙◌, arith}
 use Rattle.cell_values.specs.declared.name.Span.{Span}
 use Rattle.cell_values.specs.declared.schema.Attribute.{Attribute}
 use Rattle.cell_values.specs.declared.schema.Dimension.{Dimension}
@@ -18,6 +18,27 @@ ok_then r part next a e h = subst (λ p. Answers r (then p next)) (sym e) h
 pub err_then : {A B : Type 0} (fault : TypeFault) (part : Checked A) (next : A → Checked B) → Answers {A = A} (Err fault) part → Answers {A = B} (Err fault) (then part next)
 err_then (Rule span kind) part next e = ap (λ p. then p next) e
 err_then Memory part next e = tt
+
+-- Lists of three, two and one, by their items.
+
+pub one : (xs : List Term) (x : Term) → 1 ≤ length xs → length xs < 2 → x ≡ get_or xs 0 x → xs ≡ x ∷ []
+one [] x low high e = absurd (omega arith)
+one (a ∷ []) x low high e = ap (λ (t : Term). t ∷ []) (sym e)
+one (a ∷ b ∷ xs) x low high e = absurd (omega arith)
+
+pub two : (xs : List Term) (x y : Term) → 2 ≤ length xs → length xs < 3 → x ≡ get_or xs 0 x → y ≡ get_or xs 1 y → xs ≡ x ∷ y ∷ []
+two [] x y low high e f = absurd (omega arith)
+two (a ∷ []) x y low high e f = absurd (omega arith)
+two (a ∷ b ∷ []) x y low high e f = ap (λ (t : Term). t ∷ b ∷ []) (sym e) ∙ ap (λ (t : Term). x ∷ t ∷ []) (sym f)
+two (a ∷ b ∷ c ∷ xs) x y low high e f = absurd (omega arith)
+
+pub three : (xs : List Term) (x y z : Term) → 3 ≤ length xs → length xs < 4 → x ≡ get_or xs 0 x → y ≡ get_or xs 1 y → z ≡ get_or xs 2 z → xs ≡ x ∷ y ∷ z ∷ []
+three [] x y z low high e f g = absurd (omega arith)
+three (a ∷ []) x y z low high e f g = absurd (omega arith)
+three (a ∷ b ∷ []) x y z low high e f g = absurd (omega arith)
+three (a ∷ b ∷ c ∷ []) x y z low high e f g =
+    ap (λ (t : Term). t ∷ b ∷ c ∷ []) (sym e) ∙ ap (λ (t : Term). x ∷ t ∷ c ∷ []) (sym f) ∙ ap (λ (t : Term). x ∷ y ∷ t ∷ []) (sym g)
+three (a ∷ b ∷ c ∷ d ∷ xs) x y z low high e f g = absurd (omega arith)
 
 module _ (attributes : List Attribute) (dimensions : List Dimension) (s : Span) (name : List ℕ) where
   pub few_for_iif : (xs : List Term) → length xs < 3 → typed_call attributes dimensions s name None (Some Iif) (to_terms xs) ≡ refused s WrongCount

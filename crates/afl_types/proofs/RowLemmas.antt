@@ -1,5 +1,5 @@
 -- The rows of a literal, element by element.
-use Rattle.std.proofs.Common.{◌≡◌, ℕ, suc, ℤ, pos, ◌+ℤ◌, ◌+◌, ◌<◌, Bool, true, false, ◌&&◌, List, [], ◌∷◌, ◌++◌, length, drop, slice_index_or, Option, Some, None, refl, sym, ap, subst, ◌∙◌, append_assoc, arith}
+use Rattle.std.proofs.Common.{◌≡◌, ℕ, suc, ℤ, pos, ◌+ℤ◌, ◌+◌, ◌<◌, ◌≤◌, ◌==◌, Bool, true, false, ◌&&◌, List, [], ◌∷◌, ◌++◌, length, drop, slice_index_or, Option, Some, None, refl, sym, ap, subst, ◌∙◌, append_assoc, arith}
 use Rattle.std.specs.Prelude.{int_le, if◌then◌else◌}
 use Rattle.std.proofs.Math.Seq.{drop-cons}
 use Rattle.cell_values.specs.declared.datum.Datum.{Datum}
@@ -7,7 +7,18 @@ use Rattle.cell_values.specs.declared.datum.Cell.TheVariants.{Full}
 use Rattle.cell_values.specs.declared.datum.Row.{Row}
 use Rattle.cell_values.specs.declared.schema.Attribute.{Attribute}
 use Rattle.array_rows.specs.Rows.{placed}
-use Rattle.afl_types.specs.LiteralRows.{fits_element, with_row, rows_from}
+use Rattle.afl_types.specs.LiteralRows.{fit_attributes, fits_element, with_row, rows_from}
+
+-- without attributes no values fit, and without values no attributes
+pub fits_none : (attributes : List Attribute) (vs : List Datum) → length attributes < 1 → (length vs == 0) ≡ fit_attributes attributes vs
+fits_none [] [] few = refl
+fits_none [] (v ∷ vs) few = refl
+fits_none (a ∷ attributes) vs few = absurd (omega arith)
+
+pub fits_no_value : (attributes : List Attribute) (vs : List Datum) → 1 ≤ length attributes → length vs < 1 → false ≡ fit_attributes attributes vs
+fits_no_value [] vs some few = absurd (omega arith)
+fits_no_value (a ∷ attributes) [] some few = refl
+fits_no_value (a ∷ attributes) (v ∷ vs) some few = absurd (omega arith)
 
 -- rows before others
 abbrev pub onto : List Row → Option (List Row) → Option (List Row)

@@ -12,6 +12,7 @@ use Rattle.expr_nulls.specs.Expr.{literal, dimension_value, calculation, conditi
 use Rattle.expr_nulls.specs.declared.expr.ArithOp.TheVariants as arith_op
 use Rattle.afl_types.specs.Checked.{refused}
 use Rattle.afl_types.specs.Expressions.{operand, typed}
+use Rattle.afl_types.specs.Operators.{query_named, change_named, form_named}
 
 at : ℕ → ℕ → Span
 at a b = record { start = a; end = b }
@@ -54,22 +55,22 @@ nulls_fit = refl
 -- iif(true,null,?7) is of every kind
 null_alone : typed [] (i ∷ []) (call (at 0 17) (codes "iif") (and_term (truth (at 4 8) true) (and_term (null (at 9 13)) (and_term (missing (at 14 16) 7) no_terms))))
     ≡ Ok (operand (at 0 17) (conditional (literal (datum.Truth true)) (literal datum.Null) (literal (datum.Missing 7))) None)
-unfolding at i
+unfolding at i query_named change_named form_named
 null_alone = refl
 
 -- strlen(j,j): the number of operands comes before the operands
 count_first : typed [] (i ∷ []) (call (at 0 11) (codes "strlen") (and_term (reference (at 7 8) (codes "j")) (and_term (reference (at 9 10) (codes "j")) no_terms))) ≡ refused (at 0 11) WrongCount
-unfolding at i
+unfolding at i query_named change_named form_named
 count_first = refl
 
 -- sum(j): no function of an expression
 no_function : typed [] (i ∷ []) (call (at 0 6) (codes "sum") (and_term (reference (at 4 5) (codes "j")) no_terms)) ≡ refused (at 0 3) UnknownName
-unfolding at i
+unfolding at i query_named change_named form_named
 no_function = refl
 
 -- scan(j): an operator
 an_operator : typed [] (i ∷ []) (call (at 0 7) (codes "scan") (and_term (reference (at 5 6) (codes "j")) no_terms)) ≡ refused (at 0 7) WrongType
-unfolding at i
+unfolding at i query_named change_named form_named
 an_operator = refl
 
 -- A@1

@@ -1,5 +1,6 @@
 pub mod Checked
 pub mod Expressions
+pub mod Laws
 pub mod Lexed
 pub mod LiteralRows
 pub mod Literals

@@ -8,7 +8,7 @@ use Rattle.afl_types.specs.declared.operator.Form.TheVariants.{Iif, One}
 use Rattle.afl_types.specs.declared.operator.OneForm.TheVariants.{IsNull, StrLen, ToText, Missing, Reason}
 
 -- the operator of this name that gives an array
-abbrev pub query_named : List ℕ → Option Operator
+unfoldable pub query_named : List ℕ → Option Operator
 query_named name =
     if bytes_eq name (codes "build") then Some Build else if bytes_eq name (codes "scan") then Some Scan
     else if bytes_eq name (codes "filter") then Some Filter else if bytes_eq name (codes "apply") then Some Apply
@@ -20,7 +20,7 @@ query_named name =
     else None
 
 -- the operator of this name that changes arrays or lists something
-abbrev pub change_named : List ℕ → Option Operator
+unfoldable pub change_named : List ℕ → Option Operator
 change_named name =
     if bytes_eq name (codes "store") then Some Store else if bytes_eq name (codes "insert") then Some Insert
     else if bytes_eq name (codes "remove") then Some Remove else if bytes_eq name (codes "remove_versions") then Some RemoveVersions
@@ -37,7 +37,7 @@ abbrev pub operator_named : List ℕ → Option Operator
 operator_named name = either (query_named name) (change_named name)
 
 -- the function of this name
-abbrev pub form_named : List ℕ → Option Form
+unfoldable pub form_named : List ℕ → Option Form
 form_named name =
     if bytes_eq name (codes "iif") then Some Iif else if bytes_eq name (codes "is_null") then Some (One IsNull)
     else if bytes_eq name (codes "strlen") then Some (One StrLen) else if bytes_eq name (codes "string") then Some (One ToText)

@@ -5,7 +5,7 @@ ghost use Rattle.expr_nulls.specs.Expr.{literal};
 ghost use Rattle.std.specs.Str.{bytes_eq};
 ghost use Rattle.afl_types.specs.Checked.{Answers, then};
 ghost use Rattle.afl_types.specs.Operators.{operator_named, form_named};
-ghost use Rattle.afl_types.specs.Expressions.{operand, name_span, attribute_place, dimension_place, kind_at, named, negated, denied, combined, bracketed, typed, typed_call};
+ghost use Rattle.afl_types.specs.Expressions.{operand, name_span, attribute_place, dimension_place, kind_at, named, negated, denied, combined, chosen, applied, bracketed, typed, typed_call};
 ghost use Rattle.afl_types.specs.declared.operator.Form.{Form};
 
 use crate::fault::broken;
@@ -235,9 +235,50 @@ fn typed_call(
     }
 }
 
+/// A choice of three operands.
+#[cycle(expression)]
+#[tactic(auto, using(crate::proofs::Operands::ok_then, crate::proofs::Operands::err_then))]
+fn typed_choice(
+    alloc: Global,
+    attributes: &[Attribute],
+    dimensions: &[Dimension],
+    span: Span,
+    test: &Tree,
+    a: &Tree,
+    b: &Tree,
+) -> Result<Operand, TypeFault>
+    requires attributes { length attributes.now ≤ 64 }
+    requires dimensions { length dimensions.now ≤ 6 }
+    ensures { Answers result (then (typed attributes.now dimensions.now test.now) (λ x. then (typed attributes.now dimensions.now a.now) (λ y. then (typed attributes.now dimensions.now b.now) (chosen span x y)))) }
+{
+    let test = typed(alloc, attributes, dimensions, test)?;
+    let a = typed(alloc, attributes, dimensions, a)?;
+    let b = typed(alloc, attributes, dimensions, b)?;
+    chosen(alloc, span, test, a, b)
+}
+
+/// A function on its operand.
+#[cycle(expression)]
+#[tactic(auto, using(crate::proofs::Operands::ok_then, crate::proofs::Operands::err_then))]
+fn typed_operand(
+    alloc: Global,
+    attributes: &[Attribute],
+    dimensions: &[Dimension],
+    span: Span,
+    form: OneForm,
+    a: &Tree,
+) -> Result<Operand, TypeFault>
+    requires attributes { length attributes.now ≤ 64 }
+    requires dimensions { length dimensions.now ≤ 6 }
+    ensures { Answers result (then (typed attributes.now dimensions.now a.now) (applied span form)) }
+{
+    let a = typed(alloc, attributes, dimensions, a)?;
+    applied(alloc, span, form, a)
+}
+
 /// `iif`, of three operands.
 #[cycle(expression)]
-#[tactic(auto, using(crate::proofs::Operands::ok_then, crate::proofs::Operands::err_then, crate::proofs::Operands::few_for_iif, crate::proofs::Operands::many_for_iif))]
+#[tactic(auto, using(crate::proofs::Operands::few_for_iif, crate::proofs::Operands::many_for_iif))]
 fn typed_iif(
     alloc: Global,
     attributes: &[Attribute],
@@ -251,19 +292,14 @@ fn typed_iif(
     ensures { Answers result (typed_call attributes.now dimensions.now span name.now None (Some Form.Iif) (to_terms operands.now)) }
 {
     match operands {
-        [test, a, b] => {
-            let test = typed(alloc, attributes, dimensions, test)?;
-            let a = typed(alloc, attributes, dimensions, a)?;
-            let b = typed(alloc, attributes, dimensions, b)?;
-            chosen(alloc, span, test, a, b)
-        }
+        [test, a, b] => typed_choice(alloc, attributes, dimensions, span, test, a, b),
         _ => Err(broken(span, TypeKind::WrongCount)),
     }
 }
 
 /// A function of one operand.
 #[cycle(expression)]
-#[tactic(auto, using(crate::proofs::Operands::ok_then, crate::proofs::Operands::err_then, crate::proofs::Operands::few_for_one, crate::proofs::Operands::many_for_one))]
+#[tactic(auto, using(crate::proofs::Operands::few_for_one, crate::proofs::Operands::many_for_one))]
 fn typed_one(
     alloc: Global,
     attributes: &[Attribute],
@@ -278,10 +314,7 @@ fn typed_one(
     ensures { Answers result (typed_call attributes.now dimensions.now span name.now None (Some (Form.One form)) (to_terms operands.now)) }
 {
     match operands {
-        [a] => {
-            let a = typed(alloc, attributes, dimensions, a)?;
-            applied(alloc, span, form, a)
-        }
+        [a] => typed_operand(alloc, attributes, dimensions, span, form, a),
         _ => Err(broken(span, TypeKind::WrongCount)),
     }
 }

@@ -27,15 +27,18 @@ fn fits_attribute(attribute: &Attribute, value: &Datum) -> bool
 }
 
 /// Whether there is one value for each attribute.
+#[tactic(auto, using(crate::proofs::RowLemmas::fits_none, crate::proofs::RowLemmas::fits_no_value))]
 fn fit_attributes(attributes: &[Attribute], values: &[Datum]) -> bool
     ensures { result ≡ fit_attributes attributes.now values.now }
 {
-    match (attributes, values) {
-        ([], []) => true,
-        ([attribute, attributes @ ..], [value, values @ ..]) => {
-            fits_attribute(attribute, value) && fit_attributes(attributes, values)
-        }
-        _ => false,
+    match attributes {
+        [] => values.is_empty(),
+        [attribute, attributes @ ..] => match values {
+            [] => false,
+            [value, values @ ..] => {
+                fits_attribute(attribute, value) && fit_attributes(attributes, values)
+            }
+        },
     }
 }
 
@@ -47,6 +50,7 @@ fn fits_element(attributes: &[Attribute], values: &[Datum]) -> bool
 }
 
 /// The rows of elements from the low bound on, or none where one of them doesn't fit.
+#[tactic(auto, using(crate::proofs::RowLemmas::unfit, crate::proofs::RowLemmas::skips, crate::proofs::RowLemmas::adds))]
 fn rows_of(
     attributes: &[Attribute],
     dimension: &Dimension,

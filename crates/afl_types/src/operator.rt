@@ -48,6 +48,7 @@ pub enum OneForm {
 }
 
 /// The operator of this name that gives an array.
+#[tactic(auto, unfolding(crate::specs::Operators::query_named))]
 fn query_named(name: &[u8]) -> Option<Operator>
     ensures { result ≡ query_named name.now }
 {
@@ -85,6 +86,7 @@ fn query_named(name: &[u8]) -> Option<Operator>
 }
 
 /// The operator of this name that changes arrays or lists something.
+#[tactic(auto, unfolding(crate::specs::Operators::change_named))]
 fn change_named(name: &[u8]) -> Option<Operator>
     ensures { result ≡ change_named name.now }
 {
@@ -118,6 +120,7 @@ pub(crate) fn operator_named(name: &[u8]) -> Option<Operator>
 }
 
 /// The function of this name.
+#[tactic(auto, unfolding(crate::specs::Operators::form_named))]
 pub(crate) fn form_named(name: &[u8]) -> Option<Form>
     ensures { result ≡ form_named name.now }
 {

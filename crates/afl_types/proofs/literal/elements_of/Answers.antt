@@ -9,7 +9,7 @@ use Rattle.afl_types.proofs.LexedLemmas.{tokens_are, tokens_stop}
 use Rattle.afl_types.proofs.literal.elements_of.Goals as goal
 
 short : (bare : Bool) (text : List ℕ) → length text ≤ 65535 → elements_of bare text ≡ spelled_by bare text (tokens_of text)
-short bare text few = ap (λ (b : Bool). if b then spelled_by bare text (tokens_of text) else None) (le-leb few)
+short bare text few = ap (λ (b : Bool). if b then spelled_by bare text (tokens_of text) else None) (le-leb (length text) 65535 few)
 
 has_tokens : (bare : Bool) (text : List ℕ) (tokens : List Token) → length text ≤ 65535 → tokens_of text ≡ Some tokens → elements_of bare text ≡ spelled bare (whats text tokens)
 has_tokens bare text tokens few e = short bare text few ∙ ap (spelled_by bare text) e
