@@ -1,0 +1,5 @@
+mod Items
+mod Samples
+mod SchemaLaws
+mod WorkedGroups
+mod WorkedRows

@@ -1,0 +1,22 @@
+-- The stored arrays that a plan reads.
+use Rattle.std.specs.Prelude.{List, [], ◌∷◌, ◌++◌}
+use Rattle.logical_plan.specs.declared.parts.Leaf.{Leaf}
+use Rattle.logical_plan.specs.Query.{Query, built, listed, scanned, filtered, applied, projected, between, subarray, sliced, joined, crossed, redimensioned, regridded, windowed, aggregated}
+
+-- from left to right, each as often as it is read
+abbrev pub leaves : Query → List Leaf
+leaves (built schema e) = []
+leaves (listed schema rows) = []
+leaves (scanned leaf) = leaf ∷ []
+leaves (filtered source test) = leaves source
+leaves (applied source values) = leaves source
+leaves (projected source places) = leaves source
+leaves (between source area) = leaves source
+leaves (subarray source area) = leaves source
+leaves (sliced source fixed) = leaves source
+leaves (joined left right schema) = leaves left ++ leaves right
+leaves (crossed left right pairs schema) = leaves left ++ leaves right
+leaves (redimensioned source schema gs) = leaves source
+leaves (regridded source sizes gs) = leaves source
+leaves (windowed source reach gs) = leaves source
+leaves (aggregated source gs places) = leaves source

@@ -1,0 +1,15 @@
+pub mod BoxOps
+pub mod CellOps
+pub mod Faults
+pub mod Groups
+pub mod Joins
+pub mod Laws
+pub mod Leaves
+pub mod Meaning
+pub mod PlanSchema
+pub mod Query
+pub mod QueryCode
+pub mod QueryFalls
+pub mod QueryView
+pub mod Redimension
+pub mod Typing

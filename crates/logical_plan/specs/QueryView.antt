@@ -1,0 +1,21 @@
+-- What a plan reads as.
+use Rattle.logical_plan.specs.Query.{Query, built, listed, scanned, filtered, applied, projected, between, subarray, sliced, joined, crossed, redimensioned, regridded, windowed, aggregated}
+use Rattle.logical_plan.specs.declared.plan.PlanNode.{PlanNode}
+use Rattle.logical_plan.specs.declared.plan.PlanNode.TheVariants.{Build, Literal, Scan, Filter, Apply, Project, Between, Subarray, Slice, Join, CrossJoin, Redimension, Regrid, Window, Aggregate}
+
+abbrev pub query_of : PlanNode → Query
+query_of (Build schema e) = built schema e
+query_of (Literal schema rows) = listed schema rows
+query_of (Scan leaf) = scanned leaf
+query_of (Filter source test) = filtered source.value test
+query_of (Apply source values) = applied source.value values
+query_of (Project source places) = projected source.value places
+query_of (Between source area) = between source.value area
+query_of (Subarray source area) = subarray source.value area
+query_of (Slice source fixed) = sliced source.value fixed
+query_of (Join left right schema) = joined left.value right.value schema
+query_of (CrossJoin left right pairs schema) = crossed left.value right.value pairs schema
+query_of (Redimension source schema aggregates) = redimensioned source.value schema aggregates
+query_of (Regrid source sizes aggregates) = regridded source.value sizes aggregates
+query_of (Window source reach aggregates) = windowed source.value reach aggregates
+query_of (Aggregate source aggregates dimensions) = aggregated source.value aggregates dimensions

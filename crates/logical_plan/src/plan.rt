@@ -1,0 +1,205 @@
+//! The plan of a query.
+ghost use Rattle.std.specs.Prelude.{◌≡◌, IfOk};
+ghost use Rattle.logical_plan.specs.Query.{built, listed, scanned, filtered, applied, projected, between, subarray, sliced, joined, crossed, redimensioned, regridded, windowed, aggregated};
+
+use crate::{Aggregate, Applied, Fixed, Leaf, Pair, Reach};
+use cell_values::{Bounds, List, Memory, Row, Schema};
+use expr_nulls::TypedExpr;
+use std::alloc::Global;
+use std::marker::Model;
+
+/// A plan. Contracts see it as a `Query`, without its boxes. Attributes and dimensions of a source are named by their
+/// places, from 0.
+#[cycle(plan)]
+#[derive(Debug, Drop)]
+pub struct Plan {
+    pub node: PlanNode,
+}
+
+#[cycle(plan)]
+#[derive(Debug, Drop)]
+pub enum PlanNode {
+    /// The value of an expression at each place of a schema.
+    Build(Schema, TypedExpr),
+    Literal(Schema, List<Row>),
+    Scan(Leaf),
+    /// The cells where an expression is true.
+    Filter(Box<Plan>, TypedExpr),
+    /// Further attributes after those of the source.
+    Apply(Box<Plan>, List<Applied>),
+    /// The attributes at these places.
+    Project(Box<Plan>, List<u32>),
+    Between(Box<Plan>, Bounds),
+    /// The cells in a box, which begins at 0 in each dimension of the result.
+    Subarray(Box<Plan>, Bounds),
+    Slice(Box<Plan>, List<Fixed>),
+    /// Two arrays cell by cell, and the schema of the result.
+    Join(Box<Plan>, Box<Plan>, Schema),
+    /// Each two cells that agree in the paired dimensions, and the schema of the result.
+    CrossJoin(Box<Plan>, Box<Plan>, List<Pair>, Schema),
+    /// The cells at the places of another schema that their values give.
+    Redimension(Box<Plan>, Schema, List<Aggregate>),
+    /// Aggregates of blocks, whose lengths are given for each dimension.
+    Regrid(Box<Plan>, List<u64>, List<Aggregate>),
+    /// Aggregates of the window round each cell.
+    Window(Box<Plan>, List<Reach>, List<Aggregate>),
+    /// Aggregates of the cells that agree in the dimensions at these places.
+    Aggregate(Box<Plan>, List<Aggregate>, List<u32>),
+}
+
+impl Model for Plan {
+    ghost use Rattle.logical_plan.specs.Query.{Query, query_size};
+    ghost use Rattle.logical_plan.specs.QueryCode.{query_code};
+
+    ghost Value = { Query };
+
+    ghost coded = { query_code };
+
+    ghost use Rattle.logical_plan.specs.QueryView.{query_of};
+
+    ghost view = { λ p. query_of p.node };
+
+    ghost size = { query_size };
+
+    ghost use Rattle.logical_plan.specs.QueryFalls.{depth_le-size};
+
+    ghost size_decreases = { λ p h. depth_le-size p.node };
+}
+
+impl Plan {
+    pub fn build(schema: Schema, value: TypedExpr) -> Plan
+        ensures { result ≡ built schema value }
+    {
+        Plan {
+            node: PlanNode::Build(schema, value),
+        }
+    }
+
+    pub fn literal(schema: Schema, rows: List<Row>) -> Plan
+        ensures { result ≡ listed schema rows }
+    {
+        Plan {
+            node: PlanNode::Literal(schema, rows),
+        }
+    }
+
+    pub fn scan(leaf: Leaf) -> Plan
+        ensures { result ≡ scanned leaf }
+    {
+        Plan {
+            node: PlanNode::Scan(leaf),
+        }
+    }
+
+    pub fn filter(alloc: Global, source: Plan, test: TypedExpr) -> Result<Plan, Memory>
+        ensures { IfOk result (λ p. p ≡ filtered source test) }
+    {
+        let node = PlanNode::Filter(Box::new(alloc, source)?, test);
+        Ok(Plan { node })
+    }
+
+    pub fn apply(alloc: Global, source: Plan, values: List<Applied>) -> Result<Plan, Memory>
+        ensures { IfOk result (λ p. p ≡ applied source values) }
+    {
+        let node = PlanNode::Apply(Box::new(alloc, source)?, values);
+        Ok(Plan { node })
+    }
+
+    pub fn project(alloc: Global, source: Plan, places: List<u32>) -> Result<Plan, Memory>
+        ensures { IfOk result (λ p. p ≡ projected source places) }
+    {
+        let node = PlanNode::Project(Box::new(alloc, source)?, places);
+        Ok(Plan { node })
+    }
+
+    pub fn between(alloc: Global, source: Plan, area: Bounds) -> Result<Plan, Memory>
+        ensures { IfOk result (λ p. p ≡ between source area) }
+    {
+        let node = PlanNode::Between(Box::new(alloc, source)?, area);
+        Ok(Plan { node })
+    }
+
+    pub fn subarray(alloc: Global, source: Plan, area: Bounds) -> Result<Plan, Memory>
+        ensures { IfOk result (λ p. p ≡ subarray source area) }
+    {
+        let node = PlanNode::Subarray(Box::new(alloc, source)?, area);
+        Ok(Plan { node })
+    }
+
+    pub fn slice(alloc: Global, source: Plan, fixed: List<Fixed>) -> Result<Plan, Memory>
+        ensures { IfOk result (λ p. p ≡ sliced source fixed) }
+    {
+        let node = PlanNode::Slice(Box::new(alloc, source)?, fixed);
+        Ok(Plan { node })
+    }
+
+    pub fn join(alloc: Global, left: Plan, right: Plan, schema: Schema) -> Result<Plan, Memory>
+        ensures { IfOk result (λ p. p ≡ joined left right schema) }
+    {
+        let node = PlanNode::Join(Box::new(alloc, left)?, Box::new(alloc, right)?, schema);
+        Ok(Plan { node })
+    }
+
+    pub fn cross_join(
+        alloc: Global,
+        left: Plan,
+        right: Plan,
+        pairs: List<Pair>,
+        schema: Schema,
+    ) -> Result<Plan, Memory>
+        ensures { IfOk result (λ p. p ≡ crossed left right pairs schema) }
+    {
+        let left = Box::new(alloc, left)?;
+        let right = Box::new(alloc, right)?;
+        let node = PlanNode::CrossJoin(left, right, pairs, schema);
+        Ok(Plan { node })
+    }
+
+    pub fn redimension(
+        alloc: Global,
+        source: Plan,
+        schema: Schema,
+        aggregates: List<Aggregate>,
+    ) -> Result<Plan, Memory>
+        ensures { IfOk result (λ p. p ≡ redimensioned source schema aggregates) }
+    {
+        let node = PlanNode::Redimension(Box::new(alloc, source)?, schema, aggregates);
+        Ok(Plan { node })
+    }
+
+    pub fn regrid(
+        alloc: Global,
+        source: Plan,
+        sizes: List<u64>,
+        aggregates: List<Aggregate>,
+    ) -> Result<Plan, Memory>
+        ensures { IfOk result (λ p. p ≡ regridded source sizes aggregates) }
+    {
+        let node = PlanNode::Regrid(Box::new(alloc, source)?, sizes, aggregates);
+        Ok(Plan { node })
+    }
+
+    pub fn window(
+        alloc: Global,
+        source: Plan,
+        reach: List<Reach>,
+        aggregates: List<Aggregate>,
+    ) -> Result<Plan, Memory>
+        ensures { IfOk result (λ p. p ≡ windowed source reach aggregates) }
+    {
+        let node = PlanNode::Window(Box::new(alloc, source)?, reach, aggregates);
+        Ok(Plan { node })
+    }
+
+    pub fn aggregate(
+        alloc: Global,
+        source: Plan,
+        aggregates: List<Aggregate>,
+        dimensions: List<u32>,
+    ) -> Result<Plan, Memory>
+        ensures { IfOk result (λ p. p ≡ aggregated source aggregates dimensions) }
+    {
+        let node = PlanNode::Aggregate(Box::new(alloc, source)?, aggregates, dimensions);
+        Ok(Plan { node })
+    }
+}

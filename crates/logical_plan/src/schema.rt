@@ -1,0 +1,129 @@
+//! The schema of a plan.
+ghost use Rattle.std.specs.Prelude.{◌≡◌, IfOk};
+ghost use Rattle.logical_plan.specs.Meaning.{Database, meaning};
+ghost use Rattle.logical_plan.specs.PlanSchema.{apply_schema, project_schema, subarray_schema, slice_schema, regrid_schema, window_schema, aggregate_schema, schema_of as query_schema};
+
+use crate::attributes::{attributes_of_aggregates, derived_attribute};
+use crate::dimensions::{dimensions_of_groups, free_dimensions, push_blocks, push_parts};
+use crate::places::at_places;
+use crate::{Aggregate, Applied, Fixed, Plan, PlanNode};
+use cell_values::{Bounds, List, Memory, Schema};
+use std::alloc::Global;
+
+fn with_applied(source: Schema, values: &List<Applied>) -> Result<Schema, Memory>
+    ensures { IfOk result (λ schema. schema ≡ apply_schema values.now source) }
+{
+    let Schema {
+        mut attributes,
+        dimensions,
+    } = source;
+    for value in values.as_slice() {
+        attributes.push(derived_attribute(&value.name, value.kind)?)?;
+    }
+    Ok(Schema {
+        attributes,
+        dimensions,
+    })
+}
+
+fn projection(source: Schema, places: &List<u32>) -> Result<Schema, Memory>
+    ensures { IfOk result (λ schema. schema ≡ project_schema places.now source) }
+{
+    Ok(Schema {
+        attributes: at_places(&source.attributes, places)?,
+        dimensions: source.dimensions,
+    })
+}
+
+fn part(source: Schema, area: &Bounds) -> Result<Schema, Memory>
+    ensures { IfOk result (λ schema. schema ≡ subarray_schema area.now source) }
+{
+    let mut parts = source.dimensions.another();
+    push_parts(
+        &mut parts,
+        source.dimensions.as_slice(),
+        area.lo.as_slice(),
+        area.hi.as_slice(),
+    )?;
+    Ok(Schema {
+        attributes: source.attributes,
+        dimensions: parts,
+    })
+}
+
+fn slice(source: Schema, fixed: &List<Fixed>) -> Result<Schema, Memory>
+    ensures { IfOk result (λ schema. schema ≡ slice_schema fixed.now source) }
+{
+    Ok(Schema {
+        dimensions: free_dimensions(&source.dimensions, fixed)?,
+        attributes: source.attributes,
+    })
+}
+
+fn regrid(
+    source: Schema,
+    sizes: &List<u64>,
+    aggregates: &List<Aggregate>,
+) -> Result<Schema, Memory>
+    ensures { IfOk result (λ schema. schema ≡ regrid_schema sizes.now aggregates.now source) }
+{
+    let mut blocks = source.dimensions.another();
+    push_blocks(
+        &mut blocks,
+        source.dimensions.as_slice(),
+        sizes.as_slice(),
+    )?;
+    Ok(Schema {
+        attributes: attributes_of_aggregates(&source.attributes, aggregates)?,
+        dimensions: blocks,
+    })
+}
+
+fn window(source: Schema, aggregates: &List<Aggregate>) -> Result<Schema, Memory>
+    ensures { IfOk result (λ schema. schema ≡ window_schema aggregates.now source) }
+{
+    Ok(Schema {
+        attributes: attributes_of_aggregates(&source.attributes, aggregates)?,
+        dimensions: source.dimensions,
+    })
+}
+
+fn groups(
+    alloc: Global,
+    source: Schema,
+    aggregates: &List<Aggregate>,
+    places: &List<u32>,
+) -> Result<Schema, Memory>
+    ensures { IfOk result (λ schema. schema ≡ aggregate_schema aggregates.now places.now source) }
+{
+    Ok(Schema {
+        attributes: attributes_of_aggregates(&source.attributes, aggregates)?,
+        dimensions: dimensions_of_groups(alloc, &source.dimensions, places)?,
+    })
+}
+
+/// The schema of the result. Joins and redimension carry theirs.
+pub fn schema_of(alloc: Global, plan: &Plan) -> Result<Schema, Memory>
+    ensures { IfOk result (λ schema. schema ≡ query_schema plan.now) }
+{
+    match &plan.node {
+        PlanNode::Build(schema, _)
+        | PlanNode::Literal(schema, _)
+        | PlanNode::Join(_, _, schema)
+        | PlanNode::CrossJoin(_, _, _, schema)
+        | PlanNode::Redimension(_, schema, _) => schema.copy(),
+        PlanNode::Scan(leaf) => leaf.schema.copy(),
+        PlanNode::Filter(source, _) | PlanNode::Between(source, _) => schema_of(alloc, source),
+        PlanNode::Apply(source, values) => with_applied(schema_of(alloc, source)?, values),
+        PlanNode::Project(source, places) => projection(schema_of(alloc, source)?, places),
+        PlanNode::Subarray(source, area) => part(schema_of(alloc, source)?, area),
+        PlanNode::Slice(source, fixed) => slice(schema_of(alloc, source)?, fixed),
+        PlanNode::Regrid(source, sizes, aggregates) => {
+            regrid(schema_of(alloc, source)?, sizes, aggregates)
+        }
+        PlanNode::Window(source, _, aggregates) => window(schema_of(alloc, source)?, aggregates),
+        PlanNode::Aggregate(source, aggregates, places) => {
+            groups(alloc, schema_of(alloc, source)?, aggregates, places)
+        }
+    }
+}
