@@ -62,3 +62,15 @@ module _ (attributes : List Attribute) (dimensions : List Dimension) (s : Span) 
   many_for_one form [] many = absurd (omega (arith, many))
   many_for_one form (x ∷ []) many = absurd (omega (arith, many))
   many_for_one form (x ∷ y ∷ xs) many = refl
+
+  pub other_for_iif : (xs : List Term) → (length xs ≡ 3 → ⊥) → typed_call attributes dimensions s name None (Some Iif) (to_terms xs) ≡ refused s WrongCount
+  other_for_iif [] other = refl
+  other_for_iif (x ∷ []) other = refl
+  other_for_iif (x ∷ y ∷ []) other = refl
+  other_for_iif (x ∷ y ∷ z ∷ []) other = absurd (other refl)
+  other_for_iif (x ∷ y ∷ z ∷ w ∷ xs) other = refl
+
+  pub other_for_one : (form : OneForm) (xs : List Term) → (length xs ≡ 1 → ⊥) → typed_call attributes dimensions s name None (Some (One form)) (to_terms xs) ≡ refused s WrongCount
+  other_for_one form [] other = refl
+  other_for_one form (x ∷ []) other = absurd (other refl)
+  other_for_one form (x ∷ y ∷ xs) other = refl

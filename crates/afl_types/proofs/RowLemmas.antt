@@ -2,6 +2,7 @@
 use Rattle.std.proofs.Common.{◌≡◌, ℕ, suc, ℤ, pos, ◌+ℤ◌, ◌+◌, ◌<◌, ◌≤◌, ◌==◌, Bool, true, false, ◌&&◌, List, [], ◌∷◌, ◌++◌, length, drop, slice_index_or, Option, Some, None, refl, sym, ap, subst, ◌∙◌, append_assoc, arith}
 use Rattle.std.specs.Prelude.{int_le, if◌then◌else◌}
 use Rattle.std.proofs.Math.Seq.{drop-cons}
+use Rattle.std.proofs.lemmas.Bool.{ne_eqb}
 use Rattle.cell_values.specs.declared.datum.Datum.{Datum}
 use Rattle.cell_values.specs.declared.datum.Cell.TheVariants.{Full}
 use Rattle.cell_values.specs.declared.datum.Row.{Row}
@@ -12,7 +13,7 @@ use Rattle.afl_types.specs.LiteralRows.{fit_attributes, fits_element, with_row, 
 -- without attributes no values fit, and without values no attributes
 pub fits_none : (attributes : List Attribute) (vs : List Datum) → length attributes < 1 → (length vs == 0) ≡ fit_attributes attributes vs
 fits_none [] [] few = refl
-fits_none [] (v ∷ vs) few = refl
+fits_none [] (v ∷ vs) few = ne_eqb (length (v ∷ vs)) 0 (λ e. omega arith)
 fits_none (a ∷ attributes) vs few = absurd (omega arith)
 
 pub fits_no_value : (attributes : List Attribute) (vs : List Datum) → 1 ≤ length attributes → length vs < 1 → false ≡ fit_attributes attributes vs

@@ -8,7 +8,11 @@ use Rattle.cell_values.specs.declared.schema.Kind.TheVariants.{Int64, Str}
 use Rattle.cell_values.specs.declared.schema.Attribute.{Attribute}
 use Rattle.cell_values.specs.declared.schema.Dimension.{Dimension}
 use Rattle.afl_parser.specs.Term.{Term, number, text, missing, call, renamed, opposite, negative, binary, group, Terms, no_terms, and_term}
+use Rattle.afl_parser.specs.declared.tree.BinaryOp.{BinaryOp}
+use Rattle.cell_values.specs.declared.name.Span.{Span}
+use Rattle.schema_grammar.specs.declared.kinds.TypeKind.{TypeKind}
 use Rattle.expr_nulls.specs.Typing.{has_kind}
+use Rattle.afl_types.specs.Checked.{refused}
 use Rattle.afl_types.specs.Expressions.{fits, typed}
 use Rattle.afl_types.specs.Literals.{SpellsLiteral, begun, read_marks}
 use Rattle.afl_types.specs.declared.literal.Mark.{Mark}
@@ -46,3 +50,9 @@ HasItsKinds kinds dimensions x = (kind : Kind) → IsTrue (fits kind x.kind) →
 abbrev pub TypedHaveKinds : Type 0
 TypedHaveKinds = (attributes : List Attribute) (dimensions : List Dimension) (t : Term) (x : Operand)
     → IsTrue (leaves_fit t) → typed attributes dimensions t ≡ Ok x → HasItsKinds (map (λ attribute. attribute.kind) attributes) (length dimensions) x
+
+-- a fault within the left operand comes before each other one, and one within the right operand before the operator's
+abbrev pub InnerFaultsFirst : Type 0
+InnerFaultsFirst = (attributes : List Attribute) (dimensions : List Dimension) (s at : Span) (op : BinaryOp) (a b : Term) (kind : TypeKind)
+    → (typed attributes dimensions a ≡ refused at kind → typed attributes dimensions (binary s op a b) ≡ refused at kind)
+    × ((x : Operand) → typed attributes dimensions a ≡ Ok x → typed attributes dimensions b ≡ refused at kind → typed attributes dimensions (binary s op a b) ≡ refused at kind)

@@ -278,7 +278,6 @@ fn typed_operand(
 
 /// `iif`, of three operands.
 #[cycle(expression)]
-#[tactic(auto, using(crate::proofs::Operands::few_for_iif, crate::proofs::Operands::many_for_iif))]
 fn typed_iif(
     alloc: Global,
     attributes: &[Attribute],
@@ -299,7 +298,6 @@ fn typed_iif(
 
 /// A function of one operand.
 #[cycle(expression)]
-#[tactic(auto, using(crate::proofs::Operands::few_for_one, crate::proofs::Operands::many_for_one))]
 fn typed_one(
     alloc: Global,
     attributes: &[Attribute],

@@ -110,7 +110,7 @@ fn change_named(name: &[u8]) -> Option<Operator>
 }
 
 /// The operator of this name.
-pub(crate) fn operator_named(name: &[u8]) -> Option<Operator>
+pub fn operator_named(name: &[u8]) -> Option<Operator>
     ensures { result ≡ operator_named name.now }
 {
     match query_named(name) {

@@ -6,9 +6,8 @@ use Rattle.afl_types.specs.declared.operator.Form.TheVariants.{Iif, One}
 use Rattle.schema_grammar.specs.declared.kinds.TypeKind.TheVariants.{WrongCount}
 use Rattle.afl_types.specs.declared.fault.TypeFault.{TypeFault}
 use Rattle.afl_types.specs.declared.operand.Operand.{Operand}
-use Rattle.afl_types.proofs.Operands.{one, three, few_for_iif, many_for_iif, few_for_one, many_for_one}
+use Rattle.afl_types.proofs.Operands.{one, three, other_for_iif, other_for_one}
 use Rattle.afl_types.proofs.expression.+expression.Goals as goal
-use Rattle.afl_types.proofs.expression.+expression.Goals.{typed_iif-in_default-via-then-operands-lt3, typed_iif-in_default-via-else-operands-lt3+else-operands-lt4, typed_one-in_default-via-then-operands-lt1, typed_one-in_default-via-else-operands-lt1+else-operands-lt2}
 
 pub typed_iif-returns-in-len3 : goal.typed_iif-returns-in-len3
 typed_iif-returns-in-len3 t c =
@@ -19,9 +18,8 @@ typed_iif-returns-in-len3 t c =
 pub typed_iif-returns-in_default : goal.typed_iif-returns-in_default
 typed_iif-returns-in_default t c =
     let made : Checked Operand = typed_call c.args.attributes.now c.args.dimensions.now c.args.span c.args.name.now None (Some Iif) (to_terms c.args.operands.now) in
-    let is : made ≡ refused c.args.span WrongCount = elim c.in_default.branch [
-        typed_iif-in_default-via-then-operands-lt3 w ↦ few_for_iif c.args.attributes.now c.args.dimensions.now c.args.span c.args.name.now c.args.operands.now (omega arith)
-        | typed_iif-in_default-via-else-operands-lt3+else-operands-lt4 w ↦ many_for_iif c.args.attributes.now c.args.dimensions.now c.args.span c.args.name.now c.args.operands.now (omega arith) ] in
+    let other : length c.args.operands.now ≡ 3 → ⊥ = λ e. grind arith in
+    let is : made ≡ refused c.args.span WrongCount = other_for_iif c.args.attributes.now c.args.dimensions.now c.args.span c.args.name.now c.args.operands.now other in
     subst (λ (fault : TypeFault). Answers {A = Operand} (Err fault) made) (sym c.broken.ensures) is
 
 pub typed_one-returns-in-len1 : goal.typed_one-returns-in-len1
@@ -33,7 +31,6 @@ typed_one-returns-in-len1 t c =
 pub typed_one-returns-in_default : goal.typed_one-returns-in_default
 typed_one-returns-in_default t c =
     let made : Checked Operand = typed_call c.args.attributes.now c.args.dimensions.now c.args.span c.args.name.now None (Some (One c.args.form)) (to_terms c.args.operands.now) in
-    let is : made ≡ refused c.args.span WrongCount = elim c.in_default.branch [
-        typed_one-in_default-via-then-operands-lt1 w ↦ few_for_one c.args.attributes.now c.args.dimensions.now c.args.span c.args.name.now c.args.form c.args.operands.now (omega arith)
-        | typed_one-in_default-via-else-operands-lt1+else-operands-lt2 w ↦ many_for_one c.args.attributes.now c.args.dimensions.now c.args.span c.args.name.now c.args.form c.args.operands.now (omega arith) ] in
+    let other : length c.args.operands.now ≡ 1 → ⊥ = λ e. grind arith in
+    let is : made ≡ refused c.args.span WrongCount = other_for_one c.args.attributes.now c.args.dimensions.now c.args.span c.args.name.now c.args.form c.args.operands.now other in
     subst (λ (fault : TypeFault). Answers {A = Operand} (Err fault) made) (sym c.broken.ensures) is
