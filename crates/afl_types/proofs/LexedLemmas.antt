@@ -46,8 +46,8 @@ from_here (suc n) text before at r room =
     cond_both (at == length text) (Some []) (found_then (reading_of (drop at text)) text at (tokens_from n text)) (GoesOn text before)
     (λ e. ended text before at r (eqb-true at (length text) e))
     (λ e.
-        let h : at < length text = below at (length text) (eqb-false at (length text) e) (reached_within text before at r) in
-        step text before at n (reading_of (drop at text)) r h (reading_right (drop at text) (simp length-drop (omega arith))) room (λ more to q e. from_here n text more to q e))
+    let h : at < length text = below at (length text) (eqb-false at (length text) e) (reached_within text before at r) in
+    step text before at n (reading_of (drop at text)) r h (reading_right (drop at text) (simp length-drop (omega arith))) room (λ more to q e. from_here n text more to q e))
 
 all_of : (text : List ℕ) → GoesOn text [] (tokens_of text)
 all_of text = from_here (length text) text [] (gap_len text) (reached_first text) (omega arith)

@@ -126,18 +126,30 @@ next_opened : (bare : Bool) (es all : List (List Datum)) (xs : List Mark) → Re
 next_opened bare es all xs r = record {
   rest = r.rest;
   all_are = r.all_are;
-  marks = record { element = r.marks.element; further = r.marks.further; behind = r.marks.behind; same = r.marks.same;
-    spelled = opened_element bare r.marks.element xs r.marks.behind r.marks.spelled; after = r.marks.after };
+  marks = record {
+    element = r.marks.element;
+    further = r.marks.further;
+    behind = r.marks.behind;
+    same = r.marks.same;
+    spelled = opened_element bare r.marks.element xs r.marks.behind r.marks.spelled;
+    after = r.marks.after;
+  };
 }
 
 next_negative : (es all : List (List Datum)) (xs : List Mark) → Reads true es Negative all xs → Reads true es Next all (Symbol Minus ∷ xs)
 next_negative es all xs r =
     let m = r.marks in record {
-  rest = r.rest;
-  all_are = r.all_are;
-  marks = record { element = negation (Int m.number) ∷ []; further = m.further; behind = m.marks; same = m.same;
-    spelled = inr (refl, refl, inr (m.number, refl, ap (λ (ms : List Mark). Symbol Minus ∷ ms) m.at)); after = m.after };
-}
+      rest = r.rest;
+      all_are = r.all_are;
+      marks = record {
+        element = negation (Int m.number) ∷ [];
+        further = m.further;
+        behind = m.marks;
+        same = m.same;
+        spelled = inr (refl, refl, inr (m.number, refl, ap (λ (ms : List Mark). Symbol Minus ∷ ms) m.at));
+        after = m.after;
+      };
+    }
 
 next_number : (bare : Bool) (es all : List (List Datum)) (n : ℤ) (xs : List Mark) → Reads bare (es ++ (negation (Int n) ∷ []) ∷ []) Ended all xs → Reads bare es Negative all (Value (Int n) ∷ xs)
 next_number bare es all n xs r = record {
@@ -157,30 +169,44 @@ empty_element bare es all xs r = record {
 opened_value : (bare : Bool) (es all : List (List Datum)) (xs : List Mark) → Reads bare es (Further []) all xs → Reads bare es Opened all xs
 opened_value bare es all xs r =
     let m = r.marks in record {
-  rest = r.rest;
-  all_are = r.all_are;
-  marks = record { element = m.value ∷ m.values; further = m.further; behind = m.behind; same = m.same; spelled = m.spelled; after = m.after };
-}
+      rest = r.rest;
+      all_are = r.all_are;
+      marks = record { element = m.value ∷ m.values; further = m.further; behind = m.behind; same = m.same; spelled = m.spelled; after = m.after };
+    }
 
 further_value : (bare : Bool) (es all : List (List Datum)) (vs : List Datum) (v : Datum) (xs : List Mark) → Reads bare es (Valued (vs ++ v ∷ [])) all xs → Reads bare es (Further vs) all (Value v ∷ xs)
 further_value bare es all vs v xs r =
     let m = r.marks in record {
-  rest = r.rest;
-  all_are = r.all_are;
-  marks = record { value = v; values = m.values; further = m.further; behind = m.behind; same = m.same ∙ ap (λ (us : List Datum). us ∷ m.further) (append_assoc vs (v ∷ []) m.values);
-    spelled = values_of v m.values (Value v ∷ xs) xs m.behind (inl refl) m.spelled; after = m.after };
-}
+      rest = r.rest;
+      all_are = r.all_are;
+      marks = record {
+        value = v;
+        values = m.values;
+        further = m.further;
+        behind = m.behind;
+        same = m.same ∙ ap (λ (us : List Datum). us ∷ m.further) (append_assoc vs (v ∷ []) m.values);
+        spelled = values_of v m.values (Value v ∷ xs) xs m.behind (inl refl) m.spelled;
+        after = m.after;
+      };
+    }
 
 further_signed : (bare : Bool) (es all : List (List Datum)) (vs : List Datum) (xs : List Mark) → Reads bare es (Signed vs) all xs → Reads bare es (Further vs) all (Symbol Minus ∷ xs)
 further_signed bare es all vs xs r =
     let s = r.marks in
     let m = s.next in
     let v : Datum = negation (Int s.number) in record {
-  rest = r.rest;
-  all_are = r.all_are;
-  marks = record { value = v; values = m.values; further = m.further; behind = m.behind; same = m.same ∙ ap (λ (us : List Datum). us ∷ m.further) (append_assoc vs (v ∷ []) m.values);
-    spelled = values_of v m.values (Symbol Minus ∷ xs) s.marks m.behind (inr (s.number, refl, ap (λ (ms : List Mark). Symbol Minus ∷ ms) s.at)) m.spelled; after = m.after };
-}
+      rest = r.rest;
+      all_are = r.all_are;
+      marks = record {
+        value = v;
+        values = m.values;
+        further = m.further;
+        behind = m.behind;
+        same = m.same ∙ ap (λ (us : List Datum). us ∷ m.further) (append_assoc vs (v ∷ []) m.values);
+        spelled = values_of v m.values (Symbol Minus ∷ xs) s.marks m.behind (inr (s.number, refl, ap (λ (ms : List Mark). Symbol Minus ∷ ms) s.at)) m.spelled;
+        after = m.after;
+      };
+    }
 
 signed_number : (bare : Bool) (es all : List (List Datum)) (vs : List Datum) (n : ℤ) (xs : List Mark) → Reads bare es (Valued (vs ++ negation (Int n) ∷ [])) all xs → Reads bare es (Signed vs) all (Value (Int n) ∷ xs)
 signed_number bare es all vs n xs r = record { rest = r.rest; all_are = r.all_are; marks = record { number = n; marks = xs; at = refl; next = r.marks } }
@@ -188,10 +214,10 @@ signed_number bare es all vs n xs r = record { rest = r.rest; all_are = r.all_ar
 valued_comma : (bare : Bool) (es all : List (List Datum)) (vs : List Datum) (xs : List Mark) → Reads bare es (Further vs) all xs → Reads bare es (Valued vs) all (Symbol Comma ∷ xs)
 valued_comma bare es all vs xs r =
     let m = r.marks in record {
-  rest = r.rest;
-  all_are = r.all_are;
-  marks = record { values = m.value ∷ m.values; further = m.further; behind = m.behind; same = m.same; spelled = (xs, refl, m.spelled); after = m.after };
-}
+      rest = r.rest;
+      all_are = r.all_are;
+      marks = record { values = m.value ∷ m.values; further = m.further; behind = m.behind; same = m.same; spelled = (xs, refl, m.spelled); after = m.after };
+    }
 
 valued_end : (bare : Bool) (es all : List (List Datum)) (vs : List Datum) (xs : List Mark) → Reads bare (es ++ vs ∷ []) Ended all xs → Reads bare es (Valued vs) all (Symbol RightParen ∷ xs)
 valued_end bare es all vs xs r = record {
@@ -203,10 +229,10 @@ valued_end bare es all vs xs r = record {
 ended_comma : (bare : Bool) (es all : List (List Datum)) (xs : List Mark) → Reads bare es Next all xs → Reads bare es Ended all (Symbol Comma ∷ xs)
 ended_comma bare es all xs r =
     let m = r.marks in record {
-  rest = r.rest;
-  all_are = r.all_are;
-  marks = subst (λ (s : List (List Datum)). After bare s (Symbol Comma ∷ xs)) (sym m.same) (xs, refl, elements_of bare m.element m.further xs m.behind m.spelled m.after);
-}
+      rest = r.rest;
+      all_are = r.all_are;
+      marks = subst (λ (s : List (List Datum)). After bare s (Symbol Comma ∷ xs)) (sym m.same) (xs, refl, elements_of bare m.element m.further xs m.behind m.spelled m.after);
+    }
 
 ended_end : (bare : Bool) (es all : List (List Datum)) (xs : List Mark) → Reads bare es Closed all xs → Reads bare es Ended all (Symbol RightBracket ∷ xs)
 ended_end bare es all xs r = record {

@@ -41,28 +41,6 @@ three (a ∷ b ∷ c ∷ []) x y z low high e f g =
 three (a ∷ b ∷ c ∷ d ∷ xs) x y z low high e f g = absurd (omega arith)
 
 module _ (attributes : List Attribute) (dimensions : List Dimension) (s : Span) (name : List ℕ) where
-  pub few_for_iif : (xs : List Term) → length xs < 3 → typed_call attributes dimensions s name None (Some Iif) (to_terms xs) ≡ refused s WrongCount
-  few_for_iif [] few = refl
-  few_for_iif (x ∷ []) few = refl
-  few_for_iif (x ∷ y ∷ []) few = refl
-  few_for_iif (x ∷ y ∷ z ∷ xs) few = absurd (omega (arith, few))
-
-  pub many_for_iif : (xs : List Term) → 4 ≤ length xs → typed_call attributes dimensions s name None (Some Iif) (to_terms xs) ≡ refused s WrongCount
-  many_for_iif [] many = absurd (omega (arith, many))
-  many_for_iif (x ∷ []) many = absurd (omega (arith, many))
-  many_for_iif (x ∷ y ∷ []) many = absurd (omega (arith, many))
-  many_for_iif (x ∷ y ∷ z ∷ []) many = absurd (omega (arith, many))
-  many_for_iif (x ∷ y ∷ z ∷ w ∷ xs) many = refl
-
-  pub few_for_one : (form : OneForm) (xs : List Term) → length xs < 1 → typed_call attributes dimensions s name None (Some (One form)) (to_terms xs) ≡ refused s WrongCount
-  few_for_one form [] few = refl
-  few_for_one form (x ∷ xs) few = absurd (omega (arith, few))
-
-  pub many_for_one : (form : OneForm) (xs : List Term) → 2 ≤ length xs → typed_call attributes dimensions s name None (Some (One form)) (to_terms xs) ≡ refused s WrongCount
-  many_for_one form [] many = absurd (omega (arith, many))
-  many_for_one form (x ∷ []) many = absurd (omega (arith, many))
-  many_for_one form (x ∷ y ∷ xs) many = refl
-
   pub other_for_iif : (xs : List Term) → (length xs ≡ 3 → ⊥) → typed_call attributes dimensions s name None (Some Iif) (to_terms xs) ≡ refused s WrongCount
   other_for_iif [] other = refl
   other_for_iif (x ∷ []) other = refl

@@ -130,11 +130,8 @@ pub(crate) fn typed(
             name.as_slice(),
             operands.as_slice(),
         ),
-        Node::Version(_, _)
-        | Node::Schema(_)
-        | Node::Star
-        | Node::As(_, _)
-        | Node::Create(_, _) => Err(broken(span, TypeKind::WrongType)),
+        Node::Version(_, _) | Node::Schema(_) | Node::Star | Node::As(_, _) | Node::Create(_, _) =>
+            Err(broken(span, TypeKind::WrongType)),
     }
 }
 

@@ -106,12 +106,7 @@ fn newest_of(arrays: &[NameEntry], span: Span, name: &[u8]) -> Result<Plan, Type
 }
 
 /// A version of an array.
-fn version_of(
-    arrays: &[NameEntry],
-    span: Span,
-    name: &[u8],
-    number: i64,
-) -> Result<Plan, TypeFault>
+fn version_of(arrays: &[NameEntry], span: Span, name: &[u8], number: i64) -> Result<Plan, TypeFault>
     ensures meaning { Answers result (version_of span (entry_named arrays.now name.now) number) }
     ensures built { IfOk result IsBuiltNow }
 {
@@ -217,12 +212,7 @@ fn typed_over(
 
 /// The value of an expression at each coordinate of a schema.
 #[tactic(auto, using(crate::proofs::Operands::ok_then, crate::proofs::Operands::err_then, crate::proofs::Valid::few_dimensions))]
-fn built_typed(
-    alloc: Global,
-    schema: Schema,
-    kind: Kind,
-    value: &Tree,
-) -> Result<Plan, TypeFault>
+fn built_typed(alloc: Global, schema: Schema, kind: Kind, value: &Tree) -> Result<Plan, TypeFault>
     requires { IsValid schema }
     ensures meaning { Answers result (then (typed [] schema.dimensions value.now) (built_of schema kind)) }
     ensures built { IfOk result IsBuiltNow }
@@ -355,12 +345,7 @@ fn build_three(
 
 /// `build`.
 #[tactic(auto, using(crate::proofs::Arguments::few_for_build, crate::proofs::Arguments::many_for_build))]
-fn build_call(
-    alloc: Global,
-    text: &[u8],
-    span: Span,
-    arguments: &[Tree],
-) -> Result<Plan, TypeFault>
+fn build_call(alloc: Global, text: &[u8], span: Span, arguments: &[Tree]) -> Result<Plan, TypeFault>
     ensures meaning { Answers result (build_call span (to_terms arguments.now)) }
     ensures built { IfOk result IsBuiltNow }
 {
