@@ -16,7 +16,7 @@ use Rattle.array_rows.proofs.RowSets.{gathered, is_covered, gathered_all, cell_a
 use Rattle.array_geom.specs.declared.chunk.Chunk.{Chunk}
 use Rattle.array_geom.specs.Geometry.{ChunkNumber, chunk_of, core, frame}
 use Rattle.array_geom.specs.Laws.{ChunksHaveTheirRows, ChunksHaveOneMeaning}
-use Rattle.array_geom.specs.Link.{chunk_rows, core_rows, IsPart, number_order, numbers, is_listed, is_not_empty, AreChunksOf}
+use Rattle.array_geom.specs.Link.{core_rows, IsPart, number_order, numbers, is_listed, is_not_empty, AreChunksOf}
 use Rattle.array_geom.specs.Ranges.{AreNear}
 use Rattle.array_geom.proofs.CoreLaws.{core_has, core_in_frame, length-chunk_of}
 use Rattle.array_geom.proofs.NearLemmas.{valid_placed}
