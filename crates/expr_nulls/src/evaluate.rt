@@ -1,12 +1,15 @@
 //! The value of an expression at a cell.
 ghost use Rattle.std.specs.Prelude.{◌≡◌, IsTrue, IfOk, slice_index_or};
+ghost use Rattle.expr_nulls.specs.Expr.{calculation, relation, conjunction, disjunction, conditional};
 ghost use Rattle.expr_nulls.specs.ExprValue.{value_of, calculated, number_at};
 ghost use Rattle.expr_nulls.specs.Typing.{TypedValuesFit};
 ghost use Rattle.expr_nulls.specs.Seen.{datum_of, DecidesBoth, DecidesEither};
 
 use crate::functions::{make_null, measure_text, spell_number, tell_reason, test_null};
 use crate::{ArithOp, ExprNode, TypedExpr};
-use cell_values::{Coord, Datum, Memory, add, and3, compare, div, mul, neg, not3, or3, rem, sub};
+use cell_values::{
+    CompareOp, Coord, Datum, Memory, add, and3, compare, div, mul, neg, not3, or3, rem, sub,
+};
 use std::alloc::Global;
 
 /// A value of the expression or of the cell, or one that was computed. So no text is copied where it is only looked at.
@@ -47,6 +50,7 @@ pub fn eval(alloc: Global, expr: &TypedExpr, at: &Coord, values: &[Datum]) -> Re
 }
 
 /// The value of an expression, not copied where it stands in the expression or in the cell.
+#[cycle(see)]
 fn see<'a>(
     alloc: Global,
     expr: &'a TypedExpr,
@@ -59,68 +63,113 @@ fn see<'a>(
         ExprNode::Lit(value) => Ok(Seen::Held(value)),
         ExprNode::Attr(place) => Ok(attribute(values, *place)),
         ExprNode::Dim(place) => Ok(Seen::Made(dimension(at, *place))),
-        ExprNode::Neg(a) => {
-            let a = see(alloc, a, at, values)?;
-            Ok(Seen::Made(neg(a.get())))
-        }
-        ExprNode::Not(a) => {
-            let a = see(alloc, a, at, values)?;
-            Ok(Seen::Made(not3(a.get())))
-        }
-        ExprNode::Arith(op, a, b) => {
-            let a = see(alloc, a, at, values)?;
-            let b = see(alloc, b, at, values)?;
-            Ok(Seen::Made(calculate(alloc, *op, a.get(), b.get())?))
-        }
-        ExprNode::Compare(op, a, b) => {
-            let a = see(alloc, a, at, values)?;
-            let b = see(alloc, b, at, values)?;
-            Ok(Seen::Made(compare(*op, a.get(), b.get())))
-        }
-        ExprNode::And(a, b) => {
-            let a = see(alloc, a, at, values)?;
-            if decides_and(a.get()) {
-                return Ok(a);
-            }
-            let b = see(alloc, b, at, values)?;
-            Ok(Seen::Made(and3(a.get(), b.get())))
-        }
-        ExprNode::Or(a, b) => {
-            let a = see(alloc, a, at, values)?;
-            if decides_or(a.get()) {
-                return Ok(a);
-            }
-            let b = see(alloc, b, at, values)?;
-            Ok(Seen::Made(or3(a.get(), b.get())))
-        }
-        ExprNode::Iif(test, a, b) => {
-            let test = see(alloc, test, at, values)?;
-            match test.get() {
-                Datum::Truth(true) => see(alloc, a, at, values),
-                Datum::Truth(false) => see(alloc, b, at, values),
-                _ => Ok(test),
-            }
-        }
-        ExprNode::IsNull(a) => {
-            let a = see(alloc, a, at, values)?;
-            Ok(Seen::Made(test_null(a.get())))
-        }
-        ExprNode::StrLen(a) => {
-            let a = see(alloc, a, at, values)?;
-            Ok(Seen::Made(measure_text(a.get())))
-        }
+        ExprNode::Neg(a) => Ok(Seen::Made(neg(see(alloc, a, at, values)?.get()))),
+        ExprNode::Not(a) => Ok(Seen::Made(not3(see(alloc, a, at, values)?.get()))),
+        ExprNode::Arith(op, a, b) => see_calculation(alloc, *op, a, b, at, values),
+        ExprNode::Compare(op, a, b) => see_comparison(alloc, *op, a, b, at, values),
+        ExprNode::And(a, b) => see_and(alloc, a, b, at, values),
+        ExprNode::Or(a, b) => see_or(alloc, a, b, at, values),
+        ExprNode::Iif(test, a, b) => see_iif(alloc, test, a, b, at, values),
+        ExprNode::IsNull(a) => Ok(Seen::Made(test_null(see(alloc, a, at, values)?.get()))),
+        ExprNode::StrLen(a) => Ok(Seen::Made(measure_text(see(alloc, a, at, values)?.get()))),
         ExprNode::ToText(a) => {
-            let a = see(alloc, a, at, values)?;
-            Ok(Seen::Made(spell_number(alloc, a.get())?))
+            let number = see(alloc, a, at, values)?;
+            Ok(Seen::Made(spell_number(alloc, number.get())?))
         }
-        ExprNode::Missing(a) => {
-            let a = see(alloc, a, at, values)?;
-            Ok(Seen::Made(make_null(a.get())))
-        }
-        ExprNode::Reason(a) => {
-            let a = see(alloc, a, at, values)?;
-            Ok(Seen::Made(tell_reason(a.get())))
-        }
+        ExprNode::Missing(a) => Ok(Seen::Made(make_null(see(alloc, a, at, values)?.get()))),
+        ExprNode::Reason(a) => Ok(Seen::Made(tell_reason(see(alloc, a, at, values)?.get()))),
+    }
+}
+
+/// The value of an operator on two operands.
+#[cycle(see)]
+fn see_calculation<'a>(
+    alloc: Global,
+    op: ArithOp,
+    a: &'a TypedExpr,
+    b: &'a TypedExpr,
+    at: &Coord,
+    values: &'a [Datum],
+) -> Result<Seen<'a>, Memory>
+    ensures { IfOk result (λ seen. datum_of seen ≡ value_of (calculation op a.now b.now) at.now.items values.now) }
+{
+    let a = see(alloc, a, at, values)?;
+    let b = see(alloc, b, at, values)?;
+    Ok(Seen::Made(calculate(alloc, op, a.get(), b.get())?))
+}
+
+/// The value of a comparison.
+#[cycle(see)]
+fn see_comparison<'a>(
+    alloc: Global,
+    op: CompareOp,
+    a: &'a TypedExpr,
+    b: &'a TypedExpr,
+    at: &Coord,
+    values: &'a [Datum],
+) -> Result<Seen<'a>, Memory>
+    ensures { IfOk result (λ seen. datum_of seen ≡ value_of (relation op a.now b.now) at.now.items values.now) }
+{
+    let a = see(alloc, a, at, values)?;
+    let b = see(alloc, b, at, values)?;
+    Ok(Seen::Made(compare(op, a.get(), b.get())))
+}
+
+/// The value of `and`. The right operand is looked at only where the left one does not decide.
+#[cycle(see)]
+fn see_and<'a>(
+    alloc: Global,
+    a: &'a TypedExpr,
+    b: &'a TypedExpr,
+    at: &Coord,
+    values: &'a [Datum],
+) -> Result<Seen<'a>, Memory>
+    ensures { IfOk result (λ seen. datum_of seen ≡ value_of (conjunction a.now b.now) at.now.items values.now) }
+{
+    let a = see(alloc, a, at, values)?;
+    if decides_and(a.get()) {
+        return Ok(a);
+    }
+    let b = see(alloc, b, at, values)?;
+    Ok(Seen::Made(and3(a.get(), b.get())))
+}
+
+/// The value of `or`. The right operand is looked at only where the left one does not decide.
+#[cycle(see)]
+fn see_or<'a>(
+    alloc: Global,
+    a: &'a TypedExpr,
+    b: &'a TypedExpr,
+    at: &Coord,
+    values: &'a [Datum],
+) -> Result<Seen<'a>, Memory>
+    ensures { IfOk result (λ seen. datum_of seen ≡ value_of (disjunction a.now b.now) at.now.items values.now) }
+{
+    let a = see(alloc, a, at, values)?;
+    if decides_or(a.get()) {
+        return Ok(a);
+    }
+    let b = see(alloc, b, at, values)?;
+    Ok(Seen::Made(or3(a.get(), b.get())))
+}
+
+/// The value of `iif`. Of the last two operands only the one that is taken is looked at.
+#[cycle(see)]
+fn see_iif<'a>(
+    alloc: Global,
+    test: &'a TypedExpr,
+    a: &'a TypedExpr,
+    b: &'a TypedExpr,
+    at: &Coord,
+    values: &'a [Datum],
+) -> Result<Seen<'a>, Memory>
+    ensures { IfOk result (λ seen. datum_of seen ≡ value_of (conditional test.now a.now b.now) at.now.items values.now) }
+{
+    let test = see(alloc, test, at, values)?;
+    match test.get() {
+        Datum::Truth(true) => see(alloc, a, at, values),
+        Datum::Truth(false) => see(alloc, b, at, values),
+        _ => Ok(test),
     }
 }
 

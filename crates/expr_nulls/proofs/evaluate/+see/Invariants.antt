@@ -1,0 +1,21 @@
+use Rattle.std.proofs.Common.{◌+◌, ◌*◌}
+use Rattle.expr_nulls.specs.Expr.{expr_size}
+use Rattle.expr_nulls.proofs.evaluate.+see.Given as goal
+
+abbrev pub decreases-see : goal.decreases-see
+decreases-see l = 2 * expr_size l.expr.now
+
+abbrev pub decreases-see_calculation : goal.decreases-see_calculation
+decreases-see_calculation l = 2 * (expr_size l.a.now + expr_size l.b.now) + 1
+
+abbrev pub decreases-see_comparison : goal.decreases-see_comparison
+decreases-see_comparison l = 2 * (expr_size l.a.now + expr_size l.b.now) + 1
+
+abbrev pub decreases-see_and : goal.decreases-see_and
+decreases-see_and l = 2 * (expr_size l.a.now + expr_size l.b.now) + 1
+
+abbrev pub decreases-see_or : goal.decreases-see_or
+decreases-see_or l = 2 * (expr_size l.a.now + expr_size l.b.now) + 1
+
+abbrev pub decreases-see_iif : goal.decreases-see_iif
+decreases-see_iif l = 2 * (expr_size l.test.now + expr_size l.a.now + expr_size l.b.now) + 1
