@@ -1,14 +1,16 @@
 //! Numbers, the low byte first, and bytes at the front of some bytes. Each call gives what stands there and the bytes
 //! behind it, or stops where so many bytes are not there.
-ghost use Rattle.std.specs.Prelude.{◌≡◌};
+ghost use Rattle.std.specs.Prelude.{◌≡◌, ◌≢◌, IfErr};
 ghost use Rattle.std.specs.Int.{w8, w16, w32, w64};
 ghost use Rattle.byte_items.specs.Items.{IsRead, number_at, bytes_at};
+ghost use Rattle.byte_items.specs.declared.stop.Stop.TheVariants.{Memory as OutOfMemory};
 
 use crate::Stop;
 
 /// A number of one byte.
 pub fn u8_at(bytes: &[u8]) -> Result<(u8, &[u8]), Stop>
-    ensures { IsRead (λ x. (x.0, x.1.now)) result (number_at w8 bytes.now) }
+    ensures read { IsRead (λ x. (x.0, x.1.now)) result (number_at w8 bytes.now) }
+    ensures told { IfErr result (λ stop. stop ≢ OutOfMemory) }
 {
     if bytes.is_empty() {
         return Err(Stop::Left(bytes.len()));
@@ -19,7 +21,8 @@ pub fn u8_at(bytes: &[u8]) -> Result<(u8, &[u8]), Stop>
 
 /// A number of two bytes.
 pub fn u16_at(bytes: &[u8]) -> Result<(u16, &[u8]), Stop>
-    ensures { IsRead (λ x. (x.0, x.1.now)) result (number_at w16 bytes.now) }
+    ensures read { IsRead (λ x. (x.0, x.1.now)) result (number_at w16 bytes.now) }
+    ensures told { IfErr result (λ stop. stop ≢ OutOfMemory) }
 {
     if bytes.len() < 2 {
         return Err(Stop::Left(bytes.len()));
@@ -30,7 +33,8 @@ pub fn u16_at(bytes: &[u8]) -> Result<(u16, &[u8]), Stop>
 
 /// A number of four bytes.
 pub fn u32_at(bytes: &[u8]) -> Result<(u32, &[u8]), Stop>
-    ensures { IsRead (λ x. (x.0, x.1.now)) result (number_at w32 bytes.now) }
+    ensures read { IsRead (λ x. (x.0, x.1.now)) result (number_at w32 bytes.now) }
+    ensures told { IfErr result (λ stop. stop ≢ OutOfMemory) }
 {
     if bytes.len() < 4 {
         return Err(Stop::Left(bytes.len()));
@@ -42,7 +46,8 @@ pub fn u32_at(bytes: &[u8]) -> Result<(u32, &[u8]), Stop>
 
 /// A number of eight bytes.
 pub fn u64_at(bytes: &[u8]) -> Result<(u64, &[u8]), Stop>
-    ensures { IsRead (λ x. (x.0, x.1.now)) result (number_at w64 bytes.now) }
+    ensures read { IsRead (λ x. (x.0, x.1.now)) result (number_at w64 bytes.now) }
+    ensures told { IfErr result (λ stop. stop ≢ OutOfMemory) }
 {
     if bytes.len() < 8 {
         return Err(Stop::Left(bytes.len()));
@@ -56,7 +61,8 @@ pub fn u64_at(bytes: &[u8]) -> Result<(u64, &[u8]), Stop>
 
 /// So many bytes.
 pub fn bytes_at(count: usize, bytes: &[u8]) -> Result<(&[u8], &[u8]), Stop>
-    ensures { IsRead (λ x. (x.0.now, x.1.now)) result (bytes_at count bytes.now) }
+    ensures read { IsRead (λ x. (x.0.now, x.1.now)) result (bytes_at count bytes.now) }
+    ensures told { IfErr result (λ stop. stop ≢ OutOfMemory) }
 {
     if bytes.len() < count {
         return Err(Stop::Left(bytes.len()));
