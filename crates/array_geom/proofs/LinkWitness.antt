@@ -103,4 +103,4 @@ abbrev array : ChunkedArray
 array = record { schema = schema; margins = record { items = 1 ∷ [] }; chunks = left ∷ right ∷ []; broken = None }
 
 pub witness : Is array (record { schema = schema; rows = Ok rows })
-witness = record { schema = refl; cells = record { whole = refl; rows_of = are_rows; each = refl; places = omega arith; chunks = chunks } }
+witness = record { schema = refl; valid = refl; margins = refl; cells = record { whole = refl; rows_of = are_rows; each = refl; places = omega arith; chunks = chunks } }

@@ -11,6 +11,7 @@ use Rattle.cell_values.specs.declared.datum.Cell.{Cell}
 use Rattle.cell_values.specs.declared.datum.Row.{Row}
 use Rattle.cell_values.specs.declared.schema.Dimension.{Dimension}
 use Rattle.cell_values.specs.declared.schema.Schema.{Schema}
+use Rattle.cell_values.specs.Schemas.{IsValid}
 use Rattle.array_rows.specs.Arrays.{AreRowsOf, Meant}
 use Rattle.array_rows.specs.Boxes.{by_pairs, within}
 use Rattle.array_rows.specs.Rows.{placed, put_all}
@@ -72,7 +73,7 @@ pub record AreChunksOf (dims : List Dimension) (margins : List ℕ) (rows : List
 
 -- ---- a chunked array
 
--- the rows of a valid schema in chunks, with a margin for each dimension and at most 2^48 places in a frame
+-- the rows of a schema in chunks, with a margin for each dimension and at most 2^48 places in a frame
 pub record HoldsRows (schema : Schema) (array : ChunkedArray) (rows : List Row) : Type 0 where
   pub whole : array.broken ≡ None
   pub rows_of : AreRowsOf schema rows
@@ -84,6 +85,9 @@ abbrev pub HoldsResult : Schema → ChunkedArray → Result (List Row) Broken �
 HoldsResult schema array (Ok rows) = HoldsRows schema array rows
 HoldsResult schema array (Err broken) = array.broken ≡ Some broken
 
+-- a valid schema, with a margin for each of its dimensions, and the rows in chunks or what broke the array
 pub record Is (array : ChunkedArray) (meant : Meant) : Type 0 where
   pub schema : array.schema ≡ meant.schema
+  pub valid : IsValid meant.schema
+  pub margins : length array.margins.items ≡ length meant.schema.dimensions
   pub cells : HoldsResult meant.schema array meant.rows
