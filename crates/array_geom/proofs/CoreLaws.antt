@@ -57,6 +57,12 @@ core_has (d ∷ dims) (x ∷ c) n e =
     let s = on_side d.lo d.hi x (is_inside (bounds_of dims) c) e in
     side _ _ x _ (record { low = first_le d.lo x d.chunk s.low; high = le_min x d.hi _ s.high (last_ge d.lo x d.chunk n.0.some s.low); rest = core_has dims c n.1 s.rest })
 
+-- the number of a chunk has as many numbers as there are dimensions
+pub length-chunk_of : (dims : List Dimension) (c : Coordinate) → is_inside (bounds_of dims) c ≡ true → length (chunk_of dims c) ≡ length dims
+length-chunk_of [] c e = refl
+length-chunk_of (d ∷ dims) [] e = absurd cc
+length-chunk_of (d ∷ dims) (x ∷ c) e = ap suc (length-chunk_of dims c (on_side d.lo d.hi x (is_inside (bounds_of dims) c) e).rest)
+
 -- and so that chunk has a core
 pub chunk_has_core : (dims : List Dimension) (c : Coordinate) → is_inside (bounds_of dims) c ≡ true → has_core dims (chunk_of dims c) ≡ true
 chunk_has_core [] c e = refl

@@ -1,11 +1,10 @@
 -- What the tests ask of their example.
-use Rattle.std.proofs.Common.{◌≡◌, ℕ, ℤ, pos, negsuc, true, List, [], ◌∷◌, refl, sym, subst, arith}
-use Rattle.cell_values.specs.declared.schema.Bounds.{Bounds}
+use Rattle.std.proofs.Common.{◌≡◌, ℕ, pos, negsuc, true, List, [], ◌∷◌, refl, sym, subst, arith}
 use Rattle.cell_values.specs.declared.schema.Schema.{Schema}
 use Rattle.cell_values.specs.Schemas.{IsValid}
 use Rattle.array_rows.specs.Rows.{Coordinate}
 use Rattle.array_rows.specs.Boxes.{corners, bounds_of, is_inside}
-use Rattle.array_geom.specs.Areas.{is_in_range, moved_by, shifted}
+use Rattle.array_geom.specs.Areas.{is_in_range, shifted}
 use Rattle.array_geom.specs.Example.{example}
 use Rattle.array_geom.specs.Geometry.{ChunkNumber, HasFrame, frame, has_core}
 

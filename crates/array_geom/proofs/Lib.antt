@@ -2,6 +2,7 @@ mod AreaLaws
 pub mod CoreLaws
 pub mod ExampleLaws
 pub mod LawProofs
+pub mod LinkLaws
 mod LinkWitness
 pub mod NearLemmas
 pub mod NumberLaws

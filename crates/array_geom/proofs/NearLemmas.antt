@@ -1,15 +1,15 @@
 -- What a valid schema gives each dimension, and a frame each of its lengths.
-use Rattle.std.proofs.Common.{◌≡◌, ℕ, suc, ◌+◌, ◌-◌, ◌*◌, ◌≤◌, ◌<◌, ◌^◌, ℤ, pos, negsuc, ◌≤ℤ◌, ◌-ℤ◌, Bool, true, ◌&&◌, List, [], ◌∷◌, length, refl, sym, ap, subst, ◌∙◌, arith}
-use Rattle.std.specs.Prelude.{unsigned_abs, int_le, nat_le}
+use Rattle.std.proofs.Common.{◌≡◌, ℕ, suc, ◌+◌, ◌-◌, ◌*◌, ◌≤◌, ◌<◌, ◌^◌, ℤ, pos, negsuc, ◌≤ℤ◌, ◌-ℤ◌, true, ◌&&◌, List, [], ◌∷◌, length, refl, sym, ap, subst, ◌∙◌, arith}
+use Rattle.std.specs.Prelude.{int_le, nat_le}
 use Rattle.std.specs.List.{list_all}
 use Rattle.std.proofs.lemmas.Int.{ints}
 use Rattle.cell_values.specs.declared.schema.Dimension.{Dimension}
 use Rattle.cell_values.specs.declared.schema.Schema.{Schema}
 use Rattle.cell_values.specs.Schemas.{is_bound, bounds_in_range, bounds_in_order, has_chunk, overlap_fits, is_dimension, has_attributes, has_dimensions, are_distinct, names_of, frame_length, frame_size, frame_fits, IsValid}
 use Rattle.array_rows.specs.Rows.{Coordinate}
-use Rattle.array_rows.specs.Boxes.{by_pairs, is_inside}
+use Rattle.array_rows.specs.Boxes.{is_inside}
 use Rattle.array_geom.specs.declared.grid.Grid.{Grid}
-use Rattle.array_geom.specs.Geometry.{ChunkNumber, first_in, last_in, has_core, frame, frame_low, frame_lengths, volume, overlaps, HasFrame}
+use Rattle.array_geom.specs.Geometry.{ChunkNumber, first_in, has_core, frame, frame_low, frame_lengths, volume, overlaps, HasFrame}
 use Rattle.array_geom.specs.Ranges.{IsNear, AreNear, AreMargins, IsLow, AreLow, AreLengths, IsGrid, is_in_grid}
 use Rattle.array_geom.proofs.TestLaws.{and_parts, at_most, le_from_test}
 use Rattle.array_geom.proofs.PlaceLaws.{frame_is_grid}

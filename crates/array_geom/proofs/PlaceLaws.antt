@@ -1,12 +1,12 @@
 -- Coordinates of a box and their places are one another's.
-use Rattle.std.proofs.Common.{◌≡◌, ℕ, suc, ◌+◌, ◌-◌, ◌*◌, ◌/◌, ◌%◌, ◌<◌, ◌≤◌, ◌^◌, ℤ, pos, ◌+ℤ◌, ◌-ℤ◌, ◌≤ℤ◌, ◌<ℤ◌, Bool, true, false, ◌&&◌, List, [], ◌∷◌, length, refl, sym, ap, ◌∙◌, arith}
+use Rattle.std.proofs.Common.{◌≡◌, ℕ, ◌+◌, ◌-◌, ◌*◌, ◌/◌, ◌%◌, ◌<◌, ◌≤◌, ℤ, pos, ◌+ℤ◌, ◌-ℤ◌, ◌≤ℤ◌, ◌<ℤ◌, Bool, true, false, ◌&&◌, List, [], ◌∷◌, length, refl, sym, ap, ◌∙◌, arith}
 use Rattle.std.specs.Prelude.{int_le, int_lt, unsigned_abs}
 use Rattle.std.proofs.lemmas.Int.{ints}
 use Rattle.std.proofs.Math.Nat.{div-eq_of_lt-le}
 use Rattle.cell_values.specs.declared.schema.Dimension.{Dimension}
 use Rattle.array_rows.specs.Rows.{Coordinate}
-use Rattle.array_rows.specs.Boxes.{is_inside, is_between}
-use Rattle.array_geom.specs.Geometry.{ChunkNumber, first_in, last_in, has_core, frame, frame_low, frame_lengths, volume, coordinate_in, position_in}
+use Rattle.array_rows.specs.Boxes.{is_inside}
+use Rattle.array_geom.specs.Geometry.{ChunkNumber, first_in, has_core, frame, frame_low, frame_lengths, volume, coordinate_in, position_in}
 use Rattle.array_geom.specs.Ranges.{AreNear, AreLengths, is_in_grid}
 use Rattle.array_geom.proofs.TestLaws.{and_parts, and_both, le_test, le_from_test, lt_test, lt_from_test}
 

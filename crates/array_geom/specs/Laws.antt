@@ -1,12 +1,15 @@
 -- Laws of boxes, cores, frames and places.
-use Rattle.std.specs.Prelude.{◌≡◌, ℕ, ◌<◌, Bool, true, ◌&&◌, List, length, IsTrue}
+use Rattle.std.specs.Prelude.{◌≡◌, ℕ, ◌<◌, ◌&&◌, List, length, IsTrue}
+use Rattle.cell_values.specs.declared.datum.Row.{Row}
 use Rattle.cell_values.specs.declared.schema.Bounds.{Bounds}
 use Rattle.cell_values.specs.declared.schema.Schema.{Schema}
 use Rattle.cell_values.specs.Schemas.{IsValid}
 use Rattle.array_rows.specs.Rows.{Coordinate}
 use Rattle.array_rows.specs.Boxes.{is_inside, meet, bounds_of}
+use Rattle.array_geom.specs.declared.chunk.ChunkedArray.{ChunkedArray}
 use Rattle.array_geom.specs.Areas.{HasDimensions, holds_some, moved_by, shifted}
 use Rattle.array_geom.specs.Geometry.{ChunkNumber, chunk_of, core, has_core, frame, frame_lengths, volume, coordinate_at, position_of, HasFrame}
+use Rattle.array_geom.specs.Link.{core_rows, HoldsRows}
 
 -- what two boxes share holds what both hold
 abbrev pub MeetHoldsBoth : Type 0
@@ -46,3 +49,11 @@ PlaceOfCoordinate = (schema : Schema) (margins : List ℕ) (k : ChunkNumber) (c 
 abbrev pub CoordinateAtPlace : Type 0
 CoordinateAtPlace = (schema : Schema) (margins : List ℕ) (k : ChunkNumber) (p : ℕ) → HasFrame schema margins k → p < volume (frame_lengths schema.dimensions margins)
     → IsTrue (is_inside (frame schema.dimensions margins k) (coordinate_at schema.dimensions margins k p)) × (position_of schema.dimensions margins k (coordinate_at schema.dimensions margins k p) ≡ p)
+
+-- the core cells of an array's chunks, put together, are its rows
+abbrev pub ChunksHaveTheirRows : Type 0
+ChunksHaveTheirRows = (schema : Schema) (array : ChunkedArray) (rows : List Row) → HoldsRows schema array rows → core_rows schema.dimensions array.margins.items array.chunks ≡ rows
+
+-- so chunks are those of one array alone
+abbrev pub ChunksHaveOneMeaning : Type 0
+ChunksHaveOneMeaning = (schema : Schema) (array : ChunkedArray) (a b : List Row) → HoldsRows schema array a → HoldsRows schema array b → a ≡ b

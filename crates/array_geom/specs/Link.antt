@@ -1,6 +1,6 @@
 -- A chunked array is an array: each chunk is the restriction of the array's rows to the chunk's frame, and there is a chunk
 -- exactly where a core holds a cell.
-use Rattle.std.specs.Prelude.{◌≡◌, ℕ, ◌<◌, ◌≤◌, ◌^◌, ℤ, Bool, true, false, List, [], ◌∷◌, length, map, Option, Some, None, Result, Ok, Err, ⊤}
+use Rattle.std.specs.Prelude.{◌≡◌, ℕ, ◌<◌, ◌≤◌, ◌^◌, ℤ, Bool, true, false, List, [], ◌∷◌, length, map, Some, None, Result, Ok, Err, ⊤}
 use Rattle.std.specs.List.{AllByRecursion, list_any}
 use Rattle.std.specs.Ordering.{nat_cmp, is_eq}
 use Rattle.std.specs.declared.cmp.Ordering.{Ordering}
@@ -13,7 +13,7 @@ use Rattle.cell_values.specs.declared.schema.Dimension.{Dimension}
 use Rattle.cell_values.specs.declared.schema.Schema.{Schema}
 use Rattle.array_rows.specs.Arrays.{AreRowsOf, Meant}
 use Rattle.array_rows.specs.Boxes.{by_pairs, within}
-use Rattle.array_rows.specs.Rows.{placed}
+use Rattle.array_rows.specs.Rows.{placed, put_all}
 use Rattle.array_geom.specs.declared.chunk.Chunk.{Chunk}
 use Rattle.array_geom.specs.declared.chunk.ChunkedArray.{ChunkedArray}
 use Rattle.array_geom.specs.Geometry.{ChunkNumber, coordinate_in, core, frame, frame_low, frame_lengths, volume}
@@ -32,6 +32,11 @@ pub record IsPart (dims : List Dimension) (margins : List ℕ) (rows : List Row)
   pub each : length chunk.cells ≡ length chunk.positions
   pub in_frame : AllByRecursion (λ p. p < volume (frame_lengths dims margins)) chunk.positions
   pub cells : chunk_rows dims margins chunk ≡ within (frame dims margins chunk.at.items) rows
+
+-- the core cells of the chunks, put together
+abbrev pub core_rows : List Dimension → List ℕ → List Chunk → List Row
+core_rows dims margins [] = []
+core_rows dims margins (chunk ∷ chunks) = put_all (within (core dims chunk.at.items) (chunk_rows dims margins chunk)) (core_rows dims margins chunks)
 
 -- ---- which chunks there are
 

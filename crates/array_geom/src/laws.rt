@@ -1,5 +1,5 @@
 //! Laws of boxes, cores, frames and places.
-ghost use Rattle.array_geom.specs.Laws.{MeetHoldsBoth, ShiftedHoldsMoved, LowestIsInside, WhatHoldsIsOrdered, CoresCover, CoresLieApart, CoreIsWithinBounds, CoreIsInFrame, PlaceOfCoordinate, CoordinateAtPlace};
+ghost use Rattle.array_geom.specs.Laws.{ChunksHaveOneMeaning, ChunksHaveTheirRows, MeetHoldsBoth, ShiftedHoldsMoved, LowestIsInside, WhatHoldsIsOrdered, CoresCover, CoresLieApart, CoreIsWithinBounds, CoreIsInFrame, PlaceOfCoordinate, CoordinateAtPlace};
 
 /// What a box holds that two boxes share, or that is moved, and which boxes hold something.
 #[tactic(auto, using(crate::proofs::LawProofs::meet_holds_both, crate::proofs::LawProofs::shifted_holds_moved, crate::proofs::LawProofs::lowest_is_inside, crate::proofs::LawProofs::what_holds_is_ordered))]
@@ -24,4 +24,11 @@ pub fn cores_are_parts()
 pub fn position_and_place_are_inverse()
     ensures place { PlaceOfCoordinate }
     ensures position { CoordinateAtPlace }
+{}
+
+/// The core cells of an array's chunks are its rows, so that chunks are those of one array alone.
+#[tactic(auto, using(crate::proofs::LinkLaws::chunks_have_their_rows, crate::proofs::LinkLaws::chunks_have_one_meaning))]
+pub fn chunks_are_one_array()
+    ensures rows { ChunksHaveTheirRows }
+    ensures one { ChunksHaveOneMeaning }
 {}

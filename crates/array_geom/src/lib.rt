@@ -13,7 +13,9 @@ pub use chunk::{Changed, Chunk, ChunkedArray};
 pub use cores::{chunk_of, chunks_meeting, core_box};
 pub use frames::{frame, grid_of, place, position};
 pub use grid::{Grid, Lengths};
-pub use laws::{boxes_hold_coordinates, cores_are_parts, position_and_place_are_inverse};
+pub use laws::{
+    boxes_hold_coordinates, chunks_are_one_array, cores_are_parts, position_and_place_are_inverse,
+};
 
 #[cfg(test)]
 mod tests;

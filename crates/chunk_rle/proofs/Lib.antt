@@ -1,4 +1,5 @@
 pub mod ChunkLaws
+pub mod ExampleLaws
 pub mod PayloadLaws
 pub mod PlaceLemmas
 pub mod PositionLaws

@@ -1,5 +1,5 @@
 -- Stored chunks are those that pass the table's tests, and so are decoded again.
-use Rattle.std.proofs.Common.{◌≡◌, ℕ, zero, suc, ◌+◌, ◌≤◌, ◌<◌, ◌^◌, ℤ, pos, negsuc, Bool, true, false, cond, ◌&&◌, ◌||◌, List, [], ◌∷◌, length, Result, Ok, Err, refl, sym, ap, subst, ◌∙◌, arith}
+use Rattle.std.proofs.Common.{◌≡◌, ℕ, suc, ◌≤◌, ◌<◌, ◌^◌, ℤ, pos, negsuc, Bool, true, false, ◌||◌, List, [], ◌∷◌, length, Result, Ok, Err, refl, sym, ap, subst, ◌∙◌, arith}
 use Rattle.std.specs.Prelude.{nat_le, nat_lt, IsTrue, FitsSigned}
 use Rattle.std.specs.Int.{w64}
 use Rattle.std.specs.List.{AllByRecursion, AllZip, list_all, list_any}
@@ -21,7 +21,7 @@ use Rattle.cell_values.specs.Table.{fits_int64}
 use Rattle.cell_values.specs.Cells.{is_of_kind, IsCellOf}
 use Rattle.cell_values.specs.Schemas.{IsValid}
 use Rattle.array_geom.specs.declared.chunk.Chunk.{Chunk}
-use Rattle.array_geom.specs.Chunks.{AreRising, IsChunk}
+use Rattle.array_geom.specs.Chunks.{AreRising}
 use Rattle.array_geom.specs.Geometry.{HasFrame, has_core, frame_lengths, overlaps, volume}
 use Rattle.array_geom.proofs.NearLemmas.{stored_frame}
 use Rattle.array_geom.proofs.TestLaws.{and_parts, and_both, at_most}

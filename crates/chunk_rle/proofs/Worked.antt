@@ -1,5 +1,5 @@
 -- Worked payloads: a chunk of two places, one attribute of numbers.
-use Rattle.std.proofs.Common.{◌≡◌, ℕ, true, List, [], ◌∷◌, ◌++◌, length, take, Option, Some, Ok, pos, refl, codes, arith}
+use Rattle.std.proofs.Common.{◌≡◌, ℕ, List, [], ◌∷◌, ◌++◌, length, take, Option, Some, Ok, pos, refl, arith}
 use Rattle.arrayvec.specs.ArrayVec.{ArrayVec}
 use Rattle.byte_items.specs.Items.{wrong_at, repeat}
 use Rattle.cell_values.specs.declared.schema.Schema.{Schema}
@@ -7,7 +7,6 @@ use Rattle.cell_values.specs.declared.datum.Datum.{Datum}
 use Rattle.cell_values.specs.declared.datum.Datum.TheVariants.{Int, Missing}
 use Rattle.cell_values.specs.declared.datum.Cell.TheVariants.{Full}
 use Rattle.cell_values.specs.declared.schema.Attribute.{Attribute}
-use Rattle.cell_values.specs.declared.schema.Kind.TheVariants.{Int64}
 use Rattle.array_geom.specs.declared.chunk.Chunk.{Chunk}
 use Rattle.chunk_rle.specs.Frames.{all_from, any_from, frame_of, is_held, Frame}
 use Rattle.chunk_rle.specs.Example.{example}

@@ -1,6 +1,4 @@
-ghost use Rattle.std.specs.Prelude.{◌≡◌, [], ◌∷◌, IfOk, IsTrue};
-ghost use Rattle.cell_values.specs.Schemas.{IsValid};
-ghost use Rattle.array_geom.specs.Geometry.{has_core};
+ghost use Rattle.std.specs.Prelude.{◌≡◌, [], ◌∷◌, IfOk};
 ghost use Rattle.chunk_rle.specs.Example.{example};
 
 use super::*;
@@ -90,7 +88,10 @@ fn joined(alloc: Global, front: &[u8], behind: &[u8]) -> Result<Bytes, Memory> {
 
 fn decoded(alloc: Global, bytes: &[u8]) -> Result<Chunk, BadPayload> {
     match schema(alloc) {
-        Ok(schema) => decode(alloc, &schema, &first(), bytes),
+        Ok(schema) => {
+            let at = first();
+            decode(alloc, &schema, &at, bytes)
+        }
         Err(Memory) => Err(BadPayload::Memory),
     }
 }

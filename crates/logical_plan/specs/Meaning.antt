@@ -7,6 +7,7 @@ use Rattle.cell_values.specs.declared.datum.Broken.{Broken}
 use Rattle.cell_values.specs.declared.schema.Dimension.{Dimension}
 use Rattle.cell_values.specs.declared.schema.Schema.{Schema}
 use Rattle.array_rows.specs.Rows.{Coordinate, placed}
+pub use Rattle.array_rows.specs.Arrays.{Meant}
 use Rattle.array_rows.specs.Boxes.{within, meet, bounds_of}
 use Rattle.expr_nulls.specs.Expr.{Expr}
 use Rattle.expr_nulls.specs.ExprValue.{value_of}
@@ -50,11 +51,6 @@ abbrev pub built_rows : Schema → Expr → List Row
 built_rows schema e = fit_rows schema.attributes (map (λ c. placed c (Full (value_of e c [] ∷ []))) (coordinates schema.dimensions))
 
 -- ---- arrays
-
--- an array: its schema, and its rows, or where and why it is broken
-pub record Meant : Type 0 where
-  pub schema : Schema
-  pub rows : Result (List Row) Broken
 
 -- an array that is not broken
 abbrev pub whole : Schema → List Row → Meant

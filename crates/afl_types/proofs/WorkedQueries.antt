@@ -1,0 +1,99 @@
+-- Worked examples of queries, over an array `A` with versions 1 and 2 and an array `E` without versions.
+use Rattle.std.proofs.Common.{◌≡◌, ℕ, pos, true, false, Some, None, Ok, List, [], ◌∷◌, refl}
+use Rattle.std.specs.Prelude.{codes}
+use Rattle.cell_values.specs.declared.name.Span.{Span}
+use Rattle.cell_values.specs.declared.schema.Kind.TheVariants.{Int64}
+use Rattle.cell_values.specs.declared.schema.Schema.{Schema}
+use Rattle.schema_grammar.specs.declared.kinds.TypeKind.TheVariants.{UnknownArray, UnknownVersion, UnknownName, WrongType, WrongCount, NotBounded, BoundsOrder}
+use Rattle.schema_grammar.specs.declared.shape_text.SchemaText.{SchemaText}
+use Rattle.schema_grammar.specs.declared.shape_text.AttrText.{AttrText}
+use Rattle.schema_grammar.specs.declared.shape_text.DimText.{DimText}
+use Rattle.afl_parser.specs.Term.{Term, number, text, truth, reference, version, call, schema, star, binary, group, no_terms, and_term}
+use Rattle.afl_parser.specs.declared.tree.BinaryOp.TheVariants.{Mul}
+use Rattle.expr_nulls.specs.Expr.{dimension_value, calculation}
+use Rattle.expr_nulls.specs.declared.expr.ArithOp.TheVariants as arith_op
+use Rattle.logical_plan.specs.Query.{Query, built, scanned}
+use Rattle.logical_plan.specs.declared.names.NameEntry.{NameEntry}
+use Rattle.schema_grammar.specs.Rules.{schema_of}
+use Rattle.afl_types.specs.Checked.{refused}
+use Rattle.afl_types.specs.Operators.{query_named, change_named}
+use Rattle.afl_types.specs.Queries.{leaf_of, query_of}
+
+at : ℕ → ℕ → Span
+at a b = record { start = a; end = b }
+
+-- <v:int64>[i=LO:HI,2,0], behind `build(`
+written : ℕ → ℕ → SchemaText
+written lo hi = record {
+  attributes = record { name = codes "v"; name_span = at 7 8; word = codes "int64"; word_span = at 9 14; nullable = true } ∷ [];
+  dimensions = record { name = codes "i"; name_span = at 16 17; lo = pos lo; lo_span = at 18 19; hi = pos hi; hi_span = at 20 21; chunk = 2; chunk_span = at 22 23; overlap = 0; overlap_span = at 24 25 } ∷ [];
+  brackets = at 15 26;
+}
+
+entry : List ℕ → List ℕ → NameEntry
+entry name versions = record { name = name; schema = schema_of (written 0 1); next = 3; versions = versions }
+
+arrays : List NameEntry
+arrays = entry (codes "A") (1 ∷ 2 ∷ []) ∷ entry (codes "E") [] ∷ []
+
+-- A: the newest version
+newest_one : query_of arrays (reference (at 0 1) (codes "A")) ≡ Ok (leaf_of (entry (codes "A") (1 ∷ 2 ∷ [])) 2)
+unfolding at written entry arrays
+newest_one = refl
+
+-- (E): no version yet
+none_yet : query_of arrays (group (at 0 3) (reference (at 1 2) (codes "E"))) ≡ Ok (leaf_of (entry (codes "E") []) 0)
+unfolding at written entry arrays
+none_yet = refl
+
+-- A@1
+older_one : query_of arrays (version (at 0 3) (codes "A") (pos 1)) ≡ Ok (leaf_of (entry (codes "A") (1 ∷ 2 ∷ [])) 1)
+unfolding at written entry arrays
+older_one = refl
+
+-- A@3
+no_version : query_of arrays (version (at 0 3) (codes "A") (pos 3)) ≡ refused (at 0 3) UnknownVersion
+unfolding at written entry arrays
+no_version = refl
+
+-- scan(Q)
+no_array : query_of arrays (call (at 0 7) (codes "scan") (and_term (reference (at 5 6) (codes "Q")) no_terms)) ≡ refused (at 5 6) UnknownArray
+unfolding at written entry arrays query_named change_named
+no_array = refl
+
+-- filter(A): no operator that is built yet
+not_yet : query_of arrays (call (at 0 9) (codes "filter") (and_term (reference (at 7 8) (codes "A")) no_terms)) ≡ refused (at 0 6) UnknownName
+unfolding at written entry arrays query_named change_named
+not_yet = refl
+
+-- ((1)): a fault of a bracketed query is at its content
+no_query : query_of arrays (group (at 0 5) (group (at 1 4) (number (at 2 3) (pos 1)))) ≡ refused (at 2 3) WrongType
+unfolding at written entry arrays
+no_query = refl
+
+-- build(*): the number of arguments comes before their sorts
+count_first : query_of arrays (call (at 0 8) (codes "build") (and_term (star (at 6 7)) no_terms)) ≡ refused (at 0 8) WrongCount
+unfolding at written entry arrays query_named change_named
+count_first = refl
+
+-- build(<v:int64>[i=3:0,2,0], *): sorts come before the rules of the schema
+sorts_first : query_of arrays (call (at 0 30) (codes "build") (and_term (schema (at 6 26) (written 3 0)) (and_term (star (at 28 29)) no_terms))) ≡ refused (at 28 29) WrongType
+unfolding at written entry arrays query_named change_named
+sorts_first = refl
+
+-- build(<v:int64>[i=3:0,2,0], j): the rules of the schema come before the expression
+schema_first : query_of arrays (call (at 0 30) (codes "build") (and_term (schema (at 6 26) (written 3 0)) (and_term (reference (at 28 29) (codes "j")) no_terms))) ≡ refused (at 20 21) BoundsOrder
+unfolding at written entry arrays query_named change_named
+schema_first = refl
+
+-- build(<v:int64>[i=0:1,2,0], i*i)
+squares : query_of arrays (call (at 0 32) (codes "build") (and_term (schema (at 6 26) (written 0 1)) (and_term (binary (at 28 31) Mul (reference (at 28 29) (codes "i")) (reference (at 30 31) (codes "i"))) no_terms)))
+    ≡ Ok (built (schema_of (written 0 1)) (calculation arith_op.Mul (dimension_value 0) (dimension_value 0)))
+unfolding at written entry arrays query_named change_named
+squares = refl
+
+-- build(<v:int64>[i=0:1,2,0], i*i, true): behind an expression that is no text, `true` is of the wrong sort
+no_literal : query_of arrays (call (at 0 38) (codes "build") (and_term (schema (at 6 26) (written 0 1)) (and_term (binary (at 28 31) Mul (reference (at 28 29) (codes "i")) (reference (at 30 31) (codes "i"))) (and_term (truth (at 33 37) true) no_terms))))
+    ≡ refused (at 33 37) WrongType
+unfolding at written entry arrays query_named change_named
+no_literal = refl

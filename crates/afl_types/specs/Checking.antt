@@ -1,0 +1,12 @@
+-- Checking: what a statement's tree is, over the stored arrays, or the first rule that it breaks.
+use Rattle.std.specs.Prelude.{Ok}
+use Rattle.afl_parser.specs.Term.{Term}
+use Rattle.logical_plan.specs.Query.{Query}
+use Rattle.logical_plan.specs.declared.names.Names.{Names}
+use Rattle.afl_types.specs.Checked.{Checked, then}
+use Rattle.afl_types.specs.Queries.{query_of}
+use Rattle.afl_types.specs.declared.checking.Typed.{Typed}
+use Rattle.afl_types.specs.declared.checking.Typed.TheVariants.{Query as AQuery}
+
+abbrev pub check_of : Term → Names → Checked Typed
+check_of tree names = then (query_of names.arrays tree) (λ query. Ok (AQuery query))
