@@ -1,6 +1,7 @@
-pub mod Arguments
-pub mod Cells
+pub mod BuiltRows
+pub mod Calls
 pub mod Ending
+pub mod Faults
 pub mod Outcomes
 pub mod Reports
 pub mod ServingLemmas

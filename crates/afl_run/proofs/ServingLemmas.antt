@@ -10,7 +10,7 @@ use Rattle.afl_outside.proofs.Streams.{Takes-more}
 use Rattle.afl_run.specs.Reply.{memory_line}
 use Rattle.afl_run.specs.Session.{AreAnswered, IsAnswered, IsReplyToStatement}
 use Rattle.afl_run.specs.Serving.{HasAnswered, HasStopped, mark_at, statement_at}
-use Rattle.afl_run.specs.declared.reply.Refusal.TheVariants as refusals
+use Rattle.result_print.specs.declared.refusal.Refusal.TheVariants as refusals
 use Rattle.afl_run.specs.declared.reply.Reply.{Reply}
 use Rattle.afl_run.specs.declared.report.Mark.{Mark}
 use Rattle.afl_run.specs.declared.streams.Stopped.{Stopped}

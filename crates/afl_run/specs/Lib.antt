@@ -1,9 +1,8 @@
-pub mod Built
-pub mod ExprValue
-pub mod FirstForm
 pub mod Notice
 pub mod Reply
+pub mod Rows
 pub mod Run
 pub mod Serving
 pub mod Session
+pub mod Unbuilt
 pub mod Words

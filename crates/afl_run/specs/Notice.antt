@@ -2,8 +2,8 @@
 use Rattle.std.specs.Prelude.{ℕ, Bool, true, false, List, [], ◌++◌, codes, Option, None, Some}
 use Rattle.std.specs.List.{list_any}
 use Rattle.std.specs.Fmt.{decimal}
-use Rattle.afl_run.specs.declared.reply.Refusal.{Refusal}
-use Rattle.afl_run.specs.declared.reply.Refusal.TheVariants as refusals
+use Rattle.result_print.specs.declared.refusal.Refusal.{Refusal}
+use Rattle.result_print.specs.declared.refusal.Refusal.TheVariants as refusals
 use Rattle.afl_run.specs.declared.report.Mark.{Mark}
 use Rattle.afl_run.specs.declared.report.SessionEnd.{SessionEnd}
 use Rattle.afl_run.specs.declared.report.SessionEnd.TheVariants as ends

@@ -5,7 +5,7 @@ use Rattle.afl_lexer.specs.Standing.{Splitting, StandsAfter}
 use Rattle.afl_outside.specs.Counts.{Rose}
 use Rattle.afl_outside.specs.Sink.{SinkState, Takes}
 use Rattle.afl_run.specs.Session.{AnswersAll, AnswersFront, Replies}
-use Rattle.afl_run.specs.declared.reply.Refusal.{Refusal}
+use Rattle.result_print.specs.declared.refusal.Refusal.{Refusal}
 use Rattle.afl_run.specs.declared.report.Mark.{Mark}
 use Rattle.afl_run.specs.declared.streams.Stopped.{Stopped}
 use Rattle.afl_run.specs.declared.streams.Stopped.TheVariants.{Fault}

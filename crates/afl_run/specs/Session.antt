@@ -12,7 +12,7 @@ use Rattle.afl_outside.specs.Counts.{Rose}
 use Rattle.afl_outside.specs.Source.{SourceState, Gives}
 use Rattle.afl_outside.specs.Sink.{SinkState, Takes}
 use Rattle.afl_run.specs.Reply.{IsReplyTo, memory_line, too_long}
-use Rattle.afl_run.specs.declared.reply.Refusal.TheVariants.{Memory}
+use Rattle.result_print.specs.declared.refusal.Refusal.TheVariants.{Memory}
 use Rattle.afl_run.specs.declared.reply.Reply.{Reply}
 use Rattle.afl_run.specs.declared.report.Mark.{Mark}
 use Rattle.afl_run.specs.declared.report.SessionEnd.{SessionEnd}

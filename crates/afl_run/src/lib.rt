@@ -2,18 +2,18 @@
 #![tactic(auto)]
 
 mod arg;
-mod first;
 mod reply;
 mod report;
+mod rows;
 mod session;
 mod streams;
 #[cfg(test)]
 mod tests;
 mod top;
-mod value;
+mod unbuilt;
 
 pub use arg::Arg;
-pub use reply::Refusal;
 pub use report::{Mark, Notice, Report, SessionEnd, SessionReport, notice_line};
+pub use result_print::Refusal;
 pub use session::serve;
 pub use top::run;

@@ -3,10 +3,10 @@ ghost use Rattle.std.specs.Prelude.{◌≡◌, ◌++◌, IfOk, codes};
 ghost use Rattle.std.specs.Fmt.{decimal};
 ghost use Rattle.afl_run.specs.Notice.{line_of_notice};
 
-use crate::reply::Refusal;
 use afl_outside::Shelf;
 use cell_values::{Bytes, List, Memory};
 use itoa::Buffer;
+use result_print::Refusal;
 use std::alloc::Global;
 
 /// What became of a statement.

@@ -6,12 +6,13 @@ ghost use Rattle.afl_outside.specs.Sink.{SinkState};
 ghost use Rattle.afl_run.specs.Serving.{EndsServing, HasAnswered, HasStopped, IsServing, StopsWithin, end_of, mark_at, statement_at};
 ghost use Rattle.afl_run.specs.Session.{IsReplyToStatement, Serves};
 
-use crate::reply::{Refusal, Reply, refuse_length, reply_to};
+use crate::reply::{Reply, refuse, reply_to};
 use crate::report::{Mark, SessionEnd, SessionReport};
 use crate::streams::{Stopped, write_whole};
 use afl_lexer::{SplitStep, Splitter};
 use afl_outside::{Failed, Sink, Source};
 use cell_values::{List, Memory};
+use result_print::Refusal;
 use std::alloc::Global;
 
 /// How many bytes are read at a time.
@@ -33,7 +34,10 @@ fn answer(alloc: Global, start: u64, end: u64, text: Option<&[u8]>) -> Result<Re
 {
     match text {
         Some(text) => reply_to(alloc, text),
-        None => refuse_length(alloc, end.saturating_sub(start)),
+        None => {
+            let bytes = end.saturating_sub(start);
+            refuse(alloc, Refusal::TooLong { bytes })
+        }
     }
 }
 

@@ -10,12 +10,12 @@ ghost use Rattle.afl_run.specs.Run.{IsOpenedAs, IsUnopened, Only, Prints, standa
 ghost use Rattle.afl_run.specs.Words.{wrong_word};
 
 use crate::arg::{Arg, wrong_place};
-use crate::reply::Refusal;
 use crate::report::{Mark, Notice, Report, SessionEnd, SessionReport};
 use crate::session::serve;
 use afl_lexer::Splitter;
 use afl_outside::{Failed, Gate, Shelf, has_risen};
 use cell_values::{List, Memory};
+use result_print::Refusal;
 use std::alloc::Global;
 
 /// Runs what the words say: `try` answers the script that the shelf opens as `-` on the reply that it opens as `-`.
@@ -189,6 +189,7 @@ fn is_refused(mark: &Mark) -> bool
             Refusal::TooLong { .. }
             | Refusal::Parse { .. }
             | Refusal::NotBuilt
+            | Refusal::Typing { .. }
             | Refusal::Cell { .. },
         ) => true,
     }

@@ -1,12 +1,11 @@
 -- Expressions, and their values at some cells.
-use Rattle.std.proofs.Common.{◌≡◌, refl, ℕ, ℤ, pos, negsuc, Bool, true, false, ◌||◌, List, [], ◌∷◌, map, codes}
+use Rattle.std.proofs.Common.{◌≡◌, refl, ℕ, pos, negsuc, Bool, true, false, List, [], ◌∷◌, map, codes}
 use Rattle.cell_values.specs.declared.datum.Datum.{Datum}
 use Rattle.cell_values.specs.declared.datum.Datum.TheVariants.{Null, Missing, Int, Text, Truth, Bad}
 use Rattle.cell_values.specs.declared.datum.FaultKind.TheVariants.{Overflow, DivideByZero, OutOfBounds}
 use Rattle.cell_values.specs.declared.datum.CompareOp.TheVariants.{Equal, Less, More}
-use Rattle.cell_values.specs.declared.schema.Kind.{Kind}
 use Rattle.cell_values.specs.declared.schema.Kind.TheVariants.{Int64, Str, Bool as Truths}
-use Rattle.expr_nulls.specs.declared.expr.ArithOp.TheVariants.{Add, Sub, Mul, Div, Rem}
+use Rattle.expr_nulls.specs.declared.expr.ArithOp.TheVariants.{Add, Sub, Div, Rem}
 use Rattle.expr_nulls.specs.Expr.{Expr, literal, attribute_value, dimension_value, minus, denial, calculation, relation, conjunction, disjunction, conditional, null_test, byte_length, decimal_text, coded_null, null_code}
 use Rattle.expr_nulls.specs.ExprValue.{value_of}
 use Rattle.expr_nulls.specs.Typing.{has_kind}

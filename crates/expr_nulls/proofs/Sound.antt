@@ -1,6 +1,6 @@
 -- A typed expression has a value of its kind.
-use Rattle.std.proofs.Common.{◌≡◌, ℕ, zero, suc, ◌+◌, ◌<◌, ◌≤◌, ◌^◌, Bool, true, false, ◌&&◌, ◌||◌, List, [], ◌∷◌, ◌++◌, length, refl, sym, ap, subst, ◌∙◌, arith, slice_get, slice_index_or, Some, None, length-append}
-use Rattle.std.specs.Prelude.{ℤ, pos, negsuc, neg_ℤ, ◌+ℤ◌, ◌-ℤ◌, ◌*ℤ◌, int_div, int_rem, if◌then◌else◌, nat_le, nat_lt, IsTrue, ⊤, Option, unwrap_or, option_map}
+use Rattle.std.proofs.Common.{◌≡◌, ℕ, zero, suc, ◌+◌, ◌<◌, ◌≤◌, Bool, true, false, ◌&&◌, ◌||◌, List, [], ◌∷◌, ◌++◌, length, refl, ap, ◌∙◌, arith, slice_get, slice_index_or, length-append}
+use Rattle.std.specs.Prelude.{ℤ, pos, negsuc, neg_ℤ, ◌+ℤ◌, ◌-ℤ◌, ◌*ℤ◌, int_div, int_rem, if◌then◌else◌, nat_le, nat_lt, IsTrue}
 use Rattle.std.specs.List.{list_all, AllZip}
 use Rattle.std.specs.Ordering.{int_eq}
 use Rattle.std.specs.Fmt.{decimal, signed_decimal}
@@ -16,7 +16,7 @@ use Rattle.cell_values.specs.declared.datum.CompareOp.{CompareOp}
 use Rattle.cell_values.specs.declared.schema.Kind.{Kind}
 use Rattle.cell_values.specs.declared.schema.Kind.TheVariants.{Int64, Str, Bool as Truths}
 use Rattle.cell_values.specs.Cells.{is_of_kind}
-use Rattle.cell_values.specs.Table.{strictly, on_value, fits_int64, exact, on_numbers, divided, difference, product, quotient, remainder, negated, negation, joined, added, total, compared, comparison, both_of, either_of, flipped, opposite, chosen, nullness, null_of_code, null_of, made_null, missing_of, reason_of, byte_count, text_length, in_digits, text_of}
+use Rattle.cell_values.specs.Table.{strictly, on_value, fits_int64, exact, on_numbers, divided, negated, negation, joined, added, compared, comparison, both_of, either_of, flipped, opposite, chosen, nullness, null_of_code, made_null, reason_of, byte_count, text_length, in_digits, text_of}
 use Rattle.expr_nulls.specs.declared.expr.ArithOp.{ArithOp}
 use Rattle.expr_nulls.specs.declared.expr.ArithOp.TheVariants.{Add, Sub, Mul, Div, Rem}
 use Rattle.expr_nulls.specs.Expr.{Expr, literal, attribute_value, dimension_value, minus, denial, calculation, relation, conjunction, disjunction, conditional, null_test, byte_length, decimal_text, coded_null, null_code}

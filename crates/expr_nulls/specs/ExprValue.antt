@@ -1,6 +1,6 @@
 -- The value of an expression at a cell: each form's rule of the table of values, over the values of its operands. An operand that
 -- the rule does not look at has no influence.
-use Rattle.std.specs.Prelude.{ℕ, ℤ, List, [], ◌∷◌, slice_get, slice_index_or, option_map, unwrap_or}
+use Rattle.std.specs.Prelude.{ℕ, ℤ, List, slice_get, slice_index_or, option_map, unwrap_or}
 use Rattle.cell_values.specs.declared.datum.Datum.{Datum}
 use Rattle.cell_values.specs.declared.datum.Datum.TheVariants.{Null, Int}
 use Rattle.cell_values.specs.Table.{total, difference, product, quotient, remainder, negation, comparison, both_of, either_of, opposite, chosen, nullness, text_length, text_of, missing_of, reason_of}

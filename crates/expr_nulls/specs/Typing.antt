@@ -1,5 +1,5 @@
 -- When an expression is of a kind. A null of any code and a made null are of every kind.
-use Rattle.std.specs.Prelude.{ℕ, ℤ, Bool, true, false, ◌&&◌, ◌||◌, nat_lt, List, [], ◌∷◌, length, slice_get, Option, Some, None, IsTrue}
+use Rattle.std.specs.Prelude.{ℕ, ℤ, Bool, true, false, ◌&&◌, ◌||◌, nat_lt, List, length, slice_get, Option, Some, None, IsTrue}
 use Rattle.std.specs.List.{list_all, AllZip}
 use Rattle.cell_values.specs.declared.datum.Datum.{Datum}
 use Rattle.cell_values.specs.declared.datum.CompareOp.{CompareOp}
