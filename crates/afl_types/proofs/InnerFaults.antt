@@ -1,5 +1,5 @@
 -- Faults within operands come first.
-use Rattle.std.proofs.Common.{◌≡◌, ap, ◌∙◌}
+use Rattle.std.proofs.Common.{ap, ◌∙◌}
 use Rattle.afl_types.specs.Checked.{Checked, then}
 use Rattle.afl_types.specs.Expressions.{combined, typed}
 use Rattle.afl_types.specs.Laws.{InnerFaultsFirst}

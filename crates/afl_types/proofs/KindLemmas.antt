@@ -1,5 +1,5 @@
 -- A typed expression is of each kind that it fits.
-use Rattle.std.proofs.Common.{◌≡◌, ◌⊎◌, inl, inr, ℕ, ◌<◌, ◌≤◌, Bool, true, false, ◌&&◌, ◌||◌, IsTrue, Option, Some, None, Ok, Err, List, [], ◌∷◌, length, map, refl, sym, ap, subst, ◌∙◌, arith}
+use Rattle.std.proofs.Common.{◌≡◌, ◌⊎◌, inl, inr, ℕ, ◌<◌, ◌≤◌, Bool, true, false, ◌&&◌, ◌||◌, IsTrue, Option, Some, None, Ok, Err, List, [], ◌∷◌, length, map, refl, sym, ap, subst, arith}
 use Rattle.std.specs.Prelude.{slice_get, position, nat_lt, get_or}
 use Rattle.std.specs.Option.{option_map}
 use Rattle.std.specs.Str.{bytes_eq}
@@ -20,12 +20,12 @@ use Rattle.schema_grammar.specs.declared.kinds.TypeKind.TheVariants.{WrongType}
 use Rattle.afl_parser.specs.Term.{Term, create, number, text, truth, null, missing, reference, version, call, schema, star, renamed, opposite, negative, binary, group, Terms, no_terms, and_term}
 use Rattle.afl_parser.specs.declared.tree.BinaryOp.{BinaryOp}
 use Rattle.afl_parser.specs.declared.tree.BinaryOp.TheVariants.{Or, And, Equal, Differs, Less, AtMost, More, AtLeast, Add, Sub, Mul, Div, Rem}
-use Rattle.expr_nulls.specs.Expr.{Expr, literal, attribute_value, dimension_value, minus, denial, calculation, relation, conjunction, disjunction, conditional, null_test, byte_length, decimal_text, coded_null, null_code}
+use Rattle.expr_nulls.specs.Expr.{Expr, literal, calculation, relation}
 use Rattle.expr_nulls.specs.Typing.{same_kind, calculates, compares, has_kind, is_kind_at}
 use Rattle.expr_nulls.specs.declared.expr.ArithOp.{ArithOp}
 use Rattle.expr_nulls.specs.declared.expr.ArithOp.TheVariants as arith_op
 use Rattle.afl_types.specs.Checked.{Checked, demand, then}
-use Rattle.afl_types.specs.Expressions.{operand, fits, fits_beside, is_ordered, is_text, kind_if, sum_kind, common_kind, kind_at, attribute_place, dimension_place, by_place, named, negated, denied, calculated, equated, ranked, conjoined, disjoined, combined, chosen, applied, bracketed, typed, typed_call}
+use Rattle.afl_types.specs.Expressions.{fits, fits_beside, is_ordered, is_text, kind_if, sum_kind, common_kind, kind_at, attribute_place, dimension_place, by_place, named, negated, denied, calculated, equated, ranked, conjoined, disjoined, combined, chosen, applied, bracketed, typed, typed_call}
 use Rattle.afl_types.specs.Operators.{operator_named, form_named}
 use Rattle.afl_types.specs.Laws.{leaves_fit, all_leaves_fit, HasItsKinds, TypedHaveKinds}
 use Rattle.afl_types.specs.declared.operand.Operand.{Operand}

@@ -1,12 +1,9 @@
 -- What spells a literal is read as it.
-use Rattle.std.proofs.Common.{◌≡◌, ◌⊎◌, inl, inr, ℤ, Bool, true, false, Some, List, [], ◌∷◌, ◌++◌, refl, sym, ap, ◌∙◌, append_assoc}
-use Rattle.cell_values.specs.Table.{negation}
+use Rattle.std.proofs.Common.{◌≡◌, inl, inr, Bool, true, false, Some, List, [], ◌∷◌, ◌++◌, sym, ap, ◌∙◌, append_assoc}
 use Rattle.cell_values.specs.declared.datum.Datum.{Datum}
-use Rattle.cell_values.specs.declared.datum.Datum.TheVariants.{Int}
-use Rattle.afl_lexer.specs.declared.token.Symbol.TheVariants.{LeftParen, RightParen, LeftBracket, RightBracket, Comma, Minus}
+use Rattle.afl_lexer.specs.declared.token.Symbol.TheVariants.{RightParen, RightBracket, Comma}
 use Rattle.afl_types.specs.declared.literal.Mark.{Mark}
-use Rattle.afl_types.specs.declared.literal.Mark.TheVariants.{Value, Symbol}
-use Rattle.afl_types.specs.declared.literal.Place.{Place}
+use Rattle.afl_types.specs.declared.literal.Mark.TheVariants.{Symbol}
 use Rattle.afl_types.specs.declared.literal.Place.TheVariants.{Start, First, Next, Opened, Further, Valued, Ended}
 use Rattle.afl_types.specs.Literals.{SpellsValue, SpellsValues, SpellsElement, SpellsElements, SpellsLiteral, begun, read_marks}
 

@@ -1,11 +1,11 @@
 -- What is read as a literal spells it.
-use Rattle.std.proofs.Common.{◌≡◌, ◌⊎◌, inl, inr, ℤ, Bool, true, false, IsTrue, Some, None, List, [], ◌∷◌, ◌++◌, refl, sym, ap, subst, ◌∙◌, append_assoc, append-nil}
+use Rattle.std.proofs.Common.{◌≡◌, ◌⊎◌, inl, inr, ℤ, Bool, true, false, Some, List, [], ◌∷◌, ◌++◌, refl, sym, ap, subst, ◌∙◌, append_assoc, append-nil}
 use Rattle.cell_values.specs.Table.{negation}
 use Rattle.cell_values.specs.declared.datum.Datum.{Datum}
 use Rattle.cell_values.specs.declared.datum.Datum.TheVariants.{Int}
 use Rattle.afl_lexer.specs.declared.token.Symbol.TheVariants.{LeftParen, RightParen, LeftBracket, RightBracket, Comma, Minus}
 use Rattle.afl_types.specs.declared.literal.Mark.{Mark}
-use Rattle.afl_types.specs.declared.literal.Mark.TheVariants.{Value, Symbol, Other}
+use Rattle.afl_types.specs.declared.literal.Mark.TheVariants.{Value, Symbol}
 use Rattle.afl_types.specs.declared.literal.Place.{Place}
 use Rattle.afl_types.specs.declared.literal.Place.TheVariants.{Start, First, Next, Negative, Opened, Further, Signed, Valued, Ended, Closed}
 use Rattle.afl_types.specs.Literals.{SpellsValue, SpellsValues, SpellsElement, SpellsElements, SpellsLiteral, begun, read_marks}

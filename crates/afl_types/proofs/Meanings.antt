@@ -1,7 +1,7 @@
 -- What the rules of schemas answer.
 use Rattle.std.proofs.Common.{◌≡◌, Ok, Err, sym, ap, ◌∙◌}
 use Rattle.cell_values.specs.declared.schema.Schema.{Schema}
-use Rattle.schema_grammar.specs.Rules.{first_broken, rules, schema_of, Means}
+use Rattle.schema_grammar.specs.Rules.{rules, schema_of, Means}
 use Rattle.schema_grammar.specs.declared.shape_text.SchemaText.{SchemaText}
 use Rattle.schema_grammar.specs.declared.kinds.SchemaFault.{SchemaFault}
 use Rattle.schema_grammar.specs.declared.kinds.SchemaFault.TheVariants as schema_fault

@@ -1,5 +1,5 @@
 -- The reader of literals, from token to token.
-use Rattle.std.proofs.Common.{◌≡◌, ℕ, suc, ◌+◌, ◌<◌, Bool, List, [], ◌∷◌, length, map, drop, slice_index_or, Option, None, refl, sym, ap, ◌∙◌, arith}
+use Rattle.std.proofs.Common.{◌≡◌, ℕ, suc, ◌+◌, ◌<◌, Bool, List, length, map, drop, slice_index_or, Option, ap, ◌∙◌, arith}
 use Rattle.std.proofs.Math.Seq.{drop-cons}
 use Rattle.cell_values.specs.declared.datum.Datum.{Datum}
 use Rattle.afl_lexer.specs.declared.token.Token.{Token}

@@ -1,18 +1,14 @@
 -- Worked examples of queries, over an array `A` with versions 1 and 2 and an array `E` without versions.
-use Rattle.std.proofs.Common.{◌≡◌, ℕ, pos, true, false, Some, None, Ok, List, [], ◌∷◌, refl}
+use Rattle.std.proofs.Common.{◌≡◌, ℕ, pos, true, Ok, List, [], ◌∷◌, refl}
 use Rattle.std.specs.Prelude.{codes}
 use Rattle.cell_values.specs.declared.name.Span.{Span}
-use Rattle.cell_values.specs.declared.schema.Kind.TheVariants.{Int64}
-use Rattle.cell_values.specs.declared.schema.Schema.{Schema}
-use Rattle.schema_grammar.specs.declared.kinds.TypeKind.TheVariants.{UnknownArray, UnknownVersion, UnknownName, WrongType, WrongCount, NotBounded, BoundsOrder}
+use Rattle.schema_grammar.specs.declared.kinds.TypeKind.TheVariants.{UnknownArray, UnknownVersion, UnknownName, WrongType, WrongCount, BoundsOrder}
 use Rattle.schema_grammar.specs.declared.shape_text.SchemaText.{SchemaText}
-use Rattle.schema_grammar.specs.declared.shape_text.AttrText.{AttrText}
-use Rattle.schema_grammar.specs.declared.shape_text.DimText.{DimText}
-use Rattle.afl_parser.specs.Term.{Term, number, text, truth, reference, version, call, schema, star, binary, group, no_terms, and_term}
+use Rattle.afl_parser.specs.Term.{number, truth, reference, version, call, schema, star, binary, group, no_terms, and_term}
 use Rattle.afl_parser.specs.declared.tree.BinaryOp.TheVariants.{Mul}
 use Rattle.expr_nulls.specs.Expr.{dimension_value, calculation}
 use Rattle.expr_nulls.specs.declared.expr.ArithOp.TheVariants as arith_op
-use Rattle.logical_plan.specs.Query.{Query, built, scanned}
+use Rattle.logical_plan.specs.Query.{built}
 use Rattle.logical_plan.specs.declared.names.NameEntry.{NameEntry}
 use Rattle.schema_grammar.specs.Rules.{schema_of}
 use Rattle.afl_types.specs.Checked.{refused}

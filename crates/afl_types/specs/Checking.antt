@@ -1,7 +1,6 @@
 -- Checking: what a statement's tree is, over the stored arrays, or the first rule that it breaks.
 use Rattle.std.specs.Prelude.{Ok}
 use Rattle.afl_parser.specs.Term.{Term}
-use Rattle.logical_plan.specs.Query.{Query}
 use Rattle.logical_plan.specs.declared.names.Names.{Names}
 use Rattle.afl_types.specs.Checked.{Checked, then}
 use Rattle.afl_types.specs.Queries.{query_of}

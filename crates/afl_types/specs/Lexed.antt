@@ -1,7 +1,6 @@
 -- The tokens of a text as one value.
 use Rattle.std.specs.Prelude.{ℕ, zero, suc, ◌+◌, ◌==◌, if◌then◌else◌, Option, Some, None, List, [], ◌∷◌, length, drop, map}
 use Rattle.std.specs.Option.{option_map}
-use Rattle.cell_values.specs.declared.name.Span.{Span}
 use Rattle.afl_lexer.specs.Lexemes.{Lexeme, lexeme_of}
 use Rattle.afl_lexer.specs.Scan.{gap_len, reading_of}
 use Rattle.afl_lexer.specs.declared.token.Token.{Token}

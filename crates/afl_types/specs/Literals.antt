@@ -3,11 +3,11 @@
 --     element := ( ) | ( value { , value } ) | value          the last one only with one attribute
 --     value := [ - ] number | text | true | false | null | code
 -- An element without a value leaves its place empty.
-use Rattle.std.specs.Prelude.{◌≡◌, ◌⊎◌, ℕ, ℤ, Bool, true, false, ◌&&◌, ◌==◌, nat_le, if◌then◌else◌, IsTrue, Option, Some, None, List, [], ◌∷◌, ◌++◌, length, map}
+use Rattle.std.specs.Prelude.{◌≡◌, ◌⊎◌, ℕ, ℤ, Bool, true, false, ◌==◌, nat_le, if◌then◌else◌, IsTrue, Option, Some, None, List, [], ◌∷◌, ◌++◌, length, map}
 use Rattle.cell_values.specs.Table.{negation}
 use Rattle.cell_values.specs.declared.datum.Datum.{Datum}
 use Rattle.cell_values.specs.declared.datum.Datum.TheVariants.{Null, Missing, Int, Text, Truth}
-use Rattle.afl_lexer.specs.Lexemes.{Lexeme, a_name, a_number, a_text, a_code, a_word, a_symbol}
+use Rattle.afl_lexer.specs.Lexemes.{Lexeme, a_number, a_text, a_code, a_word, a_symbol}
 use Rattle.afl_lexer.specs.declared.token.Token.{Token}
 use Rattle.afl_lexer.specs.declared.token.Word.TheVariants.{Null as NullWord, True, False}
 use Rattle.afl_lexer.specs.declared.token.Symbol.TheVariants.{LeftParen, RightParen, LeftBracket, RightBracket, Comma, Minus}

@@ -14,12 +14,11 @@ use Rattle.schema_grammar.specs.declared.shape_text.SchemaText.{SchemaText}
 use Rattle.schema_grammar.specs.declared.kinds.SchemaFault.{SchemaFault}
 use Rattle.schema_grammar.specs.declared.kinds.SchemaFault.TheVariants as schema_fault
 use Rattle.schema_grammar.specs.declared.kinds.TypeKind.TheVariants.{UnknownArray, UnknownVersion, UnknownName, WrongType, WrongCount, NotBounded, BadLiteral, TooManyCells}
-use Rattle.afl_parser.specs.Term.{Term, create, number, text, truth, null, missing, reference, version, call, schema, star, renamed, opposite, negative, binary, group, Terms, no_terms, and_term}
+use Rattle.afl_parser.specs.Term.{Term, create, text, truth, reference, version, call, schema, star, renamed, group, Terms, no_terms, and_term}
 use Rattle.afl_parser.specs.Grammar.{span_of}
 use Rattle.logical_plan.specs.Query.{Query, built, listed, scanned}
 use Rattle.logical_plan.specs.Typing.{is_bounded, places_in}
 use Rattle.logical_plan.specs.declared.names.NameEntry.{NameEntry}
-use Rattle.logical_plan.specs.declared.parts.Leaf.{Leaf}
 use Rattle.afl_types.specs.Checked.{Checked, refused, demand, then}
 use Rattle.afl_types.specs.Expressions.{name_span, fits, typed}
 use Rattle.afl_types.specs.LiteralRows.{literal_rows}

@@ -1,4 +1,4 @@
-use Rattle.std.proofs.Common.{◌≡◌, ◌≤◌, ◌<◌, length, List, None, Some, Err, sym, subst, arith}
+use Rattle.std.proofs.Common.{◌≡◌, length, List, None, Some, Err, sym, subst, arith}
 use Rattle.afl_parser.specs.Term.{Term, to_terms}
 use Rattle.afl_types.specs.Checked.{Answers, Checked, refused}
 use Rattle.afl_types.specs.Expressions.{typed_call}

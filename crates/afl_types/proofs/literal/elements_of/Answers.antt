@@ -1,6 +1,6 @@
 use Rattle.std.proofs.Common.{◌≡◌, ◌≤◌, ℕ, Bool, List, length, Option, Some, None, IfOk, sym, ap, ◌∙◌, subst}
 use Rattle.std.proofs.lemmas.Bool.{le-leb}
-use Rattle.std.specs.Prelude.{nat_le, if◌then◌else◌}
+use Rattle.std.specs.Prelude.{if◌then◌else◌}
 use Rattle.cell_values.specs.declared.datum.Datum.{Datum}
 use Rattle.afl_lexer.specs.declared.token.Token.{Token}
 use Rattle.afl_types.specs.Lexed.{tokens_of, whats}

@@ -1,4 +1,4 @@
-use Rattle.std.proofs.Common.{◌≡◌, ◌≤◌, ◌<◌, length, List, Err, sym, subst, arith}
+use Rattle.std.proofs.Common.{◌≡◌, List, Err, sym, subst, arith}
 use Rattle.schema_grammar.specs.declared.kinds.TypeKind.TheVariants.{WrongCount}
 use Rattle.afl_parser.specs.Term.{Term, to_terms}
 use Rattle.logical_plan.specs.Query.{Query}
