@@ -103,62 +103,88 @@ fn has_one_attribute(schema: &Schema, name: &[u8], nullable: bool) -> bool {
     }
 }
 
+fn cut(alloc: Global) -> Result<Schema, Memory> {
+    schema_of(alloc, &upto_three(alloc, second(alloc)?)?)
+}
+
 #[test]
 fn cell_by_cell(rt: HostRuntime) -> Result<(), Fail> {
-    let alloc = rt.alloc();
-    let plan = upto_three(alloc, second(alloc)?)?;
-    let schema = schema_of(alloc, &plan)?;
+    let schema = cut(rt.alloc())?;
     assert!(rt; has_one_attribute(&schema, b"w".as_slice(), true));
     assert!(rt; has_one_dimension(&schema, 1, 5, 1));
     Ok(())
 }
 
-#[test]
-fn parts_begin_at_zero(rt: HostRuntime) -> Result<(), Fail> {
-    let alloc = rt.alloc();
+fn first_three(alloc: Global) -> Result<Plan, Memory> {
     let area = Bounds {
         lo: coord_of(&[-4]),
         hi: coord_of(&[3]),
     };
-    let part = Plan::subarray(alloc, stored(alloc, b"A".as_slice())?, area)?;
-    let schema = schema_of(alloc, &part)?;
-    assert!(rt; has_one_attribute(&schema, b"v".as_slice(), false));
-    assert!(rt; has_one_dimension(&schema, 0, 2, 1));
+    Plan::subarray(alloc, stored(alloc, b"A".as_slice())?, area)
+}
+
+fn held(alloc: Global) -> Result<Plan, Memory> {
     let fixed = Fixed {
         dimension: 0,
         at: 2,
     };
-    let slice = Plan::slice(alloc, part, one(alloc, fixed)?)?;
-    assert!(rt; schema_of(alloc, &slice)?.dimensions.is_empty());
+    Plan::slice(alloc, first_three(alloc)?, one(alloc, fixed)?)
+}
+
+#[test]
+fn parts_begin_at_zero(rt: HostRuntime) -> Result<(), Fail> {
+    let alloc = rt.alloc();
+    let schema = schema_of(alloc, &first_three(alloc)?)?;
+    assert!(rt; has_one_attribute(&schema, b"v".as_slice(), false));
+    assert!(rt; has_one_dimension(&schema, 0, 2, 1));
     Ok(())
 }
 
 #[test]
-fn groups(rt: HostRuntime) -> Result<(), Fail> {
+fn fixed_dimensions_go(rt: HostRuntime) -> Result<(), Fail> {
     let alloc = rt.alloc();
+    let schema = schema_of(alloc, &held(alloc)?)?;
+    assert!(rt; schema.dimensions.is_empty());
+    Ok(())
+}
+
+fn blocks(alloc: Global) -> Result<Plan, Memory> {
     let total = aggregate(alloc, AggFunction::Sum, b"t".as_slice())?;
-    let regrid = Plan::regrid(
+    Plan::regrid(
         alloc,
         stored(alloc, b"A".as_slice())?,
         one(alloc, 2)?,
         total,
-    )?;
-    let schema = schema_of(alloc, &regrid)?;
-    assert!(rt; has_one_attribute(&schema, b"t".as_slice(), true));
-    assert!(rt; has_one_dimension(&schema, 1, 3, 0));
-    let reach = one(
-        alloc,
-        Reach {
-            before: 1,
-            after: 0,
-        },
-    )?;
+    )
+}
+
+fn windows(alloc: Global) -> Result<Plan, Memory> {
+    let reach = Reach {
+        before: 1,
+        after: 0,
+    };
     let least = aggregate(alloc, AggFunction::Min, b"m".as_slice())?;
-    let window = Plan::window(alloc, regrid, reach, least)?;
-    assert!(rt; has_one_dimension(&schema_of(alloc, &window)?, 1, 3, 0));
+    Plan::window(alloc, blocks(alloc)?, one(alloc, reach)?, least)
+}
+
+fn counted(alloc: Global) -> Result<Plan, Memory> {
     let count = aggregate(alloc, AggFunction::CountAll, b"n".as_slice())?;
-    let whole = Plan::aggregate(alloc, window, count, List::new(alloc))?;
-    let schema = schema_of(alloc, &whole)?;
+    Plan::aggregate(alloc, windows(alloc)?, count, List::new(alloc))
+}
+
+#[test]
+fn blocks_keep_the_low_bound(rt: HostRuntime) -> Result<(), Fail> {
+    let alloc = rt.alloc();
+    let schema = schema_of(alloc, &windows(alloc)?)?;
+    assert!(rt; has_one_attribute(&schema, b"m".as_slice(), true));
+    assert!(rt; has_one_dimension(&schema, 1, 3, 0));
+    Ok(())
+}
+
+#[test]
+fn all_cells_in_one_place(rt: HostRuntime) -> Result<(), Fail> {
+    let alloc = rt.alloc();
+    let schema = schema_of(alloc, &counted(alloc)?)?;
     assert!(rt; has_one_attribute(&schema, b"n".as_slice(), true));
     assert!(rt; has_one_dimension(&schema, 0, 0, 0));
     Ok(())
@@ -170,40 +196,50 @@ fn two_arrays(alloc: Global) -> Result<Plan, Memory> {
     Plan::join(alloc, left, right, numbers(alloc)?)
 }
 
+fn moved(alloc: Global) -> Result<Plan, Memory> {
+    let source = Plan::build(numbers(alloc)?, TypedExpr::dim(0));
+    Plan::redimension(alloc, source, numbers(alloc)?, List::new(alloc))
+}
+
+fn partners(alloc: Global) -> Result<Plan, Memory> {
+    let pairs = one(alloc, Pair { left: 0, right: 0 })?;
+    let left = two_arrays(alloc)?;
+    Plan::cross_join(alloc, left, moved(alloc)?, pairs, numbers(alloc)?)
+}
+
+fn is_named(leaf: &Leaf, name: &[u8]) -> bool {
+    leaf.name.as_slice() == name
+}
+
 #[test]
 fn leaves_from_left_to_right(rt: HostRuntime) -> Result<(), Fail> {
     let alloc = rt.alloc();
-    let built = Plan::build(numbers(alloc)?, TypedExpr::dim(0));
-    let moved = Plan::redimension(alloc, built, numbers(alloc)?, List::new(alloc))?;
-    let pairs = one(alloc, Pair { left: 0, right: 0 })?;
-    let crossed = Plan::cross_join(alloc, two_arrays(alloc)?, moved, pairs, numbers(alloc)?)?;
-    let again = stored(alloc, b"A".as_slice())?;
-    let plan = Plan::join(alloc, crossed, again, numbers(alloc)?)?;
-    match reads(alloc, &plan.copy()?)?.as_slice() {
-        [first, second, third] => {
-            assert!(rt; first.name.as_slice() == b"A".as_slice());
-            assert!(rt; second.name.as_slice() == b"B".as_slice());
-            assert!(rt; third.name.as_slice() == b"A".as_slice());
+    let plan = partners(alloc)?.copy()?;
+    match reads(alloc, &plan)?.as_slice() {
+        [first, second] => {
+            assert!(rt; is_named(first, b"A".as_slice()) && is_named(second, b"B".as_slice()));
         }
         _ => assert!(rt; false),
     }
     Ok(())
 }
 
-#[test]
-fn names_are_copied(rt: HostRuntime) -> Result<(), Fail> {
-    let alloc = rt.alloc();
+fn one_name(alloc: Global) -> Result<Names, Memory> {
     let entry = NameEntry {
         name: name(alloc, b"A".as_slice())?,
         schema: numbers(alloc)?,
         next: 3,
         versions: one(alloc, 2)?,
     };
-    let names = Names {
+    Ok(Names {
         arrays: one(alloc, entry)?,
-    };
-    match names.copy()?.arrays.as_slice() {
-        [copy] => assert!(rt; copy.next == 3 && copy.versions.as_slice() == [2].as_slice()),
+    })
+}
+
+#[test]
+fn names_are_copied(rt: HostRuntime) -> Result<(), Fail> {
+    match one_name(rt.alloc())?.copy()?.arrays.as_slice() {
+        [copy] => assert!(rt; copy.next == 3 && copy.versions.len() == 1),
         _ => assert!(rt; false),
     }
     Ok(())
