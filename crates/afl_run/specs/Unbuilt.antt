@@ -1,5 +1,5 @@
 -- The statements that are not built yet: `create array`, and those that call, anywhere, another operator than `build` and `scan`.
-use Rattle.std.specs.Prelude.{ℕ, Bool, true, false, ◌||◌, List, Option, Some, None}
+use Rattle.std.specs.Prelude.{Bool, true, false, ◌||◌, Option, Some, None}
 use Rattle.afl_parser.specs.Term.{Term, create, number, text, truth, null, missing, reference, version, call, schema, star, renamed, opposite, negative, binary, group, Terms, no_terms, and_term}
 use Rattle.afl_types.specs.declared.operator.Operator.{Operator}
 use Rattle.afl_types.specs.declared.operator.Operator.TheVariants.{Build, Scan}
