@@ -19,6 +19,3 @@ pub use names::{NameEntry, Names};
 pub use parts::{AggFunction, Aggregate, Applied, Fixed, Leaf, Pair, Reach};
 pub use plan::{Plan, PlanNode};
 pub use schema::schema_of;
-
-#[cfg(test)]
-mod tests;
