@@ -1,0 +1,5 @@
+pub mod NumberLaws
+pub mod CellLaws
+pub mod NearLaws
+pub mod FrameLaws
+pub mod PartLaws
