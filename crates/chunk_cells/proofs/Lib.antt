@@ -1,5 +1,0 @@
-pub mod NumberLaws
-pub mod CellLaws
-pub mod NearLaws
-pub mod FrameLaws
-pub mod PartLaws
