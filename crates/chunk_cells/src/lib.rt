@@ -7,5 +7,5 @@ mod merging;
 mod whole;
 
 pub use chunk_build::assemble;
-pub use halos::with_halo;
+pub use halos::{broken_array, with_halo};
 pub use whole::{into_rows, rows};
