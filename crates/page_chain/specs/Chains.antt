@@ -1,6 +1,7 @@
 -- Chains: pages each of which begins with the number of the next one, in four bytes, and has content behind it.
-use Rattle.std.specs.Prelude.{◌≡◌, ℕ, zero, suc, ◌*◌, ◌-◌, ◌+◌, List, [], ◌∷◌, ◌++◌, length, take, drop, slice_index, list_any, flat_map, Bool, true, false, not, nat_eq, nat_lt, ◌&&◌, ◌==◌, if◌then◌else◌, Result, Ok, Err}
+use Rattle.std.specs.Prelude.{◌≡◌, ℕ, zero, suc, ◌-◌, ◌+◌, List, [], ◌∷◌, ◌++◌, take, drop, slice_index, flat_map, Bool, true, false, not, nat_eq, nat_lt, ◌&&◌, ◌==◌, if◌then◌else◌, Result, Ok, Err}
 use Rattle.std.specs.Int.{w32, to_le_bytes, from_le_bytes}
+use Rattle.std.specs.List.{list_any}
 use Rattle.std.specs.Ordering.{nat_cmp}
 use Rattle.std.specs.FinSet.{FinSet, from_list}
 use Rattle.page_chain.specs.Pages.{page_size, page_at, has_page, pages_for, piece_of, HoldsPieces}
@@ -20,7 +21,7 @@ content_of size file page = drop 4 (page_at size file page)
 
 -- whether a link names a page: one that isn't page 0, that the file has whole, and that isn't taken
 abbrev pub names_page : ℕ → List ℕ → List ℕ → ℕ → Bool
-names_page size file taken link = nat_lt 0 link && has_page size file link && not (list_any (nat_eq link) taken)
+names_page size file taken link = nat_lt 0 link && has_page size file link && not (list_any (λ page. nat_eq page link) taken)
 
 -- what is behind a page, with this page before it
 abbrev pub after : ℕ → Result (List ℕ) ℕ → Result (List ℕ) ℕ
@@ -59,7 +60,10 @@ IsFollowed file taken holder link used piece (Err Disk) = Unit {0}
 IsFollowed file taken holder link used piece (Err (NotDatabase page)) = (page ≡ holder) × (names_page page_size file taken link ≡ false)
 IsFollowed file taken holder link used piece (Err Memory) = Unit {0}
 
--- the pages have these bytes as a chain: in each its piece, behind the number of the next page
+-- a chain's page of this number among its pages: its piece of the bytes, behind the number of the next page
+abbrev pub chain_piece : ℕ → List ℕ → List ℕ → ℕ → List ℕ
+chain_piece size pages bytes number = to_le_bytes w32 (slice_index pages (number + 1)) ++ piece_of (content_size size) bytes number
+
+-- the pages have these bytes as a chain
 abbrev pub HoldsChain : ℕ → List ℕ → List ℕ → List ℕ → Type 0
-HoldsChain size file pages bytes =
-    HoldsPieces size file pages (λ k. to_le_bytes w32 (slice_index pages (k + 1)) ++ piece_of (content_size size) bytes k)
+HoldsChain size file pages bytes = HoldsPieces size file pages (chain_piece size pages bytes)

@@ -1,20 +1,20 @@
 -- Pages of a file, and blobs, which lie in listed pages. A page is named by its number, from 0.
-use Rattle.std.specs.Prelude.{◌≡◌, ◌≢◌, ℕ, ◌+◌, ◌-◌, ◌*◌, ◌≤◌, ◌<◌, max, List, [], ◌∷◌, ◌++◌, length, take, drop, replicate, slice_index, find, flat_map, Bool, not, nat_le, Some, None, Result, Ok, Err}
+use Rattle.std.specs.Prelude.{◌≡◌, ◌≢◌, ℕ, ◌+◌, ◌-◌, ◌*◌, ◌<◌, List, ◌++◌, length, take, drop, replicate, slice_index, find, flat_map, Bool, not, nat_le, Option, Some, None, Result, Ok, Err}
 use Rattle.std.specs.Int.{div_ceil}
 use Rattle.page_chain.specs.declared.fault.BlobFault.{BlobFault}
 use Rattle.page_chain.specs.declared.fault.BlobFault.TheVariants.{Disk, Damaged, Memory}
 
 -- the bytes of a page
-abbrev pub page_size : ℕ
+unfoldable pub page_size : ℕ
 page_size = 4096
 
 -- a page's bytes, as many of them as the file has
 abbrev pub page_at : ℕ → List ℕ → ℕ → List ℕ
-page_at size file page = take size (drop (page * size) file)
+page_at size file page = take size (drop (size * page) file)
 
 -- whether the file has all bytes of a page
 abbrev pub has_page : ℕ → List ℕ → ℕ → Bool
-has_page size file page = nat_le ((page + 1) * size) (length file)
+has_page size file page = nat_le (size * (page + 1)) (length file)
 
 -- how many pages are needed for so many bytes, where each has room for `room`
 abbrev pub pages_for : ℕ → ℕ → ℕ
@@ -23,10 +23,6 @@ pages_for room count = div_ceil count room
 -- pages that differ from one another
 abbrev pub AreDistinct : List ℕ → Type 0
 AreDistinct pages = (i j : ℕ) → i < j → j < length pages → slice_index pages i ≢ slice_index pages j
-
--- the page is none of these
-abbrev pub IsApart : List ℕ → ℕ → Type 0
-IsApart pages page = (k : ℕ) → k < length pages → slice_index pages k ≢ page
 
 -- A blob of so many bytes: the first bytes of its pages, which follow one another in the order of the list.
 abbrev pub blob : ℕ → List ℕ → List ℕ → ℕ → List ℕ
@@ -58,14 +54,3 @@ HoldsPieces size file pages piece = (k : ℕ) → k < length pages → page_at s
 -- the pages have these bytes as a blob
 abbrev pub HoldsBlob : ℕ → List ℕ → List ℕ → List ℕ → Type 0
 HoldsBlob size file pages bytes = HoldsPieces size file pages (piece_of size bytes)
-
--- where the last of the pages ends, by number
-abbrev pub end_of : ℕ → List ℕ → ℕ
-end_of size [] = 0
-end_of size (page ∷ pages) = max ((page + 1) * size) (end_of size pages)
-
--- Of a file, only these pages were written: each other page begins with the bytes that it had, and the file grew at most to their end.
-pub record Keeps (size : ℕ) (pages old new : List ℕ) : Type 0 where
-  pub others : (page : ℕ) → IsApart pages page → take (length (page_at size old page)) (page_at size new page) ≡ page_at size old page
-  pub no_shorter : length old ≤ length new
-  pub no_longer : length new ≤ max (length old) (end_of size pages)

@@ -1,7 +1,7 @@
 -- What several calls of a disk, one after the other, do to it.
 use Rattle.std.specs.Prelude.{◌≡◌, ℕ, List, IsTrue, Some, IfSome}
 use Rattle.afl_outside.specs.Disk.{DiskState, DiskGoesOn, Follows, LeavesOnly}
-use Rattle.page_chain.specs.Pages.{page_size, Keeps}
+use Rattle.page_layout.specs.Places.{KeepsPages}
 
 -- The disk was only read: a read gives what it gave, and a crash at any moment since then leaves what it might have left at the start.
 pub record OnlyReads (old new : DiskState) (past since : ℕ → List ℕ → Type 0) (before now : List ℕ → Type 0) : Type 0 where
@@ -12,13 +12,13 @@ pub record OnlyReads (old new : DiskState) (past since : ℕ → List ℕ → Ty
 
 -- these pages, over some image that a crash might have left at the start
 abbrev pub Over : List ℕ → (List ℕ → Type 0) → List ℕ → Type 0
-Over pages before c = (d : List ℕ) × before d × Keeps page_size pages d c
+Over pages before c = (d : List ℕ) × before d × KeepsPages pages d c
 
 -- Only these pages of the disk were written: a crash at any moment since then leaves what it might have left at the start, but for
 -- these pages.
 pub record OnlyWrites (pages : List ℕ) (old new : DiskState) (past since : ℕ → List ℕ → Type 0) (before now : List ℕ → Type 0) : Type 0 where
   pub same : DiskGoesOn old new
-  pub crash : Follows (Keeps page_size pages) before now
+  pub crash : Follows (KeepsPages pages) before now
   pub time : LeavesOnly old.moment new.moment past since (Over pages before)
 
 -- An honest disk that tells its bytes told some and tells others now, of which this holds.

@@ -1,7 +1,8 @@
 //! Blobs: bytes in listed pages.
 ghost use Rattle.std.specs.Prelude.{◌≡◌, ℕ, length, IfSome, IfOk, OnOk, OnErr, IsErrOf, ◌⊎◌};
 ghost use Rattle.afl_outside.specs.Counts.{Rose};
-ghost use Rattle.page_chain.specs.Pages.{page_size, pages_for, AreDistinct, IsBlobRead, HoldsBlob, Keeps};
+ghost use Rattle.page_chain.specs.Pages.{page_size, pages_for, AreDistinct, IsBlobRead, HoldsBlob};
+ghost use Rattle.page_layout.specs.Places.{KeepsPages};
 ghost use Rattle.page_chain.specs.Runs.{OnlyReads, OnlyWrites, Sees};
 
 use crate::fault::{BlobFault, Stopped};
@@ -48,7 +49,7 @@ pub fn read_blob<D: Disk>(
 pub fn write_blob<D: Disk>(disk: &mut D, pages: &[u32], bytes: &[u8]) -> Result<(), Failed>
     requires distinct { AreDistinct pages.now }
     requires pages { length pages.now ≡ pages_for page_size (length bytes.now) }
-    ensures seen { Sees (D.state disk.old) (D.state disk.new) (λ seen now. Keeps page_size pages.now seen now × OnOk result (HoldsBlob page_size now pages.now bytes.now)) }
+    ensures seen { Sees (D.state disk.old) (D.state disk.new) (λ seen now. KeepsPages pages.now seen now × OnOk result (HoldsBlob page_size now pages.now bytes.now)) }
     ensures cause { OnErr result (Rose (D.state disk.old).faults (D.state disk.new).faults ⊎ Rose (D.state disk.old).wants (D.state disk.new).wants) }
     ensures writes { OnlyWrites pages.now (D.state disk.old) (D.state disk.new) (D.left_since disk.old) (D.left_since disk.new) (D.may_leave disk.old) (D.may_leave disk.new) }
 {

@@ -1,9 +1,10 @@
 //! Chains: bytes in pages each of which names the next one.
 ghost use Rattle.std.specs.Prelude.{◌≡◌, ℕ, ◌+◌, ◌-◌, ◌≤◌, ◌<◌, ◌++◌, List, length, take, drop, slice_index, IfSome, IfOk, OnOk, OnErr, IsErrOf, ◌⊎◌};
-ghost use Rattle.std.specs.Int.{w32, to_le_bytes};
+ghost use Rattle.std.specs.Int.{w32, to_le_bytes, from_le_bytes};
 ghost use Rattle.std.specs.FinSet.{from_list};
 ghost use Rattle.afl_outside.specs.Counts.{Rose};
-ghost use Rattle.page_chain.specs.Pages.{page_size, pages_for, padded, AreDistinct, Keeps};
+ghost use Rattle.page_chain.specs.Pages.{page_size, pages_for, padded, AreDistinct};
+ghost use Rattle.page_layout.specs.Places.{KeepsPages};
 ghost use Rattle.page_chain.specs.Chains.{content_size, IsChainRead, IsFollowed, HoldsChain};
 ghost use Rattle.page_chain.specs.Runs.{OnlyReads, OnlyWrites, Sees};
 
@@ -56,7 +57,10 @@ pub fn read_chain<D: Disk>(
     let mut link = first;
     let mut due = chain_pages(count);
     'links: while due > 0 {
-        let next = follow(disk, link, &mut used, &mut piece)?;
+        let next = match follow(disk, link, &mut used, &mut piece) {
+            Ok(next) => next,
+            Err(cause) => return Err(cause),
+        };
         bytes.extend(piece.split_at(LINK).1)?;
         pages.push(link.page)?;
         link = Link {
@@ -85,23 +89,36 @@ fn follow<D: Disk>(
     ensures reads { OnlyReads (D.state disk.old) (D.state disk.new) (D.left_since disk.old) (D.left_since disk.new) (D.may_leave disk.old) (D.may_leave disk.new) }
 {
     let wrong = OpenCause::NotDatabase { page: link.holder };
-    if link.page == 0 || used.has(link.page) {
+    if link.page == 0 {
+        return Err(wrong);
+    }
+    if used.has(link.page) {
         return Err(wrong);
     }
     used.insert(link.page)?;
     match read_page(disk, link.page, piece) {
-        Ok(true) => Ok(u32::from_le_bytes([piece[0], piece[1], piece[2], piece[3]])),
+        Ok(true) => Ok(link_in(piece)),
         Ok(false) => Err(wrong),
         Err(Stopped::Disk) => Err(OpenCause::Disk),
         Err(Stopped::Memory) => Err(OpenCause::Memory),
     }
 }
 
+/// The link in a page.
+#[tactic(auto, using(crate::proofs::Kept::size_is))]
+fn link_in(piece: &[u8]) -> u32
+    requires { length piece.now ≡ page_size }
+    ensures { result ≡ from_le_bytes w32 (take 4 piece.now) }
+{
+    let (link, _) = piece.split_at(LINK);
+    u32::from_le_bytes([link[0], link[1], link[2], link[3]])
+}
+
 /// Writes bytes as a chain.
 pub fn write_chain<D: Disk>(disk: &mut D, pages: &[u32], bytes: &[u8]) -> Result<(), Failed>
     requires distinct { AreDistinct pages.now }
     requires pages { length pages.now ≡ pages_for (content_size page_size) (length bytes.now) }
-    ensures seen { Sees (D.state disk.old) (D.state disk.new) (λ seen now. Keeps page_size pages.now seen now × OnOk result (HoldsChain page_size now pages.now bytes.now)) }
+    ensures seen { Sees (D.state disk.old) (D.state disk.new) (λ seen now. KeepsPages pages.now seen now × OnOk result (HoldsChain page_size now pages.now bytes.now)) }
     ensures cause { OnErr result (Rose (D.state disk.old).faults (D.state disk.new).faults ⊎ Rose (D.state disk.old).wants (D.state disk.new).wants) }
     ensures writes { OnlyWrites pages.now (D.state disk.old) (D.state disk.new) (D.left_since disk.old) (D.left_since disk.new) (D.may_leave disk.old) (D.may_leave disk.new) }
 {

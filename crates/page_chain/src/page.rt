@@ -2,7 +2,8 @@
 ghost use Rattle.std.specs.Prelude.{◌≡◌, ℕ, ◌++◌, [], ◌∷◌, length, take, drop, IfSome, IfOk, OnOk, OnErr, IsErrOf, IsTrue, ◌⊎◌};
 ghost use Rattle.std.specs.Bool.{OnTrue};
 ghost use Rattle.afl_outside.specs.Counts.{Rose};
-ghost use Rattle.page_chain.specs.Pages.{page_size, page_at, has_page, padded, Keeps};
+ghost use Rattle.page_chain.specs.Pages.{page_size, page_at, has_page, padded};
+ghost use Rattle.page_layout.specs.Places.{KeepsPages};
 ghost use Rattle.page_chain.specs.Runs.{OnlyReads, OnlyWrites, Sees};
 
 use crate::fault::Stopped;
@@ -12,11 +13,7 @@ use afl_outside::{Disk, Failed, has_risen};
 pub(crate) const PAGE: usize = 4096;
 
 /// Reads a page, and says whether the disk has all of it.
-pub(crate) fn read_page<D: Disk>(
-    disk: &mut D,
-    page: u32,
-    piece: &mut [u8],
-) -> Result<bool, Stopped>
+pub(crate) fn read_page<D: Disk>(disk: &mut D, page: u32, piece: &mut [u8]) -> Result<bool, Stopped>
     requires { length piece.old ≡ page_size }
     ensures whole { IfSome (D.state disk.old).seen (λ seen. IfOk result (λ whole. whole ≡ has_page page_size seen page)) }
     ensures bytes { IfSome (D.state disk.old).seen (λ seen. IfOk result (λ whole. OnTrue whole (piece.new ≡ page_at page_size seen page))) }
@@ -34,7 +31,7 @@ pub(crate) fn read_page<D: Disk>(
 /// Writes a page.
 pub(crate) fn write_page<D: Disk>(disk: &mut D, page: u32, piece: &[u8]) -> Result<(), Failed>
     requires { length piece.now ≡ page_size }
-    ensures seen { Sees (D.state disk.old) (D.state disk.new) (λ seen now. Keeps page_size (page ∷ []) seen now × OnOk result (page_at page_size now page ≡ piece.now)) }
+    ensures seen { Sees (D.state disk.old) (D.state disk.new) (λ seen now. KeepsPages (page ∷ []) seen now × OnOk result (page_at page_size now page ≡ piece.now)) }
     ensures cause { OnErr result (Rose (D.state disk.old).faults (D.state disk.new).faults ⊎ Rose (D.state disk.old).wants (D.state disk.new).wants) }
     ensures writes { OnlyWrites (page ∷ []) (D.state disk.old) (D.state disk.new) (D.left_since disk.old) (D.left_since disk.new) (D.may_leave disk.old) (D.may_leave disk.new) }
 {

@@ -14,6 +14,7 @@ pub(crate) struct PageSet {
 }
 
 impl Model for PageSet {
+    ghost use Rattle.std.specs.FinSet as set;
     ghost use Rattle.std.specs.Ordering.{nat_cmp};
     ghost use Rattle.std.specs.Coded.{coded_ℕ};
 
