@@ -11,7 +11,7 @@ use Rattle.cell_values.specs.declared.datum.Row.{Row}
 use Rattle.cell_values.specs.declared.schema.Dimension.{Dimension}
 use Rattle.cell_values.specs.declared.schema.Schema.{Schema}
 use Rattle.std.specs.List.{AllByRecursion}
-use Rattle.chunk_cells.specs.Whole.{IsReady}
+use Rattle.chunk_cells.specs.Whole.{CoresRise}
 use Rattle.array_rows.specs.Boxes.{within}
 use Rattle.array_geom.specs.Geometry.{core}
 use Rattle.array_geom.specs.Link.{chunk_rows, core_rows}
@@ -170,8 +170,26 @@ pub if_ok : {X E : Type 0} {P Q : X → Type 0} (r : Result X E) → IfOk r P �
 if_ok (Ok x) p f = f x p
 if_ok (Err e) p f = p
 
-pub one_part : (schema : Schema) (margins : List ℕ) (chunk : Chunk) (chunks left : List Chunk) (rows : List Row) → chunks ≡ chunk ∷ [] ++ left → AllByRecursion (IsReady schema margins) chunks → rows ≡ within (core schema.dimensions chunk.at.items) (chunk_rows schema.dimensions margins chunk) → rows ≡ core_rows schema.dimensions margins (take 1 chunks)
-one_part schema margins chunk chunks left rows e ready own =
-    let now : AllByRecursion (IsReady schema margins) (chunk ∷ left) = subst (AllByRecursion (IsReady schema margins)) e ready in
-    own ∙ sym (put_all-none (within (core schema.dimensions chunk.at.items) (chunk_rows schema.dimensions margins chunk)) now.0.rising)
+pub one_part : (schema : Schema) (margins : List ℕ) (chunk : Chunk) (chunks left : List Chunk) (rows : List Row) → chunks ≡ chunk ∷ [] ++ left → CoresRise schema.dimensions margins chunks → rows ≡ within (core schema.dimensions chunk.at.items) (chunk_rows schema.dimensions margins chunk) → rows ≡ core_rows schema.dimensions margins (take 1 chunks)
+one_part schema margins chunk chunks left rows e rise own =
+    let now : CoresRise schema.dimensions margins (chunk ∷ left) = subst (CoresRise schema.dimensions margins) e rise in
+    own ∙ sym (put_all-none (within (core schema.dimensions chunk.at.items) (chunk_rows schema.dimensions margins chunk)) now.0)
     ∙ ap (λ (cs : List Chunk). core_rows schema.dimensions margins (take 1 cs)) (sym e)
+
+pub rise-drop : (dims : List Dimension) (margins : List ℕ) (n : ℕ) (chunks left : List Chunk) → left ≡ drop n chunks → CoresRise dims margins chunks → CoresRise dims margins left
+rise-drop dims margins n chunks left e rise = subst (CoresRise dims margins) (sym e) (dropped n chunks rise)
+  where
+    dropped : (n : ℕ) (xs : List Chunk) → CoresRise dims margins xs → CoresRise dims margins (drop n xs)
+    dropped zero xs a = a
+    dropped (suc n) [] a = tt
+    dropped (suc n) (x ∷ xs) a = dropped n xs a.1
+
+-- one move after others
+pub more_merged : (merged merged' merged'' left left' left'' right right' right'' : List Row) → IsMergedOn merged left right merged' left' right' → IsMergedOn merged' left' right' merged'' left'' right'' → IsMergedOn merged left right merged'' left'' right''
+more_merged merged merged' merged'' left left' left'' right right' right'' f g = λ rl rr.
+    let first = f rl rr in
+    let second = g first.left_rises first.right_rises in
+    record { left_rises = second.left_rises; right_rises = second.right_rises; same = second.same ∙ first.same }
+
+pub begun : (merged left right : List Row) → merged ≡ [] → IsMergedOn [] left right merged left right
+begun merged left right e = λ rl rr. record { left_rises = rl; right_rises = rr; same = ap (λ (zs : List Row). zs ++ put_all left right) e }

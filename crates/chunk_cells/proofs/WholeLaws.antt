@@ -20,7 +20,8 @@ use Rattle.array_geom.proofs.NearLemmas.{valid_placed}
 use Rattle.chunk_build.specs.Frames.{AreFramed}
 use Rattle.chunk_build.specs.Numbers.{AreCoresOf, numbers_in}
 use Rattle.chunk_build.proofs.ChunkLaws.{cores_framed}
-use Rattle.chunk_cells.specs.Whole.{IsReady, IsWhole}
+use Rattle.chunk_cells.specs.Whole.{CoresRise, IsArray}
+use Rattle.array_parts.specs.Placed.{HasPlaces, HavePlaces}
 
 abbrev numbered : List Chunk → List (ArrayVec ℕ)
 numbered chunks = map (λ (chunk : Chunk). chunk.at) chunks
@@ -36,33 +37,37 @@ are_cores dims margins rows chunks are = record {
   cores = λ k l. ap (is_listed k) (same_numbers chunks) ∙ are.listed k l;
 }
 
-all_ready : (schema : Schema) (array : ChunkedArray) (rows : List Row) → HoldsRows schema array rows → (chunks : List Chunk) → AreFramed schema.dimensions (numbers chunks) → AllByRecursion (IsPart schema.dimensions array.margins.items rows) chunks → AllByRecursion (IsReady schema array.margins.items) chunks
-all_ready schema array rows h [] framed parts = tt
-all_ready schema array rows h (chunk ∷ chunks) framed parts = (
-  record {
-    framed = record { valid = h.rows_of.valid; core = framed.0; each = h.each; places = h.places };
-    in_frame = parts.0.in_frame;
-    rising = subst (λ (rs : List Row). IsRising (within (core schema.dimensions chunk.at.items) rs)) (sym parts.0.cells)
+all_placed : (schema : Schema) (array : ChunkedArray) (rows : List Row) → HoldsRows schema array rows → (chunks : List Chunk) → AreFramed schema.dimensions (numbers chunks) → AllByRecursion (IsPart schema.dimensions array.margins.items rows) chunks → AllByRecursion (HasPlaces schema array.margins.items) chunks
+all_placed schema array rows h [] framed parts = tt
+all_placed schema array rows h (chunk ∷ chunks) framed parts =
+    (record {
+      framed = record { valid = h.rows_of.valid; core = framed.0; each = h.each; places = h.places };
+      placed = record { each = parts.0.each; in_frame = parts.0.in_frame };
+    }, all_placed schema array rows h chunks framed.1 parts.1)
+
+-- the cells of an array that holds rows have places
+pub have_places : (schema : Schema) (array : ChunkedArray) (rows : List Row) → HoldsRows schema array rows → HavePlaces schema array.margins.items array.chunks
+have_places schema array rows h =
+    let dims = schema.dimensions in
+    let framed : AreFramed dims (numbers array.chunks) = subst (AreFramed dims) (same_numbers array.chunks) (cores_framed dims rows (numbered array.chunks) (valid_placed schema h.rows_of.valid).near h.rows_of.are_rows.in_bounds (are_cores dims array.margins.items rows array.chunks h.chunks)) in
+    record { valid = h.rows_of.valid; each = h.each; places = h.places; all = all_placed schema array rows h array.chunks framed h.chunks.parts }
+
+-- and rise in each core
+pub cores_rise : (schema : Schema) (array : ChunkedArray) (rows : List Row) (chunks : List Chunk) → chunks ≡ array.chunks → HoldsRows schema array rows → CoresRise schema.dimensions array.margins.items chunks
+cores_rise schema array rows chunks same h = subst (CoresRise schema.dimensions array.margins.items) (sym same) (each array.chunks h.chunks.parts)
+  where
+    each : (xs : List Chunk) → AllByRecursion (IsPart schema.dimensions array.margins.items rows) xs → CoresRise schema.dimensions array.margins.items xs
+    each [] parts = tt
+    each (chunk ∷ xs) parts =
+        (subst (λ (rs : List Row). IsRising (within (core schema.dimensions chunk.at.items) rs)) (sym parts.0.cells)
         (IsRising-rows_where (is_inside (core schema.dimensions chunk.at.items)) (within (frame schema.dimensions array.margins.items chunk.at.items) rows)
-        (IsRising-rows_where (is_inside (frame schema.dimensions array.margins.items chunk.at.items)) rows h.rows_of.are_rows.rising));
-  },
-  all_ready schema array rows h chunks framed.1 parts.1,
-)
+        (IsRising-rows_where (is_inside (frame schema.dimensions array.margins.items chunk.at.items)) rows h.rows_of.are_rows.rising)), each xs parts.1)
 
--- the chunks of an array that holds rows are ready
-pub ready : (array : ChunkedArray) (chunks : List Chunk) → chunks ≡ array.chunks → IsWhole array → AllByRecursion (IsReady array.schema array.margins.items) chunks
-ready array chunks same whole =
-    let h = whole.1 in
-    let dims = array.schema.dimensions in
-    let framed : AreFramed dims (numbers array.chunks) = subst (AreFramed dims) (same_numbers array.chunks) (cores_framed dims whole.0 (numbered array.chunks) (valid_placed array.schema h.rows_of.valid).near h.rows_of.are_rows.in_bounds (are_cores dims array.margins.items whole.0 array.chunks h.chunks)) in
-    subst (AllByRecursion (IsReady array.schema array.margins.items)) (sym same) (all_ready array.schema array whole.0 h array.chunks framed h.chunks.parts)
-
--- the rows of their cores are those of the array
-pub all_rows : (array : ChunkedArray) (chunks : List Chunk) (count : ℕ) (rows : List Row) → chunks ≡ array.chunks → count ≡ length array.chunks → IsWhole array → rows ≡ core_rows array.schema.dimensions array.margins.items (take count chunks) → HoldsRows array.schema array rows
-all_rows array chunks count rows same long whole e =
+-- the rows of its cores are those that it holds
+pub all_rows : (array : ChunkedArray) (chunks : List Chunk) (count : ℕ) (rows held : List Row) → chunks ≡ array.chunks → count ≡ length array.chunks → HoldsRows array.schema array held → rows ≡ core_rows array.schema.dimensions array.margins.items (take count chunks) → rows ≡ held
+all_rows array chunks count rows held same long h e =
     let all : take count chunks ≡ array.chunks = ap (take count) same ∙ ap (λ (n : ℕ). take n array.chunks) long ∙ take_all (length array.chunks) array.chunks (omega arith) in
-    let are : rows ≡ whole.0 = e ∙ ap (core_rows array.schema.dimensions array.margins.items) all ∙ chunks_have_their_rows array.schema array whole.0 whole.1 in
-    subst (HoldsRows array.schema array) (sym are) whole.1
+    e ∙ ap (core_rows array.schema.dimensions array.margins.items) all ∙ chunks_have_their_rows array.schema array held h
 
 no_rows : (schema : Schema) (array : ChunkedArray) (rows : List Row) (r : Result (List Row) Broken) → array.broken ≡ None → HoldsResult schema array r → HoldsRows schema array rows → r ≡ Ok rows
 no_rows schema array rows (Ok rs) e h k = ap (λ (z : List Row). Ok z) (chunks_have_one_meaning schema array rs rows h k)
@@ -74,9 +79,17 @@ stands_for array meant rows e is h =
     let held : meant.rows ≡ Ok rows = no_rows meant.schema array rows meant.rows e is.cells (subst (λ (s : Schema). HoldsRows s array rows) is.schema h) in
     λ i. record { schema = is.schema i; rows = sym held i }
 
-whole_with : (schema : Schema) (array : ChunkedArray) (r : Result (List Row) Broken) → array.broken ≡ None → HoldsResult schema array r → (rows : List Row) × HoldsRows schema array rows
-whole_with schema array (Ok rs) e h = (rs, h)
-whole_with schema array (Err b) e h = let f : None ≡ Some b = sym e ∙ h in cc
+holds_with : (schema : Schema) (array : ChunkedArray) (r : Result (List Row) Broken) → array.broken ≡ None → HoldsResult schema array r → (rows : List Row) × HoldsRows schema array rows
+holds_with schema array (Ok rs) e h = (rs, h)
+holds_with schema array (Err b) e h = let f : None ≡ Some b = sym e ∙ h in cc
 
-pub is_whole : (array : ChunkedArray) (meant : Meant) → array.broken ≡ None → Is array meant → IsWhole array
-is_whole array meant e is = subst (λ (s : Schema). (rows : List Row) × HoldsRows s array rows) (sym is.schema) (whole_with meant.schema array meant.rows e is.cells)
+-- an array that is not broken holds rows
+pub holds_some : (array : ChunkedArray) → array.broken ≡ None → IsArray array → (rows : List Row) × HoldsRows array.schema array rows
+holds_some array e is = subst (λ (s : Schema). (rows : List Row) × HoldsRows s array rows) (sym is.1.schema) (holds_with is.0.schema array is.0.rows e is.1.cells)
+
+-- so a call that gives what it holds gives rows that it holds
+pub gives_held : (array : ChunkedArray) (rows : List Row) → array.broken ≡ None → IsArray array → ((held : List Row) → HoldsRows array.schema array held → rows ≡ held) → HoldsRows array.schema array rows
+gives_held array rows e is f = let some = holds_some array e is in subst (HoldsRows array.schema array) (sym (f some.0 some.1)) some.1
+
+pub has_places : (array : ChunkedArray) → array.broken ≡ None → IsArray array → HavePlaces array.schema array.margins.items array.chunks
+has_places array e is = let some = holds_some array e is in have_places array.schema array some.0 some.1

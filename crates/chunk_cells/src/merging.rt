@@ -65,9 +65,7 @@ fn both_have(left: &VecDeque<Row>, right: &VecDeque<Row>) -> bool
 
 /// The rows of both, and of two at one coordinate the left one.
 pub(crate) fn merge(left: List<Row>, right: List<Row>) -> Result<List<Row>, Memory>
-    requires left { IsRising left }
-    requires right { IsRising right }
-    ensures { IfOk result (λ merged. merged ≡ put_all left right) }
+    ensures { IsRising left → IsRising right → IfOk result (λ merged. merged ≡ put_all left right) }
 {
     let mut merged = left.another();
     let mut left = VecDeque::from_vec(left.into_vec());

@@ -4,7 +4,8 @@ ghost use Rattle.std.specs.List.{AllByRecursion};
 ghost use Rattle.std.specs.Vec.Iter.{into_iter_items};
 ghost use Rattle.cell_values.specs.declared.datum.Row.{Row as Placed};
 ghost use Rattle.array_geom.specs.Link.{HoldsRows, core_rows};
-ghost use Rattle.chunk_cells.specs.Whole.{IsReady, IsWhole};
+ghost use Rattle.array_parts.specs.Placed.{HasPlaces, HavePlaces};
+ghost use Rattle.chunk_cells.specs.Whole.{CoresRise};
 
 use crate::cores::core_cells;
 use crate::merging::merge;
@@ -19,9 +20,9 @@ fn next_rows(
     chunks: &mut IntoIter<Chunk>,
 ) -> Result<List<Row>, Memory>
     requires some { 1 ≤ length (into_iter_items chunks.old) }
-    requires ready { AllByRecursion (IsReady schema.now margins.now.items) (into_iter_items chunks.old) }
+    requires places { AllByRecursion (HasPlaces schema.now margins.now.items) (into_iter_items chunks.old) }
     ensures left { into_iter_items chunks.new ≡ drop 1 (into_iter_items chunks.old) }
-    ensures rows { IfOk result (λ rows. rows ≡ core_rows schema.now.dimensions margins.now.items (take 1 (into_iter_items chunks.old))) }
+    ensures rows { CoresRise schema.now.dimensions margins.now.items (into_iter_items chunks.old) → IfOk result (λ rows. rows ≡ core_rows schema.now.dimensions margins.now.items (take 1 (into_iter_items chunks.old))) }
 {
     match chunks.next() {
         Some(chunk) => core_cells(schema, margins, chunk),
@@ -37,9 +38,9 @@ fn gather(
     count: usize,
 ) -> Result<List<Row>, Memory>
     requires some { count ≤ length (into_iter_items chunks.old) }
-    requires ready { AllByRecursion (IsReady schema.now margins.now.items) (into_iter_items chunks.old) }
+    requires places { AllByRecursion (HasPlaces schema.now margins.now.items) (into_iter_items chunks.old) }
     ensures left { OnOk result (into_iter_items chunks.new ≡ drop count (into_iter_items chunks.old)) }
-    ensures rows { IfOk result (λ rows. rows ≡ core_rows schema.now.dimensions margins.now.items (take count (into_iter_items chunks.old))) }
+    ensures rows { CoresRise schema.now.dimensions margins.now.items (into_iter_items chunks.old) → IfOk result (λ rows. rows ≡ core_rows schema.now.dimensions margins.now.items (take count (into_iter_items chunks.old))) }
 {
     if count == 0 {
         return Ok(schema.dimensions.another());
@@ -53,10 +54,10 @@ fn gather(
     merge(left, right)
 }
 
-/// The rows of an array.
+/// The rows of an array, whose cells are moved.
 pub fn into_rows(array: ChunkedArray) -> Result<List<Row>, Memory>
-    requires { IsWhole array }
-    ensures { IfOk result (λ rows. HoldsRows array.schema array rows) }
+    requires { HavePlaces array.schema array.margins.items array.chunks }
+    ensures { (held : Items Placed) → HoldsRows array.schema array held → IfOk result (λ rows. rows ≡ held) }
 {
     let ChunkedArray {
         schema,
@@ -71,8 +72,8 @@ pub fn into_rows(array: ChunkedArray) -> Result<List<Row>, Memory>
 
 /// The rows of an array, which stays.
 pub fn rows(array: &ChunkedArray) -> Result<List<Row>, Memory>
-    requires { IsWhole array.now }
-    ensures { IfOk result (λ rows. HoldsRows array.now.schema array.now rows) }
+    requires { HavePlaces array.now.schema array.now.margins.items array.now.chunks }
+    ensures { (held : Items Placed) → HoldsRows array.now.schema array.now held → IfOk result (λ rows. rows ≡ held) }
 {
     into_rows(array.copy()?)
 }

@@ -1,0 +1,4 @@
+pub mod Allowed
+pub mod Changes
+pub mod Databases
+pub mod Typed

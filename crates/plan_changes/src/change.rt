@@ -1,0 +1,70 @@
+//! Changes of a database.
+ghost use Rattle.std.specs.Prelude.{◌≡◌, IfOk};
+
+use cell_values::{Copies, Memory, Name, Schema};
+use logical_plan::Plan;
+
+#[derive(Debug, Drop)]
+pub enum Change {
+    /// One more array, without versions.
+    Create {
+        name: Name,
+        schema: Schema,
+    },
+    /// The plan's array is the next version. An array of this schema is made where none has the name.
+    Store {
+        name: Name,
+        schema: Schema,
+        plan: Plan,
+    },
+    /// The newest version with the cells of the plan's array put in is the next version.
+    Insert {
+        name: Name,
+        schema: Schema,
+        plan: Plan,
+    },
+    /// The array goes, and its numbers with it.
+    Remove {
+        name: Name,
+    },
+    /// The versions below this number go.
+    RemoveVersions {
+        name: Name,
+        below: u32,
+    },
+}
+
+impl Change {
+    /// An equal change.
+    pub fn copy(&self) -> Result<Change, Memory>
+        ensures { IfOk result (λ copy. copy ≡ self.now) }
+    {
+        match self {
+            Change::Create { name, schema } => Ok(Change::Create {
+                name: name.copy()?,
+                schema: schema.copy()?,
+            }),
+            Change::Store { name, schema, plan } => Ok(Change::Store {
+                name: name.copy()?,
+                schema: schema.copy()?,
+                plan: plan.copy()?,
+            }),
+            Change::Insert { name, schema, plan } => Ok(Change::Insert {
+                name: name.copy()?,
+                schema: schema.copy()?,
+                plan: plan.copy()?,
+            }),
+            Change::Remove { name } => Ok(Change::Remove { name: name.copy()? }),
+            Change::RemoveVersions { name, below } => Ok(Change::RemoveVersions {
+                name: name.copy()?,
+                below: *below,
+            }),
+        }
+    }
+}
+
+impl Copies for Change {
+    fn copy(&self) -> Result<Change, Memory> {
+        self.copy()
+    }
+}
