@@ -1,0 +1,3 @@
+pub mod MovedLaws
+pub mod PartLaws
+pub mod SliceLaws
