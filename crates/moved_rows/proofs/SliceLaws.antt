@@ -37,14 +37,14 @@ order_but : (places : List ℕ) (n : ℕ) (a b : Coordinate) → length a ≡ le
 order_but places n [] [] e agree = refl
 order_but places n [] (y ∷ b) e agree = cc
 order_but places n (x ∷ a) [] e agree = cc
-order_but places n (x ∷ a) (y ∷ b) e agree = cases (is_among places n) refl
+order_but places n (x ∷ a) (y ∷ b) e agree =
+    let shorter : length a ≡ length b = cc (e) in
+    cases (is_among places n) refl (order_but places (n + 1) a b shorter (λ k m f t. agree (suc k) m (omega arith) t))
   where
-    rest : row_major (items_but places (n + 1) a) (items_but places (n + 1) b) ≡ row_major a b
-    rest = order_but places (n + 1) a b (let f : suc (length a) ≡ suc (length b) = e in cc) (λ k m f t. agree (suc k) m (omega arith) t)
-
-    cases : (t : Bool) → is_among places n ≡ t → row_major (cond t (items_but places (n + 1) a) (x ∷ items_but places (n + 1) a)) (cond t (items_but places (n + 1) b) (y ∷ items_but places (n + 1) b)) ≡ row_major (x ∷ a) (y ∷ b)
-    cases false t = ap (ordering_then (int_cmp x y)) rest
-    cases true t =
+    cases : (t : Bool) → is_among places n ≡ t → row_major (items_but places (n + 1) a) (items_but places (n + 1) b) ≡ row_major a b
+        → row_major (cond t (items_but places (n + 1) a) (x ∷ items_but places (n + 1) a)) (cond t (items_but places (n + 1) b) (y ∷ items_but places (n + 1) b)) ≡ row_major (x ∷ a) (y ∷ b)
+    cases false t rest = ap (ordering_then (int_cmp x y)) rest
+    cases true t rest =
         let zeroth : n ≡ n + 0 = omega arith in
         let same : x ≡ y = agree 0 n zeroth t in
         let tied : int_cmp x y ≡ Equal = ap (λ (z : ℤ). int_cmp x z) (sym same) ∙ itself x in
@@ -68,7 +68,7 @@ inside_but places n (d ∷ dims) (x ∷ c) e = cases (is_among places n) (inside
 -- coordinates with the fixed numbers agree in these
 agree : (fixed : List Fixed) (m : ℕ) (a b : Coordinate) → has_fixed fixed a ≡ true → has_fixed fixed b ≡ true → is_among (fixed_places fixed) m ≡ true → slice_index_or a m (pos 0) ≡ slice_index_or b m (pos 0)
 agree [] m a b e f t = cc
-agree (g ∷ fixed) m a b e f t = cases (g.dimension == m) refl t
+agree (g ∷ fixed) m a b e f t = cases (g.dimension == m) refl t (agree fixed m a b p.1 q.1)
   where
     p : (int_eq (slice_index_or a g.dimension (pos 0)) g.at ≡ true) × (has_fixed fixed a ≡ true)
     p = and_parts (int_eq (slice_index_or a g.dimension (pos 0)) g.at) (has_fixed fixed a) e
@@ -76,9 +76,10 @@ agree (g ∷ fixed) m a b e f t = cases (g.dimension == m) refl t
     q : (int_eq (slice_index_or b g.dimension (pos 0)) g.at ≡ true) × (has_fixed fixed b ≡ true)
     q = and_parts (int_eq (slice_index_or b g.dimension (pos 0)) g.at) (has_fixed fixed b) f
 
-    cases : (s : Bool) → (g.dimension == m) ≡ s → (s || is_among (fixed_places fixed) m) ≡ true → slice_index_or a m (pos 0) ≡ slice_index_or b m (pos 0)
-    cases false s u = agree fixed m a b p.1 q.1 u
-    cases true s u =
+    cases : (s : Bool) → (g.dimension == m) ≡ s → (s || is_among (fixed_places fixed) m) ≡ true → (is_among (fixed_places fixed) m ≡ true → slice_index_or a m (pos 0) ≡ slice_index_or b m (pos 0))
+        → slice_index_or a m (pos 0) ≡ slice_index_or b m (pos 0)
+    cases false s u rest = rest u
+    cases true s u rest =
         let here : g.dimension ≡ m = eqb-true g.dimension m s in
         let left : slice_index_or a g.dimension (pos 0) ≡ g.at = (signed_Decides (slice_index_or a g.dimension (pos 0)) g.at).0 p.0 in
         let right : slice_index_or b g.dimension (pos 0) ≡ g.at = (signed_Decides (slice_index_or b g.dimension (pos 0)) g.at).0 q.0 in

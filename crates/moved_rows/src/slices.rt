@@ -1,5 +1,5 @@
 //! Rows with fixed numbers, without these.
-ghost use Rattle.std.specs.Prelude.{◌≡◌, ◌+◌, ◌≤◌, ◌==◌, ◌++◌, ◌∷◌, [], pos, if◌then◌else◌, length, map, slice_index_or, OnOk, IfOk};
+ghost use Rattle.std.specs.Prelude.{◌≡◌, ◌+◌, ◌≤◌, ◌<◌, ◌==◌, ◌++◌, ◌∷◌, [], pos, if◌then◌else◌, length, map, slice_index_or, OnOk, IfOk};
 ghost use Rattle.std.specs.List.{list_any};
 ghost use Rattle.array_rows.specs.Boxes.{moved};
 ghost use Rattle.logical_plan.specs.BoxOps.{fixed_places, has_fixed, items_but, slice_rows};
@@ -31,6 +31,16 @@ fn is_fixed(fixed: &[Fixed], place: usize) -> bool
     fixed.iter().any(|f| f.dimension as usize == place)
 }
 
+fn push_unless(out: &mut Coord, is_left_out: bool, number: &i64)
+    requires { length out.old.items < 6 }
+    ensures value { out.new.items ≡ out.old.items ++ (if is_left_out then [] else number.now ∷ []) }
+    ensures room { length out.new.items ≤ length out.old.items + 1 }
+{
+    if !is_left_out {
+        out.push(*number);
+    }
+}
+
 /// Adds the numbers of a coordinate that are not fixed. The first one has the place `place`.
 fn push_free(out: &mut Coord, at: &[i64], fixed: &[Fixed], place: usize)
     requires room { length out.old.items + length at.now ≤ 6 }
@@ -40,9 +50,7 @@ fn push_free(out: &mut Coord, at: &[i64], fixed: &[Fixed], place: usize)
     match at {
         [] => {}
         [number, at @ ..] => {
-            if !is_fixed(fixed, place) {
-                out.push(*number);
-            }
+            push_unless(out, is_fixed(fixed, place), number);
             push_free(out, at, fixed, place + 1);
         }
     }
