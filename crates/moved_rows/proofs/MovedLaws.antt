@@ -1,7 +1,6 @@
 -- Rows at other coordinates, in the same order.
-use Rattle.std.proofs.Common.{◌≡◌, Bool, true, false, cond, List, [], ◌∷◌, map, refl, ap, ◌∙◌}
+use Rattle.std.proofs.Common.{◌≡◌, Bool, true, false, cond, List, [], ◌∷◌, map, refl, ◌∙◌}
 use Rattle.std.specs.List.{AllByRecursion}
-use Rattle.std.specs.declared.cmp.Ordering.TheVariants.{Less}
 use Rattle.cell_values.specs.declared.datum.Row.{Row}
 use Rattle.array_rows.specs.Boxes.{moved}
 use Rattle.array_rows.specs.Rows.{Coordinate, row_major, IsBefore, IsRising, rows_where}

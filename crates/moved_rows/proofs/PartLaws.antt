@@ -1,9 +1,8 @@
 -- Rows in a box, moved so that the box begins at 0, are an array.
-use Rattle.std.proofs.Common.{◌≡◌, ◌-◌, ◌≤◌, ◌^◌, ℤ, pos, negsuc, ◌≤ℤ◌, ◌<ℤ◌, ◌-ℤ◌, Bool, true, false, ◌&&◌, List, [], ◌∷◌, map, refl, sym, ap, subst, ◌∙◌, arith, min}
+use Rattle.std.proofs.Common.{◌≡◌, ◌-◌, ◌≤◌, ◌^◌, ℤ, pos, negsuc, ◌≤ℤ◌, ◌<ℤ◌, ◌-ℤ◌, true, ◌&&◌, List, [], ◌∷◌, map, refl, sym, ap, subst, ◌∙◌, arith, min}
 use Rattle.std.proofs.lemmas.Int.{ints, clamps}
 use Rattle.std.specs.Cmp.{int_cmp_is, int_ranks}
 use Rattle.std.specs.Int.{w64, saturate_signed, int_min, int_max}
-use Rattle.std.specs.List.{AllByRecursion}
 use Rattle.std.specs.Ordering.{int_cmp, ordering_then, MatchOrdering}
 use Rattle.std.specs.Prelude.{int_le}
 use Rattle.std.specs.declared.cmp.Ordering.{Ordering}
@@ -24,7 +23,7 @@ use Rattle.logical_plan.specs.BoxOps.{subarray_rows}
 use Rattle.logical_plan.specs.PlanSchema.{subarray_dimensions}
 use Rattle.moved_rows.specs.Laws.{SubarraysAreArrays}
 use Rattle.moved_rows.specs.Moves.{lowered}
-use Rattle.moved_rows.proofs.MovedLaws.{KeepsOrder, AllAt, rising_moved, all_moved, moved_alike, all_where, passing}
+use Rattle.moved_rows.proofs.MovedLaws.{AllAt, rising_moved, all_moved, moved_alike, all_where, passing}
 
 abbrev less : List ℤ → Coordinate → Coordinate
 less lo c = by_pairs (λ x l. x -ℤ l) c lo

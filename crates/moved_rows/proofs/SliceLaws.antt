@@ -1,24 +1,22 @@
 -- Rows with fixed numbers, without these, are an array.
-use Rattle.std.proofs.Common.{◌≡◌, ℕ, suc, ◌+◌, ℤ, pos, Bool, true, false, cond, ◌&&◌, ◌||◌, List, [], ◌∷◌, map, length, refl, sym, ap, ◌∙◌, arith}
+use Rattle.std.proofs.Common.{◌≡◌, ℕ, suc, ◌+◌, ℤ, pos, Bool, true, false, cond, ◌&&◌, ◌||◌, List, [], ◌∷◌, length, refl, sym, ap, ◌∙◌, arith}
 use Rattle.std.proofs.lemmas.Bool.{eqb-true}
 use Rattle.std.proofs.lemmas.Cmp.{int_cmp_total, tied_itself}
 use Rattle.std.specs.Cmp.{signed_Decides}
-use Rattle.std.specs.List.{AllByRecursion, list_any, list_all}
+use Rattle.std.specs.List.{list_any}
 use Rattle.std.specs.Ordering.{int_cmp, int_eq, ordering_then}
 use Rattle.std.specs.Prelude.{◌==◌, int_le, slice_index_or}
 use Rattle.std.specs.declared.cmp.Ordering.{Ordering}
-use Rattle.std.specs.declared.cmp.Ordering.TheVariants.{Less, Equal, Greater}
+use Rattle.std.specs.declared.cmp.Ordering.TheVariants.{Equal}
 use Rattle.cell_values.specs.declared.datum.Row.{Row}
 use Rattle.cell_values.specs.declared.schema.Dimension.{Dimension}
-use Rattle.cell_values.specs.declared.schema.Schema.{Schema}
 use Rattle.cell_values.specs.Cells.{IsCellOf}
-use Rattle.array_rows.specs.Arrays.{AreRowsOf}
-use Rattle.array_rows.specs.Boxes.{is_between, is_inside, moved, bounds_of}
+use Rattle.array_rows.specs.Boxes.{is_inside, bounds_of}
 use Rattle.array_rows.specs.Rows.{Coordinate, row_major, rows_where}
 use Rattle.array_rows.proofs.RowSets.{IsRising-rows_where}
 use Rattle.array_geom.proofs.TestLaws.{and_parts, and_both}
 use Rattle.logical_plan.specs.declared.parts.Fixed.{Fixed}
-use Rattle.logical_plan.specs.BoxOps.{items_but, has_fixed, fixed_places, slice_rows}
+use Rattle.logical_plan.specs.BoxOps.{items_but, has_fixed, fixed_places}
 use Rattle.moved_rows.specs.Laws.{SlicesAreArrays}
 use Rattle.moved_rows.proofs.MovedLaws.{AllAt, rising_moved, all_moved, all_where, passing}
 
@@ -105,7 +103,7 @@ slices_are_arrays fixed schema rows a v =
     let places = fixed_places fixed in
     let some : List Row = rows_where (has_fixed fixed) rows in
     let fit : AllAt (Fits dims fixed) some =
-        all_fit dims fixed some (all_where (λ row. is_inside (bounds_of dims) row.at.items ≡ true) (has_fixed fixed) rows a.are_rows.in_bounds) (passing (has_fixed fixed) rows) in
+    all_fit dims fixed some (all_where (λ row. is_inside (bounds_of dims) row.at.items ≡ true) (has_fixed fixed) rows a.are_rows.in_bounds) (passing (has_fixed fixed) rows) in
     record {
       valid = v;
       are_rows = record {

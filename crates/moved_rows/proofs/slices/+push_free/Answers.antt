@@ -1,4 +1,4 @@
-use Rattle.moved_rows.proofs.FreeLaws.{free_first, free_next}
+use Rattle.moved_rows.proofs.FreeLaws.{free_next}
 use Rattle.moved_rows.proofs.slices.+push_free.Goals as goal
 
 pub returns-in-len1-up : goal.returns-in-len1-up
