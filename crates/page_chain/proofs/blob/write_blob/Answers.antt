@@ -1,0 +1,36 @@
+use Rattle.std.proofs.Common.{◌≡◌, ℕ, ◌+◌, ◌*◌, List, [], ◌∷◌, length, drop, slice_index, refl, sym, ◌∙◌, arith}
+use Rattle.page_layout.specs.Places.{KeepsPages}
+use Rattle.page_chain.specs.Pages.{page_size, page_at, piece_of}
+use Rattle.page_chain.proofs.Kept.{size_is, one_of}
+use Rattle.page_chain.proofs.RunLemmas.{writes_on, writes_more, sees_on}
+use Rattle.page_chain.proofs.WriteLemmas.{WroteSoFar, wrote_more, next_rest, blob_piece, length-piece}
+use Rattle.page_chain.proofs.blob.write_blob.Goals as goal
+
+pub write_page-requires : goal.write_page-requires
+write_page-requires g c = omega (arith, size_is)
+
+pub returns-in_err-write_page-clause-writes : goal.returns-in_err-write_page-clause-writes
+returns-in_err-write_page-clause-writes g c =
+    let pages = c.args.pages.now in
+    let page = slice_index pages c.loop-page.page-index in
+    writes_on pages _ _ _ _ _ _ _ _ _ c.loop-page.invariant.writes
+    (writes_more (page ∷ []) pages _ _ _ _ _ _ (λ number none. one_of pages c.loop-page.page-index page number c.loop-page-test.true refl none) c.in_err-write_page.ensures.writes)
+
+pub loop-page-preserved : goal.loop-page-preserved
+loop-page-preserved g c =
+    let pages = c.args.pages.now in
+    let i = c.loop-page.page-index in
+    let page = slice_index pages i in
+    let pieces : ℕ → List ℕ = λ k. piece_of page_size c.args.bytes.now k in
+    let before = c.loop-page.invariant in
+    let step = c.in_ok-write_page.ensures in
+    let size : length c.loop-page.piece ≡ page_size = c.loop-page-test.array_long ∙ sym size_is in
+    record {
+      writes = writes_on pages _ _ _ _ _ _ _ _ _ before.writes (writes_more (page ∷ []) pages _ _ _ _ _ _ (λ number none. one_of pages i page number c.loop-page-test.true refl none) step.writes);
+      seen = sees_on (g.D.Disk.state c.args.disk.now) (g.D.Disk.state c.loop-page.disk) (g.D.Disk.state c.write_page.new.disk)
+          (WroteSoFar pages pieces i) (λ seen now. KeepsPages (page ∷ []) seen now × (page_at page_size now page ≡ c.put_front-rest.new.piece)) (WroteSoFar pages pieces (i + 1))
+          (λ x y z so_far more. wrote_more pages pieces i page x y z c.requires.distinct (λ k. length-piece page_size (drop (k * page_size) c.args.bytes.now)) c.loop-page-test.true refl so_far more.0
+          (more.1 ∙ blob_piece (length c.loop-page.piece) i c.put_front-rest.new.piece c.loop-page.rest.now c.args.bytes.now size c.put_front-rest.ensures.piece before.rest))
+          before.writes.same before.seen step.seen;
+      rest = next_rest (length c.loop-page.piece) page_size i c.loop-page.rest.now c.put_front-rest.result.now c.args.bytes.now size c.put_front-rest.ensures.rest before.rest;
+    }
