@@ -1,0 +1,9 @@
+//! Which pages of a file are live, and how many may be given out.
+#![tactic(auto)]
+
+mod page_set;
+
+pub use page_set::{PageSet, free_of, is_in, live};
+
+#[cfg(test)]
+mod tests;
