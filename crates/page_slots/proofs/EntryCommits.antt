@@ -158,7 +158,7 @@ module _ (slots : Slots) (target : slots.target ≡ targets.Record) (there : IsT
         sure = λ is. not_both is;
         filled = at_record slots.target (λ t. IfSome (filled_gate t later) (λ at. (c : List ℕ) → now c → SameBut at 1 torn c)) target
             (entry_filled slots.next (entry_gate slots) seen torn before now (gate_same seen torn (sound.images seen here) tore) from_before
-                (from_record slots.target (λ t. IfSome (filled_gate t slots) (λ at. (c : List ℕ) → before c → SameBut at 1 seen c)) target sound.filled));
+            (from_record slots.target (λ t. IfSome (filled_gate t slots) (λ at. (c : List ℕ) → before c → SameBut at 1 seen c)) target sound.filled));
       }
 
   pub close_done : (seen : List ℕ) (before now : List ℕ → Type 0) → ¬ IsShutEntry slots.next → before seen → Only (written (entry_gate slots) (0 ∷ []) seen) now → IsSound slots seen before

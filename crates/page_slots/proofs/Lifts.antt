@@ -31,21 +31,21 @@ pub sound_done : (slots later : Slots) (at : ℕ) (bytes : List ℕ) (old new : 
     → ((seen : List ℕ) → before seen → Only (written at bytes seen) now → IsSound slots seen before → IsSound later (written at bytes seen) now) → KeepsSound slots later old new before now
 sound_done slots later at bytes old new before now read done step = λ honest.
     if_some_with old.seen before (λ seen. (new.seen ≡ Some (written at bytes seen)) × Only (written at bytes seen) now)
-        (λ seen. IsSound slots seen before → (seen_now : List ℕ) × (new.seen ≡ Some seen_now) × IsSound later seen_now now)
-        (λ seen here put. λ sound. (written at bytes seen, put.0, step seen here put.1 sound)) read (done honest)
+    (λ seen. IsSound slots seen before → (seen_now : List ℕ) × (new.seen ≡ Some seen_now) × IsSound later seen_now now)
+    (λ seen here put. λ sound. (written at bytes seen, put.0, step seen here put.1 sound)) read (done honest)
 
 pub sound_failed : (slots later : Slots) (at n : ℕ) (old new : DiskState) (before now : List ℕ → Type 0) → IfSome old.seen before → Failed_at old new at n
     → ((seen torn : List ℕ) → before seen → Torn at n seen torn → IsSound slots seen before → IsSound later torn now) → KeepsSound slots later old new before now
 sound_failed slots later at n old new before now read failed step = λ honest.
     if_some_with old.seen before (λ seen. (torn : List ℕ) × (new.seen ≡ Some torn) × Torn at n seen torn)
-        (λ seen. IsSound slots seen before → (seen_now : List ℕ) × (new.seen ≡ Some seen_now) × IsSound later seen_now now)
-        (λ seen here put. λ sound. (put.0, put.1, step seen put.0 here put.2 sound)) read (failed honest)
+    (λ seen. IsSound slots seen before → (seen_now : List ℕ) × (new.seen ≡ Some seen_now) × IsSound later seen_now now)
+    (λ seen here put. λ sound. (put.0, put.1, step seen put.0 here put.2 sound)) read (failed honest)
 
 pub always_opens : (slots during : Slots) (at n : ℕ) (old new : DiskState) (past since : ℕ → List ℕ → Type 0) (before now : List ℕ → Type 0) → OnlyPuts at n old new past since before now
     → ((seen : List ℕ) → IsSound slots seen before → (c : List ℕ) → Over at n before c → MayOpen during c) → LeavesOpening slots during old new past since before
 always_opens slots during at n old new past since before now puts step = λ honest.
     for_some old.seen (λ seen. IsSound slots seen before → LeavesOnly old.moment new.moment past since (MayOpen during))
-        (λ seen. λ sound. wider old.moment new.moment past since (Over at n before) (MayOpen during) (step seen sound) puts.time)
+    (λ seen. λ sound. wider old.moment new.moment past since (Over at n before) (MayOpen during) (step seen sound) puts.time)
 
 -- the same for a sync alone
 pub sound_synced : (slots later : Slots) (old new : DiskState) (past since : ℕ → List ℕ → Type 0) (before now : List ℕ → Type 0) → OnlySyncs old new past since before now
@@ -60,4 +60,4 @@ pub synced_opens : (slots during : Slots) (old new : DiskState) (past since : �
     → ((seen : List ℕ) → IsSound slots seen before → (c : List ℕ) → before c → MayOpen during c) → LeavesOpening slots during old new past since before
 synced_opens slots during old new past since before now syncs step = λ honest.
     for_some old.seen (λ seen. IsSound slots seen before → LeavesOnly old.moment new.moment past since (MayOpen during))
-        (λ seen. λ sound. wider old.moment new.moment past since before (MayOpen during) (step seen sound) syncs.time)
+    (λ seen. λ sound. wider old.moment new.moment past since before (MayOpen during) (step seen sound) syncs.time)

@@ -75,12 +75,15 @@ page_pushed log records entry c room gate hold =
 -- the log that the page has
 pub page_log : (log : ℕ) (records : List RecordAt) (next : NextEntry) (c : List ℕ) → (length records < 64 → slice_index c (4096 * log + 64 * length records) ≢ 1) → PageHolds log records next c
     → IsPage log (length c) × IsLog (4096 * log) records c
-page_log log records next c shut hold = (hold.is_page, record {
-  fits = hold.fits;
-  opened = hold.opened;
-  closed = λ k low high. ⊎_elim (λ (at_end : k ≡ length records). subst (λ (m : ℕ). slice_index c (4096 * log + 64 * m) ≢ 1) (sym at_end) (shut (below k at_end high))) (λ apart. hold.closed k (behind k low apart) high) (cases_eq k (length records));
-  each = hold.each;
-})
+page_log log records next c shut hold = (
+  hold.is_page,
+  record {
+    fits = hold.fits;
+    opened = hold.opened;
+    closed = λ k low high. ⊎_elim (λ (at_end : k ≡ length records). subst (λ (m : ℕ). slice_index c (4096 * log + 64 * m) ≢ 1) (sym at_end) (shut (below k at_end high))) (λ apart. hold.closed k (behind k low apart) high) (cases_eq k (length records));
+    each = hold.each;
+  },
+)
   where
     below : (k : ℕ) → k ≡ length records → k < 64 → length records < 64
     below k is high = omega arith

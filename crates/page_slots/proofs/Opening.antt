@@ -33,14 +33,14 @@ root_opens : (known : RootSlot) (side : Side) (it : OpenRoot) (c : List ℕ) →
 root_opens roots.Closed side it c front here hold = inl (is_newest side c it front here (inl hold))
 root_opens roots.Older side it c front here hold =
     inl (is_newest side c it front here (⊎_elim (λ none. inl none) (λ open_. inr (root_in open_.0 (other side) (root_at (body_of (other side)) c), open_.1, older open_.0))
-        (opened_cases (other side) (slice_index c (gate_of (other side))) (root_at (body_of (other side)) c))))
+    (opened_cases (other side) (slice_index c (gate_of (other side))) (root_at (body_of (other side)) c))))
   where
     older : (format : Format) → (root_in format (other side) (root_at (body_of (other side)) c)).root.sequence < it.root.sequence
     older format = subst (λ (n : ℕ). n < it.root.sequence) (sym (same_sequence format (other side) (root_at (body_of (other side)) c))) hold
 root_opens (roots.Written root) side it c front here hold = inl (is_newest side c it front here (inl hold.0))
 root_opens (roots.Opening root) side it c front here hold =
     ⊎_elim (λ none. inl (is_newest side c it front here (inl none))) (λ open_. inr (open_.0, opens open_.0 open_.1))
-        (opened_cases (other side) (slice_index c (gate_of (other side))) (root_at (body_of (other side)) c))
+    (opened_cases (other side) (slice_index c (gate_of (other side))) (root_at (body_of (other side)) c))
   where
     back : slot_in (other (other side)) c ≡ Some it
     back = subst (λ (s : Side). slot_in s c ≡ Some it) (sym (other_twice side)) here
@@ -80,5 +80,5 @@ with_next (entries.Opening entry) it records c is log = record { slot = is; log 
 pub may_open : (slots : Slots) (c : List ℕ) → Holds slots c → MayOpen slots c
 may_open slots c hold = ⊎_elim
     (λ is. ⊎_elim (λ log. inl (record { slot = is; log = log })) (λ more. inr (inr (with_next slots.next slots.current slots.records c is more)))
-        (log_opens slots.current.format slots.current.root.log slots.records slots.next c hold.log))
+    (log_opens slots.current.format slots.current.root.log slots.records slots.next c hold.log))
     (λ newer_root. inr (inl newer_root)) (root_opens slots.other slots.current.side slots.current c hold.roots.front hold.roots.current hold.roots.other)

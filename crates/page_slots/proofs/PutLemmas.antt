@@ -48,7 +48,7 @@ pub put_torn : (at : ℕ) (bytes : List ℕ) (old mid new : DiskState) → new.s
     → IsTrue old.honest → IfSome old.seen (λ seen. (torn : List ℕ) × (new.seen ≡ Some torn) × Torn at (length bytes) seen torn)
 put_torn at bytes old mid new same wrote honest =
     if_some old.seen (λ seen. mid.seen ≡ Some (written at bytes seen)) (λ seen. (torn : List ℕ) × (new.seen ≡ Some torn) × Torn at (length bytes) seen torn)
-        (λ seen is. (written at bytes seen, same ∙ is, Torn-written at bytes seen)) (wrote honest)
+    (λ seen is. (written at bytes seen, same ∙ is, Torn-written at bytes seen)) (wrote honest)
 
 -- what holds of all that is left holds of what follows from it
 pub wider : (before now : ℕ) (past since : ℕ → List ℕ → Type 0) (P Q : List ℕ → Type 0) → ((c : List ℕ) → P c → Q c) → LeavesOnly before now past since P → LeavesOnly before now past since Q

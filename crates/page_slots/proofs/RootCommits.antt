@@ -232,7 +232,7 @@ close_done slots seen before now ajar target here only sound =
     let closed : IsSound later file now = record {
       images = λ c left. subst (Holds later) (sym (only c left)) (any_doubt (record slots { other = shut_root slots.other }) false file
           (root_changed slots (shut_root slots.other) seen file (gate_wide (other slots.current.side) seen file same) (sound.images seen here)
-              (gate_zero slots.other (other slots.current.side) slots.current.root.sequence seen file ajar same zero (sound.images seen here).roots.other)));
+          (gate_zero slots.other (other slots.current.side) slots.current.root.sequence seen file ajar same zero (sound.images seen here).roots.other)));
       zeroed = at_root slots.target (λ t. ZeroHolds t slots.zeroed file) target (zero_in slots.zeroed (gate_of (other slots.current.side)) 1 seen file (omega (arith, side_high (other slots.current.side))) same (from_root slots.target (λ t. ZeroHolds t slots.zeroed seen) target sound.zeroed));
       alone = at_root slots.target (λ t. IsAlone t later) target (from_root slots.target (λ t. IsAlone t slots) target sound.alone);
       sure = λ is. (still_shut slots.other, from_root slots.target (λ t. IsAlone t slots) target sound.alone);
@@ -248,7 +248,7 @@ module _ (slots : Slots) (root : Root) (is_written : slots.other ≡ roots.Writt
   filled_seen : (seen : List ℕ) (before : List ℕ → Type 0) → IsSound slots seen before → (c : List ℕ) → before c → SameBut (gate_of (other slots.current.side)) 1 seen c
   filled_seen seen before sound =
       subst (λ (k : RootSlot). IfSome (filled_root k (other slots.current.side)) (λ at. (c : List ℕ) → before c → SameBut at 1 seen c)) is_written
-          (from_root slots.target (λ t. IfSome (filled_gate t slots) (λ at. (c : List ℕ) → before c → SameBut at 1 seen c)) target sound.filled)
+      (from_root slots.target (λ t. IfSome (filled_gate t slots) (λ at. (c : List ℕ) → before c → SameBut at 1 seen c)) target sound.filled)
 
   zero_seen : (seen : List ℕ) (before : List ℕ → Type 0) → IsSound slots seen before → IsZeroed root.log seen
   zero_seen seen before sound = subst (λ (o : Option ℕ). IfSome o (λ page. IsZeroed page seen)) is_zeroed (from_root slots.target (λ t. ZeroHolds t slots.zeroed seen) target sound.zeroed)

@@ -92,3 +92,35 @@ with_record at slots = record slots {
   next = entries.Closed;
   zeroed = None;
 }
+
+-- The target's gate is being opened.
+abbrev pub ajar_root : RootSlot → RootSlot
+ajar_root roots.Closed = roots.Closed
+ajar_root roots.Older = roots.Older
+ajar_root (roots.Written root) = roots.Opening root
+ajar_root (roots.Opening root) = roots.Opening root
+
+abbrev pub ajar_entry : NextEntry → NextEntry
+ajar_entry entries.Closed = entries.Closed
+ajar_entry (entries.Written entry) = entries.Opening entry
+ajar_entry (entries.Opening entry) = entries.Opening entry
+
+abbrev pub ajar : Target → Slots → Slots
+ajar targets.Root slots = record slots { other = ajar_root slots.other }
+ajar targets.Record slots = record slots { next = ajar_entry slots.next }
+
+-- The target is open: what was written has become current, or has come into the log.
+abbrev pub with_other : RootSlot → Slots → Slots
+with_other roots.Closed slots = slots
+with_other roots.Older slots = slots
+with_other (roots.Written root) slots = with_root root slots
+with_other (roots.Opening root) slots = slots
+
+abbrev pub with_next : NextEntry → Slots → Slots
+with_next entries.Closed slots = slots
+with_next (entries.Written entry) slots = with_record entry slots
+with_next (entries.Opening entry) slots = slots
+
+abbrev pub with_target : Target → Slots → Slots
+with_target targets.Root slots = with_other slots.other slots
+with_target targets.Record slots = with_next slots.next slots

@@ -5,7 +5,7 @@ ghost use Rattle.afl_outside.specs.Disk.{LeavesOnly, Only};
 ghost use Rattle.page_layout.specs.Places.{body_of, other, gate_of};
 ghost use Rattle.page_slots.specs.Puts.{OnlyPuts, OnlySyncs};
 ghost use Rattle.page_slots.specs.Standing.{entry_gate, gate_place, IsTarget, IsShut, IsClosed, IsReady, IsShutRoot, IsShutEntry, KeepsSound, LeavesOpening, IsDurable};
-ghost use Rattle.page_slots.specs.Steps.{shut, doubted, with_root, with_record};
+ghost use Rattle.page_slots.specs.Steps.{shut, doubted, with_root, with_record, with_target, ajar};
 ghost use Rattle.page_slots.specs.declared.slots.RootSlot.TheVariants as roots;
 ghost use Rattle.page_slots.specs.declared.slots.NextEntry.TheVariants as entries;
 ghost use Rattle.page_slots.specs.declared.slots.Target.TheVariants as targets;
@@ -43,11 +43,7 @@ pub fn write_root<D: Disk>(slots: &mut Slots, disk: &mut D, root: Root) -> Resul
 }
 
 /// Writes the body of the log entry behind the open ones.
-pub fn write_record<D: Disk>(
-    slots: &mut Slots,
-    disk: &mut D,
-    at: RecordAt,
-) -> Result<(), Failed>
+pub fn write_record<D: Disk>(slots: &mut Slots, disk: &mut D, at: RecordAt) -> Result<(), Failed>
     requires closed { IsShutEntry slots.old.next }
     requires sure { slots.old.doubtful ≡ false }
     requires target { slots.old.target ≡ targets.Record }
@@ -189,5 +185,50 @@ fn open_entry<D: Disk>(slots: &mut Slots, disk: &mut D, at: RecordAt) -> Result<
             slots.doubtful = true;
             Err(Failed)
         }
+    }
+}
+
+/// Closes the target on the disk. Where its gate can't stand open it is only synced: a write over a closed gate might leave an open
+/// one, over a body that isn't whole.
+pub fn close_slot<D: Disk>(slots: &mut Slots, disk: &mut D) -> Result<(), Failed>
+    requires { IsTarget slots.old }
+    ensures slots { MatchResult result (λ _. slots.new ≡ shut slots.old.target slots.old) (λ _. slots.new ≡ doubted slots.old) }
+    ensures sound { KeepsSound slots.old slots.new (D.state disk.old) (D.state disk.new) (D.may_leave disk.old) (D.may_leave disk.new) }
+    ensures opens { LeavesOpening slots.old slots.old (D.state disk.old) (D.state disk.new) (D.left_since disk.old) (D.left_since disk.new) (D.may_leave disk.old) }
+    ensures durable { OnOk result (IsDurable (D.state disk.old) (D.state disk.new) (D.may_leave disk.new)) }
+    ensures writes { OnlyPuts (gate_place slots.old.target slots.old) 1 (D.state disk.old) (D.state disk.new) (D.left_since disk.old) (D.left_since disk.new) (D.may_leave disk.old) (D.may_leave disk.new) }
+    ensures cause { OnErr result (Rose (D.state disk.old).faults (D.state disk.new).faults ⊎ Rose (D.state disk.old).wants (D.state disk.new).wants) }
+    ensures quiet { IsShut slots.old.target slots.old → OnlySyncs (D.state disk.old) (D.state disk.new) (D.left_since disk.old) (D.left_since disk.new) (D.may_leave disk.old) (D.may_leave disk.new) }
+{
+    if !slots.may_stand_open() {
+        return close_settled(slots, disk);
+    }
+    match slots.target {
+        Target::Root => close_root(slots, disk),
+        Target::Record => close_entry(slots, disk),
+    }
+}
+
+/// Opens the target, once what it is to open is on the disk.
+pub fn open_slot<D: Disk>(slots: &mut Slots, disk: &mut D) -> Result<(), Failed>
+    requires ready { IsReady slots.old.target slots.old }
+    requires sure { slots.old.doubtful ≡ false }
+    requires there { IsTarget slots.old }
+    ensures slots { MatchResult result (λ _. slots.new ≡ with_target slots.old.target slots.old) (λ _. slots.new ≡ doubted (ajar slots.old.target slots.old)) }
+    ensures sound { KeepsSound slots.old slots.new (D.state disk.old) (D.state disk.new) (D.may_leave disk.old) (D.may_leave disk.new) }
+    ensures opens { LeavesOpening slots.old (ajar slots.old.target slots.old) (D.state disk.old) (D.state disk.new) (D.left_since disk.old) (D.left_since disk.new) (D.may_leave disk.old) }
+    ensures durable { OnOk result (IsDurable (D.state disk.old) (D.state disk.new) (D.may_leave disk.new)) }
+    ensures writes { OnlyPuts (gate_place slots.old.target slots.old) 1 (D.state disk.old) (D.state disk.new) (D.left_since disk.old) (D.left_since disk.new) (D.may_leave disk.old) (D.may_leave disk.new) }
+    ensures cause { OnErr result (Rose (D.state disk.old).faults (D.state disk.new).faults ⊎ Rose (D.state disk.old).wants (D.state disk.new).wants) }
+{
+    match slots.target {
+        Target::Root => match slots.other {
+            RootSlot::Written(root) => open_root(slots, disk, root),
+            _ => unreachable!(),
+        },
+        Target::Record => match slots.next {
+            NextEntry::Written(at) => open_entry(slots, disk, at),
+            _ => unreachable!(),
+        },
     }
 }

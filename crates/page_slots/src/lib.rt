@@ -6,5 +6,5 @@ mod puts;
 mod slots;
 mod steps;
 
-pub use commits::write_root;
+pub use commits::{close_slot, open_slot, write_record, write_root};
 pub use slots::{NextEntry, RootSlot, Slots, Target};
