@@ -115,12 +115,20 @@ pub fn log_in(page: &[u8]) -> Option<Records>
     }
 }
 
-/// The body of a log entry.
-pub fn record_body(at: RecordAt) -> [u8; 12]
+fn record_bytes(at: RecordAt) -> [u8; 12]
     ensures { result ≡ little_bytes 8 at.length ++ little_bytes 4 at.first }
 {
     let mut body = [0; 12];
     LittleEndian::write_u64(&mut body, at.length);
     LittleEndian::write_u32(&mut body[8..], at.first);
     body
+}
+
+/// The body of a log entry.
+pub fn record_body(at: RecordAt) -> [u8; 12]
+    ensures bytes { result ≡ little_bytes 8 at.length ++ little_bytes 4 at.first }
+    ensures reads { record_at 0 result ≡ at }
+    ensures size { length result ≡ 12 }
+{
+    record_bytes(at)
 }

@@ -99,8 +99,7 @@ pub fn current_in(page: &[u8]) -> Option<OpenRoot>
     }
 }
 
-/// The body of a root slot.
-pub fn root_body(root: Root) -> [u8; 24]
+fn root_bytes(root: Root) -> [u8; 24]
     ensures { result ≡ little_bytes 8 root.sequence ++ little_bytes 8 root.length ++ little_bytes 4 root.first ++ little_bytes 4 root.log }
 {
     let mut body = [0; 24];
@@ -109,4 +108,13 @@ pub fn root_body(root: Root) -> [u8; 24]
     LittleEndian::write_u32(&mut body[16..], root.first);
     LittleEndian::write_u32(&mut body[20..], root.log);
     body
+}
+
+/// The body of a root slot.
+pub fn root_body(root: Root) -> [u8; 24]
+    ensures bytes { result ≡ little_bytes 8 root.sequence ++ little_bytes 8 root.length ++ little_bytes 4 root.first ++ little_bytes 4 root.log }
+    ensures reads { root_at 0 result ≡ root }
+    ensures size { length result ≡ 24 }
+{
+    root_bytes(root)
 }

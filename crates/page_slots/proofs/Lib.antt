@@ -1,0 +1,9 @@
+pub mod PutLemmas
+pub mod Bytes
+pub mod RootImages
+pub mod LogImages
+pub mod Opening
+pub mod Lifts
+pub mod RootCommits
+pub mod EntryCommits
+pub mod Settled

@@ -1,0 +1,41 @@
+use Rattle.std.proofs.Common.{◌≡◌, ℕ, List, [], ◌∷◌, length, true, refl, sym, subst, ◌∙◌, ◌+◌, ap, arith}
+use Rattle.page_layout.specs.Places.{gate_of, body_of, other}
+use Rattle.page_layout.specs.declared.sides.Side.{Side}
+use Rattle.afl_outside.specs.Disk.{written}
+use Rattle.page_slots.specs.declared.slots.Slots.{Slots}
+use Rattle.page_slots.specs.Standing.{entry_gate, IsSound}
+use Rattle.page_slots.specs.Steps.{shut, with_root, with_record}
+use Rattle.page_slots.specs.declared.slots.RootSlot.TheVariants as roots
+use Rattle.page_slots.specs.declared.slots.NextEntry.TheVariants as entries
+use Rattle.page_slots.proofs.Lifts.{done_at, failed_at, puts_at, sound_done, sound_failed, always_opens}
+use Rattle.page_slots.proofs.EntryCommits.{open_done, open_failed, open_opens}
+use Rattle.page_slots.proofs.commits.open_entry.Goals as goal
+
+pub returns-in-Ok-clause-sound : goal.returns-in-Ok-clause-sound
+returns-in-Ok-clause-sound g c =
+    let at : c.entry_gate-place.result ≡ entry_gate c.args.slots.now = c.entry_gate-place.ensures in
+    sound_done c.args.slots.now c.take_record.new.self (entry_gate c.args.slots.now) (1 ∷ []) (g.D.Disk.state c.args.disk.now) (g.D.Disk.state c.put.new.disk) (g.D.Disk.may_leave c.args.disk.now) (g.D.Disk.may_leave c.put.new.disk) (g.met.D.Disk.as_read c.args.disk.now)
+    (done_at (g.D.Disk.state c.args.disk.now) (g.D.Disk.state c.put.new.disk) (g.D.Disk.may_leave c.put.new.disk) (c.entry_gate-place.result) (entry_gate c.args.slots.now) (1 ∷ []) (1 ∷ []) at refl c.in-Ok.ensures.put)
+    (λ seen here only sound. subst (λ (s : Slots). IsSound s (written (entry_gate c.args.slots.now) (1 ∷ []) seen) (g.D.Disk.may_leave c.put.new.disk)) (sym c.take_record.ensures) (open_done c.args.slots.now c.requires.target c.requires.there c.args.at seen (g.D.Disk.may_leave c.args.disk.now) (g.D.Disk.may_leave c.put.new.disk) c.requires.written c.requires.sure here only sound))
+
+pub returns-in-Ok-clause-opens : goal.returns-in-Ok-clause-opens
+returns-in-Ok-clause-opens g c =
+    let at : c.entry_gate-place.result ≡ entry_gate c.args.slots.now = c.entry_gate-place.ensures in
+    always_opens c.args.slots.now (record (c.args.slots.now) { next = entries.Opening c.args.at }) (entry_gate c.args.slots.now) 1 (g.D.Disk.state c.args.disk.now) (g.D.Disk.state c.put.new.disk) (g.D.Disk.left_since c.args.disk.now) (g.D.Disk.left_since c.put.new.disk) (g.D.Disk.may_leave c.args.disk.now) (g.D.Disk.may_leave c.put.new.disk)
+    (puts_at (c.entry_gate-place.result) (entry_gate c.args.slots.now) (length {A = ℕ} (1 ∷ [])) 1 (g.D.Disk.state c.args.disk.now) (g.D.Disk.state c.put.new.disk) (g.D.Disk.left_since c.args.disk.now) (g.D.Disk.left_since c.put.new.disk) (g.D.Disk.may_leave c.args.disk.now) (g.D.Disk.may_leave c.put.new.disk) at (refl) c.put.ensures.writes)
+    (λ seen sound. open_opens c.args.slots.now c.requires.target c.requires.there c.args.at seen (g.D.Disk.may_leave c.args.disk.now) c.requires.written c.requires.sure sound)
+
+pub returns-in-Err-clause-sound : goal.returns-in-Err-clause-sound
+returns-in-Err-clause-sound g c =
+    let at : c.entry_gate-place.result ≡ entry_gate c.args.slots.now = c.entry_gate-place.ensures in
+    let puts = puts_at (c.entry_gate-place.result) (entry_gate c.args.slots.now) (length {A = ℕ} (1 ∷ [])) 1 (g.D.Disk.state c.args.disk.now) (g.D.Disk.state c.put.new.disk) (g.D.Disk.left_since c.args.disk.now) (g.D.Disk.left_since c.put.new.disk) (g.D.Disk.may_leave c.args.disk.now) (g.D.Disk.may_leave c.put.new.disk) at (refl) c.put.ensures.writes in
+    sound_failed c.args.slots.now (record (c.args.slots.now) { next = entries.Opening c.args.at; doubtful = true }) (entry_gate c.args.slots.now) 1 (g.D.Disk.state c.args.disk.now) (g.D.Disk.state c.put.new.disk) (g.D.Disk.may_leave c.args.disk.now) (g.D.Disk.may_leave c.put.new.disk) (g.met.D.Disk.as_read c.args.disk.now)
+    (failed_at (g.D.Disk.state c.args.disk.now) (g.D.Disk.state c.put.new.disk) (c.entry_gate-place.result) (entry_gate c.args.slots.now) (length {A = ℕ} (1 ∷ [])) 1 at (refl) c.in-Err.ensures.put)
+    (λ seen torn here tore sound. open_failed c.args.slots.now c.requires.target c.requires.there c.args.at seen torn (g.D.Disk.may_leave c.args.disk.now) (g.D.Disk.may_leave c.put.new.disk) c.requires.written c.requires.sure here tore puts.crash sound)
+
+pub returns-in-Err-clause-opens : goal.returns-in-Err-clause-opens
+returns-in-Err-clause-opens g c =
+    let at : c.entry_gate-place.result ≡ entry_gate c.args.slots.now = c.entry_gate-place.ensures in
+    always_opens c.args.slots.now (record (c.args.slots.now) { next = entries.Opening c.args.at }) (entry_gate c.args.slots.now) 1 (g.D.Disk.state c.args.disk.now) (g.D.Disk.state c.put.new.disk) (g.D.Disk.left_since c.args.disk.now) (g.D.Disk.left_since c.put.new.disk) (g.D.Disk.may_leave c.args.disk.now) (g.D.Disk.may_leave c.put.new.disk)
+    (puts_at (c.entry_gate-place.result) (entry_gate c.args.slots.now) (length {A = ℕ} (1 ∷ [])) 1 (g.D.Disk.state c.args.disk.now) (g.D.Disk.state c.put.new.disk) (g.D.Disk.left_since c.args.disk.now) (g.D.Disk.left_since c.put.new.disk) (g.D.Disk.may_leave c.args.disk.now) (g.D.Disk.may_leave c.put.new.disk) at (refl) c.put.ensures.writes)
+    (λ seen sound. open_opens c.args.slots.now c.requires.target c.requires.there c.args.at seen (g.D.Disk.may_leave c.args.disk.now) c.requires.written c.requires.sure sound)
