@@ -10,7 +10,6 @@ use Rattle.cell_values.specs.declared.datum.Cell.{Cell}
 use Rattle.cell_values.specs.declared.datum.Row.{Row}
 use Rattle.cell_values.specs.declared.schema.Dimension.{Dimension}
 use Rattle.cell_values.specs.declared.schema.Schema.{Schema}
-use Rattle.std.specs.List.{AllByRecursion}
 use Rattle.chunk_cells.specs.Whole.{CoresRise}
 use Rattle.array_rows.specs.Boxes.{within}
 use Rattle.array_geom.specs.Geometry.{core}

@@ -39,11 +39,13 @@ are_cores dims margins rows chunks are = record {
 
 all_placed : (schema : Schema) (array : ChunkedArray) (rows : List Row) → HoldsRows schema array rows → (chunks : List Chunk) → AreFramed schema.dimensions (numbers chunks) → AllByRecursion (IsPart schema.dimensions array.margins.items rows) chunks → AllByRecursion (HasPlaces schema array.margins.items) chunks
 all_placed schema array rows h [] framed parts = tt
-all_placed schema array rows h (chunk ∷ chunks) framed parts =
-    (record {
-      framed = record { valid = h.rows_of.valid; core = framed.0; each = h.each; places = h.places };
-      placed = record { each = parts.0.each; in_frame = parts.0.in_frame };
-    }, all_placed schema array rows h chunks framed.1 parts.1)
+all_placed schema array rows h (chunk ∷ chunks) framed parts = (
+  record {
+    framed = record { valid = h.rows_of.valid; core = framed.0; each = h.each; places = h.places };
+    placed = record { each = parts.0.each; in_frame = parts.0.in_frame };
+  },
+  all_placed schema array rows h chunks framed.1 parts.1,
+)
 
 -- the cells of an array that holds rows have places
 pub have_places : (schema : Schema) (array : ChunkedArray) (rows : List Row) → HoldsRows schema array rows → HavePlaces schema array.margins.items array.chunks
@@ -58,10 +60,12 @@ cores_rise schema array rows chunks same h = subst (CoresRise schema.dimensions 
   where
     each : (xs : List Chunk) → AllByRecursion (IsPart schema.dimensions array.margins.items rows) xs → CoresRise schema.dimensions array.margins.items xs
     each [] parts = tt
-    each (chunk ∷ xs) parts =
-        (subst (λ (rs : List Row). IsRising (within (core schema.dimensions chunk.at.items) rs)) (sym parts.0.cells)
-        (IsRising-rows_where (is_inside (core schema.dimensions chunk.at.items)) (within (frame schema.dimensions array.margins.items chunk.at.items) rows)
-        (IsRising-rows_where (is_inside (frame schema.dimensions array.margins.items chunk.at.items)) rows h.rows_of.are_rows.rising)), each xs parts.1)
+    each (chunk ∷ xs) parts = (
+      subst (λ (rs : List Row). IsRising (within (core schema.dimensions chunk.at.items) rs)) (sym parts.0.cells)
+          (IsRising-rows_where (is_inside (core schema.dimensions chunk.at.items)) (within (frame schema.dimensions array.margins.items chunk.at.items) rows)
+          (IsRising-rows_where (is_inside (frame schema.dimensions array.margins.items chunk.at.items)) rows h.rows_of.are_rows.rising)),
+      each xs parts.1,
+    )
 
 -- the rows of its cores are those that it holds
 pub all_rows : (array : ChunkedArray) (chunks : List Chunk) (count : ℕ) (rows held : List Row) → chunks ≡ array.chunks → count ≡ length array.chunks → HoldsRows array.schema array held → rows ≡ core_rows array.schema.dimensions array.margins.items (take count chunks) → rows ≡ held

@@ -12,7 +12,11 @@ use cell_values::{Broken, Margins, Memory, Schema, copy_numbers};
 use chunk_build::assemble;
 
 /// An array that could not be computed.
-pub fn broken_array(schema: &Schema, margins: &Margins, broken: &Broken) -> Result<ChunkedArray, Memory>
+pub fn broken_array(
+    schema: &Schema,
+    margins: &Margins,
+    broken: &Broken,
+) -> Result<ChunkedArray, Memory>
     requires valid { IsValid schema.now }
     requires margins { length margins.now.items ≡ length schema.now.dimensions }
     ensures array { IfOk result (λ array. Is array (record { schema = schema.now; rows = Err broken.now })) }

@@ -1,5 +1,4 @@
-use Rattle.std.proofs.Common.{List, sym, subst}
-use Rattle.cell_values.specs.declared.datum.Row.{Row}
+use Rattle.std.proofs.Common.{sym, subst}
 use Rattle.array_geom.specs.Link.{HoldsRows, Is}
 use Rattle.chunk_cells.proofs.MergeLaws.{if_ok}
 use Rattle.chunk_cells.proofs.WholeLaws.{stands_for, gives_held, has_places}

@@ -1,4 +1,4 @@
-use Rattle.std.proofs.Common.{[], List, sym, ap, ◌∙◌, refl, subst}
+use Rattle.std.proofs.Common.{[], List, sym, ap, ◌∙◌, subst}
 use Rattle.cell_values.specs.declared.datum.Row.{Row}
 use Rattle.array_rows.specs.Rows.{IsRising, put_all}
 use Rattle.chunk_cells.proofs.MergeLaws.{at_end, begun, more_merged}

@@ -1,7 +1,6 @@
-use Rattle.std.proofs.Common.{◌≡◌, List, sym, ◌∙◌, subst}
+use Rattle.std.proofs.Common.{◌≡◌, sym, ◌∙◌, subst}
 use Rattle.std.specs.List.{AllByRecursion}
 use Rattle.std.specs.Vec.Iter.{into_iter_items}
-use Rattle.array_geom.specs.declared.chunk.Chunk.{Chunk}
 use Rattle.array_parts.specs.Placed.{HasPlaces}
 use Rattle.chunk_cells.proofs.MergeLaws.{if_ok}
 use Rattle.chunk_cells.proofs.WholeLaws.{cores_rise, all_rows}
