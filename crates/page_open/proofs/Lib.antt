@@ -1,0 +1,4 @@
+pub mod PageReads
+pub mod Fronts
+pub mod Fresh
+pub mod Told
