@@ -1,5 +1,5 @@
 -- Two pages.
-use Rattle.std.proofs.Common.{◌≡◌, ◌≢◌, ◌<◌, ℕ, zero, suc, List, [], ◌∷◌, length, slice_index, arith}
+use Rattle.std.proofs.Common.{◌≢◌, ℕ, zero, suc, [], ◌∷◌, arith}
 use Rattle.page_chain.specs.Pages.{AreDistinct}
 
 pub two_distinct : (a b : ℕ) → a ≢ b → AreDistinct (a ∷ b ∷ [])
