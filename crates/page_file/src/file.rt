@@ -1,0 +1,144 @@
+//! A database's file.
+ghost use Rattle.std.specs.Prelude.{◌≡◌, ◌<◌, ◌+◌, ◌⊎◌, true, false, IsTrue, IfSome, IfOk, IfErr, OnOk, OnErr, Ok, Err, MatchResult};
+ghost use Rattle.afl_outside.specs.Counts.{Rose};
+ghost use Rattle.page_layout.specs.Places.{body_of, other};
+ghost use Rattle.page_slots.specs.Puts.{OnlyPuts, OnlySyncs};
+ghost use Rattle.page_slots.specs.Standing.{entry_gate, gate_place, IsTarget, IsShut, IsReady, IsShutRoot, IsShutEntry, IsSound, KeepsSound, LeavesOpening, IsDurable};
+ghost use Rattle.page_slots.specs.Steps.{target_slot, shut, doubted, with_target, ajar};
+ghost use Rattle.page_slots.specs.declared.slots.RootSlot.TheVariants as roots;
+ghost use Rattle.page_slots.specs.declared.slots.NextEntry.TheVariants as entries;
+ghost use Rattle.page_slots.specs.declared.slots.Target.TheVariants as targets;
+ghost use Rattle.page_open.specs.Opened.{IsOpened, AreFresh, HasCause};
+
+use afl_outside::{Disk, Failed};
+use page_layout::{RecordAt, Root, Slot};
+use page_open::{OpenFault, open_slots};
+use page_slots::Slots;
+
+/// A database's file on a disk, with what is known of its slots.
+pub struct PageFile<D: Disk> {
+    disk: D,
+    slots: Slots,
+}
+
+impl<D: Disk> PageFile<D> {
+    /// Opens a file. A disk that isn't opened is handed back.
+    pub fn open(mut disk: D) -> Result<PageFile<D>, (OpenFault, D)>
+        ensures opened { IfSome (D.state disk).seen (λ seen. MatchResult result (λ file. IsOpened seen (Ok file.slots)) (λ x. IsOpened seen (Err x.0))) }
+        ensures sound { IsTrue (D.state disk).honest → IfSome (D.state disk).seen (λ seen. IfOk result (λ file. IsSound file.slots seen (D.may_leave file.disk))) }
+        ensures fresh { IfOk result (λ file. AreFresh file.slots) }
+        ensures reads { MatchResult result
+            (λ file. OnlySyncs (D.state disk) (D.state file.disk) (D.left_since disk) (D.left_since file.disk) (D.may_leave disk) (D.may_leave file.disk))
+            (λ x. OnlySyncs (D.state disk) (D.state x.1) (D.left_since disk) (D.left_since x.1) (D.may_leave disk) (D.may_leave x.1)) }
+        ensures cause { IfErr result (λ x. HasCause x.0 (D.state disk) (D.state x.1)) }
+    {
+        match open_slots(&mut disk) {
+            Ok(slots) => Ok(PageFile { disk, slots }),
+            Err(fault) => Err((fault, disk)),
+        }
+    }
+
+    /// The current root.
+    pub fn root(&self) -> Root
+        ensures { result ≡ self.now.slots.current.root }
+    {
+        self.slots.current.root
+    }
+
+    /// What the next commit is to open.
+    pub fn target(&self) -> Slot
+        ensures { result ≡ target_slot self.now.slots.target self.now.slots }
+    {
+        self.slots.target_slot()
+    }
+
+    /// The log.
+    pub fn records(&self) -> &[RecordAt]
+        ensures { result.now ≡ self.now.slots.records }
+    {
+        self.slots.records.as_slice()
+    }
+
+    /// How often the disk has failed, but for want of memory.
+    pub fn faults(&self) -> u64
+        ensures { result ≡ (D.state self.now.disk).faults }
+    {
+        self.disk.faults()
+    }
+
+    /// How often the disk has found no memory.
+    pub fn wants(&self) -> u64
+        ensures { result ≡ (D.state self.now.disk).wants }
+    {
+        self.disk.wants()
+    }
+
+    /// Hands the disk back as it is.
+    pub fn close(self) -> D
+        ensures { result ≡ self.disk }
+    {
+        let PageFile { disk, slots: _ } = self;
+        disk
+    }
+
+    /// Closes the target on the disk.
+    pub fn close_slot(&mut self) -> Result<(), Failed>
+        requires { IsTarget self.old.slots }
+        ensures slots { MatchResult result (λ _. self.new.slots ≡ shut self.old.slots.target self.old.slots) (λ _. self.new.slots ≡ doubted self.old.slots) }
+        ensures sound { KeepsSound self.old.slots self.new.slots (D.state self.old.disk) (D.state self.new.disk) (D.may_leave self.old.disk) (D.may_leave self.new.disk) }
+        ensures opens { LeavesOpening self.old.slots self.old.slots (D.state self.old.disk) (D.state self.new.disk) (D.left_since self.old.disk) (D.left_since self.new.disk) (D.may_leave self.old.disk) }
+        ensures durable { OnOk result (IsDurable (D.state self.old.disk) (D.state self.new.disk) (D.may_leave self.new.disk)) }
+        ensures writes { OnlyPuts (gate_place self.old.slots.target self.old.slots) 1 (D.state self.old.disk) (D.state self.new.disk) (D.left_since self.old.disk) (D.left_since self.new.disk) (D.may_leave self.old.disk) (D.may_leave self.new.disk) }
+        ensures quiet { IsShut self.old.slots.target self.old.slots → OnlySyncs (D.state self.old.disk) (D.state self.new.disk) (D.left_since self.old.disk) (D.left_since self.new.disk) (D.may_leave self.old.disk) (D.may_leave self.new.disk) }
+        ensures cause { OnErr result (Rose (D.state self.old.disk).faults (D.state self.new.disk).faults ⊎ Rose (D.state self.old.disk).wants (D.state self.new.disk).wants) }
+    {
+        page_slots::close_slot(&mut self.slots, &mut self.disk)
+    }
+
+    /// Writes the root that the target is to open.
+    pub fn write_root(&mut self, root: Root) -> Result<(), Failed>
+        requires closed { IsShutRoot self.old.slots.other }
+        requires sure { self.old.slots.doubtful ≡ false }
+        requires target { self.old.slots.target ≡ targets.Root }
+        requires newer { self.old.slots.current.root.sequence < root.sequence }
+        ensures slots { MatchResult result (λ _. self.new.slots ≡ record (self.old.slots) { other = roots.Written root }) (λ _. self.new.slots ≡ record (self.old.slots) { other = roots.Closed; doubtful = true }) }
+        ensures sound { KeepsSound self.old.slots self.new.slots (D.state self.old.disk) (D.state self.new.disk) (D.may_leave self.old.disk) (D.may_leave self.new.disk) }
+        ensures opens { LeavesOpening self.old.slots (record (self.old.slots) { other = roots.Closed }) (D.state self.old.disk) (D.state self.new.disk) (D.left_since self.old.disk) (D.left_since self.new.disk) (D.may_leave self.old.disk) }
+        ensures durable { OnOk result (IsDurable (D.state self.old.disk) (D.state self.new.disk) (D.may_leave self.new.disk)) }
+        ensures writes { OnlyPuts (body_of (other self.old.slots.current.side)) 24 (D.state self.old.disk) (D.state self.new.disk) (D.left_since self.old.disk) (D.left_since self.new.disk) (D.may_leave self.old.disk) (D.may_leave self.new.disk) }
+        ensures cause { OnErr result (Rose (D.state self.old.disk).faults (D.state self.new.disk).faults ⊎ Rose (D.state self.old.disk).wants (D.state self.new.disk).wants) }
+    {
+        page_slots::write_root(&mut self.slots, &mut self.disk, root)
+    }
+
+    /// Writes where the record lies that the target is to open.
+    pub fn write_record(&mut self, at: RecordAt) -> Result<(), Failed>
+        requires closed { IsShutEntry self.old.slots.next }
+        requires sure { self.old.slots.doubtful ≡ false }
+        requires target { self.old.slots.target ≡ targets.Record }
+        requires there { IsTarget self.old.slots }
+        ensures slots { MatchResult result (λ _. self.new.slots ≡ record (self.old.slots) { next = entries.Written at }) (λ _. self.new.slots ≡ record (self.old.slots) { next = entries.Closed; doubtful = true }) }
+        ensures sound { KeepsSound self.old.slots self.new.slots (D.state self.old.disk) (D.state self.new.disk) (D.may_leave self.old.disk) (D.may_leave self.new.disk) }
+        ensures opens { LeavesOpening self.old.slots (record (self.old.slots) { next = entries.Closed }) (D.state self.old.disk) (D.state self.new.disk) (D.left_since self.old.disk) (D.left_since self.new.disk) (D.may_leave self.old.disk) }
+        ensures durable { OnOk result (IsDurable (D.state self.old.disk) (D.state self.new.disk) (D.may_leave self.new.disk)) }
+        ensures writes { OnlyPuts (entry_gate self.old.slots + 8) 12 (D.state self.old.disk) (D.state self.new.disk) (D.left_since self.old.disk) (D.left_since self.new.disk) (D.may_leave self.old.disk) (D.may_leave self.new.disk) }
+        ensures cause { OnErr result (Rose (D.state self.old.disk).faults (D.state self.new.disk).faults ⊎ Rose (D.state self.old.disk).wants (D.state self.new.disk).wants) }
+    {
+        page_slots::write_record(&mut self.slots, &mut self.disk, at)
+    }
+
+    /// Opens the target, once what it is to open is on the disk.
+    pub fn open_slot(&mut self) -> Result<(), Failed>
+        requires ready { IsReady self.old.slots.target self.old.slots }
+        requires sure { self.old.slots.doubtful ≡ false }
+        requires there { IsTarget self.old.slots }
+        ensures slots { MatchResult result (λ _. self.new.slots ≡ with_target self.old.slots.target self.old.slots) (λ _. self.new.slots ≡ doubted (ajar self.old.slots.target self.old.slots)) }
+        ensures sound { KeepsSound self.old.slots self.new.slots (D.state self.old.disk) (D.state self.new.disk) (D.may_leave self.old.disk) (D.may_leave self.new.disk) }
+        ensures opens { LeavesOpening self.old.slots (ajar self.old.slots.target self.old.slots) (D.state self.old.disk) (D.state self.new.disk) (D.left_since self.old.disk) (D.left_since self.new.disk) (D.may_leave self.old.disk) }
+        ensures durable { OnOk result (IsDurable (D.state self.old.disk) (D.state self.new.disk) (D.may_leave self.new.disk)) }
+        ensures writes { OnlyPuts (gate_place self.old.slots.target self.old.slots) 1 (D.state self.old.disk) (D.state self.new.disk) (D.left_since self.old.disk) (D.left_since self.new.disk) (D.may_leave self.old.disk) (D.may_leave self.new.disk) }
+        ensures cause { OnErr result (Rose (D.state self.old.disk).faults (D.state self.new.disk).faults ⊎ Rose (D.state self.old.disk).wants (D.state self.new.disk).wants) }
+    {
+        page_slots::open_slot(&mut self.slots, &mut self.disk)
+    }
+}
