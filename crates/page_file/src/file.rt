@@ -1,19 +1,30 @@
 //! A database's file.
-ghost use Rattle.std.specs.Prelude.{◌≡◌, ◌<◌, ◌+◌, ◌⊎◌, true, false, IsTrue, IfSome, IfOk, IfErr, OnOk, OnErr, Ok, Err, MatchResult};
+ghost use Rattle.std.specs.Prelude.{◌≡◌, ℕ, List, ◌<◌, ◌+◌, ◌⊎◌, true, false, IsTrue, IfSome, IfOk, IfErr, OnOk, OnErr, Ok, Err, MatchResult};
 ghost use Rattle.afl_outside.specs.Counts.{Rose};
 ghost use Rattle.page_layout.specs.Places.{body_of, other};
 ghost use Rattle.page_slots.specs.Puts.{OnlyPuts, OnlySyncs};
 ghost use Rattle.page_slots.specs.Standing.{entry_gate, gate_place, IsTarget, IsShut, IsReady, IsShutRoot, IsShutEntry, IsSound, KeepsSound, LeavesOpening, IsDurable};
-ghost use Rattle.page_slots.specs.Steps.{target_slot, shut, doubted, with_target, ajar};
+ghost use Rattle.page_slots.specs.Steps.{target_slot, aimed, shut, doubted, with_target, ajar};
 ghost use Rattle.page_slots.specs.declared.slots.RootSlot.TheVariants as roots;
 ghost use Rattle.page_slots.specs.declared.slots.NextEntry.TheVariants as entries;
 ghost use Rattle.page_slots.specs.declared.slots.Target.TheVariants as targets;
+ghost use Rattle.page_file.specs.Aims.{target_of, IsAim};
 ghost use Rattle.page_open.specs.Opened.{IsOpened, AreFresh, HasCause};
 
 use afl_outside::{Disk, Failed};
 use page_layout::{RecordAt, Root, Slot};
 use page_open::{OpenFault, open_slots};
-use page_slots::Slots;
+use page_slots::{Slots, Target};
+
+fn target_of(slot: Slot) -> Target
+    ensures { result ≡ target_of slot }
+{
+    match slot {
+        Slot::A => Target::Root,
+        Slot::B => Target::Root,
+        Slot::Log(_) => Target::Record,
+    }
+}
 
 /// A database's file on a disk, with what is known of its slots.
 pub struct PageFile<D: Disk> {
@@ -79,6 +90,18 @@ impl<D: Disk> PageFile<D> {
     {
         let PageFile { disk, slots: _ } = self;
         disk
+    }
+
+    /// Another slot becomes the target: the other root slot, or the next log entry.
+    pub fn aim(&mut self, slot: Slot)
+        requires sure { self.old.slots.doubtful ≡ false }
+        requires slot { IsAim slot self.old.slots }
+        ensures slots { self.new.slots ≡ aimed (target_of slot) self.old.slots }
+        ensures disk { self.new.disk ≡ self.old.disk }
+        ensures sound { (seen : List ℕ) → IsSound self.old.slots seen (D.may_leave self.old.disk) → IsSound self.new.slots seen (D.may_leave self.new.disk) }
+    {
+        let target = target_of(slot);
+        self.slots.aim(target);
     }
 
     /// Closes the target on the disk.
