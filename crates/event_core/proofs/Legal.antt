@@ -1,5 +1,5 @@
 -- A legal history is an allowed one.
-use Rattle.std.proofs.Common.{◌≡◌, true, [], ◌∷◌, refl}
+use Rattle.std.proofs.Common.{[], ◌∷◌, refl}
 use Rattle.std.proofs.lemmas.Bool.{and_from}
 use Rattle.event_core.specs.Legal.{LegalIsAllowed}
 

@@ -1,7 +1,7 @@
 -- The worked list: a base, a legal history over it, and its free pages, all computed.
 use Rattle.std.proofs.Common.{◌≡◌, true, false, [], ◌∷◌, length, map, refl, IsTrue}
 use Rattle.plan_changes.specs.Typed.{HasTypedPlan}
-use Rattle.event_core.specs.declared.entry.Entry.TheVariants.{Pin, Unpin, Commit, Reap}
+use Rattle.event_core.specs.declared.entry.Entry.TheVariants.{Pin, Unpin, Commit}
 use Rattle.event_core.specs.History.{open_pins}
 use Rattle.event_core.specs.Pages.{free_at}
 use Rattle.event_core.specs.Allowed.{IsBase, is_allowed}

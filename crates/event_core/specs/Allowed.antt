@@ -1,7 +1,6 @@
 -- Which entries are allowed after which.
 use Rattle.std.specs.Prelude.{◌≡◌, ℕ, Bool, true, false, not, ◌&&◌, ◌||◌, nat_eq, List, [], ◌∷◌}
 use Rattle.std.specs.List.{filter, list_all}
-use Rattle.plan_changes.specs.declared.change.Change.{Change}
 use Rattle.plan_changes.specs.Allowed.{names_allow}
 use Rattle.version_reaper.specs.PageSets.{holds, pages_below}
 use Rattle.event_core.specs.declared.entry.Entry.{Entry}

@@ -1,5 +1,5 @@
 -- The core after a history, and one step of it.
-use Rattle.std.specs.Prelude.{ℕ, ◌+◌, Bool, true, not, ◌&&◌, ◌||◌, nat_eq, List, [], ◌∷◌, ◌++◌, map, length}
+use Rattle.std.specs.Prelude.{ℕ, ◌+◌, Bool, true, not, ◌&&◌, ◌||◌, nat_eq, [], ◌∷◌, ◌++◌, map, length}
 use Rattle.std.specs.List.{filter, list_any, list_all}
 use Rattle.plan_changes.specs.Changes.{names_after}
 use Rattle.plan_changes.specs.Allowed.{names_allow}
