@@ -1,0 +1,12 @@
+pub mod Reaping
+pub mod Tests
+pub mod Steps
+pub mod Free
+pub mod Pinned
+pub mod Runs
+pub mod Conserved
+pub mod WorkedList
+pub mod Cells
+pub mod Legal
+pub mod Agree
+pub mod Knowing

@@ -1,0 +1,48 @@
+-- The worked list: a base, a legal history over it, and its free pages, all computed.
+use Rattle.std.proofs.Common.{◌≡◌, true, false, [], ◌∷◌, length, map, refl, IsTrue}
+use Rattle.plan_changes.specs.Typed.{HasTypedPlan}
+use Rattle.event_core.specs.declared.entry.Entry.TheVariants.{Pin, Unpin, Commit}
+use Rattle.event_core.specs.History.{open_pins}
+use Rattle.event_core.specs.Pages.{free_at}
+use Rattle.event_core.specs.Allowed.{IsBase, is_allowed}
+use Rattle.event_core.specs.Legal.{IsLegal}
+use Rattle.event_core.specs.Promises.{is_awaiting}
+use Rattle.event_core.specs.Worked.{worked_base, worked_store, worked, worked_on, worked_cost}
+
+pub base_is : IsBase worked_base
+base_is = record { pins = refl; entries = refl; free = refl }
+
+pub allowed_is : IsTrue (is_allowed worked_base worked_on)
+allowed_is = refl
+
+store_typed : HasTypedPlan worked_base.names worked_store
+store_typed = (record { typed = (refl, refl); reads = tt }, refl)
+
+-- entry by entry, the oldest first
+first_legal : IsLegal worked_cost [] worked_base (Pin 1 ∷ Unpin 0 ∷ Commit 0 worked_store (record { version = 2 ∷ 3 ∷ []; catalogue = 4 ∷ [] }) ∷ Pin 0 ∷ [])
+first_legal = ((((tt, refl, tt, tt), refl, (refl, store_typed), (refl, refl)), refl, tt, tt), refl, tt, tt)
+
+worked_legal : IsLegal worked_cost [] worked_base worked
+worked_legal = (((first_legal, refl, tt, tt), refl, (refl, tt), (refl, refl)), refl, tt, tt)
+
+pub legal_is : IsLegal worked_cost [] worked_base worked_on
+legal_is = (((worked_legal, refl, tt, tt), refl, tt, tt), refl, tt, tt)
+
+-- the removed version's pages wait for the pin of session 1
+pub free_is : free_at worked_base worked ≡ 1 ∷ 4 ∷ 6 ∷ 7 ∷ 8 ∷ 9 ∷ 10 ∷ 11 ∷ 12 ∷ 13 ∷ 14 ∷ 15 ∷ []
+free_is = refl
+
+pub free_on_is : free_at worked_base worked_on ≡ 1 ∷ 2 ∷ 3 ∷ 4 ∷ 6 ∷ 7 ∷ 8 ∷ 9 ∷ 10 ∷ 11 ∷ 12 ∷ 13 ∷ 14 ∷ 15 ∷ []
+free_on_is = refl
+
+-- before the second reap they await it
+pub awaiting_is : is_awaiting worked_base (Unpin 0 ∷ Unpin 1 ∷ worked) 2 ≡ true
+awaiting_is = refl
+
+-- the open pins, with their places
+pub places_are : map (λ pin. length pin.before) (open_pins worked) ≡ 3 ∷ 4 ∷ []
+places_are = refl
+
+-- a commit by an unpinned session is not allowed
+pub not_allowed : is_allowed worked_base (Unpin 1 ∷ []) ≡ false
+not_allowed = refl

@@ -1,0 +1,10 @@
+pub mod Agree
+pub mod Allowed
+pub mod Cells
+pub mod History
+pub mod Known
+pub mod Legal
+pub mod Pages
+pub mod Promises
+pub mod Replay
+pub mod Worked

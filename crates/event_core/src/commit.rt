@@ -1,0 +1,200 @@
+//! The pages of a commit.
+ghost use Rattle.std.specs.Prelude.{◌≡◌, ◌∷◌, [], ◌++◌, ◌&&◌, not, nat_lt, IfOk, OnOk, OnErr};
+ghost use Rattle.std.specs.List.{filter};
+ghost use Rattle.std.specs.Option.{option_copied};
+ghost use Rattle.plan_changes.specs.Changes.{entry_named, next_of, last_of, newest_of, name_of};
+ghost use Rattle.version_reaper.specs.PageSets.{holds};
+ghost use Rattle.event_core.specs.History.{is_pages_of, pages_after};
+ghost use Rattle.event_core.specs.Pages.{fresh_of};
+ghost use Rattle.event_core.specs.Known.{pages_if, known_of};
+
+use crate::marks::Marks;
+use crate::{Core, Used, VersionPages};
+use cell_values::{List, Memory, Name};
+use logical_plan::{NameEntry, Names};
+use plan_changes::{Change, is_same};
+
+/// The last of some numbers, 0 where there is none.
+fn last(numbers: &List<u32>) -> u32
+    ensures { result ≡ last_of numbers.now }
+{
+    match numbers.as_slice().last() {
+        Some(number) => *number,
+        None => 0,
+    }
+}
+
+/// The array of a name.
+fn entry_named<'a>(names: &'a Names, name: &Name) -> Option<&'a NameEntry>
+    ensures { option_copied result ≡ entry_named names.now.arrays name.now }
+{
+    names
+        .arrays
+        .as_slice()
+        .iter()
+        .find(|entry| is_same(&entry.name, name))
+}
+
+/// The number of the next version, 1 where no array has the name.
+fn next_version(names: &Names, name: &Name) -> u32
+    ensures { result ≡ next_of names.now.arrays name.now }
+{
+    match entry_named(names, name) {
+        Some(entry) => entry.next,
+        None => 1,
+    }
+}
+
+/// The newest version, 0 where there is none.
+fn newest_version(names: &Names, name: &Name) -> u32
+    ensures { result ≡ newest_of names.now.arrays name.now }
+{
+    match entry_named(names, name) {
+        Some(entry) => last(&entry.versions),
+        None => 0,
+    }
+}
+
+/// The name that a change is about.
+fn changed_name(change: &Change) -> &Name
+    ensures { result.now ≡ name_of change.now }
+{
+    match change {
+        Change::Create { name, .. } => name,
+        Change::Store { name, .. } => name,
+        Change::Insert { name, .. } => name,
+        Change::Remove { name } => name,
+        Change::RemoveVersions { name, .. } => name,
+    }
+}
+
+/// Adds the pages of a version, if it is this one.
+fn push_if(
+    pages: &mut List<u32>,
+    version: &VersionPages,
+    name: &Name,
+    number: u32,
+) -> Result<(), Memory>
+    ensures { OnOk result (pages.new ≡ pages.old ++ pages_if name.now number version.now) }
+{
+    if is_same(&version.name, name) && version.version == number {
+        pages.extend(version.pages.as_slice())?;
+    }
+    Ok(())
+}
+
+/// The pages of the array's newest version, and those of the catalogue.
+fn known_pages(core: &Core, name: &Name) -> Result<List<u32>, Memory>
+    ensures { IfOk result (λ pages. pages ≡ known_of core.now.names core.now.pages core.now.catalogue name.now) }
+{
+    let newest = newest_version(&core.names, name);
+    let mut pages = core.catalogue.copy()?;
+    for version in core.pages.as_slice() {
+        push_if(&mut pages, version, name, newest)?;
+    }
+    Ok(pages)
+}
+
+/// Adds those of some pages that are not known.
+fn push_fresh(fresh: &mut List<u32>, known: &Marks, pages: &List<u32>) -> Result<(), Memory>
+    ensures { OnOk result (fresh.new ≡ fresh.old ++ filter (λ page. not (holds known.now page)) pages.now) }
+{
+    for page in pages.as_slice() {
+        if !known.has(*page) {
+            fresh.push(*page)?;
+        }
+    }
+    Ok(())
+}
+
+/// The pages of a commit that are not known.
+fn unknown_pages(known: &Marks, used: &Used) -> Result<List<u32>, Memory>
+    ensures { IfOk result (λ fresh. fresh ≡ filter (λ page. not (holds known.now page)) (used.now.version ++ used.now.catalogue)) }
+{
+    let mut fresh = used.version.another();
+    push_fresh(&mut fresh, known, &used.version)?;
+    push_fresh(&mut fresh, known, &used.catalogue)?;
+    Ok(fresh)
+}
+
+/// The pages of a commit that are neither of the array's newest version nor of the catalogue before.
+pub fn fresh_pages(core: &Core, change: &Change, used: &Used) -> Result<List<u32>, Memory>
+    ensures { IfOk result (λ fresh. fresh ≡ fresh_of core.now.names core.now.pages core.now.catalogue change.now used.now) }
+{
+    let pages = known_pages(core, changed_name(change))?;
+    let known = Marks::new(pages, core.limit)?;
+    unknown_pages(&known, used)
+}
+
+/// The pages without some.
+pub fn without_pages(pages: List<u32>, taken: &Marks) -> List<u32>
+    ensures { result ≡ filter (λ page. not (holds taken.now page)) pages }
+{
+    let mut items = pages.into_vec();
+    items.retain(|page| !taken.has(*page));
+    List::from_vec(items)
+}
+
+/// The versions without those of an array.
+fn without_array(versions: List<VersionPages>, name: &Name) -> List<VersionPages>
+    ensures { result ≡ filter (λ v. not (is_pages_of name.now v)) versions }
+{
+    let mut items = versions.into_vec();
+    items.retain(|version| !is_same(&version.name, name));
+    List::from_vec(items)
+}
+
+/// The versions without those of an array below a number.
+fn without_below(versions: List<VersionPages>, name: &Name, below: u32) -> List<VersionPages>
+    ensures { result ≡ filter (λ v. not (is_pages_of name.now v && nat_lt v.version below)) versions }
+{
+    let mut items = versions.into_vec();
+    items.retain(|version| !(is_same(&version.name, name) && version.version < below));
+    List::from_vec(items)
+}
+
+/// One more version of an array, under its next number.
+fn push_next(
+    versions: &mut List<VersionPages>,
+    names: &Names,
+    name: &Name,
+    used: &List<u32>,
+) -> Result<(), Memory>
+    ensures ok { OnOk result (versions.new ≡ versions.old ++ record { name = name.now; version = next_of names.now.arrays name.now; pages = used.now } ∷ []) }
+    ensures err { OnErr result (versions.new ≡ versions.old) }
+{
+    let next = VersionPages {
+        name: name.copy()?,
+        version: next_version(names, name),
+        pages: used.copy()?,
+    };
+    versions.push(next)?;
+    Ok(())
+}
+
+/// The pages of the versions after a change that uses these pages.
+pub fn change_versions(
+    versions: &mut List<VersionPages>,
+    names: &Names,
+    change: &Change,
+    used: &List<u32>,
+) -> Result<(), Memory>
+    ensures ok { OnOk result (versions.new ≡ pages_after names.now change.now used.now versions.old) }
+    ensures err { OnErr result (versions.new ≡ versions.old) }
+{
+    match change {
+        Change::Create { .. } => Ok(()),
+        Change::Store { name, .. } => push_next(versions, names, name, used),
+        Change::Insert { name, .. } => push_next(versions, names, name, used),
+        Change::Remove { name } => {
+            let all = versions.take();
+            *versions = without_array(all, name);
+            Ok(())
+        }
+        Change::RemoveVersions { name, below } => {
+            let all = versions.take();
+            *versions = without_below(all, name, *below);
+            Ok(())
+        }
+    }
+}

@@ -1,0 +1,68 @@
+//! What holds of each allowed history, whatever the code does.
+ghost use Rattle.std.specs.Prelude.{◌≡◌, [], ◌∷◌, map, length};
+ghost use Rattle.event_core.specs.History.{open_pins};
+ghost use Rattle.event_core.specs.Pages.{free_at};
+ghost use Rattle.event_core.specs.Allowed.{IsBase};
+ghost use Rattle.event_core.specs.Agree.{NamedVersionsHavePages};
+ghost use Rattle.event_core.specs.Cells.{NamesAreOfTheDatabase};
+ghost use Rattle.event_core.specs.Legal.{IsLegal, LegalIsAllowed};
+ghost use Rattle.event_core.specs.Promises.{NoFreePageIsLive, NoFreshPageWasLive, PinnedPagesStayLive, ReapFreesTheRest, FreePagesAreWithin, PagesAreConserved};
+ghost use Rattle.event_core.specs.Worked.{worked_base, worked, worked_on, worked_cost};
+
+use plan_changes::names_depend_on_no_row;
+
+/// No free page is live.
+pub fn no_free_page_is_live()
+    ensures { NoFreePageIsLive }
+{}
+
+/// No fresh page of a commit was live before it.
+pub fn no_fresh_page_was_live()
+    ensures { NoFreshPageWasLive }
+{}
+
+/// What could be named when a pin began stays live until its unpin.
+pub fn pinned_pages_stay_live()
+    ensures { PinnedPagesStayLive }
+{}
+
+/// A reap frees exactly what nobody can name.
+pub fn reap_frees_the_rest()
+    ensures { ReapFreesTheRest }
+{}
+
+/// Each free page is one from 1 below the limit.
+pub fn free_pages_are_within()
+    ensures { FreePagesAreWithin }
+{}
+
+/// Each page from 1 below the limit is free, live or awaiting a reap, and is so once.
+pub fn pages_are_conserved()
+    ensures { PagesAreConserved }
+{}
+
+/// The versions that can be named are those that have pages.
+pub fn named_versions_have_pages()
+    ensures { NamedVersionsHavePages }
+{}
+
+/// The names after a history are those of the database after it.
+pub fn names_are_of_the_database()
+    ensures { NamesAreOfTheDatabase }
+{
+    names_depend_on_no_row();
+}
+
+/// A legal history is an allowed one.
+pub fn legal_is_allowed()
+    ensures { LegalIsAllowed }
+{}
+
+/// There is a legal history, in which a removed version's pages wait until the pin that could name it is gone.
+pub fn a_history_is_legal()
+    ensures base { IsBase worked_base }
+    ensures legal { IsLegal worked_cost [] worked_base worked_on }
+    ensures places { map (λ pin. length pin.before) (open_pins worked) ≡ 3 ∷ 4 ∷ [] }
+    ensures free { free_at worked_base worked ≡ 1 ∷ 4 ∷ 6 ∷ 7 ∷ 8 ∷ 9 ∷ 10 ∷ 11 ∷ 12 ∷ 13 ∷ 14 ∷ 15 ∷ [] }
+    ensures free_later { free_at worked_base worked_on ≡ 1 ∷ 2 ∷ 3 ∷ 4 ∷ 6 ∷ 7 ∷ 8 ∷ 9 ∷ 10 ∷ 11 ∷ 12 ∷ 13 ∷ 14 ∷ 15 ∷ [] }
+{}

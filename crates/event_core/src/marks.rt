@@ -1,0 +1,47 @@
+//! Pages of a list that are looked up at once.
+ghost use Rattle.std.specs.Prelude.{◌≡◌, IfOk};
+ghost use Rattle.version_reaper.specs.PageSets.{holds};
+
+use cell_values::{List, Memory};
+use std::marker::Model;
+use version_reaper::{PageSet, is_in};
+
+/// A list of pages, and which of them are below a limit. Contracts see the list.
+#[derive(Debug, Drop)]
+pub struct Marks {
+    pages: List<u32>,
+    set: PageSet,
+}
+
+impl Model for Marks {
+    ghost use Rattle.std.specs.Prelude.{◌≡◌, ◌<◌, ℕ, List, false, length, slice_index_or};
+    ghost use Rattle.version_reaper.specs.PageSets.{holds};
+
+    ghost Value = { List ℕ };
+
+    ghost view = { λ marks. marks.pages };
+
+    ghost invariant = { λ marks. (p : ℕ) → p < length marks.set → slice_index_or marks.set p false ≡ holds marks.pages p };
+}
+
+impl Marks {
+    /// The pages of a list.
+    pub fn new(pages: List<u32>, limit: u32) -> Result<Marks, Memory>
+        ensures { IfOk result (λ marks. marks ≡ pages) }
+    {
+        let mut set = PageSet::new(pages.allocator(), limit)?;
+        set.add_all(&pages);
+        Ok(Marks { pages, set })
+    }
+
+    /// Whether a page is one of them.
+    pub fn has(&self, page: u32) -> bool
+        ensures { result ≡ holds self.now page }
+    {
+        if page < self.set.limit() {
+            self.set.has(page)
+        } else {
+            is_in(&self.pages, page)
+        }
+    }
+}

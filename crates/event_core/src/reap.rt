@@ -1,0 +1,42 @@
+//! The pages that a reap makes free.
+ghost use Rattle.std.specs.Prelude.{◌≡◌, ℕ, ◌<◌, ◌||◌, false, not, length, slice_index_or, IfOk};
+ghost use Rattle.std.specs.List.{filter, list_any};
+ghost use Rattle.version_reaper.specs.PageSets.{pages_below};
+ghost use Rattle.event_core.specs.Pages.{has_page};
+ghost use Rattle.event_core.specs.Replay.{is_core_live};
+
+use crate::{Core, CorePin, VersionPages};
+use cell_values::{List, Memory};
+use version_reaper::PageSet;
+
+/// Adds the pages of versions to a set.
+fn add_versions(set: &mut PageSet, versions: &List<VersionPages>)
+    ensures limit { length set.new ≡ length set.old }
+    ensures pages { (p : ℕ) → p < length set.old → slice_index_or set.new p false ≡ (slice_index_or set.old p false || has_page versions.now p) }
+{
+    for version in versions.as_slice() {
+        set.add_all(&version.pages);
+    }
+}
+
+/// Adds the pages that pins keep to a set.
+fn add_pins(set: &mut PageSet, pins: &List<CorePin>)
+    ensures limit { length set.new ≡ length set.old }
+    ensures pages { (p : ℕ) → p < length set.old → slice_index_or set.new p false ≡ (slice_index_or set.old p false || list_any (λ pin. has_page pin.pages p) pins.now) }
+{
+    for pin in pins.as_slice() {
+        add_versions(set, &pin.pages);
+    }
+}
+
+/// The pages from 1 below the limit that nobody can name.
+pub fn reaped(core: &Core) -> Result<List<u32>, Memory>
+    ensures { IfOk result (λ free. free ≡ filter (λ page. not (is_core_live core.now page)) (pages_below core.now.limit)) }
+{
+    let alloc = core.free.allocator();
+    let mut set = PageSet::new(alloc, core.limit)?;
+    set.add_all(&core.catalogue);
+    add_versions(&mut set, &core.pages);
+    add_pins(&mut set, &core.pins);
+    set.others(alloc)
+}
