@@ -1,9 +1,11 @@
 -- What the rules answer is a build or a literal of a valid schema, or a version of a stored array.
-use Rattle.std.proofs.Common.{ℕ, Option, Some, None, IfOk, List, [], ◌∷◌}
+use Rattle.std.proofs.Common.{◌≡◌, ℕ, Option, Some, None, Ok, IfOk, List, [], ◌∷◌}
 use Rattle.std.specs.List.{AllByRecursion}
 use Rattle.cell_values.specs.declared.name.Span.{Span}
 use Rattle.afl_parser.specs.Term.{Term, call, group, Terms}
+use Rattle.logical_plan.specs.Query.{Query}
 use Rattle.logical_plan.specs.declared.names.NameEntry.{NameEntry}
+use Rattle.type_rules.proofs.Holding.{of_answer}
 use Rattle.type_rules.specs.Operators.{operator_named}
 use Rattle.type_rules.specs.declared.operator.Operator.{Operator}
 use Rattle.type_rules.specs.declared.operator.Operator.TheVariants.{Build, Scan}
@@ -26,3 +28,6 @@ module _ (arrays : List NameEntry) where
   query_built (group s a) = query_built a
   query_built (call s name arguments) = called_built s name (operator_named name) arguments
   query_built t = referred_holds IsBuiltNow arrays (λ name entry v e. tt) t
+
+pub plan_built : (arrays : List NameEntry) (t : Term) (query : Query) → query_of arrays t ≡ Ok query → IsBuiltNow query
+plan_built arrays t query e = of_answer IsBuiltNow (query_of arrays t) query (query_built arrays t) e

@@ -20,7 +20,7 @@ pub enum Typed {
 ///
 /// Rules are tested in this order: at a call its name, the number of its arguments, the sort of each argument from
 /// left to right, where an argument that is a query is checked wholly at its turn, and then the operator's own rules.
-#[tactic(auto, using(crate::proofs::Steps::ok_then, crate::proofs::Steps::err_then, crate::proofs::BuiltQueries::query_built))]
+#[tactic(auto, using(crate::proofs::Steps::ok_then, crate::proofs::Steps::err_then))]
 pub fn check(alloc: Global, tree: &Tree, text: &[u8], names: &Names) -> Result<Typed, TypeFault>
     ensures meaning { Answers result (check_of tree.now names.now) }
     ensures built { IfOk result IsTypedNow }
