@@ -15,7 +15,7 @@ use Rattle.logical_plan.specs.declared.names.Names.{Names}
 use Rattle.logical_plan.specs.Query.{Query as AQuery}
 use Rattle.logical_plan.specs.Faults.{first_fault}
 use Rattle.logical_plan.specs.Meaning.{Meant, meaning}
-use Rattle.afl_types.specs.Checked.{Checked}
+use Rattle.type_rules.specs.Checked.{Checked}
 use Rattle.afl_types.specs.Checking.{check_of}
 use Rattle.afl_types.specs.declared.checking.Typed.{Typed}
 use Rattle.afl_types.specs.declared.checking.Typed.TheVariants.{Query}

@@ -1,9 +1,9 @@
 -- The statements that are not built yet: `create array`, and those that call, anywhere, another operator than `build` and `scan`.
 use Rattle.std.specs.Prelude.{Bool, true, false, ◌||◌, Option, Some, None}
 use Rattle.afl_parser.specs.Term.{Term, create, number, text, truth, null, missing, reference, version, call, schema, star, renamed, opposite, negative, binary, group, Terms, no_terms, and_term}
-use Rattle.afl_types.specs.declared.operator.Operator.{Operator}
-use Rattle.afl_types.specs.declared.operator.Operator.TheVariants.{Build, Scan}
-use Rattle.afl_types.specs.Operators.{operator_named}
+use Rattle.type_rules.specs.declared.operator.Operator.{Operator}
+use Rattle.type_rules.specs.declared.operator.Operator.TheVariants.{Build, Scan}
+use Rattle.type_rules.specs.Operators.{operator_named}
 
 -- an operator, if any, that is not built
 abbrev pub is_to_come : Option Operator → Bool

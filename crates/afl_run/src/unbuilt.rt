@@ -1,7 +1,7 @@
 //! The statements that are not built yet.
 ghost use Rattle.std.specs.Prelude.{◌≡◌};
 ghost use Rattle.afl_parser.specs.Term.{to_terms};
-ghost use Rattle.afl_types.specs.Operators.{operator_named};
+ghost use Rattle.type_rules.specs.Operators.{operator_named};
 ghost use Rattle.afl_run.specs.Unbuilt.{has_unbuilt, is_to_come, is_unbuilt};
 
 use afl_parser::{Node, Tree};

@@ -11,9 +11,10 @@ use Rattle.expr_nulls.specs.declared.expr.ArithOp.TheVariants as arith_op
 use Rattle.logical_plan.specs.Query.{built}
 use Rattle.logical_plan.specs.declared.names.NameEntry.{NameEntry}
 use Rattle.schema_grammar.specs.Rules.{schema_of}
-use Rattle.afl_types.specs.Checked.{refused}
-use Rattle.afl_types.specs.Operators.{query_named, change_named}
-use Rattle.afl_types.specs.Queries.{leaf_of, query_of}
+use Rattle.type_rules.specs.Checked.{refused}
+use Rattle.type_rules.specs.Operators.{query_named, change_named}
+use Rattle.source_types.specs.Stored.{leaf_of}
+use Rattle.afl_types.specs.Queries.{query_of}
 
 at : ℕ → ℕ → Span
 at a b = record { start = a; end = b }

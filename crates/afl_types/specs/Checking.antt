@@ -2,7 +2,7 @@
 use Rattle.std.specs.Prelude.{Ok}
 use Rattle.afl_parser.specs.Term.{Term}
 use Rattle.logical_plan.specs.declared.names.Names.{Names}
-use Rattle.afl_types.specs.Checked.{Checked, then}
+use Rattle.type_rules.specs.Checked.{Checked, then}
 use Rattle.afl_types.specs.Queries.{query_of}
 use Rattle.afl_types.specs.declared.checking.Typed.{Typed}
 use Rattle.afl_types.specs.declared.checking.Typed.TheVariants.{Query as AQuery}

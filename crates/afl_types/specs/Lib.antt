@@ -1,10 +1,3 @@
 pub mod BuiltNow
-pub mod Checked
 pub mod Checking
-pub mod Expressions
-pub mod Laws
-pub mod Lexed
-pub mod LiteralRows
-pub mod Literals
-pub mod Operators
 pub mod Queries

@@ -1,6 +1,6 @@
 //! Checking of statements.
 ghost use Rattle.std.specs.Prelude.{IfOk};
-ghost use Rattle.afl_types.specs.Checked.{Answers};
+ghost use Rattle.type_rules.specs.Checked.{Answers};
 ghost use Rattle.afl_types.specs.Checking.{check_of};
 ghost use Rattle.afl_types.specs.BuiltNow.{IsTypedNow};
 
@@ -20,7 +20,7 @@ pub enum Typed {
 ///
 /// Rules are tested in this order: at a call its name, the number of its arguments, the sort of each argument from
 /// left to right, where an argument that is a query is checked wholly at its turn, and then the operator's own rules.
-#[tactic(auto, using(crate::proofs::Operands::ok_then, crate::proofs::Operands::err_then))]
+#[tactic(auto, using(crate::proofs::Steps::ok_then, crate::proofs::Steps::err_then))]
 pub fn check(alloc: Global, tree: &Tree, text: &[u8], names: &Names) -> Result<Typed, TypeFault>
     ensures meaning { Answers result (check_of tree.now names.now) }
     ensures built { IfOk result IsTypedNow }

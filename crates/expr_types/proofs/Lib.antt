@@ -1,0 +1,5 @@
+pub mod InnerFaults
+pub mod KindLemmas
+pub mod Operands
+pub mod Steps
+mod WorkedExpressions

@@ -1,0 +1,4 @@
+pub mod Laws
+pub mod Lexed
+pub mod LiteralRows
+pub mod Literals

@@ -1,0 +1,8 @@
+//! Queries that read no other query: builds, literals, and stored arrays.
+#![tactic(auto)]
+
+mod build;
+mod stored;
+
+pub use build::build_call;
+pub use stored::{referred, scan_call};
