@@ -17,7 +17,9 @@ use Rattle.array_geom.specs.Link.{HoldsRows, HoldsResult, Is}
 use Rattle.array_geom.proofs.LinkLaws.{chunks_have_one_meaning}
 use Rattle.array_geom.proofs.NearLemmas.{valid_placed, size_is_volume}
 use Rattle.array_geom.proofs.TestLaws.{and_parts, at_most}
-use Rattle.chunk_cells.specs.Whole.{IsArray, IsWhole}
+use Rattle.array_parts.specs.Placed.{HavePlaces}
+use Rattle.chunk_cells.specs.Whole.{IsArray}
+use Rattle.chunk_cells.proofs.WholeLaws.{have_places, holds_some}
 use Rattle.logical_plan.specs.declared.parts.Fixed.{Fixed}
 use Rattle.logical_plan.specs.Faults.{if_whole}
 use Rattle.logical_plan.specs.Meaning.{made}
@@ -26,7 +28,7 @@ use Rattle.logical_plan.specs.PlanSchema.{subarray_schema, slice_schema}
 use Rattle.moved_rows.specs.Moves.{lowered}
 use Rattle.moved_rows.proofs.PartLaws.{lowered_rows, subarrays_are_arrays}
 use Rattle.moved_rows.proofs.SliceLaws.{slices_are_arrays}
-use Rattle.exec_parts.specs.Parts.{AreMadeOf, AreRowsOfPart, AreRowsOfSlice}
+use Rattle.exec_parts.specs.Parts.{AreMadeOf, AreRowsOfPart, AreRowsOfSlice, IsWhole}
 
 pub few_dimensions : (schema : Schema) (dims : List Dimension) → dims ≡ schema.dimensions → IsValid schema → length dims ≤ 6
 few_dimensions schema dims same valid = let few = (valid_placed schema valid).few in subst (λ (ds : List Dimension). length ds ≤ 6) (sym same) few
@@ -49,11 +51,14 @@ overlap_places schema margins same valid =
 
 -- an array that is not broken holds rows
 pub whole_of : (array : ChunkedArray) → IsArray array → array.broken ≡ None → IsWhole array
-whole_of array h e = cases h.0.rows h.1.cells
-  where
-    cases : (r : Result (List Row) Broken) → HoldsResult h.0.schema array r → IsWhole array
-    cases (Ok rows) k = (rows, subst (λ (s : Schema). HoldsRows s array rows) (sym h.1.schema) k)
-    cases (Err broken) k = let f : None ≡ Some broken = sym e ∙ k in cc
+whole_of array h e = holds_some array e h
+
+-- so its cells have places, and what gives the rows that it holds gives rows that it holds
+pub whole_places : (array : ChunkedArray) → IsWhole array → HavePlaces array.schema array.margins.items array.chunks
+whole_places array w = have_places array.schema array w.0 w.1
+
+pub whole_rows : (array : ChunkedArray) (rows : List Row) → IsWhole array → ((held : List Row) → HoldsRows array.schema array held → rows ≡ held) → HoldsRows array.schema array rows
+whole_rows array rows w given = subst (HoldsRows array.schema array) (sym (given w.0 w.1)) w.1
 
 abbrev meant_of : Schema → Result (List Row) Broken → Meant
 meant_of schema rows = record { schema = schema; rows = rows }

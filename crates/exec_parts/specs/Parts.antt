@@ -18,6 +18,10 @@ part_meant area = made (subarray_schema area) (λ s. subarray_rows (meet (bounds
 abbrev pub slice_meant : List Fixed → Meant → Meant
 slice_meant fixed = made (slice_schema fixed) (λ s. slice_rows fixed)
 
+-- the array is not broken: it holds rows
+abbrev pub IsWhole : ChunkedArray → Type 0
+IsWhole array = (rows : List Row) × HoldsRows array.schema array rows
+
 -- what an operator makes of the rows that the array holds
 pub record AreMadeOf (operator : List Row → List Row) (array : ChunkedArray) (made_rows : List Row) : Type 0 where
   pub rows : List Row

@@ -4,9 +4,9 @@ ghost use Rattle.cell_values.specs.Schemas.{IsValid};
 ghost use Rattle.array_rows.specs.Arrays.{Meant};
 ghost use Rattle.array_geom.specs.Geometry.{overlaps};
 ghost use Rattle.array_geom.specs.Link.{Is};
-ghost use Rattle.chunk_cells.specs.Whole.{IsArray, IsWhole};
+ghost use Rattle.chunk_cells.specs.Whole.{IsArray};
 ghost use Rattle.logical_plan.specs.PlanSchema.{slice_schema};
-ghost use Rattle.exec_parts.specs.Parts.{AreRowsOfSlice, slice_meant};
+ghost use Rattle.exec_parts.specs.Parts.{AreRowsOfSlice, IsWhole, slice_meant};
 
 use crate::building::{broken_part, built};
 use crate::schemas::sliced_schema;

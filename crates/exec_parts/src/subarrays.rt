@@ -4,9 +4,9 @@ ghost use Rattle.cell_values.specs.Schemas.{IsValid};
 ghost use Rattle.array_rows.specs.Arrays.{Meant};
 ghost use Rattle.array_geom.specs.Geometry.{overlaps};
 ghost use Rattle.array_geom.specs.Link.{Is};
-ghost use Rattle.chunk_cells.specs.Whole.{IsArray, IsWhole};
+ghost use Rattle.chunk_cells.specs.Whole.{IsArray};
 ghost use Rattle.logical_plan.specs.PlanSchema.{subarray_schema};
-ghost use Rattle.exec_parts.specs.Parts.{AreRowsOfPart, part_meant};
+ghost use Rattle.exec_parts.specs.Parts.{AreRowsOfPart, IsWhole, part_meant};
 
 use crate::building::{bounds, broken_part, built};
 use crate::schemas::part_schema;
