@@ -1,0 +1,41 @@
+//! Directories and their entries.
+ghost use Rattle.std.specs.Prelude.{◌≡◌, IfOk};
+
+use cell_values::{ChunkAt, Copies, List, Memory, copy_numbers};
+
+/// Where the payload of a chunk lies.
+#[derive(Debug, Drop)]
+pub struct DirEntry {
+    pub at: ChunkAt,
+    /// How many bytes the payload has.
+    pub length: u64,
+    /// The number of the commit that wrote the payload.
+    pub birth: u64,
+    pub pages: List<u32>,
+}
+
+/// The chunks of an array's version, by their rising numbers.
+#[derive(Debug, Drop)]
+pub struct Directory {
+    pub entries: List<DirEntry>,
+}
+
+impl DirEntry {
+    /// An equal entry.
+    pub fn copy(&self) -> Result<DirEntry, Memory>
+        ensures { IfOk result (λ copy. copy ≡ self.now) }
+    {
+        Ok(DirEntry {
+            at: copy_numbers(&self.at),
+            length: self.length,
+            birth: self.birth,
+            pages: self.pages.copy()?,
+        })
+    }
+}
+
+impl Copies for DirEntry {
+    fn copy(&self) -> Result<DirEntry, Memory> {
+        self.copy()
+    }
+}
