@@ -1,3 +1,4 @@
+pub mod BuiltNow
 pub mod Notice
 pub mod Reply
 pub mod Rows

@@ -1,6 +1,6 @@
 //! The reply to a statement.
 ghost use Rattle.std.specs.Prelude.{◌≡◌, ◌≤◌, length, IfOk};
-ghost use Rattle.afl_types.specs.BuiltNow.{IsBuiltNow};
+ghost use Rattle.afl_run.specs.BuiltNow.{IsBuiltNow};
 ghost use Rattle.afl_run.specs.Reply.{IsReplyTo, plan_reply, refused, reply_to_tree};
 
 use crate::rows::{array_of, first_fault};
@@ -43,6 +43,7 @@ pub(crate) fn refuse(alloc: Global, refusal: Refusal) -> Result<Reply, Memory>
 }
 
 /// The reply to a tree of a text.
+#[tactic(auto, using(crate::proofs::PlansNow::checked_now))]
 fn reply_to_tree(alloc: Global, text: &[u8], tree: &Tree) -> Result<Reply, Memory>
     ensures { IfOk result (λ reply. reply ≡ reply_to_tree tree.now) }
 {

@@ -1,10 +1,10 @@
 //! The arrays of plans that read nothing.
 ghost use Rattle.std.specs.Prelude.{◌≡◌, ◌+◌, ◌≤◌, ◌<◌, ◌^◌, ◌+ℤ◌, pos, [], ◌∷◌, ◌++◌, length, IfOk, OnOk};
-ghost use Rattle.afl_types.specs.BuiltNow.{IsBuiltNow};
 ghost use Rattle.logical_plan.specs.CellOps.{fit_value, fit_values};
 ghost use Rattle.logical_plan.specs.Faults.{fault_in, first_fault};
 ghost use Rattle.logical_plan.specs.Groups.{bad_kind, first_some};
 ghost use Rattle.logical_plan.specs.Meaning.{meaning, whole, built_rows, how_many};
+ghost use Rattle.afl_run.specs.BuiltNow.{IsBuiltNow};
 ghost use Rattle.afl_run.specs.Rows.{built_row, nothing, rows_under};
 
 use cell_values::{

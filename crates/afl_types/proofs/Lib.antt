@@ -1,3 +1,3 @@
-pub mod BuiltQueries
+pub mod Small
 pub mod Steps
 mod WorkedQueries

@@ -1,6 +1,7 @@
 //! Checking: from the tree of a statement to its typed plan, or to the first rule that it breaks.
 #![tactic(auto)]
 
+mod call;
 mod checking;
 mod query;
 

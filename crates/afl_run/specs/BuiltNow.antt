@@ -1,4 +1,4 @@
--- The plans that are built now.
+-- The plans that are run now.
 use Rattle.std.specs.Prelude.{⊤}
 use Rattle.cell_values.specs.Schemas.{IsValid}
 use Rattle.logical_plan.specs.Query.{Query, built, listed, scanned}
