@@ -1,5 +1,5 @@
 -- The schemas of parts and slices of an array are valid.
-use Rattle.std.proofs.Common.{◌≡◌, ℕ, ◌+◌, ◌*◌, ◌≤◌, ◌<◌, ◌==◌, ℤ, pos, Bool, true, false, not, cond, ◌&&◌, ◌||◌, List, [], ◌∷◌, ◌++◌, length, map, drop, refl, sym, ap, ◌∙◌, arith}
+use Rattle.std.proofs.Common.{◌≡◌, ℕ, suc, ◌+◌, ◌*◌, ◌≤◌, ◌<◌, ◌==◌, ℤ, pos, Bool, true, false, not, cond, ◌&&◌, ◌||◌, List, [], ◌∷◌, ◌++◌, length, map, drop, refl, sym, ap, ◌∙◌, arith}
 use Rattle.std.specs.Prelude.{nat_le, nat_lt}
 use Rattle.std.specs.List.{list_any, list_all}
 use Rattle.std.specs.Str.{bytes_eq}
@@ -18,41 +18,41 @@ use Rattle.operator_rules.proofs.ValidSchemas.{ValidParts, valid_parts, valid_of
 pub length_pairs : {A B C : Type 0} (f : A → B → C) (xs : List A) (ys : List B) → length xs ≤ length ys → length (by_pairs f xs ys) ≡ length xs
 length_pairs f [] ys h = refl
 length_pairs f (x ∷ xs) [] h = absurd (omega (arith, h))
-length_pairs f (x ∷ xs) (y ∷ ys) h = ap (λ n. n + 1) (length_pairs f xs ys (omega (arith, h)))
+length_pairs f (x ∷ xs) (y ∷ ys) h = ap suc (length_pairs f xs ys (omega (arith, h)))
 
 -- what is left of dimensions
 
 among_but : (places : List ℕ) (n : ℕ) (dims : List Dimension) (name : List ℕ) → is_among name (dimension_names dims) ≡ false → is_among name (dimension_names (items_but places n dims)) ≡ false
 among_but places n [] name e = refl
-among_but places n (d ∷ dims) name e = by_test (list_any (λ place. place == n) places)
+among_but places n (d ∷ dims) name e =
+    let parts = or_parts (bytes_eq name d.name) (is_among name (dimension_names dims)) e in
+    by_test (list_any (λ place. place == n) places) parts.0 (among_but places (n + 1) dims name parts.1)
   where
-    parts : (bytes_eq name d.name ≡ false) × (is_among name (dimension_names dims) ≡ false)
-    parts = or_parts (bytes_eq name d.name) (is_among name (dimension_names dims)) e
-    by_test : (b : Bool) → is_among name (dimension_names (cond b (items_but places (n + 1) dims) (d ∷ items_but places (n + 1) dims))) ≡ false
-    by_test true = among_but places (n + 1) dims name parts.1
-    by_test false = or_none (bytes_eq name d.name) (is_among name (dimension_names (items_but places (n + 1) dims))) parts.0 (among_but places (n + 1) dims name parts.1)
+    by_test : (b : Bool) → bytes_eq name d.name ≡ false → is_among name (dimension_names (items_but places (n + 1) dims)) ≡ false
+        → is_among name (dimension_names (cond b (items_but places (n + 1) dims) (d ∷ items_but places (n + 1) dims))) ≡ false
+    by_test true first rest = rest
+    by_test false first rest = or_none (bytes_eq name d.name) (is_among name (dimension_names (items_but places (n + 1) dims))) first rest
 
 distinct_but : (places : List ℕ) (n : ℕ) (dims : List Dimension) → are_distinct (dimension_names dims) ≡ true → are_distinct (dimension_names (items_but places n dims)) ≡ true
 distinct_but places n [] e = refl
-distinct_but places n (d ∷ dims) e = by_test (list_any (λ place. place == n) places)
+distinct_but places n (d ∷ dims) e =
+    let parts = and_parts (not (is_among d.name (dimension_names dims))) (are_distinct (dimension_names dims)) e in
+    by_test (list_any (λ place. place == n) places) (among_but places (n + 1) dims d.name (not-true (is_among d.name (dimension_names dims)) parts.0)) (distinct_but places (n + 1) dims parts.1)
   where
-    parts : (not (is_among d.name (dimension_names dims)) ≡ true) × (are_distinct (dimension_names dims) ≡ true)
-    parts = and_parts (not (is_among d.name (dimension_names dims))) (are_distinct (dimension_names dims)) e
-    by_test : (b : Bool) → are_distinct (dimension_names (cond b (items_but places (n + 1) dims) (d ∷ items_but places (n + 1) dims))) ≡ true
-    by_test true = distinct_but places (n + 1) dims parts.1
-    by_test false =
-        and_from (not (is_among d.name (dimension_names (items_but places (n + 1) dims)))) (are_distinct (dimension_names (items_but places (n + 1) dims)))
-        (ap not (among_but places (n + 1) dims d.name (not-true (is_among d.name (dimension_names dims)) parts.0))) (distinct_but places (n + 1) dims parts.1)
+    by_test : (b : Bool) → is_among d.name (dimension_names (items_but places (n + 1) dims)) ≡ false → are_distinct (dimension_names (items_but places (n + 1) dims)) ≡ true
+        → are_distinct (dimension_names (cond b (items_but places (n + 1) dims) (d ∷ items_but places (n + 1) dims))) ≡ true
+    by_test true first rest = rest
+    by_test false first rest = and_from (not (is_among d.name (dimension_names (items_but places (n + 1) dims)))) (are_distinct (dimension_names (items_but places (n + 1) dims))) (ap not first) rest
 
 all_but : (p : Dimension → Bool) (places : List ℕ) (n : ℕ) (dims : List Dimension) → list_all p dims ≡ true → list_all p (items_but places n dims) ≡ true
 all_but p places n [] e = refl
-all_but p places n (d ∷ dims) e = by_test (list_any (λ place. place == n) places)
+all_but p places n (d ∷ dims) e =
+    let parts = and_parts (p d) (list_all p dims) e in
+    by_test (list_any (λ place. place == n) places) parts.0 (all_but p places (n + 1) dims parts.1)
   where
-    parts : (p d ≡ true) × (list_all p dims ≡ true)
-    parts = and_parts (p d) (list_all p dims) e
-    by_test : (b : Bool) → list_all p (cond b (items_but places (n + 1) dims) (d ∷ items_but places (n + 1) dims)) ≡ true
-    by_test true = all_but p places (n + 1) dims parts.1
-    by_test false = and_from (p d) (list_all p (items_but places (n + 1) dims)) parts.0 (all_but p places (n + 1) dims parts.1)
+    by_test : (b : Bool) → p d ≡ true → list_all p (items_but places (n + 1) dims) ≡ true → list_all p (cond b (items_but places (n + 1) dims) (d ∷ items_but places (n + 1) dims)) ≡ true
+    by_test true first rest = rest
+    by_test false first rest = and_from (p d) (list_all p (items_but places (n + 1) dims)) first rest
 
 pub slice_valid : (s : Schema) (places : List ℕ) → IsValid s → 1 ≤ length (items_but places 0 s.dimensions) → IsWithin (record { attributes = s.attributes; dimensions = items_but places 0 s.dimensions })
     → IsValid (record { attributes = s.attributes; dimensions = items_but places 0 s.dimensions })
@@ -78,7 +78,7 @@ length_kept : (dims : List Dimension) (lo hi : List ℤ) → length lo ≡ lengt
 length_kept [] lo hi e f = refl
 length_kept (d ∷ dims) [] hi e f = absurd (omega (arith, e))
 length_kept (d ∷ dims) (l ∷ lo) [] e f = absurd (omega (arith, f))
-length_kept (d ∷ dims) (l ∷ lo) (h ∷ hi) e f = ap (λ n. n + 1) (length_kept dims lo hi (omega (arith, e)) (omega (arith, f)))
+length_kept (d ∷ dims) (l ∷ lo) (h ∷ hi) e f = ap suc (length_kept dims lo hi (omega (arith, e)) (omega (arith, f)))
 
 parts_fit : (dims : List Dimension) (lo hi : List ℤ) → list_all is_dimension dims ≡ true → list_all bounds_in_order (subarray_dimensions dims lo hi) ≡ true → list_all bounds_in_range (subarray_dimensions dims lo hi) ≡ true
     → list_all is_dimension (subarray_dimensions dims lo hi) ≡ true

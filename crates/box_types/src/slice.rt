@@ -1,5 +1,6 @@
 //! `slice`.
-ghost use Rattle.std.specs.Prelude.{◌≡◌, ◌≤◌, ◌<◌, ◌^◌, length, [], IfSome};
+ghost use Rattle.std.specs.Prelude.{◌≡◌, ◌==◌, ◌≤◌, ◌<◌, ◌^◌, length, [], IfSome};
+ghost use Rattle.std.specs.List.{list_any};
 ghost use Rattle.logical_plan.specs.BoxOps.{fixed_places};
 ghost use Rattle.logical_plan.specs.PlanSchema.{schema_of};
 ghost use Rattle.type_rules.specs.Checked.{Answers};
@@ -24,20 +25,29 @@ fn fixed_at(span: Span, dimension: u32, at: Option<i64>) -> Result<Fixed, TypeFa
     }
 }
 
-/// The place of a dimension that there is, if it is not yet held.
+/// Whether a dimension is held.
 #[tactic(auto, using(crate::proofs::Held::held))]
+fn is_held(done: &[Fixed], place: u32) -> bool
+    ensures { result ≡ list_any (λ other. other == place) (fixed_places done.now) }
+{
+    done.iter().any(|fixed| fixed.dimension == place)
+}
+
+/// The place of a dimension that there is, if it is not yet held.
 fn new_place(span: Span, done: &[Fixed], place: Option<usize>) -> Result<u32, TypeFault>
     requires { IfSome place (λ at. at < 2 ^ 32) }
     ensures { Answers result (new_place span (fixed_places done.now) place) }
 {
-    let place = match place {
-        Some(place) => place as u32,
-        None => return Err(broken(span, TypeKind::UnknownName)),
-    };
-    if done.iter().any(|other| other.dimension == place) {
-        return Err(broken(span, TypeKind::RepeatedName));
+    match place {
+        Some(place) => {
+            let place = place as u32;
+            if is_held(done, place) {
+                return Err(broken(span, TypeKind::RepeatedName));
+            }
+            Ok(place)
+        }
+        None => Err(broken(span, TypeKind::UnknownName)),
     }
-    Ok(place)
 }
 
 /// A dimension that is named, held at a number.

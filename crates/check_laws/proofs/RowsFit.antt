@@ -158,15 +158,15 @@ module _ (attributes : List Attribute) (high : ℤ) where
   good_rows : (elements : List (List Datum)) (at : ℤ) → are_within elements ≡ true → IfSome (rows_from attributes high at elements) (Good at)
   good_rows [] at w = record { rising = tt; from = tt; kinds = tt; sound = tt }
   good_rows (vs ∷ elements) at w =
-      by_test (int_le at high && fits_element attributes vs) refl
+      let parts = and_parts (list_all is_within vs) (are_within elements) w in
+      by_test (int_le at high && fits_element attributes vs) refl parts.0 (good_rows elements (at +ℤ pos 1) parts.1)
     where
-      parts : (list_all is_within vs ≡ true) × (are_within elements ≡ true)
-      parts = and_parts (list_all is_within vs) (are_within elements) w
-      by_test : (b : Bool) → (int_le at high && fits_element attributes vs) ≡ b → IfSome (if b then with_row at vs (rows_from attributes high (at +ℤ pos 1) elements) else None) (Good at)
-      by_test true e =
+      by_test : (b : Bool) → (int_le at high && fits_element attributes vs) ≡ b → list_all is_within vs ≡ true → IfSome (rows_from attributes high (at +ℤ pos 1) elements) (Good (at +ℤ pos 1))
+          → IfSome (if b then with_row at vs (rows_from attributes high (at +ℤ pos 1) elements) else None) (Good at)
+      by_test true e within rest =
           let p = and_parts (int_le at high) (fits_element attributes vs) e in
-          with_element at vs (rows_from attributes high (at +ℤ pos 1) elements) (int_at_most at high p.0) p.1 parts.0 (good_rows elements (at +ℤ pos 1) parts.1)
-      by_test false e = tt
+          with_element at vs (rows_from attributes high (at +ℤ pos 1) elements) (int_at_most at high p.0) p.1 within rest
+      by_test false e within rest = tt
 
 inside_all : (d : Dimension) (rows : List Row) → AllByRecursion (IsFrom d.lo d.hi) rows → AllByRecursion (λ row. IsTrue (is_inside (bounds_of (d ∷ [])) row.at.items)) rows
 inside_all d [] all = tt
