@@ -16,6 +16,11 @@ use Rattle.source_types.specs.Stored.{referred, scan_call}
 use Rattle.afl_types.specs.Calls.{call_of, fits_count, ruled}
 use Rattle.afl_types.specs.declared.call.Call.{Call}
 use Rattle.afl_types.specs.declared.call.Call.TheVariants.{Build, Scan, Over}
+use Rattle.afl_types.specs.declared.call.OverSource.{OverSource}
+
+-- an operator on a source: how many arguments stand behind it, then the source, then they and the operator's own rules
+abbrev pub over : Span → OverSource → Checked Query → List Term → Checked Query
+over s operator source arguments = demand (fits_count operator (length arguments)) s WrongCount (then source (λ plan. ruled s operator plan arguments))
 
 -- A bracketed query is the query in the brackets.
 module _ (arrays : List NameEntry) where
@@ -28,8 +33,6 @@ module _ (arrays : List NameEntry) where
     pub called : Span → List ℕ → Option Call → Terms → Checked Query
     called s name (Some Build) arguments = build_call s arguments
     called s name (Some Scan) arguments = scan_call arrays s arguments
-    called s name (Some (Over operator)) (and_term source arguments) =
-        demand (fits_count operator (length (to_list arguments))) s WrongCount
-        (then (query_of source) (λ plan. ruled s operator plan (to_list arguments)))
+    called s name (Some (Over operator)) (and_term source arguments) = over s operator (query_of source) (to_list arguments)
     called s name (Some (Over operator)) no_terms = refused s WrongCount
     called s name None arguments = refused (name_span s name) UnknownName

@@ -5,7 +5,7 @@ ghost use Rattle.type_rules.specs.Checked.{Answers};
 ghost use Rattle.type_rules.specs.Operators.{operator_named};
 ghost use Rattle.afl_types.specs.Calls.{call_of};
 ghost use Rattle.afl_types.specs.Checking.{AreValid};
-ghost use Rattle.afl_types.specs.Queries.{called, query_of};
+ghost use Rattle.afl_types.specs.Queries.{called, over, query_of};
 ghost use Rattle.afl_types.specs.declared.call.Call.{Call};
 
 use crate::call::{Call, OverSource, call_of};
@@ -17,10 +17,32 @@ use source_types::{build_call, referred, scan_call};
 use std::alloc::Global;
 use type_rules::{TypeFault, broken, name_span, operator_named};
 
-/// A call of an operator on a source, its first argument, which is checked before those behind it.
+/// An operator on a source, which is checked before the arguments behind it.
 #[cycle(query)]
 #[tactic(auto, using(crate::proofs::Steps::ok_then, crate::proofs::Steps::err_then, crate::proofs::Small::few_attributes, crate::proofs::Small::few_dimensions))]
-fn over_source(
+fn over(
+    alloc: Global,
+    text: &[u8],
+    arrays: &[NameEntry],
+    span: Span,
+    operator: OverSource,
+    source: &Tree,
+    arguments: &[Tree],
+) -> Result<Plan, TypeFault>
+    requires { AreValid arrays.now }
+    ensures { Answers result (over span operator (query_of arrays.now source.now) arguments.now) }
+{
+    if !operator.fits_count(arguments.len()) {
+        return Err(broken(span, TypeKind::WrongCount));
+    }
+    let plan = query_of(alloc, text, arrays, source)?;
+    operator.ruled(alloc, span, plan, arguments)
+}
+
+/// A call of an operator on a source, its first argument.
+#[cycle(query)]
+#[tactic(auto, using(crate::proofs::Sources::with_source, crate::proofs::Sources::without_source))]
+fn over_first(
     alloc: Global,
     text: &[u8],
     arrays: &[NameEntry],
@@ -34,13 +56,7 @@ fn over_source(
 {
     match arguments {
         [] => Err(broken(span, TypeKind::WrongCount)),
-        [source, rest @ ..] => {
-            if !operator.fits_count(rest.len()) {
-                return Err(broken(span, TypeKind::WrongCount));
-            }
-            let source = query_of(alloc, text, arrays, source)?;
-            operator.ruled(alloc, span, source, rest)
-        }
+        [source, rest @ ..] => over(alloc, text, arrays, span, operator, source, rest),
     }
 }
 
@@ -61,7 +77,7 @@ fn called(
         Some(Call::Build) => build_call(alloc, text, span, arguments),
         Some(Call::Scan) => scan_call(arrays, span, arguments),
         Some(Call::Over(operator)) => {
-            over_source(alloc, text, arrays, span, name, operator, arguments)
+            over_first(alloc, text, arrays, span, name, operator, arguments)
         }
         None => Err(broken(name_span(span, name), TypeKind::UnknownName)),
     }
