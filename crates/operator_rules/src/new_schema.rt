@@ -1,11 +1,11 @@
 //! The rules of the schema that an operator makes.
-ghost use Rattle.std.specs.Prelude.{◌≡◌, ◌^◌, ◌-◌, min, Ok, IfOk};
-ghost use Rattle.cell_values.specs.Schemas.{frame_length, frame_size};
+ghost use Rattle.std.specs.Prelude.{◌≡◌, ◌^◌, ◌-◌, min, nat_le, length, Ok, IfOk};
+ghost use Rattle.cell_values.specs.Schemas.{frame_fits, frame_length, frame_size};
 ghost use Rattle.logical_plan.specs.PlanSchema.{schema_of};
 ghost use Rattle.type_rules.specs.Checked.{Answers};
 ghost use Rattle.operator_rules.specs.NewSchema.{by_new_schema, of_new_schema};
 
-use cell_values::{Dimension, Memory, Schema, Span};
+use cell_values::{Attribute, Dimension, Memory, Schema, Span};
 use logical_plan::{Plan, schema_of};
 use schema_grammar::TypeKind;
 use std::alloc::Global;
@@ -38,17 +38,35 @@ fn frame_size(dimensions: &[Dimension]) -> u64
     size
 }
 
+fn are_few_dimensions(dimensions: &[Dimension]) -> bool
+    ensures { result ≡ nat_le (length dimensions.now) 6 }
+{
+    dimensions.len() <= MAX_DIMENSIONS
+}
+
+fn are_few_attributes(attributes: &[Attribute]) -> bool
+    ensures { result ≡ nat_le (length attributes.now) 64 }
+{
+    attributes.len() <= MAX_ATTRIBUTES
+}
+
+fn frame_fits(dimensions: &[Dimension]) -> bool
+    ensures { result ≡ frame_fits dimensions.now }
+{
+    frame_size(dimensions) <= MAX_FRAME
+}
+
 /// The plan, where a schema is within the limits.
 fn by_new_schema(span: Span, schema: &Schema, plan: Plan) -> Result<Plan, TypeFault>
     ensures { Answers result (by_new_schema span schema.now (Ok plan)) }
 {
-    if schema.dimensions.len() > MAX_DIMENSIONS {
+    if !are_few_dimensions(schema.dimensions.as_slice()) {
         return Err(broken(span, TypeKind::TooManyDimensions));
     }
-    if schema.attributes.len() > MAX_ATTRIBUTES {
+    if !are_few_attributes(schema.attributes.as_slice()) {
         return Err(broken(span, TypeKind::TooManyAttributes));
     }
-    if frame_size(schema.dimensions.as_slice()) > MAX_FRAME {
+    if !frame_fits(schema.dimensions.as_slice()) {
         return Err(broken(span, TypeKind::ChunkTooLarge));
     }
     Ok(plan)
