@@ -1,5 +1,3 @@
-pub mod Limits
-pub mod LiteralValues
 pub mod ParsedLeaves
 pub mod RowsFit
 pub mod TypedQueries

@@ -13,7 +13,7 @@ use Rattle.afl_parser.specs.Grammar.{Spells, SpellsArguments, SpellsMore, Spells
 use Rattle.afl_parser.specs.Term.{Term, create, number, text, truth, null, missing, reference, version, call, schema, star, renamed, opposite, negative, binary, group, Terms, no_terms, and_term}
 use Rattle.expr_types.specs.Laws.{leaves_fit, all_leaves_fit}
 use Rattle.check_laws.specs.Laws.{ParsedLeavesFit}
-use Rattle.check_laws.proofs.Limits.{is_lexeme_within, lexemes_within, are_bytes}
+use Rattle.literal_types.proofs.Limits.{is_lexeme_within, lexemes_within, are_bytes}
 
 abbrev is_ok : Placed → Bool
 is_ok p = is_lexeme_within p.what
@@ -37,7 +37,7 @@ null_rest false xs zs (m, n, e) h = off _ zs (off _ _ (subst Ok_all e h))
 attr_rest : (a : AttrText) (xs zs : List Placed) → SpellsAttr a xs zs → Ok_all xs → Ok_all zs
 attr_rest a xs zs (c, ys, e, rest) h = null_rest a.nullable ys zs rest (off _ ys (off _ _ (off _ _ (subst Ok_all e h))))
 
-attrs_rest : (as : List AttrText) (xs zs : List Placed) → SpellsAttrs as xs zs → Ok_all xs → Ok_all zs
+attrs_rest : (attributes : List AttrText) (xs zs : List Placed) → SpellsAttrs attributes xs zs → Ok_all xs → Ok_all zs
 attrs_rest [] xs zs s h = absurd s
 attrs_rest (a ∷ []) xs zs s h = attr_rest a xs zs s h
 attrs_rest (a ∷ b ∷ bs) xs zs (c, ys, one, more) h = attrs_rest (b ∷ bs) ys zs more (off _ ys (attr_rest a xs _ one h))

@@ -56,7 +56,7 @@ use Rattle.afl_types.specs.declared.call.Call.TheVariants.{Build, Scan, Over}
 use Rattle.afl_types.specs.declared.call.OverSource.{OverSource}
 use Rattle.afl_types.specs.declared.call.OverSource.TheVariants.{Filter, Apply, Project, Between, Subarray, Slice}
 use Rattle.afl_types.proofs.Small.{entry_valid}
-use Rattle.check_laws.proofs.Limits.{are_bytes}
+use Rattle.literal_types.proofs.Limits.{are_bytes}
 use Rattle.check_laws.proofs.RowsFit.{literal_fits}
 use Rattle.check_laws.specs.Laws.{CheckedPlansAreTyped}
 
@@ -75,7 +75,7 @@ nothing_asked (t ∷ ts) = (tt, nothing_asked ts)
 
 one_fits : (attributes : List Attribute) (a : Attribute) (value : Term) (dims : List Dimension) (x : Operand) → attributes ≡ a ∷ [] → Leaf value → typed [] dims value ≡ Ok x → fits a.kind x.kind ≡ true → fits_one attributes (length dims) x.expr ≡ true
 one_fits attributes a value dims x one leaf t fit =
-    subst (λ (as : List Attribute). fits_one as (length dims) x.expr ≡ true) (sym one) (typed_have_kinds [] dims value x leaf t a.kind fit)
+    subst (λ (attrs : List Attribute). fits_one attrs (length dims) x.expr ≡ true) (sym one) (typed_have_kinds [] dims value x leaf t a.kind fit)
 
 build_typed : (meaning : Schema) (a : Attribute) (value : Term) (x : Operand) → Leaf value → IsValid meaning → list_all is_bounded meaning.dimensions ≡ true → meaning.attributes ≡ a ∷ []
     → nat_le (places_in meaning.dimensions) 16777216 ≡ true → typed [] meaning.dimensions value ≡ Ok x → fits a.kind x.kind ≡ true → IsTyped (built meaning x.expr)

@@ -19,7 +19,7 @@ use Rattle.literal_types.specs.declared.literal.Place.{Place}
 use Rattle.literal_types.specs.declared.literal.Place.TheVariants.{Start, First, Next, Negative, Opened, Further, Signed, Valued, Ended, Closed}
 use Rattle.literal_types.specs.declared.literal.Begun.{Begun}
 use Rattle.literal_types.proofs.LexedLemmas.{tokens_of_are}
-use Rattle.check_laws.proofs.Limits.{is_within, is_mark_within, are_bytes, marks_within, opposite_within}
+use Rattle.literal_types.proofs.Limits.{is_within, is_mark_within, are_bytes, marks_within, opposite_within}
 
 abbrev pub are_within : List (List Datum) → Bool
 are_within = list_all (list_all is_within)
