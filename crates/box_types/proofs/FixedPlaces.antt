@@ -51,7 +51,7 @@ module _ (dims : List Dimension) where
       let more : fixed_places (done ++ record { dimension = place; at = n } ∷ []) ≡ fixed_places done ++ place ∷ [] = map-append (λ (f : Fixed). f.dimension) done (record { dimension = place; at = n } ∷ []) in
       record {
         below = ap (are_below (length dims)) more ∙ list_all-append (λ p. nat_lt p (length dims)) (fixed_places done) (place ∷ [])
-        ∙ and_from (are_below (length dims) (fixed_places done)) (nat_lt place (length dims) && true) held.below (ap (λ b. b && true) (lt-ltb place (length dims) lt));
+            ∙ and_from (are_below (length dims) (fixed_places done)) (nat_lt place (length dims) && true) held.below (ap (λ b. b && true) (lt-ltb place (length dims) lt));
         apart = ap are_apart more ∙ apart_more (fixed_places done) place held.apart none;
       }
 

@@ -28,8 +28,8 @@ module _ (P : Query → Type 0) (s : Span) (source : Query) where
       demanded P (length bounds == 2 * length dims) s WrongCount _ h)
 
   pub subarray_holds : (bounds : List Term) → ((length bounds == 2 * length dims) ≡ true → list_all bounds_in_order (schema_of (subarray source (box_of dims bounds))).dimensions ≡ true
-          → list_all bounds_in_range (schema_of (subarray source (box_of dims bounds))).dimensions ≡ true
-          → IsWithin (schema_of (subarray source (box_of dims bounds))) → P (subarray source (box_of dims bounds)))
+      → list_all bounds_in_range (schema_of (subarray source (box_of dims bounds))).dimensions ≡ true
+      → IsWithin (schema_of (subarray source (box_of dims bounds))) → P (subarray source (box_of dims bounds)))
       → IfOk (subarray_call s source bounds) P
   subarray_holds bounds h =
       let part : Query = subarray source (box_of dims bounds) in
@@ -40,7 +40,7 @@ module _ (P : Query → Type 0) (s : Span) (source : Query) where
       new_holds P s part (h count order range)))))
 
   pub slice_holds : (arguments : List Term) → ((fixed : List Fixed) → pairs_in_turn (fixed_one dims) [] arguments ≡ Ok fixed → nat_le 1 (length (schema_of (sliced source fixed)).dimensions) ≡ true
-          → IsWithin (schema_of (sliced source fixed)) → P (sliced source fixed))
+      → IsWithin (schema_of (sliced source fixed)) → P (sliced source fixed))
       → IfOk (slice_call s source arguments) P
   slice_holds arguments h =
       unless_holds P (first_but_pairs is_name is_number arguments) _ (λ sorts.

@@ -65,7 +65,11 @@ fn fixed_one(
         Node::Ref(known) => known,
         _ => return Err(wrong_type(name)),
     };
-    let place = new_place(name.span, done, dimension_place(dimensions, known.as_slice()))?;
+    let place = new_place(
+        name.span,
+        done,
+        dimension_place(dimensions, known.as_slice()),
+    )?;
     fixed_at(number.span, place, number_in(number))
 }
 

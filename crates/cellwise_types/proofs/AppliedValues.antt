@@ -56,9 +56,10 @@ module _ (source : Schema) where
       let split : before done ≡ attribute_names source.attributes ++ map (λ (a : Applied). a.name) done
       = map-append (λ (attribute : Attribute). attribute.name) source.attributes (map (λ (a : Applied). derived a.name a.kind) done) ∙ ap (λ ns. attribute_names source.attributes ++ ns) (names_derived done) in
       let first : is_among name (attribute_names source.attributes) ≡ false = not_among (λ (attribute : Attribute). attribute.name) source.attributes name q.0 in
-      let last : is_among name (map (λ (a : Applied). a.name) done) ≡ false = not_among (λ (a : Applied). a.name) done name p.1 in
-      (ap (is_among name) split ∙ among_neither name (attribute_names source.attributes) (map (λ (a : Applied). a.name) done) first last,
-      not_among (λ (dimension : Dimension). dimension.name) source.dimensions name q.1)
+      let last : is_among name (map (λ (a : Applied). a.name) done) ≡ false = not_among (λ (a : Applied). a.name) done name p.1 in (
+        ap (is_among name) split ∙ among_neither name (attribute_names source.attributes) (map (λ (a : Applied). a.name) done) first last,
+        not_among (λ (dimension : Dimension). dimension.name) source.dimensions name q.1,
+      )
 
   with_value : (done : List Applied) (name : List ℕ) (x : Operand) (kind : Kind) → is_given source done name ≡ false → IsTrue (is_over source kind x.expr) → is_null_alone x.expr ≡ false → Added done
       → Added (done ++ record { name = name; kind = kind; value = x.expr } ∷ [])
@@ -71,11 +72,11 @@ module _ (source : Schema) where
       ∙ map-append (λ (attribute : Attribute). attribute.name) (source.attributes ++ map (λ (a : Applied). derived a.name a.kind) done) (derived name kind ∷ []) in
       record {
         fit = list_all-append (λ (a : Applied). is_over source a.kind a.value && not (is_null_alone a.value)) done (value ∷ [])
-        ∙ and_from (fits_apply source done) (is_over source kind x.expr && not (is_null_alone x.expr) && true) added.fit
-        (and_from (is_over source kind x.expr && not (is_null_alone x.expr)) true (and_from (is_over source kind x.expr) (not (is_null_alone x.expr)) over (ap not some)) refl);
+            ∙ and_from (fits_apply source done) (is_over source kind x.expr && not (is_null_alone x.expr) && true) added.fit
+            (and_from (is_over source kind x.expr && not (is_null_alone x.expr)) true (and_from (is_over source kind x.expr) (not (is_null_alone x.expr)) over (ap not some)) refl);
         names = ap (λ (ns : List (List ℕ)). are_distinct (ns ++ dimension_names source.dimensions)) grown
-        ∙ ap are_distinct (append_assoc (before done) (name ∷ []) (dimension_names source.dimensions))
-        ∙ distinct_between (before done) (dimension_names source.dimensions) name added.names new.0 new.1;
+            ∙ ap are_distinct (append_assoc (before done) (name ∷ []) (dimension_names source.dimensions))
+            ∙ distinct_between (before done) (dimension_names source.dimensions) name added.names new.0 new.1;
       }
 
   of_its_kind : (done : List Applied) (name : List ℕ) (e : Term) (x : Operand) (o : Option Kind) → IsTrue (leaves_fit e) → typed source.attributes source.dimensions e ≡ Ok x → is_given source done name ≡ false

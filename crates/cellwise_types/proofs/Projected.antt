@@ -58,6 +58,7 @@ module _ (source : Schema) (distinct : are_distinct (attribute_names source.attr
     where
       true_false : (b : Bool) → b ≡ true → b ≡ false → ⊥
       true_false b x y = cc
+
       by_item : (o : Option Attribute) → slice_get source.attributes q ≡ o → (p ≡ q → ⊥) → is_among a.name (Names done) ≡ false → is_among a.name (attribute_names (cons_option o (items_at done source.attributes))) ≡ false
       by_item None f apart rest = rest
       by_item (Some b) f apart rest =
@@ -76,7 +77,7 @@ module _ (source : Schema) (distinct : are_distinct (attribute_names source.attr
       record {
         below = list_all-append (λ place. nat_lt place (length source.attributes)) done (p ∷ []) ∙ and_from (are_below (length source.attributes) done) (nat_lt p (length source.attributes) && true) chosen.below (ap (λ b. b && true) (lt-ltb p (length source.attributes) lt));
         names = ap (λ (xs : List (List ℕ)). are_distinct (xs ++ dimension_names source.dimensions)) named ∙ ap are_distinct (append_assoc (Names done) (a.name ∷ []) (dimension_names source.dimensions))
-        ∙ distinct_between (Names done) (dimension_names source.dimensions) a.name chosen.names (fresh done p a e none) apart;
+            ∙ distinct_between (Names done) (dimension_names source.dimensions) a.name chosen.names (fresh done p a e none) apart;
         count = ap length more ∙ length-append (items_at done source.attributes) (a ∷ []) ∙ ap (λ n. n + 1) chosen.count ∙ sym (length-append done (p ∷ []));
       }
 

@@ -18,8 +18,16 @@ use type_rules::{TypeFault, broken, same_name};
 fn is_given(source: &Schema, done: &[Applied], name: &[u8]) -> bool
     ensures { result ≡ is_given source.now done.now name.now }
 {
-    source.attributes.as_slice().iter().any(|attribute| same_name(&attribute.name, name))
-        || source.dimensions.as_slice().iter().any(|dimension| same_name(&dimension.name, name))
+    source
+        .attributes
+        .as_slice()
+        .iter()
+        .any(|attribute| same_name(&attribute.name, name))
+        || source
+            .dimensions
+            .as_slice()
+            .iter()
+            .any(|dimension| same_name(&dimension.name, name))
         || done.iter().any(|other| same_name(&other.name, name))
 }
 
@@ -57,7 +65,12 @@ fn applied_one(
     if is_given(source, done, known.as_slice()) {
         return Err(broken(name.span, TypeKind::RepeatedName));
     }
-    let value = typed(alloc, source.attributes.as_slice(), source.dimensions.as_slice(), value)?;
+    let value = typed(
+        alloc,
+        source.attributes.as_slice(),
+        source.dimensions.as_slice(),
+        value,
+    )?;
     named_value(known, value)
 }
 

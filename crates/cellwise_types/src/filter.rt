@@ -25,12 +25,7 @@ fn filter_by(alloc: Global, source: Plan, test: Operand) -> Result<Plan, TypeFau
 
 /// The cells of a source of this schema where an expression is true.
 #[tactic(auto, using(crate::proofs::Steps::ok_then, crate::proofs::Steps::err_then))]
-fn filter_of(
-    alloc: Global,
-    source: Plan,
-    schema: &Schema,
-    test: &Tree,
-) -> Result<Plan, TypeFault>
+fn filter_of(alloc: Global, source: Plan, schema: &Schema, test: &Tree) -> Result<Plan, TypeFault>
     requires attributes { length schema.now.attributes ≤ 64 }
     requires dimensions { length schema.now.dimensions ≤ 6 }
     ensures { Answers result (filter_of source schema.now test.now) }
@@ -38,7 +33,12 @@ fn filter_of(
     if !is_expression(test) {
         return Err(wrong_type(test));
     }
-    let test = typed(alloc, schema.attributes.as_slice(), schema.dimensions.as_slice(), test)?;
+    let test = typed(
+        alloc,
+        schema.attributes.as_slice(),
+        schema.dimensions.as_slice(),
+        test,
+    )?;
     filter_by(alloc, source, test)
 }
 

@@ -20,7 +20,11 @@ fn projected_one(attributes: &[Attribute], done: &[u32], name: &Tree) -> Result<
     ensures { Answers result (projected_one attributes.now done.now name.now) }
 {
     match &name.node {
-        Node::Ref(known) => new_place(name.span, done, attribute_place(attributes, known.as_slice())),
+        Node::Ref(known) => new_place(
+            name.span,
+            done,
+            attribute_place(attributes, known.as_slice()),
+        ),
         _ => Err(wrong_type(name)),
     }
 }

@@ -79,9 +79,11 @@ one_fits attributes a value dims x one leaf t fit =
 
 build_typed : (meaning : Schema) (a : Attribute) (value : Term) (x : Operand) → Leaf value → IsValid meaning → list_all is_bounded meaning.dimensions ≡ true → meaning.attributes ≡ a ∷ []
     → nat_le (places_in meaning.dimensions) 16777216 ≡ true → typed [] meaning.dimensions value ≡ Ok x → fits a.kind x.kind ≡ true → IsTyped (built meaning x.expr)
-build_typed meaning a value x leaf valid bounded one few t fit =
-    (valid, and_from (list_all is_bounded meaning.dimensions && nat_le (places_in meaning.dimensions) 16777216) (fits_one meaning.attributes (length meaning.dimensions) x.expr)
-    (and_from (list_all is_bounded meaning.dimensions) (nat_le (places_in meaning.dimensions) 16777216) bounded few) (one_fits meaning.attributes a value meaning.dimensions x one leaf t fit))
+build_typed meaning a value x leaf valid bounded one few t fit = (
+  valid,
+  and_from (list_all is_bounded meaning.dimensions && nat_le (places_in meaning.dimensions) 16777216) (fits_one meaning.attributes (length meaning.dimensions) x.expr)
+      (and_from (list_all is_bounded meaning.dimensions) (nat_le (places_in meaning.dimensions) 16777216) bounded few) (one_fits meaning.attributes a value meaning.dimensions x one leaf t fit),
+)
 
 literal_typed : (meaning : Schema) (d : Dimension) (at : Span) (spelled : List ℕ) (rows : List Row) → Leaf (text at spelled) → IsValid meaning → meaning.dimensions ≡ d ∷ [] → literal_rows meaning.attributes d spelled ≡ Some rows → IsTyped (listed meaning rows)
 literal_typed meaning d at spelled rows leaf valid one e =
@@ -115,14 +117,17 @@ module _ (s : Span) (source : Query) (typed_source : IsTyped source) where
       apply_holds IsTyped s source arguments (λ values e within.
       let added : Added shape values = of_answer (Added shape) (pairs_in_turn (applied_one shape) [] arguments) values kept e in
       let made : Schema = apply_schema values shape in
-      let some : 1 ≤ length made.attributes = longer values in
-      (typed_source, added.fit, valid_of_parts made (record {
-        attributes = has_some made.attributes 64 some within.attributes;
-        dimensions = parts.dimensions;
-        distinct = added.names;
-        each = parts.each;
-        frames = parts.frames;
-      })))
+      let some : 1 ≤ length made.attributes = longer values in (
+        typed_source,
+        added.fit,
+        valid_of_parts made (record {
+          attributes = has_some made.attributes 64 some within.attributes;
+          dimensions = parts.dimensions;
+          distinct = added.names;
+          each = parts.each;
+          frames = parts.frames;
+        }),
+      ))
     where
       longer : (values : List Applied) → 1 ≤ length (apply_schema values shape).attributes
       longer values =
@@ -140,14 +145,17 @@ module _ (s : Span) (source : Query) (typed_source : IsTyped source) where
       project_holds IsTyped s source arguments (λ some places e within.
       let chosen : Kept places = of_answer Kept (in_turn (projected_one shape.attributes) [] arguments) places kept e in
       let made : Schema = project_schema places shape in
-      let count : length places ≡ length arguments = turns_count (projected_one shape.attributes) [] arguments places e in
-      (typed_source, chosen.below, valid_of_parts made (record {
-        attributes = has_some made.attributes 64 (omega (arith, some, chosen.count, count)) within.attributes;
-        dimensions = parts.dimensions;
-        distinct = chosen.names;
-        each = parts.each;
-        frames = parts.frames;
-      })))
+      let count : length places ≡ length arguments = turns_count (projected_one shape.attributes) [] arguments places e in (
+        typed_source,
+        chosen.below,
+        valid_of_parts made (record {
+          attributes = has_some made.attributes 64 (omega (arith, some, chosen.count, count)) within.attributes;
+          dimensions = parts.dimensions;
+          distinct = chosen.names;
+          each = parts.each;
+          frames = parts.frames;
+        }),
+      ))
 
   low_length : (bounds : List Term) → (length bounds == 2 * length shape.dimensions) ≡ true → length (box_of shape.dimensions bounds).lo.items ≡ length shape.dimensions
   low_length bounds e = length_pairs low_bound shape.dimensions bounds (omega (arith, eqb-true (length bounds) (2 * length shape.dimensions) e))
@@ -179,9 +187,11 @@ module _ (s : Span) (source : Query) (typed_source : IsTyped source) where
       let kept : IfOk (pairs_in_turn (fixed_one shape.dimensions) [] arguments) Kept
       = pairs_keep (λ t. Unit {0}) Kept (fixed_one shape.dimensions) (λ done t n asked other held. holds_one shape.dimensions done t n held) [] arguments (nothing_asked arguments) start in
       slice_holds IsTyped s source arguments (λ fixed e some within.
-      let held : Kept fixed = of_answer Kept (pairs_in_turn (fixed_one shape.dimensions) [] arguments) fixed kept e in
-      (typed_source, and_from (are_below (length shape.dimensions) (fixed_places fixed)) (are_apart (fixed_places fixed)) held.below held.apart,
-      slice_valid shape (fixed_places fixed) valid (leb-true 1 (length (items_but (fixed_places fixed) 0 shape.dimensions)) some) within))
+      let held : Kept fixed = of_answer Kept (pairs_in_turn (fixed_one shape.dimensions) [] arguments) fixed kept e in (
+        typed_source,
+        and_from (are_below (length shape.dimensions) (fixed_places fixed)) (are_apart (fixed_places fixed)) held.below held.apart,
+        slice_valid shape (fixed_places fixed) valid (leb-true 1 (length (items_but (fixed_places fixed) 0 shape.dimensions)) some) within,
+      ))
 
 ruled_typed : (s : Span) (operator : OverSource) (source : Query) (arguments : List Term) → AllByRecursion Leaf arguments → IsTyped source → IfOk (ruled s operator source arguments) IsTyped
 ruled_typed s Filter source arguments leaves t = filter_typed s source t arguments leaves
