@@ -4,8 +4,10 @@ use Rattle.std.specs.Prelude.{nat_le, nat_lt}
 use Rattle.std.specs.List.{list_all}
 use Rattle.std.proofs.lemmas.Bool.{and_parts, and_from, le-leb}
 use Rattle.cell_values.specs.declared.name.Span.{Span}
-use Rattle.afl_lexer.specs.Lexemes.{Placed, lexeme_of}
-use Rattle.schema_grammar.specs.Spelling.{SpellsNull, SpellsAttr, SpellsAttrs, SpellsBound, SpellsHigh, SpellsDim, SpellsDims, SpellsSchema}
+use Rattle.afl_lexer.specs.Lexemes.{Placed, a_name, a_number, a_symbol, a_word, lexeme_of}
+use Rattle.afl_lexer.specs.declared.token.Word.TheVariants.{As}
+use Rattle.afl_lexer.specs.declared.token.Symbol.TheVariants.{Colon, Comma, LeftBracket, More, RightBracket, RightParen}
+use Rattle.schema_grammar.specs.Spelling.{placed, SpellsNull, SpellsAttr, SpellsAttrs, SpellsBound, SpellsHigh, SpellsDim, SpellsDims, SpellsSchema}
 use Rattle.schema_grammar.specs.declared.shape_text.SchemaText.{SchemaText}
 use Rattle.schema_grammar.specs.declared.shape_text.AttrText.{AttrText}
 use Rattle.schema_grammar.specs.declared.shape_text.DimText.{DimText}
@@ -21,85 +23,100 @@ is_ok p = is_lexeme_within p.what
 abbrev Ok_all : List Placed → Type 0
 Ok_all xs = list_all is_ok xs ≡ true
 
-first : (p : Placed) (xs : List Placed) → Ok_all (p ∷ xs) → is_ok p ≡ true
-first p xs h = (and_parts (is_ok p) (list_all is_ok xs) h).0
+first : {p : Placed} {xs zs : List Placed} → xs ≡ p ∷ zs → Ok_all xs → is_ok p ≡ true
+first {p} {xs} {zs} e h = (and_parts (is_ok p) (list_all is_ok zs) (subst Ok_all e h)).0
 
 off : (p : Placed) (xs : List Placed) → Ok_all (p ∷ xs) → Ok_all xs
 off p xs h = (and_parts (is_ok p) (list_all is_ok xs) h).1
+
+off_one : {p : Placed} {xs zs : List Placed} → xs ≡ p ∷ zs → Ok_all xs → Ok_all zs
+off_one {p} {xs} {zs} e h = off p zs (subst Ok_all e h)
+
+off_two : {p q : Placed} {xs zs : List Placed} → xs ≡ p ∷ q ∷ zs → Ok_all xs → Ok_all zs
+off_two {p} {q} {xs} {zs} e h = off q zs (off_one e h)
+
+off_three : {p q r : Placed} {xs zs : List Placed} → xs ≡ p ∷ q ∷ r ∷ zs → Ok_all xs → Ok_all zs
+off_three {p} {q} {r} {xs} {zs} e h = off r zs (off_two e h)
 
 -- Schemas
 
 null_rest : (b : Bool) (xs zs : List Placed) → SpellsNull b xs zs → Ok_all xs → Ok_all zs
 null_rest true xs zs (inl e) h = subst Ok_all e h
-null_rest true xs zs (inr (n, e)) h = off _ zs (subst Ok_all e h)
-null_rest false xs zs (m, n, e) h = off _ zs (off _ _ (subst Ok_all e h))
+null_rest true xs zs (inr (n, e)) h = off_one e h
+null_rest false xs zs (m, n, e) h = off_two e h
 
 attr_rest : (a : AttrText) (xs zs : List Placed) → SpellsAttr a xs zs → Ok_all xs → Ok_all zs
-attr_rest a xs zs (c, ys, e, rest) h = null_rest a.nullable ys zs rest (off _ ys (off _ _ (off _ _ (subst Ok_all e h))))
+attr_rest a xs zs (c, ys, e, rest) h = null_rest a.nullable ys zs rest (off_three e h)
 
 attrs_rest : (attributes : List AttrText) (xs zs : List Placed) → SpellsAttrs attributes xs zs → Ok_all xs → Ok_all zs
 attrs_rest [] xs zs s h = absurd s
 attrs_rest (a ∷ []) xs zs s h = attr_rest a xs zs s h
-attrs_rest (a ∷ b ∷ bs) xs zs (c, ys, one, more) h = attrs_rest (b ∷ bs) ys zs more (off _ ys (attr_rest a xs _ one h))
+attrs_rest (a ∷ b ∷ bs) xs zs (c, ys, one, more) h = attrs_rest (b ∷ bs) ys zs more (off (placed (a_symbol Comma) c) ys (attr_rest a xs (placed (a_symbol Comma) c ∷ ys) one h))
 
 bound_rest : (z : ℤ) (s : Span) (xs zs : List Placed) → SpellsBound z s xs zs → Ok_all xs → Ok_all zs
-bound_rest z s xs zs (inl (n, same, e)) h = off _ zs (subst Ok_all e h)
-bound_rest z s xs zs (inr (n, m, t, same, place, e)) h = off _ zs (off _ _ (subst Ok_all e h))
+bound_rest z s xs zs (inl (n, same, e)) h = off_one e h
+bound_rest z s xs zs (inr (n, m, t, same, place, e)) h = off_two e h
 
 high_rest : (z : ℤ) (s : Span) (xs zs : List Placed) → SpellsHigh z s xs zs → Ok_all xs → Ok_all zs
 high_rest z s xs zs (inl b) h = bound_rest z s xs zs b h
-high_rest z s xs zs (inr (same, e)) h = off _ zs (subst Ok_all e h)
+high_rest z s xs zs (inr (same, e)) h = off_one e h
 
 dim_rest : (d : DimText) (xs zs : List Placed) → SpellsDim d xs zs → Ok_all xs → Ok_all zs
 dim_rest d xs zs (e, c, f, g, ys, ws, same, low, high) h =
-    let behind_low = off _ ws (bound_rest d.lo d.lo_span ys _ low (off _ ys (off _ _ (subst Ok_all same h)))) in
-    off _ zs (off _ _ (off _ _ (off _ _ (high_rest d.hi d.hi_span ws _ high behind_low))))
+    let overlap : List Placed = placed (a_number (pos d.overlap)) d.overlap_span ∷ zs in
+    let chunk : List Placed = placed (a_number (pos d.chunk)) d.chunk_span ∷ placed (a_symbol Comma) g ∷ overlap in
+    let behind_low = off (placed (a_symbol Colon) c) ws (bound_rest d.lo d.lo_span ys (placed (a_symbol Colon) c ∷ ws) low (off_two same h)) in
+    let behind_high = high_rest d.hi d.hi_span ws (placed (a_symbol Comma) f ∷ chunk) high behind_low in
+    off (placed (a_number (pos d.overlap)) d.overlap_span) zs
+    (off (placed (a_symbol Comma) g) overlap (off (placed (a_number (pos d.chunk)) d.chunk_span) (placed (a_symbol Comma) g ∷ overlap) (off (placed (a_symbol Comma) f) chunk behind_high)))
 
 dims_rest : (ds : List DimText) (xs zs : List Placed) → SpellsDims ds xs zs → Ok_all xs → Ok_all zs
 dims_rest [] xs zs s h = absurd s
 dims_rest (d ∷ []) xs zs s h = dim_rest d xs zs s h
-dims_rest (d ∷ e ∷ es) xs zs (c, ys, one, more) h = dims_rest (e ∷ es) ys zs more (off _ ys (dim_rest d xs _ one h))
+dims_rest (d ∷ e ∷ es) xs zs (c, ys, one, more) h = dims_rest (e ∷ es) ys zs more (off (placed (a_symbol Comma) c) ys (dim_rest d xs (placed (a_symbol Comma) c ∷ ys) one h))
 
 schema_rest : (t : SchemaText) (s : Span) (xs zs : List Placed) → SpellsSchema t s xs zs → Ok_all xs → Ok_all zs
 schema_rest t s xs zs (l, g, b, e, ys, ws, same, attrs, dims, brackets, place) h =
-    off _ zs (dims_rest t.dimensions ws _ dims (off _ ws (off _ _ (attrs_rest t.attributes ys _ attrs (off _ ys (subst Ok_all same h))))))
+    let behind = attrs_rest t.attributes ys (placed (a_symbol More) g ∷ placed (a_symbol LeftBracket) b ∷ ws) attrs (off_one same h) in
+    off (placed (a_symbol RightBracket) e) zs
+    (dims_rest t.dimensions ws (placed (a_symbol RightBracket) e ∷ zs) dims (off (placed (a_symbol LeftBracket) b) ws (off (placed (a_symbol More) g) (placed (a_symbol LeftBracket) b ∷ ws) behind)))
 
 -- Trees
 
 mutual
   parsed : (t : Term) (xs zs : List Placed) → Spells t xs zs → Ok_all xs → IsTrue (leaves_fit t) × Ok_all zs
   parsed (create s n m) xs zs e h = absurd e
-  parsed (number s n) xs zs e h = let g : Ok_all _ = subst Ok_all e h in (first _ zs g, off _ zs g)
-  parsed (text s x) xs zs e h = let g : Ok_all _ = subst Ok_all e h in (first _ zs g, off _ zs g)
-  parsed (truth s b) xs zs e h = (refl, off _ zs (subst Ok_all e h))
-  parsed (null s) xs zs (inl e) h = (refl, off _ zs (subst Ok_all e h))
-  parsed (null s) xs zs (inr e) h = (refl, off _ zs (subst Ok_all e h))
-  parsed (missing s c) xs zs (some, e) h = let g : Ok_all _ = subst Ok_all e h in (and_from (nat_le 1 c) (nat_le c 127) (le-leb 1 c some) (first _ zs g), off _ zs g)
-  parsed (reference s n) xs zs e h = (refl, off _ zs (subst Ok_all e h))
-  parsed (version s n v) xs zs (b, w, t, e, place) h = (refl, off _ zs (off _ _ (off _ _ (subst Ok_all e h))))
-  parsed (call s n ts) xs zs (b, l, r, ys, e, place, arguments) h = parsed_arguments ts r ys zs arguments (off _ ys (off _ _ (subst Ok_all e h)))
+  parsed (number s n) xs zs e h = (first e h, off_one e h)
+  parsed (text s x) xs zs e h = (first e h, off_one e h)
+  parsed (truth s b) xs zs e h = (refl, off_one e h)
+  parsed (null s) xs zs (inl e) h = (refl, off_one e h)
+  parsed (null s) xs zs (inr e) h = (refl, off_one e h)
+  parsed (missing s c) xs zs (some, e) h = (and_from (nat_le 1 c) (nat_le c 127) (le-leb 1 c some) (first e h), off_one e h)
+  parsed (reference s n) xs zs e h = (refl, off_one e h)
+  parsed (version s n v) xs zs (b, w, t, e, place) h = (refl, off_three e h)
+  parsed (call s n ts) xs zs (b, l, r, ys, e, place, arguments) h = parsed_arguments ts r ys zs arguments (off_two e h)
   parsed (schema s m) xs zs e h = (refl, schema_rest m s xs zs e h)
-  parsed (star s) xs zs e h = (refl, off _ zs (subst Ok_all e h))
-  parsed (renamed s a n) xs zs (w, e, place, above, inner) h = let p = parsed a xs _ inner h in (p.0, off _ zs (off _ _ p.1))
-  parsed (opposite s a) xs zs (w, ys, e, place, above, inner) h = parsed a ys zs inner (off _ ys (subst Ok_all e h))
-  parsed (negative s a) xs zs (w, ys, e, place, above, inner) h = parsed a ys zs inner (off _ ys (subst Ok_all e h))
+  parsed (star s) xs zs e h = (refl, off_one e h)
+  parsed (renamed s a n) xs zs (w, e, place, above, inner) h = let p = parsed a xs (placed (a_word As) w ∷ placed (a_name n) e ∷ zs) inner h in (p.0, off (placed (a_name n) e) zs (off (placed (a_word As) w) (placed (a_name n) e ∷ zs) p.1))
+  parsed (opposite s a) xs zs (w, ys, e, place, above, inner) h = parsed a ys zs inner (off_one e h)
+  parsed (negative s a) xs zs (w, ys, e, place, above, inner) h = parsed a ys zs inner (off_one e h)
   parsed (binary s o a b) xs zs (x, w, ys, op, place, left, one, right, two) h =
-      let p = parsed a xs _ one h in
-      let q = parsed b ys zs two (off _ ys p.1) in
+      let p = parsed a xs (placed x w ∷ ys) one h in
+      let q = parsed b ys zs two (off (placed x w) ys p.1) in
       (and_from (leaves_fit a) (leaves_fit b) p.0 q.0, q.1)
-  parsed (group s a) xs zs (l, r, ys, e, place, above, inner) h = let p = parsed a ys _ inner (off _ ys (subst Ok_all e h)) in (p.0, off _ zs p.1)
+  parsed (group s a) xs zs (l, r, ys, e, place, above, inner) h = let p = parsed a ys (placed (a_symbol RightParen) r ∷ zs) inner (off_one e h) in (p.0, off (placed (a_symbol RightParen) r) zs p.1)
 
   parsed_arguments : (ts : Terms) (r : Span) (xs zs : List Placed) → SpellsArguments ts r xs zs → Ok_all xs → IsTrue (all_leaves_fit ts) × Ok_all zs
-  parsed_arguments no_terms r xs zs e h = (refl, off _ zs (subst Ok_all e h))
+  parsed_arguments no_terms r xs zs e h = (refl, off_one e h)
   parsed_arguments (and_term t ts) r xs zs (ys, one, more) h =
       let p = parsed t xs ys one h in
       let q = parsed_more ts r ys zs more p.1 in
       (and_from (leaves_fit t) (all_leaves_fit ts) p.0 q.0, q.1)
 
   parsed_more : (ts : Terms) (r : Span) (xs zs : List Placed) → SpellsMore ts r xs zs → Ok_all xs → IsTrue (all_leaves_fit ts) × Ok_all zs
-  parsed_more no_terms r xs zs e h = (refl, off _ zs (subst Ok_all e h))
+  parsed_more no_terms r xs zs e h = (refl, off_one e h)
   parsed_more (and_term t ts) r xs zs (w, ys, ws, e, one, more) h =
-      let p = parsed t ys ws one (off _ ys (subst Ok_all e h)) in
+      let p = parsed t ys ws one (off_one e h) in
       let q = parsed_more ts r ws zs more p.1 in
       (and_from (leaves_fit t) (all_leaves_fit ts) p.0 q.0, q.1)
 

@@ -145,7 +145,7 @@ module _ (s : Span) (source : Query) (typed_source : IsTyped source) where
       project_holds IsTyped s source arguments (λ some places e within.
       let chosen : Kept places = of_answer Kept (in_turn (projected_one shape.attributes) [] arguments) places kept e in
       let made : Schema = project_schema places shape in
-      let count : length places ≡ length arguments = turns_count (projected_one shape.attributes) [] arguments places e in (
+      let count : length places ≡ 0 + length arguments = turns_count (projected_one shape.attributes) [] arguments places e in (
         typed_source,
         chosen.below,
         valid_of_parts made (record {
