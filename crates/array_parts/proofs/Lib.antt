@@ -1,0 +1,3 @@
+pub mod HeldLemmas
+pub mod LawProofs
+pub mod PartLemmas
