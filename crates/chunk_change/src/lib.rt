@@ -1,0 +1,8 @@
+//! Chunks that are changed cell by cell.
+#![tactic(auto)]
+
+mod change;
+mod chunks;
+
+pub use change::CellChange;
+pub use chunks::change_chunk;
