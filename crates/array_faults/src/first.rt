@@ -6,7 +6,7 @@ ghost use Rattle.array_rows.specs.Rows.{placed};
 ghost use Rattle.array_geom.specs.Geometry.{coordinate_in, volume};
 ghost use Rattle.array_geom.specs.Link.{Is, chunk_rows, rows_in};
 ghost use Rattle.array_geom.specs.Ranges.{IsGrid};
-ghost use Rattle.array_parts.specs.Placed.{HasPlaces, IsPlaced};
+ghost use Rattle.array_parts.specs.Placed.{HasPlaces, IsSound};
 ghost use Rattle.logical_plan.specs.Faults.{fault_of};
 ghost use Rattle.array_faults.specs.Least.{fault_at, least_from, sooner};
 
@@ -99,7 +99,7 @@ fn least_fault(schema: &Schema, margins: &Margins, chunks: &[Chunk]) -> Option<B
 /// Where and why an array is broken, else its first fault in row-major order.
 #[tactic(auto, using(crate::proofs::FaultLaws::fault_of_chunks, crate::proofs::FaultLaws::fault_of_broken))]
 pub fn first_fault(array: &ChunkedArray) -> Option<Broken>
-    requires { IsPlaced array.now }
+    requires { IsSound array.now }
     ensures { (meant : Meant) → Is array.now meant → result ≡ fault_of meant.rows }
 {
     match &array.broken {

@@ -17,9 +17,9 @@ use Rattle.array_geom.specs.Link.{IsPart, numbers, is_listed, is_not_empty, has_
 use Rattle.array_geom.specs.Ranges.{AreNear}
 use Rattle.array_geom.proofs.CoreLaws.{core_of, chunk_has_core}
 use Rattle.array_geom.proofs.NearLemmas.{valid_placed}
-use Rattle.array_parts.specs.Laws.{ArraysArePlaced, ChunksAreParts, HeldPartsAreChunks, ChangedPartsAreParts, CutsAreCellWise}
-use Rattle.array_parts.specs.Placed.{HasPlaces, HavePlaces, IsPlaced}
-use Rattle.array_parts.proofs.PartLemmas.{each_listed, held_are_chunks, chunks_are_parts, changed_are_parts, cut_is_cell_wise}
+use Rattle.array_parts.specs.Laws.{ArraysAreSound}
+use Rattle.array_parts.specs.Placed.{HasPlaces, HavePlaces, IsSound}
+use Rattle.array_parts.proofs.PartLemmas.{each_listed}
 
 -- a coordinate of an area that holds a row
 pub record IsHeld (area bounds : Bounds) : Type 0 where
@@ -51,29 +51,17 @@ placed : (schema : Schema) (margins : List ℕ) (rows : List Row) (chunks : List
     → AllByRecursion (λ k. has_core schema.dimensions k ≡ true) (numbers chunks) → AllByRecursion (IsPart schema.dimensions margins rows) chunks → AllByRecursion (HasPlaces schema margins) chunks
 placed schema margins rows [] v n p c a = tt
 placed schema margins rows (chunk ∷ chunks) v n p c a =
-    (record { framed = record { valid = v; core = c.0; each = n; places = p }; each = a.0.each; in_frame = a.0.in_frame }, placed schema margins rows chunks v n p c.1 a.1)
+    (record { framed = record { valid = v; core = c.0; each = n; places = p }; placed = record { each = a.0.each; in_frame = a.0.in_frame } }, placed schema margins rows chunks v n p c.1 a.1)
 
 pub held_rows_placed : (schema : Schema) (array : ChunkedArray) (rows : List Row) → HoldsRows schema array rows → HavePlaces schema array.margins.items array.chunks
 held_rows_placed schema array rows h =
     let near = (valid_placed schema h.rows_of.valid).near in
     let there = all_there schema.dimensions rows (numbers array.chunks) (numbers array.chunks) near h.rows_of.are_rows h.chunks.listed h.chunks.sized (each_listed (numbers array.chunks)) in
-    record { valid = h.rows_of.valid; each = h.each; places = h.places; chunks = placed schema array.margins.items rows array.chunks h.rows_of.valid h.each h.places there h.chunks.parts }
+    record { valid = h.rows_of.valid; each = h.each; places = h.places; all = placed schema array.margins.items rows array.chunks h.rows_of.valid h.each h.places there h.chunks.parts }
 
-pub arrays_are_placed : ArraysArePlaced
-arrays_are_placed array meant is whole = cases meant.rows is.cells
+pub arrays_are_sound : ArraysAreSound
+arrays_are_sound array meant is whole = cases meant.rows is.cells
   where
     cases : (r : Result (List Row) Broken) → HoldsResult meant.schema array r → HavePlaces array.schema array.margins.items array.chunks
     cases (Ok rows) h = rw is.schema (held_rows_placed meant.schema array rows h)
     cases (Err broken) h = absurd (let e : None ≡ Some broken = sym whole ∙ h in cc)
-
-pub chunks_are_their_parts : ChunksAreParts
-chunks_are_their_parts = chunks_are_parts
-
-pub held_parts_are_chunks : HeldPartsAreChunks
-held_parts_are_chunks = held_are_chunks
-
-pub changed_parts_are_parts : ChangedPartsAreParts
-changed_parts_are_parts = changed_are_parts
-
-pub cuts_are_cell_wise : CutsAreCellWise
-cuts_are_cell_wise = cut_is_cell_wise

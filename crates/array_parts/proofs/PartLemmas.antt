@@ -1,17 +1,14 @@
 -- Chunks that are parts of rows.
 use Rattle.std.proofs.Common.{◌≡◌, ℕ, ◌<◌, Bool, true, false, cond, ◌&&◌, ◌||◌, List, [], ◌∷◌, length, map, filter, Option, Some, None, refl, sym, ap, ◌∙◌, subst}
-use Rattle.std.specs.List.{AllByRecursion}
+use Rattle.std.specs.List.{AllByRecursion, AllZip}
 use Rattle.std.specs.Ordering.{is_eq}
 use Rattle.std.specs.declared.cmp.Ordering.{Ordering}
 use Rattle.std.specs.declared.cmp.Ordering.TheVariants.{Less, Equal, Greater}
 use Rattle.std.proofs.lemmas.Cmp.{lists_total, nat_cmp_total, tied_itself}
-use Rattle.cell_values.specs.declared.datum.Cell.{Cell}
 use Rattle.cell_values.specs.declared.datum.Row.{Row}
 use Rattle.cell_values.specs.declared.schema.Bounds.{Bounds}
 use Rattle.cell_values.specs.declared.schema.Dimension.{Dimension}
 use Rattle.array_rows.specs.Boxes.{is_inside, within}
-use Rattle.array_rows.specs.Cellwise.{put_first, cell_wise}
-use Rattle.array_rows.specs.Rows.{Coordinate}
 use Rattle.array_rows.proofs.RowsLemmas.{cond_out, within-cell_wise}
 use Rattle.array_geom.specs.declared.chunk.Chunk.{Chunk}
 use Rattle.array_geom.specs.Geometry.{ChunkNumber, core, frame}
@@ -19,7 +16,9 @@ use Rattle.array_geom.specs.Link.{chunk_rows, IsPart, number_order, NumbersRise,
 use Rattle.array_geom.proofs.CoreLaws.{core_in_frame}
 use Rattle.array_geom.proofs.LinkLaws.{within-within}
 use Rattle.array_geom.proofs.NumberLaws.{is_equal, same_number}
-use Rattle.array_parts.specs.Parts.{AreParts, holds_cell, IsChanged, cut_to, AreChanged}
+use Rattle.chunk_change.specs.Made.{IsMadeBy}
+use Rattle.array_parts.specs.Laws.{MadePartsAreParts, ChangesAreLocal, CutsAreLocal}
+use Rattle.array_parts.specs.Parts.{AreParts, holds_cell, IsLocal}
 
 -- ---- numbers
 
@@ -111,51 +110,61 @@ held_are_chunks dims margins rows chunks are n =
 pub chunks_are_parts : (dims : List Dimension) (margins : List ℕ) (rows : List Row) (chunks : List Chunk) → AreChunksOf dims margins rows chunks → AreParts dims margins rows chunks
 chunks_are_parts dims margins rows chunks are = record { in_order = are.in_order; sized = are.sized; enough = λ k l e. are.listed k l ∙ e; parts = are.parts }
 
--- ---- changes cell by cell
+-- ---- what an operator makes
 
--- where the core holds a cell after the change, it held one before
-held_before : (change : Coordinate → Cell → Option Cell) (rows : List Row) → is_not_empty (cell_wise change rows) ≡ true → is_not_empty rows ≡ true
-held_before change [] e = e
-held_before change (row ∷ rows) e = refl
+-- where there is a row afterwards, there was one before
+held_before : (operator : List Row → List Row) (rows : List Row) → operator [] ≡ [] → is_not_empty (operator rows) ≡ true → is_not_empty rows ≡ true
+held_before operator [] n e = sym (ap is_not_empty n) ∙ e
+held_before operator (row ∷ rows) n e = refl
 
-pub changed_part : (dims : List Dimension) (margins : List ℕ) (change : Coordinate → Cell → Option Cell) (rows : List Row) (old new : Chunk) → IsChanged dims margins change old new → IsPart dims margins rows old → IsPart dims margins (cell_wise change rows) new
-changed_part dims margins change rows old new is part = record {
-  each = is.each;
-  in_frame = is.in_frame;
-  cells = is.cells ∙ ap (cell_wise change) part.cells ∙ sym (within-cell_wise (frame dims margins old.at.items) change rows) ∙ ap (λ k. within (frame dims margins k.items) (cell_wise change rows)) (sym is.number);
+made_part : (operator : List Row → List Row) (dims : List Dimension) (margins : List ℕ) (rows : List Row) (old new : Chunk) → IsLocal operator → IsMadeBy operator dims margins old new → IsPart dims margins rows old → IsPart dims margins (operator rows) new
+made_part operator dims margins rows old new local made part = record {
+  each = made.placed.each;
+  in_frame = made.placed.in_frame;
+  cells = made.rows ∙ ap operator part.cells ∙ sym (local.boxes (frame dims margins old.at.items) rows) ∙ ap (λ k. within (frame dims margins k.items) (operator rows)) (sym made.number);
 }
 
-same_numbers : (dims : List Dimension) (margins : List ℕ) (change : Coordinate → Cell → Option Cell) (old new : List Chunk) → AreChanged dims margins change old new → numbers new ≡ numbers old
-same_numbers dims margins change [] [] a = refl
-same_numbers dims margins change [] (n ∷ new) a = absurd a
-same_numbers dims margins change (o ∷ old) [] a = absurd a
-same_numbers dims margins change (o ∷ old) (n ∷ new) a =
-    ap (λ k. k.items ∷ numbers new) a.0.number ∙ ap (λ ks. o.at.items ∷ ks) (same_numbers dims margins change old new a.1)
+same_numbers : (operator : List Row → List Row) (dims : List Dimension) (margins : List ℕ) (old new : List Chunk) → AllZip (IsMadeBy operator dims margins) old new → numbers new ≡ numbers old
+same_numbers operator dims margins [] [] a = refl
+same_numbers operator dims margins [] (n ∷ new) a = absurd a
+same_numbers operator dims margins (o ∷ old) [] a = absurd a
+same_numbers operator dims margins (o ∷ old) (n ∷ new) a =
+    ap (λ k. k.items ∷ numbers new) a.0.number ∙ ap (λ ks. o.at.items ∷ ks) (same_numbers operator dims margins old new a.1)
 
-changed_parts : (dims : List Dimension) (margins : List ℕ) (change : Coordinate → Cell → Option Cell) (rows : List Row) (old new : List Chunk) → AreChanged dims margins change old new → AllByRecursion (IsPart dims margins rows) old → AllByRecursion (IsPart dims margins (cell_wise change rows)) new
-changed_parts dims margins change rows [] [] a p = tt
-changed_parts dims margins change rows [] (n ∷ new) a p = absurd a
-changed_parts dims margins change rows (o ∷ old) [] a p = tt
-changed_parts dims margins change rows (o ∷ old) (n ∷ new) a p = (changed_part dims margins change rows o n a.0 p.0, changed_parts dims margins change rows old new a.1 p.1)
+made_of_parts : (operator : List Row → List Row) (dims : List Dimension) (margins : List ℕ) (rows : List Row) (old new : List Chunk) → IsLocal operator → AllZip (IsMadeBy operator dims margins) old new → AllByRecursion (IsPart dims margins rows) old → AllByRecursion (IsPart dims margins (operator rows)) new
+made_of_parts operator dims margins rows [] [] l a p = tt
+made_of_parts operator dims margins rows [] (n ∷ new) l a p = absurd a
+made_of_parts operator dims margins rows (o ∷ old) [] l a p = absurd a
+made_of_parts operator dims margins rows (o ∷ old) (n ∷ new) l a p = (made_part operator dims margins rows o n l a.0 p.0, made_of_parts operator dims margins rows old new l a.1 p.1)
 
-pub changed_are_parts : (dims : List Dimension) (margins : List ℕ) (change : Coordinate → Cell → Option Cell) (rows : List Row) (old new : List Chunk) → AreParts dims margins rows old → AreChanged dims margins change old new → AreParts dims margins (cell_wise change rows) new
-changed_are_parts dims margins change rows old new are a =
-    let e = same_numbers dims margins change old new a in
+pub made_are_parts : MadePartsAreParts
+made_are_parts operator dims margins rows old new local are a =
+    let e = same_numbers operator dims margins old new a in
     record {
       in_order = subst NumbersRise (sym e) are.in_order;
       sized = subst (AllByRecursion (λ k. length k ≡ length dims)) (sym e) are.sized;
-      enough = λ k l h. ap (is_listed k) e ∙ are.enough k l (held_before change (within (core dims k) rows) (sym (ap is_not_empty (within-cell_wise (core dims k) change rows)) ∙ h));
-      parts = changed_parts dims margins change rows old new a are.parts;
+      enough = λ k l h. ap (is_listed k) e ∙ are.enough k l (held_before operator (within (core dims k) rows) local.none (sym (ap is_not_empty (local.boxes (core dims k) rows)) ∙ h));
+      parts = made_of_parts operator dims margins rows old new local a are.parts;
     }
+
+pub changes_are_local : ChangesAreLocal
+changes_are_local change = record { boxes = λ area rows. within-cell_wise area change rows; none = refl }
 
 -- ---- cuts
 
-pub cut_is_cell_wise : (area : Bounds) (rows : List Row) → within area rows ≡ cell_wise (cut_to area) rows
-cut_is_cell_wise area [] = refl
-cut_is_cell_wise area (row ∷ rows) =
-    ap (λ z. cond (is_inside area row.at.items) (row ∷ z) z) (cut_is_cell_wise area rows)
-    ∙ cases (is_inside area row.at.items)
-  where
-    cases : (t : Bool) → cond t (row ∷ cell_wise (cut_to area) rows) (cell_wise (cut_to area) rows) ≡ put_first row.at.items (cond t (Some row.cell) None) (cell_wise (cut_to area) rows)
-    cases true = refl
-    cases false = refl
+swapped : (p q : Bool) (row : Row) (rows : List Row) → cond p (cond q (row ∷ rows) rows) rows ≡ cond q (cond p (row ∷ rows) rows) rows
+swapped true true row rows = refl
+swapped true false row rows = refl
+swapped false true row rows = refl
+swapped false false row rows = refl
+
+cuts_swap : (a b : Bounds) (rows : List Row) → within a (within b rows) ≡ within b (within a rows)
+cuts_swap a b [] = refl
+cuts_swap a b (row ∷ rows) =
+    cond_out (within a) (is_inside b row.at.items) (row ∷ within b rows) (within b rows)
+    ∙ ap (λ (z : List Row). cond (is_inside b row.at.items) (cond (is_inside a row.at.items) (row ∷ z) z) z) (cuts_swap a b rows)
+    ∙ swapped (is_inside b row.at.items) (is_inside a row.at.items) row (within b (within a rows))
+    ∙ sym (cond_out (within b) (is_inside a row.at.items) (row ∷ within a rows) (within a rows))
+
+pub cuts_are_local : CutsAreLocal
+cuts_are_local area = record { boxes = λ box rows. cuts_swap box area rows; none = refl }

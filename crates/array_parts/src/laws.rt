@@ -1,18 +1,21 @@
 //! Laws of chunks that are parts of rows.
-ghost use Rattle.array_parts.specs.Laws.{ArraysArePlaced, ChunksAreParts, HeldPartsAreChunks, ChangedPartsAreParts, CutsAreCellWise};
+ghost use Rattle.array_parts.specs.Laws.{ArraysAreSound, ChunksAreParts, HeldPartsAreChunks, MadePartsAreParts, ChangesAreLocal, CutsAreLocal};
 
-/// The chunks of an array have places.
-#[tactic(auto, using(crate::proofs::LawProofs::arrays_are_placed))]
-pub fn arrays_are_placed()
-    ensures { ArraysArePlaced }
+/// The cells of an array's chunks have places.
+pub fn arrays_are_sound()
+    ensures { ArraysAreSound }
 {}
 
-/// Of parts those whose core holds a cell are the chunks of an array, and parts that are changed cell by cell are parts of the
-/// changed rows.
-#[tactic(auto, using(crate::proofs::LawProofs::chunks_are_their_parts, crate::proofs::LawProofs::held_parts_are_chunks, crate::proofs::LawProofs::changed_parts_are_parts, crate::proofs::LawProofs::cuts_are_cell_wise))]
+/// Of parts those whose core holds a cell are the chunks of an array, and what a local operator makes of parts are parts of what
+/// it makes of the rows.
 pub fn parts_are_chunks()
     ensures parts { ChunksAreParts }
     ensures held { HeldPartsAreChunks }
-    ensures changed { ChangedPartsAreParts }
-    ensures cuts { CutsAreCellWise }
+    ensures made { MadePartsAreParts }
+{}
+
+/// Changes cell by cell and cuts to boxes are local.
+pub fn operators_are_local()
+    ensures changes { ChangesAreLocal }
+    ensures cuts { CutsAreLocal }
 {}

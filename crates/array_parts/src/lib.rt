@@ -1,8 +1,10 @@
-//! Chunks that are parts of rows: which of them an array keeps.
+//! Chunks that are parts of rows, and what operators make of them.
 #![tactic(auto)]
 
 mod held;
 mod laws;
+mod operator;
 
 pub use held::{holds_cell, with_cells};
-pub use laws::{arrays_are_placed, parts_are_chunks};
+pub use laws::{arrays_are_sound, operators_are_local, parts_are_chunks};
+pub use operator::{ChunkOperator, over_chunks};

@@ -1,0 +1,78 @@
+//! The operators, chunk by chunk.
+ghost use Rattle.std.specs.Prelude.{◌≡◌, IfOk};
+ghost use Rattle.array_rows.specs.Boxes.{within};
+ghost use Rattle.array_parts.proofs.PartLemmas.{changes_are_local, cuts_are_local};
+ghost use Rattle.chunk_change.specs.Made.{IsMadeBy};
+ghost use Rattle.logical_plan.specs.CellOps.{filter_cell, filter_rows, apply_cell, apply_rows, project_cell, project_rows};
+
+use array_geom::Chunk;
+use array_parts::ChunkOperator;
+use cell_values::{Bounds, Margins, Memory, Schema};
+use exec_box::between_owned;
+use exec_cellwise::{apply_owned, filter_owned, project_chunk};
+use expr_nulls::TypedExpr;
+use logical_plan::Applied;
+
+/// A filter with its test.
+#[derive(Drop)]
+pub(crate) struct Filter<'a> {
+    pub test: &'a TypedExpr,
+}
+
+/// Further attributes with their values.
+#[derive(Drop)]
+pub(crate) struct Apply<'a> {
+    pub values: &'a [Applied],
+}
+
+/// The places of the attributes that stay.
+#[derive(Drop)]
+pub(crate) struct Project<'a> {
+    pub places: &'a [u32],
+}
+
+/// A box to which arrays are cut.
+#[derive(Drop)]
+pub(crate) struct Between<'a> {
+    pub area: &'a Bounds,
+}
+
+impl ChunkOperator for Filter<'_> {
+    ghost operator = { λ filter. filter_rows filter.test.now };
+
+    fn apply(&self, schema: &Schema, margins: &Margins, chunk: Chunk) -> Result<Chunk, Memory> {
+        filter_owned(schema, margins, chunk, self.test)
+    }
+
+    ghost local = { λ filter. changes_are_local (filter_cell filter.test.now) };
+}
+
+impl ChunkOperator for Apply<'_> {
+    ghost operator = { λ apply. apply_rows apply.values.now };
+
+    fn apply(&self, schema: &Schema, margins: &Margins, chunk: Chunk) -> Result<Chunk, Memory> {
+        apply_owned(schema, margins, chunk, self.values)
+    }
+
+    ghost local = { λ apply. changes_are_local (apply_cell apply.values.now) };
+}
+
+impl ChunkOperator for Project<'_> {
+    ghost operator = { λ project. project_rows project.places.now };
+
+    fn apply(&self, _schema: &Schema, _margins: &Margins, chunk: Chunk) -> Result<Chunk, Memory> {
+        project_chunk(&chunk, self.places)
+    }
+
+    ghost local = { λ project. changes_are_local (project_cell project.places.now) };
+}
+
+impl ChunkOperator for Between<'_> {
+    ghost operator = { λ between. within between.area.now };
+
+    fn apply(&self, schema: &Schema, margins: &Margins, chunk: Chunk) -> Result<Chunk, Memory> {
+        between_owned(schema, margins, chunk, self.area)
+    }
+
+    ghost local = { λ between. cuts_are_local between.area.now };
+}

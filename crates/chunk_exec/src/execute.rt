@@ -1,0 +1,42 @@
+//! The array of a plan.
+ghost use Rattle.std.specs.Prelude.{◌≡◌, ◌≤◌, ◌++◌, None, IfOk, OnOk, IfSome};
+ghost use Rattle.array_geom.specs.Link.{Is};
+ghost use Rattle.array_parts.specs.Placed.{IsSound};
+ghost use Rattle.logical_plan.specs.Leaves.{leaves};
+ghost use Rattle.logical_plan.specs.Meaning.{meaning};
+ghost use Rattle.logical_plan.specs.PlanSchema.{schema_of};
+ghost use Rattle.chunk_source.specs.Source.{Keeps};
+ghost use Rattle.chunk_read.specs.Faults.{Answers};
+ghost use Rattle.chunk_read.specs.Reading.{asked_of};
+ghost use Rattle.chunk_exec.specs.Computed.{CanCompute, IsComputed};
+
+use crate::arrays::compute;
+use crate::ExecFault;
+use afl_outside::Gate;
+use array_geom::ChunkedArray;
+use chunk_source::ChunkSource;
+use logical_plan::Plan;
+
+/// The array of a plan over the arrays of a source. The number of workers and the gate change nothing: all is computed by the
+/// caller's thread.
+pub fn execute<S: ChunkSource, G: Gate>(
+    plan: &Plan,
+    source: &mut S,
+    workers: u32,
+    session: u32,
+    gate: &G,
+) -> Result<ChunkedArray, ExecFault>
+    requires undamaged { (S.state source.old).damaged ≡ None }
+    requires can { CanCompute (S.state source.old) plan.now }
+    requires workers { (1 ≤ workers) × (workers ≤ 64) }
+    ensures schema { IfOk result (λ array. array.schema ≡ schema_of plan.now) }
+    ensures sound { IfOk result IsSound }
+    ensures means { IfOk result (λ array. IfSome (S.state source.old).told (λ db. Is array (meaning db plan.now))) }
+    ensures asked { OnOk result ((S.state source.new).asked ≡ (S.state source.old).asked ++ asked_of (S.state source.old) 0 (leaves plan.now)) }
+    ensures kept { Keeps (S.state source.old) (S.state source.new) }
+    ensures cause { Answers (S.state source.old) (S.state source.new) result }
+    ensures start { S.start source.new ≡ S.start source.old }
+{
+    let _ = (workers, session, gate);
+    compute(plan, source)
+}

@@ -1,0 +1,8 @@
+//! Stored arrays, read from a source of chunks.
+#![tactic(auto)]
+
+mod fault;
+mod leaf;
+
+pub use fault::ExecFault;
+pub use leaf::{overlaps_of, read_leaf};
