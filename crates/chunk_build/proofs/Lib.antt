@@ -1,0 +1,6 @@
+pub mod NumberLaws
+pub mod CellLaws
+pub mod NearLaws
+pub mod FrameLaws
+pub mod PartLaws
+pub mod ChunkLaws

@@ -1,0 +1,11 @@
+use Rattle.std.proofs.Common.{◌≡◌}
+use Rattle.array_geom.specs.Link.{numbers}
+use Rattle.chunk_build.specs.Numbers.{numbers_in}
+use Rattle.chunk_build.proofs.PartLaws.{TakenUpTo}
+use Rattle.chunk_build.proofs.parts.put_row.Given as goal
+
+abbrev pub invariant-loop-index : goal.invariant-loop-index
+invariant-loop-index l = record {
+  same : numbers l.chunks.items ≡ numbers_in l.listed;
+  taken : TakenUpTo l.schema l.margins.items l.row l.index l.initial.chunks.items l.chunks.items;
+}

@@ -1,0 +1,4 @@
+pub mod Near
+pub mod Numbers
+pub mod Frames
+pub mod Reach

@@ -1,0 +1,84 @@
+//! Rising lists of chunk numbers.
+ghost use Rattle.std.specs.Prelude.{◌≡◌, ℕ, ◌≤◌, ◌||◌, length, take, drop, OnOk, IfOk};
+ghost use Rattle.std.specs.Ordering.{is_eq, is_lt};
+ghost use Rattle.std.specs.List.{AllByRecursion};
+ghost use Rattle.array_rows.specs.Arrays.{AreRowsOf};
+ghost use Rattle.array_geom.specs.Geometry.{ChunkNumber};
+ghost use Rattle.array_geom.specs.Link.{NumbersRise, is_listed, number_order};
+ghost use Rattle.chunk_build.specs.Numbers.{AreBefore, AreCoresOf, AreFrom, numbers_in, starts_with};
+
+use array_geom::chunk_of;
+use cell_values::{ChunkAt, List, Memory, Row, Schema};
+use std::cmp::Ordering;
+
+/// The order of chunk numbers: the first dimension in which they differ decides.
+fn order_of(a: &ChunkAt, b: &ChunkAt) -> Ordering
+    ensures { result ≡ number_order a.now.items b.now.items }
+{
+    a.as_slice().cmp(b.as_slice())
+}
+
+/// Whether a chunk's number comes before another.
+pub(crate) fn comes_before(a: &ChunkAt, b: &ChunkAt) -> bool
+    ensures { result ≡ is_lt (number_order a.now.items b.now.items) }
+{
+    order_of(a, b).is_lt()
+}
+
+/// How many of the numbers come before one.
+pub(crate) fn count_before(listed: &[ChunkAt], number: &ChunkAt) -> usize
+    requires { NumbersRise (numbers_in listed.now) }
+    ensures within { result ≤ length listed.now }
+    ensures before { AreBefore number.now.items (take result listed.now) }
+    ensures from { AreFrom number.now.items (drop result listed.now) }
+{
+    let mut start = 0;
+    let mut end = listed.len();
+    while start < end {
+        let middle = start + (end - start) / 2;
+        if comes_before(&listed[middle], number) {
+            start = middle + 1;
+        } else {
+            end = middle;
+        }
+    }
+    start
+}
+
+/// Whether the number at a place is this one.
+fn stands_at(listed: &[ChunkAt], at: usize, number: &ChunkAt) -> bool
+    ensures { result ≡ starts_with number.now.items (drop at listed.now) }
+{
+    match listed.get(at) {
+        Some(found) => order_of(found, number).is_eq(),
+        None => false,
+    }
+}
+
+/// Adds a number where it is not listed.
+fn put_number(listed: &mut List<ChunkAt>, number: ChunkAt) -> Result<(), Memory>
+    requires { NumbersRise (numbers_in listed.old) }
+    ensures in_order { OnOk result (NumbersRise (numbers_in listed.new)) }
+    ensures sized { OnOk result ((n : ℕ) → length number.items ≡ n → AllByRecursion (λ k. length k ≡ n) (numbers_in listed.old)
+        → AllByRecursion (λ k. length k ≡ n) (numbers_in listed.new)) }
+    ensures listed { OnOk result ((k : ChunkNumber) → is_listed k (numbers_in listed.new) ≡ (is_eq (number_order number.items k) || is_listed k (numbers_in listed.old))) }
+{
+    let at = count_before(listed.as_slice(), &number);
+    if stands_at(listed.as_slice(), at, &number) {
+        return Ok(());
+    }
+    listed.insert(at, number)?;
+    Ok(())
+}
+
+/// The numbers of the chunks whose core has one of the rows, in order.
+pub(crate) fn cores_of(schema: &Schema, rows: &[Row]) -> Result<List<ChunkAt>, Memory>
+    requires { AreRowsOf schema.now rows.now }
+    ensures { IfOk result (λ listed. AreCoresOf schema.now.dimensions rows.now listed) }
+{
+    let mut listed = schema.dimensions.another();
+    for row in rows {
+        put_number(&mut listed, chunk_of(schema, &row.at))?;
+    }
+    Ok(listed)
+}
