@@ -2,6 +2,7 @@
 ghost use Rattle.std.specs.Prelude.{◌≡◌, IfOk};
 ghost use Rattle.cell_values.specs.Schemas.{IsValid};
 ghost use Rattle.array_rows.specs.Boxes.{within};
+ghost use Rattle.array_parts.specs.Parts.{IsLocal};
 ghost use Rattle.logical_plan.specs.CellOps.{filter_rows, apply_rows, project_rows};
 ghost use Rattle.array_ops.specs.Made.{IsMadeOf, IsWhole};
 
@@ -21,6 +22,7 @@ fn made<O: ChunkOperator>(
     requires whole { IsWhole array }
     requires valid { IsValid schema }
     requires dimensions { schema.dimensions ≡ array.schema.dimensions }
+    requires local { IsLocal (O.operator operator.now) }
     ensures { IfOk result (IsMadeOf (O.operator operator.now) schema array) }
 {
     let ChunkedArray { schema: old, margins, chunks, broken: _ } = array;

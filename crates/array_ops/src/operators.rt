@@ -1,9 +1,8 @@
 //! The operators, chunk by chunk.
 ghost use Rattle.std.specs.Prelude.{◌≡◌, IfOk};
 ghost use Rattle.array_rows.specs.Boxes.{within};
-ghost use Rattle.array_parts.proofs.PartLemmas.{changes_are_local, cuts_are_local};
 ghost use Rattle.chunk_change.specs.Made.{IsMadeBy};
-ghost use Rattle.logical_plan.specs.CellOps.{filter_cell, filter_rows, apply_cell, apply_rows, project_cell, project_rows};
+ghost use Rattle.logical_plan.specs.CellOps.{filter_rows, apply_rows, project_rows};
 
 use array_geom::Chunk;
 use array_parts::ChunkOperator;
@@ -43,8 +42,6 @@ impl ChunkOperator for Filter<'_> {
     fn apply(&self, schema: &Schema, margins: &Margins, chunk: Chunk) -> Result<Chunk, Memory> {
         filter_owned(schema, margins, chunk, self.test)
     }
-
-    ghost local = { λ filter. changes_are_local (filter_cell filter.test.now) };
 }
 
 impl ChunkOperator for Apply<'_> {
@@ -53,8 +50,6 @@ impl ChunkOperator for Apply<'_> {
     fn apply(&self, schema: &Schema, margins: &Margins, chunk: Chunk) -> Result<Chunk, Memory> {
         apply_owned(schema, margins, chunk, self.values)
     }
-
-    ghost local = { λ apply. changes_are_local (apply_cell apply.values.now) };
 }
 
 impl ChunkOperator for Project<'_> {
@@ -63,8 +58,6 @@ impl ChunkOperator for Project<'_> {
     fn apply(&self, _schema: &Schema, _margins: &Margins, chunk: Chunk) -> Result<Chunk, Memory> {
         project_chunk(&chunk, self.places)
     }
-
-    ghost local = { λ project. changes_are_local (project_cell project.places.now) };
 }
 
 impl ChunkOperator for Between<'_> {
@@ -73,6 +66,4 @@ impl ChunkOperator for Between<'_> {
     fn apply(&self, schema: &Schema, margins: &Margins, chunk: Chunk) -> Result<Chunk, Memory> {
         between_owned(schema, margins, chunk, self.area)
     }
-
-    ghost local = { λ between. cuts_are_local between.area.now };
 }

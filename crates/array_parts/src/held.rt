@@ -27,7 +27,6 @@ fn holds_one(grid: &Grid, area: &Bounds, positions: &[u64]) -> bool
 }
 
 /// Whether a chunk's core holds a cell.
-#[tactic(auto, using(crate::proofs::HeldLemmas::held_by_places))]
 pub fn holds_cell(schema: &Schema, margins: &Margins, chunk: &Chunk) -> bool
     requires { HasPlaces schema.now margins.now.items chunk.now }
     ensures { result ≡ holds_cell schema.now.dimensions margins.now.items chunk.now }
@@ -38,6 +37,24 @@ pub fn holds_cell(schema: &Schema, margins: &Margins, chunk: &Chunk) -> bool
 }
 
 /// The chunks whose core holds a cell.
+fn kept_chunks(
+    schema: &Schema,
+    margins: &Margins,
+    chunks: List<Chunk>,
+) -> Result<List<Chunk>, Memory>
+    requires { HavePlaces schema.now margins.now.items chunks }
+    ensures { IfOk result (λ kept. kept ≡ filter (holds_cell schema.now.dimensions margins.now.items) chunks) }
+{
+    let mut kept = chunks.another();
+    for chunk in chunks.into_vec() {
+        if holds_cell(schema, margins, &chunk) {
+            kept.push(chunk)?;
+        }
+    }
+    Ok(kept)
+}
+
+/// The chunks whose core holds a cell, which are those of an array where the chunks are parts.
 pub fn with_cells(
     schema: &Schema,
     margins: &Margins,
@@ -48,11 +65,5 @@ pub fn with_cells(
     ensures placed { IfOk result (HavePlaces schema.now margins.now.items) }
     ensures chunks { (rows : Items Row) → AreParts schema.now.dimensions margins.now.items rows chunks → IfOk result (AreChunksOf schema.now.dimensions margins.now.items rows) }
 {
-    let mut kept = chunks.another();
-    for chunk in chunks.into_vec() {
-        if holds_cell(schema, margins, &chunk) {
-            kept.push(chunk)?;
-        }
-    }
-    Ok(kept)
+    kept_chunks(schema, margins, chunks)
 }

@@ -19,8 +19,6 @@ pub trait ChunkOperator {
     fn apply(&self, schema: &Schema, margins: &Margins, chunk: Chunk) -> Result<Chunk, Memory>
         requires { HasPlaces schema.now margins.now.items chunk }
         ensures { IfOk result (IsMadeBy (operator self.now) schema.now.dimensions margins.now.items chunk) };
-
-    ghost local: { (x : Self) → IsLocal (operator x) };
 }
 
 /// What becomes of each chunk.
@@ -47,7 +45,8 @@ pub fn over_chunks<O: ChunkOperator>(
     chunks: List<Chunk>,
     operator: &O,
 ) -> Result<List<Chunk>, Memory>
-    requires { HavePlaces schema.now margins.now.items chunks }
+    requires places { HavePlaces schema.now margins.now.items chunks }
+    requires local { IsLocal (O.operator operator.now) }
     ensures placed { IfOk result (HavePlaces schema.now margins.now.items) }
     ensures chunks { (rows : Items Row) → AreChunksOf schema.now.dimensions margins.now.items rows chunks → IfOk result (AreChunksOf schema.now.dimensions margins.now.items (O.operator operator.now rows)) }
 {

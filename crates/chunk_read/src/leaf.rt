@@ -1,5 +1,5 @@
 //! The arrays of leaves.
-ghost use Rattle.std.specs.Prelude.{◌≡◌, ◌≤◌, ◌++◌, None, map, length, IfOk, OnOk, IfSome, IsTrue};
+ghost use Rattle.std.specs.Prelude.{◌≡◌, ◌+◌, ◌≤◌, ◌++◌, None, map, length, IfOk, OnOk, IfSome, IsTrue};
 ghost use Rattle.std.specs.List.{AllByRecursion, AllZip};
 ghost use Rattle.cell_values.specs.Schemas.{IsValid};
 ghost use Rattle.array_geom.specs.Geometry.{overlaps};
@@ -20,7 +20,7 @@ fn read_chunks<S: ChunkSource>(
     source: &mut S,
     number: u32,
     leaf: &Leaf,
-    chunks: &List<ChunkAt>,
+    chunks: &[ChunkAt],
 ) -> Result<List<Chunk>, ExecFault>
     requires reads { Reads (S.state source.old) leaf.now }
     requires listed { AllByRecursion (λ at. IsTrue (is_among at (listed (S.state source.old) leaf.now))) chunks.now }
@@ -31,11 +31,24 @@ fn read_chunks<S: ChunkSource>(
     ensures cause { Answers (S.state source.old) (S.state source.new) result }
     ensures start { S.start source.new ≡ S.start source.old }
 {
-    let mut read = chunks.another();
+    let mut read = leaf.schema.dimensions.another();
     for at in chunks {
         read.push(source.chunk(number, leaf, at)?)?;
     }
     Ok(read)
+}
+
+fn push_overlaps(margins: &mut Margins, dims: &[Dimension])
+    requires room { length margins.old.items + length dims.now ≤ 6 }
+    ensures { margins.new.items ≡ margins.old.items ++ overlaps dims.now }
+{
+    match dims {
+        [] => {}
+        [d, dims @ ..] => {
+            margins.push(d.overlap);
+            push_overlaps(margins, dims);
+        }
+    }
 }
 
 /// The overlaps of a schema, as margins.
@@ -45,9 +58,7 @@ pub fn overlaps_of(schema: &Schema) -> Margins
     ensures { result.items ≡ overlaps schema.now.dimensions }
 {
     let mut margins = Margins::new();
-    for dimension in &schema.dimensions {
-        margins.push(dimension.overlap);
-    }
+    push_overlaps(&mut margins, schema.dimensions.as_slice());
     margins
 }
 
@@ -70,7 +81,7 @@ pub fn read_leaf<S: ChunkSource>(
     ensures start { S.start source.new ≡ S.start source.old }
 {
     let listed = source.listed(leaf)?;
-    let chunks = read_chunks(source, number, leaf, &listed)?;
+    let chunks = read_chunks(source, number, leaf, listed.as_slice())?;
     Ok(ChunkedArray {
         schema: leaf.schema.copy()?,
         margins: overlaps_of(&leaf.schema),

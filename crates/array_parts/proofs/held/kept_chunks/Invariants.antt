@@ -3,7 +3,7 @@ use Rattle.std.specs.List.{AllByRecursion}
 use Rattle.std.specs.Vec.Iter.{into_iter_items}
 use Rattle.array_parts.specs.Parts.{holds_cell}
 use Rattle.array_parts.specs.Placed.{HasPlaces}
-use Rattle.array_parts.proofs.held.with_cells.Given as goal
+use Rattle.array_parts.proofs.held.kept_chunks.Given as goal
 
 abbrev pub invariant-loop-chunk : goal.invariant-loop-chunk
 invariant-loop-chunk l = AllByRecursion (HasPlaces l.schema l.margins.items) (into_iter_items l.chunk-iterator)
