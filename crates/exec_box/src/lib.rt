@@ -1,0 +1,6 @@
+//! Arrays cut to boxes.
+#![tactic(auto)]
+
+mod between;
+
+pub use between::{between_chunk, between_owned};
