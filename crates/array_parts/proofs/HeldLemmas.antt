@@ -1,5 +1,5 @@
 -- A core that holds a cell, by the chunk's positions.
-use Rattle.std.proofs.Common.{◌≡◌, ℕ, ◌+◌, suc, ℤ, Bool, true, false, cond, ◌||◌, List, [], ◌∷◌, ◌++◌, length, filter, Result, Ok, Err, refl, sym, ap, ◌∙◌, subst, arith}
+use Rattle.std.proofs.Common.{◌≡◌, ℕ, ℤ, Bool, true, false, cond, ◌||◌, List, [], ◌∷◌, ◌++◌, length, filter, Result, Ok, Err, refl, sym, ap, ◌∙◌, subst, arith}
 use Rattle.std.specs.Prelude.{IfOk}
 use Rattle.std.specs.List.{list_any, AllByRecursion, AllZip}
 use Rattle.std.proofs.lemmas.List.{append-nil}
@@ -12,9 +12,8 @@ use Rattle.cell_values.specs.declared.schema.Dimension.{Dimension}
 use Rattle.array_rows.specs.Boxes.{is_inside, within}
 use Rattle.array_rows.specs.Rows.{placed}
 use Rattle.array_geom.specs.declared.chunk.Chunk.{Chunk}
-use Rattle.array_geom.specs.declared.grid.Grid.{Grid}
 use Rattle.array_geom.specs.Geometry.{HasFrame, coordinate_in, core, frame_low, frame_lengths}
-use Rattle.array_geom.specs.Link.{rows_in, is_not_empty, chunk_rows, AreChunksOf}
+use Rattle.array_geom.specs.Link.{rows_in, is_not_empty, AreChunksOf}
 use Rattle.chunk_change.specs.Made.{IsMadeBy}
 use Rattle.array_parts.specs.Parts.{AreParts, holds_cell}
 use Rattle.array_parts.specs.Placed.{HasPlaces, HavePlaces}

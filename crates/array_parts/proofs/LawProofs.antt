@@ -1,5 +1,5 @@
 -- The laws, as they are stated.
-use Rattle.std.proofs.Common.{◌≡◌, ℕ, ◌<◌, ◌≤◌, ◌^◌, true, false, Bool, cond, List, [], ◌∷◌, length, map, Some, None, Ok, Err, Result, refl, sym, ap, ◌∙◌}
+use Rattle.std.proofs.Common.{◌≡◌, ℕ, ◌≤◌, ◌^◌, true, false, Bool, cond, List, [], ◌∷◌, length, Some, None, Ok, Err, Result, refl, sym, ap, ◌∙◌}
 use Rattle.std.specs.List.{AllByRecursion}
 use Rattle.cell_values.specs.declared.datum.Broken.{Broken}
 use Rattle.cell_values.specs.declared.datum.Row.{Row}
@@ -7,18 +7,18 @@ use Rattle.cell_values.specs.declared.schema.Bounds.{Bounds}
 use Rattle.cell_values.specs.declared.schema.Dimension.{Dimension}
 use Rattle.cell_values.specs.declared.schema.Schema.{Schema}
 use Rattle.cell_values.specs.Schemas.{IsValid}
-use Rattle.array_rows.specs.Arrays.{AreRows, Meant}
+use Rattle.array_rows.specs.Arrays.{AreRows}
 use Rattle.array_rows.specs.Boxes.{is_inside, within, bounds_of}
 use Rattle.array_rows.specs.Rows.{Coordinate}
 use Rattle.array_geom.specs.declared.chunk.Chunk.{Chunk}
 use Rattle.array_geom.specs.declared.chunk.ChunkedArray.{ChunkedArray}
-use Rattle.array_geom.specs.Geometry.{ChunkNumber, chunk_of, core, has_core, frame_lengths, volume}
-use Rattle.array_geom.specs.Link.{IsPart, numbers, is_listed, is_not_empty, has_cell, AreChunksOf, HoldsRows, HoldsResult, Is}
+use Rattle.array_geom.specs.Geometry.{ChunkNumber, core, has_core, frame_lengths, volume}
+use Rattle.array_geom.specs.Link.{IsPart, numbers, is_listed, is_not_empty, has_cell, HoldsRows, HoldsResult}
 use Rattle.array_geom.specs.Ranges.{AreNear}
 use Rattle.array_geom.proofs.CoreLaws.{core_of, chunk_has_core}
 use Rattle.array_geom.proofs.NearLemmas.{valid_placed}
 use Rattle.array_parts.specs.Laws.{ArraysAreSound}
-use Rattle.array_parts.specs.Placed.{HasPlaces, HavePlaces, IsSound}
+use Rattle.array_parts.specs.Placed.{HasPlaces, HavePlaces}
 use Rattle.array_parts.proofs.PartLemmas.{each_listed}
 
 -- a coordinate of an area that holds a row

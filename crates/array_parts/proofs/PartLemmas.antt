@@ -1,9 +1,8 @@
 -- Chunks that are parts of rows.
-use Rattle.std.proofs.Common.{◌≡◌, ℕ, ◌<◌, Bool, true, false, cond, ◌&&◌, ◌||◌, List, [], ◌∷◌, length, map, filter, Option, Some, None, refl, sym, ap, ◌∙◌, subst}
+use Rattle.std.proofs.Common.{◌≡◌, ℕ, Bool, true, false, cond, ◌&&◌, ◌||◌, List, [], ◌∷◌, length, filter, refl, sym, ap, ◌∙◌, subst}
 use Rattle.std.specs.List.{AllByRecursion, AllZip}
 use Rattle.std.specs.Ordering.{is_eq}
-use Rattle.std.specs.declared.cmp.Ordering.{Ordering}
-use Rattle.std.specs.declared.cmp.Ordering.TheVariants.{Less, Equal, Greater}
+use Rattle.std.specs.declared.cmp.Ordering.TheVariants.{Less}
 use Rattle.std.proofs.lemmas.Cmp.{lists_total, nat_cmp_total, tied_itself}
 use Rattle.cell_values.specs.declared.datum.Row.{Row}
 use Rattle.cell_values.specs.declared.schema.Bounds.{Bounds}
@@ -12,7 +11,7 @@ use Rattle.array_rows.specs.Boxes.{is_inside, within}
 use Rattle.array_rows.proofs.RowsLemmas.{cond_out, within-cell_wise}
 use Rattle.array_geom.specs.declared.chunk.Chunk.{Chunk}
 use Rattle.array_geom.specs.Geometry.{ChunkNumber, core, frame}
-use Rattle.array_geom.specs.Link.{chunk_rows, IsPart, number_order, NumbersRise, numbers, is_listed, is_not_empty, has_cell, AreChunksOf}
+use Rattle.array_geom.specs.Link.{IsPart, number_order, NumbersRise, numbers, is_listed, is_not_empty, has_cell, AreChunksOf}
 use Rattle.array_geom.proofs.CoreLaws.{core_in_frame}
 use Rattle.array_geom.proofs.LinkLaws.{within-within}
 use Rattle.array_geom.proofs.NumberLaws.{is_equal, same_number}

@@ -3,6 +3,7 @@ use Rattle.std.proofs.Common.{◌≡◌, ℕ, ◌++◌, List, [], ◌∷◌, len
 use Rattle.std.specs.Prelude.{IfOk, IfSome, IsTrue}
 use Rattle.std.specs.List.{AllByRecursion}
 use Rattle.std.proofs.lemmas.List.{append-nil}
+use Rattle.cell_values.specs.declared.memory.Memory.{Memory}
 use Rattle.cell_values.specs.declared.datum.Broken.{Broken}
 use Rattle.cell_values.specs.declared.datum.Row.{Row}
 use Rattle.cell_values.specs.declared.schema.Bounds.{Bounds}
@@ -22,7 +23,7 @@ use Rattle.logical_plan.specs.CellOps.{filter_rows, apply_rows, project_rows}
 use Rattle.logical_plan.specs.Faults.{if_whole}
 use Rattle.logical_plan.specs.Laws.{HasLeaves, keeps_places}
 use Rattle.logical_plan.specs.Leaves.{leaves}
-use Rattle.logical_plan.specs.Meaning.{Database, meaning, version_rows, whole}
+use Rattle.logical_plan.specs.Meaning.{Database, meaning, version_rows, whole, built_rows}
 use Rattle.logical_plan.specs.PlanSchema.{schema_of}
 use Rattle.logical_plan.specs.Query.{Query, built, listed, scanned, filtered, applied, projected, between}
 use Rattle.logical_plan.specs.Typing.{IsTyped}
@@ -32,7 +33,8 @@ use Rattle.chunk_source.specs.declared.asked.Asked.{Asked}
 use Rattle.chunk_source.specs.Source.{SourceState, asks}
 use Rattle.chunk_source.specs.Source.{listed as chunks_listed}
 use Rattle.chunk_read.specs.Reading.{asked_of}
-use Rattle.chunk_exec.specs.Computed.{CanCompute, IsComputed}
+use Rattle.array_parts.proofs.LawProofs.{arrays_are_sound}
+use Rattle.chunk_exec.specs.Computed.{CanCompute, IsComputed, IsGiven}
 
 -- ---- an operator over an array
 
@@ -142,3 +144,15 @@ computed_given old new query array meant e l s w is a = record {
   read = subst (λ (z : List Leaf). IfSome old.told (λ db. HasLeaves db z)) (sym l) (no_leaves old.told);
   asked = a ∙ sym (append-nil old.asked) ∙ ap (λ (z : List Leaf). old.asked ++ asked_of old 0 z) (sym l);
 }
+
+-- ---- rows that are given
+
+nothing : Database
+nothing name version = []
+
+pub built_array : (schema : Schema) (e : Expr) → IsTyped (built schema e) → AreRowsOf schema (built_rows schema e)
+built_array schema e typed = typed_arrays nothing (built schema e) refl typed tt
+
+pub is_given : (schema : Schema) (rows : List Row) (answer : Result ChunkedArray Memory) → IfOk answer (λ array. Is array (whole schema rows)) → IfOk answer (IsGiven schema rows)
+is_given schema rows (Err e) is = tt
+is_given schema rows (Ok array) is = record { schema_is = is.schema; whole = record { whole = is.cells.whole; placed = arrays_are_sound array (whole schema rows) is is.cells.whole }; means = is }

@@ -1,12 +1,15 @@
 -- What is computed of a plan over a source.
 use Rattle.std.specs.Prelude.{◌≡◌, ℕ, ◌++◌, List, None, IfSome, IsTrue}
 use Rattle.std.specs.List.{AllByRecursion}
+use Rattle.cell_values.specs.declared.datum.Row.{Row}
+use Rattle.cell_values.specs.declared.schema.Schema.{Schema}
 use Rattle.array_geom.specs.declared.chunk.ChunkedArray.{ChunkedArray}
 use Rattle.array_geom.specs.Link.{Is}
 use Rattle.array_ops.specs.Made.{IsWhole}
 use Rattle.logical_plan.specs.Laws.{HasLeaves, keeps_places}
 use Rattle.logical_plan.specs.Leaves.{leaves}
 use Rattle.logical_plan.specs.Meaning.{meaning}
+use Rattle.logical_plan.specs.Meaning.{whole as meant_whole}
 use Rattle.logical_plan.specs.PlanSchema.{schema_of}
 use Rattle.logical_plan.specs.Query.{Query}
 use Rattle.logical_plan.specs.Typing.{IsTyped}
@@ -27,3 +30,9 @@ pub record IsComputed (old new : SourceState) (query : Query) (array : ChunkedAr
   pub means : IfSome old.told (λ db. Is array (meaning db query))
   pub read : IfSome old.told (λ db. HasLeaves db (leaves query))
   pub asked : new.asked ≡ old.asked ++ asked_of old 0 (leaves query)
+
+-- the array of these rows, whole
+pub record IsGiven (schema : Schema) (rows : List Row) (array : ChunkedArray) : Type 0 where
+  pub schema_is : array.schema ≡ schema
+  pub whole : IsWhole array
+  pub means : Is array (meant_whole schema rows)

@@ -10,16 +10,18 @@ ghost use Rattle.chunk_read.specs.Faults.{Answers};
 ghost use Rattle.chunk_read.specs.Reading.{asked_of};
 ghost use Rattle.chunk_exec.specs.Computed.{CanCompute, IsComputed};
 
-use crate::arrays::compute;
 use crate::ExecFault;
+use crate::compute::compute;
 use afl_outside::Gate;
 use array_geom::ChunkedArray;
 use chunk_source::ChunkSource;
 use logical_plan::Plan;
+use std::alloc::Global;
 
 /// The array of a plan over the arrays of a source. The number of workers and the gate change nothing: all is computed by the
 /// caller's thread.
 pub fn execute<S: ChunkSource, G: Gate>(
+    alloc: Global,
     plan: &Plan,
     source: &mut S,
     workers: u32,
@@ -38,5 +40,5 @@ pub fn execute<S: ChunkSource, G: Gate>(
     ensures start { S.start source.new ≡ S.start source.old }
 {
     let _ = (workers, session, gate);
-    compute(plan, source)
+    compute(alloc, plan, source)
 }

@@ -1,8 +1,10 @@
 //! Plans, executed over a source of chunks.
 #![tactic(auto)]
 
-mod arrays;
+mod compute;
 mod execute;
+mod given;
+mod steps;
 
 pub use chunk_read::ExecFault;
 pub use execute::execute;

@@ -8,5 +8,5 @@ with_cells-requires g c = places_made (g.O.ChunkOperator.operator c.args.operato
 pub returns-clause-chunks : goal.returns-clause-chunks
 returns-clause-chunks g c = λ rows are.
     c.with_cells.ensures.chunks (g.O.ChunkOperator.operator c.args.operator.now rows)
-        (made_are_parts (g.O.ChunkOperator.operator c.args.operator.now) c.args.schema.now.dimensions c.args.margins.now.items rows c.args.chunks c.in_ok-made.made c.requires.local
-            (chunks_are_parts c.args.schema.now.dimensions c.args.margins.now.items rows c.args.chunks are) c.in_ok-made.ensures)
+    (made_are_parts (g.O.ChunkOperator.operator c.args.operator.now) c.args.schema.now.dimensions c.args.margins.now.items rows c.args.chunks c.in_ok-made.made c.requires.local
+    (chunks_are_parts c.args.schema.now.dimensions c.args.margins.now.items rows c.args.chunks are) c.in_ok-made.ensures)
