@@ -61,6 +61,7 @@ least_is least (row ∷ rows) b e = cases (least_is (sooner least (fault_at row)
     here : (least ≡ Some b) ⊎ (fault_at row ≡ Some b) → (least ≡ Some b) ⊎ Has (row ∷ rows) b
     here (inl f) = inl f
     here (inr f) = inr (inl f)
+
     cases : (sooner least (fault_at row) ≡ Some b) ⊎ Has rows b → (least ≡ Some b) ⊎ Has (row ∷ rows) b
     cases (inl f) = here (sooner_is least (fault_at row) b f)
     cases (inr f) = inr (inr f)
@@ -118,6 +119,7 @@ first_bounds (row ∷ rows) b r h = cases (fault_in row.cell) refl h (first_boun
   where
     later : (kind : FaultKind) → row_major row.at.items b.at.items ≡ Less → NotAfter (Some (record { at = row.at; kind = kind })) b
     later kind l = λ e. less_turned row.at.items b.at.items l e
+
     cases : (k : Option FaultKind) → fault_in row.cell ≡ k → Has (row ∷ rows) b → (Has rows b → NotAfter (first_fault rows) b) → NotAfter (fault_here row k (first_fault rows)) b
     cases None f (inl e) ih = let g : None ≡ Some b = sym (ap (λ z. option_map (λ (kind' : FaultKind). record { at = row.at; kind = kind' }) z) f) ∙ e in cc
     cases None f (inr i) ih = ih i
@@ -141,10 +143,12 @@ least_is_first rows rising r to from = cases (least_from None rows) (first_fault
     had : (b : Broken) → (None ≡ Some b) ⊎ Has rows b → Has rows b
     had b (inl e) = cc
     had b (inr h) = h
+
     compared : (a b : Broken) → (t : Ordering) → row_major a.at.items b.at.items ≡ t → Has rising a → Has rising b → (row_major a.at.items b.at.items ≡ Less → ⊥) → (row_major b.at.items a.at.items ≡ Less → ⊥) → a ≡ b
     compared a b Less e h k m n = absurd (m e)
     compared a b Equal e h k m n = one_fault rising a b r h k (row_major_exact a.at.items b.at.items e)
     compared a b Greater e h k m n = absurd (n (row_major_total.antisymm b.at.items a.at.items ∙ ap ordering_reverse e))
+
     cases : (x y : Option Broken) → least_from None rows ≡ x → first_fault rising ≡ y → x ≡ y
     cases None None e f = refl
     cases None (Some b) e f = absurd (subst (λ z. NotAfter z b) e (least_bounds None rows b (from b (first_is rising b f))))
@@ -153,8 +157,8 @@ least_is_first rows rising r to from = cases (least_from None rows) (first_fault
         let there : Has rows a = had a (least_is None rows a e) in
         let first : Has rising b = first_is rising b f in
         ap Some (compared a b (row_major a.at.items b.at.items) refl (to a there) first
-            (subst (λ z. NotAfter z a) f (first_bounds rising a r (to a there)))
-            (subst (λ z. NotAfter z b) e (least_bounds None rows b (from b first))))
+        (subst (λ z. NotAfter z a) f (first_bounds rising a r (to a there)))
+        (subst (λ z. NotAfter z b) e (least_bounds None rows b (from b first))))
 
 -- ---- chunks
 
@@ -192,6 +196,7 @@ has_put row (r ∷ rows) b h = cases (row_major row.at.items r.at.items) h (has_
     over : (fault_at row ≡ Some b) ⊎ Has rows b → (fault_at row ≡ Some b) ⊎ Has (r ∷ rows) b
     over (inl e) = inl e
     over (inr i) = inr (inr i)
+
     cases : (t : Ordering) → Has (put_by t row r rows (put_row row rows)) b → (Has (put_row row rows) b → (fault_at row ≡ Some b) ⊎ Has rows b) → (fault_at row ≡ Some b) ⊎ Has (r ∷ rows) b
     cases Less k ih = k
     cases Equal (inl e) ih = inl e
@@ -201,38 +206,39 @@ has_put row (r ∷ rows) b h = cases (row_major row.at.items r.at.items) h (has_
 
 has_put_all : (a rows : List Row) (b : Broken) → Has (put_all a rows) b → Has a b ⊎ Has rows b
 has_put_all [] rows b h = inr h
-has_put_all (row ∷ a) rows b h = cases (has_put row (put_all a rows) b h)
+has_put_all (row ∷ a) rows b h = cases (has_put row (put_all a rows) b h) (has_put_all a rows b)
   where
     rest : Has a b ⊎ Has rows b → Has (row ∷ a) b ⊎ Has rows b
     rest (inl i) = inl (inr i)
     rest (inr i) = inr i
-    cases : (fault_at row ≡ Some b) ⊎ Has (put_all a rows) b → Has (row ∷ a) b ⊎ Has rows b
-    cases (inl e) = inl (inl e)
-    cases (inr i) = rest (has_put_all a rows b i)
+
+    cases : (fault_at row ≡ Some b) ⊎ Has (put_all a rows) b → (Has (put_all a rows) b → Has a b ⊎ Has rows b) → Has (row ∷ a) b ⊎ Has rows b
+    cases (inl e) ih = inl (inl e)
+    cases (inr i) ih = rest (ih i)
 
 chunks_have : (dims : List Dimension) (margins : List ℕ) (rows : List Row) (chunks : List Chunk) → AllByRecursion (IsPart dims margins rows) chunks → (b : Broken) → Has (flat_map (chunk_rows dims margins) chunks) b → Has rows b
 chunks_have dims margins rows [] parts b h = absurd h
-chunks_have dims margins rows (chunk ∷ chunks) parts b h = cases (has_both (chunk_rows dims margins chunk) (flat_map (chunk_rows dims margins) chunks) b h)
+chunks_have dims margins rows (chunk ∷ chunks) parts b h = cases (has_both (chunk_rows dims margins chunk) (flat_map (chunk_rows dims margins) chunks) b h) (chunks_have dims margins rows chunks parts.1 b)
   where
-    cases : Has (chunk_rows dims margins chunk) b ⊎ Has (flat_map (chunk_rows dims margins) chunks) b → Has rows b
-    cases (inl i) = has_within (frame dims margins chunk.at.items) rows b (subst (λ z. Has z b) parts.0.cells i)
-    cases (inr i) = chunks_have dims margins rows chunks parts.1 b i
+    cases : Has (chunk_rows dims margins chunk) b ⊎ Has (flat_map (chunk_rows dims margins) chunks) b → (Has (flat_map (chunk_rows dims margins) chunks) b → Has rows b) → Has rows b
+    cases (inl i) ih = has_within (frame dims margins chunk.at.items) rows b (subst (λ z. Has z b) parts.0.cells i)
+    cases (inr i) ih = ih i
 
 cores_have : (dims : List Dimension) (margins : List ℕ) (chunks : List Chunk) (b : Broken) → Has (core_rows dims margins chunks) b → Has (flat_map (chunk_rows dims margins) chunks) b
 cores_have dims margins [] b h = h
-cores_have dims margins (chunk ∷ chunks) b h = cases (has_put_all (within (core dims chunk.at.items) (chunk_rows dims margins chunk)) (core_rows dims margins chunks) b h)
+cores_have dims margins (chunk ∷ chunks) b h = cases (has_put_all (within (core dims chunk.at.items) (chunk_rows dims margins chunk)) (core_rows dims margins chunks) b h) (cores_have dims margins chunks b)
   where
-    cases : Has (within (core dims chunk.at.items) (chunk_rows dims margins chunk)) b ⊎ Has (core_rows dims margins chunks) b → Has (flat_map (chunk_rows dims margins) (chunk ∷ chunks)) b
-    cases (inl i) = has_left (chunk_rows dims margins chunk) (flat_map (chunk_rows dims margins) chunks) b (has_within (core dims chunk.at.items) (chunk_rows dims margins chunk) b i)
-    cases (inr i) = has_right (chunk_rows dims margins chunk) (flat_map (chunk_rows dims margins) chunks) b (cores_have dims margins chunks b i)
+    cases : Has (within (core dims chunk.at.items) (chunk_rows dims margins chunk)) b ⊎ Has (core_rows dims margins chunks) b → (Has (core_rows dims margins chunks) b → Has (flat_map (chunk_rows dims margins) chunks) b) → Has (flat_map (chunk_rows dims margins) (chunk ∷ chunks)) b
+    cases (inl i) ih = has_left (chunk_rows dims margins chunk) (flat_map (chunk_rows dims margins) chunks) b (has_within (core dims chunk.at.items) (chunk_rows dims margins chunk) b i)
+    cases (inr i) ih = has_right (chunk_rows dims margins chunk) (flat_map (chunk_rows dims margins) chunks) b (ih i)
 
 least_of_chunks : (schema : Schema) (array : ChunkedArray) (rows : List Row) → HoldsRows schema array rows → least_from None (flat_map (chunk_rows schema.dimensions array.margins.items) array.chunks) ≡ first_fault rows
 least_of_chunks schema array rows h =
     let dims = schema.dimensions in
     let margins = array.margins.items in
     least_is_first (flat_map (chunk_rows dims margins) array.chunks) rows h.rows_of.are_rows.rising
-        (chunks_have dims margins rows array.chunks h.chunks.parts)
-        (λ b k. cores_have dims margins array.chunks b (subst (λ z. Has z b) (sym (chunks_have_their_rows schema array rows h)) k))
+    (chunks_have dims margins rows array.chunks h.chunks.parts)
+    (λ b k. cores_have dims margins array.chunks b (subst (λ z. Has z b) (sym (chunks_have_their_rows schema array rows h)) k))
 
 -- ---- arrays
 

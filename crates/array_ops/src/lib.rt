@@ -1,7 +1,8 @@
 //! Arrays through the operators that work chunk by chunk.
 #![tactic(auto)]
 
-mod arrays;
-mod operators;
+mod cut;
+mod made;
 
-pub use arrays::{apply, between, filter, project};
+pub use cut::between;
+pub use made::over_array;

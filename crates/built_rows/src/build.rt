@@ -13,11 +13,7 @@ use std::alloc::Global;
 
 /// A row for each coordinate of a schema, with an expression's value.
 #[tactic(auto, using(crate::proofs::BuiltRows::built_is, crate::proofs::BuiltRows::few_dimensions))]
-pub fn built_rows(
-    alloc: Global,
-    schema: &Schema,
-    value: &TypedExpr,
-) -> Result<List<Row>, Memory>
+pub fn built_rows(alloc: Global, schema: &Schema, value: &TypedExpr) -> Result<List<Row>, Memory>
     requires { IsValid schema.now }
     ensures { IfOk result (λ rows. rows ≡ built_rows schema.now value.now) }
 {

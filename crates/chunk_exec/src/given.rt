@@ -9,7 +9,6 @@ ghost use Rattle.logical_plan.specs.Typing.{IsTyped};
 ghost use Rattle.chunk_exec.specs.Computed.{IsGiven};
 
 use array_geom::ChunkedArray;
-use built_rows::built_rows;
 use cell_values::{Memory, Row, Schema};
 use chunk_build::assemble;
 use chunk_read::overlaps_of;
@@ -33,6 +32,6 @@ pub(crate) fn build(
     requires { IsTyped (built schema.now value.now) }
     ensures { IfOk result (IsGiven schema.now (built_rows schema.now value.now)) }
 {
-    let rows = built_rows(alloc, schema, value)?;
+    let rows = built_rows::built_rows(alloc, schema, value)?;
     literal(schema, rows.as_slice())
 }

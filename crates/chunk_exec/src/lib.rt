@@ -2,9 +2,9 @@
 #![tactic(auto)]
 
 mod compute;
-mod execute;
 mod given;
+mod running;
 mod steps;
 
 pub use chunk_read::ExecFault;
-pub use execute::execute;
+pub use running::execute;

@@ -1,21 +1,18 @@
 -- Chunks that are read one after the other.
-use Rattle.std.proofs.Common.{◌≡◌, ℕ, ◌+◌, ◌<◌, ◌≤◌, zero, suc, List, [], ◌∷◌, ◌++◌, length, map, get_or, take, drop, Option, Some, None, refl, sym, ap, ◌∙◌, subst, append_assoc, ◌⊎◌, arith}
+use Rattle.std.proofs.Common.{◌≡◌, ℕ, ◌+◌, ◌<◌, ◌≤◌, suc, true, List, [], ◌∷◌, ◌++◌, length, map, get_or, take, drop, Option, Some, None, refl, sym, ap, ◌∙◌, subst, append_assoc, ◌⊎◌, arith}
 use Rattle.std.specs.List.{AllByRecursion, AllZip}
-use Rattle.std.specs.Prelude.{IfSome, IsTrue, Err}
+use Rattle.std.specs.Prelude.{IfSome, IsTrue}
 use Rattle.std.proofs.lemmas.List.{take_more, map-append, append-nil}
 use Rattle.std.proofs.Math.Seq.{drop-cons}
 use Rattle.arrayvec.specs.ArrayVec.{ArrayVec}
-use Rattle.afl_outside.specs.Counts.{Rose}
 use Rattle.array_geom.specs.declared.chunk.Chunk.{Chunk}
 use Rattle.array_geom.specs.Geometry.{overlaps}
-use Rattle.array_geom.specs.Link.{IsPart}
+use Rattle.array_geom.specs.Link.{IsPart, is_listed}
+use Rattle.array_parts.proofs.PartLemmas.{each_listed}
 use Rattle.logical_plan.specs.declared.parts.Leaf.{Leaf}
 use Rattle.logical_plan.specs.Meaning.{Database, version_rows}
 use Rattle.chunk_source.specs.declared.asked.Asked.{Asked}
-use Rattle.chunk_source.specs.Source.{SourceState, Reads, version_chunks, listed, is_among, IsStored, Keeps, asks}
-use Rattle.chunk_read.specs.declared.fault.ExecFault.{ExecFault}
-use Rattle.chunk_read.specs.declared.fault.ExecFault.TheVariants.{Source, Damaged, Memory}
-use Rattle.chunk_read.specs.Faults.{Answers}
+use Rattle.chunk_source.specs.Source.{SourceState, Reads, version_chunks, listed, numbers_of, is_among, IsStored, Keeps, asks}
 
 -- ---- states
 
@@ -30,12 +27,6 @@ reads_still a b leaf k r = subst (λ stored. (leaf.version ≡ 0) ⊎ (stored le
 
 pub listed_still : (a b : SourceState) (leaf : Leaf) → Keeps a b → listed b leaf ≡ listed a leaf
 listed_still a b leaf k = ap (λ chunks. version_chunks chunks leaf.name leaf.version) k.chunks
-
--- a fault that came after calls that went well
-pub answers_later : {T U : Type 0} (a b c : SourceState) (fault : ExecFault) → Keeps a b → b.damaged ≡ a.damaged → Answers {T = T} b c (Err fault) → Answers {T = U} a c (Err fault)
-answers_later a b c Source k d h = (let p = k.later in let q = h.0 in omega (arith, p, q), h.1 ∙ d)
-answers_later a b c (Damaged page) k d h = h
-answers_later a b c Memory k d h = h ∙ d
 
 -- ---- chunks
 
@@ -96,5 +87,20 @@ read_more first before now number leaf all i read at chunk h lt e stored told as
       stored = subst (λ ks. AllZip (IsStored leaf.schema) ks (read ++ chunk ∷ [])) (sym more) (zip_push (IsStored leaf.schema) (take i all) read at chunk h.stored stored);
       told = told_push first.told leaf read chunk h.told (subst (λ t. IfSome t (λ db. IsPart leaf.schema.dimensions (overlaps leaf.schema.dimensions) (version_rows db leaf.name leaf.version) chunk)) h.kept.told told);
       left = let a : AllByRecursion (λ at. IsTrue (is_among at (listed first leaf))) (get_or all i at ∷ drop (suc i) all) = subst (AllByRecursion (λ at. IsTrue (is_among at (listed first leaf)))) (drop-cons all i at lt) h.left in
-          subst (λ n. AllByRecursion (λ at. IsTrue (is_among at (listed first leaf))) (drop n all)) (omega arith) a.1;
+          let one : suc i ≡ i + 1 = omega arith in
+          subst (λ (n : ℕ). AllByRecursion (λ k. IsTrue (is_among k (listed first leaf))) (drop n all)) one a.1;
     }
+
+-- ---- lists
+
+all_unmapped : {A B : Type 0} (P : B → Type 0) (f : A → B) (xs : List A) → AllByRecursion P (map f xs) → AllByRecursion (λ x. P (f x)) xs
+all_unmapped P f [] a = tt
+all_unmapped P f (x ∷ xs) a = (a.0, all_unmapped P f xs a.1)
+
+-- each chunk of a list is among its chunks
+pub all_among : (chunks : List (ArrayVec ℕ)) → AllByRecursion (λ at. IsTrue (is_among at chunks)) chunks
+all_among chunks = all_unmapped (λ k. is_listed k (numbers_of chunks) ≡ true) (λ at. at.items) chunks (each_listed (numbers_of chunks))
+
+-- the chunks that a source lists are among those that it lists later
+pub listed_among : (a b : SourceState) (leaf : Leaf) (chunks : List (ArrayVec ℕ)) → Keeps a b → chunks ≡ listed a leaf → AllByRecursion (λ at. IsTrue (is_among at (listed b leaf))) chunks
+listed_among a b leaf chunks k e = subst (λ (z : List (ArrayVec ℕ)). AllByRecursion (λ at. IsTrue (is_among at z)) chunks) (e ∙ sym (listed_still a b leaf k)) (all_among chunks)

@@ -2,15 +2,15 @@
 use Rattle.std.specs.Prelude.{◌≡◌, Some, Result, Ok, Err}
 use Rattle.afl_outside.specs.Counts.{Rose}
 use Rattle.chunk_source.specs.declared.fault.SourceFault.{SourceFault}
-use Rattle.chunk_source.specs.declared.fault.SourceFault.TheVariants as given
+use Rattle.chunk_source.specs.declared.fault.SourceFault.TheVariants.{Failed, Damaged as Spoiled, Memory as Wanting}
 use Rattle.chunk_source.specs.Source.{SourceState}
 use Rattle.chunk_read.specs.declared.fault.ExecFault.{ExecFault}
 use Rattle.chunk_read.specs.declared.fault.ExecFault.TheVariants.{Source, Damaged, Memory}
 
 abbrev pub fault_from : SourceFault → ExecFault
-fault_from given.Failed = Source
-fault_from (given.Damaged page) = Damaged page
-fault_from given.Memory = Memory
+fault_from Failed = Source
+fault_from (Spoiled page) = Damaged page
+fault_from Wanting = Memory
 
 -- A call fails for its source only where the source's count of faults rises. It answers that a page is damaged only where the source
 -- then says so of that page, which nothing else makes it say.

@@ -1,4 +1,6 @@
 //! Why a plan gave no array.
+ghost use Rattle.std.specs.Prelude.{◌≡◌};
+ghost use Rattle.chunk_read.specs.Faults.{fault_from};
 
 use cell_values::Memory;
 use chunk_source::SourceFault;
@@ -14,8 +16,6 @@ pub enum ExecFault {
 }
 
 impl From<SourceFault> for ExecFault {
-    ghost use Rattle.chunk_read.specs.Faults.{fault_from};
-
     ghost from_gives = { λ given made. made ≡ fault_from given };
 
     fn from(fault: SourceFault) -> ExecFault {
@@ -28,7 +28,9 @@ impl From<SourceFault> for ExecFault {
 }
 
 impl From<Memory> for ExecFault {
-    ghost from_gives = { λ given made. made ≡ Memory };
+    ghost use Rattle.chunk_read.specs.declared.fault.ExecFault.TheVariants.{Memory};
+
+    ghost from_gives = { λ _ made. made ≡ Memory };
 
     fn from(_: Memory) -> ExecFault {
         ExecFault::Memory

@@ -1,6 +1,6 @@
 -- A source without arrays lists nothing.
-use Rattle.std.proofs.Common.{◌≡◌, ℕ, zero, suc, ◌≤◌, false, true, List, [], Some, None, refl, sym, ap, ◌∙◌, subst, arith}
-use Rattle.std.specs.Prelude.{IsTrue, IfSome}
+use Rattle.std.proofs.Common.{◌≡◌, ℕ, zero, suc, true, List, [], refl, sym, ◌∙◌, subst, arith}
+use Rattle.std.specs.Prelude.{IsTrue}
 use Rattle.arrayvec.specs.ArrayVec.{ArrayVec}
 use Rattle.cell_values.specs.declared.datum.Row.{Row}
 use Rattle.cell_values.specs.Schemas.{IsValid}
@@ -34,7 +34,7 @@ nothing_held leaf valid = record {
 pub none_told : (leaf : Leaf) (found : List (ArrayVec ℕ)) → found ≡ [] → IsValid leaf.schema → HasArray leaf (version_rows (λ n v. []) leaf.name leaf.version) found
 none_told leaf found e valid =
     subst (λ (z : List (ArrayVec ℕ)). HasArray leaf (version_rows (λ n v. []) leaf.name leaf.version) z) (sym e)
-        (subst (λ (z : List Row). HasArray leaf z []) (sym (no_rows leaf.name leaf.version)) (nothing_held leaf valid))
+    (subst (λ (z : List Row). HasArray leaf z []) (sym (no_rows leaf.name leaf.version)) (nothing_held leaf valid))
 
 pub nothing_keeps : Keeps nothing_stored nothing_stored
 nothing_keeps = record { stored = refl; chunks = refl; told = refl; later = omega arith }

@@ -1,7 +1,7 @@
 //! Why a source gave no chunk.
+ghost use Rattle.std.specs.Prelude.{◌≡◌};
 
 use cell_values::Memory;
-use std::fmt;
 
 /// Why a source gave no list or no chunk.
 #[derive(Clone, Copy, Debug, PartialEq, Eq)]
@@ -14,7 +14,9 @@ pub enum SourceFault {
 }
 
 impl From<Memory> for SourceFault {
-    ghost from_gives = { λ memory fault. fault ≡ Memory };
+    ghost use Rattle.chunk_source.specs.declared.fault.SourceFault.TheVariants.{Memory};
+
+    ghost from_gives = { λ _ fault. fault ≡ Memory };
 
     fn from(_: Memory) -> SourceFault {
         SourceFault::Memory

@@ -24,8 +24,7 @@ impl ChunkSource for NoChunks {
     }
 
     #[tactic(auto, using(crate::proofs::NothingLaws::none_among))]
-    fn chunk(&mut self, number: u32, leaf: &Leaf, at: &ChunkAt) -> Result<Chunk, SourceFault> {
-        let _ = (number, leaf, at);
+    fn chunk(&mut self, _number: u32, _leaf: &Leaf, _at: &ChunkAt) -> Result<Chunk, SourceFault> {
         unreachable!()
     }
 

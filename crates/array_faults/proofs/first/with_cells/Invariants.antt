@@ -1,8 +1,3 @@
-use Rattle.std.proofs.Common.{◌≡◌, ◌<◌, drop}
-use Rattle.std.specs.List.{AllByRecursion}
-use Rattle.array_geom.specs.Geometry.{volume}
-use Rattle.array_geom.specs.Link.{rows_in}
-use Rattle.array_faults.specs.Least.{least_from}
 use Rattle.array_faults.proofs.Steps.{CellsLeft}
 use Rattle.array_faults.proofs.first.with_cells.Given as goal
 

@@ -39,6 +39,7 @@ pub fn execute<S: ChunkSource, G: Gate>(
     ensures cause { Answers (S.state source.old) (S.state source.new) result }
     ensures start { S.start source.new ≡ S.start source.old }
 {
-    let _ = (workers, session, gate);
+    let _ = (workers, session);
+    let _ = gate;
     compute(alloc, plan, source)
 }

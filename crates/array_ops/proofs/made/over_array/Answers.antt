@@ -1,6 +1,6 @@
 use Rattle.std.proofs.Common.{refl}
 use Rattle.array_ops.proofs.MadeLaws.{made_of}
-use Rattle.array_ops.proofs.arrays.made.Goals as goal
+use Rattle.array_ops.proofs.made.over_array.Goals as goal
 
 pub returns : goal.returns
 returns g c =

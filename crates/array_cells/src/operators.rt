@@ -1,13 +1,11 @@
 //! The operators, chunk by chunk.
 ghost use Rattle.std.specs.Prelude.{◌≡◌, IfOk};
-ghost use Rattle.array_rows.specs.Boxes.{within};
 ghost use Rattle.chunk_change.specs.Made.{IsMadeBy};
 ghost use Rattle.logical_plan.specs.CellOps.{filter_rows, apply_rows, project_rows};
 
 use array_geom::Chunk;
 use array_parts::ChunkOperator;
-use cell_values::{Bounds, Margins, Memory, Schema};
-use exec_box::between_owned;
+use cell_values::{Margins, Memory, Schema};
 use exec_cellwise::{apply_owned, filter_owned, project_chunk};
 use expr_nulls::TypedExpr;
 use logical_plan::Applied;
@@ -28,12 +26,6 @@ pub(crate) struct Apply<'a> {
 #[derive(Drop)]
 pub(crate) struct Project<'a> {
     pub places: &'a [u32],
-}
-
-/// A box to which arrays are cut.
-#[derive(Drop)]
-pub(crate) struct Between<'a> {
-    pub area: &'a Bounds,
 }
 
 impl ChunkOperator for Filter<'_> {
@@ -57,13 +49,5 @@ impl ChunkOperator for Project<'_> {
 
     fn apply(&self, _schema: &Schema, _margins: &Margins, chunk: Chunk) -> Result<Chunk, Memory> {
         project_chunk(&chunk, self.places)
-    }
-}
-
-impl ChunkOperator for Between<'_> {
-    ghost operator = { λ between. within between.area.now };
-
-    fn apply(&self, schema: &Schema, margins: &Margins, chunk: Chunk) -> Result<Chunk, Memory> {
-        between_owned(schema, margins, chunk, self.area)
     }
 }
