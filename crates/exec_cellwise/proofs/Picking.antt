@@ -1,12 +1,13 @@
 -- Cells that are changed at their positions, whatever their coordinates.
-use Rattle.std.proofs.Common.{◌≡◌, ℕ, ◌<◌, ℤ, List, [], ◌∷◌, map, length, length-map, Option, Some, refl, sym, ap, subst, ◌∙◌}
+use Rattle.std.proofs.Common.{◌≡◌, ℕ, ◌<◌, ℤ, List, [], ◌∷◌, map, length, Option, Some, refl, sym, ap, subst, ◌∙◌}
+use Rattle.std.proofs.lemmas.List.{length-map}
 use Rattle.std.specs.List.{AllByRecursion}
 use Rattle.arrayvec.specs.ArrayVec.{ArrayVec}
 use Rattle.cell_values.specs.declared.datum.Cell.{Cell}
 use Rattle.cell_values.specs.declared.datum.Cell.TheVariants.{Full, Doubt}
 use Rattle.cell_values.specs.declared.datum.Row.{Row}
 use Rattle.cell_values.specs.declared.schema.Dimension.{Dimension}
-use Rattle.array_rows.specs.Cellwise.{put_first, cell_wise}
+use Rattle.array_rows.specs.Cellwise.{put_first}
 use Rattle.array_rows.specs.Rows.{Coordinate, placed}
 use Rattle.array_geom.specs.declared.chunk.Chunk.{Chunk}
 use Rattle.array_geom.specs.Chunks.{AreRising}
@@ -31,11 +32,11 @@ picked_rows places low lengths (p ∷ positions) (x ∷ cells) =
 -- the chunk of the same number and positions with these cells
 pub made_of : (places : List ℕ) (dims : List Dimension) (margins : List ℕ) (old new : Chunk) → new.at ≡ old.at → new.positions ≡ old.positions → new.cells ≡ map (picked places) old.cells
     → IsPlaced dims margins old → IsMadeBy (project_rows places) dims margins old new
-made_of places dims margins old new n p c placed = record {
+made_of places dims margins old new n p c are = record {
   number = n;
   placed = record {
-    each = ap length c ∙ length-map (picked places) old.cells ∙ placed.each ∙ ap length (sym p);
-    in_frame = subst (AllByRecursion (λ q. q < volume (frame_lengths dims margins))) (sym p) placed.in_frame;
+    each = ap length c ∙ length-map old.cells (picked places) ∙ are.each ∙ ap length (sym p);
+    in_frame = subst (AllByRecursion (λ q. q < volume (frame_lengths dims margins))) (sym p) are.in_frame;
   };
   rising = λ r. subst AreRising (sym p) r;
   rows =

@@ -14,7 +14,7 @@ use cell_values::{Cell, Datum, List, Memory, copy_numbers};
 fn value_at(values: &List<Datum>, place: usize) -> Result<Datum, Memory>
     ensures { IfOk result (λ value. value ≡ slice_index_or values.now place Null) }
 {
-    match values.get(place) {
+    match values.as_slice().get(place) {
         Some(value) => value.copy(),
         None => Ok(Datum::Null),
     }

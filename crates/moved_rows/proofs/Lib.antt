@@ -1,0 +1,4 @@
+pub mod FreeLaws
+pub mod MovedLaws
+pub mod PartLaws
+pub mod SliceLaws
