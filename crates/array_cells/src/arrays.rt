@@ -12,11 +12,7 @@ use expr_nulls::TypedExpr;
 use logical_plan::Applied;
 
 /// The cells where the test is true, and those that it leaves in doubt.
-pub fn filter(
-    array: ChunkedArray,
-    schema: Schema,
-    test: &TypedExpr,
-) -> Result<ChunkedArray, Memory>
+pub fn filter(array: ChunkedArray, schema: Schema, test: &TypedExpr) -> Result<ChunkedArray, Memory>
     requires whole { IsWhole array }
     requires valid { IsValid schema }
     requires dimensions { schema.dimensions ≡ array.schema.dimensions }
@@ -40,11 +36,7 @@ pub fn apply(
 }
 
 /// The values at these places.
-pub fn project(
-    array: ChunkedArray,
-    schema: Schema,
-    places: &[u32],
-) -> Result<ChunkedArray, Memory>
+pub fn project(array: ChunkedArray, schema: Schema, places: &[u32]) -> Result<ChunkedArray, Memory>
     requires whole { IsWhole array }
     requires valid { IsValid schema }
     requires dimensions { schema.dimensions ≡ array.schema.dimensions }

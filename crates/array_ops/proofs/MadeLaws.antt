@@ -1,5 +1,5 @@
 -- The array that an operator makes.
-use Rattle.std.proofs.Common.{◌≡◌, ℕ, ◌≤◌, ◌^◌, List, [], ◌∷◌, length, None, refl, sym, ap, ◌∙◌, subst}
+use Rattle.std.proofs.Common.{◌≡◌, ℕ, ◌≤◌, ◌^◌, List, [], ◌∷◌, length, None, sym, ap, ◌∙◌, subst}
 use Rattle.std.specs.List.{AllByRecursion}
 use Rattle.cell_values.specs.declared.datum.Row.{Row}
 use Rattle.cell_values.specs.declared.schema.Dimension.{Dimension}

@@ -1,7 +1,6 @@
 -- What operators make of the arrays of plans.
-use Rattle.std.proofs.Common.{◌≡◌, ℕ, ◌++◌, true, false, List, [], ◌∷◌, length, map, Option, Some, None, Ok, Err, Result, refl, sym, ap, ◌∙◌, subst}
+use Rattle.std.proofs.Common.{◌≡◌, ℕ, ◌++◌, List, [], ◌∷◌, length, map, Option, Some, None, Ok, Err, Result, refl, sym, ap, ◌∙◌, subst}
 use Rattle.std.specs.Prelude.{IfOk, IfSome, IsTrue}
-use Rattle.std.specs.List.{AllByRecursion}
 use Rattle.std.proofs.lemmas.List.{append-nil}
 use Rattle.cell_values.specs.declared.memory.Memory.{Memory}
 use Rattle.cell_values.specs.declared.datum.Broken.{Broken}
@@ -17,13 +16,15 @@ use Rattle.array_geom.specs.Link.{AreChunksOf, HoldsRows, HoldsResult, Is}
 use Rattle.array_parts.specs.Placed.{HavePlaces}
 use Rattle.array_ops.specs.Made.{IsMadeOf, IsWhole}
 use Rattle.expr_nulls.specs.Expr.{Expr}
+use Rattle.logical_plan.specs.declared.parts.Applied.{Applied}
 use Rattle.logical_plan.specs.declared.parts.Leaf.{Leaf}
+use Rattle.logical_plan.specs.CellOps.{filter_rows, apply_rows, project_rows}
 use Rattle.logical_plan.specs.Faults.{if_whole}
 use Rattle.logical_plan.specs.Laws.{HasLeaves, keeps_places}
 use Rattle.logical_plan.specs.Leaves.{leaves}
 use Rattle.logical_plan.specs.Meaning.{Database, meaning, version_rows, whole, built_rows}
 use Rattle.logical_plan.specs.PlanSchema.{schema_of}
-use Rattle.logical_plan.specs.Query.{Query, built, listed, scanned, between}
+use Rattle.logical_plan.specs.Query.{Query, built, scanned, filtered, applied, projected, between}
 use Rattle.logical_plan.specs.Typing.{IsTyped}
 use Rattle.logical_plan.proofs.ArrayLaws.{typed_arrays}
 use Rattle.logical_plan.proofs.SchemaLaws.{meaning_schema, typed_valid}
@@ -32,17 +33,9 @@ use Rattle.chunk_source.specs.Source.{SourceState, asks}
 use Rattle.chunk_source.specs.Source.{listed as chunks_listed}
 use Rattle.chunk_read.specs.Reading.{asked_of}
 use Rattle.array_parts.proofs.LawProofs.{arrays_are_sound}
-use Rattle.chunk_exec.specs.Computed.{is_executed, CanCompute, IsComputed, IsGiven}
+use Rattle.chunk_exec.specs.Computed.{CanCompute, IsComputed, IsGiven}
 
 -- ---- an operator over an array
-
--- what is executed keeps its cells in their places
-places_kept : (query : Query) → is_executed query ≡ true → keeps_places query ≡ true
-places_kept (built schema e) h = refl
-places_kept (listed schema rows) h = refl
-places_kept (scanned leaf) h = refl
-places_kept (between source area) h = places_kept source h
-places_kept query h = absurd (let f : false ≡ true = h in cc)
 
 is_made : (operator : List Row → List Row) (schema : Schema) (array new : ChunkedArray) (source meant : Meant) → meant.schema ≡ schema → meant.rows ≡ if_whole operator source.rows → IfOk meant.rows (AreRowsOf schema)
     → array.broken ≡ None → schema.dimensions ≡ array.schema.dimensions → IsMadeOf operator schema array new → Is array source → Is new meant
@@ -60,18 +53,19 @@ is_made operator schema array new source meant s r k whole d made is = record {
         let there : AreChunksOf schema.dimensions new.margins.items rows array.chunks = subst (λ (z : List ℕ). AreChunksOf schema.dimensions z rows array.chunks) (sym (ap (λ m. m.items) made.margins)) chunks in
         let rows_of : AreRowsOf schema (operator rows) = subst (λ (z : Result (List Row) Broken). IfOk z (AreRowsOf schema)) e k in
         record { whole = made.whole; rows_of = rows_of; each = made.placed.each; places = made.placed.places; chunks = made.chunks rows there }
+
     cases : (z : Result (List Row) Broken) → meant.rows ≡ if_whole operator z → HoldsResult source.schema array z → HoldsResult schema new meant.rows
     cases (Ok rows) e h = subst (HoldsResult schema new) (sym e) (held rows e h)
     cases (Err broken) e h = absurd (let f : None ≡ Some broken = sym whole ∙ h in cc)
 
 means_made : (told : Option Database) (source query : Query) (operator : List Row → List Row) (array new : ChunkedArray)
-    → ((db : Database) → (meaning db query).rows ≡ if_whole operator (meaning db source).rows) → leaves query ≡ leaves source → IsTrue (is_executed query) → IsTyped query
+    → ((db : Database) → (meaning db query).rows ≡ if_whole operator (meaning db source).rows) → leaves query ≡ leaves source → IsTrue (keeps_places query) → IsTyped query
     → array.broken ≡ None → (schema_of query).dimensions ≡ array.schema.dimensions → IsMadeOf operator (schema_of query) array new
     → IfSome told (λ db. Is array (meaning db source)) → IfSome told (λ db. HasLeaves db (leaves source)) → IfSome told (λ db. Is new (meaning db query))
 means_made None source query operator array new r l now typed whole d made is has = tt
 means_made (Some db) source query operator array new r l now typed whole d made is has =
     is_made operator (schema_of query) array new (meaning db source) (meaning db query) (meaning_schema db query) (r db)
-        (typed_arrays db query (places_kept query now) typed (subst (HasLeaves db) (sym l) has)) whole d made is
+    (typed_arrays db query now typed (subst (HasLeaves db) (sym l) has)) whole d made is
 
 pub computed_made : (old new : SourceState) (source query : Query) (operator : List Row → List Row) (array made : ChunkedArray) (schema : Schema)
     → ((db : Database) → (meaning db query).rows ≡ if_whole operator (meaning db source).rows) → leaves query ≡ leaves source → (schema_of query).dimensions ≡ (schema_of source).dimensions
@@ -94,8 +88,26 @@ pub record IsOver (source query : Query) (old : SourceState) : Type 0 where
   pub valid : IsValid (schema_of query)
   pub dimensions : (schema_of query).dimensions ≡ (schema_of source).dimensions
 
+pub over_filter : (old : SourceState) (source : Query) (test : Expr) → CanCompute old (filtered source test) → IsOver source (filtered source test) old
+over_filter old source test can = record { can = record { now = can.now; typed = can.typed.0; reads = can.reads }; valid = typed_valid (filtered source test) can.typed; dimensions = refl }
+
+pub over_apply : (old : SourceState) (source : Query) (values : List Applied) → CanCompute old (applied source values) → IsOver source (applied source values) old
+over_apply old source values can = record { can = record { now = can.now; typed = can.typed.0; reads = can.reads }; valid = typed_valid (applied source values) can.typed; dimensions = refl }
+
+pub over_project : (old : SourceState) (source : Query) (places : List ℕ) → CanCompute old (projected source places) → IsOver source (projected source places) old
+over_project old source places can = record { can = record { now = can.now; typed = can.typed.0; reads = can.reads }; valid = typed_valid (projected source places) can.typed; dimensions = refl }
+
 pub over_between : (old : SourceState) (source : Query) (area : Bounds) → CanCompute old (between source area) → IsOver source (between source area) old
 over_between old source area can = record { can = record { now = can.now; typed = can.typed.0; reads = can.reads }; valid = typed_valid (between source area) can.typed; dimensions = refl }
+
+pub computed_filter : (old new : SourceState) (source : Query) (test : Expr) (array made : ChunkedArray) (schema : Schema) → CanCompute old (filtered source test) → schema ≡ schema_of (filtered source test) → IsComputed old new source array → IsMadeOf (filter_rows test) schema array made → IsComputed old new (filtered source test) made
+computed_filter old new source test array made schema can s is m = computed_made old new source (filtered source test) (filter_rows test) array made schema (λ db. refl) refl refl can s is m
+
+pub computed_apply : (old new : SourceState) (source : Query) (values : List Applied) (array made : ChunkedArray) (schema : Schema) → CanCompute old (applied source values) → schema ≡ schema_of (applied source values) → IsComputed old new source array → IsMadeOf (apply_rows values) schema array made → IsComputed old new (applied source values) made
+computed_apply old new source values array made schema can s is m = computed_made old new source (applied source values) (apply_rows values) array made schema (λ db. refl) refl refl can s is m
+
+pub computed_project : (old new : SourceState) (source : Query) (places : List ℕ) (array made : ChunkedArray) (schema : Schema) → CanCompute old (projected source places) → schema ≡ schema_of (projected source places) → IsComputed old new source array → IsMadeOf (project_rows places) schema array made → IsComputed old new (projected source places) made
+computed_project old new source places array made schema can s is m = computed_made old new source (projected source places) (project_rows places) array made schema (λ db. refl) refl refl can s is m
 
 pub computed_between : (old new : SourceState) (source : Query) (area : Bounds) (array made : ChunkedArray) (schema : Schema) → CanCompute old (between source area) → schema ≡ schema_of (between source area) → IsComputed old new source array → IsMadeOf (within area) schema array made → IsComputed old new (between source area) made
 computed_between old new source area array made schema can s is m = computed_made old new source (between source area) (within area) array made schema (λ db. refl) refl refl can s is m

@@ -1,32 +1,24 @@
 -- What is computed of a plan over a source.
-use Rattle.std.specs.Prelude.{◌≡◌, ◌++◌, Bool, true, false, List, IfSome, IsTrue}
+use Rattle.std.specs.Prelude.{◌≡◌, ◌++◌, List, IfSome, IsTrue}
 use Rattle.std.specs.List.{AllByRecursion}
 use Rattle.cell_values.specs.declared.datum.Row.{Row}
 use Rattle.cell_values.specs.declared.schema.Schema.{Schema}
 use Rattle.array_geom.specs.declared.chunk.ChunkedArray.{ChunkedArray}
 use Rattle.array_geom.specs.Link.{Is}
 use Rattle.array_ops.specs.Made.{IsWhole}
-use Rattle.logical_plan.specs.Laws.{HasLeaves}
+use Rattle.logical_plan.specs.Laws.{HasLeaves, keeps_places}
 use Rattle.logical_plan.specs.Leaves.{leaves}
 use Rattle.logical_plan.specs.Meaning.{meaning}
 use Rattle.logical_plan.specs.Meaning.{whole as meant_whole}
 use Rattle.logical_plan.specs.PlanSchema.{schema_of}
-use Rattle.logical_plan.specs.Query.{Query, built, listed, scanned, between}
+use Rattle.logical_plan.specs.Query.{Query}
 use Rattle.logical_plan.specs.Typing.{IsTyped}
 use Rattle.chunk_source.specs.Source.{SourceState, Reads}
 use Rattle.chunk_read.specs.Reading.{asked_of}
 
--- the plans that are executed: builds, literals and scans, cut to boxes
-abbrev pub is_executed : Query → Bool
-is_executed (built schema e) = true
-is_executed (listed schema rows) = true
-is_executed (scanned leaf) = true
-is_executed (between source area) = is_executed source
-is_executed query = false
-
--- a typed plan of these, over leaves that the source has
+-- a typed plan of the operators that are executed now, over leaves that the source has
 pub record CanCompute (source : SourceState) (query : Query) : Type 0 where
-  pub now : IsTrue (is_executed query)
+  pub now : IsTrue (keeps_places query)
   pub typed : IsTyped query
   pub reads : AllByRecursion (Reads source) (leaves query)
 

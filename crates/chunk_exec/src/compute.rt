@@ -6,7 +6,7 @@ ghost use Rattle.chunk_exec.specs.Computed.{CanCompute, IsComputed};
 
 use crate::ExecFault;
 use crate::given::{build, literal};
-use crate::steps::cut;
+use crate::steps::{apply, between, filter, project};
 use array_geom::ChunkedArray;
 use chunk_read::read_leaf;
 use chunk_source::ChunkSource;
@@ -29,9 +29,21 @@ pub(crate) fn compute<S: ChunkSource>(
         PlanNode::Build(schema, value) => Ok(build(alloc, schema, value)?),
         PlanNode::Literal(schema, rows) => Ok(literal(schema, rows.as_slice())?),
         PlanNode::Scan(leaf) => read_leaf(source, 0, leaf),
+        PlanNode::Filter(from, test) => {
+            let array = compute(alloc, from, source)?;
+            Ok(filter(alloc, plan, array, test)?)
+        }
+        PlanNode::Apply(from, values) => {
+            let array = compute(alloc, from, source)?;
+            Ok(apply(alloc, plan, array, values)?)
+        }
+        PlanNode::Project(from, places) => {
+            let array = compute(alloc, from, source)?;
+            Ok(project(alloc, plan, array, places)?)
+        }
         PlanNode::Between(from, area) => {
             let array = compute(alloc, from, source)?;
-            Ok(cut(alloc, plan, array, area)?)
+            Ok(between(alloc, plan, array, area)?)
         }
         _ => unreachable!(),
     }

@@ -1,5 +1,5 @@
 -- The chunks of a leaf are those of its array.
-use Rattle.std.proofs.Common.{◌≡◌, ℕ, suc, ◌≤◌, ◌^◌, true, ◌&&◌, List, [], ◌∷◌, length, map, Option, Some, None, Ok, refl, sym, ap, ◌∙◌, subst, arith}
+use Rattle.std.proofs.Common.{◌≡◌, ℕ, suc, ◌≤◌, ◌^◌, true, ◌&&◌, List, [], ◌∷◌, length, Option, Some, None, refl, sym, ap, ◌∙◌, subst, arith}
 use Rattle.std.specs.List.{AllByRecursion, AllZip, list_all}
 use Rattle.std.specs.Prelude.{IfSome}
 use Rattle.arrayvec.specs.ArrayVec.{ArrayVec}
@@ -10,10 +10,9 @@ use Rattle.cell_values.specs.Schemas.{is_dimension, has_attributes, has_dimensio
 use Rattle.array_geom.specs.declared.chunk.Chunk.{Chunk}
 use Rattle.array_geom.specs.declared.chunk.ChunkedArray.{ChunkedArray}
 use Rattle.array_geom.specs.Geometry.{ChunkNumber, overlaps, frame_lengths, volume, has_core}
-use Rattle.array_geom.specs.Link.{IsPart, NumbersRise, numbers, is_listed, AreChunksOf, Is}
+use Rattle.array_geom.specs.Link.{IsPart, NumbersRise, numbers, is_listed, Is}
 use Rattle.array_geom.proofs.NearLemmas.{valid_placed, size_is_volume}
 use Rattle.array_geom.proofs.TestLaws.{and_parts, at_most}
-use Rattle.chunk_change.specs.Made.{IsPlaced}
 use Rattle.array_parts.specs.Placed.{HasPlaces, HavePlaces}
 use Rattle.logical_plan.specs.declared.parts.Leaf.{Leaf}
 use Rattle.logical_plan.specs.Meaning.{Database, version_rows, whole}

@@ -1,5 +1,5 @@
 -- Chunks that are read one after the other.
-use Rattle.std.proofs.Common.{◌≡◌, ℕ, ◌+◌, ◌<◌, ◌≤◌, suc, true, List, [], ◌∷◌, ◌++◌, length, map, get_or, take, drop, Option, Some, None, refl, sym, ap, ◌∙◌, subst, append_assoc, ◌⊎◌, arith}
+use Rattle.std.proofs.Common.{◌≡◌, ℕ, ◌+◌, ◌<◌, suc, true, List, [], ◌∷◌, ◌++◌, length, map, get_or, take, drop, Option, Some, None, refl, sym, ap, ◌∙◌, subst, append_assoc, ◌⊎◌, arith}
 use Rattle.std.specs.List.{AllByRecursion, AllZip}
 use Rattle.std.specs.Prelude.{IfSome, IsTrue}
 use Rattle.std.proofs.lemmas.List.{take_more, map-append, append-nil}
@@ -11,7 +11,6 @@ use Rattle.array_geom.specs.Link.{IsPart, is_listed}
 use Rattle.array_parts.proofs.PartLemmas.{each_listed}
 use Rattle.logical_plan.specs.declared.parts.Leaf.{Leaf}
 use Rattle.logical_plan.specs.Meaning.{Database, version_rows}
-use Rattle.chunk_source.specs.declared.asked.Asked.{Asked}
 use Rattle.chunk_source.specs.Source.{SourceState, Reads, version_chunks, listed, numbers_of, is_among, IsStored, Keeps, asks}
 
 -- ---- states

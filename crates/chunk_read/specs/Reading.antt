@@ -1,5 +1,5 @@
 -- What is asked for where leaves are read, and what is read.
-use Rattle.std.specs.Prelude.{◌≡◌, ℕ, ◌+◌, List, [], ◌∷◌, ◌++◌, map}
+use Rattle.std.specs.Prelude.{ℕ, ◌+◌, List, [], ◌∷◌, ◌++◌, map}
 use Rattle.logical_plan.specs.declared.parts.Leaf.{Leaf}
 use Rattle.chunk_source.specs.declared.asked.Asked.{Asked}
 use Rattle.chunk_source.specs.Source.{SourceState, listed, asks}

@@ -1,4 +1,4 @@
-use Rattle.std.proofs.Common.{◌+◌, List, [], ◌∷◌, ◌++◌, sym, ◌∙◌, subst}
+use Rattle.std.proofs.Common.{◌+◌, List, sym, ◌∙◌, subst}
 use Rattle.array_geom.specs.declared.chunk.Chunk.{Chunk}
 use Rattle.chunk_read.proofs.ReadLemmas.{HasRead, read_more}
 use Rattle.chunk_read.proofs.leaf.read_chunks.Goals as goal
