@@ -54,16 +54,18 @@ impl<D: Disk> PageFile<D> {
         page_chain::read_chain(alloc, &mut self.disk, first, root.length, &[root.log])
     }
 
-    /// Reads a record of the log, by its number: its bytes and its pages. Its first link stands in the log page, which isn't one of
-    /// its pages.
+    /// Reads a record of the log, by its number: its bytes and its pages. Its first link stands in the log page. Its pages are none
+    /// of those taken, which are the log page and those of the chains that were read before: the catalogue's and the earlier
+    /// records'.
     pub fn read_record(
         &mut self,
         alloc: Global,
         number: u32,
+        taken: &[u32],
     ) -> Result<(Bytes, List<u32>), OpenCause>
         requires { number < length self.old.slots.records }
         ensures exact { IfSome (D.state self.old.disk).seen (λ seen. (d : RecordAt)
-            → IsChainRead seen (self.old.slots.current.root.log ∷ []) self.old.slots.current.root.log (slice_index_or self.old.slots.records number d).first (slice_index_or self.old.slots.records number d).length result) }
+            → IsChainRead seen taken.now self.old.slots.current.root.log (slice_index_or self.old.slots.records number d).first (slice_index_or self.old.slots.records number d).length result) }
         ensures size { (d : RecordAt) → IfOk result (λ x. length x.0 ≡ (slice_index_or self.old.slots.records number d).length) }
         ensures pages { (d : RecordAt) → IfOk result (λ x. length x.1 ≡ pages_for (content_size page_size) (slice_index_or self.old.slots.records number d).length) }
         ensures fault { IsErrOf result OpenCause.Disk → Rose (D.state self.old.disk).faults (D.state self.new.disk).faults }
@@ -77,7 +79,7 @@ impl<D: Disk> PageFile<D> {
             holder: log,
             page: at.first,
         };
-        page_chain::read_chain(alloc, &mut self.disk, first, at.length, &[log])
+        page_chain::read_chain(alloc, &mut self.disk, first, at.length, taken)
     }
 
     /// Writes bytes as a blob.
