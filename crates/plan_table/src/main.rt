@@ -1,10 +1,11 @@
 //! Tells of each line of standard input the value of the expression, or the schema and the leaves of the plan, that it is.
 //!
-//! Both are spelled by places, as `written` says. An expression has its value at one cell, which `cells` names. A plan
+//! Both are spelled by places, as `expressions` and `written` say. An expression has its value at one cell, which `cells` names. A plan
 //! stands behind `plan: `. A line that begins with `##` is a title, and is printed as it is.
 #![tactic(auto)]
 
 mod cells;
+mod expressions;
 mod operators;
 mod stored;
 mod values;
@@ -13,11 +14,12 @@ mod written;
 use afl_parser::{ParseFault, Tree, parse};
 use anyhow::Result;
 use cells::value_at_the_cell;
+use expressions::expression_of;
 use logical_plan::{Plan, reads, schema_of};
 use schema_grammar::schema_text;
 use std::io::BufRead;
 use std::str::from_utf8;
-use written::{expression_of, plan_of};
+use written::plan_of;
 
 /// How many bytes a statement may have.
 const LIMIT: usize = 1_048_576;

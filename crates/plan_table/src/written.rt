@@ -1,84 +1,16 @@
-//! Plans and expressions that are spelled by places.
+//! Plans that are spelled by places.
 //!
-//! They are trees of the language, but no rule is asked of them: `v0` is the first attribute and `i0` the first dimension,
-//! and operators name attributes and dimensions by numbers. A stored array is `<v:int64>[i=0:2,2,0]`.
+//! They are trees of the language, but no rule is asked of them: operators name attributes and dimensions by numbers. A
+//! stored array is `<v:int64>[i=0:2,2,0]`.
 
+use crate::expressions::expression_of;
 use crate::operators::{Operator, operator_named};
 use crate::stored::numbers;
-use afl_parser::{BinaryOp, Node, Tree};
-use cell_values::{Bounds, CompareOp, Datum, Kind, List, Memory, Name, Schema, coord_of};
-use expr_nulls::{ArithOp, TypedExpr};
+use afl_parser::{Node, Tree};
+use cell_values::{Bounds, Kind, List, Name, Schema, coord_of};
 use logical_plan::{AggFunction, Aggregate, Applied, Fixed, Leaf, Pair, Plan, Reach};
 use schema_grammar::meaning;
 use std::alloc::Global;
-
-fn binary(alloc: Global, op: BinaryOp, a: TypedExpr, b: TypedExpr) -> Result<TypedExpr, Memory> {
-    match op {
-        BinaryOp::Or => TypedExpr::or(alloc, a, b),
-        BinaryOp::And => TypedExpr::and(alloc, a, b),
-        BinaryOp::Equal => TypedExpr::compare(alloc, CompareOp::Equal, a, b),
-        BinaryOp::Differs => TypedExpr::compare(alloc, CompareOp::Differs, a, b),
-        BinaryOp::Less => TypedExpr::compare(alloc, CompareOp::Less, a, b),
-        BinaryOp::AtMost => TypedExpr::compare(alloc, CompareOp::AtMost, a, b),
-        BinaryOp::More => TypedExpr::compare(alloc, CompareOp::More, a, b),
-        BinaryOp::AtLeast => TypedExpr::compare(alloc, CompareOp::AtLeast, a, b),
-        BinaryOp::Add => TypedExpr::arith(alloc, ArithOp::Add, a, b),
-        BinaryOp::Sub => TypedExpr::arith(alloc, ArithOp::Sub, a, b),
-        BinaryOp::Mul => TypedExpr::arith(alloc, ArithOp::Mul, a, b),
-        BinaryOp::Div => TypedExpr::arith(alloc, ArithOp::Div, a, b),
-        BinaryOp::Rem => TypedExpr::arith(alloc, ArithOp::Rem, a, b),
-    }
-}
-
-fn function(alloc: Global, name: &[u8], a: TypedExpr) -> Result<TypedExpr, Memory> {
-    if name == b"is_null".as_slice() {
-        TypedExpr::is_null(alloc, a)
-    } else if name == b"strlen".as_slice() {
-        TypedExpr::str_len(alloc, a)
-    } else if name == b"string".as_slice() {
-        TypedExpr::to_text(alloc, a)
-    } else if name == b"missing".as_slice() {
-        TypedExpr::missing(alloc, a)
-    } else {
-        TypedExpr::reason(alloc, a)
-    }
-}
-
-fn place_named(name: &[u8]) -> TypedExpr {
-    match name {
-        [b'v', digit] => TypedExpr::attr(u32::from(digit.wrapping_sub(b'0'))),
-        [b'i', digit] => TypedExpr::dim(u32::from(digit.wrapping_sub(b'0'))),
-        _ => TypedExpr::lit(Datum::Null),
-    }
-}
-
-/// The expression that a tree spells.
-pub(crate) fn expression_of(alloc: Global, tree: &Tree) -> Result<TypedExpr, Memory> {
-    match &tree.node {
-        Node::Number(number) => Ok(TypedExpr::lit(Datum::Int(*number))),
-        Node::Text(text) => Ok(TypedExpr::lit(Datum::Text(text.copy()?))),
-        Node::Truth(truth) => Ok(TypedExpr::lit(Datum::Truth(*truth))),
-        Node::Missing(code) => Ok(TypedExpr::lit(Datum::Missing(*code))),
-        Node::Ref(name) => Ok(place_named(name.as_slice())),
-        Node::Group(inner) => expression_of(alloc, inner),
-        Node::Not(inner) => TypedExpr::not(alloc, expression_of(alloc, inner)?),
-        Node::Minus(inner) => TypedExpr::neg(alloc, expression_of(alloc, inner)?),
-        Node::Binary(op, a, b) => {
-            let left = expression_of(alloc, a)?;
-            binary(alloc, *op, left, expression_of(alloc, b)?)
-        }
-        Node::Call(name, arguments) => match arguments.as_slice() {
-            [a] => function(alloc, name.as_slice(), expression_of(alloc, a)?),
-            [test, a, b] => {
-                let test = expression_of(alloc, test)?;
-                let a = expression_of(alloc, a)?;
-                TypedExpr::iif(alloc, test, a, expression_of(alloc, b)?)
-            }
-            _ => Ok(TypedExpr::lit(Datum::Null)),
-        },
-        _ => Ok(TypedExpr::lit(Datum::Null)),
-    }
-}
 
 fn one<T: Drop>(alloc: Global, item: T) -> Option<List<T>> {
     let mut items = List::new(alloc);
@@ -267,14 +199,23 @@ fn in_groups(alloc: Global, source: Plan, rest: &[Tree]) -> Option<Plan> {
     Plan::aggregate(alloc, source, aggregates, places).ok()
 }
 
+fn within(alloc: Global, source: Plan, rest: &[Tree]) -> Option<Plan> {
+    Plan::between(alloc, source, area_of(rest)?).ok()
+}
+
+fn part(alloc: Global, source: Plan, rest: &[Tree]) -> Option<Plan> {
+    Plan::subarray(alloc, source, area_of(rest)?).ok()
+}
+
 /// The plan of an operator over one source.
-fn over(alloc: Global, operator: Operator, source: Plan, rest: &[Tree]) -> Option<Plan> {
+fn over(alloc: Global, operator: Operator, source: Option<Plan>, rest: &[Tree]) -> Option<Plan> {
+    let source = source?;
     match operator {
         Operator::Filter => filtered(alloc, source, rest),
         Operator::Apply => applied(alloc, source, rest),
         Operator::Project => projected(alloc, source, rest),
-        Operator::Between => Plan::between(alloc, source, area_of(rest)?).ok(),
-        Operator::Subarray => Plan::subarray(alloc, source, area_of(rest)?).ok(),
+        Operator::Between => within(alloc, source, rest),
+        Operator::Subarray => part(alloc, source, rest),
         Operator::Slice => held(alloc, source, rest),
         Operator::Redimension => redimensioned(alloc, source, rest),
         Operator::Regrid => in_blocks(alloc, source, rest),
@@ -316,32 +257,28 @@ fn over_two(
     }
 }
 
+fn has_two_sources(operator: Operator) -> bool {
+    matches!(operator, Operator::Join | Operator::CrossJoin)
+}
+
 /// The plan that a tree spells.
 pub(crate) fn plan_of(alloc: Global, tree: &Tree) -> Option<Plan> {
     match &tree.node {
         Node::Ref(name) => scan(alloc, name, 1),
         Node::Version(name, version) => scan(alloc, name, *version),
-        Node::Call(name, arguments) => match operator_named(name.as_slice()) {
-            Some(Operator::Build) => built(alloc, arguments.as_slice()),
-            Some(operator) => sourced(alloc, operator, arguments.as_slice()),
-            None => None,
-        },
+        Node::Call(name, arguments) => {
+            let operator = operator_named(name.as_slice())?;
+            match arguments.as_slice() {
+                [left, right, rest @ ..] if has_two_sources(operator) => {
+                    let left = plan_of(alloc, left);
+                    over_two(alloc, operator, left, plan_of(alloc, right), rest)
+                }
+                [source, rest @ ..] if operator != Operator::Build => {
+                    over(alloc, operator, plan_of(alloc, source), rest)
+                }
+                parts => built(alloc, parts),
+            }
+        }
         _ => None,
     }
-}
-
-/// The plan of an operator over the sources that its arguments begin with.
-fn sourced(alloc: Global, operator: Operator, arguments: &[Tree]) -> Option<Plan> {
-    match arguments {
-        [left, right, rest @ ..] if has_two_sources(operator) => {
-            let left = plan_of(alloc, left);
-            over_two(alloc, operator, left, plan_of(alloc, right), rest)
-        }
-        [source, rest @ ..] => over(alloc, operator, plan_of(alloc, source)?, rest),
-        [] => None,
-    }
-}
-
-fn has_two_sources(operator: Operator) -> bool {
-    matches!(operator, Operator::Join | Operator::CrossJoin)
 }
