@@ -1,8 +1,16 @@
 //! Directories of chunks: where the payload of each chunk of an array's version lies.
 #![tactic(auto)]
 
+mod decoding;
 mod directory;
+mod reading;
 mod replacing;
+mod writing;
 
+pub use decoding::{BadDirectory, decode_directory};
 pub use directory::{DirEntry, Directory};
 pub use replacing::replaced;
+pub use writing::encode_directory;
+
+#[cfg(test)]
+mod tests;

@@ -1,1 +1,2 @@
 pub mod AimLemmas
+pub mod OnlyRead

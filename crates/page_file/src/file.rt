@@ -28,8 +28,8 @@ fn target_of(slot: Slot) -> Target
 
 /// A database's file on a disk, with what is known of its slots.
 pub struct PageFile<D: Disk> {
-    disk: D,
-    slots: Slots,
+    pub disk: D,
+    pub slots: Slots,
 }
 
 impl<D: Disk> PageFile<D> {

@@ -9,7 +9,7 @@ use Rattle.page_layout.specs.declared.roots.OpenRoot.{OpenRoot}
 
 -- the text AFLSTORE as the number of its eight bytes, the low byte first
 abbrev pub text_number : ℕ
-text_number = 0x45524F5453464C41
+text_number = 0x45524F54534C4641
 
 -- Page 0 is whole, and begins with the text and the number of a format.
 abbrev pub has_front : List ℕ → Bool

@@ -26,7 +26,7 @@ pub struct OpenRoot {
 }
 
 /// `AFLSTORE`, the low byte first.
-const TEXT: u64 = 0x4552_4F54_5346_4C41;
+const TEXT: u64 = 0x4552_4F54_534C_4641;
 
 fn has_front(page: &[u8]) -> bool
     ensures { result ≡ has_front page.now }

@@ -1,0 +1,114 @@
+//! Blobs and chains in a database's file.
+ghost use Rattle.std.specs.Prelude.{◌≡◌, ℕ, List, [], ◌∷◌, ◌<◌, ◌⊎◌, length, slice_index_or, IfSome, IfOk, OnOk, OnErr, IsErrOf, MatchResult};
+ghost use Rattle.afl_outside.specs.Counts.{Rose};
+ghost use Rattle.page_layout.specs.Places.{KeepsPages};
+ghost use Rattle.page_layout.specs.declared.logs.RecordAt.{RecordAt};
+ghost use Rattle.page_chain.specs.Pages.{page_size, pages_for, IsBlobRead, HoldsBlob};
+ghost use Rattle.page_chain.specs.Chains.{content_size, IsChainRead, HoldsChain};
+ghost use Rattle.page_chain.specs.Runs.{OnlyReads, OnlyWrites, Sees};
+ghost use Rattle.page_slots.specs.Standing.{IsClosed, IsSound, KeepsSound, LeavesOpening};
+ghost use Rattle.page_slots.specs.Steps.{emptied};
+ghost use Rattle.page_writes.specs.Written.{MayWrite, pages_written, blob_written};
+
+use crate::PageFile;
+use afl_outside::{Disk, Failed};
+use cell_values::{Bytes, List};
+use page_chain::{BlobFault, Link, OpenCause};
+use page_layout::Root;
+use std::alloc::Global;
+
+impl<D: Disk> PageFile<D> {
+    /// Reads a blob of so many bytes.
+    pub fn read_blob(
+        &mut self,
+        alloc: Global,
+        pages: &[u32],
+        count: u64,
+    ) -> Result<Bytes, BlobFault>
+        requires { length pages.now ≡ pages_for page_size count }
+        ensures exact { IfSome (D.state self.old.disk).seen (λ seen. IsBlobRead seen pages.now count result) }
+        ensures size { IfOk result (λ bytes. length bytes ≡ count) }
+        ensures fault { IsErrOf result BlobFault.Disk → Rose (D.state self.old.disk).faults (D.state self.new.disk).faults }
+        ensures slots { self.new.slots ≡ self.old.slots }
+        ensures reads { OnlyReads (D.state self.old.disk) (D.state self.new.disk) (D.left_since self.old.disk) (D.left_since self.new.disk) (D.may_leave self.old.disk) (D.may_leave self.new.disk) }
+        ensures sound { (seen : List ℕ) → IsSound self.old.slots seen (D.may_leave self.old.disk) → IsSound self.new.slots seen (D.may_leave self.new.disk) }
+    {
+        page_chain::read_blob(alloc, &mut self.disk, pages, count)
+    }
+
+    /// Reads the catalogue chain of a root: its bytes and its pages. Its first link stands in page 0, and its log page isn't one of
+    /// its pages.
+    pub fn read_chain(&mut self, alloc: Global, root: Root) -> Result<(Bytes, List<u32>), OpenCause>
+        ensures exact { IfSome (D.state self.old.disk).seen (λ seen. IsChainRead seen (root.log ∷ []) 0 root.first root.length result) }
+        ensures size { IfOk result (λ x. length x.0 ≡ root.length) }
+        ensures pages { IfOk result (λ x. length x.1 ≡ pages_for (content_size page_size) root.length) }
+        ensures fault { IsErrOf result OpenCause.Disk → Rose (D.state self.old.disk).faults (D.state self.new.disk).faults }
+        ensures slots { self.new.slots ≡ self.old.slots }
+        ensures reads { OnlyReads (D.state self.old.disk) (D.state self.new.disk) (D.left_since self.old.disk) (D.left_since self.new.disk) (D.may_leave self.old.disk) (D.may_leave self.new.disk) }
+        ensures sound { (seen : List ℕ) → IsSound self.old.slots seen (D.may_leave self.old.disk) → IsSound self.new.slots seen (D.may_leave self.new.disk) }
+    {
+        let first = Link {
+            holder: 0,
+            page: root.first,
+        };
+        page_chain::read_chain(alloc, &mut self.disk, first, root.length, &[root.log])
+    }
+
+    /// Reads a record of the log, by its number: its bytes and its pages. Its first link stands in the log page. Its pages are none
+    /// of those taken, which are the log page and those of the chains that were read before: the catalogue's and the earlier
+    /// records'.
+    pub fn read_record(
+        &mut self,
+        alloc: Global,
+        number: u32,
+        taken: &[u32],
+    ) -> Result<(Bytes, List<u32>), OpenCause>
+        requires { number < length self.old.slots.records }
+        ensures exact { IfSome (D.state self.old.disk).seen (λ seen. (d : RecordAt)
+            → IsChainRead seen taken.now self.old.slots.current.root.log (slice_index_or self.old.slots.records number d).first (slice_index_or self.old.slots.records number d).length result) }
+        ensures size { (d : RecordAt) → IfOk result (λ x. length x.0 ≡ (slice_index_or self.old.slots.records number d).length) }
+        ensures pages { (d : RecordAt) → IfOk result (λ x. length x.1 ≡ pages_for (content_size page_size) (slice_index_or self.old.slots.records number d).length) }
+        ensures fault { IsErrOf result OpenCause.Disk → Rose (D.state self.old.disk).faults (D.state self.new.disk).faults }
+        ensures slots { self.new.slots ≡ self.old.slots }
+        ensures reads { OnlyReads (D.state self.old.disk) (D.state self.new.disk) (D.left_since self.old.disk) (D.left_since self.new.disk) (D.may_leave self.old.disk) (D.may_leave self.new.disk) }
+        ensures sound { (seen : List ℕ) → IsSound self.old.slots seen (D.may_leave self.old.disk) → IsSound self.new.slots seen (D.may_leave self.new.disk) }
+    {
+        let at = self.slots.records.as_slice()[number as usize];
+        let log = self.slots.current.root.log;
+        let first = Link {
+            holder: log,
+            page: at.first,
+        };
+        page_chain::read_chain(alloc, &mut self.disk, first, at.length, taken)
+    }
+
+    /// Writes bytes as a blob.
+    pub fn write_blob(&mut self, pages: &[u32], bytes: &[u8]) -> Result<(), Failed>
+        requires closed { IsClosed self.old.slots }
+        requires free { MayWrite pages.now self.old.slots }
+        requires pages { length pages.now ≡ pages_for page_size (length bytes.now) }
+        ensures slots { MatchResult result (λ _. self.new.slots ≡ blob_written pages.now bytes.now self.old.slots) (λ _. self.new.slots ≡ pages_written pages.now self.old.slots) }
+        ensures sound { KeepsSound self.old.slots self.new.slots (D.state self.old.disk) (D.state self.new.disk) (D.may_leave self.old.disk) (D.may_leave self.new.disk) }
+        ensures opens { LeavesOpening self.old.slots (emptied self.old.slots) (D.state self.old.disk) (D.state self.new.disk) (D.left_since self.old.disk) (D.left_since self.new.disk) (D.may_leave self.old.disk) }
+        ensures seen { Sees (D.state self.old.disk) (D.state self.new.disk) (λ seen now. KeepsPages pages.now seen now × OnOk result (HoldsBlob page_size now pages.now bytes.now)) }
+        ensures writes { OnlyWrites pages.now (D.state self.old.disk) (D.state self.new.disk) (D.left_since self.old.disk) (D.left_since self.new.disk) (D.may_leave self.old.disk) (D.may_leave self.new.disk) }
+        ensures cause { OnErr result (Rose (D.state self.old.disk).faults (D.state self.new.disk).faults ⊎ Rose (D.state self.old.disk).wants (D.state self.new.disk).wants) }
+    {
+        page_writes::write_blob(&mut self.slots, &mut self.disk, pages, bytes)
+    }
+
+    /// Writes bytes as a chain.
+    pub fn write_chain(&mut self, pages: &[u32], bytes: &[u8]) -> Result<(), Failed>
+        requires closed { IsClosed self.old.slots }
+        requires free { MayWrite pages.now self.old.slots }
+        requires pages { length pages.now ≡ pages_for (content_size page_size) (length bytes.now) }
+        ensures slots { self.new.slots ≡ pages_written pages.now self.old.slots }
+        ensures sound { KeepsSound self.old.slots self.new.slots (D.state self.old.disk) (D.state self.new.disk) (D.may_leave self.old.disk) (D.may_leave self.new.disk) }
+        ensures opens { LeavesOpening self.old.slots (emptied self.old.slots) (D.state self.old.disk) (D.state self.new.disk) (D.left_since self.old.disk) (D.left_since self.new.disk) (D.may_leave self.old.disk) }
+        ensures seen { Sees (D.state self.old.disk) (D.state self.new.disk) (λ seen now. KeepsPages pages.now seen now × OnOk result (HoldsChain page_size now pages.now bytes.now)) }
+        ensures writes { OnlyWrites pages.now (D.state self.old.disk) (D.state self.new.disk) (D.left_since self.old.disk) (D.left_since self.new.disk) (D.may_leave self.old.disk) (D.may_leave self.new.disk) }
+        ensures cause { OnErr result (Rose (D.state self.old.disk).faults (D.state self.new.disk).faults ⊎ Rose (D.state self.old.disk).wants (D.state self.new.disk).wants) }
+    {
+        page_writes::write_chain(&mut self.slots, &mut self.disk, pages, bytes)
+    }
+}

@@ -1,0 +1,6 @@
+//! Writes of pages while the target of a file is closed: its slots stay sound.
+#![tactic(auto)]
+
+mod writes;
+
+pub use writes::{write_blob, write_chain};
