@@ -1,7 +1,7 @@
-pub mod BuiltRows
 pub mod Calls
 pub mod Ending
-pub mod Faults
 pub mod Outcomes
+pub mod PlanReplies
+pub mod PlansNow
 pub mod Reports
 pub mod ServingLemmas

@@ -19,11 +19,11 @@ use Rattle.type_rules.specs.Checked.{Checked}
 use Rattle.afl_types.specs.Checking.{check_of}
 use Rattle.afl_types.specs.declared.checking.Typed.{Typed}
 use Rattle.afl_types.specs.declared.checking.Typed.TheVariants.{Query}
+use Rattle.plan_rows.specs.Found.{nothing}
 use Rattle.result_print.specs.Texts.{array_text}
 use Rattle.result_print.specs.Lines.{line_of_refusal}
 use Rattle.result_print.specs.declared.refusal.Refusal.{Refusal}
 use Rattle.result_print.specs.declared.refusal.Refusal.TheVariants.{TooLong, Parse, NotBuilt, Typing, Cell, Memory}
-use Rattle.afl_run.specs.Rows.{nothing}
 use Rattle.afl_run.specs.Unbuilt.{is_unbuilt}
 use Rattle.afl_run.specs.declared.reply.Reply.{Reply}
 

@@ -4,7 +4,6 @@
 mod arg;
 mod reply;
 mod report;
-mod rows;
 mod session;
 mod streams;
 #[cfg(test)]

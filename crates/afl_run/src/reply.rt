@@ -1,14 +1,15 @@
 //! The reply to a statement.
-ghost use Rattle.std.specs.Prelude.{◌≡◌, ◌≤◌, length, IfOk};
-ghost use Rattle.afl_types.specs.BuiltNow.{IsBuiltNow};
+ghost use Rattle.std.specs.Prelude.{◌≡◌, ◌≤◌, length, IfOk, IsTrue};
+ghost use Rattle.expr_types.specs.Laws.{leaves_fit};
+ghost use Rattle.plan_rows.specs.Found.{CanAnswer};
 ghost use Rattle.afl_run.specs.Reply.{IsReplyTo, plan_reply, refused, reply_to_tree};
 
-use crate::rows::{array_of, first_fault};
 use crate::unbuilt::is_unbuilt;
 use afl_parser::{ParseFault, Tree, parse};
 use afl_types::{TypeFault, Typed, check};
 use cell_values::{Broken, Bytes, List, Memory};
 use logical_plan::{Names, Plan};
+use plan_rows::{PlanRows, rows_of};
 use result_print::{Refusal, dcsv, refusal_line};
 use std::alloc::Global;
 
@@ -43,7 +44,9 @@ pub(crate) fn refuse(alloc: Global, refusal: Refusal) -> Result<Reply, Memory>
 }
 
 /// The reply to a tree of a text.
+#[tactic(auto, using(crate::proofs::PlansNow::can_answer))]
 fn reply_to_tree(alloc: Global, text: &[u8], tree: &Tree) -> Result<Reply, Memory>
+    requires { IsTrue (leaves_fit tree.now) }
     ensures { IfOk result (λ reply. reply ≡ reply_to_tree tree.now) }
 {
     if is_unbuilt(tree) {
@@ -53,23 +56,22 @@ fn reply_to_tree(alloc: Global, text: &[u8], tree: &Tree) -> Result<Reply, Memor
         arrays: List::new(alloc),
     };
     match check(alloc, tree, text, &names) {
-        Ok(Typed::Query(plan)) => reply_to_plan(alloc, plan),
+        Ok(Typed::Query(plan)) => reply_to_plan(alloc, &plan),
         Err(TypeFault::Rule { span, kind }) => refuse(alloc, Refusal::Typing { span, kind }),
         Err(TypeFault::Memory) => Err(Memory),
     }
 }
 
 /// The reply to a plan: the first fault of its array, or its text.
-fn reply_to_plan(alloc: Global, plan: Plan) -> Result<Reply, Memory>
-    requires { IsBuiltNow plan }
-    ensures { IfOk result (λ reply. reply ≡ plan_reply plan) }
+#[tactic(auto, using(crate::proofs::PlanReplies::fault_reply, crate::proofs::PlanReplies::text_reply))]
+fn reply_to_plan(alloc: Global, plan: &Plan) -> Result<Reply, Memory>
+    requires { CanAnswer plan.now }
+    ensures { IfOk result (λ reply. reply ≡ plan_reply plan.now) }
 {
-    let array = array_of(alloc, plan)?;
-    let rows = array.rows.as_slice();
-    match first_fault(rows) {
-        Some(Broken { at, kind }) => refuse(alloc, Refusal::Cell { at, kind }),
-        None => Ok(Reply {
-            text: dcsv(alloc, &array.schema, rows)?,
+    match rows_of(alloc, plan)? {
+        PlanRows::Fault(Broken { at, kind }) => refuse(alloc, Refusal::Cell { at, kind }),
+        PlanRows::Rows(schema, rows) => Ok(Reply {
+            text: dcsv(alloc, &schema, rows.as_slice())?,
             refusal: None,
         }),
     }

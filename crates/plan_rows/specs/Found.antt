@@ -1,0 +1,25 @@
+-- What plans give where no array is stored.
+use Rattle.std.specs.Prelude.{◌≡◌, List, [], Some, None, IsTrue}
+use Rattle.logical_plan.specs.Faults.{fault_of}
+use Rattle.logical_plan.specs.Laws.{keeps_places}
+use Rattle.logical_plan.specs.Leaves.{leaves}
+use Rattle.logical_plan.specs.Meaning.{Database, Meant, whole}
+use Rattle.logical_plan.specs.Query.{Query}
+use Rattle.logical_plan.specs.Typing.{IsTyped}
+use Rattle.plan_rows.specs.declared.rows.PlanRows.{PlanRows}
+use Rattle.plan_rows.specs.declared.rows.PlanRows.TheVariants.{Fault, Rows}
+
+-- a database without arrays
+abbrev pub nothing : Database
+nothing name version = []
+
+-- a typed plan of the operators that are executed, which reads no stored array
+pub record CanAnswer (query : Query) : Type 0 where
+  pub now : IsTrue (keeps_places query)
+  pub typed : IsTyped query
+  pub unread : leaves query ≡ []
+
+-- where and why the array is broken, or its first fault in row-major order; else its schema and its rows
+abbrev pub IsFound : Meant → PlanRows → Type 0
+IsFound meant (Fault broken) = fault_of meant.rows ≡ Some broken
+IsFound meant (Rows schema rows) = (fault_of meant.rows ≡ None) × (meant ≡ whole schema rows)

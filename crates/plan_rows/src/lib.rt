@@ -1,0 +1,7 @@
+//! The rows of plans that read no stored array.
+#![tactic(auto)]
+
+mod array;
+mod rows;
+
+pub use rows::{PlanRows, rows_of};
