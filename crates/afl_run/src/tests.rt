@@ -64,7 +64,7 @@ fn answers(alloc: Global, script: &[u8], reply: &[u8], status: u8) -> Result<boo
 
 #[test]
 fn arrays_are_printed(rt: HostRuntime) -> Result<(), Fail> {
-    let rows: [(&[u8], &[u8]); 11] = [
+    let rows: [(&[u8], &[u8]); 16] = [
         (b"", b""),
         (
             b"build(<v:int64>[i=0:3,2,0], i*i);",
@@ -106,6 +106,26 @@ fn arrays_are_printed(rt: HostRuntime) -> Result<(), Fail> {
             b"build(<t:string>[i=0:1,2,0], '[(\\'it\\\\\\'s\\'),(null)]', true);",
             b"{i} t\n{0} 'it\\'s'\n{1} null\n",
         ),
+        (
+            b"filter(build(<v:int64>[i=0:4,2,0], '[(1),(),(null),(5),(2)]', true), v>1);",
+            b"{i} v\n{3} 5\n{4} 2\n",
+        ),
+        (
+            b"between(apply(build(<v:int64>[i=0:3,2,0], i), w, 6/v), 1, 3);",
+            b"{i} v,w\n{1} 1,6\n{2} 2,3\n{3} 3,2\n",
+        ),
+        (
+            b"apply(build(<v:int64>[i=0:1,2,0], '[(null),(0)]', true), p, v>1 or true, q, iif(v=0, 1, 10/v));",
+            b"{i} v,p,q\n{0} null,true,null\n{1} 0,true,1\n",
+        ),
+        (
+            b"apply(build(<v:int64>[i=0:3,2,0], '[(?7),(null),(4),()]', true), r, missing_reason(v), w, v+1);",
+            b"{i} v,r,w\n{0} ?7,7,?7\n{1} null,0,null\n{2} 4,-1,5\n",
+        ),
+        (
+            b"project(apply(build(<v:int64>[i=0:1,1,0], i), w, v+7), w);",
+            b"{i} w\n{0} 7\n{1} 8\n",
+        ),
     ];
     for (script, reply) in rows {
         assert!(rt; answers(rt.alloc(), script, reply, 0)?);
@@ -115,13 +135,21 @@ fn arrays_are_printed(rt: HostRuntime) -> Result<(), Fail> {
 
 #[test]
 fn statements_are_refused(rt: HostRuntime) -> Result<(), Fail> {
-    let rows: [(&[u8], &[u8]); 22] = [
+    let rows: [(&[u8], &[u8]); 24] = [
         (b"1 & 2", b"error: parse at 2: unknown character\n"),
         (
             b"build(<v:int64>[i=0:0,1,0], ?128);",
             b"error: parse at 28: literal too large\n",
         ),
         (b"filter(A,, v>1);", b"error: parse at 9: unexpected\n"),
+        (
+            b"filter(Q, v>1);",
+            b"error: type at 7..8: unknown array\n",
+        ),
+        (
+            b"apply(build(<v:int64>[i=0:3,2,0], i), w, 6/v);",
+            b"error: cell {0}: divide by zero\n",
+        ),
         (
             b"'a;\\'b';'c",
             b"error: type at 0..7: wrong type\nerror: parse at 0: open text\n",
@@ -134,7 +162,7 @@ fn statements_are_refused(rt: HostRuntime) -> Result<(), Fail> {
             b"create array A <v:int64>[i=3:0,1,0]",
             b"error: not built\n",
         ),
-        (b"build(7, -(iif(i, filter(A), 1)))", b"error: not built\n"),
+        (b"build(7, -(iif(i, regrid(A), 1)))", b"error: not built\n"),
         (b"A", b"error: type at 0..1: unknown array\n"),
         (b"scan(A@1)", b"error: type at 5..8: unknown array\n"),
         (

@@ -1,5 +1,5 @@
 use Rattle.std.proofs.Common.{arith}
-use Rattle.checked_plans.proofs.ParsedLeaves.{parsed_leaves}
+use Rattle.check_laws.proofs.ParsedLeaves.{parsed_leaves}
 use Rattle.afl_run.proofs.reply.reply_to.Goals as goal
 
 pub reply_to_tree-requires : goal.reply_to_tree-requires
