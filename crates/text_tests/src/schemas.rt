@@ -1,13 +1,13 @@
 //! Schema texts, with what they mean or why they are refused.
-use crate::TypeKind::{
+use afl_lexer::tokens;
+use cell_values::{Bytes, List, Schema};
+use schema_grammar::TypeKind::{
     BoundsOrder, BoundsRange, ChunkTooLarge, OverlapTooLarge, RepeatedName, TooManyDimensions,
     UnknownType, ZeroChunk,
 };
-use crate::{
+use schema_grammar::{
     SchemaFault, SchemaText, ShapeFault, TypeKind, meaning, print_shape, schema_text, shape,
 };
-use afl_lexer::tokens;
-use cell_values::{Bytes, List, Schema};
 use std::alloc::Global;
 use std::test::Fail;
 

@@ -1,5 +1,5 @@
 use Rattle.array_geom.proofs.ExampleLaws.{valid_example, core_example, frame_example}
-use Rattle.array_geom.proofs.tests.bounds_cut_the_core_and_not_the_frame.Goals as goal
+use Rattle.chunk_tests.proofs.places.bounds_cut_the_core_and_not_the_frame.Goals as goal
 
 pub core_box-core-requires-clause-valid : goal.core_box-core-requires-clause-valid
 core_box-core-requires-clause-valid g c = valid_example c.in_ok-schema.schema c.in_ok-schema.ensures

@@ -1,7 +1,7 @@
 //! Answers of the calls, by worked cases.
 
-use super::*;
 use Datum::{Bad, Int, Null, Truth};
+use cell_values::*;
 use std::alloc::Global;
 use std::cmp::Ordering;
 use std::process::Abort;

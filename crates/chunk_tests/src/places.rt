@@ -2,7 +2,7 @@ ghost use Rattle.std.specs.Prelude.{◌≡◌, [], ◌∷◌, IfOk};
 ghost use Rattle.array_rows.specs.Boxes.{corners};
 ghost use Rattle.array_geom.specs.Example.{dimension, example};
 
-use super::*;
+use array_geom::*;
 use cell_values::{
     Attribute, Bounds, Cell, ChunkAt, Coord, Datum, Dimension, Kind, List, Memory, Name, Schema,
     coord_of, same_numbers, same_place,

@@ -1,7 +1,9 @@
 //! Texts, with the tokens or the stop that the rules of the language give them.
-use crate::Symbol::{AtLeast, AtMost, Differs, Equal, Less, Minus, More, NotEqual};
-use crate::TokenKind::{Code, Int, Name, Text};
-use crate::{LexFault, LexKind, Symbol, Token, TokenKind, Word, name_value, text_value, tokens};
+use afl_lexer::Symbol::{AtLeast, AtMost, Differs, Equal, Less, Minus, More, NotEqual};
+use afl_lexer::TokenKind::{Code, Int, Name, Text};
+use afl_lexer::{
+    LexFault, LexKind, Symbol, Token, TokenKind, Word, name_value, text_value, tokens,
+};
 use cell_values::{Memory, Span};
 use std::alloc::Global;
 use std::process::Abort;

@@ -1,6 +1,6 @@
 //! What the objects in memory do when there is memory, and which of their calls fail.
 
-use super::*;
+use afl_outside::*;
 use cell_values::{Bytes, List, Memory};
 use std::alloc::Global;
 use std::test::Fail;

@@ -1,11 +1,11 @@
 ghost use Rattle.std.specs.Prelude.{◌≡◌, [], ◌∷◌, IfOk};
 ghost use Rattle.chunk_rle.specs.Example.{example};
 
-use super::*;
 use array_geom::Chunk;
 use cell_values::{
     Attribute, Bytes, Cell, ChunkAt, Code, Datum, Dimension, Kind, List, Memory, Name, Schema,
 };
+use chunk_rle::*;
 use std::alloc::Global;
 use std::test::*;
 

@@ -1,5 +1,5 @@
 use Rattle.chunk_rle.proofs.ExampleLaws.{valid_example, core_example}
-use Rattle.chunk_rle.proofs.tests.decoded.Goals as goal
+use Rattle.chunk_tests.proofs.payloads.decoded.Goals as goal
 
 pub decode-requires-clause-valid : goal.decode-requires-clause-valid
 decode-requires-clause-valid c = valid_example c.in-Ok.schema c.in-Ok.ensures

@@ -1,5 +1,5 @@
 use Rattle.array_geom.proofs.ExampleLaws.{valid_example, bounds_example, frame_example, inside_example}
-use Rattle.array_geom.proofs.tests.a_coordinate_has_a_chunk_and_a_place.Goals as goal
+use Rattle.chunk_tests.proofs.places.a_coordinate_has_a_chunk_and_a_place.Goals as goal
 
 pub chunk_of-found-requires-clause-valid : goal.chunk_of-found-requires-clause-valid
 chunk_of-found-requires-clause-valid g c = valid_example c.in_ok-schema.schema c.in_ok-schema.ensures

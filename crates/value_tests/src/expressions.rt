@@ -1,7 +1,7 @@
 //! Each call once, where memory is there.
 
-use crate::{ArithOp, TypedExpr, eval};
 use cell_values::{Bytes, CompareOp, Datum, Memory, coord_of};
+use expr_nulls::{ArithOp, TypedExpr, eval};
 use std::alloc::Global;
 use std::test::Fail;
 
