@@ -4,9 +4,9 @@ use Rattle.array_ops.specs.Made.{IsMadeOf}
 use Rattle.array_rows.specs.Boxes.{within}
 use Rattle.logical_plan.specs.CellOps.{filter_rows, apply_rows, project_rows}
 use Rattle.logical_plan.specs.PlanSchema.{schema_of}
-use Rattle.logical_plan.specs.Query.{Query, filtered, applied, projected, between}
+use Rattle.logical_plan.specs.Query.{Query, filtered, applied, projected, between, subarray, sliced}
 use Rattle.chunk_exec.specs.Computed.{CanCompute, IsComputed}
-use Rattle.chunk_exec.proofs.ComputedLaws.{computed_filter, computed_apply, computed_project, computed_between}
+use Rattle.chunk_exec.proofs.ComputedLaws.{computed_filter, computed_apply, computed_project, computed_between, computed_subarray, computed_slice, over_subarray, over_slice}
 use Rattle.chunk_exec.proofs.compute.+compute.Goals as goal
 
 pub returns-in_ok-filter-in-Filter-clause-computed : goal.returns-in_ok-filter-in-Filter-clause-computed
@@ -56,3 +56,13 @@ returns-in_ok-between-in-Between-clause-computed g t c =
     subst (λ (z : Query). IsComputed old new z made) (sym is)
     (computed_between old new c.deref-in-Between.result.now c.in-Between.area array made (schema_of query) (subst (CanCompute old) is c.requires) refl c.in_ok-array-in-Between.ensures.computed
     (subst (λ (z : Query). IsMadeOf (within c.in-Between.area) (schema_of z) array made) is c.in_ok-between-in-Between.ensures))
+
+pub returns-in_ok-subarray_owned-in-Subarray-clause-computed : goal.returns-in_ok-subarray_owned-in-Subarray-clause-computed
+returns-in_ok-subarray_owned-in-Subarray-clause-computed g t c =
+    let old = g.S.ChunkSource.state c.args.source.now in
+    let new = g.S.ChunkSource.state c.compute-in-Subarray.new.source in
+    let query = subarray c.deref-in-Subarray.result.now c.in-Subarray.area in
+    let is : c.args.plan.now ≡ query = first_of (search rules, cc, grind (arith, common_steps)) in
+    let made = c.in_ok-subarray_owned-in-Subarray.field-0 in
+    subst (λ (z : Query). IsComputed old new z made) (sym is)
+    (computed_subarray old new c.deref-in-Subarray.result.now c.in-Subarray.area c.in_ok-array-in-Subarray.array made c.in_ok-array-in-Subarray.ensures.computed c.in_ok-subarray_owned-in-Subarray.ensures.array)
