@@ -35,11 +35,14 @@ pub fn over_array<O: ChunkOperator>(
             chunks: chunks.another(),
             broken: Some(broken),
         }),
-        None => Ok(ChunkedArray {
-            schema,
-            margins,
-            chunks: over_chunks(&old, &margins, chunks, operator)?,
-            broken: None,
-        }),
+        None => {
+            let chunks = over_chunks(&old, &margins, chunks, operator)?;
+            Ok(ChunkedArray {
+                schema,
+                margins,
+                chunks,
+                broken: None,
+            })
+        }
     }
 }
