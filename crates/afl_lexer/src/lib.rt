@@ -13,6 +13,3 @@ pub use lexer::{
 };
 pub use splitter::{SplitStep, Splitter};
 pub use token::{LexFault, LexKind, Symbol, Token, TokenKind, Word};
-
-#[cfg(test)]
-mod tests;

@@ -20,8 +20,6 @@ mod source;
 mod sure_disk;
 mod sure_sink;
 mod sure_source;
-#[cfg(test)]
-mod tests;
 mod turns;
 
 pub use counts::has_risen;

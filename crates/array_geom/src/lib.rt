@@ -16,6 +16,3 @@ pub use grid::{Grid, Lengths};
 pub use laws::{
     boxes_hold_coordinates, chunks_are_one_array, cores_are_parts, position_and_place_are_inverse,
 };
-
-#[cfg(test)]
-mod tests;

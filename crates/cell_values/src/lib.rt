@@ -20,6 +20,3 @@ pub use memory::Memory;
 pub use name::{Name, Span};
 pub use schema::{Attribute, Bounds, Dimension, Kind, Schema};
 pub use table::{MAX_TEXT, add, and3, compare, div, mul, neg, not3, or3, rem, sub};
-
-#[cfg(test)]
-mod tests;

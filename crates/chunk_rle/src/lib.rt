@@ -12,6 +12,3 @@ mod writing;
 
 pub use decoding::{BadPayload, decode, same_spelling_same_chunk};
 pub use encoding::encode;
-
-#[cfg(test)]
-mod tests;

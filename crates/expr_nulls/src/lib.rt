@@ -8,6 +8,3 @@ mod functions;
 
 pub use evaluate::{eval, typed_values_fit};
 pub use expr::{ArithOp, ExprNode, TypedExpr};
-
-#[cfg(test)]
-mod tests;

@@ -8,8 +8,6 @@ pub mod rules;
 pub mod shape_text;
 pub mod shapes;
 pub mod state;
-#[cfg(test)]
-mod tests;
 
 pub use kinds::{SchemaFault, TypeKind};
 pub use printer::{print_shape, schema_text};

@@ -1,0 +1,5 @@
+//! Sources, sinks, disks and shelves in memory.
+#![tactic(auto)]
+
+#[cfg(test)]
+mod objects;
