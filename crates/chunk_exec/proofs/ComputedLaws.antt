@@ -38,6 +38,7 @@ use Rattle.exec_parts.specs.Parts.{part_meant, slice_meant}
 use Rattle.chunk_source.specs.declared.asked.Asked.{Asked}
 use Rattle.chunk_source.specs.Source.{SourceState, asks}
 use Rattle.chunk_source.specs.Source.{listed as chunks_listed}
+use Rattle.chunk_read.specs.declared.fault.ExecFault.{ExecFault}
 use Rattle.chunk_read.specs.Reading.{asked_of}
 use Rattle.chunk_exec.specs.Computed.{CanCompute, IsComputed, IsGiven}
 
@@ -223,5 +224,6 @@ is_given schema rows (Ok array) is = record { schema_is = is.schema; cells = arr
 
 -- ---- what is told of the whole
 
-pub is_sound : (array : ChunkedArray) → HasCells array → IsSound array
-is_sound array has whole = (has whole).placed
+pub sound_if : (answer : Result ChunkedArray ExecFault) (old new : SourceState) (query : Query) → IfOk answer (IsComputed old new query) → IfOk answer IsSound
+sound_if (Err fault) old new query is = is
+sound_if (Ok array) old new query is = λ whole. (is.cells whole).placed

@@ -1,6 +1,10 @@
-use Rattle.std.proofs.Common.{◌≡◌, refl, sym, subst, rules, arith}
+use Rattle.std.proofs.Common.{◌≡◌, List, refl, sym, subst, rules, arith}
 use Rattle.std.proofs.lemmas.Grind.{common_steps}
+use Rattle.array_cores.specs.Cores.{meant_by_cores}
+use Rattle.array_geom.specs.Link.{Is}
 use Rattle.array_ops.specs.Made.{IsMadeOf}
+use Rattle.exec_parts.specs.Parts.{slice_meant}
+use Rattle.logical_plan.specs.declared.parts.Fixed.{Fixed}
 use Rattle.array_rows.specs.Boxes.{within}
 use Rattle.logical_plan.specs.CellOps.{filter_rows, apply_rows, project_rows}
 use Rattle.logical_plan.specs.PlanSchema.{schema_of}
@@ -66,3 +70,15 @@ returns-in_ok-subarray_owned-in-Subarray-clause-computed g t c =
     let made = c.in_ok-subarray_owned-in-Subarray.field-0 in
     subst (λ (z : Query). IsComputed old new z made) (sym is)
     (computed_subarray old new c.deref-in-Subarray.result.now c.in-Subarray.area c.in_ok-array-in-Subarray.array made c.in_ok-array-in-Subarray.ensures.computed c.in_ok-subarray_owned-in-Subarray.ensures.array)
+
+pub returns-in_ok-slice_owned-in-Slice-clause-computed : goal.returns-in_ok-slice_owned-in-Slice-clause-computed
+returns-in_ok-slice_owned-in-Slice-clause-computed g t c =
+    let old = g.S.ChunkSource.state c.args.source.now in
+    let new = g.S.ChunkSource.state c.compute-in-Slice.new.source in
+    let query = sliced c.deref-in-Slice.result.now c.in-Slice.fixed in
+    let is : c.args.plan.now ≡ query = first_of (search rules, cc, grind (arith, common_steps)) in
+    let array = c.in_ok-array-in-Slice.array in
+    let made = c.in_ok-slice_owned-in-Slice.field-0 in
+    subst (λ (z : Query). IsComputed old new z made) (sym is)
+    (computed_slice old new c.deref-in-Slice.result.now c.in-Slice.fixed array made c.in_ok-array-in-Slice.ensures.computed
+    (subst (λ (z : List Fixed). Is made (slice_meant z (meant_by_cores array))) c.as_slice-in-Slice.ensures c.in_ok-slice_owned-in-Slice.ensures.array))
