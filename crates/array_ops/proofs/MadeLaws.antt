@@ -1,8 +1,7 @@
 -- The array that an operator makes.
-use Rattle.std.proofs.Common.{◌≡◌, ℕ, ◌≤◌, ◌^◌, List, [], ◌∷◌, length, filter, Option, Some, None, Result, Ok, Err, refl, sym, ap, ◌∙◌, subst}
+use Rattle.std.proofs.Common.{◌≡◌, ℕ, ◌≤◌, ◌^◌, List, [], ◌∷◌, length, filter, None, Result, Ok, Err, refl, sym, ap, ◌∙◌, subst}
 use Rattle.std.specs.List.{AllByRecursion, AllZip}
 use Rattle.std.specs.Prelude.{IfOk}
-use Rattle.cell_values.specs.declared.datum.Broken.{Broken}
 use Rattle.cell_values.specs.declared.datum.Row.{Row}
 use Rattle.cell_values.specs.declared.memory.Memory.{Memory}
 use Rattle.cell_values.specs.declared.schema.Dimension.{Dimension}
@@ -96,14 +95,4 @@ made_whole operator schema array chunks has valid dims local none made = record 
   broken = sym none;
   cells = λ gives whole. cells_made operator array.schema schema array.margins.items dims array.chunks chunks valid gives (has none) made;
   chunks = λ whole rows are. chunks_made operator array.schema schema array.margins.items dims array.chunks chunks rows local (has none).placed.each made are;
-}
-
-pub made_broken : (operator : List Row → List Row) (schema : Schema) (array : ChunkedArray) (chunks : List Chunk) (broken : Broken) → array.broken ≡ Some broken
-    → IsMadeOf operator schema array (record { schema = schema; margins = array.margins; chunks = chunks; broken = Some broken })
-made_broken operator schema array chunks broken e = record {
-  schema_is = refl;
-  margins = refl;
-  broken = sym e;
-  cells = λ gives whole. absurd (let no : Some broken ≡ None = whole in cc);
-  chunks = λ whole. absurd (let no : None ≡ Some broken = sym whole ∙ e in cc);
 }
