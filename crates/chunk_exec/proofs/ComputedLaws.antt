@@ -154,16 +154,17 @@ computed_between old new source area array made schema can s is m = computed_mad
 
 -- ---- parts and slices
 
--- what a plan of a part needs
-pub record IsPartOver (source : Query) (schema : Schema) (old : SourceState) : Type 0 where
-  pub can : CanCompute old source
-  pub valid : IsValid schema
+pub over_subarray : (old : SourceState) (source : Query) (area : Bounds) → CanCompute old (subarray source area) → CanCompute old source
+over_subarray old source area can = record { now = can.now; typed = can.typed.0; reads = can.reads }
 
-pub over_subarray : (old : SourceState) (source : Query) (area : Bounds) → CanCompute old (subarray source area) → IsPartOver source (subarray_schema area (schema_of source)) old
-over_subarray old source area can = record { can = record { now = can.now; typed = can.typed.0; reads = can.reads }; valid = can.typed.2 }
+pub over_slice : (old : SourceState) (source : Query) (fixed : List Fixed) → CanCompute old (sliced source fixed) → CanCompute old source
+over_slice old source fixed can = record { now = can.now; typed = can.typed.0; reads = can.reads }
 
-pub over_slice : (old : SourceState) (source : Query) (fixed : List Fixed) → CanCompute old (sliced source fixed) → IsPartOver source (slice_schema fixed (schema_of source)) old
-over_slice old source fixed can = record { can = record { now = can.now; typed = can.typed.0; reads = can.reads }; valid = can.typed.2 }
+pub valid_subarray : (old : SourceState) (source : Query) (area : Bounds) (schema : Schema) → CanCompute old (subarray source area) → schema ≡ schema_of source → IsValid (subarray_schema area schema)
+valid_subarray old source area schema can e = subst (λ (z : Schema). IsValid (subarray_schema area z)) (sym e) can.typed.2
+
+pub valid_slice : (old : SourceState) (source : Query) (fixed : List Fixed) (schema : Schema) → CanCompute old (sliced source fixed) → schema ≡ schema_of source → IsValid (slice_schema fixed schema)
+valid_slice old source fixed schema can e = subst (λ (z : Schema). IsValid (slice_schema fixed z)) (sym e) can.typed.2
 
 means_part : (told : Option Database) (source query : Query) (operator : Meant → Meant) (array made : ChunkedArray) → ((db : Database) → meaning db query ≡ operator (meaning db source)) → Is made (operator (meant_by_cores array))
     → IfSome told (λ db. Is array (meaning db source)) → IfSome told (λ db. Is made (meaning db query))

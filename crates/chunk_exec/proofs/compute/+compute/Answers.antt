@@ -7,10 +7,11 @@ use Rattle.exec_parts.specs.Parts.{slice_meant}
 use Rattle.logical_plan.specs.declared.parts.Fixed.{Fixed}
 use Rattle.array_rows.specs.Boxes.{within}
 use Rattle.logical_plan.specs.CellOps.{filter_rows, apply_rows, project_rows}
-use Rattle.logical_plan.specs.PlanSchema.{schema_of}
+use Rattle.cell_values.specs.Schemas.{IsValid}
+use Rattle.logical_plan.specs.PlanSchema.{schema_of, slice_schema}
 use Rattle.logical_plan.specs.Query.{Query, filtered, applied, projected, between, subarray, sliced}
 use Rattle.chunk_exec.specs.Computed.{CanCompute, IsComputed}
-use Rattle.chunk_exec.proofs.ComputedLaws.{computed_filter, computed_apply, computed_project, computed_between, computed_subarray, computed_slice, over_subarray, over_slice}
+use Rattle.chunk_exec.proofs.ComputedLaws.{computed_filter, computed_apply, computed_project, computed_between, computed_subarray, computed_slice, valid_subarray, valid_slice}
 use Rattle.chunk_exec.proofs.compute.+compute.Goals as goal
 
 pub returns-in_ok-filter-in-Filter-clause-computed : goal.returns-in_ok-filter-in-Filter-clause-computed
@@ -82,3 +83,19 @@ returns-in_ok-slice_owned-in-Slice-clause-computed g t c =
     subst (λ (z : Query). IsComputed old new z made) (sym is)
     (computed_slice old new c.deref-in-Slice.result.now c.in-Slice.fixed array made c.in_ok-array-in-Slice.ensures.computed
     (subst (λ (z : List Fixed). Is made (slice_meant z (meant_by_cores array))) c.as_slice-in-Slice.ensures c.in_ok-slice_owned-in-Slice.ensures.array))
+
+pub subarray_owned-requires-clause-valid : goal.subarray_owned-requires-clause-valid
+subarray_owned-requires-clause-valid g t c =
+    let old = g.S.ChunkSource.state c.args.source.now in
+    let query = subarray c.deref-in-Subarray.result.now c.in-Subarray.area in
+    let is : c.args.plan.now ≡ query = first_of (search rules, cc, grind (arith, common_steps)) in
+    valid_subarray old c.deref-in-Subarray.result.now c.in-Subarray.area c.in_ok-array-in-Subarray.array.schema (subst (CanCompute old) is c.requires) c.in_ok-array-in-Subarray.ensures.computed.schema_is
+
+pub slice_owned-requires-clause-valid : goal.slice_owned-requires-clause-valid
+slice_owned-requires-clause-valid g t c =
+    let old = g.S.ChunkSource.state c.args.source.now in
+    let query = sliced c.deref-in-Slice.result.now c.in-Slice.fixed in
+    let is : c.args.plan.now ≡ query = first_of (search rules, cc, grind (arith, common_steps)) in
+    let array = c.in_ok-array-in-Slice.array in
+    subst (λ (z : List Fixed). IsValid (slice_schema z array.schema)) (sym c.as_slice-in-Slice.ensures)
+    (valid_slice old c.deref-in-Slice.result.now c.in-Slice.fixed array.schema (subst (CanCompute old) is c.requires) c.in_ok-array-in-Slice.ensures.computed.schema_is)
