@@ -1,6 +1,6 @@
 -- What operators make of the arrays of plans.
-use Rattle.std.proofs.Common.{◌≡◌, ℕ, suc, zero, ◌≤◌, ◌^◌, ◌++◌, List, [], ◌∷◌, length, map, Option, Some, None, Ok, Err, Result, refl, sym, ap, ◌∙◌, subst}
-use Rattle.std.specs.Prelude.{IfOk, IfSome, IsTrue}
+use Rattle.std.proofs.Common.{◌≡◌, ℕ, suc, zero, ◌≤◌, ◌^◌, ◌++◌, List, [], length, map, Option, Some, None, Ok, Err, Result, refl, sym, ap, ◌∙◌, subst}
+use Rattle.std.specs.Prelude.{IfOk, IfSome, OnOk}
 use Rattle.std.specs.List.{AllByRecursion}
 use Rattle.std.proofs.lemmas.List.{append-nil}
 use Rattle.cell_values.specs.declared.memory.Memory.{Memory}
@@ -45,10 +45,10 @@ use Rattle.chunk_exec.specs.Computed.{CanCompute, IsComputed, IsGiven}
 -- ---- rows of the schemas of plans
 
 -- a stored array of these rows
-told_as : List Row → Database
+abbrev told_as : List Row → Database
 told_as rows name version = rows
 
-leaf_of : Schema → Leaf
+abbrev leaf_of : Schema → Leaf
 leaf_of schema = record { name = []; version = suc zero; schema = schema }
 
 gives_filter : (source : Query) (test : Expr) → IsTyped (filtered source test) → GivesRows (filter_rows test) (schema_of source) (schema_of (filtered source test))
@@ -190,7 +190,7 @@ computed_slice old new source fixed array made is part = record {
 
 -- ---- leaves, and arrays that are given in the plan
 
-pub computed_scan : (old new : SourceState) (leaf : Leaf) (array : ChunkedArray) → array.schema ≡ leaf.schema → HavePlaces array.schema array.margins.items array.chunks → AllByRecursion (IsChunk array.schema array.margins.items) array.chunks
+computed_scan : (old new : SourceState) (leaf : Leaf) (array : ChunkedArray) → array.schema ≡ leaf.schema → HavePlaces array.schema array.margins.items array.chunks → AllByRecursion (IsChunk array.schema array.margins.items) array.chunks
     → IfSome old.told (λ db. Is array (whole leaf.schema (version_rows db leaf.name leaf.version))) → new.asked ≡ old.asked ++ map (asks 0) (chunks_listed old leaf) → IsComputed old new (scanned leaf) array
 computed_scan old new leaf array s places valid t a = record {
   schema_is = s;
@@ -198,6 +198,12 @@ computed_scan old new leaf array s places valid t a = record {
   means = t;
   asked = a ∙ ap (λ (z : List Asked). old.asked ++ z) (sym (append-nil (map (asks 0) (chunks_listed old leaf))));
 }
+
+pub scan_computed : (answer : Result ChunkedArray ExecFault) (old new : SourceState) (leaf : Leaf) → IfOk answer (λ array. array.schema ≡ leaf.schema) → IfOk answer (λ array. HavePlaces array.schema array.margins.items array.chunks)
+    → IfOk answer (λ array. AllByRecursion (IsChunk array.schema array.margins.items) array.chunks) → IfOk answer (λ array. IfSome old.told (λ db. Is array (whole leaf.schema (version_rows db leaf.name leaf.version))))
+    → OnOk answer (new.asked ≡ old.asked ++ map (asks 0) (chunks_listed old leaf)) → IfOk answer (IsComputed old new (scanned leaf))
+scan_computed (Err fault) old new leaf s places valid t a = tt
+scan_computed (Ok array) old new leaf s places valid t a = computed_scan old new leaf array s places valid t a
 
 given : (told : Option Database) (query : Query) (array : ChunkedArray) (meant : Meant) → ((db : Database) → meaning db query ≡ meant) → Is array meant → IfSome told (λ db. Is array (meaning db query))
 given None query array meant e is = tt

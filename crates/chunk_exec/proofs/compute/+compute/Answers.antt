@@ -1,5 +1,6 @@
 use Rattle.std.proofs.Common.{◌≡◌, List, refl, sym, subst, rules, arith}
 use Rattle.std.proofs.lemmas.Grind.{common_steps}
+use Rattle.std.specs.Prelude.{IfOk}
 use Rattle.array_cores.specs.Cores.{meant_by_cores}
 use Rattle.array_geom.specs.Link.{Is}
 use Rattle.array_ops.specs.Made.{IsMadeOf}
@@ -9,9 +10,10 @@ use Rattle.array_rows.specs.Boxes.{within}
 use Rattle.logical_plan.specs.CellOps.{filter_rows, apply_rows, project_rows}
 use Rattle.cell_values.specs.Schemas.{IsValid}
 use Rattle.logical_plan.specs.PlanSchema.{schema_of, slice_schema}
-use Rattle.logical_plan.specs.Query.{Query, filtered, applied, projected, between, subarray, sliced}
+use Rattle.logical_plan.proofs.SchemaLaws.{typed_valid}
+use Rattle.logical_plan.specs.Query.{Query, scanned, filtered, applied, projected, between, subarray, sliced}
 use Rattle.chunk_exec.specs.Computed.{CanCompute, IsComputed}
-use Rattle.chunk_exec.proofs.ComputedLaws.{computed_filter, computed_apply, computed_project, computed_between, computed_subarray, computed_slice, valid_subarray, valid_slice}
+use Rattle.chunk_exec.proofs.ComputedLaws.{computed_filter, computed_apply, computed_project, computed_between, computed_subarray, computed_slice, scan_computed, valid_subarray, valid_slice}
 use Rattle.chunk_exec.proofs.compute.+compute.Goals as goal
 
 pub returns-in_ok-filter-in-Filter-clause-computed : goal.returns-in_ok-filter-in-Filter-clause-computed
@@ -99,3 +101,19 @@ slice_owned-requires-clause-valid g t c =
     let array = c.in_ok-array-in-Slice.array in
     subst (λ (z : List Fixed). IsValid (slice_schema z array.schema)) (sym c.as_slice-in-Slice.ensures)
     (valid_slice old c.deref-in-Slice.result.now c.in-Slice.fixed array.schema (subst (CanCompute old) is c.requires) c.in_ok-array-in-Slice.ensures.computed.schema_is)
+
+pub filter-requires-clause-valid : goal.filter-requires-clause-valid
+filter-requires-clause-valid g t c = typed_valid c.args.plan.now c.requires.typed
+
+pub between-requires-clause-valid : goal.between-requires-clause-valid
+between-requires-clause-valid g t c = typed_valid c.args.plan.now c.requires.typed
+
+pub returns-in-Scan-clause-computed : goal.returns-in-Scan-clause-computed
+returns-in-Scan-clause-computed g t c =
+    let old = g.S.ChunkSource.state c.args.source.now in
+    let new = g.S.ChunkSource.state c.read_leaf.new.source in
+    let query = scanned c.in-Scan.leaf in
+    let is : c.args.plan.now ≡ query = first_of (search rules, cc, grind (arith, common_steps)) in
+    let ensures = c.read_leaf.ensures in
+    subst (λ (z : Query). IfOk c.read_leaf.result (IsComputed old new z)) (sym is)
+    (scan_computed c.read_leaf.result old new c.in-Scan.leaf ensures.schema ensures.placed ensures.valid ensures.told ensures.asked)
