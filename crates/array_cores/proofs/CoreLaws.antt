@@ -10,19 +10,18 @@ use Rattle.cell_values.specs.declared.schema.Bounds.{Bounds}
 use Rattle.cell_values.specs.declared.schema.Dimension.{Dimension}
 use Rattle.cell_values.specs.declared.schema.Schema.{Schema}
 use Rattle.cell_values.specs.Cells.{IsCellOf}
-use Rattle.array_rows.specs.Arrays.{AreRowsOf, Meant}
+use Rattle.array_rows.specs.Arrays.{AreRowsOf}
 use Rattle.array_rows.specs.Boxes.{is_inside, bounds_of, within}
 use Rattle.array_rows.specs.Rows.{IsRising, put_all, put_by, put_row, row_major}
 use Rattle.array_rows.proofs.RowSets.{IsRising-put_all, IsRising-rows_where}
 use Rattle.array_geom.specs.declared.chunk.Chunk.{Chunk}
 use Rattle.array_geom.specs.declared.chunk.ChunkedArray.{ChunkedArray}
 use Rattle.array_geom.specs.Geometry.{core, frame}
-use Rattle.array_geom.specs.Link.{HoldsResult, HoldsRows, Is, IsPart, chunk_rows, core_rows}
+use Rattle.array_geom.specs.Link.{HoldsResult, HoldsRows, IsPart, chunk_rows, core_rows}
 use Rattle.array_geom.proofs.LinkLaws.{chunks_have_their_rows}
-use Rattle.array_parts.specs.Placed.{HavePlaces}
 use Rattle.array_parts.proofs.LawProofs.{held_rows_placed}
 use Rattle.array_parts.proofs.PartLemmas.{all_kept}
-use Rattle.array_cores.specs.Cores.{HaveCells, HasCells, cores_of, meant_by_cores, unless_broken}
+use Rattle.array_cores.specs.Cores.{HaveCells, cores_of, unless_broken}
 use Rattle.array_cores.specs.Laws.{ArraysAreTheirCores, ArraysHaveCells, CoresAreRows}
 
 -- ---- what holds of each row of the cores
@@ -107,5 +106,5 @@ its_rows schema array (Err broken) h = ap (λ b. unless_broken b (core_rows sche
 pub arrays_are_their_cores : ArraysAreTheirCores
 arrays_are_their_cores array meant is =
     let rows : unless_broken array.broken (cores_of array) ≡ meant.rows =
-        ap (λ (s : Schema). unless_broken array.broken (core_rows s.dimensions array.margins.items array.chunks)) is.schema ∙ its_rows meant.schema array meant.rows is.cells in
+    ap (λ (s : Schema). unless_broken array.broken (core_rows s.dimensions array.margins.items array.chunks)) is.schema ∙ its_rows meant.schema array meant.rows is.cells in
     λ i. record { schema = is.schema i; rows = rows i }

@@ -21,7 +21,6 @@ use Rattle.array_geom.specs.Link.{chunk_rows, rows_in}
 use Rattle.array_geom.specs.Ranges.{AreLengths}
 use Rattle.array_geom.proofs.NearLemmas.{as_many, some_places, valid_placed}
 use Rattle.array_geom.proofs.PlaceLaws.{some}
-use Rattle.array_cores.specs.Cores.{HaveCells}
 use Rattle.array_cores.specs.Laws.{ValidChunksHaveCells}
 
 -- ---- the order of coordinates

@@ -1,5 +1,5 @@
 -- An array made of the rows of another one means what the operator makes of that one's meaning.
-use Rattle.std.proofs.Common.{◌≡◌, ℕ, suc, ◌≤◌, ◌^◌, List, [], ◌∷◌, map, length, Some, None, Result, Ok, Err, refl, sym, ap, subst, ◌∙◌, arith}
+use Rattle.std.proofs.Common.{◌≡◌, ℕ, suc, ◌≤◌, ◌^◌, List, [], ◌∷◌, length, Some, None, Result, Ok, Err, refl, sym, ap, subst, ◌∙◌, arith}
 use Rattle.std.specs.Prelude.{◌&&◌, IfOk}
 use Rattle.cell_values.specs.declared.datum.Broken.{Broken}
 use Rattle.cell_values.specs.declared.datum.Row.{Row}
@@ -64,7 +64,7 @@ pub means_whole : (schema_of : Schema → Schema) (rows_of : Schema → List Row
     → array.broken ≡ None → schema ≡ schema_of array.schema → new ≡ rows_of array.schema (cores_of array) → meant_of schema (Ok new) ≡ made schema_of rows_of (meant_by_cores array)
 means_whole schema_of rows_of array schema new none e m =
     let rows : Ok new ≡ if_whole (rows_of array.schema) (unless_broken array.broken (cores_of array)) =
-        ap (λ (z : List Row). Ok z) m ∙ ap (λ b. if_whole (rows_of array.schema) (unless_broken b (cores_of array))) (sym none) in
+    ap (λ (z : List Row). Ok z) m ∙ ap (λ b. if_whole (rows_of array.schema) (unless_broken b (cores_of array))) (sym none) in
     λ i. meant_of (e i) (rows i)
 
 pub means_broken : (schema_of : Schema → Schema) (rows_of : Schema → List Row → List Row) (array : ChunkedArray) (schema : Schema) (broken : Broken)

@@ -13,7 +13,6 @@ use Rattle.cell_values.specs.declared.schema.Dimension.{Dimension}
 use Rattle.cell_values.specs.declared.schema.Schema.{Schema}
 use Rattle.cell_values.specs.Cells.{IsCellOf}
 use Rattle.cell_values.specs.Schemas.{IsValid}
-use Rattle.array_rows.specs.Arrays.{AreRowsOf}
 use Rattle.array_rows.specs.Boxes.{is_between, is_inside, by_pairs, meet, moved, bounds_of, within}
 use Rattle.array_rows.specs.Rows.{Coordinate, row_major}
 use Rattle.array_rows.proofs.RowSets.{IsRising-rows_where}

@@ -2,7 +2,7 @@
 use Rattle.std.proofs.Common.{◌≡◌, refl, sym, subst}
 use Rattle.logical_plan.specs.Query.{Query}
 use Rattle.plan_rows.specs.Found.{CanAnswer}
-use Rattle.part_example.specs.Example.{line, part}
+use Rattle.part_tests.specs.Example.{line, part}
 
 pub part_answers : (query : Query) → query ≡ part → CanAnswer query
 part_answers query e = subst CanAnswer (sym e) (record { now = refl; typed = ((refl, refl), refl, refl); unread = refl })

@@ -1,7 +1,7 @@
 //! The rows of a part and of a slice, where memory is there.
 ghost use Rattle.std.specs.Prelude.{◌≡◌, IfOk};
 ghost use Rattle.plan_rows.specs.Found.{CanAnswer};
-ghost use Rattle.part_example.specs.Example.{line, lower_left, numbers, part, square, tens, three};
+ghost use Rattle.part_tests.specs.Example.{line, lower_left, numbers, part, square, tens, three};
 
 use cell_values::{
     Attribute, Bounds, Bytes, Datum, Dimension, Kind, List, Memory, Name, Schema, coord_of,
@@ -108,7 +108,10 @@ fn text(alloc: Global, plan: &Plan) -> Result<Bytes, Memory>
 fn a_part_begins_at_zero(rt: HostRuntime) -> Result<(), Fail> {
     let alloc = rt.alloc();
     let text = text(alloc, &part(alloc)?)?;
-    assert_eq!(rt; text.as_slice(), b"{x,y} v\n{0,0} 10\n{0,1} 11\n{1,0} 20\n{1,1} 21\n".as_slice());
+    assert_eq!(rt;
+        text.as_slice(),
+        b"{x,y} v\n{0,0} 10\n{0,1} 11\n{1,0} 20\n{1,1} 21\n".as_slice()
+    );
     Ok(())
 }
 
@@ -117,6 +120,9 @@ fn a_part_begins_at_zero(rt: HostRuntime) -> Result<(), Fail> {
 fn a_slice_has_a_dimension_less(rt: HostRuntime) -> Result<(), Fail> {
     let alloc = rt.alloc();
     let text = text(alloc, &line(alloc)?)?;
-    assert_eq!(rt; text.as_slice(), b"{y} v\n{0} 10\n{1} 11\n{2} 12\n".as_slice());
+    assert_eq!(rt;
+        text.as_slice(),
+        b"{y} v\n{0} 10\n{1} 11\n{2} 12\n".as_slice()
+    );
     Ok(())
 }
