@@ -1,4 +1,4 @@
-//! Parts and slices of a computed array: what they print.
+//! Parts and slices of a computed array: which rows they have.
 #![tactic(auto)]
 
 #[cfg(test)]

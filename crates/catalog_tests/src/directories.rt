@@ -1,8 +1,8 @@
 ghost use Rattle.std.specs.Prelude.{◌≡◌, [], ◌∷◌, IfOk};
 ghost use Rattle.chunk_map.specs.Entries.{AreRising};
 
-use super::*;
 use cell_values::{ChunkAt, List, Memory};
+use chunk_map::*;
 use std::alloc::Global;
 use std::test::*;
 

@@ -1,0 +1,5 @@
+//! Directories of chunks.
+#![tactic(auto)]
+
+#[cfg(test)]
+mod directories;
