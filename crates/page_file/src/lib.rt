@@ -6,4 +6,3 @@ mod file;
 
 pub use file::PageFile;
 pub use page_chain::{BlobFault, OpenCause};
-pub use page_open::OpenFault;

@@ -5,4 +5,3 @@ mod opening;
 mod reads;
 
 pub use opening::open_slots;
-pub use reads::OpenFault;

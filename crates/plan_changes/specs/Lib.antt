@@ -1,4 +1,5 @@
 pub mod Allowed
 pub mod Changes
 pub mod Databases
+pub mod Stored
 pub mod Typed

@@ -1,0 +1,5 @@
+pub mod Best
+pub mod Laws
+pub mod Merged
+pub mod Stands
+pub mod Summary

@@ -1,0 +1,7 @@
+//! Aggregates and joins of a few cells.
+#![tactic(auto)]
+
+#[cfg(test)]
+mod joins;
+#[cfg(test)]
+mod states;
