@@ -2,7 +2,8 @@
 ghost use Rattle.std.specs.Prelude.{◌≡◌, IfOk};
 ghost use Rattle.cell_values.specs.Schemas.{IsValid};
 ghost use Rattle.array_rows.specs.Boxes.{within};
-ghost use Rattle.array_ops.specs.Made.{IsMadeOf, IsWhole};
+ghost use Rattle.array_cores.specs.Cores.{HasCells};
+ghost use Rattle.array_ops.specs.Made.{IsMadeOf};
 
 use crate::made::over_array;
 use array_geom::{Chunk, ChunkedArray};
@@ -26,7 +27,7 @@ impl ChunkOperator for Cut<'_> {
 
 /// The cells in a box.
 pub fn between(array: ChunkedArray, schema: Schema, area: &Bounds) -> Result<ChunkedArray, Memory>
-    requires whole { IsWhole array }
+    requires cells { HasCells array }
     requires valid { IsValid schema }
     requires dimensions { schema.dimensions ≡ array.schema.dimensions }
     ensures { IfOk result (IsMadeOf (within area.now) schema array) }

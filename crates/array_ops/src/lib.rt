@@ -1,6 +1,7 @@
 //! Arrays through the operators that work chunk by chunk.
 #![tactic(auto)]
 
+mod chunks;
 mod cut;
 mod made;
 

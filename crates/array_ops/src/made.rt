@@ -1,20 +1,22 @@
-//! Whole arrays through an operator.
+//! Arrays through an operator.
 ghost use Rattle.std.specs.Prelude.{◌≡◌, IfOk};
 ghost use Rattle.cell_values.specs.Schemas.{IsValid};
+ghost use Rattle.array_cores.specs.Cores.{HasCells};
 ghost use Rattle.array_parts.specs.Parts.{IsLocal};
-ghost use Rattle.array_ops.specs.Made.{IsMadeOf, IsWhole};
+ghost use Rattle.array_ops.specs.Made.{IsMadeOf};
 
+use crate::chunks::over_chunks;
 use array_geom::ChunkedArray;
-use array_parts::{ChunkOperator, over_chunks};
+use array_parts::ChunkOperator;
 use cell_values::{Memory, Schema};
 
-/// What an operator makes of an array: an array of this schema, which has the same dimensions.
+/// What an operator makes of an array: an array of this schema, which has the same dimensions. A broken array stays broken.
 pub fn over_array<O: ChunkOperator>(
     array: ChunkedArray,
     schema: Schema,
     operator: &O,
 ) -> Result<ChunkedArray, Memory>
-    requires whole { IsWhole array }
+    requires cells { HasCells array }
     requires valid { IsValid schema }
     requires dimensions { schema.dimensions ≡ array.schema.dimensions }
     requires local { IsLocal (O.operator operator.now) }
@@ -24,13 +26,23 @@ pub fn over_array<O: ChunkOperator>(
         schema: old,
         margins,
         chunks,
-        broken: _,
+        broken,
     } = array;
-    let chunks = over_chunks(&old, &margins, chunks, operator)?;
-    Ok(ChunkedArray {
-        schema,
-        margins,
-        chunks,
-        broken: None,
-    })
+    match broken {
+        Some(broken) => Ok(ChunkedArray {
+            schema,
+            margins,
+            chunks: chunks.another(),
+            broken: Some(broken),
+        }),
+        None => {
+            let chunks = over_chunks(&old, &margins, chunks, operator)?;
+            Ok(ChunkedArray {
+                schema,
+                margins,
+                chunks,
+                broken: None,
+            })
+        }
+    }
 }
