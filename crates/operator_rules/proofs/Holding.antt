@@ -1,5 +1,5 @@
 -- What holds of each plan that passes the rules that operators share.
-use Rattle.std.proofs.Common.{◌≡◌, ◌≤◌, true, length, Option, Some, None, IfOk, refl}
+use Rattle.std.proofs.Common.{◌≡◌, ◌≤◌, true, length, Option, Some, None, IfOk, List, refl}
 use Rattle.std.specs.Prelude.{nat_le}
 use Rattle.std.proofs.lemmas.Bool.{leb-true}
 use Rattle.cell_values.specs.declared.name.Span.{Span}

@@ -1,5 +1,5 @@
 -- Arguments in turn: one step, and what holds of all that is done.
-use Rattle.std.proofs.Common.{◌≡◌, ℕ, suc, ◌+◌, ◌<◌, IfOk, Ok, subst, List, [], ◌∷◌, ◌++◌, length, drop, slice_index_or, ap, ◌∙◌, arith}
+use Rattle.std.proofs.Common.{◌≡◌, ℕ, suc, ◌+◌, ◌<◌, IfOk, Ok, subst, List, [], ◌∷◌, ◌++◌, length, drop, slice_index_or, refl, ap, ◌∙◌, arith}
 use Rattle.std.specs.List.{AllByRecursion}
 use Rattle.std.proofs.Math.Seq.{drop-cons}
 use Rattle.std.proofs.lemmas.List.{length-append}

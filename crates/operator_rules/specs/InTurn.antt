@@ -1,5 +1,5 @@
 -- Arguments that are checked in turn, each beside what those before it are.
-use Rattle.std.specs.Prelude.{ℕ, not, ◌==◌, Option, Some, None, Ok, List, [], ◌∷◌, ◌++◌}
+use Rattle.std.specs.Prelude.{ℕ, Bool, not, ◌==◌, Option, Some, None, Ok, List, [], ◌∷◌, ◌++◌}
 use Rattle.std.specs.List.{list_any}
 use Rattle.cell_values.specs.declared.name.Span.{Span}
 use Rattle.schema_grammar.specs.declared.kinds.TypeKind.TheVariants.{UnknownName, RepeatedName}
