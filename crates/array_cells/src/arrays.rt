@@ -1,8 +1,7 @@
 //! Whole arrays through the operators.
 ghost use Rattle.std.specs.Prelude.{◌≡◌, IfOk};
 ghost use Rattle.cell_values.specs.Schemas.{IsValid};
-ghost use Rattle.array_cores.specs.Cores.{HasCells};
-ghost use Rattle.array_ops.specs.Made.{IsMadeOf};
+ghost use Rattle.array_ops.specs.Made.{IsMadeOf, IsWhole};
 ghost use Rattle.logical_plan.specs.CellOps.{filter_rows, apply_rows, project_rows};
 
 use crate::operators::{Apply, Filter, Project};
@@ -14,7 +13,7 @@ use logical_plan::Applied;
 
 /// The cells where the test is true, and those that it leaves in doubt.
 pub fn filter(array: ChunkedArray, schema: Schema, test: &TypedExpr) -> Result<ChunkedArray, Memory>
-    requires cells { HasCells array }
+    requires whole { IsWhole array }
     requires valid { IsValid schema }
     requires dimensions { schema.dimensions ≡ array.schema.dimensions }
     ensures { IfOk result (IsMadeOf (filter_rows test.now) schema array) }
@@ -28,7 +27,7 @@ pub fn apply(
     schema: Schema,
     values: &[Applied],
 ) -> Result<ChunkedArray, Memory>
-    requires cells { HasCells array }
+    requires whole { IsWhole array }
     requires valid { IsValid schema }
     requires dimensions { schema.dimensions ≡ array.schema.dimensions }
     ensures { IfOk result (IsMadeOf (apply_rows values.now) schema array) }
@@ -38,7 +37,7 @@ pub fn apply(
 
 /// The values at these places.
 pub fn project(array: ChunkedArray, schema: Schema, places: &[u32]) -> Result<ChunkedArray, Memory>
-    requires cells { HasCells array }
+    requires whole { IsWhole array }
     requires valid { IsValid schema }
     requires dimensions { schema.dimensions ≡ array.schema.dimensions }
     ensures { IfOk result (IsMadeOf (project_rows places.now) schema array) }

@@ -1,32 +1,19 @@
 -- The array that an operator makes.
-use Rattle.std.proofs.Common.{◌≡◌, ℕ, ◌≤◌, ◌^◌, List, [], ◌∷◌, length, filter, None, Result, Ok, Err, refl, sym, ap, ◌∙◌, subst}
-use Rattle.std.specs.List.{AllByRecursion, AllZip}
-use Rattle.std.specs.Prelude.{IfOk}
+use Rattle.std.proofs.Common.{◌≡◌, ℕ, ◌≤◌, ◌^◌, List, [], ◌∷◌, length, None, sym, ap, ◌∙◌, subst}
+use Rattle.std.specs.List.{AllByRecursion}
 use Rattle.cell_values.specs.declared.datum.Row.{Row}
-use Rattle.cell_values.specs.declared.memory.Memory.{Memory}
 use Rattle.cell_values.specs.declared.schema.Dimension.{Dimension}
 use Rattle.cell_values.specs.declared.schema.Schema.{Schema}
 use Rattle.cell_values.specs.Schemas.{IsValid}
-use Rattle.array_rows.specs.Arrays.{AreRowsOf}
 use Rattle.array_geom.specs.declared.chunk.Chunk.{Chunk}
 use Rattle.array_geom.specs.declared.chunk.ChunkedArray.{ChunkedArray}
 use Rattle.array_geom.specs.Geometry.{has_core, frame_lengths, volume}
-use Rattle.array_geom.specs.Link.{AreChunksOf, chunk_rows}
-use Rattle.chunk_change.specs.Made.{IsMadeBy, IsPlaced}
-use Rattle.array_parts.specs.Parts.{IsLocal, holds_cell}
+use Rattle.array_geom.specs.Link.{AreChunksOf}
+use Rattle.chunk_change.specs.Made.{IsPlaced}
 use Rattle.array_parts.specs.Placed.{HasPlaces, HavePlaces}
-use Rattle.array_parts.proofs.HeldLemmas.{places_made}
-use Rattle.array_parts.proofs.PartLemmas.{all_kept, chunks_are_parts, held_are_chunks, made_are_parts}
-use Rattle.array_cores.specs.Cores.{HasCells, HaveCells}
-use Rattle.array_ops.specs.Made.{AreMadeOf, GivesRows, IsMadeOf}
+use Rattle.array_ops.specs.Made.{IsMadeOf}
 
-pub made_and_held : (operator : List Row → List Row) (dims : List Dimension) (margins : List ℕ) (old made : List Chunk) (answer : Result (List Chunk) Memory) → AllZip (IsMadeBy operator dims margins) old made
-    → IfOk answer (λ kept. kept ≡ filter (holds_cell dims margins) made) → IfOk answer (AreMadeOf operator dims margins old)
-made_and_held operator dims margins old made (Err memory) each held = held
-made_and_held operator dims margins old made (Ok kept) each held = record { made = made; each = each; held = held }
-
--- ---- schemas of the same dimensions give chunks the same places
-
+-- schemas of the same dimensions give chunks the same places
 all_places : (a b : Schema) (margins : List ℕ) (chunks : List Chunk) → a.dimensions ≡ b.dimensions → IsValid b → AllByRecursion (HasPlaces a margins) chunks → AllByRecursion (HasPlaces b margins) chunks
 all_places a b margins [] e valid h = tt
 all_places a b margins (chunk ∷ chunks) e valid h = (
@@ -50,49 +37,16 @@ places_over a b margins chunks e valid h = record {
   all = all_places a b margins chunks e valid h.all;
 }
 
--- ---- what is made of chunks with cells
-
-module _ (operator : List Row → List Row) (from to : Schema) (margins : List ℕ) (dims : to.dimensions ≡ from.dimensions) where
-  rows_made : (old made : List Chunk) → GivesRows operator from to → AllByRecursion (λ chunk. AreRowsOf from (chunk_rows from.dimensions margins chunk)) old
-      → AllZip (IsMadeBy operator from.dimensions margins) old made → AllByRecursion (λ chunk. AreRowsOf to (chunk_rows to.dimensions margins chunk)) made
-  rows_made [] [] gives h a = tt
-  rows_made [] (n ∷ made) gives h a = absurd a
-  rows_made (o ∷ old) [] gives h a = absurd a
-  rows_made (o ∷ old) (n ∷ made) gives h a = (
-    subst (λ (z : List Dimension). AreRowsOf to (chunk_rows z margins n)) (sym dims) (subst (AreRowsOf to) (sym a.0.rows) (gives (chunk_rows from.dimensions margins o) h.0)),
-    rows_made old made gives h.1 a.1,
-  )
-
-  cells_made : (old new : List Chunk) → IsValid to → GivesRows operator from to → HaveCells from margins old → AreMadeOf operator from.dimensions margins old new → HaveCells to margins new
-  cells_made old new valid gives h m =
-      let places : HavePlaces from margins m.made = places_made operator from margins old m.made h.placed m.each in
-      subst (HaveCells to margins) (sym m.held) (record {
-        placed = places_over from to margins (filter (holds_cell from.dimensions margins) m.made) (sym dims) valid (record {
-          valid = places.valid;
-          each = places.each;
-          places = places.places;
-          all = all_kept (HasPlaces from margins) (holds_cell from.dimensions margins) m.made places.all;
-        });
-        rows_of = all_kept (λ chunk. AreRowsOf to (chunk_rows to.dimensions margins chunk)) (holds_cell from.dimensions margins) m.made (rows_made old m.made gives h.rows_of m.each);
-      })
-
-  chunks_made : (old new : List Chunk) (rows : List Row) → IsLocal operator → length margins ≡ length from.dimensions → AreMadeOf operator from.dimensions margins old new
-      → AreChunksOf to.dimensions margins rows old → AreChunksOf to.dimensions margins (operator rows) new
-  chunks_made old new rows local n m are =
-      let before : AreChunksOf from.dimensions margins rows old = subst (λ (z : List Dimension). AreChunksOf z margins rows old) dims are in
-      subst (λ (z : List Dimension). AreChunksOf z margins (operator rows) new) (sym dims)
-      (subst (AreChunksOf from.dimensions margins (operator rows)) (sym m.held)
-      (held_are_chunks from.dimensions margins (operator rows) m.made
-      (made_are_parts operator from.dimensions margins rows old m.made local (chunks_are_parts from.dimensions margins rows old before) m.each) n))
-
--- ---- arrays
-
-pub made_whole : (operator : List Row → List Row) (schema : Schema) (array : ChunkedArray) (chunks : List Chunk) → HasCells array → IsValid schema → schema.dimensions ≡ array.schema.dimensions → IsLocal operator → array.broken ≡ None
-    → AreMadeOf operator array.schema.dimensions array.margins.items array.chunks chunks → IsMadeOf operator schema array (record { schema = schema; margins = array.margins; chunks = chunks; broken = None })
-made_whole operator schema array chunks has valid dims local none made = record {
-  schema_is = refl;
-  margins = refl;
-  broken = sym none;
-  cells = λ gives whole. cells_made operator array.schema schema array.margins.items dims array.chunks chunks valid gives (has none) made;
-  chunks = λ whole rows are. chunks_made operator array.schema schema array.margins.items dims array.chunks chunks rows local (has none).placed.each made are;
+pub made_of : (operator : List Row → List Row) (schema : Schema) (array new : ChunkedArray) → new.schema ≡ schema → new.margins ≡ array.margins → new.broken ≡ None → IsValid schema → schema.dimensions ≡ array.schema.dimensions
+    → HavePlaces array.schema array.margins.items new.chunks
+    → ((rows : List Row) → AreChunksOf array.schema.dimensions array.margins.items rows array.chunks → AreChunksOf array.schema.dimensions array.margins.items (operator rows) new.chunks)
+    → IsMadeOf operator schema array new
+made_of operator schema array new s m b valid d placed chunks = record {
+  schema_is = s;
+  margins = m;
+  whole = b;
+  placed = subst (λ z. HavePlaces schema z.items new.chunks) (sym m) (places_over array.schema schema array.margins.items new.chunks (sym d) valid placed);
+  chunks = λ rows h.
+      subst (λ z. AreChunksOf schema.dimensions z.items (operator rows) new.chunks) (sym m) (subst (λ (z : List Dimension). AreChunksOf z array.margins.items (operator rows) new.chunks) (sym d)
+      (chunks rows (subst (λ (z : List Dimension). AreChunksOf z array.margins.items rows array.chunks) d (subst (λ z. AreChunksOf schema.dimensions z.items rows array.chunks) m h))));
 }

@@ -2,8 +2,7 @@
 ghost use Rattle.std.specs.Prelude.{◌≡◌, IfOk};
 ghost use Rattle.cell_values.specs.Schemas.{IsValid};
 ghost use Rattle.array_rows.specs.Boxes.{within};
-ghost use Rattle.array_cores.specs.Cores.{HasCells};
-ghost use Rattle.array_ops.specs.Made.{IsMadeOf};
+ghost use Rattle.array_ops.specs.Made.{IsMadeOf, IsWhole};
 
 use crate::made::over_array;
 use array_geom::{Chunk, ChunkedArray};
@@ -27,7 +26,7 @@ impl ChunkOperator for Cut<'_> {
 
 /// The cells in a box.
 pub fn between(array: ChunkedArray, schema: Schema, area: &Bounds) -> Result<ChunkedArray, Memory>
-    requires cells { HasCells array }
+    requires whole { IsWhole array }
     requires valid { IsValid schema }
     requires dimensions { schema.dimensions ≡ array.schema.dimensions }
     ensures { IfOk result (IsMadeOf (within area.now) schema array) }

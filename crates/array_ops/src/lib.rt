@@ -1,7 +1,6 @@
 //! Arrays through the operators that work chunk by chunk.
 #![tactic(auto)]
 
-mod chunks;
 mod cut;
 mod made;
 

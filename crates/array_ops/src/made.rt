@@ -1,22 +1,20 @@
-//! Arrays through an operator.
+//! Whole arrays through an operator.
 ghost use Rattle.std.specs.Prelude.{◌≡◌, IfOk};
 ghost use Rattle.cell_values.specs.Schemas.{IsValid};
-ghost use Rattle.array_cores.specs.Cores.{HasCells};
 ghost use Rattle.array_parts.specs.Parts.{IsLocal};
-ghost use Rattle.array_ops.specs.Made.{IsMadeOf};
+ghost use Rattle.array_ops.specs.Made.{IsMadeOf, IsWhole};
 
-use crate::chunks::over_chunks;
 use array_geom::ChunkedArray;
-use array_parts::ChunkOperator;
+use array_parts::{ChunkOperator, over_chunks};
 use cell_values::{Memory, Schema};
 
-/// What an operator makes of an array: an array of this schema, which has the same dimensions. A broken array stays broken.
+/// What an operator makes of an array: an array of this schema, which has the same dimensions.
 pub fn over_array<O: ChunkOperator>(
     array: ChunkedArray,
     schema: Schema,
     operator: &O,
 ) -> Result<ChunkedArray, Memory>
-    requires cells { HasCells array }
+    requires whole { IsWhole array }
     requires valid { IsValid schema }
     requires dimensions { schema.dimensions ≡ array.schema.dimensions }
     requires local { IsLocal (O.operator operator.now) }
@@ -26,23 +24,13 @@ pub fn over_array<O: ChunkOperator>(
         schema: old,
         margins,
         chunks,
-        broken,
+        broken: _,
     } = array;
-    match broken {
-        Some(broken) => Ok(ChunkedArray {
-            schema,
-            margins,
-            chunks: chunks.another(),
-            broken: Some(broken),
-        }),
-        None => {
-            let chunks = over_chunks(&old, &margins, chunks, operator)?;
-            Ok(ChunkedArray {
-                schema,
-                margins,
-                chunks,
-                broken: None,
-            })
-        }
-    }
+    let chunks = over_chunks(&old, &margins, chunks, operator)?;
+    Ok(ChunkedArray {
+        schema,
+        margins,
+        chunks,
+        broken: None,
+    })
 }

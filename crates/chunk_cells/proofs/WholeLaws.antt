@@ -67,15 +67,11 @@ cores_rise schema array rows chunks same h = subst (CoresRise schema.dimensions 
       each xs parts.1,
     )
 
--- all chunks' cores are the array's
-pub all_cores : (array : ChunkedArray) (chunks : List Chunk) (count : ℕ) (rows : List Row) → chunks ≡ array.chunks → count ≡ length array.chunks → rows ≡ core_rows array.schema.dimensions array.margins.items (take count chunks) → rows ≡ core_rows array.schema.dimensions array.margins.items array.chunks
-all_cores array chunks count rows same long e =
-    let all : take count chunks ≡ array.chunks = ap (take count) same ∙ ap (λ (n : ℕ). take n array.chunks) long ∙ take_all (length array.chunks) array.chunks (omega arith) in
-    e ∙ ap (core_rows array.schema.dimensions array.margins.items) all
-
 -- the rows of its cores are those that it holds
-pub core_rows_held : (array : ChunkedArray) (rows held : List Row) → HoldsRows array.schema array held → rows ≡ core_rows array.schema.dimensions array.margins.items array.chunks → rows ≡ held
-core_rows_held array rows held h e = e ∙ chunks_have_their_rows array.schema array held h
+pub all_rows : (array : ChunkedArray) (chunks : List Chunk) (count : ℕ) (rows held : List Row) → chunks ≡ array.chunks → count ≡ length array.chunks → HoldsRows array.schema array held → rows ≡ core_rows array.schema.dimensions array.margins.items (take count chunks) → rows ≡ held
+all_rows array chunks count rows held same long h e =
+    let all : take count chunks ≡ array.chunks = ap (take count) same ∙ ap (λ (n : ℕ). take n array.chunks) long ∙ take_all (length array.chunks) array.chunks (omega arith) in
+    e ∙ ap (core_rows array.schema.dimensions array.margins.items) all ∙ chunks_have_their_rows array.schema array held h
 
 no_rows : (schema : Schema) (array : ChunkedArray) (rows : List Row) (r : Result (List Row) Broken) → array.broken ≡ None → HoldsResult schema array r → HoldsRows schema array rows → r ≡ Ok rows
 no_rows schema array rows (Ok rs) e h k = ap (λ (z : List Row). Ok z) (chunks_have_one_meaning schema array rs rows h k)

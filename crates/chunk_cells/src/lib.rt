@@ -8,4 +8,4 @@ mod whole;
 
 pub use chunk_build::assemble;
 pub use halos::{broken_array, with_halo};
-pub use whole::{into_core_rows, into_rows, rows};
+pub use whole::{into_rows, rows};

@@ -54,10 +54,10 @@ fn gather(
     merge(left, right)
 }
 
-/// The rows of all cores.
-fn gathered(array: ChunkedArray) -> Result<List<Row>, Memory>
+/// The rows of an array, whose cells are moved.
+pub fn into_rows(array: ChunkedArray) -> Result<List<Row>, Memory>
     requires { HavePlaces array.schema array.margins.items array.chunks }
-    ensures { CoresRise array.schema.dimensions array.margins.items array.chunks → IfOk result (λ rows. rows ≡ core_rows array.schema.dimensions array.margins.items array.chunks) }
+    ensures { (held : Items Placed) → HoldsRows array.schema array held → IfOk result (λ rows. rows ≡ held) }
 {
     let ChunkedArray {
         schema,
@@ -68,23 +68,6 @@ fn gathered(array: ChunkedArray) -> Result<List<Row>, Memory>
     let count = chunks.len();
     let mut chunks = chunks.into_vec().into_iter();
     gather(&schema, &margins, &mut chunks, count)
-}
-
-/// The rows of an array's cores, put together, whose cells are moved. The margins need not agree with them.
-pub fn into_core_rows(array: ChunkedArray) -> Result<List<Row>, Memory>
-    requires places { HavePlaces array.schema array.margins.items array.chunks }
-    requires rise { CoresRise array.schema.dimensions array.margins.items array.chunks }
-    ensures { IfOk result (λ rows. rows ≡ core_rows array.schema.dimensions array.margins.items array.chunks) }
-{
-    gathered(array)
-}
-
-/// The rows of an array, whose cells are moved.
-pub fn into_rows(array: ChunkedArray) -> Result<List<Row>, Memory>
-    requires { HavePlaces array.schema array.margins.items array.chunks }
-    ensures { (held : Items Placed) → HoldsRows array.schema array held → IfOk result (λ rows. rows ≡ held) }
-{
-    gathered(array)
 }
 
 /// The rows of an array, which stays.

@@ -10,7 +10,6 @@ use crate::steps::{apply, between, filter, project};
 use array_geom::ChunkedArray;
 use chunk_read::read_leaf;
 use chunk_source::ChunkSource;
-use exec_parts::{slice_owned, subarray_owned};
 use logical_plan::{Plan, PlanNode};
 use std::alloc::Global;
 
@@ -45,14 +44,6 @@ pub(crate) fn compute<S: ChunkSource>(
         PlanNode::Between(from, area) => {
             let array = compute(alloc, from, source)?;
             Ok(between(alloc, plan, array, area)?)
-        }
-        PlanNode::Subarray(from, area) => {
-            let array = compute(alloc, from, source)?;
-            Ok(subarray_owned(array, area)?)
-        }
-        PlanNode::Slice(from, fixed) => {
-            let array = compute(alloc, from, source)?;
-            Ok(slice_owned(array, fixed.as_slice())?)
         }
         _ => unreachable!(),
     }

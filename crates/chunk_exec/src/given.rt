@@ -2,6 +2,7 @@
 ghost use Rattle.std.specs.Prelude.{◌≡◌, IfOk};
 ghost use Rattle.array_rows.specs.Arrays.{AreRowsOf};
 ghost use Rattle.array_geom.specs.Link.{Is};
+ghost use Rattle.array_ops.specs.Made.{IsWhole};
 ghost use Rattle.logical_plan.specs.Meaning.{built_rows, whole};
 ghost use Rattle.logical_plan.specs.Query.{built};
 ghost use Rattle.logical_plan.specs.Typing.{IsTyped};

@@ -1,7 +1,6 @@
 //! The array of a plan.
 ghost use Rattle.std.specs.Prelude.{◌≡◌, ◌≤◌, ◌++◌, None, IfOk, OnOk, IfSome};
 ghost use Rattle.array_geom.specs.Link.{Is};
-ghost use Rattle.array_cores.specs.Cores.{HasCells};
 ghost use Rattle.array_parts.specs.Placed.{IsSound};
 ghost use Rattle.logical_plan.specs.Leaves.{leaves};
 ghost use Rattle.logical_plan.specs.Meaning.{meaning};
@@ -34,7 +33,6 @@ pub fn execute<S: ChunkSource, G: Gate>(
     requires workers { (1 ≤ workers) × (workers ≤ 64) }
     ensures schema { IfOk result (λ array. array.schema ≡ schema_of plan.now) }
     ensures sound { IfOk result IsSound }
-    ensures cells { IfOk result HasCells }
     ensures means { IfOk result (λ array. IfSome (S.state source.old).told (λ db. Is array (meaning db plan.now))) }
     ensures asked { OnOk result ((S.state source.new).asked ≡ (S.state source.old).asked ++ asked_of (S.state source.old) 0 (leaves plan.now)) }
     ensures kept { Keeps (S.state source.old) (S.state source.new) }

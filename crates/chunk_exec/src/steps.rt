@@ -2,8 +2,7 @@
 ghost use Rattle.std.specs.Prelude.{◌≡◌, IfOk};
 ghost use Rattle.cell_values.specs.Schemas.{IsValid};
 ghost use Rattle.array_rows.specs.Boxes.{within};
-ghost use Rattle.array_cores.specs.Cores.{HasCells};
-ghost use Rattle.array_ops.specs.Made.{IsMadeOf};
+ghost use Rattle.array_ops.specs.Made.{IsMadeOf, IsWhole};
 ghost use Rattle.logical_plan.specs.CellOps.{filter_rows, apply_rows, project_rows};
 ghost use Rattle.logical_plan.specs.PlanSchema.{schema_of};
 
@@ -20,7 +19,7 @@ pub(crate) fn filter(
     array: ChunkedArray,
     test: &TypedExpr,
 ) -> Result<ChunkedArray, Memory>
-    requires cells { HasCells array }
+    requires whole { IsWhole array }
     requires valid { IsValid (schema_of plan.now) }
     requires dimensions { (schema_of plan.now).dimensions ≡ array.schema.dimensions }
     ensures { IfOk result (IsMadeOf (filter_rows test.now) (schema_of plan.now) array) }
@@ -35,7 +34,7 @@ pub(crate) fn apply(
     array: ChunkedArray,
     values: &List<Applied>,
 ) -> Result<ChunkedArray, Memory>
-    requires cells { HasCells array }
+    requires whole { IsWhole array }
     requires valid { IsValid (schema_of plan.now) }
     requires dimensions { (schema_of plan.now).dimensions ≡ array.schema.dimensions }
     ensures { IfOk result (IsMadeOf (apply_rows values.now) (schema_of plan.now) array) }
@@ -50,7 +49,7 @@ pub(crate) fn project(
     array: ChunkedArray,
     places: &List<u32>,
 ) -> Result<ChunkedArray, Memory>
-    requires cells { HasCells array }
+    requires whole { IsWhole array }
     requires valid { IsValid (schema_of plan.now) }
     requires dimensions { (schema_of plan.now).dimensions ≡ array.schema.dimensions }
     ensures { IfOk result (IsMadeOf (project_rows places.now) (schema_of plan.now) array) }
@@ -65,7 +64,7 @@ pub(crate) fn between(
     array: ChunkedArray,
     area: &Bounds,
 ) -> Result<ChunkedArray, Memory>
-    requires cells { HasCells array }
+    requires whole { IsWhole array }
     requires valid { IsValid (schema_of plan.now) }
     requires dimensions { (schema_of plan.now).dimensions ≡ array.schema.dimensions }
     ensures { IfOk result (IsMadeOf (within area.now) (schema_of plan.now) array) }

@@ -1,21 +1,28 @@
 -- A directory that is read is spelled so, and what is spelled so is read.
 use Rattle.std.proofs.Common.{◌≡◌, ℕ, suc, ◌^◌, ◌<◌, true, nat_lt, List, ◌++◌, length, Option, Some, None, Result, Ok, Err, refl, sym, ap, subst, ◌∙◌}
-use Rattle.std.specs.Prelude.{◌==◌}
-use Rattle.std.specs.Int.{w64, to_le_bytes}
+use Rattle.std.specs.Prelude.{⊤, ◌==◌}
+use Rattle.std.specs.Int.{w32, w64, to_le_bytes}
 use Rattle.std.specs.List.{flat_map}
 use Rattle.byte_items.specs.Items.{number_at, item, repeat, counted, spell_counted, Are, AreCounted}
-use Rattle.byte_items.proofs.Laws.{AreBytes, Reads, exact64, number_reads, item_reads, then_reads, seen_reads, repeat_reads, counted_reads, whole_takes, whole_again}
+use Rattle.byte_items.proofs.Laws.{AreBytes, Reads, exact32, exact64, number_reads, item_reads, then_reads, seen_reads, repeat_reads, counted_reads, whole_takes, whole_again}
 use Rattle.chunk_map.specs.declared.directory.DirEntry.{DirEntry}
 use Rattle.chunk_map.specs.declared.directory.Directory.{Directory}
-use Rattle.page_items.specs.Pages.{positive_at, pages_at, spell_pages}
-use Rattle.page_items.proofs.Laws.{IsPositive, ArePages, positive_reads, pages_reads}
-use Rattle.chunk_map.specs.Spelling.{spell_entry, spelling}
-use Rattle.chunk_map.specs.Table.{is_number, next_number, number_of, Written, Payload, written_at, payload_at, entry_after, next_entry, number_in, entries_at, directory_in}
+use Rattle.chunk_map.specs.Spelling.{spell_entry, spelling, pages_needed}
+use Rattle.chunk_map.specs.Table.{is_number, next_number, number_of, positive_at, page_of, seen_nothing, pages_at, Written, Payload, written_at, payload_at, entry_after, next_entry, number_in, entries_at, directory_in}
 
 -- ---- what the items pass
 
 abbrev pub IsNumber : Option (List ℕ) → ℕ → ℕ → Type 0
 IsNumber before after n = (n < 2 ^ 64) × (is_number before (after == 0) n ≡ true)
+
+abbrev pub IsPositive : ℕ → Type 0
+IsPositive n = (n < 2 ^ 64) × (nat_lt 0 n ≡ true)
+
+abbrev pub IsPage : ⊤ → ℕ → ℕ → Type 0
+IsPage seen after n = (n < 2 ^ 32) × (nat_lt 0 n ≡ true)
+
+abbrev pub ArePages : ℕ → List ℕ → Type 0
+ArePages bytes pages = AreCounted (2 ^ 32) (λ count. count == pages_needed bytes) IsPage seen_nothing tt pages
 
 abbrev pub IsWritten : ℕ → Written → Type 0
 IsWritten bytes written = IsPositive written.birth × ArePages bytes written.pages
@@ -35,6 +42,9 @@ IsNext dims before after entry = Are IsNumber next_number dims before entry.at.i
 abbrev pub AreEntries : ℕ → Directory → Type 0
 AreEntries dims directory = AreCounted (2 ^ 64) (λ count. true) (IsNext dims) number_in None directory.entries
 
+abbrev spell_pages : List ℕ → List ℕ
+spell_pages = spell_counted w32 (to_le_bytes w32)
+
 abbrev spell_written : Written → List ℕ
 spell_written written = to_le_bytes w64 written.birth ++ spell_pages written.pages
 
@@ -49,6 +59,16 @@ number_of_reads before after = item_reads (number_at w64) (to_le_bytes w64) (λ 
 
 numbers_reads : (dims : ℕ) (before : Option (List ℕ)) → Reads (repeat number_of next_number dims before) (flat_map (to_le_bytes w64)) (Are IsNumber next_number dims before)
 numbers_reads dims before = repeat_reads number_of next_number (to_le_bytes w64) IsNumber number_of_reads dims before
+
+positive_reads : Reads positive_at (to_le_bytes w64) IsPositive
+positive_reads = item_reads (number_at w64) (to_le_bytes w64) (λ n. n < 2 ^ 64) (nat_lt 0) (number_reads w64 (2 ^ 64) exact64)
+
+page_reads : (seen : ⊤) (after : ℕ) → Reads (page_of seen after) (to_le_bytes w32) (IsPage seen after)
+page_reads seen after = item_reads (number_at w32) (to_le_bytes w32) (λ n. n < 2 ^ 32) (nat_lt 0) (number_reads w32 (2 ^ 32) exact32)
+
+pages_reads : (bytes : ℕ) → Reads (pages_at bytes) spell_pages (ArePages bytes)
+unfolding pages_at
+pages_reads bytes = counted_reads w32 (2 ^ 32) exact32 (λ count. count == pages_needed bytes) page_of seen_nothing (to_le_bytes w32) IsPage page_reads tt
 
 written_reads : (bytes : ℕ) → Reads (written_at bytes) spell_written (IsWritten bytes)
 unfolding written_at

@@ -1,6 +1,6 @@
 -- Entries whose items pass their tests are those of a directory.
 use Rattle.std.proofs.Common.{◌≡◌, ℕ, zero, suc, ◌^◌, ◌<◌, ◌≤◌, Bool, true, false, cond, nat_lt, nat_le, List, [], ◌∷◌, length, Option, Some, None, refl, sym, ap, subst, ◌∙◌, arith}
-use Rattle.std.specs.Prelude.{◌==◌}
+use Rattle.std.specs.Prelude.{⊤, ◌==◌}
 use Rattle.std.specs.List.{AllByRecursion}
 use Rattle.std.specs.Ordering.{ordering_then}
 use Rattle.std.specs.declared.cmp.Ordering.{Ordering}
@@ -12,11 +12,10 @@ use Rattle.byte_items.proofs.Laws.{Are-length}
 use Rattle.chunk_map.specs.declared.directory.DirEntry.{DirEntry}
 use Rattle.chunk_map.specs.declared.directory.Directory.{Directory}
 use Rattle.chunk_map.specs.Entries.{numbers, AreRising}
-use Rattle.page_items.proofs.Laws.{lie_in, has_bytes, has_pages}
-use Rattle.chunk_map.specs.Spelling.{IsEntry, IsDirectory}
-use Rattle.chunk_map.specs.Table.{is_number, next_number, number_in}
+use Rattle.chunk_map.specs.Spelling.{pages_needed, IsEntry, IsDirectory}
+use Rattle.chunk_map.specs.Table.{is_number, next_number, seen_nothing, number_in}
 use Rattle.chunk_map.proofs.Moves.{IsBefore, before-trans}
-use Rattle.chunk_map.proofs.Laws.{IsNumber, IsPayload, payload_of, IsNext, AreEntries}
+use Rattle.chunk_map.proofs.Laws.{IsNumber, IsPositive, IsPage, ArePages, IsPayload, payload_of, IsNext, AreEntries}
 
 abbrev Fit : List ℕ → Type 0
 Fit = AllByRecursion (λ k. k < 2 ^ 64)
@@ -118,23 +117,58 @@ passed zero (p ∷ ps) (k ∷ j ∷ ks) len fits less = absurd (omega (arith, le
 passed (suc n) (p ∷ ps) (k ∷ ks) len fits less =
     passed_step n p k ps ks (nat_lt p k) (p == k) refl refl fits.0 (free (suc n) ks (omega (arith, len)) fits.1) (passed n ps ks (omega (arith, len)) fits.1) less
 
+-- ---- pages
+
+abbrev IsPlace : ℕ → Type 0
+IsPlace p = (1 ≤ p) × (p < 2 ^ 32)
+
+places : (n : ℕ) (ps : List ℕ) → Are IsPage seen_nothing n tt ps → AllByRecursion IsPlace ps
+unfolding Are
+places zero [] good = tt
+places zero (p ∷ ps) good = absurd good
+places (suc n) [] good = absurd good
+places (suc n) (p ∷ ps) good = let some : 1 ≤ p = grind (arith, good.0.1) in ((some, good.0.0), places n ps good.1)
+
+pages : (n : ℕ) (ps : List ℕ) → length ps ≡ n → AllByRecursion IsPlace ps → Are IsPage seen_nothing n tt ps
+unfolding Are
+pages zero [] len all = tt
+pages zero (p ∷ ps) len all = absurd (omega (arith, len))
+pages (suc n) [] len all = absurd (omega (arith, len))
+pages (suc n) (p ∷ ps) len all = let some : nat_lt 0 p ≡ true = grind (arith, all.0.0) in ((all.0.1, some), pages n ps (omega (arith, len)) all.1)
+
+equal_is : (a b : ℕ) → (a == b) ≡ true → a ≡ b
+equal_is a b e = grind (arith, e)
+
+is_equal : (a b : ℕ) → a ≡ b → (a == b) ≡ true
+is_equal a b e = grind (arith, e)
+
 -- ---- entries
 
 is_entry : (dims : ℕ) (before : Option (List ℕ)) (after : ℕ) (entry : DirEntry) → IsNext dims before after entry → IsEntry dims entry
 is_entry dims before after entry good =
     let payload : IsPayload (payload_of entry) = good.1 in
+    let counted : ArePages entry.length entry.pages = payload.1.1 in
+    let some : 1 ≤ entry.length = grind (arith, payload.0.1) in
     let born : 1 ≤ entry.birth = grind (arith, payload.1.0.1) in
     record {
       dimensions = Are-length IsNumber next_number dims before entry.at.items good.0;
       numbers = fit dims before entry.at.items good.0;
+      bytes = (some, payload.0.0);
       birth = (born, payload.1.0.0);
-      payload = lie_in entry.length entry.pages payload.0 payload.1.1;
+      count = (equal_is (length entry.pages) (pages_needed entry.length) counted.count, counted.below);
+      pages = places (length entry.pages) entry.pages counted.each;
     }
 
 is_payload : (dims : ℕ) (entry : DirEntry) → IsEntry dims entry → IsPayload (payload_of entry)
 is_payload dims entry is =
+    let some : nat_lt 0 entry.length ≡ true = grind (arith, is.bytes.0) in
     let born : nat_lt 0 entry.birth ≡ true = grind (arith, is.birth.0) in
-    (has_bytes entry.length entry.pages is.payload, ((is.birth.1, born), has_pages entry.length entry.pages is.payload))
+    let counted : ArePages entry.length entry.pages = record {
+      below = is.count.1;
+      count = is_equal (length entry.pages) (pages_needed entry.length) is.count.0;
+      each = pages (length entry.pages) entry.pages refl is.pages;
+    } in
+    ((is.bytes.1, some), ((is.birth.1, born), counted))
 
 abbrev Follow : ℕ → ℕ → Option (List ℕ) → List DirEntry → Type 0
 Follow dims = Are (IsNext dims) number_in

@@ -1,11 +1,10 @@
 -- Worked directories: a chunk of one dimension, and two chunks of two dimensions.
 use Rattle.std.proofs.Common.{◌≡◌, ℕ, List, [], ◌∷◌, ◌++◌, length, take, Option, Some, None, Ok, refl}
 use Rattle.byte_items.specs.Items.{wrong_at, repeat}
-use Rattle.page_items.specs.Pages.{pages_at}
 use Rattle.chunk_map.specs.declared.directory.DirEntry.{DirEntry}
 use Rattle.chunk_map.specs.declared.directory.Directory.{Directory}
 use Rattle.chunk_map.specs.Spelling.{spell_entry, spelling}
-use Rattle.chunk_map.specs.Table.{number_of, written_at, payload_at, entry_after, entries_at, directory_in}
+use Rattle.chunk_map.specs.Table.{number_of, pages_at, written_at, payload_at, entry_after, entries_at, directory_in}
 
 abbrev eight : ℕ → List ℕ
 eight n = n ∷ 0 ∷ 0 ∷ 0 ∷ 0 ∷ 0 ∷ 0 ∷ 0 ∷ []
@@ -35,7 +34,7 @@ read : directory_in 1 (bytes 200 2 1 7) ≡ Ok one
 unfolding entries_at entry_after payload_at written_at pages_at number_of repeat
 read = refl
 
--- no byte, no birth, two pages for 200 bytes, cut in the page, a byte too many; which page it is is not looked at
+-- no byte, no birth, two pages for 200 bytes, page 0, cut in the page, a byte too many
 no_bytes : wrong 1 (bytes 0 2 1 7) ≡ Some 16
 unfolding entries_at entry_after payload_at written_at pages_at number_of repeat
 no_bytes = refl
@@ -48,7 +47,7 @@ too_many_pages : wrong 1 (bytes 200 2 2 7) ≡ Some 32
 unfolding entries_at entry_after payload_at written_at pages_at number_of repeat
 too_many_pages = refl
 
-page_zero : wrong 1 (bytes 200 2 1 0) ≡ None
+page_zero : wrong 1 (bytes 200 2 1 0) ≡ Some 36
 unfolding entries_at entry_after payload_at written_at pages_at number_of repeat
 page_zero = refl
 

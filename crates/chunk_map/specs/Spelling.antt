@@ -1,27 +1,32 @@
 -- The bytes of a directory, and which directories have a spelling.
 use Rattle.std.specs.Prelude.{◌≡◌, ℕ, ◌+◌, ◌/◌, ◌<◌, ◌≤◌, ◌^◌, List, ◌++◌, length}
 use Rattle.std.specs.List.{flat_map, AllByRecursion}
-use Rattle.std.specs.Int.{w64, to_le_bytes}
+use Rattle.std.specs.Int.{w32, w64, to_le_bytes}
 use Rattle.byte_items.specs.Items.{spell_counted}
-use Rattle.page_items.specs.Pages.{spell_pages, LieIn}
 use Rattle.chunk_map.specs.declared.directory.DirEntry.{DirEntry}
 use Rattle.chunk_map.specs.declared.directory.Directory.{Directory}
 use Rattle.chunk_map.specs.Entries.{AreRising}
 
 -- the chunk number, the payload's length, its birth, and its pages with their count before them
 unfoldable pub spell_entry : DirEntry → List ℕ
-spell_entry entry = flat_map (to_le_bytes w64) entry.at.items ++ (to_le_bytes w64 entry.length ++ (to_le_bytes w64 entry.birth ++ spell_pages entry.pages))
+spell_entry entry = flat_map (to_le_bytes w64) entry.at.items ++ (to_le_bytes w64 entry.length ++ (to_le_bytes w64 entry.birth ++ spell_counted w32 (to_le_bytes w32) entry.pages))
 
 -- the entries with their count before them
 unfoldable pub spelling : Directory → List ℕ
 spelling directory = spell_counted w64 spell_entry directory.entries
 
--- a payload of some bytes, written by some commit, in as many pages as it needs
+-- how many pages of 4,096 bytes so many bytes lie in
+abbrev pub pages_needed : ℕ → ℕ
+pages_needed bytes = (bytes + 4095) / 4096
+
+-- a payload of some bytes, written by some commit, in as many pages as it needs, none of which is page 0
 pub record IsEntry (dims : ℕ) (entry : DirEntry) : Type 0 where
   pub dimensions : length entry.at.items ≡ dims
   pub numbers : AllByRecursion (λ k. k < 2 ^ 64) entry.at.items
+  pub bytes : (1 ≤ entry.length) × (entry.length < 2 ^ 64)
   pub birth : (1 ≤ entry.birth) × (entry.birth < 2 ^ 64)
-  pub payload : LieIn entry.length entry.pages
+  pub count : (length entry.pages ≡ pages_needed entry.length) × (length entry.pages < 2 ^ 32)
+  pub pages : AllByRecursion (λ p. (1 ≤ p) × (p < 2 ^ 32)) entry.pages
 
 -- entries for chunks of so many dimensions, by their rising chunk numbers
 pub record IsDirectory (dims : ℕ) (directory : Directory) : Type 0 where

@@ -1,10 +1,10 @@
 -- The items of a directory in their order, each with its test over the items before it.
-use Rattle.std.specs.Prelude.{ℕ, Bool, true, ◌==◌, nat_lt, nat_le, List, [], ◌∷◌, Option, Some, None, Result, Ok, if◌then◌else◌}
-use Rattle.std.specs.Int.{w64}
+use Rattle.std.specs.Prelude.{ℕ, ⊤, Bool, true, ◌==◌, nat_lt, nat_le, List, [], ◌∷◌, Option, Some, None, Result, Ok, if◌then◌else◌}
+use Rattle.std.specs.Int.{w32, w64}
 use Rattle.byte_items.specs.Items.{◌>>=◌, Reading, number_at, item, repeat, counted, whole}
 use Rattle.chunk_map.specs.declared.directory.DirEntry.{DirEntry}
 use Rattle.chunk_map.specs.declared.directory.Directory.{Directory}
-use Rattle.page_items.specs.Pages.{positive_at, pages_at}
+use Rattle.chunk_map.specs.Spelling.{pages_needed}
 
 -- ---- chunk numbers
 
@@ -22,6 +22,22 @@ next_number (Some (least ∷ others)) n = if least == n then Some others else No
 
 unfoldable pub number_of : Option (List ℕ) → ℕ → Reading ℕ
 number_of before after bytes = item (number_at w64) (is_number before (after == 0)) bytes
+
+-- ---- pages
+
+-- a number of at least 1
+abbrev pub positive_at : Reading ℕ
+positive_at = item (number_at w64) (nat_lt 0)
+
+abbrev pub page_of : ⊤ → ℕ → Reading ℕ
+page_of seen after = item (number_at w32) (nat_lt 0)
+
+abbrev pub seen_nothing : ⊤ → ℕ → ⊤
+seen_nothing seen page = tt
+
+-- as many pages as these bytes need
+unfoldable pub pages_at : ℕ → Reading (List ℕ)
+pages_at length bytes = counted w32 (λ count. count == pages_needed length) page_of seen_nothing tt bytes
 
 -- ---- entries
 

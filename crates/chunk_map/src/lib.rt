@@ -11,3 +11,6 @@ pub use decoding::{BadDirectory, decode_directory};
 pub use directory::{DirEntry, Directory};
 pub use replacing::replaced;
 pub use writing::encode_directory;
+
+#[cfg(test)]
+mod tests;

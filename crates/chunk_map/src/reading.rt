@@ -1,13 +1,14 @@
 //! Reading a directory, item by item.
 ghost use Rattle.std.specs.Prelude.{◌≡◌, ◌≤◌, ◌==◌, None, nat_lt};
 ghost use Rattle.std.specs.Option.{option_copied};
+ghost use Rattle.std.specs.Int.{w32};
 ghost use Rattle.byte_items.specs.Items.{IsRead, repeat};
-ghost use Rattle.chunk_map.specs.Table.{is_number, next_number, number_of, entry_after, next_entry, number_in, last_number, directory_in};
+ghost use Rattle.chunk_map.specs.Spelling.{pages_needed};
+ghost use Rattle.chunk_map.specs.Table.{is_number, next_number, number_of, positive_at, page_of, seen_nothing, pages_at, entry_after, next_entry, number_in, last_number, directory_in};
 
 use crate::{DirEntry, Directory};
-use byte_items::{Stop, u64_at};
+use byte_items::{Stop, u32_at, u64_at};
 use cell_values::{ChunkAt, List};
-use page_items::{pages, positive};
 use std::alloc::Global;
 
 fn is_number(before: Option<&[u64]>, last: bool, n: u64) -> bool
@@ -59,6 +60,62 @@ fn numbers<'a>(
         rest = after;
     }
     Ok((at, rest))
+}
+
+/// A number of at least 1.
+fn positive(bytes: &[u8]) -> Result<(u64, &[u8]), Stop>
+    ensures { IsRead (λ x. (x.0, x.1.now)) result (positive_at bytes.now) }
+{
+    let (number, rest) = u64_at(bytes)?;
+    if number == 0 {
+        return Err(Stop::Left(bytes.len()));
+    }
+    Ok((number, rest))
+}
+
+fn page(bytes: &[u8]) -> Result<(u32, &[u8]), Stop>
+    ensures { IsRead (λ x. (x.0, x.1.now)) result (page_of tt 0 bytes.now) }
+{
+    let (page, rest) = u32_at(bytes)?;
+    if page == 0 {
+        return Err(Stop::Left(bytes.len()));
+    }
+    Ok((page, rest))
+}
+
+fn pages_from(alloc: Global, count: u32, bytes: &[u8]) -> Result<(List<u32>, &[u8]), Stop>
+    ensures { IsRead (λ x. (x.0, x.1.now)) result (repeat page_of seen_nothing count tt bytes.now) }
+{
+    let mut pages = List::new(alloc);
+    let mut rest = bytes;
+    for _index in 0..count {
+        let (page, after) = page(rest)?;
+        pages.push(page)?;
+        rest = after;
+    }
+    Ok((pages, rest))
+}
+
+fn pages_needed(length: u64) -> u64
+    ensures { result ≡ pages_needed length }
+{
+    if length % 4096 == 0 {
+        length / 4096
+    } else {
+        length / 4096 + 1
+    }
+}
+
+/// The pages of a payload of so many bytes.
+#[tactic(auto, unfolding(crate::specs::Table::pages_at))]
+fn pages(alloc: Global, length: u64, bytes: &[u8]) -> Result<(List<u32>, &[u8]), Stop>
+    ensures { IsRead (λ x. (x.0, x.1.now)) result (pages_at length bytes.now) }
+{
+    let (count, rest) = u32_at(bytes)?;
+    if u64::from(count) != pages_needed(length) {
+        return Err(Stop::Left(bytes.len()));
+    }
+    pages_from(alloc, count, rest)
 }
 
 /// An entry, after one with the number before.

@@ -1,14 +1,13 @@
 //! Encoding directories.
 ghost use Rattle.std.specs.Prelude.{◌≡◌, ◌++◌, OnOk, IfOk};
 ghost use Rattle.std.specs.List.{flat_map};
-ghost use Rattle.std.specs.Int.{w64, to_le_bytes};
+ghost use Rattle.std.specs.Int.{w32, w64, to_le_bytes};
 ghost use Rattle.byte_items.specs.Items.{spell_counted};
 ghost use Rattle.chunk_map.specs.Spelling.{spell_entry, spelling};
 
 use crate::{DirEntry, Directory};
-use byte_items::put_u64;
+use byte_items::{put_u32, put_u64};
 use cell_values::{Bytes, Memory};
-use page_items::put_pages;
 use std::alloc::Global;
 
 fn put_numbers(out: &mut Bytes, numbers: &[u64]) -> Result<(), Memory>
@@ -16,6 +15,24 @@ fn put_numbers(out: &mut Bytes, numbers: &[u64]) -> Result<(), Memory>
 {
     for number in numbers {
         put_u64(out, *number)?;
+    }
+    Ok(())
+}
+
+/// The low four bytes of a count.
+#[tactic(auto, using(crate::proofs::Puts::low_bytes))]
+fn low(count: usize) -> u32
+    ensures { to_le_bytes w32 result ≡ to_le_bytes w32 count }
+{
+    (count % 4294967296) as u32
+}
+
+fn put_pages(out: &mut Bytes, pages: &[u32]) -> Result<(), Memory>
+    ensures { OnOk result (out.new ≡ out.old ++ spell_counted w32 (to_le_bytes w32) pages.now) }
+{
+    put_u32(out, low(pages.len()))?;
+    for page in pages {
+        put_u32(out, *page)?;
     }
     Ok(())
 }

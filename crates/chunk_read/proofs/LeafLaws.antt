@@ -9,7 +9,6 @@ use Rattle.cell_values.specs.declared.schema.Schema.{Schema}
 use Rattle.cell_values.specs.Schemas.{is_dimension, has_attributes, has_dimensions, are_distinct, names_of, frame_size, frame_fits, IsValid}
 use Rattle.array_geom.specs.declared.chunk.Chunk.{Chunk}
 use Rattle.array_geom.specs.declared.chunk.ChunkedArray.{ChunkedArray}
-use Rattle.array_geom.specs.Chunks.{IsChunk}
 use Rattle.array_geom.specs.Geometry.{ChunkNumber, overlaps, frame_lengths, volume, has_core}
 use Rattle.array_geom.specs.Link.{IsPart, NumbersRise, numbers, is_listed, Is}
 use Rattle.array_geom.proofs.NearLemmas.{valid_placed, size_is_volume}
@@ -66,15 +65,6 @@ have_places schema margins listed chunks e valid stored = rw e (record {
   places = few_places schema valid;
   all = stored_placed schema listed chunks stored;
 })
-
-stored_valid : (schema : Schema) (listed : List (ArrayVec ℕ)) (chunks : List Chunk) → AllZip (IsStored schema) listed chunks → AllByRecursion (IsChunk schema (overlaps schema.dimensions)) chunks
-stored_valid schema [] [] a = tt
-stored_valid schema [] (c ∷ chunks) a = absurd a
-stored_valid schema (k ∷ listed) [] a = absurd a
-stored_valid schema (k ∷ listed) (c ∷ chunks) a = (a.0.valid, stored_valid schema listed chunks a.1)
-
-pub are_valid : (schema : Schema) (margins : List ℕ) (listed : List (ArrayVec ℕ)) (chunks : List Chunk) → margins ≡ overlaps schema.dimensions → AllZip (IsStored schema) listed chunks → AllByRecursion (IsChunk schema margins) chunks
-are_valid schema margins listed chunks e stored = subst (λ (ms : List ℕ). AllByRecursion (IsChunk schema ms) chunks) (sym e) (stored_valid schema listed chunks stored)
 
 -- the chunks that are listed are the array
 is_array : (leaf : Leaf) (array : ChunkedArray) (rows : List Row) (listed : List (ArrayVec ℕ)) → array.schema ≡ leaf.schema → array.margins.items ≡ overlaps leaf.schema.dimensions → array.broken ≡ None

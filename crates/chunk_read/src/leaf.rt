@@ -2,7 +2,6 @@
 ghost use Rattle.std.specs.Prelude.{◌≡◌, ◌+◌, ◌≤◌, ◌++◌, None, map, length, IfOk, OnOk, IfSome, IsTrue};
 ghost use Rattle.std.specs.List.{AllByRecursion, AllZip};
 ghost use Rattle.cell_values.specs.Schemas.{IsValid};
-ghost use Rattle.array_geom.specs.Chunks.{IsChunk};
 ghost use Rattle.array_geom.specs.Geometry.{overlaps};
 ghost use Rattle.array_geom.specs.Link.{Is, IsPart};
 ghost use Rattle.array_parts.specs.Placed.{HavePlaces};
@@ -75,7 +74,6 @@ pub fn read_leaf<S: ChunkSource>(
     ensures margins { IfOk result (λ array. array.margins.items ≡ overlaps leaf.now.schema.dimensions) }
     ensures whole { IfOk result (λ array. array.broken ≡ None) }
     ensures placed { IfOk result (λ array. HavePlaces array.schema array.margins.items array.chunks) }
-    ensures valid { IfOk result (λ array. AllByRecursion (IsChunk array.schema array.margins.items) array.chunks) }
     ensures told { IfOk result (λ array. IfSome (S.state source.old).told (λ db. Is array (whole leaf.now.schema (version_rows db leaf.now.name leaf.now.version)))) }
     ensures asked { OnOk result ((S.state source.new).asked ≡ (S.state source.old).asked ++ map (asks number) (listed (S.state source.old) leaf.now)) }
     ensures kept { Keeps (S.state source.old) (S.state source.new) }

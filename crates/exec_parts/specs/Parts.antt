@@ -1,8 +1,11 @@
 -- What parts and slices of an array mean.
-use Rattle.std.specs.Prelude.{List}
+use Rattle.std.specs.Prelude.{◌≡◌, List}
+use Rattle.cell_values.specs.declared.datum.Row.{Row}
 use Rattle.cell_values.specs.declared.schema.Bounds.{Bounds}
 use Rattle.array_rows.specs.Arrays.{Meant}
 use Rattle.array_rows.specs.Boxes.{meet, bounds_of}
+use Rattle.array_geom.specs.declared.chunk.ChunkedArray.{ChunkedArray}
+use Rattle.array_geom.specs.Link.{HoldsRows}
 use Rattle.logical_plan.specs.declared.parts.Fixed.{Fixed}
 use Rattle.logical_plan.specs.BoxOps.{subarray_rows, slice_rows}
 use Rattle.logical_plan.specs.Meaning.{made}
@@ -14,3 +17,19 @@ part_meant area = made (subarray_schema area) (λ s. subarray_rows (meet (bounds
 
 abbrev pub slice_meant : List Fixed → Meant → Meant
 slice_meant fixed = made (slice_schema fixed) (λ s. slice_rows fixed)
+
+-- the array is not broken: it holds rows
+abbrev pub IsWhole : ChunkedArray → Type 0
+IsWhole array = (rows : List Row) × HoldsRows array.schema array rows
+
+-- what an operator makes of the rows that the array holds
+pub record AreMadeOf (operator : List Row → List Row) (array : ChunkedArray) (made_rows : List Row) : Type 0 where
+  pub rows : List Row
+  pub held : HoldsRows array.schema array rows
+  pub same : made_rows ≡ operator rows
+
+abbrev pub AreRowsOfPart : Bounds → ChunkedArray → List Row → Type 0
+AreRowsOfPart area array = AreMadeOf (subarray_rows (meet (bounds_of array.schema.dimensions) area)) array
+
+abbrev pub AreRowsOfSlice : List Fixed → ChunkedArray → List Row → Type 0
+AreRowsOfSlice fixed array = AreMadeOf (slice_rows fixed) array

@@ -6,5 +6,5 @@ mod schemas;
 mod slices;
 mod subarrays;
 
-pub use slices::{slice, slice_owned};
-pub use subarrays::{subarray, subarray_owned};
+pub use slices::slice;
+pub use subarrays::subarray;

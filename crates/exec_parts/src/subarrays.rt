@@ -1,63 +1,44 @@
 //! Arrays cut to a box that then begins at 0.
-ghost use Rattle.std.specs.Prelude.{◌≡◌, None, IfOk};
+ghost use Rattle.std.specs.Prelude.{◌≡◌, IfOk};
 ghost use Rattle.cell_values.specs.Schemas.{IsValid};
 ghost use Rattle.array_rows.specs.Arrays.{Meant};
-ghost use Rattle.array_rows.specs.Boxes.{bounds_of, meet};
-ghost use Rattle.array_cores.specs.Cores.{HasCells, HaveCells, cores_of, meant_by_cores};
 ghost use Rattle.array_geom.specs.Geometry.{overlaps};
 ghost use Rattle.array_geom.specs.Link.{Is};
 ghost use Rattle.chunk_cells.specs.Whole.{IsArray};
-ghost use Rattle.logical_plan.specs.BoxOps.{subarray_rows};
 ghost use Rattle.logical_plan.specs.PlanSchema.{subarray_schema};
-ghost use Rattle.exec_parts.specs.Parts.{part_meant};
+ghost use Rattle.exec_parts.specs.Parts.{AreRowsOfPart, IsWhole, part_meant};
 
 use crate::building::{bounds, broken_part, built};
 use crate::schemas::part_schema;
 use array_geom::{Boxes, ChunkedArray};
 use cell_values::{Bounds, List, Memory, Row, Schema};
-use chunk_cells::into_core_rows;
+use chunk_cells::rows;
 use moved_rows::part_of_rows;
 
-/// The rows of an array's cores in a box, moved.
-fn rows_of_part(array: ChunkedArray, area: &Bounds) -> Result<List<Row>, Memory>
-    requires { HaveCells array.schema array.margins.items array.chunks }
-    ensures { IfOk result (λ part. part ≡ subarray_rows (meet (bounds_of array.schema.dimensions) area.now) (cores_of array)) }
+/// The rows of an array in a box, moved.
+fn rows_of_part(array: &ChunkedArray, area: &Bounds) -> Result<List<Row>, Memory>
+    requires { IsWhole array.now }
+    ensures { IfOk result (AreRowsOfPart area.now array.now) }
 {
     let area = bounds(&array.schema).meet(area);
-    let cells = into_core_rows(array)?;
+    let cells = rows(array)?;
     part_of_rows(&cells, &area)
 }
 
 /// The part of an array that is not broken.
 fn part_of_whole(
     schema: &Schema,
-    array: ChunkedArray,
+    array: &ChunkedArray,
     area: &Bounds,
 ) -> Result<ChunkedArray, Memory>
-    requires whole { array.broken ≡ None }
-    requires cells { HaveCells array.schema array.margins.items array.chunks }
+    requires whole { IsWhole array.now }
     requires valid { IsValid schema.now }
-    requires schema { schema.now ≡ subarray_schema area.now array.schema }
-    ensures array { IfOk result (λ part. Is part (part_meant area.now (meant_by_cores array))) }
+    requires schema { schema.now ≡ subarray_schema area.now array.now.schema }
+    ensures array { (meant : Meant) → Is array.now meant → IfOk result (λ part. Is part (part_meant area.now meant)) }
     ensures margins { IfOk result (λ part. part.margins.items ≡ overlaps schema.now.dimensions) }
 {
     let cells = rows_of_part(array, area)?;
     built(schema, &cells)
-}
-
-/// The cells of an array in a box, moved so that the box begins at 0 in each dimension. What the array's margins hold doesn't
-/// matter.
-pub fn subarray_owned(array: ChunkedArray, area: &Bounds) -> Result<ChunkedArray, Memory>
-    requires cells { HasCells array }
-    requires valid { IsValid (subarray_schema area.now array.schema) }
-    ensures array { IfOk result (λ part. Is part (part_meant area.now (meant_by_cores array))) }
-    ensures margins { IfOk result (λ part. part.margins.items ≡ overlaps (subarray_schema area.now array.schema).dimensions) }
-{
-    let schema = part_schema(&array.schema, area)?;
-    match &array.broken {
-        Some(broken) => broken_part(&schema, broken),
-        None => part_of_whole(&schema, array, area),
-    }
 }
 
 /// The cells of an array in a box, moved so that the box begins at 0 in each dimension.
@@ -67,5 +48,9 @@ pub fn subarray(array: &ChunkedArray, area: &Bounds) -> Result<ChunkedArray, Mem
     ensures array { (meant : Meant) → Is array.now meant → IfOk result (λ part. Is part (part_meant area.now meant)) }
     ensures margins { IfOk result (λ part. part.margins.items ≡ overlaps (subarray_schema area.now array.now.schema).dimensions) }
 {
-    subarray_owned(array.copy()?, area)
+    let schema = part_schema(&array.schema, area)?;
+    match &array.broken {
+        Some(broken) => broken_part(&schema, broken),
+        None => part_of_whole(&schema, array, area),
+    }
 }

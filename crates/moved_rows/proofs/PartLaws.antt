@@ -12,7 +12,7 @@ use Rattle.cell_values.specs.declared.schema.Bounds.{Bounds}
 use Rattle.cell_values.specs.declared.schema.Dimension.{Dimension}
 use Rattle.cell_values.specs.declared.schema.Schema.{Schema}
 use Rattle.cell_values.specs.Cells.{IsCellOf}
-use Rattle.cell_values.specs.Schemas.{IsValid}
+use Rattle.array_rows.specs.Arrays.{AreRowsOf}
 use Rattle.array_rows.specs.Boxes.{is_between, is_inside, by_pairs, meet, moved, bounds_of, within}
 use Rattle.array_rows.specs.Rows.{Coordinate, row_major}
 use Rattle.array_rows.proofs.RowSets.{IsRising-rows_where}
@@ -22,7 +22,7 @@ use Rattle.array_geom.proofs.TestLaws.{and_parts, and_both, le_test, le_from_tes
 use Rattle.logical_plan.specs.BoxOps.{subarray_rows}
 use Rattle.logical_plan.specs.PlanSchema.{subarray_dimensions}
 use Rattle.moved_rows.specs.Laws.{SubarraysAreArrays}
-use Rattle.moved_rows.specs.Moves.{AreShort, IsShort, lowered}
+use Rattle.moved_rows.specs.Moves.{lowered}
 use Rattle.moved_rows.proofs.MovedLaws.{AllAt, rising_moved, all_moved, moved_alike, all_where, passing}
 
 abbrev less : List ℤ → Coordinate → Coordinate
@@ -52,13 +52,13 @@ within_limits (negsuc n) low high = absurd (omega (arith, ints))
 
 -- the clipped stretch of a dimension: what lies in it, moved, lies from 0 to its length
 stretch : (d : Dimension) (l h x : ℤ) → IsNear d → int_max d.lo l ≤ℤ x → x ≤ℤ int_min d.hi h
-    → (pos 0 ≤ℤ (x -ℤ int_max d.lo l)) × ((x -ℤ int_max d.lo l) ≤ℤ saturate_signed w64 (int_min d.hi h -ℤ int_max d.lo l))
+    → (pos 0 ≤ℤ (x -ℤ int_max d.lo l)) × ((x -ℤ int_max d.lo l) ≤ℤ saturate_signed w64 (int_min d.hi h -ℤ int_max d.lo l)) × (saturate_signed w64 (x -ℤ int_max d.lo l) ≡ (x -ℤ int_max d.lo l))
 stretch d l h x near e f =
     let low : negsuc (2 ^ 62 - 2) ≤ℤ d.lo = near.low in
     let high : d.hi ≤ℤ pos (2 ^ 62 - 1) = near.high in
     let whole : saturate_signed w64 (int_min d.hi h -ℤ int_max d.lo l) ≡ (int_min d.hi h -ℤ int_max d.lo l) = within_limits (int_min d.hi h -ℤ int_max d.lo l) (omega (arith, ints, clamps)) (omega (arith, ints, clamps)) in
     let below : (x -ℤ int_max d.lo l) ≤ℤ (int_min d.hi h -ℤ int_max d.lo l) = omega (arith, ints, clamps) in
-    (omega (arith, ints), subst (λ (z : ℤ). (x -ℤ int_max d.lo l) ≤ℤ z) (sym whole) below)
+    (omega (arith, ints), subst (λ (z : ℤ). (x -ℤ int_max d.lo l) ≤ℤ z) (sym whole) below, within_limits (x -ℤ int_max d.lo l) (omega (arith, ints, clamps)) (omega (arith, ints, clamps)))
 
 abbrev lows : List Dimension → List ℤ → List ℤ
 lows dims lo = by_pairs int_max (map (λ d. d.lo) dims) lo
@@ -81,18 +81,16 @@ in_part (d ∷ dims) (l ∷ lo) (h ∷ hi) (x ∷ c) near e =
     let s = stretch d l h x near.0 (le_from_test (int_max d.lo l) x q.0) (le_from_test x (int_min d.hi h) q.1) in
     and_both _ _ (and_both _ _ (le_test (pos 0) (x -ℤ int_max d.lo l) s.0) (le_test (x -ℤ int_max d.lo l) (saturate_signed w64 (int_min d.hi h -ℤ int_max d.lo l)) s.1)) (in_part dims lo hi c near.1 p.1)
 
--- the clipped box is short
-short_sides : (dims : List Dimension) (lo hi : List ℤ) → AreNear dims → AreShort (lows dims lo) (highs dims hi)
-short_sides [] lo hi near = tt
-short_sides (d ∷ dims) [] hi near = tt
-short_sides (d ∷ dims) (l ∷ lo) [] near = tt
-short_sides (d ∷ dims) (l ∷ lo) (h ∷ hi) near =
-    let low : negsuc (2 ^ 62 - 2) ≤ℤ d.lo = near.0.low in
-    let high : d.hi ≤ℤ pos (2 ^ 62 - 1) = near.0.high in
-    (omega (arith, ints, clamps), short_sides dims lo hi near.1)
-
-pub short_box : (area : Bounds) (schema : Schema) → IsValid schema → IsShort (meet (bounds_of schema.dimensions) area)
-short_box area schema valid = short_sides schema.dimensions area.lo.items area.hi.items (valid_placed schema valid).near
+exact : (dims : List Dimension) (lo hi : List ℤ) (c : Coordinate) → AreNear dims → is_between (lows dims lo) (highs dims hi) c ≡ true → lowered (lows dims lo) c ≡ less (lows dims lo) c
+exact dims lo hi [] near e = refl
+exact [] lo hi (x ∷ c) near e = refl
+exact (d ∷ dims) [] hi (x ∷ c) near e = refl
+exact (d ∷ dims) (l ∷ lo) [] (x ∷ c) near e = cc
+exact (d ∷ dims) (l ∷ lo) (h ∷ hi) (x ∷ c) near e =
+    let p = and_parts (int_le (int_max d.lo l) x && int_le x (int_min d.hi h)) (is_between (lows dims lo) (highs dims hi) c) e in
+    let q = and_parts (int_le (int_max d.lo l) x) (int_le x (int_min d.hi h)) p.0 in
+    let s = stretch d l h x near.0 (le_from_test (int_max d.lo l) x q.0) (le_from_test x (int_min d.hi h) q.1) in
+    ap (λ (z : ℤ). z ∷ lowered (lows dims lo) c) s.2 ∙ ap (λ (zs : List ℤ). (x -ℤ int_max d.lo l) ∷ zs) (exact dims lo hi c near.1 p.1)
 
 abbrev InBox : Bounds → Coordinate → Type 0
 InBox area c = is_inside area c ≡ true
@@ -115,16 +113,10 @@ subarrays_are_arrays area schema rows a v =
     }
 
 -- no number of a moved coordinate is cut off at the limits of 64 bits
-exact : (lo hi : List ℤ) (c : Coordinate) → AreShort lo hi → is_between lo hi c ≡ true → lowered lo c ≡ less lo c
-exact [] [] [] short e = refl
-exact (l ∷ lo) (h ∷ hi) (x ∷ c) short e =
-    let p = and_parts (int_le l x && int_le x h) (is_between lo hi c) e in
-    let q = and_parts (int_le l x) (int_le x h) p.0 in
-    let low = le_from_test l x q.0 in
-    let high = le_from_test x h q.1 in
-    let side = short.0 in
-    ap (λ (z : ℤ). z ∷ lowered lo c) (within_limits (x -ℤ l) (omega (arith, ints)) (omega (arith, ints))) ∙ ap (λ (zs : List ℤ). (x -ℤ l) ∷ zs) (exact lo hi c short.1 p.1)
-exact lo hi c short e = cc
-
-pub lowered_exactly : (area : Bounds) (rows : List Row) → IsShort area → map (moved (lowered area.lo.items)) (within area rows) ≡ subarray_rows area rows
-lowered_exactly area rows short = moved_alike (InBox area) (lowered area.lo.items) (less area.lo.items) (λ c i. exact area.lo.items area.hi.items c short i) (within area rows) (in_box area rows)
+pub lowered_rows : (area : Bounds) (schema : Schema) (rows : List Row) → AreRowsOf schema rows
+    → map (moved (lowered (meet (bounds_of schema.dimensions) area).lo.items)) (within (meet (bounds_of schema.dimensions) area) rows) ≡ subarray_rows (meet (bounds_of schema.dimensions) area) rows
+lowered_rows area schema rows a =
+    let dims = schema.dimensions in
+    let near : AreNear dims = (valid_placed schema a.valid).near in
+    let box : Bounds = meet (bounds_of dims) area in
+    moved_alike (InBox box) (lowered box.lo.items) (less box.lo.items) (λ c i. exact dims area.lo.items area.hi.items c near i) (within box rows) (in_box box rows)

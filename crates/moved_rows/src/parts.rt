@@ -1,8 +1,7 @@
 //! Rows in a box, moved so that it begins at 0.
 ghost use Rattle.std.specs.Prelude.{◌≡◌, ◌+◌, ◌≤◌, ◌++◌, ◌∷◌, [], if◌then◌else◌, length, map, OnOk, IfOk};
 ghost use Rattle.array_rows.specs.Boxes.{is_inside, moved, within};
-ghost use Rattle.logical_plan.specs.BoxOps.{subarray_rows};
-ghost use Rattle.moved_rows.specs.Moves.{IsShort, lowered};
+ghost use Rattle.moved_rows.specs.Moves.{lowered};
 
 use array_rows::is_in_box;
 use cell_values::{Bounds, Coord, List, Memory, Row};
@@ -46,8 +45,8 @@ fn push_part(parts: &mut List<Row>, row: &Row, area: &Bounds) -> Result<(), Memo
     }
 }
 
-/// The rows in a box, lowered as far as 64 bits go.
-fn lowered_rows(rows: &List<Row>, area: &Bounds) -> Result<List<Row>, Memory>
+/// The rows in a box, each less the box's lowest coordinate.
+pub fn part_of_rows(rows: &List<Row>, area: &Bounds) -> Result<List<Row>, Memory>
     ensures { IfOk result (λ parts. parts ≡ map (moved (lowered area.now.lo.items)) (within area.now rows.now)) }
 {
     let mut parts = rows.another();
@@ -55,13 +54,4 @@ fn lowered_rows(rows: &List<Row>, area: &Bounds) -> Result<List<Row>, Memory>
         push_part(&mut parts, row, area)?;
     }
     Ok(parts)
-}
-
-/// The rows in a box, each less the box's lowest coordinate, so that the box begins at 0.
-#[tactic(auto, using(crate::proofs::PartLaws::lowered_exactly))]
-pub fn part_of_rows(rows: &List<Row>, area: &Bounds) -> Result<List<Row>, Memory>
-    requires { IsShort area.now }
-    ensures { IfOk result (λ parts. parts ≡ subarray_rows area.now rows.now) }
-{
-    lowered_rows(rows, area)
 }

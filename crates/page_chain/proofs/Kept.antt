@@ -1,7 +1,6 @@
 -- What a write of a page keeps, and what it leaves there.
 use Rattle.std.proofs.Common.{◌≡◌, ◌≢◌, ◌≤◌, ◌<◌, ◌⊎◌, ⊎_elim, ℕ, zero, suc, ◌+◌, ◌-◌, ◌*◌, min, List, [], ◌∷◌, ◌++◌, length, take, drop, replicate, slice_index, get_or, refl, sym, ◌∙◌, ap, subst, arith, append_assoc, length-append, length-drop}
 use Rattle.std.proofs.lemmas.List.{drop_at, take_all, length-take, length-replicate, take-append-le, get_or-take, get_or-drop}
-use Rattle.std.proofs.lemmas.Bool.{cases_lt}
 use Rattle.std.proofs.lemmas.Grind.{same_number_lists}
 use Rattle.afl_outside.specs.Disk.{written, Torn}
 use Rattle.page_layout.specs.Places.{IsNone, KeepsPages}
@@ -12,25 +11,16 @@ unfolding page_size
 size_is = refl
 
 pub keeps_self : (pages file : List ℕ) → KeepsPages pages file file
-keeps_self pages file = record { no_shorter = omega arith; no_longer = λ most old fits. old; others = λ number k none low within. refl }
+keeps_self pages file = record { no_shorter = omega arith; others = λ number k none low within. refl }
 
 pub keeps_on : (pages a b c : List ℕ) → KeepsPages pages a b → KeepsPages pages b c → KeepsPages pages a c
 keeps_on pages a b c p q = record {
   no_shorter = omega (arith, p.no_shorter, q.no_shorter);
-  no_longer = λ most old fits. q.no_longer most (p.no_longer most old fits) fits;
   others = λ number k none low within. q.others number k none low (omega (arith, within, p.no_shorter)) ∙ p.others number k none low within;
 }
 
 pub keeps_more : (few many a b : List ℕ) → ((number : ℕ) → IsNone many number → IsNone few number) → KeepsPages few a b → KeepsPages many a b
-keeps_more few many a b fewer p = record {
-  no_shorter = p.no_shorter;
-  no_longer = λ most old fits. p.no_longer most old (inside most fits);
-  others = λ number k none low within. p.others number k (fewer number none) low within;
-}
-  where
-    inside : (most : ℕ) → ((j : ℕ) → j < length many → 4096 * (slice_index many j + 1) ≤ most) → (k : ℕ) → k < length few → 4096 * (slice_index few k + 1) ≤ most
-    inside most fits k low = ⊎_elim (λ more. absurd (fewer (slice_index few k) (λ j there. λ same. omega (arith, fits j there, more, same)) k low refl)) (λ within. within)
-        (cases_lt most (4096 * (slice_index few k + 1)))
+keeps_more few many a b fewer p = record { no_shorter = p.no_shorter; others = λ number k none low within. p.others number k (fewer number none) low within }
 
 -- one page of a list
 pub one_of : (pages : List ℕ) (i page number : ℕ) → i < length pages → slice_index pages i ≡ page → IsNone pages number → IsNone (page ∷ []) number
@@ -44,7 +34,6 @@ sides a b apart = grind arith
 pub torn_keeps : (page at n : ℕ) (old new : List ℕ) → at ≡ 4096 * page → n ≡ 4096 → Torn at n old new → KeepsPages (page ∷ []) old new
 torn_keeps page at n old new place size torn = record {
   no_shorter = torn.no_shorter;
-  no_longer = λ most within fits. let fit : 4096 * (page + 1) ≤ most = fits 0 (omega arith) in omega (arith, torn.no_longer, within, fit, place, size);
   others = λ number k none low within. ⊎_elim (before number k low within) (behind number k low within) (sides number page (λ same. none 0 (omega arith) (sym same)));
 }
   where

@@ -1,7 +1,6 @@
 //! A database's file.
 ghost use Rattle.std.specs.Prelude.{◌≡◌, ℕ, List, ◌<◌, ◌+◌, ◌⊎◌, true, false, IsTrue, IfSome, IfOk, IfErr, OnOk, OnErr, Ok, Err, MatchResult};
 ghost use Rattle.afl_outside.specs.Counts.{Rose};
-ghost use Rattle.afl_outside.specs.Disk.{Only};
 ghost use Rattle.page_layout.specs.Places.{body_of, other};
 ghost use Rattle.page_slots.specs.Puts.{OnlyPuts, OnlySyncs};
 ghost use Rattle.page_slots.specs.Standing.{entry_gate, gate_place, IsTarget, IsShut, IsReady, IsShutRoot, IsShutEntry, IsSound, KeepsSound, LeavesOpening, IsDurable};
@@ -13,11 +12,9 @@ ghost use Rattle.page_file.specs.Aims.{target_of, IsAim};
 ghost use Rattle.page_open.specs.Opened.{IsOpened, AreFresh, HasCause};
 
 use afl_outside::{Disk, Failed};
-use page_chain::OpenCause;
-use page_layout::{RecordAt, Root, Side, Slot};
-use page_open::open_slots;
+use page_layout::{RecordAt, Root, Slot};
+use page_open::{OpenFault, open_slots};
 use page_slots::{Slots, Target};
-use std::marker::Model;
 
 fn target_of(slot: Slot) -> Target
     ensures { result ≡ target_of slot }
@@ -30,25 +27,15 @@ fn target_of(slot: Slot) -> Target
 }
 
 /// A database's file on a disk, with what is known of its slots.
-#[derive(Drop)]
 pub struct PageFile<D: Disk> {
-    pub(crate) disk: D,
-    pub(crate) slots: Slots,
-}
-
-impl<D: Disk> Model for PageFile<D> {
-    ghost use Rattle.page_file.specs.Opened.{OpenFile};
-
-    ghost Value = { OpenFile D };
-
-    ghost view = { λ f. record { disk = f.disk; slots = f.slots } };
+    pub disk: D,
+    pub slots: Slots,
 }
 
 impl<D: Disk> PageFile<D> {
     /// Opens a file. A disk that isn't opened is handed back.
-    pub fn open(mut disk: D) -> Result<PageFile<D>, (OpenCause, D)>
+    pub fn open(mut disk: D) -> Result<PageFile<D>, (OpenFault, D)>
         ensures opened { IfSome (D.state disk).seen (λ seen. MatchResult result (λ file. IsOpened seen (Ok file.slots)) (λ x. IsOpened seen (Err x.0))) }
-        ensures durable { IfOk result (λ file. IsTrue (D.state disk).honest → IfSome (D.state disk).seen (λ seen. Only seen (D.may_leave file.disk))) }
         ensures sound { IsTrue (D.state disk).honest → IfSome (D.state disk).seen (λ seen. IfOk result (λ file. IsSound file.slots seen (D.may_leave file.disk))) }
         ensures fresh { IfOk result (λ file. AreFresh file.slots) }
         ensures reads { MatchResult result
@@ -74,16 +61,6 @@ impl<D: Disk> PageFile<D> {
         ensures { result ≡ target_slot self.now.slots.target self.now.slots }
     {
         self.slots.target_slot()
-    }
-
-    /// The root slot that isn't current.
-    pub fn other_root(&self) -> Slot
-        ensures { result ≡ target_slot targets.Root self.now.slots }
-    {
-        match self.slots.current.side.other() {
-            Side::A => Slot::A,
-            Side::B => Slot::B,
-        }
     }
 
     /// The log.

@@ -6,3 +6,4 @@ mod file;
 
 pub use file::PageFile;
 pub use page_chain::{BlobFault, OpenCause};
+pub use page_open::OpenFault;

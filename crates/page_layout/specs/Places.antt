@@ -36,9 +36,8 @@ pub record SameBut (at count : ℕ) (old new : List ℕ) : Type 0 where
 abbrev pub IsNone : List ℕ → ℕ → Type 0
 IsNone pages number = (k : ℕ) → k < length pages → slice_index pages k ≢ number
 
--- The pages that aren't among these hold what they held. The file is no shorter, and no longer than the old one and these pages need.
+-- the pages that aren't among these hold what they held, and the file is no shorter
 pub record KeepsPages (pages old new : List ℕ) : Type 0 where
   pub no_shorter : length old ≤ length new
-  pub no_longer : (most : ℕ) → length old ≤ most → ((k : ℕ) → k < length pages → 4096 * (slice_index pages k + 1) ≤ most) → length new ≤ most
   pub others : (number k : ℕ) → IsNone pages number → k < 4096 → 4096 * number + k < length old
       → slice_index new (4096 * number + k) ≡ slice_index old (4096 * number + k)

@@ -18,8 +18,8 @@ use Rattle.page_slots.specs.declared.slots.RootSlot.{RootSlot}
 use Rattle.page_slots.specs.declared.slots.RootSlot.TheVariants as roots
 use Rattle.page_slots.proofs.RootImages.{slot_kept, side_high, gate_then_body}
 use Rattle.page_open.specs.Opened.{HasPage, CutsPage, FrontRead, PageLog, LogRead, IsRead, IsOpened, AreFresh, IsDeviceFault}
-use Rattle.page_chain.specs.declared.fault.OpenCause.{OpenCause}
-use Rattle.page_chain.specs.declared.fault.OpenCause.TheVariants.{Disk, NotDatabase, Memory}
+use Rattle.page_open.specs.declared.reads.OpenFault.{OpenFault}
+use Rattle.page_open.specs.declared.reads.OpenFault.TheVariants.{Disk, NotDatabase, Memory}
 use Rattle.page_open.proofs.Fresh.{fresh_sound}
 
 whole_front : (file : List ℕ) → 4096 ≤ length file → nat_le 4096 (length file) ≡ true
@@ -61,13 +61,13 @@ other_moved roots.Older side sequence page file read has hold =
 other_moved (roots.Written root) side sequence page file read has hold = absurd read
 other_moved (roots.Opening root) side sequence page file read has hold = absurd read
 
-front_moved : (page file : List ℕ) (r : Result (OpenRoot × RootSlot) OpenCause) → length page ≡ 4096 → HasPage 0 page file → IfOk r (λ x. IsRead x.1) → FrontRead page r → FrontRead file r
+front_moved : (page file : List ℕ) (r : Result (OpenRoot × RootSlot) OpenFault) → length page ≡ 4096 → HasPage 0 page file → IfOk r (λ x. IsRead x.1) → FrontRead page r → FrontRead file r
 front_moved page file (Ok x) size has read front = (current_kept page file size has ∙ front.0, other_moved x.1 (other x.0.side) x.0.root.sequence page file read has front.1)
 front_moved page file (Err Disk) size has read front = tt
 front_moved page file (Err (NotDatabase number)) size has read front = (front.0, current_kept page file size has ∙ front.1)
 front_moved page file (Err Memory) size has read front = tt
 
-pub front_told : (page : List ℕ) (seen : Option (List ℕ)) (r : Result (OpenRoot × RootSlot) OpenCause) (whole : Bool) → length page ≡ 4096 → IfSome seen (λ file. MatchBool whole (HasPage 0 page file) (CutsPage 0 file)) → whole ≡ true
+pub front_told : (page : List ℕ) (seen : Option (List ℕ)) (r : Result (OpenRoot × RootSlot) OpenFault) (whole : Bool) → length page ≡ 4096 → IfSome seen (λ file. MatchBool whole (HasPage 0 page file) (CutsPage 0 file)) → whole ≡ true
     → IfOk r (λ x. IsRead x.1) → FrontRead page r → IfSome seen (λ file. FrontRead file r)
 front_told page None r whole size has is read front = tt
 front_told page (Some file) r whole size has is read front = front_moved page file r size (subst (λ (b : Bool). MatchBool b (HasPage 0 page file) (CutsPage 0 file)) is has) read front
@@ -77,21 +77,21 @@ pub front_cut : (page : List ℕ) (seen : Option (List ℕ)) (whole : Bool) → 
 front_cut page None whole has is = tt
 front_cut page (Some file) whole has is = let cut : CutsPage 0 file = subst (λ (b : Bool). MatchBool b (HasPage 0 page file) (CutsPage 0 file)) is has in (refl, cut_front file (omega (arith, cut)))
 
-pub front_failed : (fault : OpenCause) (old new : DiskState) (seen : Option (List ℕ)) → IsDeviceFault fault old new → IfSome seen (λ file. FrontRead file (Err fault))
+pub front_failed : (fault : OpenFault) (old new : DiskState) (seen : Option (List ℕ)) → IsDeviceFault fault old new → IfSome seen (λ file. FrontRead file (Err fault))
 front_failed Disk old new None is = tt
 front_failed Disk old new (Some file) is = tt
 front_failed (NotDatabase page) old new seen is = absurd is
 front_failed Memory old new None is = tt
 front_failed Memory old new (Some file) is = tt
 
-pub log_failed : (fault : OpenCause) (log : ℕ) (old new : DiskState) (seen : Option (List ℕ)) → IsDeviceFault fault old new → IfSome seen (λ file. LogRead file log (Err fault))
+pub log_failed : (fault : OpenFault) (log : ℕ) (old new : DiskState) (seen : Option (List ℕ)) → IsDeviceFault fault old new → IfSome seen (λ file. LogRead file log (Err fault))
 log_failed Disk log old new None is = tt
 log_failed Disk log old new (Some file) is = tt
 log_failed (NotDatabase page) log old new seen is = absurd is
 log_failed Memory log old new None is = tt
 log_failed Memory log old new (Some file) is = tt
 
-pub opened_failed : (fault : OpenCause) (old new : DiskState) (seen : Option (List ℕ)) → IsDeviceFault fault old new → IfSome seen (λ file. IsOpened file (Err fault))
+pub opened_failed : (fault : OpenFault) (old new : DiskState) (seen : Option (List ℕ)) → IsDeviceFault fault old new → IfSome seen (λ file. IsOpened file (Err fault))
 opened_failed Disk old new None is = tt
 opened_failed Disk old new (Some file) is = tt
 opened_failed (NotDatabase page) old new seen is = absurd is
@@ -111,7 +111,7 @@ stray_moved log page file has stray = record {
     at_page : (k : ℕ) → k < 64 → slice_index page (0 + 64 * k) ≡ slice_index file (4096 * log + 64 * k)
     at_page k low = let front : 0 + 64 * k ≡ 64 * k = omega arith in ap (λ (m : ℕ). slice_index page m) front ∙ has.bytes (64 * k) (omega arith)
 
-log_read : (log : ℕ) (page file : List ℕ) (r : Result (List RecordAt) OpenCause) → log ≢ 0 → HasPage log page file → PageLog page log r → LogRead file log r
+log_read : (log : ℕ) (page file : List ℕ) (r : Result (List RecordAt) OpenFault) → log ≢ 0 → HasPage log page file → PageLog page log r → LogRead file log r
 log_read log page file (Ok records) some has read = (
   record { least = omega (arith, some); within = has.whole },
   log_moved 0 (4096 * log) records page file (λ k low. let front : 0 + k ≡ k = omega arith in sym (ap (λ (m : ℕ). slice_index page m) front ∙ has.bytes k low)) read.0,
@@ -122,7 +122,7 @@ log_read log page file (Err (NotDatabase number)) some has read =
     inr (record { least = omega (arith, some); within = has.whole }, named, subst (λ (n : ℕ). HasStray (4096 * n) file) (sym named) (stray_moved log page file has read.1))
 log_read log page file (Err Memory) some has read = tt
 
-pub log_told : (log : ℕ) (page : List ℕ) (seen : Option (List ℕ)) (r : Result (List RecordAt) OpenCause) (whole : Bool) → log ≢ 0 → IfSome seen (λ file. MatchBool whole (HasPage log page file) (CutsPage log file)) → whole ≡ true
+pub log_told : (log : ℕ) (page : List ℕ) (seen : Option (List ℕ)) (r : Result (List RecordAt) OpenFault) (whole : Bool) → log ≢ 0 → IfSome seen (λ file. MatchBool whole (HasPage log page file) (CutsPage log file)) → whole ≡ true
     → PageLog page log r → IfSome seen (λ file. LogRead file log r)
 log_told log page None r whole some has is read = tt
 log_told log page (Some file) r whole some has is read = log_read log page file r some (subst (λ (b : Bool). MatchBool b (HasPage log page file) (CutsPage log file)) is has) read

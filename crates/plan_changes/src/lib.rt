@@ -6,5 +6,5 @@ mod laws;
 mod names;
 
 pub use change::Change;
-pub use laws::{changes_keep_names, names_depend_on_no_row};
+pub use laws::names_depend_on_no_row;
 pub use names::{changed_names, is_same};

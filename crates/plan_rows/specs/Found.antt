@@ -1,7 +1,7 @@
 -- What plans give where no array is stored.
 use Rattle.std.specs.Prelude.{◌≡◌, [], Some, None, IsTrue}
 use Rattle.logical_plan.specs.Faults.{fault_of}
-use Rattle.chunk_exec.specs.Computed.{is_executed}
+use Rattle.logical_plan.specs.Laws.{keeps_places}
 use Rattle.logical_plan.specs.Leaves.{leaves}
 use Rattle.logical_plan.specs.Meaning.{Database, Meant, whole}
 use Rattle.logical_plan.specs.Query.{Query}
@@ -15,7 +15,7 @@ nothing name version = []
 
 -- a typed plan of the operators that are executed, which reads no stored array
 pub record CanAnswer (query : Query) : Type 0 where
-  pub now : IsTrue (is_executed query)
+  pub now : IsTrue (keeps_places query)
   pub typed : IsTyped query
   pub unread : leaves query ≡ []
 

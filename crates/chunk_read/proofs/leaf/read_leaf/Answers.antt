@@ -4,13 +4,12 @@ use Rattle.std.specs.List.{AllByRecursion, AllZip}
 use Rattle.arrayvec.specs.ArrayVec.{ArrayVec}
 use Rattle.cell_values.specs.declared.schema.Schema.{Schema}
 use Rattle.array_geom.specs.declared.chunk.ChunkedArray.{ChunkedArray}
-use Rattle.array_geom.specs.Chunks.{IsChunk}
 use Rattle.array_geom.specs.Geometry.{overlaps}
 use Rattle.array_geom.specs.Link.{IsPart}
 use Rattle.array_parts.specs.Placed.{HavePlaces}
 use Rattle.logical_plan.specs.Meaning.{Database, version_rows}
 use Rattle.chunk_source.specs.Source.{IsStored}
-use Rattle.chunk_read.proofs.LeafLaws.{are_valid, have_places, is_told}
+use Rattle.chunk_read.proofs.LeafLaws.{have_places, is_told}
 use Rattle.chunk_read.proofs.ReadLemmas.{listed_among}
 use Rattle.chunk_read.proofs.leaf.read_leaf.Goals as goal
 
@@ -23,12 +22,6 @@ returns-clause-placed g c =
     let schema = c.args.leaf.now.schema in
     let places = have_places schema c.overlaps_of.result.items c.as_slice.result.now c.in_ok-chunks.chunks c.overlaps_of.ensures c.requires.valid c.in_ok-chunks.ensures.stored in
     subst (λ (z : Schema). HavePlaces z c.overlaps_of.result.items c.in_ok-chunks.chunks) (sym c.in_ok-copy.ensures) places
-
-pub returns-clause-valid : goal.returns-clause-valid
-returns-clause-valid g c =
-    let schema = c.args.leaf.now.schema in
-    let valid = are_valid schema c.overlaps_of.result.items c.as_slice.result.now c.in_ok-chunks.chunks c.overlaps_of.ensures c.in_ok-chunks.ensures.stored in
-    subst (λ (z : Schema). AllByRecursion (IsChunk z c.overlaps_of.result.items) c.in_ok-chunks.chunks) (sym c.in_ok-copy.ensures) valid
 
 pub returns-clause-told : goal.returns-clause-told
 returns-clause-told g c =

@@ -1,13 +1,9 @@
-use Rattle.std.proofs.Common.{◌≡◌, ℕ, ◌+◌, ◌*◌, List, [], ◌∷◌, length, drop, slice_index, refl, sym, subst, ◌∙◌, arith}
-use Rattle.std.proofs.lemmas.Result.{err_from_is_err_and}
-use Rattle.std.specs.Prelude.{Result, OnOk}
-use Rattle.afl_outside.specs.declared.source.Failed.{Failed}
+use Rattle.std.proofs.Common.{◌≡◌, ℕ, ◌+◌, ◌*◌, List, [], ◌∷◌, length, drop, slice_index, refl, sym, ◌∙◌, arith}
 use Rattle.page_layout.specs.Places.{KeepsPages}
-use Rattle.page_chain.specs.Pages.{page_size, page_at, piece_of, HoldsBlob}
-use Rattle.page_chain.specs.Runs.{Sees}
+use Rattle.page_chain.specs.Pages.{page_size, page_at, piece_of}
 use Rattle.page_chain.proofs.Kept.{size_is, one_of}
 use Rattle.page_chain.proofs.RunLemmas.{writes_on, writes_more, sees_on}
-use Rattle.page_chain.proofs.WriteLemmas.{WroteSoFar, wrote_more, wrote_torn, next_rest, blob_piece, length-piece}
+use Rattle.page_chain.proofs.WriteLemmas.{WroteSoFar, wrote_more, next_rest, blob_piece, length-piece}
 use Rattle.page_chain.proofs.blob.write_blob.Goals as goal
 
 pub write_page-requires : goal.write_page-requires
@@ -19,19 +15,6 @@ returns-in_err-write_page-clause-writes g c =
     let page = slice_index pages c.loop-page.page-index in
     writes_on pages _ _ _ _ _ _ _ _ _ c.loop-page.invariant.writes
     (writes_more (page ∷ []) pages _ _ _ _ _ _ (λ number none. one_of pages c.loop-page.page-index page number c.loop-page-test.true refl none) c.in_err-write_page.ensures.writes)
-
-pub returns-in_err-write_page-clause-seen : goal.returns-in_err-write_page-clause-seen
-returns-in_err-write_page-clause-seen g c =
-    let pages = c.args.pages.now in
-    let i = c.loop-page.page-index in
-    let page = slice_index pages i in
-    let pieces : ℕ → List ℕ = λ k. piece_of page_size c.args.bytes.now k in
-    let p = err_from_is_err_and c.from_residual.result c.from_residual.ensures.1 in
-    subst (λ (r : Result (Unit {0}) Failed). Sees (g.D.Disk.state c.args.disk.now) (g.D.Disk.state c.write_page.new.disk) (λ seen now. KeepsPages pages seen now × OnOk r (HoldsBlob page_size now pages c.args.bytes.now))) (sym p.1)
-    (sees_on (g.D.Disk.state c.args.disk.now) (g.D.Disk.state c.loop-page.disk) (g.D.Disk.state c.write_page.new.disk)
-    (WroteSoFar pages pieces i) (λ seen now. KeepsPages (page ∷ []) seen now × Unit {0}) (λ seen now. KeepsPages pages seen now × Unit {0})
-    (λ x y z so_far more. (wrote_torn pages pieces i page x y z c.loop-page-test.true refl so_far more.0, tt))
-    c.loop-page.invariant.writes.same c.loop-page.invariant.seen c.in_err-write_page.ensures.seen)
 
 pub loop-page-preserved : goal.loop-page-preserved
 loop-page-preserved g c =

@@ -1,14 +1,10 @@
-use Rattle.std.proofs.Common.{◌≡◌, ℕ, ◌+◌, ◌-◌, List, [], ◌∷◌, length, slice_index, refl, sym, subst, ◌∙◌, ap, arith}
-use Rattle.std.proofs.lemmas.Result.{err_from_is_err_and}
-use Rattle.std.specs.Prelude.{Result, OnOk}
-use Rattle.afl_outside.specs.declared.source.Failed.{Failed}
+use Rattle.std.proofs.Common.{◌≡◌, ℕ, ◌+◌, ◌-◌, List, [], ◌∷◌, length, slice_index, refl, sym, ◌∙◌, ap, arith}
 use Rattle.page_layout.specs.Places.{KeepsPages}
 use Rattle.page_chain.specs.Pages.{page_size, page_at}
-use Rattle.page_chain.specs.Chains.{content_size, chain_piece, HoldsChain}
-use Rattle.page_chain.specs.Runs.{Sees}
+use Rattle.page_chain.specs.Chains.{content_size, chain_piece}
 use Rattle.page_chain.proofs.Kept.{size_is, one_of}
 use Rattle.page_chain.proofs.RunLemmas.{writes_on, writes_more, sees_on}
-use Rattle.page_chain.proofs.WriteLemmas.{WroteSoFar, wrote_more, wrote_torn, next_rest, chain_piece_is, length-chain_piece}
+use Rattle.page_chain.proofs.WriteLemmas.{WroteSoFar, wrote_more, next_rest, chain_piece_is, length-chain_piece}
 use Rattle.page_chain.proofs.chain.write_chain.Goals as goal
 
 pub write_page-requires : goal.write_page-requires
@@ -20,19 +16,6 @@ returns-in_err-write_page-clause-writes g c =
     let page = slice_index pages c.loop-i.i in
     writes_on pages _ _ _ _ _ _ _ _ _ c.loop-i.invariant.writes
     (writes_more (page ∷ []) pages _ _ _ _ _ _ (λ number none. one_of pages c.loop-i.i page number c.loop-i-test.true refl none) c.in_err-write_page.ensures.writes)
-
-pub returns-in_err-write_page-clause-seen : goal.returns-in_err-write_page-clause-seen
-returns-in_err-write_page-clause-seen g c =
-    let pages = c.args.pages.now in
-    let i = c.loop-i.i in
-    let page = slice_index pages i in
-    let pieces : ℕ → List ℕ = λ k. chain_piece page_size pages c.args.bytes.now k in
-    let p = err_from_is_err_and c.from_residual.result c.from_residual.ensures.1 in
-    subst (λ (r : Result (Unit {0}) Failed). Sees (g.D.Disk.state c.args.disk.now) (g.D.Disk.state c.write_page.new.disk) (λ seen now. KeepsPages pages seen now × OnOk r (HoldsChain page_size now pages c.args.bytes.now))) (sym p.1)
-    (sees_on (g.D.Disk.state c.args.disk.now) (g.D.Disk.state c.loop-i.disk) (g.D.Disk.state c.write_page.new.disk)
-    (WroteSoFar pages pieces i) (λ seen now. KeepsPages (page ∷ []) seen now × Unit {0}) (λ seen now. KeepsPages pages seen now × Unit {0})
-    (λ x y z so_far more. (wrote_torn pages pieces i page x y z c.loop-i-test.true refl so_far more.0, tt))
-    c.loop-i.invariant.writes.same c.loop-i.invariant.seen c.in_err-write_page.ensures.seen)
 
 pub loop-i-preserved : goal.loop-i-preserved
 loop-i-preserved g c =

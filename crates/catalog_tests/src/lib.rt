@@ -1,5 +1,0 @@
-//! Directories of chunks.
-#![tactic(auto)]
-
-#[cfg(test)]
-mod directories;

@@ -1,0 +1,5 @@
+pub mod AppliedValues
+pub mod Holding
+pub mod NullAlone
+pub mod Projected
+pub mod Steps

@@ -1,0 +1,63 @@
+ghost use Rattle.std.specs.Prelude.{◌≡◌, [], ◌∷◌, IfOk};
+ghost use Rattle.chunk_map.specs.Entries.{AreRising};
+
+use super::*;
+use cell_values::{ChunkAt, List, Memory};
+use std::alloc::Global;
+use std::test::*;
+
+/// Chunk 3 has a payload of 5,000 bytes, which commit 2 wrote into the pages 7 and 9.
+const ONE: [u8; 44] = [
+    1, 0, 0, 0, 0, 0, 0, 0, 3, 0, 0, 0, 0, 0, 0, 0, 136, 19, 0, 0, 0, 0, 0, 0, 2, 0, 0, 0, 0, 0, 0,
+    0, 2, 0, 0, 0, 7, 0, 0, 0, 9, 0, 0, 0,
+];
+
+fn one(alloc: Global) -> Result<Directory, Memory>
+    ensures { IfOk result (λ directory. AreRising directory.entries) }
+{
+    let mut at = ChunkAt::new();
+    at.push(3);
+    let entry = DirEntry {
+        at,
+        length: 5000,
+        birth: 2,
+        pages: List::from_slice(alloc, &[7, 9])?,
+    };
+    let mut entries = List::new(alloc);
+    entries.push(entry)?;
+    Ok(Directory { entries })
+}
+
+#[test]
+fn a_directory_has_one_spelling(rt: HostRuntime) -> Result<(), Fail> {
+    let bytes = encode_directory(rt.alloc(), &one(rt.alloc())?, 1)?;
+    assert!(rt; bytes.as_slice() == ONE.as_slice());
+    match decode_directory(rt.alloc(), 1, &ONE) {
+        Ok(directory) => {
+            assert_eq!(rt; directory.entries.len(), 1);
+            let again = encode_directory(rt.alloc(), &directory, 1)?;
+            assert!(rt; again.as_slice() == ONE.as_slice());
+        }
+        Err(_) => assert!(rt; false),
+    }
+    Ok(())
+}
+
+#[test]
+fn a_page_that_is_cut_is_told_at_its_first_byte(rt: HostRuntime) -> Result<(), Fail> {
+    let (front, _) = ONE.as_slice().split_at(43);
+    match decode_directory(rt.alloc(), 1, front) {
+        Err(BadDirectory::At { at }) => assert_eq!(rt; at, 40),
+        _ => assert!(rt; false),
+    }
+    Ok(())
+}
+
+#[test]
+fn a_fresh_entry_stands_in_place_of_the_old_one(rt: HostRuntime) -> Result<(), Fail> {
+    let old = one(rt.alloc())?;
+    let fresh = one(rt.alloc())?;
+    let new = replaced(&old, fresh.entries.as_slice())?;
+    assert_eq!(rt; new.entries.len(), 1);
+    Ok(())
+}

@@ -1,2 +1,0 @@
-pub mod JoinLaws
-pub mod JoinSteps

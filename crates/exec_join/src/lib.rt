@@ -1,7 +1,0 @@
-//! Joins of chunks.
-#![tactic(auto)]
-
-mod beside;
-mod join;
-
-pub use join::join_chunks;

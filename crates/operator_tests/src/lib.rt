@@ -1,7 +1,0 @@
-//! Aggregates and joins of a few cells.
-#![tactic(auto)]
-
-#[cfg(test)]
-mod joins;
-#[cfg(test)]
-mod states;
