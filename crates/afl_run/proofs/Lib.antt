@@ -1,7 +1,8 @@
-pub mod BuiltRows
 pub mod Calls
+pub mod CheckedReplies
 pub mod Ending
-pub mod Faults
 pub mod Outcomes
+pub mod PlanReplies
+pub mod PlansNow
 pub mod Reports
 pub mod ServingLemmas

@@ -1,6 +1,5 @@
 pub mod Notice
 pub mod Reply
-pub mod Rows
 pub mod Run
 pub mod Serving
 pub mod Session

@@ -19,11 +19,11 @@ use Rattle.type_rules.specs.Checked.{Checked}
 use Rattle.afl_types.specs.Checking.{check_of}
 use Rattle.afl_types.specs.declared.checking.Typed.{Typed}
 use Rattle.afl_types.specs.declared.checking.Typed.TheVariants.{Query}
+use Rattle.plan_rows.specs.Found.{CanAnswer, nothing}
 use Rattle.result_print.specs.Texts.{array_text}
 use Rattle.result_print.specs.Lines.{line_of_refusal}
 use Rattle.result_print.specs.declared.refusal.Refusal.{Refusal}
 use Rattle.result_print.specs.declared.refusal.Refusal.TheVariants.{TooLong, Parse, NotBuilt, Typing, Cell, Memory}
-use Rattle.afl_run.specs.Rows.{nothing}
 use Rattle.afl_run.specs.Unbuilt.{is_unbuilt}
 use Rattle.afl_run.specs.declared.reply.Reply.{Reply}
 
@@ -58,8 +58,15 @@ meant_reply array = array_reply array.schema array.rows
 abbrev pub plan_reply : AQuery → Reply
 plan_reply query = meant_reply (meaning nothing query)
 
+-- a checked statement whose reply is computed
+abbrev pub CanReply : Typed → Type 0
+CanReply (Query query) = CanAnswer query
+
+abbrev pub typed_reply : Typed → Reply
+typed_reply (Query query) = plan_reply query
+
 abbrev pub checked_reply : Checked Typed → Reply
-checked_reply (Ok (Query query)) = plan_reply query
+checked_reply (Ok typed) = typed_reply typed
 checked_reply (Err breach) = refused (Typing breach.span breach.kind)
 
 -- the reply to a tree

@@ -4,11 +4,8 @@
 mod arg;
 mod reply;
 mod report;
-mod rows;
 mod session;
 mod streams;
-#[cfg(test)]
-mod tests;
 mod top;
 mod unbuilt;
 

@@ -1,14 +1,17 @@
 //! The reply to a statement.
-ghost use Rattle.std.specs.Prelude.{◌≡◌, ◌≤◌, length, IfOk};
-ghost use Rattle.afl_types.specs.BuiltNow.{IsBuiltNow};
-ghost use Rattle.afl_run.specs.Reply.{IsReplyTo, plan_reply, refused, reply_to_tree};
+ghost use Rattle.std.specs.Prelude.{◌≡◌, ◌≤◌, false, length, IfOk, IsTrue};
+ghost use Rattle.expr_types.specs.Laws.{leaves_fit};
+ghost use Rattle.plan_rows.specs.Found.{CanAnswer};
+ghost use Rattle.afl_types.specs.Checking.{check_of};
+ghost use Rattle.afl_run.specs.Reply.{CanReply, IsReplyTo, checked_reply, no_names, plan_reply, refused, reply_to_tree, typed_reply};
+ghost use Rattle.afl_run.specs.Unbuilt.{is_unbuilt};
 
-use crate::rows::{array_of, first_fault};
 use crate::unbuilt::is_unbuilt;
 use afl_parser::{ParseFault, Tree, parse};
 use afl_types::{TypeFault, Typed, check};
 use cell_values::{Broken, Bytes, List, Memory};
 use logical_plan::{Names, Plan};
+use plan_rows::{PlanRows, rows_of};
 use result_print::{Refusal, dcsv, refusal_line};
 use std::alloc::Global;
 
@@ -44,32 +47,52 @@ pub(crate) fn refuse(alloc: Global, refusal: Refusal) -> Result<Reply, Memory>
 
 /// The reply to a tree of a text.
 fn reply_to_tree(alloc: Global, text: &[u8], tree: &Tree) -> Result<Reply, Memory>
+    requires { IsTrue (leaves_fit tree.now) }
     ensures { IfOk result (λ reply. reply ≡ reply_to_tree tree.now) }
 {
     if is_unbuilt(tree) {
-        return refuse(alloc, Refusal::NotBuilt);
+        refuse(alloc, Refusal::NotBuilt)
+    } else {
+        reply_to_query(alloc, text, tree)
     }
+}
+
+/// The reply to a tree all of whose operators are built.
+fn reply_to_query(alloc: Global, text: &[u8], tree: &Tree) -> Result<Reply, Memory>
+    requires fit { IsTrue (leaves_fit tree.now) }
+    requires built { is_unbuilt tree.now ≡ false }
+    ensures { IfOk result (λ reply. reply ≡ checked_reply (check_of tree.now no_names)) }
+{
     let names = Names {
         arrays: List::new(alloc),
     };
     match check(alloc, tree, text, &names) {
-        Ok(Typed::Query(plan)) => reply_to_plan(alloc, plan),
+        Ok(typed) => reply_to_typed(alloc, &typed),
         Err(TypeFault::Rule { span, kind }) => refuse(alloc, Refusal::Typing { span, kind }),
         Err(TypeFault::Memory) => Err(Memory),
     }
 }
 
-/// The reply to a plan: the first fault of its array, or its text.
-fn reply_to_plan(alloc: Global, plan: Plan) -> Result<Reply, Memory>
-    requires { IsBuiltNow plan }
-    ensures { IfOk result (λ reply. reply ≡ plan_reply plan) }
+/// The reply to a checked statement.
+fn reply_to_typed(alloc: Global, typed: &Typed) -> Result<Reply, Memory>
+    requires { CanReply typed.now }
+    ensures { IfOk result (λ reply. reply ≡ typed_reply typed.now) }
 {
-    let array = array_of(alloc, plan)?;
-    let rows = array.rows.as_slice();
-    match first_fault(rows) {
-        Some(Broken { at, kind }) => refuse(alloc, Refusal::Cell { at, kind }),
-        None => Ok(Reply {
-            text: dcsv(alloc, &array.schema, rows)?,
+    match typed {
+        Typed::Query(plan) => reply_to_plan(alloc, plan),
+    }
+}
+
+/// The reply to a plan: the first fault of its array, or its text.
+#[tactic(auto, using(crate::proofs::PlanReplies::fault_reply, crate::proofs::PlanReplies::text_reply))]
+fn reply_to_plan(alloc: Global, plan: &Plan) -> Result<Reply, Memory>
+    requires { CanAnswer plan.now }
+    ensures { IfOk result (λ reply. reply ≡ plan_reply plan.now) }
+{
+    match rows_of(alloc, plan)? {
+        PlanRows::Fault(Broken { at, kind }) => refuse(alloc, Refusal::Cell { at, kind }),
+        PlanRows::Rows(schema, rows) => Ok(Reply {
+            text: dcsv(alloc, &schema, rows.as_slice())?,
             refusal: None,
         }),
     }

@@ -12,7 +12,17 @@ fn is_to_come(name: &[u8]) -> bool
     ensures { result ≡ is_to_come (operator_named name.now) }
 {
     match operator_named(name) {
-        None | Some(Operator::Build | Operator::Scan) => false,
+        None
+        | Some(
+            Operator::Build
+            | Operator::Scan
+            | Operator::Filter
+            | Operator::Apply
+            | Operator::Project
+            | Operator::Between
+            | Operator::Subarray
+            | Operator::Slice,
+        ) => false,
         Some(_) => true,
     }
 }

@@ -1,3 +1,4 @@
-pub mod BuiltQueries
+pub mod Small
+pub mod Sources
 pub mod Steps
 mod WorkedQueries

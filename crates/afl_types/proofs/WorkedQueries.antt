@@ -2,9 +2,9 @@
 use Rattle.std.proofs.Common.{◌≡◌, ℕ, pos, true, Ok, List, [], ◌∷◌, refl}
 use Rattle.std.specs.Prelude.{codes}
 use Rattle.cell_values.specs.declared.name.Span.{Span}
-use Rattle.schema_grammar.specs.declared.kinds.TypeKind.TheVariants.{UnknownArray, UnknownVersion, UnknownName, WrongType, WrongCount, BoundsOrder}
+use Rattle.schema_grammar.specs.declared.kinds.TypeKind.TheVariants.{UnknownArray, UnknownVersion, UnknownName, RepeatedName, WrongType, WrongCount, BoundsOrder, EmptyBox}
 use Rattle.schema_grammar.specs.declared.shape_text.SchemaText.{SchemaText}
-use Rattle.afl_parser.specs.Term.{number, truth, reference, version, call, schema, star, binary, group, no_terms, and_term}
+use Rattle.afl_parser.specs.Term.{number, truth, null, reference, version, call, schema, star, binary, group, no_terms, and_term}
 use Rattle.afl_parser.specs.declared.tree.BinaryOp.TheVariants.{Mul}
 use Rattle.expr_nulls.specs.Expr.{dimension_value, calculation}
 use Rattle.expr_nulls.specs.declared.expr.ArithOp.TheVariants as arith_op
@@ -58,10 +58,50 @@ no_array : query_of arrays (call (at 0 7) (codes "scan") (and_term (reference (a
 unfolding at written entry arrays query_named change_named
 no_array = refl
 
--- filter(A): no operator that is built yet
-not_yet : query_of arrays (call (at 0 9) (codes "filter") (and_term (reference (at 7 8) (codes "A")) no_terms)) ≡ refused (at 0 6) UnknownName
+-- filter(Q): the number of arguments comes before the source
+filter_count : query_of arrays (call (at 0 9) (codes "filter") (and_term (reference (at 7 8) (codes "Q")) no_terms)) ≡ refused (at 0 9) WrongCount
 unfolding at written entry arrays query_named change_named
-not_yet = refl
+filter_count = refl
+
+-- filter(Q, *): the source comes before the sorts behind it
+source_first : query_of arrays (call (at 0 12) (codes "filter") (and_term (reference (at 7 8) (codes "Q")) (and_term (star (at 10 11)) no_terms))) ≡ refused (at 7 8) UnknownArray
+unfolding at written entry arrays query_named change_named
+source_first = refl
+
+-- filter(A, 1)
+filter_kind : query_of arrays (call (at 0 12) (codes "filter") (and_term (reference (at 7 8) (codes "A")) (and_term (number (at 10 11) (pos 1)) no_terms))) ≡ refused (at 10 11) WrongType
+unfolding at written entry arrays query_named change_named
+filter_kind = refl
+
+-- apply(A, i, 1): the name of a dimension is given
+apply_name : query_of arrays (call (at 0 14) (codes "apply") (and_term (reference (at 6 7) (codes "A")) (and_term (reference (at 9 10) (codes "i")) (and_term (number (at 12 13) (pos 1)) no_terms)))) ≡ refused (at 9 10) RepeatedName
+unfolding at written entry arrays query_named change_named
+apply_name = refl
+
+-- apply(A, w, null)
+apply_null : query_of arrays (call (at 0 17) (codes "apply") (and_term (reference (at 6 7) (codes "A")) (and_term (reference (at 9 10) (codes "w")) (and_term (null (at 12 16)) no_terms)))) ≡ refused (at 12 16) WrongType
+unfolding at written entry arrays query_named change_named
+apply_null = refl
+
+-- project(A, i): a dimension is no attribute
+project_name : query_of arrays (call (at 0 13) (codes "project") (and_term (reference (at 8 9) (codes "A")) (and_term (reference (at 11 12) (codes "i")) no_terms))) ≡ refused (at 11 12) UnknownName
+unfolding at written entry arrays query_named change_named
+project_name = refl
+
+-- between(A, 0): two bounds for each dimension
+between_count : query_of arrays (call (at 0 13) (codes "between") (and_term (reference (at 8 9) (codes "A")) (and_term (number (at 11 12) (pos 0)) no_terms))) ≡ refused (at 0 13) WrongCount
+unfolding at written entry arrays query_named change_named
+between_count = refl
+
+-- subarray(A, 2, null): behind the high bound
+empty_part : query_of arrays (call (at 0 20) (codes "subarray") (and_term (reference (at 9 10) (codes "A")) (and_term (number (at 12 13) (pos 2)) (and_term (null (at 15 19)) no_terms)))) ≡ refused (at 0 20) EmptyBox
+unfolding at written entry arrays query_named change_named
+empty_part = refl
+
+-- slice(A, i, 0): no dimension is left
+none_left : query_of arrays (call (at 0 14) (codes "slice") (and_term (reference (at 6 7) (codes "A")) (and_term (reference (at 9 10) (codes "i")) (and_term (number (at 12 13) (pos 0)) no_terms)))) ≡ refused (at 0 14) WrongCount
+unfolding at written entry arrays query_named change_named
+none_left = refl
 
 -- ((1)): a fault of a bracketed query is at its content
 no_query : query_of arrays (group (at 0 5) (group (at 1 4) (number (at 2 3) (pos 1)))) ≡ refused (at 2 3) WrongType

@@ -1,3 +1,4 @@
-pub mod BuiltNow
+pub mod Calls
 pub mod Checking
+pub mod Limits
 pub mod Queries

@@ -1,28 +1,38 @@
 -- Queries: the plan that a tree is, over the stored arrays, or the first rule that it breaks.
 --
--- At a call the name is tested first, then the number of arguments, then the sort of each argument from left to right, and then the
--- operator's own rules in their order.
-use Rattle.std.specs.Prelude.{ℕ, Option, Some, List}
+-- At a call the name is tested first, then the number of arguments, then the source wholly, then the sort of each further argument from
+-- left to right, and then the operator's own rules in their order.
+use Rattle.std.specs.Prelude.{ℕ, length, Option, Some, None, List}
 use Rattle.cell_values.specs.declared.name.Span.{Span}
-use Rattle.schema_grammar.specs.declared.kinds.TypeKind.TheVariants.{UnknownName}
-use Rattle.afl_parser.specs.Term.{Term, call, group, Terms}
+use Rattle.schema_grammar.specs.declared.kinds.TypeKind.TheVariants.{UnknownName, WrongCount}
+use Rattle.afl_parser.specs.Term.{Term, call, group, Terms, no_terms, and_term}
 use Rattle.logical_plan.specs.Query.{Query}
 use Rattle.logical_plan.specs.declared.names.NameEntry.{NameEntry}
-use Rattle.type_rules.specs.Checked.{Checked, refused}
+use Rattle.type_rules.specs.Checked.{Checked, refused, demand, then}
 use Rattle.type_rules.specs.Operators.{operator_named, name_span}
-use Rattle.type_rules.specs.declared.operator.Operator.{Operator}
-use Rattle.type_rules.specs.declared.operator.Operator.TheVariants.{Build, Scan}
+use Rattle.operator_rules.specs.Sorts.{to_list}
 use Rattle.source_types.specs.Build.{build_call}
 use Rattle.source_types.specs.Stored.{referred, scan_call}
+use Rattle.afl_types.specs.Calls.{call_of, fits_count, ruled}
+use Rattle.afl_types.specs.declared.call.Call.{Call}
+use Rattle.afl_types.specs.declared.call.Call.TheVariants.{Build, Scan, Over}
+use Rattle.afl_types.specs.declared.call.OverSource.{OverSource}
 
--- The table of operators, by name
-abbrev pub called : List NameEntry → Span → List ℕ → Option Operator → Terms → Checked Query
-called arrays s name (Some Build) arguments = build_call s arguments
-called arrays s name (Some Scan) arguments = scan_call arrays s arguments
-called arrays s name _ arguments = refused (name_span s name) UnknownName
+-- an operator on a source: how many arguments stand behind it, then the source, then they and the operator's own rules
+abbrev pub over : Span → OverSource → Checked Query → List Term → Checked Query
+over s operator source arguments = demand (fits_count operator (length arguments)) s WrongCount (then source (λ plan. ruled s operator plan arguments))
 
 -- A bracketed query is the query in the brackets.
-abbrev pub query_of : List NameEntry → Term → Checked Query
-query_of arrays (group s a) = query_of arrays a
-query_of arrays (call s name arguments) = called arrays s name (operator_named name) arguments
-query_of arrays t = referred arrays t
+module _ (arrays : List NameEntry) where
+  abbrev mutual
+    pub query_of : Term → Checked Query
+    query_of (group s a) = query_of a
+    query_of (call s name arguments) = called s name (call_of (operator_named name)) arguments
+    query_of t = referred arrays t
+
+    pub called : Span → List ℕ → Option Call → Terms → Checked Query
+    called s name (Some Build) arguments = build_call s arguments
+    called s name (Some Scan) arguments = scan_call arrays s arguments
+    called s name (Some (Over operator)) (and_term source arguments) = over s operator (query_of source) (to_list arguments)
+    called s name (Some (Over operator)) no_terms = refused s WrongCount
+    called s name None arguments = refused (name_span s name) UnknownName

@@ -1,8 +1,6 @@
 //! Checking of statements.
-ghost use Rattle.std.specs.Prelude.{IfOk};
 ghost use Rattle.type_rules.specs.Checked.{Answers};
-ghost use Rattle.afl_types.specs.Checking.{check_of};
-ghost use Rattle.afl_types.specs.BuiltNow.{IsTypedNow};
+ghost use Rattle.afl_types.specs.Checking.{AreValid, check_of};
 
 use crate::TypeFault;
 use crate::query::query_of;
@@ -22,8 +20,8 @@ pub enum Typed {
 /// left to right, where an argument that is a query is checked wholly at its turn, and then the operator's own rules.
 #[tactic(auto, using(crate::proofs::Steps::ok_then, crate::proofs::Steps::err_then))]
 pub fn check(alloc: Global, tree: &Tree, text: &[u8], names: &Names) -> Result<Typed, TypeFault>
-    ensures meaning { Answers result (check_of tree.now names.now) }
-    ensures built { IfOk result IsTypedNow }
+    requires { AreValid names.now.arrays }
+    ensures { Answers result (check_of tree.now names.now) }
 {
     let plan = query_of(alloc, text, names.arrays.as_slice(), tree)?;
     Ok(Typed::Query(plan))

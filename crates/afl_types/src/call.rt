@@ -1,0 +1,91 @@
+//! The operators that are built: what a call is by its operator, and the rules of an operator on a source.
+ghost use Rattle.std.specs.Prelude.{◌≡◌, ◌≤◌, length};
+ghost use Rattle.logical_plan.specs.PlanSchema.{schema_of};
+ghost use Rattle.type_rules.specs.Checked.{Answers};
+ghost use Rattle.afl_types.specs.Calls.{are_pairs, call_of, fits_count, ruled};
+
+use afl_parser::Tree;
+use box_types::{between_call, slice_call, subarray_call};
+use cell_values::Span;
+use cellwise_types::{apply_call, filter_call, project_call};
+use logical_plan::Plan;
+use std::alloc::Global;
+use type_rules::{Operator, TypeFault};
+
+/// A call of an operator that is built.
+#[derive(Clone, Copy, Debug, PartialEq, Eq)]
+pub enum Call {
+    Build,
+    Scan,
+    /// The first argument is the source.
+    Over(OverSource),
+}
+
+/// An operator on a source.
+#[derive(Clone, Copy, Debug, PartialEq, Eq)]
+pub enum OverSource {
+    Filter,
+    Apply,
+    Project,
+    Between,
+    Subarray,
+    Slice,
+}
+
+pub(crate) fn call_of(operator: Option<Operator>) -> Option<Call>
+    ensures { result ≡ call_of operator }
+{
+    match operator {
+        Some(Operator::Build) => Some(Call::Build),
+        Some(Operator::Scan) => Some(Call::Scan),
+        Some(Operator::Filter) => Some(Call::Over(OverSource::Filter)),
+        Some(Operator::Apply) => Some(Call::Over(OverSource::Apply)),
+        Some(Operator::Project) => Some(Call::Over(OverSource::Project)),
+        Some(Operator::Between) => Some(Call::Over(OverSource::Between)),
+        Some(Operator::Subarray) => Some(Call::Over(OverSource::Subarray)),
+        Some(Operator::Slice) => Some(Call::Over(OverSource::Slice)),
+        _ => None,
+    }
+}
+
+fn are_pairs(count: usize) -> bool
+    ensures { result ≡ are_pairs count }
+{
+    1 <= count && count % 2 == 0
+}
+
+impl OverSource {
+    /// Whether so many arguments may stand behind the source.
+    pub(crate) fn fits_count(self, count: usize) -> bool
+        ensures { result ≡ fits_count self count }
+    {
+        match self {
+            OverSource::Filter => count == 1,
+            OverSource::Apply | OverSource::Slice => are_pairs(count),
+            OverSource::Project => 1 <= count,
+            OverSource::Between | OverSource::Subarray => true,
+        }
+    }
+
+    /// The plan over a source, with the arguments behind it.
+    pub(crate) fn ruled(
+        self,
+        alloc: Global,
+        span: Span,
+        source: Plan,
+        arguments: &[Tree],
+    ) -> Result<Plan, TypeFault>
+        requires attributes { length (schema_of source).attributes ≤ 64 }
+        requires dimensions { length (schema_of source).dimensions ≤ 6 }
+        ensures { Answers result (ruled span self source arguments.now) }
+    {
+        match self {
+            OverSource::Filter => filter_call(alloc, span, source, arguments),
+            OverSource::Apply => apply_call(alloc, span, source, arguments),
+            OverSource::Project => project_call(alloc, span, source, arguments),
+            OverSource::Between => between_call(alloc, span, source, arguments),
+            OverSource::Subarray => subarray_call(alloc, span, source, arguments),
+            OverSource::Slice => slice_call(alloc, span, source, arguments),
+        }
+    }
+}

@@ -1,0 +1,5 @@
+pub mod FixedPlaces
+pub mod Held
+pub mod Holding
+pub mod Parts
+pub mod Steps

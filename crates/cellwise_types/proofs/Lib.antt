@@ -1,0 +1,6 @@
+pub mod AppliedValues
+pub mod Arguments
+pub mod Holding
+pub mod NullAlone
+pub mod Projected
+pub mod Steps

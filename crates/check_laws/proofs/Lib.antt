@@ -1,0 +1,3 @@
+pub mod ParsedLeaves
+pub mod RowsFit
+pub mod TypedQueries
