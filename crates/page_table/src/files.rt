@@ -1,0 +1,71 @@
+//! Files of a few pages, as disks in memory.
+ghost use Rattle.std.specs.Prelude.{IfOk};
+ghost use Rattle.page_open.specs.Opened.{AreFresh};
+
+use afl_outside::{Disk, Failed, MemDisk};
+use anyhow::Result;
+use cell_values::{Bytes, List, Memory};
+use page_chain::OpenCause;
+use page_file::PageFile;
+use page_init::{InitFault, init};
+use std::alloc::Global;
+
+/// A disk with these bytes, whose call of this number fails.
+pub(crate) fn disk_of(alloc: Global, bytes: Bytes, fails: Option<u64>) -> Result<MemDisk, Memory> {
+    let mut numbers = List::new(alloc);
+    if let Some(call) = fails {
+        numbers.push(call)?;
+    }
+    Ok(MemDisk::new(bytes, numbers))
+}
+
+/// The bytes that a disk holds.
+pub(crate) fn bytes_of(disk: &MemDisk) -> Result<Bytes, Memory> {
+    disk.image(disk.calls().len() as u64, &[], 0)
+}
+
+/// Opens a file. Nothing was written to its slots yet.
+pub(crate) fn open<D: Disk>(disk: D) -> Result<PageFile<D>, (OpenCause, D)>
+    ensures { IfOk result (λ file. AreFresh file.slots) }
+{
+    PageFile::open(disk)
+}
+
+fn make<D: Disk>(disk: &mut D) -> Result<(), InitFault> {
+    init(disk)
+}
+
+fn write<D: Disk>(disk: &mut D, at: u64, bytes: &[u8]) -> Result<(), Failed> {
+    disk.write_at(at, bytes)
+}
+
+/// An empty file that was made a database.
+pub(crate) fn made(alloc: Global) -> Result<Bytes> {
+    let mut disk = disk_of(alloc, List::new(alloc), None)?;
+    make(&mut disk)?;
+    Ok(bytes_of(&disk)?)
+}
+
+/// The file with these bytes over it at a place.
+pub(crate) fn changed(alloc: Global, file: &Bytes, at: u64, bytes: &[u8]) -> Result<Bytes> {
+    let mut disk = disk_of(alloc, file.copy()?, None)?;
+    write(&mut disk, at, bytes)?;
+    Ok(bytes_of(&disk)?)
+}
+
+/// Sequence 1, and a catalogue of 4 bytes in page 1.
+const FIRST_BODY: [u8; 20] = [1, 0, 0, 0, 0, 0, 0, 0, 4, 0, 0, 0, 0, 0, 0, 0, 1, 0, 0, 0];
+
+/// An empty database of format 1, whose slot A is open.
+pub(crate) fn of_format_one(alloc: Global) -> Result<Bytes> {
+    let zeros = List::from_vec(vec![in alloc; 0u8; 8192]?);
+    let head = changed(alloc, &zeros, 0, b"AFLSTORE\x01")?;
+    let open = changed(alloc, &head, 512, &[1])?;
+    changed(alloc, &open, 520, &FIRST_BODY)
+}
+
+/// The first bytes of a file.
+pub(crate) fn cut(alloc: Global, file: &Bytes, length: usize) -> Result<Bytes, Memory> {
+    let bytes = file.as_slice();
+    List::from_slice(alloc, &bytes[..length.min(bytes.len())])
+}
