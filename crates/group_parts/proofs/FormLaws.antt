@@ -1,0 +1,112 @@
+-- Groups of the cells of rows.
+use Rattle.std.proofs.Common.{◌≡◌, ℕ, ℤ, suc, ◌+◌, ◌<◌, ◌≤◌, ◌&&◌, Bool, true, false, cond, List, [], ◌∷◌, ◌++◌, map, filter, length, get_or, take, drop, Option, Some, None, refl, sym, ap, ◌∙◌, subst, arith}
+use Rattle.std.proofs.lemmas.List.{append-nil, take-append-drop}
+use Rattle.std.proofs.lemmas.List.Elements.{filter-append}
+use Rattle.std.specs.List.{AllByRecursion, list_all}
+use Rattle.std.specs.Ordering.{is_eq}
+use Rattle.std.specs.declared.cmp.Ordering.{Ordering}
+use Rattle.std.specs.declared.cmp.Ordering.TheVariants.{Less, Equal, Greater}
+use Rattle.arrayvec.specs.ArrayVec.{ArrayVec}
+use Rattle.cell_values.specs.declared.datum.Row.{Row}
+use Rattle.array_rows.specs.Rows.{Coordinate, row_major, IsRising, put_all}
+use Rattle.array_rows.proofs.RowsLemmas.{row_major_exact, cond_same}
+use Rattle.array_rows.proofs.RowSets.{IsRising-rows_where}
+use Rattle.logical_plan.specs.declared.parts.Aggregate.{Aggregate}
+use Rattle.logical_plan.specs.Groups.{group_at}
+use Rattle.agg_states.specs.Stands.{AreApart}
+use Rattle.agg_states.specs.Summary.{Summary}
+use Rattle.group_parts.specs.declared.groups.Group.{Group}
+use Rattle.group_parts.specs.Grouped.{AreStatesOf, AreInOrder, states_at, IsGroupOf, AreGroupsOf}
+use Rattle.group_parts.specs.Sets.{Sets, unless_empty, sets_by, one_set, both, both_sets, IsApart, AreApartSets, are_at, AreKeys}
+use Rattle.group_parts.proofs.RowLemmas.{put_all_joined, joined_apart}
+
+pub same_sets : (gs : List Aggregate) (own other : Sets) (groups : List Group) → ((c : Coordinate) → own c ≡ other c) → AreGroupsOf gs own groups → AreGroupsOf gs other groups
+same_sets gs own other groups e h = record {
+  in_order = h.in_order;
+  each = λ c. subst (λ (o : Option (List Row)). IsGroupOf gs o (states_at groups c)) (e c) (h.each c);
+}
+
+-- ---- one group
+
+pub one_group : (gs : List Aggregate) (at : Coordinate) (rows : List Row) (group : Group) (groups : List Group) → IsRising rows → group.at.items ≡ at → AreStatesOf gs rows group.states → groups ≡ group ∷ [] → AreGroupsOf gs (one_set at rows) groups
+one_group gs at rows group groups r own states e = subst (AreGroupsOf gs (one_set at rows)) (sym e) (record {
+  in_order = (tt, tt);
+  each = λ c. subst (λ (d : Coordinate). IsGroupOf gs (one_set d rows c) (states_at (group ∷ []) c)) own (cases (is_eq (row_major group.at.items c)));
+})
+  where
+    cases : (b : Bool) → IsGroupOf gs (cond b (Some rows) None) (cond b (Some group.states) None)
+    cases true = (r, states)
+    cases false = tt
+
+-- no group of no cells
+pub no_groups : (gs : List Aggregate) (group : Coordinate → Coordinate) (rows : List Row) (groups : List Group) → length rows ≡ 0 → groups ≡ [] → AreGroupsOf gs (sets_by group rows) groups
+no_groups gs group [] groups l e = subst (AreGroupsOf gs (sets_by group [])) (sym e) (record { in_order = tt; each = λ c. tt })
+no_groups gs group (row ∷ rows) groups l e = absurd (omega (arith, l))
+
+-- ---- cells of one group
+
+all_in : (group : Coordinate → Coordinate) (at : Coordinate) (keys : List (ArrayVec ℤ)) (rows : List Row) → AreKeys group keys rows → are_at at keys ≡ true → AllByRecursion (λ row. group row.at.items ≡ at) rows
+all_in group at keys [] k e = tt
+all_in group at [] (row ∷ rows) k e = absurd (let l = ap length k in omega (arith, l))
+all_in group at (key ∷ keys) (row ∷ rows) k e = cases (row_major key.items at) refl e (all_in group at keys rows (ap (λ (zs : List Coordinate). drop 1 zs) k))
+  where
+    cases : (o : Ordering) → row_major key.items at ≡ o → (is_eq o && are_at at keys) ≡ true → (are_at at keys ≡ true → AllByRecursion (λ row. group row.at.items ≡ at) rows) → AllByRecursion (λ row. group row.at.items ≡ at) (row ∷ rows)
+    cases Less f e ih = absurd cc
+    cases Greater f e ih = absurd cc
+    cases Equal f e ih = (sym (ap (λ (zs : List Coordinate). get_or zs 0 []) k) ∙ row_major_exact key.items at f, ih e)
+
+only_group : (group : Coordinate → Coordinate) (at c : Coordinate) (rows : List Row) → AllByRecursion (λ row. group row.at.items ≡ at) rows → group_at group c rows ≡ cond (is_eq (row_major at c)) rows []
+only_group group at c [] h = sym (cond_same (is_eq (row_major at c)) [])
+only_group group at c (row ∷ rows) h =
+    ap (λ (d : Coordinate). cond (is_eq (row_major d c)) (row ∷ group_at group c rows) (group_at group c rows)) h.0
+    ∙ ap (λ (zs : List Row). cond (is_eq (row_major at c)) (row ∷ zs) zs) (only_group group at c rows h.1)
+    ∙ cases (is_eq (row_major at c))
+  where
+    cases : (b : Bool) → cond b (row ∷ cond b rows []) (cond b rows []) ≡ cond b (row ∷ rows) []
+    cases true = refl
+    cases false = refl
+
+one_set_by : (group : Coordinate → Coordinate) (at c : Coordinate) (rows : List Row) → 0 < length rows → AllByRecursion (λ row. group row.at.items ≡ at) rows → one_set at rows c ≡ sets_by group rows c
+one_set_by group at c [] l h = absurd (omega (arith, l))
+one_set_by group at c (row ∷ rows) l h = sym (ap unless_empty (only_group group at c (row ∷ rows) h) ∙ cases (is_eq (row_major at c)))
+  where
+    cases : (b : Bool) → unless_empty (cond b (row ∷ rows) []) ≡ cond b (Some (row ∷ rows)) None
+    cases true = refl
+    cases false = refl
+
+pub group_alone : (gs : List Aggregate) (group : Coordinate → Coordinate) (at : Coordinate) (keys : List (ArrayVec ℤ)) (rows : List Row) (groups : List Group) → 0 < length rows → are_at at keys ≡ true → AreKeys group keys rows
+    → AreGroupsOf gs (one_set at rows) groups → AreGroupsOf gs (sets_by group rows) groups
+group_alone gs group at keys rows groups l e k h = same_sets gs (one_set at rows) (sets_by group rows) groups (λ c. one_set_by group at c rows l (all_in group at keys rows k e)) h
+
+-- ---- cells of two halves
+
+joined : (a b : List Row) → IsRising (a ++ b) → both (unless_empty a) (unless_empty b) ≡ unless_empty (a ++ b)
+joined [] b r = refl
+joined (x ∷ a) [] r = ap (λ (zs : List Row). Some (x ∷ zs)) (sym (append-nil a))
+joined (x ∷ a) (y ∷ b) r = ap (λ (zs : List Row). Some zs) (put_all_joined (x ∷ a) (y ∷ b) r)
+
+parts_apart : (a b : List Row) → IsRising (a ++ b) → IsApart (unless_empty a) (unless_empty b)
+parts_apart [] b r = tt
+parts_apart (x ∷ a) [] r = tt
+parts_apart (x ∷ a) (y ∷ b) r = joined_apart (x ∷ a) (y ∷ b) r
+
+group_rises : (group : Coordinate → Coordinate) (c : Coordinate) (a b : List Row) → IsRising (a ++ b) → IsRising (group_at group c a ++ group_at group c b)
+group_rises group c a b r =
+    subst IsRising (filter-append (λ (row : Row). is_eq (row_major (group row.at.items) c)) a b) (IsRising-rows_where (λ at. is_eq (row_major (group at) c)) (a ++ b) r)
+
+halves_joined : (group : Coordinate → Coordinate) (a b : List Row) (c : Coordinate) → IsRising (a ++ b) → both_sets (sets_by group a) (sets_by group b) c ≡ sets_by group (a ++ b) c
+halves_joined group a b c r =
+    joined (group_at group c a) (group_at group c b) (group_rises group c a b r)
+    ∙ ap unless_empty (sym (filter-append (λ (row : Row). is_eq (row_major (group row.at.items) c)) a b))
+
+pub halves_apart : (group : Coordinate → Coordinate) (rows : List Row) (half : ℕ) → IsRising rows → AreApartSets (sets_by group (take half rows)) (sets_by group (drop half rows))
+halves_apart group rows half r c =
+    let whole : IsRising (take half rows ++ drop half rows) = subst IsRising (sym (take-append-drop half rows)) r in
+    parts_apart (group_at group c (take half rows)) (group_at group c (drop half rows)) (group_rises group c (take half rows) (drop half rows) whole)
+
+pub both_halves : (gs : List Aggregate) (group : Coordinate → Coordinate) (rows : List Row) (half : ℕ) (groups : List Group) → IsRising rows
+    → AreGroupsOf gs (both_sets (sets_by group (take half rows)) (sets_by group (drop half rows))) groups → AreGroupsOf gs (sets_by group rows) groups
+both_halves gs group rows half groups r h =
+    let whole : IsRising (take half rows ++ drop half rows) = subst IsRising (sym (take-append-drop half rows)) r in
+    same_sets gs (both_sets (sets_by group (take half rows)) (sets_by group (drop half rows))) (sets_by group rows) groups
+    (λ c. halves_joined group (take half rows) (drop half rows) c whole ∙ ap (λ (some : List Row). sets_by group some c) (take-append-drop half rows)) h
