@@ -197,6 +197,22 @@ cells_moved merged merged' (x ∷ groups) groups' m n =
     let f = ap cells_in n in
     omega (arith, e, f)
 
+pub cells_left : (merged merged' left left' right : List Group) → merged' ≡ merged ++ take 1 left → left' ≡ drop 1 left → cells_in merged' + (cells_in left' + cells_in right) ≤ cells_in merged + (cells_in left + cells_in right)
+cells_left merged merged' left left' right m n =
+    let e = cells_moved merged merged' left left' m n in
+    omega (arith, e)
+
+pub cells_right : (merged merged' left right right' : List Group) → merged' ≡ merged ++ take 1 right → right' ≡ drop 1 right → cells_in merged' + (cells_in left + cells_in right') ≤ cells_in merged + (cells_in left + cells_in right)
+cells_right merged merged' left right right' m n =
+    let e = cells_moved merged merged' right right' m n in
+    omega (arith, e)
+
+pub cells_at_end : (merged left right end end' : List Group) (n : ℕ) → end ≡ merged ++ left → end' ≡ end ++ right → cells_in merged + (cells_in left + cells_in right) ≤ n → cells_in end' ≤ n
+cells_at_end merged left right end end' n e f h =
+    let a = ap cells_in e ∙ cells_append merged left in
+    let b = ap cells_in f ∙ cells_append end right in
+    omega (arith, a, b, h)
+
 pub cells_united : (merged merged' left right left' right' : List Group) (x y z : Group) → left ≡ x ∷ left' → right ≡ y ∷ right' → merged' ≡ merged ++ z ∷ [] → cells_of z.states ≤ cells_of x.states + cells_of y.states
     → cells_in merged' + (cells_in left' + cells_in right') ≤ cells_in merged + (cells_in left + cells_in right)
 cells_united merged merged' left right left' right' x y z l r m h =

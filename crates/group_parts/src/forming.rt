@@ -63,7 +63,9 @@ pub fn groups_of(
         return one_group(alloc, aggregates, &keys[0], rows);
     }
     let half = keys.len() / 2;
-    let left = groups_of(alloc, aggregates, &keys[..half], &rows[..half])?;
-    let right = groups_of(alloc, aggregates, &keys[half..], &rows[half..])?;
+    let (first_keys, further_keys) = keys.split_at(half);
+    let (first_rows, further_rows) = rows.split_at(half);
+    let left = groups_of(alloc, aggregates, first_keys, first_rows)?;
+    let right = groups_of(alloc, aggregates, further_keys, further_rows)?;
     merge_two(left, right)
 }
