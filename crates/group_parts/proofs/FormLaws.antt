@@ -1,6 +1,6 @@
 -- Groups of the cells of rows.
-use Rattle.std.proofs.Common.{◌≡◌, ℕ, ℤ, suc, ◌+◌, ◌<◌, ◌≤◌, ◌&&◌, Bool, true, false, cond, List, [], ◌∷◌, ◌++◌, map, filter, length, get_or, take, drop, Option, Some, None, refl, sym, ap, ◌∙◌, subst, arith}
-use Rattle.std.proofs.lemmas.List.{append-nil, take-append-drop}
+use Rattle.std.proofs.Common.{◌≡◌, ℕ, ℤ, zero, suc, ◌+◌, ◌-◌, ◌/◌, ◌<◌, ◌≤◌, ◌==◌, ◌&&◌, min, Bool, true, false, cond, List, [], ◌∷◌, ◌++◌, map, filter, length, get_or, take, drop, Option, Some, None, refl, sym, ap, ◌∙◌, subst, arith, length-take, length-drop}
+use Rattle.std.proofs.lemmas.List.{append-nil, take-append-drop, take-map, drop-map}
 use Rattle.std.proofs.lemmas.List.Elements.{filter-append}
 use Rattle.std.specs.List.{AllByRecursion, list_all}
 use Rattle.std.specs.Ordering.{is_eq}
@@ -9,7 +9,7 @@ use Rattle.std.specs.declared.cmp.Ordering.TheVariants.{Less, Equal, Greater}
 use Rattle.arrayvec.specs.ArrayVec.{ArrayVec}
 use Rattle.cell_values.specs.declared.datum.Row.{Row}
 use Rattle.array_rows.specs.Rows.{Coordinate, row_major, IsRising, put_all}
-use Rattle.array_rows.proofs.RowsLemmas.{row_major_exact, cond_same}
+use Rattle.array_rows.proofs.RowsLemmas.{row_major_exact, cond_same, same_coordinate}
 use Rattle.array_rows.proofs.RowSets.{IsRising-rows_where}
 use Rattle.logical_plan.specs.declared.parts.Aggregate.{Aggregate}
 use Rattle.logical_plan.specs.Groups.{group_at}
@@ -18,7 +18,7 @@ use Rattle.agg_states.specs.Summary.{Summary}
 use Rattle.group_parts.specs.declared.groups.Group.{Group}
 use Rattle.group_parts.specs.Grouped.{AreStatesOf, AreInOrder, states_at, IsGroupOf, AreGroupsOf}
 use Rattle.group_parts.specs.Sets.{Sets, unless_empty, sets_by, one_set, both, both_sets, IsApart, AreApartSets, are_at, AreKeys}
-use Rattle.group_parts.proofs.RowLemmas.{put_all_joined, joined_apart}
+use Rattle.group_parts.proofs.RowLemmas.{put_all_joined, joined_apart, rising_left, rising_right}
 
 pub same_sets : (gs : List Aggregate) (own other : Sets) (groups : List Group) → ((c : Coordinate) → own c ≡ other c) → AreGroupsOf gs own groups → AreGroupsOf gs other groups
 same_sets gs own other groups e h = record {
@@ -110,3 +110,50 @@ both_halves gs group rows half groups r h =
     let whole : IsRising (take half rows ++ drop half rows) = subst IsRising (sym (take-append-drop half rows)) r in
     same_sets gs (both_sets (sets_by group (take half rows)) (sets_by group (drop half rows))) (sets_by group rows) groups
     (λ c. halves_joined group (take half rows) (drop half rows) c whole ∙ ap (λ (some : List Row). sets_by group some c) (take-append-drop half rows)) h
+
+-- coordinates that are not all the same are two at least
+pub two_keys : (key : ArrayVec ℤ) (keys : List (ArrayVec ℤ)) → key ≡ get_or keys 0 key → 0 < length keys → are_at key.items keys ≡ false → 2 ≤ length keys
+two_keys key [] e l f = absurd (omega (arith, l))
+two_keys key (first ∷ other ∷ keys) e l f = omega arith
+two_keys key (first ∷ []) e l f = absurd (let g : true ≡ false = sym (own key first e) ∙ f in cc)
+  where
+    own : (key first : ArrayVec ℤ) → key ≡ first → are_at key.items (first ∷ []) ≡ true
+    own key first e =
+        ap (λ (z : ArrayVec ℤ). is_eq (row_major first.items z.items) && true) e
+        ∙ ap (λ (o : Ordering). is_eq o && true) (same_coordinate first.items)
+
+-- the keys of a part
+pub keys_taken : (group : Coordinate → Coordinate) (n : ℕ) (keys : List (ArrayVec ℤ)) (rows : List Row) → AreKeys group keys rows → AreKeys group (take n keys) (take n rows)
+keys_taken group n keys rows k =
+    sym (take-map (λ (key : ArrayVec ℤ). key.items) n keys) ∙ ap (take n) k ∙ take-map (λ (row : Row). group row.at.items) n rows
+
+pub keys_dropped : (group : Coordinate → Coordinate) (n : ℕ) (keys : List (ArrayVec ℤ)) (rows : List Row) → AreKeys group keys rows → AreKeys group (drop n keys) (drop n rows)
+keys_dropped group n keys rows k =
+    sym (drop-map (λ (key : ArrayVec ℤ). key.items) n keys) ∙ ap (drop n) k ∙ drop-map (λ (row : Row). group row.at.items) n rows
+
+pub front_rises : (n : ℕ) (rows : List Row) → IsRising rows → IsRising (take n rows)
+front_rises n rows r = rising_left (take n rows) (drop n rows) (subst IsRising (sym (take-append-drop n rows)) r)
+
+pub back_rises : (n : ℕ) (rows : List Row) → IsRising rows → IsRising (drop n rows)
+back_rises n rows r = rising_right (take n rows) (drop n rows) (subst IsRising (sym (take-append-drop n rows)) r)
+
+pub some_keys : (n : ℕ) → false ≡ (n == 0) → 0 < n
+some_keys zero e = absurd cc
+some_keys (suc n) e = omega arith
+
+-- half of some things, of which there are two at least
+pub fewer : {A : Type 0} (n : ℕ) (all part : List A) → n ≡ length all / 2 → 2 ≤ length all → part ≡ take n all → length part < length all
+fewer n all part e l p =
+    let f : length part ≡ min n (length all) = ap length p ∙ length-take n all in
+    omega (arith, e, l, f)
+
+pub fewer_behind : {A : Type 0} (n : ℕ) (all part : List A) → n ≡ length all / 2 → 2 ≤ length all → part ≡ drop n all → length part < length all
+fewer_behind n all part e l p =
+    let f : length part ≡ length all - n = ap length p ∙ length-drop n all in
+    omega (arith, e, l, f)
+
+pub as_many : {A B : Type 0} (n : ℕ) (xs xs' : List A) (ys ys' : List B) → length xs ≡ length ys → xs' ≡ take n xs → ys' ≡ take n ys → length xs' ≡ length ys'
+as_many n xs xs' ys ys' e p q = ap length p ∙ length-take n xs ∙ ap (min n) e ∙ sym (length-take n ys) ∙ sym (ap length q)
+
+pub as_many_behind : {A B : Type 0} (n : ℕ) (xs xs' : List A) (ys ys' : List B) → length xs ≡ length ys → xs' ≡ drop n xs → ys' ≡ drop n ys → length xs' ≡ length ys'
+as_many_behind n xs xs' ys ys' e p q = ap length p ∙ length-drop n xs ∙ ap (λ k. k - n) e ∙ sym (length-drop n ys) ∙ sym (ap length q)

@@ -59,8 +59,9 @@ pub fn groups_of(
             groups: List::new(alloc),
         });
     }
-    if keys.len() == 1 || are_at(&keys[0], keys) {
-        return one_group(alloc, aggregates, &keys[0], rows);
+    let first = &keys[0];
+    if are_at(first, keys) {
+        return one_group(alloc, aggregates, first, rows);
     }
     let half = keys.len() / 2;
     let (first_keys, further_keys) = keys.split_at(half);
