@@ -1,22 +1,20 @@
 -- Groups of the cells of rows.
-use Rattle.std.proofs.Common.{◌≡◌, ℕ, ℤ, zero, suc, ◌+◌, ◌-◌, ◌/◌, ◌<◌, ◌≤◌, ◌==◌, ◌&&◌, min, Bool, true, false, cond, List, [], ◌∷◌, ◌++◌, map, filter, length, get_or, take, drop, Option, Some, None, refl, sym, ap, ◌∙◌, subst, arith, length-take, length-drop}
+use Rattle.std.proofs.Common.{◌≡◌, ℕ, ℤ, zero, suc, ◌-◌, ◌/◌, ◌<◌, ◌≤◌, ◌==◌, ◌&&◌, min, Bool, true, false, cond, List, [], ◌∷◌, ◌++◌, length, get_or, take, drop, Option, Some, None, refl, sym, ap, ◌∙◌, subst, arith, length-take, length-drop}
 use Rattle.std.proofs.lemmas.List.{append-nil, take-append-drop, take-map, drop-map}
 use Rattle.std.proofs.lemmas.List.Elements.{filter-append}
-use Rattle.std.specs.List.{AllByRecursion, list_all}
+use Rattle.std.specs.List.{AllByRecursion}
 use Rattle.std.specs.Ordering.{is_eq}
 use Rattle.std.specs.declared.cmp.Ordering.{Ordering}
 use Rattle.std.specs.declared.cmp.Ordering.TheVariants.{Less, Equal, Greater}
 use Rattle.arrayvec.specs.ArrayVec.{ArrayVec}
 use Rattle.cell_values.specs.declared.datum.Row.{Row}
-use Rattle.array_rows.specs.Rows.{Coordinate, row_major, IsRising, put_all}
+use Rattle.array_rows.specs.Rows.{Coordinate, row_major, IsRising}
 use Rattle.array_rows.proofs.RowsLemmas.{row_major_exact, cond_same, same_coordinate}
 use Rattle.array_rows.proofs.RowSets.{IsRising-rows_where}
 use Rattle.logical_plan.specs.declared.parts.Aggregate.{Aggregate}
 use Rattle.logical_plan.specs.Groups.{group_at}
-use Rattle.agg_states.specs.Stands.{AreApart}
-use Rattle.agg_states.specs.Summary.{Summary}
 use Rattle.group_parts.specs.declared.groups.Group.{Group}
-use Rattle.group_parts.specs.Grouped.{AreStatesOf, AreInOrder, states_at, IsGroupOf, AreGroupsOf}
+use Rattle.group_parts.specs.Grouped.{AreStatesOf, states_at, IsGroupOf, AreGroupsOf}
 use Rattle.group_parts.specs.Sets.{Sets, unless_empty, sets_by, one_set, both, both_sets, IsApart, AreApartSets, are_at, AreKeys}
 use Rattle.group_parts.proofs.RowLemmas.{put_all_joined, joined_apart, rising_left, rising_right}
 

@@ -1,12 +1,11 @@
 -- Groups of two parts that are being put together.
-use Rattle.std.specs.Prelude.{◌≡◌, ◌+◌, ◌≤◌, List, [], ◌∷◌, ◌++◌, length, Option, Some, None, ⊤}
+use Rattle.std.specs.Prelude.{◌≡◌, List, [], ◌∷◌, ◌++◌, length, Option, Some, None, ⊤}
 use Rattle.cell_values.specs.declared.datum.Row.{Row}
 use Rattle.array_rows.specs.Rows.{Coordinate, put_all}
 use Rattle.logical_plan.specs.declared.parts.Aggregate.{Aggregate}
 use Rattle.agg_states.specs.Stands.{StandsFor, AreApart}
 use Rattle.agg_states.specs.Summary.{Summary}
 use Rattle.group_parts.specs.declared.groups.Group.{Group}
-use Rattle.group_parts.specs.Counts.{cells_of, cells_in}
 use Rattle.group_parts.specs.Grouped.{ComesBefore, AreInOrder, states_at}
 
 -- a state for the cells of two others

@@ -37,7 +37,8 @@ pub fn one_group(
 fn are_at(at: &Coord, keys: &[Coord]) -> bool
     ensures { result ≡ are_at at.now.items keys.now }
 {
-    keys.iter().all(|key| key.as_slice().cmp(at.as_slice()).is_eq())
+    keys.iter()
+        .all(|key| key.as_slice().cmp(at.as_slice()).is_eq())
 }
 
 /// The groups of cells, each in the group whose coordinate stands at its place in `keys`. Cells of one group that stand together

@@ -1,10 +1,9 @@
-use Rattle.std.proofs.Common.{◌≡◌, ◌+◌, ◌-◌, ◌/◌, ◌<◌, ◌≤◌, List, length, take, drop, refl, sym, ap, ◌∙◌, subst, arith}
+use Rattle.std.proofs.Common.{◌/◌, ◌<◌, List, length, take, drop, refl, sym, subst, arith}
 use Rattle.arrayvec.specs.ArrayVec.{ArrayVec}
 use Rattle.cell_values.specs.declared.datum.Row.{Row}
 use Rattle.array_rows.specs.Rows.{IsRising}
-use Rattle.group_parts.specs.declared.groups.Group.{Group}
 use Rattle.group_parts.specs.Grouped.{AreGroupsOf}
-use Rattle.group_parts.specs.Sets.{sets_by, both_sets, AreKeys, AreApartSets}
+use Rattle.group_parts.specs.Sets.{sets_by, AreKeys}
 use Rattle.group_parts.proofs.FormLaws.{two_keys, some_keys, fewer, fewer_behind, as_many, as_many_behind, keys_taken, keys_dropped, front_rises, back_rises, group_alone, both_halves, halves_apart}
 use Rattle.group_parts.proofs.MergeLaws.{if_ok}
 use Rattle.group_parts.proofs.forming.+groups_of.Goals as goal
@@ -21,8 +20,7 @@ groups_of-requires t c =
     let half = length keys / 2 in
     let two = two_keys c.index-keys-0.result keys c.index-keys-0.is (some_keys (length keys) c.if-is_empty.ensures) (sym c.if-are_at.ensures) in
     let less : length c.split_at.result.0.now < length keys = fewer half keys c.split_at.result.0.now refl two c.split_at.ensures.front in
-    let each = as_many half keys c.split_at.result.0.now c.args.rows.now c.split_at-2.result.0.now c.requires.each c.split_at.ensures.front c.split_at-2.ensures.front in
-    (
+    let each = as_many half keys c.split_at.result.0.now c.args.rows.now c.split_at-2.result.0.now c.requires.each c.split_at.ensures.front c.split_at-2.ensures.front in (
       omega (arith, less, c.decreases),
       (omega (arith, less, each, c.requires.few, c.requires.each), (each, subst IsRising (sym c.split_at-2.ensures.front) (front_rises half c.args.rows.now c.requires.rising))),
     )
@@ -33,8 +31,7 @@ groups_of-requires-2 t c =
     let half = length keys / 2 in
     let two = two_keys c.index-keys-0.result keys c.index-keys-0.is (some_keys (length keys) c.if-is_empty.ensures) (sym c.if-are_at.ensures) in
     let less : length c.split_at.result.1.now < length keys = fewer_behind half keys c.split_at.result.1.now refl two c.split_at.ensures.back in
-    let each = as_many_behind half keys c.split_at.result.1.now c.args.rows.now c.split_at-2.result.1.now c.requires.each c.split_at.ensures.back c.split_at-2.ensures.back in
-    (
+    let each = as_many_behind half keys c.split_at.result.1.now c.args.rows.now c.split_at-2.result.1.now c.requires.each c.split_at.ensures.back c.split_at-2.ensures.back in (
       omega (arith, less, c.decreases),
       (omega (arith, less, each, c.requires.few, c.requires.each), (each, subst IsRising (sym c.split_at-2.ensures.back) (back_rises half c.args.rows.now c.requires.rising))),
     )

@@ -1,4 +1,4 @@
-use Rattle.std.proofs.Common.{◌≡◌, ◌+◌, max, ap, ◌∙◌, arith, length, length-append, [], ◌∷◌}
+use Rattle.std.proofs.Common.{◌≡◌, max, ap, ◌∙◌, arith, length, length-append, [], ◌∷◌}
 use Rattle.group_parts.specs.Counts.{cells_of}
 use Rattle.group_parts.proofs.StateLaws.{cells_push, last_both, last_cells}
 use Rattle.group_parts.proofs.merging.+merge_states.Goals as goal

@@ -1,4 +1,4 @@
-use Rattle.std.proofs.Common.{◌≡◌, ◌+◌, [], List, sym, ap, ◌∙◌, subst, arith}
+use Rattle.std.proofs.Common.{◌+◌, [], List, sym, ap, ◌∙◌, subst, arith}
 use Rattle.group_parts.specs.declared.groups.Group.{Group}
 use Rattle.group_parts.specs.Counts.{cells_in}
 use Rattle.group_parts.specs.Grouped.{AreInOrder}

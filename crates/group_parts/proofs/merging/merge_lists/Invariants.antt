@@ -1,4 +1,4 @@
-use Rattle.std.proofs.Common.{◌≡◌, ◌+◌, ◌≤◌, [], length}
+use Rattle.std.proofs.Common.{◌+◌, ◌≤◌, [], length}
 use Rattle.group_parts.specs.Counts.{cells_in}
 use Rattle.group_parts.specs.Merged.{IsMove}
 use Rattle.group_parts.proofs.merging.merge_lists.Given as goal

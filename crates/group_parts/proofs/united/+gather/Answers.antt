@@ -1,6 +1,5 @@
-use Rattle.std.proofs.Common.{◌≡◌, ◌+◌, ◌-◌, ◌/◌, ◌≤◌, List, length, take, drop, sym, ap, ◌∙◌, subst, arith, length-drop}
+use Rattle.std.proofs.Common.{◌≡◌, ◌+◌, ◌-◌, ◌/◌, length, take, drop, ap, ◌∙◌, subst, arith, length-drop}
 use Rattle.std.specs.Vec.Iter.{into_iter_items}
-use Rattle.group_parts.specs.declared.groups.Groups.{Groups}
 use Rattle.group_parts.specs.Counts.{cells_in_all}
 use Rattle.group_parts.specs.Grouped.{ArePartsOf}
 use Rattle.group_parts.proofs.MergeLaws.{if_ok}
