@@ -7,12 +7,13 @@ use Rattle.std.specs.declared.cmp.Ordering.TheVariants.{Less, Equal, Greater}
 use Rattle.cell_values.specs.declared.datum.Cell.{Cell}
 use Rattle.cell_values.specs.declared.datum.Row.{Row}
 use Rattle.cell_values.specs.declared.schema.Dimension.{Dimension}
+use Rattle.array_rows.specs.Boxes.{by_pairs}
 use Rattle.array_rows.specs.Rows.{Coordinate, row_major, placed, cell_at}
 use Rattle.array_rows.proofs.RowsLemmas.{row_major_exact, same_rows}
 use Rattle.array_rows.proofs.RowSets.{IsRising-in_order, cell_at-in_order}
 use Rattle.logical_plan.specs.declared.parts.Aggregate.{Aggregate}
 use Rattle.logical_plan.specs.BoxOps.{numbers_at}
-use Rattle.logical_plan.specs.Groups.{aggregates_of, group_at, grouped, aggregate_all, aggregate_rows, regrid_rows}
+use Rattle.logical_plan.specs.Groups.{aggregates_of, block, group_at, grouped, aggregate_all, aggregate_rows, regrid_rows}
 use Rattle.group_parts.specs.Sets.{unless_empty, sets_by, one_set}
 use Rattle.exec_group.specs.Keys.{aggregate_sets, block_at, regrid_sets}
 use Rattle.exec_group.specs.Told.{AreRowsOfSets}
@@ -57,5 +58,13 @@ pub aggregate_told : (places : List ℕ) (gs : List Aggregate) (rows new : List 
 aggregate_told [] gs rows new told = same_cell gs rows new told
 aggregate_told (d ∷ places) gs rows new told = same_groups (numbers_at (d ∷ places)) gs rows new told
 
+-- blocks by the low bounds
+same_blocks : (dims : List Dimension) (sizes : List ℕ) → by_pairs (λ d size. block d.lo size) dims sizes ≡ by_pairs block (map (λ d. d.lo) dims) sizes
+same_blocks [] sizes = refl
+same_blocks (d ∷ dims) [] = refl
+same_blocks (d ∷ dims) (size ∷ sizes) = ap (λ (blocks : List (ℤ → ℤ)). block d.lo size ∷ blocks) (same_blocks dims sizes)
+
 pub regrid_told : (dims : List Dimension) (sizes : List ℕ) (gs : List Aggregate) (rows new : List Row) → AreRowsOfSets gs (regrid_sets dims sizes rows) new → new ≡ regrid_rows (map (λ d. d.lo) dims) sizes gs rows
-regrid_told dims sizes gs rows new told = same_groups (block_at (map (λ d. d.lo) dims) sizes) gs rows new told
+regrid_told dims sizes gs rows new told =
+    same_groups (block_at dims sizes) gs rows new told
+    ∙ ap (λ (blocks : List (ℤ → ℤ)). grouped (λ c. by_pairs (λ b x. b x) blocks c) gs rows) (same_blocks dims sizes)

@@ -82,11 +82,10 @@ in_place : (dims : List Dimension) (c : Coordinate) (place : ℕ) → is_between
 in_place [] c place b l = absurd (omega (arith, l))
 in_place (d ∷ dims) [] place b l = absurd cc
 in_place (d ∷ dims) (x ∷ c) zero b l =
-    let first = both (int_le d.lo x) (int_le x d.hi && is_between (map (λ d. d.lo) dims) (map (λ d. d.hi) dims) c) b in
-    record { d = d; there = refl; low = first.0; high = (both (int_le x d.hi) (is_between (map (λ d. d.lo) dims) (map (λ d. d.hi) dims) c) first.1).0 }
+    let first = both (int_le d.lo x) (int_le x d.hi) (both (int_le d.lo x && int_le x d.hi) (is_between (map (λ d. d.lo) dims) (map (λ d. d.hi) dims) c) b).0 in
+    record { d = d; there = refl; low = first.0; high = first.1 }
 in_place (d ∷ dims) (x ∷ c) (suc place) b l =
-    let first = both (int_le d.lo x) (int_le x d.hi && is_between (map (λ d. d.lo) dims) (map (λ d. d.hi) dims) c) b in
-    let further = in_place dims c place (both (int_le x d.hi) (is_between (map (λ d. d.lo) dims) (map (λ d. d.hi) dims) c) first.1).1 (omega (arith, l)) in
+    let further = in_place dims c place (both (int_le d.lo x && int_le x d.hi) (is_between (map (λ d. d.lo) dims) (map (λ d. d.hi) dims) c) b).1 (omega (arith, l)) in
     record { d = further.d; there = further.there; low = further.low; high = further.high }
 
 below : (n m : ℕ) → nat_lt n m ≡ true → n < m

@@ -1,6 +1,7 @@
 -- Aggregates of whole arrays.
-use Rattle.std.proofs.Common.{◌≡◌, ℕ, zero, suc, ◌<◌, ◌≤◌, ◌&&◌, true, Bool, IsTrue, List, [], ◌∷◌, map, length, slice_get, Option, Some, None, Result, Ok, Err, refl, sym, ap, ◌∙◌, subst, arith, length-map}
-use Rattle.std.specs.Prelude.{IfOk, nat_lt}
+use Rattle.std.proofs.Common.{◌≡◌, ℕ, zero, suc, ◌<◌, ◌≤◌, ◌&&◌, true, Bool, IsTrue, List, [], ◌∷◌, map, length, slice_get, Option, Some, None, Result, Ok, Err, refl, sym, ap, ◌∙◌, subst, arith}
+use Rattle.std.proofs.lemmas.List.{length-map}
+use Rattle.std.specs.Prelude.{IfOk}
 use Rattle.std.specs.List.{cons_option}
 use Rattle.cell_values.specs.declared.datum.Broken.{Broken}
 use Rattle.cell_values.specs.declared.datum.Row.{Row}
@@ -50,6 +51,13 @@ means_broken gs places array schema broken e b =
 pub stands_for : (r : Result ChunkedArray Memory) (a b : Meant) → a ≡ b → IfOk r (λ made. Is made a) → IfOk r (λ made. Is made b)
 stands_for r a b e h = subst (λ (m : Meant). IfOk r (λ made. Is made m)) e h
 
+each_of : (dims : List Dimension) → length (overlaps dims) ≡ length dims
+each_of [] = refl
+each_of (d ∷ dims) = ap suc (each_of dims)
+
+pub overlap_each : (schema : Schema) (margins : List ℕ) → margins ≡ overlaps schema.dimensions → length margins ≡ length schema.dimensions
+overlap_each schema margins same = ap length same ∙ each_of schema.dimensions
+
 pub of_cores : (array : ChunkedArray) (rows : List Row) → rows ≡ cores_of array → HaveCells array.schema array.margins.items array.chunks → AreRowsOf array.schema rows
 of_cores array rows e h = subst (AreRowsOf array.schema) (sym e) (cores_are_rows array.schema array.margins.items array.chunks h)
 
@@ -57,7 +65,7 @@ pub few_names : (gs : List Aggregate) (places : List ℕ) (schema target : Schem
 few_names gs [] schema target e v l = omega arith
 few_names gs (d ∷ places) schema target e v l =
     let few = (valid_placed target v).few in
-    let same = ap (λ (s : Schema). length s.dimensions) e ∙ length-map without_overlap (items_at (d ∷ places) schema.dimensions) ∙ as_many_items schema.dimensions (d ∷ places) l in
+    let same = ap (λ (s : Schema). length s.dimensions) e ∙ length-map (items_at (d ∷ places) schema.dimensions) without_overlap ∙ as_many_items schema.dimensions (d ∷ places) l in
     omega (arith, few, same)
 
 pub can_tell : (array : ChunkedArray) (gs : List Aggregate) (places : List ℕ) (target : Schema) (rows : List Row) (groups : List Group) → rows ≡ cores_of array → HaveCells array.schema array.margins.items array.chunks

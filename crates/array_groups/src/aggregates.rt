@@ -37,6 +37,7 @@ fn of_whole(
 
 /// The aggregates of the cells that agree in the named dimensions, of all cells without names: an array of the target. What the
 /// array's margins hold doesn't matter.
+#[tactic(auto, using(crate::proofs::WholeLaws::overlap_each))]
 pub fn aggregate(
     array: ChunkedArray,
     aggs: &[Aggregate],

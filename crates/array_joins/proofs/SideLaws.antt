@@ -1,5 +1,6 @@
 -- The joined rows of two arrays are those of an array of their join's schema.
-use Rattle.std.proofs.Common.{◌≡◌, cond, ℕ, zero, suc, ◌+◌, ◌≤◌, ℤ, IsTrue, List, [], ◌∷◌, ◌++◌, map, length, take, drop, Option, Some, None, refl, sym, ap, ◌∙◌, subst, arith, length-append, length-map, length-take, length-drop, min, ◌-◌}
+use Rattle.std.proofs.Common.{◌≡◌, cond, ℕ, zero, suc, ◌+◌, ◌≤◌, ℤ, IsTrue, List, [], ◌∷◌, ◌++◌, map, length, take, drop, Option, Some, None, refl, sym, ap, ◌∙◌, subst, arith, length-append, length-take, length-drop, min, ◌-◌}
+use Rattle.std.proofs.lemmas.List.{length-map}
 use Rattle.std.specs.List.{AllByRecursion, AllZip}
 use Rattle.std.specs.Option.{option_map}
 use Rattle.std.specs.Ordering.{is_eq}
@@ -98,7 +99,7 @@ join_are_rows left right schema left_rows right_rows l r e v =
     let names = free_names [] (dimension_names left.dimensions ++ attribute_names attributes) in
     let all : length names ≡ length left.dimensions + length attributes =
     as_many_names [] (dimension_names left.dimensions ++ attribute_names attributes) ∙ length-append (dimension_names left.dimensions) (attribute_names attributes)
-    ∙ (λ i. length-map (λ (d : Dimension). d.name) left.dimensions i + length-map (λ (a : Attribute). a.name) attributes i) in
+    ∙ (λ i. length-map left.dimensions (λ (d : Dimension). d.name) i + length-map attributes (λ (a : Attribute). a.name) i) in
     let front = length-take (length left.dimensions) names in
     let behind = length-drop (length left.dimensions) names in
     let bounds : bounds_of schema.dimensions ≡ bounds_of left.dimensions =

@@ -14,6 +14,7 @@ use chunk_cells::{assemble, broken_array};
 use row_joins::join_of_rows;
 
 /// The join of two arrays of which none is broken.
+#[tactic(auto, using(crate::proofs::MadeLaws::overlap_each, crate::proofs::MadeLaws::overlap_places))]
 fn of_whole(
     left: ChunkedArray,
     right: ChunkedArray,
@@ -35,6 +36,7 @@ fn of_whole(
 }
 
 /// The join of two arrays of which the left one is not broken.
+#[tactic(auto, using(crate::proofs::MadeLaws::overlap_each))]
 fn with_right(
     left: ChunkedArray,
     right: ChunkedArray,
@@ -56,6 +58,7 @@ fn with_right(
 
 /// The cells of two arrays side by side at each coordinate where both have one, in chunks of this schema, which is that of their
 /// join. What the margins of the two hold doesn't matter.
+#[tactic(auto, using(crate::proofs::MadeLaws::overlap_each))]
 pub fn join(
     left: ChunkedArray,
     right: ChunkedArray,

@@ -1,6 +1,6 @@
 -- Aggregates are values of their kinds.
-use Rattle.std.proofs.Common.{◌≡◌, ℕ, zero, suc, ◌<◌, ◌≤◌, ◌^◌, ℤ, pos, Bool, true, false, not, cond, IsTrue, List, [], ◌∷◌, map, filter, length, get_or, slice_get, Option, Some, None, refl, sym, ap, ◌∙◌, subst, arith, length-map}
-use Rattle.std.proofs.lemmas.List.Sums.{length-filter}
+use Rattle.std.proofs.Common.{◌≡◌, ℕ, zero, suc, ◌<◌, ◌≤◌, ◌^◌, ℤ, pos, Bool, true, false, not, cond, IsTrue, List, [], ◌∷◌, map, filter, length, get_or, slice_get, Option, Some, None, refl, sym, ap, ◌∙◌, subst, arith}
+use Rattle.std.proofs.lemmas.List.{length-map}
 use Rattle.std.specs.Prelude.{slice_index_or, nat_lt}
 use Rattle.std.specs.List.{AllByRecursion, AllZip}
 use Rattle.std.specs.Ordering.{is_lt}
@@ -43,15 +43,15 @@ unless_fault kind (Some fault) v h = fault_has_kind kind fault
 
 -- ---- the values of an attribute
 
+abbrev HasKindOf : Option Attribute → Datum → Type 0
+HasKindOf (Some a) v = HasKind a.kind v
+HasKindOf None v = ⊥
+
 value_at : (attributes : List Attribute) (vs : List Datum) (x : ℕ) (a : Attribute) → AreOfKinds attributes vs → slice_get attributes x ≡ Some a → HasKind a.kind (slice_index_or vs x Null)
 value_at [] [] x a h e = null_has_kind a.kind
 value_at [] (v ∷ vs) x a h e = absurd h
 value_at (b ∷ attributes) [] x a h e = absurd h
-value_at (b ∷ attributes) (v ∷ vs) zero a h e = subst (λ (o : Option Attribute). kind_of o v) e h.0
-  where
-    abbrev kind_of : Option Attribute → Datum → Type 0
-    kind_of (Some c) v = HasKind c.kind v
-    kind_of None v = ⊥
+value_at (b ∷ attributes) (v ∷ vs) zero a h e = subst (λ (o : Option Attribute). HasKindOf o v) e h.0
 value_at (b ∷ attributes) (v ∷ vs) (suc x) a h e = value_at attributes vs x a h.1 e
 
 each_value : (attributes : List Attribute) (x : ℕ) (a : Attribute) (cells : List Cell) → slice_get attributes x ≡ Some a → AllByRecursion (IsCellOf attributes) cells → AllByRecursion (HasKind a.kind) (map (attribute_of x) cells)
@@ -100,10 +100,18 @@ total_kind (v ∷ vs) = exact_kind (sum_of (v ∷ vs)) (fits_int64 (sum_of (v �
 number_kind : (n : ℕ) → n < 9223372036854775808 → HasKind Int64 (Int (pos n))
 number_kind n l = grind (arith, l)
 
+fewer_pass : (p : Datum → Bool) (vs : List Datum) → length (filter p vs) ≤ length vs
+fewer_pass p [] = omega arith
+fewer_pass p (v ∷ vs) = cases (p v) (fewer_pass p vs)
+  where
+    cases : (b : Bool) → length (filter p vs) ≤ length vs → length (cond b (v ∷ filter p vs) (filter p vs)) ≤ length (v ∷ vs)
+    cases true l = omega (arith, l)
+    cases false l = omega (arith, l)
+
 fewer_values : (x : ℕ) (cells : List Cell) → length (values_of x cells) ≤ length cells
 fewer_values x cells =
-    let a = length-filter (λ (v : Datum). not (is_null v)) (map (attribute_of x) cells) in
-    let b = length-map (attribute_of x) cells in
+    let a = fewer_pass (λ (v : Datum). not (is_null v)) (map (attribute_of x) cells) in
+    let b = length-map cells (attribute_of x) in
     omega (arith, a, b)
 
 -- ---- aggregates

@@ -1,7 +1,8 @@
 -- Rows of what groups tell.
-use Rattle.std.proofs.Common.{◌≡◌, ℕ, ◌+◌, ◌<◌, ◌≤◌, ◌&&◌, max, Bool, true, false, cond, IsTrue, List, [], ◌∷◌, ◌++◌, map, length, Option, Some, None, refl, sym, ap, ◌∙◌, subst, arith, append_assoc, length-map}
-use Rattle.std.proofs.lemmas.List.{append-nil}
+use Rattle.std.proofs.Common.{◌≡◌, ℕ, ◌+◌, ◌<◌, ◌≤◌, ◌&&◌, max, Bool, true, false, cond, IsTrue, List, [], ◌∷◌, ◌++◌, map, length, drop, Option, Some, None, Result, Ok, Err, refl, sym, ap, ◌∙◌, subst, arith, append_assoc}
+use Rattle.std.proofs.lemmas.List.{append-nil, length-map}
 use Rattle.std.specs.List.{AllByRecursion, AllZip, list_all}
+use Rattle.std.specs.Prelude.{IfOk}
 use Rattle.std.specs.Option.{option_map}
 use Rattle.std.specs.Ordering.{is_eq}
 use Rattle.std.specs.declared.cmp.Ordering.{Ordering}
@@ -27,8 +28,9 @@ use Rattle.agg_states.specs.Summary.{Summary}
 use Rattle.group_parts.specs.declared.groups.Group.{Group}
 use Rattle.group_parts.specs.Counts.{cells_of as counted, cells_in}
 use Rattle.group_parts.specs.Grouped.{AreStatesOf, ComesBefore, AreInOrder, states_at, IsGroupOf, AreGroupsOf}
-use Rattle.group_parts.specs.Sets.{Sets}
-use Rattle.exec_group.specs.Merging.{IsSetFor}
+use Rattle.group_parts.specs.declared.groups.Groups.{Groups}
+use Rattle.group_parts.specs.Sets.{Sets, all_sets}
+use Rattle.exec_group.specs.Merging.{IsSetFor, CanBeTold, CanBeMerged}
 use Rattle.exec_group.specs.Told.{IsTold, AreTold, IsRowOf, AreRowsOfSets}
 use Rattle.exec_group.proofs.KindLaws.{aggregate_has_kind, kinds_for}
 
@@ -59,6 +61,11 @@ pub next_way : (all left left' : List Group) (rows rows' : List Row) (group : Gr
 next_way all left left' rows rows' group row way e f told = λ rest h.
     subst (AllZip IsRowOf all) (sym (append_assoc rows (row ∷ []) rest) ∙ ap (λ (zs : List Row). zs ++ rest) (sym f))
     (way (row ∷ rest) (subst (λ (zs : List Group). AllZip IsRowOf zs (row ∷ rest)) (sym e) (told, h)))
+
+-- of no groups the first one is none
+pub none_left : (left left' : List Group) → left ≡ left' → left' ≡ drop 1 left → left ≡ []
+none_left [] left' e f = refl
+none_left (group ∷ left) left' e f = absurd (let n = ap length e ∙ ap length f in omega (arith, n))
 
 pub last_way : (all left : List Group) (rows : List Row) → IsOnTheWay all rows left → left ≡ [] → AllZip IsRowOf all rows
 last_way all left rows way e = subst (AllZip IsRowOf all) (append-nil rows) (way [] (subst (λ (zs : List Group). AllZip IsRowOf zs []) (sym e) tt))
@@ -174,7 +181,7 @@ each_kind attributes (g ∷ gs) rows [] n s t k l m = absurd s
 each_kind attributes (g ∷ gs) rows (state ∷ states) n s t k l m =
     let typed = both (is_aggregate_of attributes g) (are_aggregates_of attributes gs) t in
     let e = s.0.cells in
-    let f = length-map (λ (row : Row). row.cell) rows in
+    let f = length-map rows (λ (row : Row). row.cell) in
     (
       aggregate_has_kind attributes g (cells_of rows) typed.0 (all_cells rows k) (omega (arith, e, f, l, m)),
       each_kind attributes gs rows states n s.1 typed.1 k (omega (arith, l)) m,
@@ -213,3 +220,11 @@ rows_of_target gs attributes target sets groups rows valid g told typed k kinds 
       };
       kinds = all_by_cells (λ c cell. IsCellOf target.attributes cell) rows told.rising (λ c cell e. (fits c cell e).1);
     }
+
+pub if_ok : {X E : Type 0} {P Q : X → Type 0} (r : Result X E) → IfOk r P → ((x : X) → P x → Q x) → IfOk r Q
+if_ok (Ok x) p f = f x p
+if_ok (Err e) p f = p
+
+-- what the merged groups of parts tell
+pub can_tell : (target : Schema) (parts : List Groups) (groups : List Group) (can : CanBeMerged target parts) → AreGroupsOf can.gs (all_sets can.sets) groups → CanBeTold target groups
+can_tell target parts groups can are = record { gs = can.gs; attributes = can.attributes; sets = all_sets can.sets; groups_of = are; typed = can.typed; cells = can.cells; kinds = can.kinds }

@@ -1,5 +1,5 @@
 -- The groups of aggregates and of blocks.
-use Rattle.std.specs.Prelude.{ℕ, ℤ, pos, List, [], ◌∷◌, map}
+use Rattle.std.specs.Prelude.{ℕ, pos, List, [], ◌∷◌}
 use Rattle.cell_values.specs.declared.datum.Row.{Row}
 use Rattle.cell_values.specs.declared.schema.Dimension.{Dimension}
 use Rattle.array_rows.specs.Boxes.{by_pairs, within}
@@ -21,9 +21,9 @@ aggregate_sets [] rows = one_set (pos 0 ∷ []) rows
 aggregate_sets (d ∷ places) rows = sets_by (numbers_at (d ∷ places)) rows
 
 -- the block of each number, counted from the low bound of its dimension
-abbrev pub block_at : List ℤ → List ℕ → Coordinate → Coordinate
-block_at lo sizes c = by_pairs (λ b x. b x) (by_pairs block lo sizes) c
+abbrev pub block_at : List Dimension → List ℕ → Coordinate → Coordinate
+block_at dims sizes c = by_pairs (λ b x. b x) (by_pairs (λ d size. block d.lo size) dims sizes) c
 
 -- the cells of each block
 abbrev pub regrid_sets : List Dimension → List ℕ → List Row → Sets
-regrid_sets dims sizes rows = sets_by (block_at (map (λ d. d.lo) dims) sizes) rows
+regrid_sets dims sizes rows = sets_by (block_at dims sizes) rows

@@ -1,9 +1,9 @@
-//! The cells of a chunk's core.
+//! The cells of cores.
 ghost use Rattle.std.specs.Prelude.{◌≡◌, ◌∷◌, [], ◌^◌, ◌<◌, length, IsTrue, IfOk};
 ghost use Rattle.std.specs.List.{All};
 ghost use Rattle.array_rows.specs.Boxes.{is_inside, bounds_of};
 ghost use Rattle.array_rows.specs.Rows.{IsRising};
-ghost use Rattle.array_cores.specs.Cores.{HaveCells};
+ghost use Rattle.array_cores.specs.Cores.{HaveCells, cores_of};
 ghost use Rattle.exec_group.specs.Keys.{core_of};
 
 use array_geom::{Chunk, ChunkedArray};
@@ -22,6 +22,32 @@ fn counted(rows: List<Row>) -> Result<List<Row>, Memory>
     }
 }
 
+/// The rows of an array's cores, whose cells are moved.
+pub fn rows_of_cores(array: ChunkedArray) -> Result<List<Row>, Memory>
+    requires { HaveCells array.schema array.margins.items array.chunks }
+    ensures rows { IfOk result (λ rows. rows ≡ cores_of array) }
+    ensures few { IfOk result (λ rows. length rows < 2 ^ 63) }
+{
+    let rows = into_core_rows(array)?;
+    counted(rows)
+}
+
+/// The array of one chunk.
+fn alone(schema: &Schema, margins: &Margins, chunk: &Chunk) -> Result<ChunkedArray, Memory>
+    ensures schema { IfOk result (λ array. array.schema ≡ schema.now) }
+    ensures margins { IfOk result (λ array. array.margins ≡ margins.now) }
+    ensures chunks { IfOk result (λ array. array.chunks ≡ chunk.now ∷ []) }
+{
+    let mut chunks = chunk.cells.another();
+    chunks.push(chunk.copy()?)?;
+    Ok(ChunkedArray {
+        schema: schema.copy()?,
+        margins: copy_numbers(margins),
+        chunks,
+        broken: None,
+    })
+}
+
 /// The rows of a chunk's core, without those of its margins.
 pub(crate) fn rows_of_core(
     schema: &Schema,
@@ -34,13 +60,6 @@ pub(crate) fn rows_of_core(
     ensures rising { IfOk result IsRising }
     ensures inside { IfOk result (All (λ row. IsTrue (is_inside (bounds_of schema.now.dimensions) row.at.items))) }
 {
-    let mut chunks = chunk.cells.another();
-    chunks.push(chunk.copy()?)?;
-    let rows = into_core_rows(ChunkedArray {
-        schema: schema.copy()?,
-        margins: copy_numbers(margins),
-        chunks,
-        broken: None,
-    })?;
-    counted(rows)
+    let array = alone(schema, margins, chunk)?;
+    rows_of_cores(array)
 }

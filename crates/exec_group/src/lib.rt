@@ -8,5 +8,6 @@ mod named;
 mod parts;
 mod results;
 
-pub use merged::{merge_parts, told_array};
+pub use cores::rows_of_cores;
+pub use merged::{margins_of, merge_parts, told_array};
 pub use parts::{aggregate_groups, aggregate_part, regrid_groups, regrid_part};

@@ -23,8 +23,9 @@ fn overlaps_of(dims: &[Dimension]) -> Margins
     overlaps
 }
 
+/// The overlaps of a schema, as margins.
 #[tactic(auto, using(crate::proofs::PartLaws::few_dimensions))]
-fn margins_of(schema: &Schema) -> Margins
+pub fn margins_of(schema: &Schema) -> Margins
     requires { IsValid schema.now }
     ensures { result.items ≡ overlaps schema.now.dimensions }
 {
@@ -32,6 +33,7 @@ fn margins_of(schema: &Schema) -> Margins
 }
 
 /// The array of the target with a cell for each group, whose values are the aggregates of the group's cells.
+#[tactic(auto, using(crate::proofs::PartLaws::overlap_each, crate::proofs::PartLaws::overlap_places))]
 pub fn told_array(groups: Groups, target: &Schema) -> Result<ChunkedArray, Memory>
     requires valid { IsValid target.now }
     requires room { cells_in groups.groups < 2 ^ 63 }

@@ -1,6 +1,6 @@
 //! The groups of the cells of rows, and of a chunk's core.
-ghost use Rattle.std.specs.Prelude.{◌≡◌, ◌≤◌, ◌<◌, ◌^◌, ◌∷◌, [], pos, nat_le, length, IsTrue, IfOk};
-ghost use Rattle.std.specs.List.{All, list_all};
+ghost use Rattle.std.specs.Prelude.{◌≡◌, ◌≤◌, ◌<◌, ◌^◌, ◌∷◌, [], pos, length, IsTrue, IfOk};
+ghost use Rattle.std.specs.List.{All};
 ghost use Rattle.cell_values.specs.Schemas.{IsValid};
 ghost use Rattle.array_rows.specs.Boxes.{is_inside, bounds_of};
 ghost use Rattle.array_rows.specs.Rows.{IsRising};
@@ -56,7 +56,6 @@ pub fn regrid_groups(
     requires few { length rows.now < 2 ^ 63 }
     requires rising { IsRising rows.now }
     requires inside { All (λ row. IsTrue (is_inside (bounds_of schema.now.dimensions) row.at.items)) rows.now }
-    requires blocks { IsTrue (list_all (λ size. nat_le 1 size) blocks.now) }
     ensures groups { IfOk result (λ part. AreGroupsOf aggs.now (regrid_sets schema.now.dimensions blocks.now rows.now) part.groups) }
     ensures cells { IfOk result (λ part. cells_in part.groups ≤ length rows.now) }
 {
@@ -90,7 +89,6 @@ pub fn regrid_part(
     aggs: &[Aggregate],
 ) -> Result<Groups, Memory>
     requires cells { HaveCells schema.now margins.now.items (chunk.now ∷ []) }
-    requires blocks { IsTrue (list_all (λ size. nat_le 1 size) blocks.now) }
     ensures groups { IfOk result (λ part. AreGroupsOf aggs.now (regrid_sets schema.now.dimensions blocks.now (core_of schema.now.dimensions margins.now.items chunk.now)) part.groups) }
     ensures cells { IfOk result (λ part. cells_in part.groups ≤ length (core_of schema.now.dimensions margins.now.items chunk.now)) }
 {
