@@ -1,8 +1,8 @@
 -- Aggregates are values of their kinds.
-use Rattle.std.proofs.Common.{◌≡◌, ℕ, zero, suc, ◌<◌, ◌≤◌, ◌^◌, ℤ, pos, Bool, true, false, not, cond, IsTrue, List, [], ◌∷◌, map, filter, length, get_or, slice_get, Option, Some, None, refl, sym, ap, ◌∙◌, subst, arith}
+use Rattle.std.proofs.Common.{◌≡◌, ℕ, zero, suc, ◌<◌, ◌≤◌, ℤ, pos, Bool, true, false, not, cond, IsTrue, List, [], ◌∷◌, map, filter, length, get_or, slice_get, Option, Some, None, refl, sym, ap, subst, arith}
 use Rattle.std.proofs.lemmas.List.{length-map}
-use Rattle.std.specs.Prelude.{slice_index_or, nat_lt}
-use Rattle.std.specs.List.{AllByRecursion, AllZip}
+use Rattle.std.specs.Prelude.{slice_index_or}
+use Rattle.std.specs.List.{AllByRecursion}
 use Rattle.std.specs.Ordering.{is_lt}
 use Rattle.cell_values.specs.declared.datum.Cell.{Cell}
 use Rattle.cell_values.specs.declared.datum.Cell.TheVariants.{Full, Doubt}
@@ -15,7 +15,7 @@ use Rattle.cell_values.specs.declared.schema.Kind.{Kind}
 use Rattle.cell_values.specs.declared.schema.Kind.TheVariants.{Int64, Str, Bool as Truths}
 use Rattle.cell_values.specs.Cells.{is_of_kind, AreOfKinds, IsCellOf}
 use Rattle.cell_values.specs.Nulls.{is_null}
-use Rattle.cell_values.specs.Table.{fits_int64, exact}
+use Rattle.cell_values.specs.Table.{fits_int64}
 use Rattle.array_parts.proofs.PartLemmas.{all_kept}
 use Rattle.logical_plan.specs.declared.parts.AggFunction.{AggFunction}
 use Rattle.logical_plan.specs.declared.parts.AggFunction.TheVariants.{Sum, Count, CountAll, Min, Max}
@@ -115,7 +115,6 @@ fewer_values x cells =
     omega (arith, a, b)
 
 -- ---- aggregates
-
 
 of_function : (f : AggFunction) (attributes : List Attribute) (x : ℕ) (cells : List Cell) → IsTrue (takes f (slice_get attributes x)) → AllByRecursion (IsCellOf attributes) cells → length cells < 9223372036854775808
     → HasKind (result_kind f (slice_get attributes x)) (result_of f (values_of x cells) (length cells))

@@ -1,22 +1,20 @@
 -- The cells of a chunk's core, and the array of all parts.
-use Rattle.std.proofs.Common.{◌≡◌, ℕ, suc, ◌+◌, ◌<◌, ◌≤◌, ◌^◌, ◌&&◌, IsTrue, List, [], ◌∷◌, length, Ok, Result, refl, sym, ap, ◌∙◌, subst, arith}
-use Rattle.std.specs.Prelude.{IfOk}
-use Rattle.std.specs.List.{All, AllByRecursion, AllZip, list_all}
+use Rattle.std.proofs.Common.{◌≡◌, ℕ, suc, ◌≤◌, ◌^◌, ◌&&◌, IsTrue, List, [], ◌∷◌, length, refl, sym, ap, ◌∙◌, subst, arith}
+use Rattle.std.specs.List.{All, AllByRecursion, list_all}
 use Rattle.std.proofs.lemmas.List.Elements.{All-from_recursion}
 use Rattle.arrayvec.specs.ArrayVec.{ArrayVec}
 use Rattle.cell_values.specs.declared.datum.Row.{Row}
-use Rattle.cell_values.specs.declared.memory.Memory.{Memory}
 use Rattle.cell_values.specs.declared.schema.Dimension.{Dimension}
 use Rattle.cell_values.specs.declared.schema.Schema.{Schema}
 use Rattle.cell_values.specs.Schemas.{has_attributes, has_dimensions, are_distinct, names_of, is_dimension, frame_size, frame_fits, IsValid}
 use Rattle.array_rows.specs.Arrays.{AreRowsOf}
-use Rattle.array_rows.specs.Boxes.{is_inside, bounds_of, within}
+use Rattle.array_rows.specs.Boxes.{is_inside, bounds_of}
 use Rattle.array_rows.specs.Rows.{IsRising}
 use Rattle.array_rows.proofs.RowSets.{IsRising-rows_where}
 use Rattle.array_geom.specs.declared.chunk.Chunk.{Chunk}
 use Rattle.array_geom.specs.declared.chunk.ChunkedArray.{ChunkedArray}
 use Rattle.array_geom.specs.Geometry.{core, overlaps, frame_lengths, volume}
-use Rattle.array_geom.specs.Link.{Is, chunk_rows, core_rows}
+use Rattle.array_geom.specs.Link.{chunk_rows, core_rows}
 use Rattle.array_geom.specs.Ranges.{AreNear}
 use Rattle.array_geom.proofs.NearLemmas.{valid_placed, size_is_volume}
 use Rattle.array_geom.proofs.TestLaws.{and_parts, at_most}

@@ -1,7 +1,7 @@
 -- Rows of what groups tell.
-use Rattle.std.proofs.Common.{◌≡◌, ℕ, ◌+◌, ◌<◌, ◌≤◌, ◌&&◌, max, Bool, true, false, cond, IsTrue, List, [], ◌∷◌, ◌++◌, map, length, drop, Option, Some, None, Result, Ok, Err, refl, sym, ap, ◌∙◌, subst, arith, append_assoc}
+use Rattle.std.proofs.Common.{◌≡◌, ℕ, ◌+◌, ◌<◌, ◌≤◌, ◌&&◌, Bool, true, false, cond, IsTrue, List, [], ◌∷◌, ◌++◌, map, length, drop, Option, Some, None, Result, Ok, Err, refl, sym, ap, ◌∙◌, subst, arith, append_assoc}
 use Rattle.std.proofs.lemmas.List.{append-nil, length-map}
-use Rattle.std.specs.List.{AllByRecursion, AllZip, list_all}
+use Rattle.std.specs.List.{AllByRecursion, AllZip}
 use Rattle.std.specs.Prelude.{IfOk}
 use Rattle.std.specs.Option.{option_map}
 use Rattle.std.specs.Ordering.{is_eq}
@@ -17,13 +17,12 @@ use Rattle.cell_values.specs.Cells.{is_of_kind, IsCellOf}
 use Rattle.cell_values.specs.Schemas.{IsValid}
 use Rattle.array_rows.specs.Arrays.{AreRowsOf}
 use Rattle.array_rows.specs.Boxes.{is_inside, bounds_of}
-use Rattle.array_rows.specs.Rows.{Coordinate, row_major, IsBefore, IsRising, placed, cell_at}
+use Rattle.array_rows.specs.Rows.{Coordinate, row_major, IsBefore, IsRising, cell_at}
 use Rattle.array_rows.proofs.RowsLemmas.{row_major_exact, none_at_bound, same_coordinate}
 use Rattle.logical_plan.specs.declared.parts.Aggregate.{Aggregate}
 use Rattle.logical_plan.specs.Groups.{cells_of, aggregate_of, aggregates_of}
 use Rattle.logical_plan.specs.PlanSchema.{aggregate_kind}
 use Rattle.logical_plan.specs.Typing.{is_aggregate_of, are_aggregates_of, kinds_of}
-use Rattle.agg_states.specs.Stands.{StandsFor}
 use Rattle.agg_states.specs.Summary.{Summary}
 use Rattle.group_parts.specs.declared.groups.Group.{Group}
 use Rattle.group_parts.specs.Counts.{cells_of as counted, cells_in}
@@ -181,8 +180,7 @@ each_kind attributes (g ∷ gs) rows [] n s t k l m = absurd s
 each_kind attributes (g ∷ gs) rows (state ∷ states) n s t k l m =
     let typed = both (is_aggregate_of attributes g) (are_aggregates_of attributes gs) t in
     let e = s.0.cells in
-    let f = length-map rows (λ (row : Row). row.cell) in
-    (
+    let f = length-map rows (λ (row : Row). row.cell) in (
       aggregate_has_kind attributes g (cells_of rows) typed.0 (all_cells rows k) (omega (arith, e, f, l, m)),
       each_kind attributes gs rows states n s.1 typed.1 k (omega (arith, l)) m,
     )
@@ -201,7 +199,7 @@ cell_fits gs attributes target n c (Some rows) None cell g typed k kinds l m e =
 cell_fits gs attributes target n c (Some rows) (Some states) cell g typed k kinds l m e = (
   k.0,
   subst (IsCellOf target.attributes) (ap the_cell e)
-    (kinds_for attributes (λ a. aggregate_of a (cells_of rows)) target.attributes gs kinds (each_kind attributes gs rows states n g.1 typed k.1 (l states refl) m)),
+      (kinds_for attributes (λ a. aggregate_of a (cells_of rows)) target.attributes gs kinds (each_kind attributes gs rows states n g.1 typed k.1 (l states refl) m)),
 )
   where
     the_cell : Option Cell → Cell

@@ -1,5 +1,5 @@
 -- Rows of what groups tell.
-use Rattle.std.specs.Prelude.{◌≡◌, List, Option, IsTrue, ⊤}
+use Rattle.std.specs.Prelude.{◌≡◌, List, IsTrue}
 use Rattle.std.specs.List.{AllByRecursion, AllZip}
 use Rattle.std.specs.Option.{option_map}
 use Rattle.cell_values.specs.declared.datum.Cell.{Cell}
