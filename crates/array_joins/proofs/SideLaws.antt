@@ -50,16 +50,16 @@ renamed_cell attributes names (Doubt kind) l h = tt
 
 -- ---- cells side by side
 
-both_kinds : (as bs : List Attribute) (vs ws : List Datum) → AreOfKinds as vs → AreOfKinds bs ws → AreOfKinds (as ++ bs) (vs ++ ws)
-both_kinds [] bs [] ws h k = k
-both_kinds [] bs (v ∷ vs) ws h k = absurd h
-both_kinds (a ∷ as) bs [] ws h k = absurd h
-both_kinds (a ∷ as) bs (v ∷ vs) ws h k = (h.0, both_kinds as bs vs ws h.1 k)
+both_kinds : (ls rs : List Attribute) (vs ws : List Datum) → AreOfKinds ls vs → AreOfKinds rs ws → AreOfKinds (ls ++ rs) (vs ++ ws)
+both_kinds [] rs [] ws h k = k
+both_kinds [] rs (v ∷ vs) ws h k = absurd h
+both_kinds (a ∷ ls) rs [] ws h k = absurd h
+both_kinds (a ∷ ls) rs (v ∷ vs) ws h k = (h.0, both_kinds ls rs vs ws h.1 k)
 
-pub beside_kinds : (as bs : List Attribute) (l r : Cell) → IsCellOf as l → IsCellOf bs r → IsCellOf (as ++ bs) (cell_beside l r)
-beside_kinds as bs (Doubt kind) r h k = tt
-beside_kinds as bs (Full vs) (Doubt kind) h k = tt
-beside_kinds as bs (Full vs) (Full ws) h k = both_kinds as bs vs ws h k
+pub beside_kinds : (ls rs : List Attribute) (l r : Cell) → IsCellOf ls l → IsCellOf rs r → IsCellOf (ls ++ rs) (cell_beside l r)
+beside_kinds ls rs (Doubt kind) r h k = tt
+beside_kinds ls rs (Full vs) (Doubt kind) h k = tt
+beside_kinds ls rs (Full vs) (Full ws) h k = both_kinds ls rs vs ws h k
 
 found_kind : (P : Cell → Type 0) (rows : List Row) (c : Coordinate) (cell : Cell) → AllByRecursion (λ row. P row.cell) rows → cell_at rows c ≡ Some cell → P cell
 found_kind P [] c cell h e = absurd cc
@@ -74,14 +74,14 @@ found_kind P (row ∷ rows) c cell h e = cases (row_major row.at.items c) refl e
     cases Less f e ih = ih e
     cases Greater f e ih = ih e
 
-joined_cells : (P : Cell → Type 0) (as bs : List Attribute) (left right : List Row) → ((l r : Cell) → IsCellOf as l → IsCellOf bs r → P (cell_beside l r)) → AllByRecursion (λ row. IsCellOf as row.cell) left → AllByRecursion (λ row. IsCellOf bs row.cell) right
+joined_cells : (P : Cell → Type 0) (ls rs : List Attribute) (left right : List Row) → ((l r : Cell) → IsCellOf ls l → IsCellOf rs r → P (cell_beside l r)) → AllByRecursion (λ row. IsCellOf ls row.cell) left → AllByRecursion (λ row. IsCellOf rs row.cell) right
     → AllByRecursion (λ row. P row.cell) (join_rows left right)
-joined_cells P as bs [] right f h k = tt
-joined_cells P as bs (row ∷ left) right f h k = cases (cell_at right row.at.items) refl (joined_cells P as bs left right f h.1 k)
+joined_cells P ls rs [] right f h k = tt
+joined_cells P ls rs (row ∷ left) right f h k = cases (cell_at right row.at.items) refl (joined_cells P ls rs left right f h.1 k)
   where
     cases : (o : Option Cell) → cell_at right row.at.items ≡ o → AllByRecursion (λ row. P row.cell) (join_rows left right) → AllByRecursion (λ row. P row.cell) (put_first row.at.items (option_map (cell_beside row.cell) o) (join_rows left right))
     cases None e ih = ih
-    cases (Some cell) e ih = (f row.cell cell h.0 (found_kind (IsCellOf bs) right row.at.items cell k e), ih)
+    cases (Some cell) e ih = (f row.cell cell h.0 (found_kind (IsCellOf rs) right row.at.items cell k e), ih)
 
 kept_places : (P : Coordinate → Type 0) (change : Coordinate → Cell → Option Cell) (rows : List Row) → AllByRecursion (λ row. P row.at.items) rows → AllByRecursion (λ row. P row.at.items) (cell_wise change rows)
 kept_places P change [] h = tt

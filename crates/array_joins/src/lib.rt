@@ -2,6 +2,6 @@
 #![tactic(auto)]
 
 mod building;
-mod join;
+mod joined;
 
-pub use join::join;
+pub use joined::join;
