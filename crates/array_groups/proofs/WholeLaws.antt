@@ -68,7 +68,7 @@ few_names gs (d ∷ places) schema target e v l =
     let same = ap (λ (s : Schema). length s.dimensions) e ∙ length-map (items_at (d ∷ places) schema.dimensions) without_overlap ∙ as_many_items schema.dimensions (d ∷ places) l in
     omega (arith, few, same)
 
-pub can_tell : (array : ChunkedArray) (gs : List Aggregate) (places : List ℕ) (target : Schema) (rows : List Row) (groups : List Group) → rows ≡ cores_of array → HaveCells array.schema array.margins.items array.chunks
+abbrev pub can_tell : (array : ChunkedArray) (gs : List Aggregate) (places : List ℕ) (target : Schema) (rows : List Row) (groups : List Group) → rows ≡ cores_of array → HaveCells array.schema array.margins.items array.chunks
     → target ≡ aggregate_schema gs places array.schema → IsTrue (are_aggregates_of array.schema.attributes gs) → IsTrue (are_below (length array.schema.dimensions) places) → AreGroupsOf gs (aggregate_sets places rows) groups
     → CanBeTold target groups
 can_tell array gs places target rows groups same h e typed l are = record {
