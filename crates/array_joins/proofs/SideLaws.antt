@@ -1,7 +1,7 @@
 -- The joined rows of two arrays are those of an array of their join's schema.
-use Rattle.std.proofs.Common.{◌≡◌, cond, ℕ, zero, suc, ◌+◌, ◌≤◌, ℤ, IsTrue, List, [], ◌∷◌, ◌++◌, map, length, take, drop, Option, Some, None, refl, sym, ap, ◌∙◌, subst, arith, length-append, length-take, length-drop, min, ◌-◌}
+use Rattle.std.proofs.Common.{◌≡◌, cond, ℕ, suc, ◌+◌, ◌≤◌, ℤ, IsTrue, List, [], ◌∷◌, ◌++◌, map, length, take, drop, Option, Some, None, refl, sym, ap, ◌∙◌, subst, arith, length-append, length-take, length-drop}
 use Rattle.std.proofs.lemmas.List.{length-map}
-use Rattle.std.specs.List.{AllByRecursion, AllZip}
+use Rattle.std.specs.List.{AllByRecursion}
 use Rattle.std.specs.Option.{option_map}
 use Rattle.std.specs.Ordering.{is_eq}
 use Rattle.std.specs.declared.cmp.Ordering.{Ordering}
@@ -14,7 +14,7 @@ use Rattle.cell_values.specs.declared.schema.Attribute.{Attribute}
 use Rattle.cell_values.specs.declared.schema.Bounds.{Bounds}
 use Rattle.cell_values.specs.declared.schema.Dimension.{Dimension}
 use Rattle.cell_values.specs.declared.schema.Schema.{Schema}
-use Rattle.cell_values.specs.Cells.{is_of_kind, AreOfKinds, IsCellOf}
+use Rattle.cell_values.specs.Cells.{AreOfKinds, IsCellOf}
 use Rattle.cell_values.specs.Schemas.{IsValid, attribute_names, dimension_names}
 use Rattle.array_rows.specs.Arrays.{AreRowsOf}
 use Rattle.array_rows.specs.Boxes.{is_inside, bounds_of, by_pairs, corners}
@@ -22,7 +22,7 @@ use Rattle.array_rows.specs.Cellwise.{cell_wise, put_first}
 use Rattle.array_rows.specs.Rows.{Coordinate, row_major, cell_at}
 use Rattle.array_rows.proofs.RowsLemmas.{IsRising-cell_wise}
 use Rattle.logical_plan.specs.Joins.{cell_beside, join_rows}
-use Rattle.logical_plan.specs.PlanSchema.{free_name, free_names, renamed_dimension, renamed_attribute, with_free_names, side_by_side, join_schema}
+use Rattle.logical_plan.specs.PlanSchema.{free_name, free_names, renamed_dimension, renamed_attribute, join_schema}
 
 -- ---- names
 
@@ -114,5 +114,5 @@ join_are_rows left right schema left_rows right_rows l r e v =
       };
       kinds = subst (λ (s : Schema). AllByRecursion (λ (row : Row). IsCellOf s.attributes row.cell) (join_rows left_rows right_rows)) (sym e)
           (joined_cells (IsCellOf (by_pairs renamed_attribute attributes (drop (length left.dimensions) names))) left.attributes right.attributes left_rows right_rows
-            (λ a b h k. renamed_cell attributes (drop (length left.dimensions) names) (cell_beside a b) some (beside_kinds left.attributes right.attributes a b h k)) l.kinds r.kinds);
+          (λ a b h k. renamed_cell attributes (drop (length left.dimensions) names) (cell_beside a b) some (beside_kinds left.attributes right.attributes a b h k)) l.kinds r.kinds);
     }

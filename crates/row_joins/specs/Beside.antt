@@ -1,5 +1,5 @@
 -- Rows of two arrays that are being joined.
-use Rattle.std.specs.Prelude.{◌≡◌, List, [], ◌∷◌, ◌++◌}
+use Rattle.std.specs.Prelude.{◌≡◌, List, ◌∷◌, ◌++◌}
 use Rattle.cell_values.specs.declared.datum.Row.{Row}
 use Rattle.array_rows.specs.Rows.{IsRising}
 use Rattle.logical_plan.specs.Joins.{join_rows}

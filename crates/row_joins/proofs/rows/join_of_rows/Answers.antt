@@ -1,5 +1,4 @@
-use Rattle.std.proofs.Common.{[], List, sym, ap, ◌∙◌, subst}
-use Rattle.cell_values.specs.declared.datum.Row.{Row}
+use Rattle.std.proofs.Common.{[], sym, ◌∙◌, subst}
 use Rattle.array_rows.specs.Rows.{IsRising}
 use Rattle.logical_plan.specs.Joins.{join_rows}
 use Rattle.row_joins.proofs.MoveLaws.{at_end, begun, further}
