@@ -1,7 +1,7 @@
 -- Groups lie within the bounds of their schemas.
-use Rattle.std.proofs.Common.{◌≡◌, ℕ, zero, suc, ◌+◌, ◌/◌, ◌<◌, ◌≤◌, ◌^◌, ℤ, pos, ◌≤ℤ◌, ◌+ℤ◌, ◌-ℤ◌, int_le, unsigned_abs, ◌&&◌, Bool, true, false, cond, IsTrue, List, [], ◌∷◌, map, filter, length, slice_get, Option, Some, None, refl, sym, ap, ◌∙◌, subst, arith}
-use Rattle.std.specs.Prelude.{slice_index_or, nat_le, nat_lt}
-use Rattle.std.specs.List.{AllByRecursion, list_all, filter_map, cons_option}
+use Rattle.std.proofs.Common.{◌≡◌, ℕ, zero, suc, ◌<◌, ℤ, pos, int_le, ◌&&◌, Bool, true, false, cond, IsTrue, List, [], ◌∷◌, map, filter, length, slice_get, Option, Some, None, refl, sym, ap, subst, arith}
+use Rattle.std.specs.Prelude.{slice_index_or, nat_lt}
+use Rattle.std.specs.List.{AllByRecursion, cons_option}
 use Rattle.std.specs.Ordering.{is_eq}
 use Rattle.std.specs.declared.cmp.Ordering.{Ordering}
 use Rattle.std.specs.declared.cmp.Ordering.TheVariants.{Less, Equal, Greater}
@@ -18,7 +18,7 @@ use Rattle.array_parts.proofs.PartLemmas.{all_kept}
 use Rattle.logical_plan.specs.declared.parts.Aggregate.{Aggregate}
 use Rattle.logical_plan.specs.BoxOps.{items_at, numbers_at}
 use Rattle.logical_plan.specs.Groups.{group_at}
-use Rattle.logical_plan.specs.PlanSchema.{derived, aggregate_kind, aggregate_attributes, without_overlap, group_dimensions, aggregate_schema}
+use Rattle.logical_plan.specs.PlanSchema.{aggregate_kind, aggregate_attributes, without_overlap, group_dimensions, aggregate_schema}
 use Rattle.logical_plan.specs.Typing.{kinds_of, are_below}
 use Rattle.group_parts.specs.Sets.{unless_empty, sets_by, one_set}
 use Rattle.exec_group.specs.Keys.{aggregate_sets}
@@ -76,7 +76,6 @@ record IsWithin (dims : List Dimension) (place : ℕ) (number : ℤ) : Type 0 wh
   there : slice_get dims place ≡ Some d
   low : int_le d.lo number ≡ true
   high : int_le number d.hi ≡ true
-
 
 in_place : (dims : List Dimension) (c : Coordinate) (place : ℕ) → is_between (map (λ d. d.lo) dims) (map (λ d. d.hi) dims) c ≡ true → place < length dims → IsWithin dims place (slice_index_or c place (pos 0))
 in_place [] c place b l = absurd (omega (arith, l))

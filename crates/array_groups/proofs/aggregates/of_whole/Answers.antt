@@ -1,5 +1,4 @@
-use Rattle.std.proofs.Common.{arith, ◌<◌}
-use Rattle.logical_plan.specs.PlanSchema.{aggregate_schema}
+use Rattle.std.proofs.Common.{arith}
 use Rattle.array_groups.proofs.WholeLaws.{of_cores, few_names, can_tell, told_whole, if_ok}
 use Rattle.array_groups.proofs.aggregates.of_whole.Goals as goal
 
