@@ -1,0 +1,5 @@
+use Rattle.array_groups.proofs.WholeLaws.{means_broken, stands_for}
+use Rattle.array_groups.proofs.aggregates.aggregate.Goals as goal
+
+pub returns-in-Some-clause-array : goal.returns-in-Some-clause-array
+returns-in-Some-clause-array c = stands_for c.broken_array.result _ _ (means_broken c.args.aggs.now c.args.dims.now c.args.array c.args.target.now _ c.requires.target c.in-Some.is) c.broken_array.ensures.array

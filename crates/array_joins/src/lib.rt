@@ -1,0 +1,7 @@
+//! Joins of arrays.
+#![tactic(auto)]
+
+mod building;
+mod joined;
+
+pub use joined::join;

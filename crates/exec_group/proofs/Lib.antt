@@ -1,0 +1,4 @@
+pub mod KeyLaws
+pub mod KindLaws
+pub mod ToldLaws
+pub mod PartLaws

@@ -1,0 +1,13 @@
+//! Aggregates of groups of cells, chunk by chunk.
+#![tactic(auto)]
+
+mod blocks;
+mod cores;
+mod merged;
+mod named;
+mod parts;
+mod results;
+
+pub use cores::rows_of_cores;
+pub use merged::{margins_of, merge_parts, told_array};
+pub use parts::{aggregate_groups, aggregate_part, regrid_groups, regrid_part};

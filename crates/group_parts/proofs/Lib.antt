@@ -1,0 +1,5 @@
+pub mod FormLaws
+pub mod MergeLaws
+pub mod PartLaws
+pub mod RowLemmas
+pub mod StateLaws

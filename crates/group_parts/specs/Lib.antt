@@ -1,0 +1,4 @@
+pub mod Counts
+pub mod Grouped
+pub mod Merged
+pub mod Sets
