@@ -1,0 +1,144 @@
+use catalog_changes::*;
+use catalog_rules::*;
+use cell_values::{Bytes, List, Memory};
+use plan_changes::Change;
+use std::alloc::Global;
+use std::test::*;
+use version_catalog::*;
+
+/// Array A of `<v:int64>[i=0:3,2,0]`, whose version 2 stands, with a directory of 44 bytes in page 7.
+const ONE: [u8; 74] = [
+    1, 0, 0, 0, 1, 65, 1, 1, 118, 1, 1, 1, 1, 105, 0, 0, 0, 0, 0, 0, 0, 0, 3, 0, 0, 0, 0, 0, 0, 0,
+    2, 0, 0, 0, 0, 0, 0, 0, 0, 0, 0, 0, 0, 0, 0, 0, 3, 0, 0, 0, 1, 0, 0, 0, 2, 0, 0, 0, 44, 0, 0,
+    0, 0, 0, 0, 0, 1, 0, 0, 0, 7, 0, 0, 0,
+];
+
+/// No array.
+const NONE: [u8; 4] = [0, 0, 0, 0];
+
+const CREATE: u8 = 1;
+
+const FIRST: u8 = 2;
+
+const NEXT: u8 = 3;
+
+const REMOVE: u8 = 4;
+
+const BELOW: u8 = 5;
+
+const SCHEMA: [u8; 40] = [
+    1, 1, 118, 1, 1, 1, 1, 105, 0, 0, 0, 0, 0, 0, 0, 0, 3, 0, 0, 0, 0, 0, 0, 0, 2, 0, 0, 0, 0, 0,
+    0, 0, 0, 0, 0, 0, 0, 0, 0, 0,
+];
+
+const DIRECTORY: [u8; 16] = [8, 0, 0, 0, 0, 0, 0, 0, 1, 0, 0, 0, 9, 0, 0, 0];
+
+/// The bytes of a record of this kind for an array; the number is that of kind 5.
+fn record_bytes(alloc: Global, kind: u8, letter: u8, number: u8) -> Result<Bytes, Memory> {
+    let mut bytes = List::from_slice(alloc, &[kind, 1, letter])?;
+    if kind == CREATE || kind == FIRST {
+        bytes.extend(SCHEMA.as_slice())?;
+    }
+    if kind == FIRST || kind == NEXT {
+        bytes.extend(DIRECTORY.as_slice())?;
+    }
+    if kind == BELOW {
+        bytes.extend([number, 0, 0, 0].as_slice())?;
+    }
+    Ok(bytes)
+}
+
+/// Whether the catalogue allows such a record; nothing where one of them is not read.
+fn is_allowed(alloc: Global, kind: u8, letter: u8, number: u8) -> Option<bool> {
+    let bytes = record_bytes(alloc, kind, letter, number).ok()?;
+    let catalog = decode_catalog(alloc, &ONE).ok()?;
+    let entry = decode_record(alloc, bytes.as_slice()).ok()?;
+    Some(allowed(&catalog, &entry))
+}
+
+/// A kind, the name of an array, a number, and whether the catalogue of A alone allows such a record.
+const TABLE: [(u8, u8, u8, bool); 12] = [
+    (CREATE, 65, 0, false),
+    (CREATE, 66, 0, true),
+    (FIRST, 65, 0, false),
+    (FIRST, 66, 0, true),
+    (NEXT, 65, 0, true),
+    (NEXT, 66, 0, false),
+    (REMOVE, 65, 0, true),
+    (REMOVE, 66, 0, false),
+    (BELOW, 65, 0, false),
+    (BELOW, 65, 2, true),
+    (BELOW, 65, 3, false),
+    (BELOW, 66, 2, false),
+];
+
+#[test]
+fn records_are_allowed_by_the_table(rt: HostRuntime) -> Result<(), usize> {
+    for (kind, letter, number, expected) in TABLE.as_slice() {
+        assert!(rt; is_allowed(rt.alloc(), *kind, *letter, *number) == Some(*expected));
+    }
+    Ok(())
+}
+
+fn decoded(alloc: Global) -> Result<Catalog, Memory> {
+    match decode_catalog(alloc, &ONE) {
+        Ok(catalog) => Ok(catalog),
+        Err(_) => Err(Memory),
+    }
+}
+
+fn record(alloc: Global, kind: u8, letter: u8, number: u8) -> Result<CatalogRecord, Memory> {
+    let bytes = record_bytes(alloc, kind, letter, number)?;
+    match decode_record(alloc, bytes.as_slice()) {
+        Ok(entry) => Ok(entry),
+        Err(_) => Err(Memory),
+    }
+}
+
+/// How many bytes the catalogue has after such a record, 0 where it is not allowed.
+fn length_after(alloc: Global, kind: u8, letter: u8, number: u8) -> Result<usize, Memory> {
+    let catalog = decoded(alloc)?;
+    let entry = record(alloc, kind, letter, number)?;
+    if allowed(&catalog, &entry) {
+        let after = with_record(&catalog, &entry)?;
+        let bytes = encode_catalog(alloc, &after)?;
+        Ok(bytes.len())
+    } else {
+        Ok(0)
+    }
+}
+
+#[test]
+fn records_change_the_catalogue(rt: HostRuntime) -> Result<(), Memory> {
+    assert_eq!(rt; length_after(rt.alloc(), CREATE, 66, 0)?, 124);
+    assert_eq!(rt; length_after(rt.alloc(), FIRST, 66, 0)?, 144);
+    assert_eq!(rt; length_after(rt.alloc(), NEXT, 65, 0)?, 94);
+    assert_eq!(rt; length_after(rt.alloc(), REMOVE, 65, 0)?, 4);
+    assert_eq!(rt; length_after(rt.alloc(), BELOW, 65, 2)?, 74);
+    Ok(())
+}
+
+/// The bytes of the catalogue after a removal, none where it is not allowed.
+fn bytes_after_removal(alloc: Global, letter: u8) -> Result<Bytes, Memory> {
+    let catalog = decoded(alloc)?;
+    let entry = record(alloc, REMOVE, letter, 0)?;
+    match entry {
+        CatalogRecord::Remove { name } => {
+            let removal = CatalogRecord::Remove { name: name.copy()? };
+            if allowed(&catalog, &removal) {
+                let after = with_change(&catalog, &Change::Remove { name }, None)?;
+                encode_catalog(alloc, &after)
+            } else {
+                Ok(Bytes::new(alloc))
+            }
+        }
+        _ => Ok(Bytes::new(alloc)),
+    }
+}
+
+#[test]
+fn a_change_makes_what_its_record_makes(rt: HostRuntime) -> Result<(), Memory> {
+    let bytes = bytes_after_removal(rt.alloc(), 65)?;
+    assert!(rt; bytes.as_slice() == NONE.as_slice());
+    Ok(())
+}
