@@ -1,6 +1,7 @@
 use catalog_changes::*;
 use catalog_rules::*;
 use cell_values::{Bytes, List, Memory};
+use logical_plan::Plan;
 use plan_changes::Change;
 use std::alloc::Global;
 use std::test::*;
@@ -115,6 +116,84 @@ fn records_change_the_catalogue(rt: HostRuntime) -> Result<(), Memory> {
     assert_eq!(rt; length_after(rt.alloc(), NEXT, 65, 0)?, 94);
     assert_eq!(rt; length_after(rt.alloc(), REMOVE, 65, 0)?, 4);
     assert_eq!(rt; length_after(rt.alloc(), BELOW, 65, 2)?, 74);
+    Ok(())
+}
+
+/// The catalogue of A, whose next version would be 65,536.
+fn without_number(alloc: Global) -> Result<Catalog, Memory> {
+    let mut bytes = Bytes::from_slice(alloc, &ONE)?;
+    if bytes.len() == 74 {
+        bytes.set(46, 0);
+        bytes.set(48, 1);
+    }
+    decode_catalog(alloc, bytes.as_slice()).or(Err(Memory))
+}
+
+#[test]
+fn no_version_has_the_number_65536(rt: HostRuntime) -> Result<(), Memory> {
+    let catalog = without_number(rt.alloc())?;
+    assert!(rt; !allowed(&catalog, &record(rt.alloc(), NEXT, 65, 0)?));
+    assert!(rt; allowed(&catalog, &record(rt.alloc(), REMOVE, 65, 0)?));
+    Ok(())
+}
+
+/// So many arrays.
+fn many(alloc: Global, count: u32) -> Result<Catalog, Memory> {
+    let mut arrays = List::new(alloc);
+    if let [array] = decoded(alloc)?.arrays.as_slice() {
+        for _index in 0..count {
+            arrays.push(array.copy()?)?;
+        }
+    }
+    Ok(Catalog { arrays })
+}
+
+#[test]
+fn no_array_is_made_beside_1024(rt: HostRuntime) -> Result<(), Memory> {
+    let create = record(rt.alloc(), CREATE, 66, 0)?;
+    let first = record(rt.alloc(), FIRST, 66, 0)?;
+    let most = many(rt.alloc(), 1024)?;
+    assert!(rt; !allowed(&most, &create));
+    assert!(rt; !allowed(&most, &first));
+    assert!(rt; allowed(&many(rt.alloc(), 1023)?, &first));
+    Ok(())
+}
+
+/// The bytes of the record of an insert into A, and those of the catalogue after it; none where it is not allowed.
+fn after_insert(alloc: Global) -> Result<(Bytes, Bytes), Memory> {
+    let catalog = decoded(alloc)?;
+    if let CatalogRecord::First {
+        name,
+        schema,
+        directory,
+    } = record(alloc, FIRST, 65, 0)?
+    {
+        let next = CatalogRecord::Next {
+            name: name.copy()?,
+            directory: directory.copy()?,
+        };
+        if allowed(&catalog, &next) {
+            let plan = Plan::literal(schema.copy()?, List::new(alloc));
+            let insert = Change::Insert { name, schema, plan };
+            let entry = record_of(&catalog, &insert, Some(directory.copy()?))?;
+            let after = with_change(&catalog, &insert, Some(directory))?;
+            return Ok((
+                encode_record(alloc, &entry)?,
+                encode_catalog(alloc, &after)?,
+            ));
+        }
+    }
+    Ok((Bytes::new(alloc), Bytes::new(alloc)))
+}
+
+#[test]
+fn an_insert_makes_the_next_version(rt: HostRuntime) -> Result<(), Memory> {
+    let (entry, after) = after_insert(rt.alloc())?;
+    let next = record_bytes(rt.alloc(), NEXT, 65, 0)?;
+    assert!(rt; entry.as_slice() == next.as_slice());
+    let version = [3, 0, 0, 0, 8, 0, 0, 0, 0, 0, 0, 0, 1, 0, 0, 0, 9, 0, 0, 0];
+    assert_eq!(rt; after.len(), 94);
+    assert!(rt; after.as_slice().ends_with(version.as_slice()));
     Ok(())
 }
 
