@@ -17,7 +17,10 @@ use Rattle.catalog_rules.specs.declared.catalog_record.CatalogRecord.{CatalogRec
 use Rattle.catalog_rules.specs.declared.catalog_record.CatalogRecord.TheVariants as entries
 use Rattle.catalog_rules.specs.Catalogs.{names_in}
 use Rattle.catalog_changes.specs.Records.{entries_of, with_new, with_directory, is_allowed, after_record}
-use Rattle.catalog_changes.specs.Changed.{stored_by, after_change}
+use Rattle.catalog_changes.specs.Changed.{stored_by, record_for, after_change}
+
+abbrev pub record_made : CatalogRecord → Option CatalogRecord
+record_made entry = Some entry
 
 -- what the record of a change does
 pub record Stands (catalog : Catalog) (change : Change) (directory : Option BlobAt) (entry : CatalogRecord) : Type 0 where
@@ -62,7 +65,34 @@ remove_stands catalog name directory ok = record { allowed = ok; same = refl }
 pub cut_stands : (catalog : Catalog) (name : List ℕ) (below : ℕ) (directory : Option BlobAt) → IsTrue (names_allow (names_in catalog) (RemoveVersions name below)) → Stands catalog (RemoveVersions name below) directory (entries.RemoveVersions name below)
 cut_stands catalog name below directory ok = record { allowed = ok; same = refl }
 
+some_is : (x y : CatalogRecord) → record_made x ≡ record_made y → x ≡ y
+some_is x y e = cc
+
+-- what the change's record does, whichever change it is
+made_stands : (catalog : Catalog) (change : Change) (directory : Option BlobAt) (made entry : CatalogRecord) → Stands catalog change directory made → record_made made ≡ record_made entry → Stands catalog change directory entry
+made_stands catalog change directory made entry stands e = subst (Stands catalog change directory) (some_is made entry e) stands
+
+pub record_stands : (catalog : Catalog) (change : Change) (directory : Option BlobAt) (entry : CatalogRecord) → IsTrue (names_allow (names_in catalog) change) → record_for catalog change directory ≡ record_made entry → Stands catalog change directory entry
+record_stands catalog (Create name schema) directory entry ok e = made_stands catalog (Create name schema) directory (entries.Create name schema) entry (create_stands catalog name schema directory ok) e
+record_stands catalog (Store name schema plan) None entry ok e = absurd cc
+record_stands catalog (Store name schema plan) (Some directory) entry ok e =
+    made_stands catalog (Store name schema plan) (Some directory) (stored_by catalog name schema directory) entry (store_stands catalog name schema plan directory ok) e
+record_stands catalog (Insert name schema plan) None entry ok e = absurd cc
+record_stands catalog (Insert name schema plan) (Some directory) entry ok e = made_stands catalog (Insert name schema plan) (Some directory) (entries.Next name directory) entry (insert_stands catalog name schema plan directory ok) e
+record_stands catalog (Remove name) directory entry ok e = made_stands catalog (Remove name) directory (entries.Remove name) entry (remove_stands catalog name directory ok) e
+record_stands catalog (RemoveVersions name below) directory entry ok e = made_stands catalog (RemoveVersions name below) directory (entries.RemoveVersions name below) entry (cut_stands catalog name below directory ok) e
+
 -- what is answered is the record
-pub if_made : {P : CatalogRecord → Type 0} (r : Result CatalogRecord Memory) (entry : CatalogRecord) → IfOk r (λ made. made ≡ entry) → P entry → IfOk r P
-if_made {P} (Ok made) entry e p = subst P (sym e) p
-if_made (Err memory) entry e p = tt
+pub if_stands : (catalog : Catalog) (change : Change) (directory : Option BlobAt) (r : Result CatalogRecord Memory) → IsTrue (names_allow (names_in catalog) change)
+    → IfOk r (λ entry. record_for catalog change directory ≡ record_made entry) → IfOk r (Stands catalog change directory)
+if_stands catalog change directory (Ok entry) ok e = record_stands catalog change directory entry ok e
+if_stands catalog change directory (Err memory) ok e = tt
+
+pub if_allowed : (catalog : Catalog) (change : Change) (directory : Option BlobAt) (r : Result CatalogRecord Memory) → IfOk r (Stands catalog change directory) → IfOk r (λ entry. IsTrue (is_allowed catalog entry))
+if_allowed catalog change directory (Ok entry) s = s.allowed
+if_allowed catalog change directory (Err memory) s = tt
+
+pub if_same : (catalog : Catalog) (change : Change) (directory : Option BlobAt) (r : Result CatalogRecord Memory) → IfOk r (Stands catalog change directory)
+    → IfOk r (λ entry. after_record catalog entry ≡ after_change catalog change directory)
+if_same catalog change directory (Ok entry) s = s.same
+if_same catalog change directory (Err memory) s = tt

@@ -8,6 +8,7 @@ use Rattle.catalog_rules.specs.declared.catalog.BlobAt.{BlobAt}
 use Rattle.catalog_rules.specs.declared.catalog.CatalogArray.{CatalogArray}
 use Rattle.catalog_rules.specs.declared.catalog.Catalog.{Catalog}
 use Rattle.catalog_rules.specs.declared.catalog_record.CatalogRecord.{CatalogRecord}
+use Rattle.catalog_rules.specs.declared.catalog_record.CatalogRecord.TheVariants as entries
 use Rattle.catalog_rules.specs.declared.catalog_record.CatalogRecord.TheVariants.{First, Next}
 use Rattle.catalog_rules.specs.Catalogs.{IsCatalog, IsRecord, names_in}
 use Rattle.catalog_changes.specs.Records.{entries_of, is_allowed, with_new, with_directory, from_version, without, after_record}
@@ -40,6 +41,16 @@ after_change catalog change directory = record { arrays = changed catalog.arrays
 -- the record of a version of an array that stands, or of a new one
 abbrev pub stored_by : Catalog → List ℕ → Schema → BlobAt → CatalogRecord
 stored_by catalog name schema directory = if has_array (entries_of catalog.arrays) name then Next name directory else First name schema directory
+
+-- the record of a change with its directory
+abbrev pub record_for : Catalog → Change → Option BlobAt → Option CatalogRecord
+record_for catalog (Create name schema) directory = Some (entries.Create name schema)
+record_for catalog (Store name schema plan) None = None
+record_for catalog (Store name schema plan) (Some directory) = Some (stored_by catalog name schema directory)
+record_for catalog (Insert name schema plan) None = None
+record_for catalog (Insert name schema plan) (Some directory) = Some (Next name directory)
+record_for catalog (Remove name) directory = Some (entries.Remove name)
+record_for catalog (RemoveVersions name below) directory = Some (entries.RemoveVersions name below)
 
 -- the names of the catalogue after a change are those after the change
 abbrev pub NamesAreKept : Type 0

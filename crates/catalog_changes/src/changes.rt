@@ -1,10 +1,10 @@
 //! The catalogue after a record or a change.
-ghost use Rattle.std.specs.Prelude.{◌≡◌, IfOk, IsTrue};
+ghost use Rattle.std.specs.Prelude.{◌≡◌, Some, IfOk, IsTrue};
 ghost use Rattle.plan_changes.specs.Allowed.{names_allow};
 ghost use Rattle.catalog_rules.specs.Catalogs.{names_in};
 ghost use Rattle.catalog_rules.specs.declared.catalog_record.CatalogRecord.TheVariants.{Create, First, Next, Remove, RemoveVersions};
 ghost use Rattle.catalog_changes.specs.Records.{entries_of, allows, is_allowed, recorded, after_record};
-ghost use Rattle.catalog_changes.specs.Changed.{stored_by, has_its_directory, after_change};
+ghost use Rattle.catalog_changes.specs.Changed.{stored_by, record_for, has_its_directory, after_change};
 
 use crate::arrays::{from_version, with_directory, with_first, with_new, without};
 use crate::rules::has_array;
@@ -98,16 +98,14 @@ fn cut_record(name: &Name, below: u32) -> Result<CatalogRecord, Memory>
     })
 }
 
-/// The record of a change that the names allow. A directory comes with a change that makes a version.
-pub fn record_of(
+/// The record of a change with its directory.
+fn recorded_change(
     catalog: &Catalog,
     change: &Change,
     directory: Option<BlobAt>,
 ) -> Result<CatalogRecord, Memory>
-    requires names { IsTrue (names_allow (names_in catalog.now) change.now) }
-    requires directory { IsTrue (has_its_directory change.now directory) }
-    ensures allowed { IfOk result (λ entry. IsTrue (is_allowed catalog.now entry)) }
-    ensures same { IfOk result (λ entry. after_record catalog.now entry ≡ after_change catalog.now change.now directory) }
+    requires { IsTrue (has_its_directory change.now directory) }
+    ensures { IfOk result (λ entry. record_for catalog.now change.now directory ≡ Some entry) }
 {
     match change {
         Change::Create { name, schema } => created_record(name, schema),
@@ -122,6 +120,22 @@ pub fn record_of(
         Change::Remove { name } => removed_record(name),
         Change::RemoveVersions { name, below } => cut_record(name, *below),
     }
+}
+
+/// The record of a change that the names allow. A directory comes with a change that makes a version.
+pub fn record_of(
+    catalog: &Catalog,
+    change: &Change,
+    directory: Option<BlobAt>,
+) -> Result<CatalogRecord, Memory>
+    requires names { IsTrue (names_allow (names_in catalog.now) change.now) }
+    requires directory { IsTrue (has_its_directory change.now directory) }
+    ensures entry { IfOk result (λ entry. record_for catalog.now change.now directory ≡ Some entry) }
+    // The catalogue allows it, and it makes of the catalogue what the change does.
+    ensures allowed { IfOk result (λ entry. IsTrue (is_allowed catalog.now entry)) }
+    ensures same { IfOk result (λ entry. after_record catalog.now entry ≡ after_change catalog.now change.now directory) }
+{
+    recorded_change(catalog, change, directory)
 }
 
 /// The catalogue after a change that the names allow. A directory comes with a change that makes a version.
