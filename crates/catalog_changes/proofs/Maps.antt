@@ -5,6 +5,7 @@ use Rattle.std.proofs.lemmas.Bool.{and_parts, and_from, or_parts, cases_lt}
 use Rattle.std.proofs.lemmas.List.{take_at, length-drop}
 use Rattle.cell_values.specs.declared.schema.Schema.{Schema}
 use Rattle.plan_changes.specs.Allowed.{has_number}
+use Rattle.plan_changes.proofs.Maps.{all_inserted}
 use Rattle.plan_changes.specs.Changes.{is_named, has_array, newest_or, newest_of, new_entry}
 use Rattle.catalog_rules.specs.declared.catalog.BlobAt.{BlobAt}
 use Rattle.catalog_rules.specs.declared.catalog.CatalogArray.{CatalogArray}
@@ -59,12 +60,6 @@ others_have name [] none = refl
 others_have name (a ∷ arrays) none =
     let n = or_parts (is_named name a.entry) (has_array (entries_of arrays) name) none in
     and_from (has_number name a.entry) (list_all (λ array. has_number name array.entry) arrays) (small (is_named name a.entry) a.entry.next n.0) (others_have name arrays n.1)
-
-all_inserted : (p : CatalogArray → Bool) (x : CatalogArray) → p x ≡ true → (xs : List CatalogArray) (i : ℕ) → list_all p xs ≡ true → list_all p (insert xs i x) ≡ true
-all_inserted p x px [] zero all = and_from _ _ px refl
-all_inserted p x px [] (suc i) all = and_from _ _ px refl
-all_inserted p x px (y ∷ ys) zero all = and_from _ _ px all
-all_inserted p x px (y ∷ ys) (suc i) all = and_from _ _ (and_parts _ _ all).0 (all_inserted p x px ys i (and_parts _ _ all).1)
 
 new_small : (b : Bool) → (not b || true) ≡ true
 new_small true = refl

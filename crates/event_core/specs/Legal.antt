@@ -42,10 +42,10 @@ IsSound cost db base h (Commit s change used) = (fault_of_change (at db h) chang
 IsSound cost db base h Reap = Unit {0}
 
 -- where a legal history begins: a base that has the names of a database
-pub record BeginsAt (db : Database) (base : Core) : Type 0 where
-  pub base : IsBase base
+pub record BeginsAt (db : Database) (start : Core) : Type 0 where
+  pub base : IsBase start
   pub database : IsDatabase db
-  pub names : base.names ≡ names_of db
+  pub names : start.names ≡ names_of db
 
 -- each entry is allowed, orderly and sound after those before it
 abbrev pub IsLegal : Cost → Database → Core → History → Type 0
