@@ -3,6 +3,7 @@ pub mod Laws
 pub mod Loops
 pub mod Pairs
 pub mod Putting
+pub mod Reading
 pub mod Rules
 pub mod Telling
 mod Worked

@@ -96,7 +96,7 @@ fn is_next_name(before: Option<&Name>, name: &Name) -> bool
 }
 
 /// An array behind one of this name.
-#[tactic(auto, unfolding(crate::specs::Table::array_at, crate::specs::Table::items_at, crate::specs::Table::content_at), using(crate::proofs::Pairs::array_is))]
+#[tactic(auto, unfolding(crate::specs::Table::array_at, crate::specs::Table::items_at, crate::specs::Table::content_at))]
 fn array<'a>(
     alloc: Global,
     before: Option<&Name>,

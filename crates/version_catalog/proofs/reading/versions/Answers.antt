@@ -16,9 +16,9 @@ returns-in_err-number-clause-read c =
 
 pub loop-index-preserved : goal.loop-index-preserved
 loop-index-preserved c = record {
-  read = version_more c.args.next c.loop-index.last c.loop-index.numbers c.push.new.self c.loop-index.directories c.push-2.new.self c.args.count c.loop-index._index c.loop-index.rest.now c.in_ok-number.number c.in_ok-number.directory c.in_ok-number.after.now
+  read = version_more c.args.next c.loop-index.last c.loop-index.numbers c.push.new.self c.loop-index.directories c.push-in-loop-index.new.self c.args.count c.loop-index._index c.loop-index.rest.now c.in_ok-number.number c.in_ok-number.directory c.in_ok-number.after.now
       (repeat (next_version c.args.next) number_in c.args.count 0 c.args.bytes.now) c.loop-index.invariant.one_each c.in_ok-push.ensures.ok c.in_ok-push-2.ensures.ok c.loop-index-test.true c.in_ok-number.ensures c.loop-index.invariant.read;
-  one_each = same_lengths c.loop-index.numbers c.push.new.self c.loop-index.directories c.push-2.new.self c.in_ok-number.number c.in_ok-number.directory c.loop-index.invariant.one_each c.in_ok-push.ensures.ok c.in_ok-push-2.ensures.ok;
+  one_each = same_lengths c.loop-index.numbers c.push.new.self c.loop-index.directories c.push-in-loop-index.new.self c.in_ok-number.number c.in_ok-number.directory c.loop-index.invariant.one_each c.in_ok-push.ensures.ok c.in_ok-push-2.ensures.ok;
 }
 
 pub returns-clause-read : goal.returns-clause-read
