@@ -54,7 +54,7 @@ count_pairs (n ∷ numbers) (d ∷ directories) = omega (arith, count_pairs numb
 
 -- the pair at a place
 pub take_pairs : (numbers : List ℕ) (directories : List BlobAt) (i : ℕ) (n : ℕ) (d : BlobAt) → i < length (versions_at numbers directories)
-    → take (i + 1) (versions_at numbers directories) ≡ take i (versions_at numbers directories) ++ record { number = slice_index_or numbers i n; directory = slice_index_or directories i d } ∷ []
+    → take (suc i) (versions_at numbers directories) ≡ take i (versions_at numbers directories) ++ record { number = slice_index_or numbers i n; directory = slice_index_or directories i d } ∷ []
 take_pairs [] directories i n d lt = absurd (omega (arith, lt))
 take_pairs (x ∷ numbers) [] i n d lt = absurd (omega (arith, lt))
 take_pairs (x ∷ numbers) (y ∷ directories) zero n d lt = refl

@@ -1,5 +1,5 @@
 -- The loop that puts the versions of an array.
-use Rattle.std.proofs.Common.{◌≡◌, ℕ, ◌+◌, ◌<◌, List, [], ◌∷◌, ◌++◌, length, take, slice_index_or, refl, sym, ap, subst, ◌∙◌, append_assoc}
+use Rattle.std.proofs.Common.{◌≡◌, ℕ, ◌+◌, ◌<◌, List, [], ◌∷◌, ◌++◌, length, take, slice_index_or, refl, sym, ap, subst, ◌∙◌, append_assoc, add-one}
 use Rattle.std.specs.List.{flat_map}
 use Rattle.std.proofs.lemmas.Grind.{flat_map-append}
 use Rattle.std.proofs.lemmas.List.{append-nil}
@@ -13,7 +13,8 @@ one_spelled versions v = flat_map-append spell_version versions (v ∷ []) ∙ a
 pair_at : (numbers : List ℕ) (directories : List BlobAt) (i n : ℕ) (d : BlobAt) → n ≡ slice_index_or numbers i 0 → d ≡ slice_index_or directories i d → i < length (versions_at numbers directories)
     → take (i + 1) (versions_at numbers directories) ≡ take i (versions_at numbers directories) ++ record { number = n; directory = d } ∷ []
 pair_at numbers directories i n d e f lt =
-    take_pairs numbers directories i 0 d lt
+    ap (λ (k : ℕ). take k (versions_at numbers directories)) (add-one i)
+    ∙ take_pairs numbers directories i 0 d lt
     ∙ ap (λ (m : ℕ). take i (versions_at numbers directories) ++ record { number = m; directory = slice_index_or directories i d } ∷ []) (sym e)
     ∙ ap (λ (b : BlobAt). take i (versions_at numbers directories) ++ record { number = n; directory = b } ∷ []) (sym f)
 

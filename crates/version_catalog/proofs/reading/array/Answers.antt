@@ -1,7 +1,7 @@
 use Rattle.std.proofs.Common.{◌≡◌, true, rules}
 use Rattle.std.specs.Option.{option_copied}
 use Rattle.version_catalog.specs.Table.{is_next_name}
-use Rattle.version_catalog.proofs.Reading.{array_read}
+use Rattle.version_catalog.proofs.Arrays.{array_read}
 use Rattle.version_catalog.proofs.reading.array.Goals as goal
 
 pub returns : goal.returns
