@@ -3,6 +3,7 @@ use Rattle.std.proofs.Common.{◌≡◌, ℕ, zero, suc, ◌+◌, ◌-◌, ◌<�
 use Rattle.std.specs.List.{AllByRecursion, filter, insert, list_all, prefix_len, count_by}
 use Rattle.std.proofs.lemmas.Bool.{and_parts, and_from, or_parts, not-true}
 use Rattle.std.proofs.lemmas.List.{length-append, length-drop}
+use Rattle.std.proofs.lemmas.List.Sums.{sum_by-cons}
 use Rattle.cell_values.specs.Naming.{IsName}
 use Rattle.cell_values.specs.declared.schema.Schema.{Schema}
 use Rattle.logical_plan.specs.declared.names.NameEntry.{NameEntry}
@@ -116,7 +117,10 @@ kept_by false n left gone count e = omega (arith, e)
 
 left_and_gone : (below : ℕ) (ns : List ℕ) → length (filter (λ v. not (nat_lt v below)) ns) + count_by (λ v. nat_lt v below) ns ≡ length ns
 left_and_gone below [] = refl
-left_and_gone below (n ∷ ns) = kept_by (nat_lt n below) n (filter (λ v. not (nat_lt v below)) ns) (count_by (λ v. nat_lt v below) ns) (length ns) (left_and_gone below ns)
+left_and_gone below (n ∷ ns) =
+    let step : count_by (λ v. nat_lt v below) (n ∷ ns) ≡ cond (nat_lt n below) 1 0 + count_by (λ v. nat_lt v below) ns = sum_by-cons (λ v. cond (nat_lt v below) 1 0) n ns in
+    ap (λ (k : ℕ). length (filter (λ v. not (nat_lt v below)) (n ∷ ns)) + k) step
+    ∙ kept_by (nat_lt n below) n (filter (λ v. not (nat_lt v below)) ns) (count_by (λ v. nat_lt v below) ns) (length ns) (left_and_gone below ns)
 
 with_version_is : (name : List ℕ) (entry : NameEntry) → is_named name entry ≡ true → with_version name entry ≡ record { name = entry.name; schema = entry.schema; next = entry.next + 1; versions = entry.versions ++ entry.next ∷ [] }
 with_version_is name entry e = ap (λ (t : Bool). cond t (record { name = entry.name; schema = entry.schema; next = entry.next + 1; versions = entry.versions ++ entry.next ∷ [] }) entry) e
