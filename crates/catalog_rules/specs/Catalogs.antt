@@ -1,5 +1,5 @@
 -- Catalogues and records that have a spelling.
-use Rattle.std.specs.Prelude.{◌≡◌, ℕ, ◌<◌, ◌^◌, List, [], ◌∷◌, map, length}
+use Rattle.std.specs.Prelude.{◌≡◌, ◌<◌, ◌^◌, map, length}
 use Rattle.std.specs.List.{AllByRecursion}
 use Rattle.cell_values.specs.Naming.{IsName}
 use Rattle.logical_plan.specs.declared.names.Names.{Names}

@@ -1,9 +1,8 @@
 -- A catalogue or a record that is read is spelled so, and what is spelled so is read.
-use Rattle.std.proofs.Common.{◌≡◌, ℕ, zero, suc, ◌^◌, ◌<◌, Bool, true, ◌&&◌, nat_lt, nat_le, List, [], ◌∷◌, ◌++◌, length, Option, Some, None, Result, Ok, Err, refl, sym, ap, subst, ◌∙◌, arith}
+use Rattle.std.proofs.Common.{◌≡◌, ℕ, zero, suc, ◌^◌, ◌<◌, Bool, true, ◌&&◌, nat_le, List, [], ◌∷◌, ◌++◌, length, Option, None, Result, Ok, refl, ap, subst}
 use Rattle.std.specs.Int.{w32, w64, to_le_bytes}
-use Rattle.byte_items.specs.Items.{◌>>=◌, Reading, number_at, item, counted, spell_counted, Are, AreCounted}
+use Rattle.byte_items.specs.Items.{number_at, item, counted, spell_counted, AreCounted}
 use Rattle.byte_items.proofs.Laws.{AreBytes, Begins, Reads, bind_ok, ok_is, exact32, number_reads, item_reads, then_reads, seen_reads, counted_reads}
-use Rattle.cell_values.specs.declared.schema.Schema.{Schema}
 use Rattle.page_items.specs.Pages.{positive_at, pages_at, spell_pages}
 use Rattle.page_items.proofs.Laws.{IsPositive, ArePages, positive_reads, pages_reads}
 use Rattle.schema_items.specs.Spelling.{spell_name, spell_schema}

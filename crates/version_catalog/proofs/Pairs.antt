@@ -1,11 +1,9 @@
 -- Versions and their directories, as two lists and as one.
-use Rattle.std.proofs.Common.{◌≡◌, ℕ, zero, suc, ◌+◌, ◌<◌, ◌≤◌, min, List, [], ◌∷◌, ◌++◌, map, length, take, slice_index_or, refl, sym, ap, subst, ◌∙◌, arith}
+use Rattle.std.proofs.Common.{◌≡◌, ℕ, zero, suc, ◌<◌, min, List, [], ◌∷◌, ◌++◌, map, length, take, slice_index_or, refl, ap, ◌∙◌, arith}
 use Rattle.cell_values.specs.declared.schema.Schema.{Schema}
-use Rattle.logical_plan.specs.declared.names.NameEntry.{NameEntry}
 use Rattle.catalog_rules.specs.declared.catalog.BlobAt.{BlobAt}
-use Rattle.catalog_rules.specs.declared.catalog.CatalogArray.{CatalogArray}
 use Rattle.version_catalog.specs.Spelling.{VersionAt, versions_at}
-use Rattle.version_catalog.specs.Table.{Items, array_of}
+use Rattle.version_catalog.specs.Table.{array_of}
 
 abbrev pub numbers_of : List VersionAt → List ℕ
 numbers_of = map (λ version. version.number)

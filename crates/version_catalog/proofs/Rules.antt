@@ -1,24 +1,22 @@
 -- Catalogues and records whose items pass their tests are those that the rules allow.
-use Rattle.std.proofs.Common.{◌≡◌, ℕ, zero, suc, ◌+◌, ◌^◌, ◌<◌, ◌≤◌, Bool, true, ◌&&◌, nat_lt, nat_le, List, [], ◌∷◌, map, length, Option, Some, None, Result, Ok, refl, sym, ap, subst, ◌∙◌, arith}
+use Rattle.std.proofs.Common.{◌≡◌, ℕ, zero, suc, ◌+◌, ◌<◌, ◌≤◌, true, nat_lt, nat_le, List, [], ◌∷◌, map, length, Option, Some, None, Ok, refl, ap, ◌∙◌, arith}
 use Rattle.std.specs.List.{AllByRecursion}
 use Rattle.std.proofs.lemmas.Bool.{and_parts, and_from, ltb-true, lt-ltb, leb-true, le-leb}
 use Rattle.byte_items.specs.Items.{Are}
 use Rattle.byte_items.proofs.Laws.{AreBytes, whole_takes, whole_again}
-use Rattle.cell_values.specs.Naming.{IsName}
 use Rattle.logical_plan.specs.declared.names.NameEntry.{NameEntry}
 use Rattle.page_items.proofs.Laws.{lie_in, has_bytes, has_pages}
-use Rattle.plan_changes.specs.Stored.{is_before, NamesRise, RiseBetween, IsStored, AreStored}
-use Rattle.schema_items.proofs.Laws.{IsSpelledName, ArePassed}
+use Rattle.plan_changes.specs.Stored.{NamesRise, RiseBetween, IsStored}
 use Rattle.schema_items.proofs.Rules.{spelled_name, is_spelled, are_passed}
 use Rattle.catalog_rules.specs.declared.catalog.BlobAt.{BlobAt}
 use Rattle.catalog_rules.specs.declared.catalog.CatalogArray.{CatalogArray}
 use Rattle.catalog_rules.specs.declared.catalog.Catalog.{Catalog}
 use Rattle.catalog_rules.specs.declared.catalog_record.CatalogRecord.{CatalogRecord}
 use Rattle.catalog_rules.specs.declared.catalog_record.CatalogRecord.TheVariants.{Create, First, Next, Remove, RemoveVersions}
-use Rattle.catalog_rules.specs.Catalogs.{IsBlob, names_in, HasDirectories, IsCatalog, IsRecord}
+use Rattle.catalog_rules.specs.Catalogs.{IsBlob, HasDirectories, IsCatalog, IsRecord}
 use Rattle.version_catalog.specs.Spelling.{VersionAt, versions_at, spelling, spell_record}
 use Rattle.version_catalog.specs.Table.{is_version, number_in, is_next_name, name_in, arrays_at, catalog_in, record_at, record_in}
-use Rattle.version_catalog.proofs.Laws.{IsBlobItem, IsNextVersion, AreVersions, items_of, IsPaired, IsNextArray, AreArrays, arrays_reads, IsRecordItem, record_reads}
+use Rattle.version_catalog.proofs.Laws.{IsBlobItem, IsNextVersion, IsNextArray, AreArrays, arrays_reads, IsRecordItem, record_reads}
 
 -- ---- blobs
 

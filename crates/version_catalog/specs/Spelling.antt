@@ -1,5 +1,5 @@
 -- The bytes of catalogues and records.
-use Rattle.std.specs.Prelude.{ℕ, List, [], ◌∷◌, ◌++◌, length}
+use Rattle.std.specs.Prelude.{ℕ, List, [], ◌∷◌, ◌++◌}
 use Rattle.std.specs.Int.{w32, w64, to_le_bytes}
 use Rattle.byte_items.specs.Items.{spell_counted}
 use Rattle.page_items.specs.Pages.{spell_pages}

@@ -1,7 +1,7 @@
 -- The items of catalogues and records in their order, each with its test over the items before it.
 use Rattle.std.specs.Prelude.{ℕ, zero, suc, Bool, true, ◌&&◌, nat_lt, nat_le, List, [], ◌∷◌, map, length, Option, Some, None, Result, Ok, Err}
 use Rattle.std.specs.Int.{w32}
-use Rattle.byte_items.specs.Items.{◌>>=◌, Reading, number_at, item, repeat, counted, whole}
+use Rattle.byte_items.specs.Items.{◌>>=◌, Reading, number_at, item, counted, whole}
 use Rattle.cell_values.specs.declared.schema.Schema.{Schema}
 use Rattle.page_items.specs.Pages.{positive_at, pages_at}
 use Rattle.plan_changes.specs.Stored.{is_before}

@@ -1,5 +1,4 @@
-use Rattle.std.proofs.Common.{◌-◌, List, [], ◌∷◌, sym, subst, arith}
-use Rattle.std.proofs.lemmas.List.{length-append}
+use Rattle.std.proofs.Common.{◌-◌, arith}
 use Rattle.std.proofs.lemmas.Result.{err_from_is_err_and}
 use Rattle.byte_items.specs.Items.{repeat}
 use Rattle.byte_items.proofs.Loop.{stops_here, all_read}
