@@ -1,5 +1,5 @@
 -- The names of a catalogue after a change, and that a record keeps the rules of a catalogue.
-use Rattle.std.proofs.Common.{◌≡◌, ℕ, zero, suc, ◌+◌, ◌-◌, ◌<◌, ◌≤◌, Bool, true, false, cond, not, ◌&&◌, ◌||◌, nat_lt, List, [], ◌∷◌, ◌++◌, map, length, drop, Option, Some, None, IsTrue, refl, sym, ap, subst, ◌∙◌, arith}
+use Rattle.std.proofs.Common.{◌≡◌, ℕ, zero, suc, ◌+◌, ◌-◌, Bool, true, false, cond, not, ◌&&◌, ◌||◌, nat_lt, List, [], ◌∷◌, ◌++◌, map, length, drop, Option, Some, None, refl, sym, ap, subst, ◌∙◌, arith}
 use Rattle.std.specs.List.{AllByRecursion, filter, insert, list_all, prefix_len, count_by}
 use Rattle.std.proofs.lemmas.Bool.{and_parts, and_from, or_parts, not-true}
 use Rattle.std.proofs.lemmas.List.{length-append, length-drop}
@@ -10,19 +10,17 @@ use Rattle.logical_plan.specs.declared.names.NameEntry.{NameEntry}
 use Rattle.plan_changes.specs.declared.change.Change.{Change}
 use Rattle.plan_changes.specs.declared.change.Change.TheVariants.{Create, Store, Insert, Remove, RemoveVersions}
 use Rattle.plan_changes.specs.Allowed.{has_room, has_number}
-use Rattle.plan_changes.specs.Changes.{is_named, has_array, new_entry, with_array, with_absent, with_version, without_below, arrays_after}
+use Rattle.plan_changes.specs.Changes.{is_named, has_array, new_entry, with_array, with_version, without_below, arrays_after}
 use Rattle.plan_changes.specs.Stored.{is_before, AreStored}
 use Rattle.plan_changes.proofs.NamesOf.{map_filter, prefix_map, map_insert, map_map}
 use Rattle.plan_changes.proofs.StoredLaws.{add_array, add_version, take_out, cut_versions, stored_numbers}
 use Rattle.schema_items.specs.Spelling.{IsSpelled}
 use Rattle.catalog_rules.specs.declared.catalog.BlobAt.{BlobAt}
 use Rattle.catalog_rules.specs.declared.catalog.CatalogArray.{CatalogArray}
-use Rattle.catalog_rules.specs.declared.catalog.Catalog.{Catalog}
-use Rattle.catalog_rules.specs.declared.catalog_record.CatalogRecord.{CatalogRecord}
 use Rattle.catalog_rules.specs.declared.catalog_record.CatalogRecord.TheVariants as entries
-use Rattle.catalog_rules.specs.Catalogs.{IsBlob, names_in, HasDirectories, IsCatalog, IsRecord}
-use Rattle.catalog_changes.specs.Records.{entries_of, is_allowed, is_array, with_new, with_directory, from_version, without, recorded, after_record}
-use Rattle.catalog_changes.specs.Changed.{has_its_directory, with_its_directory, changed, after_change, NamesAreKept, RecordsKeepCatalogs}
+use Rattle.catalog_rules.specs.Catalogs.{IsBlob, HasDirectories}
+use Rattle.catalog_changes.specs.Records.{entries_of, is_array, with_new, with_directory, from_version, without}
+use Rattle.catalog_changes.specs.Changed.{has_its_directory, changed, NamesAreKept, RecordsKeepCatalogs}
 
 abbrev entry_of : CatalogArray → NameEntry
 entry_of array = array.entry

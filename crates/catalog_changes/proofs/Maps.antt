@@ -1,7 +1,7 @@
 -- Arrays of a catalogue and their entries.
-use Rattle.std.proofs.Common.{◌≡◌, ◌⊎◌, inl, inr, ℕ, zero, suc, ◌+◌, ◌-◌, ◌<◌, ◌≤◌, min, Bool, true, false, cond, not, ◌&&◌, ◌||◌, nat_lt, List, [], ◌∷◌, ◌++◌, map, length, take, drop, Option, Some, None, refl, sym, ap, subst, ◌∙◌, arith}
+use Rattle.std.proofs.Common.{◌≡◌, ◌⊎◌, inl, inr, ℕ, zero, suc, ◌-◌, ◌<◌, ◌≤◌, min, Bool, true, false, cond, not, ◌&&◌, ◌||◌, nat_lt, List, [], ◌∷◌, ◌++◌, length, take, drop, Some, refl, sym, ap, ◌∙◌, arith}
 use Rattle.std.specs.List.{list_all, list_any, find, insert}
-use Rattle.std.proofs.lemmas.Bool.{and_parts, and_from, or_parts, cases_lt}
+use Rattle.std.proofs.lemmas.Bool.{and_from, or_parts, cases_lt}
 use Rattle.std.proofs.lemmas.List.{take_at, length-drop}
 use Rattle.cell_values.specs.declared.schema.Schema.{Schema}
 use Rattle.plan_changes.specs.Allowed.{has_number}
