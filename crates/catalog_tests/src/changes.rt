@@ -14,9 +14,6 @@ const ONE: [u8; 74] = [
     0, 0, 0, 0, 0, 1, 0, 0, 0, 7, 0, 0, 0,
 ];
 
-/// No array.
-const NONE: [u8; 4] = [0, 0, 0, 0];
-
 const CREATE: u8 = 1;
 
 const FIRST: u8 = 2;
@@ -194,30 +191,5 @@ fn an_insert_makes_the_next_version(rt: HostRuntime) -> Result<(), Memory> {
     let version = [3, 0, 0, 0, 8, 0, 0, 0, 0, 0, 0, 0, 1, 0, 0, 0, 9, 0, 0, 0];
     assert_eq!(rt; after.len(), 94);
     assert!(rt; after.as_slice().ends_with(version.as_slice()));
-    Ok(())
-}
-
-/// The bytes of the catalogue after a removal, none where it is not allowed.
-fn bytes_after_removal(alloc: Global, letter: u8) -> Result<Bytes, Memory> {
-    let catalog = decoded(alloc)?;
-    let entry = record(alloc, REMOVE, letter, 0)?;
-    match entry {
-        CatalogRecord::Remove { name } => {
-            let removal = CatalogRecord::Remove { name: name.copy()? };
-            if allowed(&catalog, &removal) {
-                let after = with_change(&catalog, &Change::Remove { name }, None)?;
-                encode_catalog(alloc, &after)
-            } else {
-                Ok(Bytes::new(alloc))
-            }
-        }
-        _ => Ok(Bytes::new(alloc)),
-    }
-}
-
-#[test]
-fn a_change_makes_what_its_record_makes(rt: HostRuntime) -> Result<(), Memory> {
-    let bytes = bytes_after_removal(rt.alloc(), 65)?;
-    assert!(rt; bytes.as_slice() == NONE.as_slice());
     Ok(())
 }
