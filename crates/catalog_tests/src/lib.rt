@@ -1,9 +1,5 @@
-//! Directories, catalogues and records, and their changes.
+//! Directories of chunks.
 #![tactic(auto)]
 
-#[cfg(test)]
-mod catalogues;
-#[cfg(test)]
-mod changes;
 #[cfg(test)]
 mod directories;
