@@ -1,11 +1,11 @@
 -- The worked list: a base, a legal history over it, and its free pages, all computed.
-use Rattle.std.proofs.Common.{◌≡◌, true, false, [], ◌∷◌, length, map, refl, IsTrue}
+use Rattle.std.proofs.Common.{◌≡◌, true, false, [], ◌∷◌, length, map, refl, IsTrue, arith}
 use Rattle.plan_changes.specs.Typed.{HasTypedPlan}
 use Rattle.event_core.specs.declared.entry.Entry.TheVariants.{Pin, Unpin, Commit}
 use Rattle.event_core.specs.History.{open_pins}
 use Rattle.event_core.specs.Pages.{free_at}
 use Rattle.event_core.specs.Allowed.{IsBase, is_allowed}
-use Rattle.event_core.specs.Legal.{IsLegal}
+use Rattle.event_core.specs.Legal.{BeginsAt, IsLegal}
 use Rattle.event_core.specs.Promises.{is_awaiting}
 use Rattle.event_core.specs.Worked.{worked_base, worked_store, worked, worked_on, worked_cost}
 
@@ -18,12 +18,15 @@ allowed_is = refl
 store_typed : HasTypedPlan worked_base.names worked_store
 store_typed = (record { typed = (refl, refl); reads = tt }, refl)
 
+begins_at : BeginsAt [] worked_base
+begins_at = record { base = base_is; database = record { names = record { count = omega arith; rising = tt; each = tt }; rows = tt }; names = refl }
+
 -- entry by entry, the oldest first
 first_legal : IsLegal worked_cost [] worked_base (Pin 1 ∷ Unpin 0 ∷ Commit 0 worked_store (record { version = 2 ∷ 3 ∷ []; catalogue = 4 ∷ [] }) ∷ Pin 0 ∷ [])
-first_legal = ((((tt, refl, tt, tt), refl, (refl, store_typed), (refl, refl)), refl, tt, tt), refl, tt, tt)
+first_legal = ((((begins_at, refl, tt, tt), refl, (refl, refl, store_typed), (refl, refl)), refl, tt, tt), refl, tt, tt)
 
 worked_legal : IsLegal worked_cost [] worked_base worked
-worked_legal = (((first_legal, refl, tt, tt), refl, (refl, tt), (refl, refl)), refl, tt, tt)
+worked_legal = (((first_legal, refl, tt, tt), refl, (refl, refl, tt), (refl, refl)), refl, tt, tt)
 
 pub legal_is : IsLegal worked_cost [] worked_base worked_on
 legal_is = (((worked_legal, refl, tt, tt), refl, tt, tt), refl, tt, tt)

@@ -5,7 +5,7 @@ ghost use Rattle.event_core.specs.Pages.{free_at};
 ghost use Rattle.event_core.specs.Allowed.{IsBase};
 ghost use Rattle.event_core.specs.Agree.{NamedVersionsHavePages};
 ghost use Rattle.event_core.specs.Cells.{NamesAreOfTheDatabase};
-ghost use Rattle.event_core.specs.Legal.{IsLegal, LegalIsAllowed};
+ghost use Rattle.event_core.specs.Legal.{IsLegal, LegalIsAllowed, LegalNamesAreStored};
 ghost use Rattle.event_core.specs.Promises.{NoFreePageIsLive, NoFreshPageWasLive, PinnedPagesStayLive, ReapFreesTheRest, FreePagesAreWithin, PagesAreConserved};
 ghost use Rattle.event_core.specs.Worked.{worked_base, worked, worked_on, worked_cost};
 
@@ -56,6 +56,11 @@ pub fn names_are_of_the_database()
 /// A legal history is an allowed one.
 pub fn legal_is_allowed()
     ensures { LegalIsAllowed }
+{}
+
+/// After a legal history the names and the numbers of versions rise, and no more arrays stand than may.
+pub fn legal_names_are_stored()
+    ensures { LegalNamesAreStored }
 {}
 
 /// There is a legal history, in which a removed version's pages wait until the pin that could name it is gone.

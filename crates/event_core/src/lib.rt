@@ -13,9 +13,9 @@ mod state;
 pub use commit::fresh_pages;
 pub use entry::{Entry, Used};
 pub use laws::{
-    a_history_is_legal, free_pages_are_within, legal_is_allowed, named_versions_have_pages,
-    names_are_of_the_database, no_free_page_is_live, no_fresh_page_was_live, pages_are_conserved,
-    pinned_pages_stay_live, reap_frees_the_rest,
+    a_history_is_legal, free_pages_are_within, legal_is_allowed, legal_names_are_stored,
+    named_versions_have_pages, names_are_of_the_database, no_free_page_is_live,
+    no_fresh_page_was_live, pages_are_conserved, pinned_pages_stay_live, reap_frees_the_rest,
 };
 pub use run::{run_events, step};
 pub use state::{Core, CorePin, VersionPages};

@@ -1,0 +1,75 @@
+//! Catalogues of stored arrays.
+ghost use Rattle.std.specs.Prelude.{◌≡◌, IfOk};
+
+use cell_values::{Copies, List, Memory};
+use logical_plan::NameEntry;
+
+/// Some bytes of the file.
+#[derive(Debug, Drop)]
+pub struct BlobAt {
+    /// How many bytes there are.
+    pub length: u64,
+    /// The pages in which they lie, in order.
+    pub pages: List<u32>,
+}
+
+/// A stored array, and where the directory of each of its versions lies.
+#[derive(Debug, Drop)]
+pub struct CatalogArray {
+    pub entry: NameEntry,
+    /// One for each version, in the same order.
+    pub directories: List<BlobAt>,
+}
+
+/// The stored arrays, rising by name.
+#[derive(Debug, Drop)]
+pub struct Catalog {
+    pub arrays: List<CatalogArray>,
+}
+
+impl BlobAt {
+    /// An equal value.
+    pub fn copy(&self) -> Result<BlobAt, Memory>
+        ensures { IfOk result (λ copy. copy ≡ self.now) }
+    {
+        Ok(BlobAt {
+            length: self.length,
+            pages: self.pages.copy()?,
+        })
+    }
+}
+
+impl Copies for BlobAt {
+    fn copy(&self) -> Result<BlobAt, Memory> {
+        self.copy()
+    }
+}
+
+impl CatalogArray {
+    /// An equal value.
+    pub fn copy(&self) -> Result<CatalogArray, Memory>
+        ensures { IfOk result (λ copy. copy ≡ self.now) }
+    {
+        Ok(CatalogArray {
+            entry: self.entry.copy()?,
+            directories: self.directories.copy()?,
+        })
+    }
+}
+
+impl Copies for CatalogArray {
+    fn copy(&self) -> Result<CatalogArray, Memory> {
+        self.copy()
+    }
+}
+
+impl Catalog {
+    /// An equal catalogue.
+    pub fn copy(&self) -> Result<Catalog, Memory>
+        ensures { IfOk result (λ copy. copy ≡ self.now) }
+    {
+        Ok(Catalog {
+            arrays: self.arrays.copy()?,
+        })
+    }
+}

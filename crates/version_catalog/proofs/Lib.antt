@@ -1,0 +1,9 @@
+pub mod Arrays
+pub mod Last
+pub mod Laws
+pub mod Loops
+pub mod Pairs
+pub mod Putting
+pub mod Rules
+pub mod Telling
+mod Worked
