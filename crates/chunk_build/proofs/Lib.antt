@@ -4,3 +4,4 @@ pub mod NearLaws
 pub mod FrameLaws
 pub mod PartLaws
 pub mod ChunkLaws
+pub mod NextLaws

@@ -144,3 +144,8 @@ after_from (x ∷ xs) zero y k r l e h =
     let f : number_order k x.items ≡ Less = ap (λ (z : ArrayVec ℕ). number_order k z.items) (sym e) ∙ h in
     (f, later_too k x.items xs f r.0)
 after_from (x ∷ xs) (suc i) y k r l e h = after_from xs i y k r.1 (omega arith) e h
+
+pub rise_from : (xs : List (ArrayVec ℕ)) (i : ℕ) (y : ArrayVec ℕ) → NumbersRise (numbers_in xs) → i < length xs → y ≡ get_or xs i y → NumbersRise (numbers_in (y ∷ drop (suc i) xs))
+rise_from [] i y r l e = absurd (omega arith)
+rise_from (x ∷ xs) zero y r l e = subst (λ (z : ArrayVec ℕ). NumbersRise (numbers_in (z ∷ xs))) (sym e) r
+rise_from (x ∷ xs) (suc i) y r l e = rise_from xs i y r.1 (omega arith) e
