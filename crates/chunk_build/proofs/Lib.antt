@@ -5,3 +5,4 @@ pub mod FrameLaws
 pub mod PartLaws
 pub mod ChunkLaws
 pub mod NextLaws
+pub mod SortedLaws

@@ -46,8 +46,10 @@ between_not_past high n ks a b t = cases (number_order n ks) refl
   where
     l : number_order high ks ≡ Less
     l = is_less (number_order high ks) t
+
     less_is : number_order high n ≡ Less → ⊥
     less_is e = true_is_not_false (sym (ap is_lt e) ∙ a)
+
     cases : (o : Ordering) → number_order n ks ≡ o → ⊥
     cases Less e = true_is_not_false (sym (ap is_lt e) ∙ b)
     cases Greater e = less_is (number_order_total.trans high ks n l (number_order_total.antisymm ks n ∙ ap ordering_reverse e))
@@ -69,13 +71,16 @@ not_before_next (l ∷ low) (h ∷ high) (k ∷ ks) (p ∷ n) b f =
     goes_on Greater more f = refl
     goes_on Equal more f = more f
     goes_on Less more f = f
+
     steps : (o : Ordering) → nat_cmp p k ≡ o → is_lt (ordering_then o (number_order n ks)) ≡ false → lies_between low high n ≡ true → is_lt (number_order high ks) ≡ true → is_lt (number_order (p ∷ n) ((k + 1) ∷ low)) ≡ false
     steps Greater e f t past = let g : k < p = ranked p k Greater (sym e) in then_not_less p (k + 1) (number_order n low) (omega arith) (not_below low high n t)
     steps Equal e f t past = absurd (between_not_past high n ks (not_above low high n t) f past)
     steps Less e f t past = absurd (true_is_not_false f)
+
     past : (c : Bool) → is_lt (number_order high ks) ≡ c → lies_between low high n ≡ true → (is_lt (number_order n ks) ≡ false → is_lt (number_order n (next_between low high ks)) ≡ false) → is_lt (number_order (p ∷ n) (cond c ((k + 1) ∷ low) (k ∷ next_between low high ks))) ≡ false
     past true e t more = steps (nat_cmp p k) refl f t e
     past false e t more = goes_on (nat_cmp p k) more f
+
     below : (c : Bool) → lies_between low high n ≡ true → (is_lt (number_order n ks) ≡ false → is_lt (number_order n (next_between low high ks)) ≡ false) → is_lt (number_order (p ∷ n) (cond c (l ∷ low) (cond (is_lt (number_order high ks)) ((k + 1) ∷ low) (k ∷ next_between low high ks)))) ≡ false
     below true t more = not_below (l ∷ low) (h ∷ high) (p ∷ n) b
     below false t more = past (is_lt (number_order high ks)) refl t more
@@ -86,6 +91,7 @@ skipped low high k n l m = cases (lies_between low high n) refl
   where
     later : is_lt (number_order n k) ≡ false
     later = ap is_lt (number_order_total.antisymm n k ∙ ap ordering_reverse l)
+
     cases : (t : Bool) → lies_between low high n ≡ t → t ≡ false
     cases false e = refl
     cases true e = absurd (true_is_not_false (sym (ap is_lt m) ∙ not_before_next low high k n e later))
