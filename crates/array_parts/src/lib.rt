@@ -7,4 +7,4 @@ mod operator;
 
 pub use held::{holds_cell, with_cells};
 pub use laws::{arrays_are_sound, operators_are_local, parts_are_chunks};
-pub use operator::{ChunkOperator, over_chunks};
+pub use operator::ChunkOperator;

@@ -12,11 +12,11 @@ use Rattle.arrayvec.specs.ArrayVec.{ArrayVec}
 use Rattle.array_rows.specs.Boxes.{is_inside, within, bounds_of}
 use Rattle.array_rows.specs.Rows.{Coordinate}
 use Rattle.array_geom.specs.Geometry.{ChunkNumber, chunk_of, core}
-use Rattle.array_geom.specs.Link.{number_order, NumbersRise, is_listed, is_not_empty, has_cell}
+use Rattle.array_geom.specs.Link.{number_order, is_listed, is_not_empty, has_cell}
 use Rattle.array_geom.specs.Ranges.{AreNear}
 use Rattle.array_geom.proofs.CoreLaws.{core_has, core_of, length-chunk_of}
 use Rattle.array_geom.proofs.NumberLaws.{same_number, is_equal}
-use Rattle.chunk_build.specs.Numbers.{numbers_in, AreCoresOf}
+use Rattle.chunk_build.specs.Numbers.{numbers_in, NameCores}
 use Rattle.chunk_build.proofs.NumberLaws.{number_order_total}
 
 pub within-more : (area : Bounds) (rows : List Row) (row : Row) → within area (rows ++ row ∷ []) ≡ within area rows ++ cond (is_inside area row.at.items) (row ∷ []) []
@@ -46,13 +46,11 @@ has_cell-more dims rows row k near l e =
     ∙ some_more (within (core dims k) rows) (is_inside (core dims k) row.at.items) row
     ∙ ap (λ (b : Bool). b || has_cell dims rows k) (in_own_core dims k row.at.items near l e)
 
-pub cores_more : (dims : List Dimension) (rows : List Row) (row : Row) (number : ArrayVec ℕ) (old new : List (ArrayVec ℕ)) → AreNear dims → is_inside (bounds_of dims) row.at.items ≡ true → number.items ≡ chunk_of dims row.at.items → AreCoresOf dims rows old
-    → NumbersRise (numbers_in new)
+pub cores_more : (dims : List Dimension) (rows : List Row) (row : Row) (number : ArrayVec ℕ) (old new : List (ArrayVec ℕ)) → AreNear dims → is_inside (bounds_of dims) row.at.items ≡ true → number.items ≡ chunk_of dims row.at.items → NameCores dims rows old
     → ((n : ℕ) → length number.items ≡ n → AllByRecursion (λ k. length k ≡ n) (numbers_in old) → AllByRecursion (λ k. length k ≡ n) (numbers_in new))
     → ((k : ChunkNumber) → is_listed k (numbers_in new) ≡ (is_eq (number_order number.items k) || is_listed k (numbers_in old)))
-    → AreCoresOf dims (rows ++ row ∷ []) new
-cores_more dims rows row number old new near e own are rise sized listed = record {
-  in_order = rise;
+    → NameCores dims (rows ++ row ∷ []) new
+cores_more dims rows row number old new near e own are sized listed = record {
   sized = sized (length dims) (ap length own ∙ length-chunk_of dims row.at.items e) are.sized;
   cores = λ k l.
       listed k

@@ -1,20 +1,18 @@
 -- Chunks that have taken all rows are the array.
-use Rattle.std.proofs.Common.{◌≡◌, ℕ, Bool, true, false, cond, ◌||◌, ◌<◌, List, [], ◌∷◌, length, refl, sym, ap, ◌∙◌, subst}
+use Rattle.std.proofs.Common.{◌≡◌, ℕ, Bool, true, false, cond, ◌<◌, List, [], ◌∷◌, length, refl, sym, ap, ◌∙◌, subst}
 use Rattle.std.specs.List.{AllByRecursion}
-use Rattle.std.specs.Ordering.{is_eq}
-use Rattle.std.proofs.lemmas.Cmp.{tied_itself}
 use Rattle.cell_values.specs.declared.datum.Row.{Row}
 use Rattle.cell_values.specs.declared.schema.Dimension.{Dimension}
 use Rattle.arrayvec.specs.ArrayVec.{ArrayVec}
 use Rattle.array_rows.specs.Boxes.{is_inside, within, bounds_of}
 use Rattle.array_geom.specs.Geometry.{ChunkNumber, core, frame_lengths, frame_low, has_core, volume}
-use Rattle.array_geom.specs.Link.{AreChunksOf, IsPart, NumbersRise, has_cell, is_listed, is_not_empty, number_order, numbers, rows_in}
+use Rattle.array_geom.specs.Link.{AreChunksOf, IsPart, NumbersRise, has_cell, is_listed, is_not_empty, numbers, rows_in}
 use Rattle.array_geom.specs.Ranges.{AreNear}
 use Rattle.array_geom.specs.declared.chunk.Chunk.{Chunk}
 use Rattle.array_geom.proofs.CoreLaws.{core_of, chunk_has_core}
 use Rattle.chunk_build.specs.Frames.{AreFramed, HasNoCells}
 use Rattle.chunk_build.specs.Numbers.{numbers_in, AreCoresOf}
-use Rattle.chunk_build.proofs.NumberLaws.{number_order_total}
+use Rattle.chunk_build.proofs.SortedLaws.{all_listed}
 use Rattle.chunk_build.proofs.PartLaws.{all_with}
 
 core_of_cell : (dims : List Dimension) (k : ChunkNumber) (rows : List Row) → AreNear dims → length k ≡ length dims → AllByRecursion (λ row. is_inside (bounds_of dims) row.at.items ≡ true) rows → has_cell dims rows k ≡ true → has_core dims k ≡ true
@@ -25,23 +23,11 @@ core_of_cell dims k (row ∷ rows) near l a e = cases (is_inside (core dims k) r
     cases true f g more = ap (has_core dims) (core_of dims k row.at.items near l f) ∙ chunk_has_core dims row.at.items a.0
     cases false f g more = more g
 
-or_right : (p q : Bool) → q ≡ true → (p || q) ≡ true
-or_right true q e = refl
-or_right false q e = e
-
-or_left : (p q : Bool) → p ≡ true → (p || q) ≡ true
-or_left true q e = refl
-or_left false q e = cc
-
-all_listed : (P : ChunkNumber → Type 0) (ks : List ChunkNumber) → ((k : ChunkNumber) → is_listed k ks ≡ true → P k) → AllByRecursion P ks
-all_listed P [] f = tt
-all_listed P (k ∷ ks) f = (f k (or_left (is_eq (number_order k k)) (is_listed k ks) (ap is_eq (tied_itself number_order_total k))), all_listed P ks (λ j e. f j (or_right (is_eq (number_order k j)) (is_listed j ks) e)))
-
 pub cores_framed : (dims : List Dimension) (rows : List Row) (listed : List (ArrayVec ℕ)) → AreNear dims → AllByRecursion (λ row. is_inside (bounds_of dims) row.at.items ≡ true) rows → AreCoresOf dims rows listed → AreFramed dims (numbers_in listed)
 cores_framed dims rows listed near inside cores =
-    all_with (λ (k : ChunkNumber). length k ≡ length dims) (λ (k : ChunkNumber). is_listed k (numbers_in listed) ≡ true) (λ (k : ChunkNumber). has_core dims k ≡ true) (numbers_in listed) cores.sized
+    all_with (λ (k : ChunkNumber). length k ≡ length dims) (λ (k : ChunkNumber). is_listed k (numbers_in listed) ≡ true) (λ (k : ChunkNumber). has_core dims k ≡ true) (numbers_in listed) cores.named.sized
     (all_listed (λ (k : ChunkNumber). is_listed k (numbers_in listed) ≡ true) (numbers_in listed) (λ k e. e))
-    (λ k l e. core_of_cell dims k rows near l inside (sym (cores.cores k l) ∙ e))
+    (λ k l e. core_of_cell dims k rows near l inside (sym (cores.named.cores k l) ∙ e))
 
 pub empty_parts : (dims : List Dimension) (margins : List ℕ) (chunks : List Chunk) → AllByRecursion HasNoCells chunks → AllByRecursion (IsPart dims margins []) chunks
 empty_parts dims margins [] a = tt
@@ -57,7 +43,7 @@ empty_parts dims margins (chunk ∷ chunks) a = (empty_part dims margins chunk a
 pub are_chunks : (dims : List Dimension) (margins : List ℕ) (rows : List Row) (listed : List (ArrayVec ℕ)) (chunks : List Chunk) → AreCoresOf dims rows listed → numbers chunks ≡ numbers_in listed → AllByRecursion (IsPart dims margins rows) chunks → AreChunksOf dims margins rows chunks
 are_chunks dims margins rows listed chunks cores same parts = record {
   in_order = subst NumbersRise (sym same) cores.in_order;
-  sized = subst (AllByRecursion (λ (k : ChunkNumber). length k ≡ length dims)) (sym same) cores.sized;
-  listed = λ k l. ap (is_listed k) same ∙ cores.cores k l;
+  sized = subst (AllByRecursion (λ (k : ChunkNumber). length k ≡ length dims)) (sym same) cores.named.sized;
+  listed = λ k l. ap (is_listed k) same ∙ cores.named.cores k l;
   parts = parts;
 }

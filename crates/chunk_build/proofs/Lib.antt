@@ -4,3 +4,5 @@ pub mod NearLaws
 pub mod FrameLaws
 pub mod PartLaws
 pub mod ChunkLaws
+pub mod NextLaws
+pub mod SortedLaws

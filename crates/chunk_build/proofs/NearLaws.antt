@@ -72,7 +72,7 @@ near_exact (d ∷ dims) (m ∷ margins) (q ∷ k) (x ∷ c) n e f h =
 
 -- ---- the order of numbers that lie between others
 
-then_not_less : (a b : ℕ) (rest : Ordering) → b ≤ a → is_lt rest ≡ false → is_lt (ordering_then (nat_cmp a b) rest) ≡ false
+pub then_not_less : (a b : ℕ) (rest : Ordering) → b ≤ a → is_lt rest ≡ false → is_lt (ordering_then (nat_cmp a b) rest) ≡ false
 then_not_less a b rest h r = cases (nat_cmp a b) refl
   where
     cases : (t : Ordering) → nat_cmp a b ≡ t → is_lt (ordering_then t rest) ≡ false

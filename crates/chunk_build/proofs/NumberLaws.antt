@@ -1,12 +1,11 @@
 -- Rising lists of chunk numbers, cut in two.
 use Rattle.std.proofs.Common.{◌≡◌, ℕ, zero, suc, ◌<◌, Bool, true, false, ◌||◌, List, [], ◌∷◌, ◌++◌, length, take, drop, get_or, refl, sym, ap, ◌∙◌, subst, arith}
-use Rattle.std.specs.List.{AllByRecursion, insert}
-use Rattle.std.specs.Ordering.{is_eq, is_lt, ordering_reverse}
+use Rattle.std.specs.List.{AllByRecursion}
+use Rattle.std.specs.Ordering.{is_eq, is_lt}
 use Rattle.std.specs.Cmp.{IsTotalOrder}
 use Rattle.std.specs.declared.cmp.Ordering.{Ordering}
 use Rattle.std.specs.declared.cmp.Ordering.TheVariants.{Less, Equal, Greater}
 use Rattle.std.proofs.lemmas.Cmp.{lists_total, nat_cmp_total}
-use Rattle.std.proofs.lemmas.List.{take-append-drop}
 use Rattle.arrayvec.specs.ArrayVec.{ArrayVec}
 use Rattle.array_geom.specs.Geometry.{ChunkNumber}
 use Rattle.array_geom.specs.Link.{number_order, NumbersRise, is_listed}
@@ -54,7 +53,7 @@ from_at (x ∷ xs) zero y k r l e h =
     (f, all_from x.items k xs r.0 f)
 from_at (x ∷ xs) (suc i) y k r l e h = from_at xs i y k r.1 (omega arith) e h
 
--- ---- a number put between two parts
+-- ---- a number put at the end
 
 pub all_append : (P : ChunkNumber → Type 0) (xs ys : List (ArrayVec ℕ)) → AllByRecursion P (numbers_in xs) → AllByRecursion P (numbers_in ys) → AllByRecursion P (numbers_in (xs ++ ys))
 all_append P [] ys a b = b
@@ -70,57 +69,21 @@ all_drop P zero xs a = a
 all_drop P (suc i) [] a = tt
 all_drop P (suc i) (x ∷ xs) a = all_drop P i xs a.1
 
-rise_take : (i : ℕ) (xs : List (ArrayVec ℕ)) → NumbersRise (numbers_in xs) → NumbersRise (numbers_in (take i xs))
-rise_take zero xs r = tt
-rise_take (suc i) [] r = tt
-rise_take (suc i) (x ∷ xs) r = (all_take (λ (later : ChunkNumber). number_order x.items later ≡ Less) i xs r.0, rise_take i xs r.1)
-
-pub rise_drop : (i : ℕ) (xs : List (ArrayVec ℕ)) → NumbersRise (numbers_in xs) → NumbersRise (numbers_in (drop i xs))
-rise_drop zero xs r = r
-rise_drop (suc i) [] r = tt
-rise_drop (suc i) (x ∷ xs) r = rise_drop i xs r.1
-
-pub later_too : (n m : ChunkNumber) (ys : List (ArrayVec ℕ)) → number_order n m ≡ Less → AllByRecursion (λ later. number_order m later ≡ Less) (numbers_in ys) → AllByRecursion (λ later. number_order n later ≡ Less) (numbers_in ys)
+later_too : (n m : ChunkNumber) (ys : List (ArrayVec ℕ)) → number_order n m ≡ Less → AllByRecursion (λ later. number_order m later ≡ Less) (numbers_in ys) → AllByRecursion (λ later. number_order n later ≡ Less) (numbers_in ys)
 later_too n m [] l a = tt
 later_too n m (y ∷ ys) l a = (number_order_total.trans n m y.items l a.0, later_too n m ys l a.1)
-
-between_rises : (n : ArrayVec ℕ) (xs ys : List (ArrayVec ℕ)) → NumbersRise (numbers_in xs) → AreBefore n.items xs → AllByRecursion (λ later. number_order n.items later ≡ Less) (numbers_in ys) → NumbersRise (numbers_in ys) → NumbersRise (numbers_in (xs ++ n ∷ ys))
-between_rises n [] ys rx b a ry = (a, ry)
-between_rises n (x ∷ xs) ys rx b a ry =
-    (all_append (λ (later : ChunkNumber). number_order x.items later ≡ Less) xs (n ∷ ys) rx.0 (b.0, later_too x.items n.items ys b.0 a), between_rises n xs ys rx.1 b.1 a ry)
-
-comes_after : (n y : ChunkNumber) → is_lt (number_order y n) ≡ false → is_eq (number_order y n) ≡ false → number_order n y ≡ Less
-comes_after n y l e = cases (number_order y n) refl l e
-  where
-    cases : (t : Ordering) → number_order y n ≡ t → is_lt t ≡ false → is_eq t ≡ false → number_order n y ≡ Less
-    cases Less f l e = cc
-    cases Equal f l e = cc
-    cases Greater f l e = number_order_total.antisymm n y ∙ ap ordering_reverse f
-
-all_after : (n : ArrayVec ℕ) (ys : List (ArrayVec ℕ)) → AreFrom n.items ys → NumbersRise (numbers_in ys) → starts_with n.items ys ≡ false → AllByRecursion (λ later. number_order n.items later ≡ Less) (numbers_in ys)
-all_after n [] f r s = tt
-all_after n (y ∷ ys) f r s = let l : number_order n.items y.items ≡ Less = comes_after n.items y.items f.0 s in (l, later_too n.items y.items ys l r.0)
-
-pub put_rises : (n : ArrayVec ℕ) (i : ℕ) (xs : List (ArrayVec ℕ)) → NumbersRise (numbers_in xs) → AreBefore n.items (take i xs) → AreFrom n.items (drop i xs) → starts_with n.items (drop i xs) ≡ false → NumbersRise (numbers_in (insert xs i n))
-put_rises n i xs r b f s = between_rises n (take i xs) (drop i xs) (rise_take i xs r) b (all_after n (drop i xs) f (rise_drop i xs r) s) (rise_drop i xs r)
-
-pub put_all_hold : (P : ChunkNumber → Type 0) (n : ArrayVec ℕ) (i : ℕ) (xs : List (ArrayVec ℕ)) → P n.items → AllByRecursion P (numbers_in xs) → AllByRecursion P (numbers_in (insert xs i n))
-put_all_hold P n i xs p a = all_append P (take i xs) (n ∷ drop i xs) (all_take P i xs a) (p, all_drop P i xs a)
 
 swap_or : (p q r : Bool) → (p || (q || r)) ≡ (q || (p || r))
 swap_or true true r = refl
 swap_or true false r = refl
 swap_or false q r = refl
 
-listed_between : (k : ChunkNumber) (n : ArrayVec ℕ) (xs ys : List (ArrayVec ℕ)) → is_listed k (numbers_in (xs ++ n ∷ ys)) ≡ (is_eq (number_order n.items k) || is_listed k (numbers_in (xs ++ ys)))
-listed_between k n [] ys = refl
-listed_between k n (x ∷ xs) ys = ap (λ (b : Bool). is_eq (number_order x.items k) || b) (listed_between k n xs ys) ∙ swap_or (is_eq (number_order x.items k)) (is_eq (number_order n.items k)) (is_listed k (numbers_in (xs ++ ys)))
-
-pub put_listed : (k : ChunkNumber) (n : ArrayVec ℕ) (i : ℕ) (xs : List (ArrayVec ℕ)) → is_listed k (numbers_in (insert xs i n)) ≡ (is_eq (number_order n.items k) || is_listed k (numbers_in xs))
-put_listed k n i xs = listed_between k n (take i xs) (drop i xs) ∙ ap (λ (zs : List (ArrayVec ℕ)). is_eq (number_order n.items k) || is_listed k (numbers_in zs)) (take-append-drop i xs)
+pub listed_end : (k : ChunkNumber) (n : ArrayVec ℕ) (xs : List (ArrayVec ℕ)) → is_listed k (numbers_in (xs ++ n ∷ [])) ≡ (is_eq (number_order n.items k) || is_listed k (numbers_in xs))
+listed_end k n [] = refl
+listed_end k n (x ∷ xs) = ap (λ (b : Bool). is_eq (number_order x.items k) || b) (listed_end k n xs) ∙ swap_or (is_eq (number_order x.items k)) (is_eq (number_order n.items k)) (is_listed k (numbers_in xs))
 
 -- a number that is listed already
-absorbed : (p q : Bool) → (p || q) ≡ (p || (p || q))
+pub absorbed : (p q : Bool) → (p || q) ≡ (p || (p || q))
 absorbed true q = refl
 absorbed false q = refl
 
@@ -144,3 +107,8 @@ after_from (x ∷ xs) zero y k r l e h =
     let f : number_order k x.items ≡ Less = ap (λ (z : ArrayVec ℕ). number_order k z.items) (sym e) ∙ h in
     (f, later_too k x.items xs f r.0)
 after_from (x ∷ xs) (suc i) y k r l e h = after_from xs i y k r.1 (omega arith) e h
+
+pub rise_from : (xs : List (ArrayVec ℕ)) (i : ℕ) (y : ArrayVec ℕ) → NumbersRise (numbers_in xs) → i < length xs → y ≡ get_or xs i y → NumbersRise (numbers_in (y ∷ drop (suc i) xs))
+rise_from [] i y r l e = absurd (omega arith)
+rise_from (x ∷ xs) zero y r l e = subst (λ (z : ArrayVec ℕ). NumbersRise (numbers_in (z ∷ xs))) (sym e) r
+rise_from (x ∷ xs) (suc i) y r l e = rise_from xs i y r.1 (omega arith) e

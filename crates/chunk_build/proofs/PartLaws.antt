@@ -1,11 +1,11 @@
 -- A chunk with one more row.
-use Rattle.std.proofs.Common.{◌≡◌, ℕ, zero, suc, ◌+◌, ◌<◌, ◌≤◌, Bool, true, false, cond, List, [], ◌∷◌, ◌++◌, length, get_or, take, drop, set, refl, sym, ap, ◌∙◌, subst, arith, length-append}
+use Rattle.std.proofs.Common.{◌≡◌, ℕ, zero, suc, ◌+◌, ◌-◌, ◌<◌, ◌≤◌, Bool, true, false, cond, List, [], ◌∷◌, ◌++◌, length, get_or, take, drop, set, refl, sym, ap, ◌∙◌, subst, arith, add-one, length-append}
 use Rattle.std.specs.List.{AllByRecursion}
 use Rattle.std.specs.Prelude.{int_le}
 use Rattle.std.specs.Ordering.{is_lt}
 use Rattle.std.specs.declared.cmp.Ordering.{Ordering}
 use Rattle.std.specs.declared.cmp.Ordering.TheVariants.{Less}
-use Rattle.std.proofs.lemmas.List.{take-map, drop-map, take_all}
+use Rattle.std.proofs.lemmas.List.{take-map, drop-map, take_all, length-drop}
 use Rattle.arrayvec.specs.ArrayVec.{ArrayVec}
 use Rattle.cell_values.specs.declared.datum.Cell.{Cell}
 use Rattle.cell_values.specs.declared.datum.Row.{Row}
@@ -191,6 +191,27 @@ taken_more schema margins row i old chunks chunk new l e takes_row taken = λ ro
     let t = taken rows a in
     set_step (IsPart schema.dimensions margins rows) (IsPart schema.dimensions margins (rows ++ row ∷ [])) chunks i chunk new l e t.0 t.1 (takes_row.part rows)
 
+more_taken : {X : Type 0} (P Q : X → Type 0) (i j m : ℕ) (xs : List X) → j ≡ i + m → AllByRecursion Q (take i xs) → AllByRecursion P (drop i xs) → (AllByRecursion P (take m (drop i xs)) → AllByRecursion Q (take m (drop i xs))) → AllByRecursion Q (take j xs) × AllByRecursion P (drop j xs)
+more_taken P Q zero j m xs e a b f =
+    let same : m ≡ j = omega arith in
+    subst (λ (n : ℕ). AllByRecursion Q (take n xs) × AllByRecursion P (drop n xs)) same (f (all_taken P m xs b), all_dropped P m xs b)
+more_taken P Q (suc i) zero m xs e a b f = absurd (omega arith)
+more_taken P Q (suc i) (suc j) m [] e a b f = (tt, tt)
+more_taken P Q (suc i) (suc j) m (x ∷ xs) e a b f = let more = more_taken P Q i j m xs (omega arith) a.1 b f in ((a.0, more.0), more.1)
+
+-- nor have those from a place on whose numbers the box has not
+pub taken_over : (schema : Schema) (margins : List ℕ) (row : Row) (near : Reached) (i j m : ℕ) (listed : List (ArrayVec ℕ)) (old chunks : List Chunk) → j ≡ i + m → HasFrames schema margins → Reaches schema.dimensions margins row.at.items near → is_inside (bounds_of schema.dimensions) row.at.items ≡ true
+    → AreFramed schema.dimensions (numbers_in listed) → numbers chunks ≡ numbers_in listed → AllByRecursion (λ n. lies_between near.low.items near.high.items n.items ≡ false) (take m (drop i listed)) → TakenUpTo schema margins row i old chunks → TakenUpTo schema margins row j old chunks
+taken_over schema margins row near i j m listed old chunks e frames reach inside framed same unlisted taken =
+    let ks = take m (drop i listed) in
+    let outside : AllByRecursion (Outside schema margins row.at.items) (numbers_in ks) =
+    all_with (λ (k : ChunkNumber). has_core schema.dimensions k ≡ true) (λ (k : ChunkNumber). lies_between near.low.items near.high.items k ≡ false) (Outside schema margins row.at.items) (numbers_in ks)
+    (all_take (λ (k : ChunkNumber). has_core schema.dimensions k ≡ true) m (drop i listed) (all_drop (λ (k : ChunkNumber). has_core schema.dimensions k ≡ true) i listed framed))
+    (all_of_numbers (λ (k : ChunkNumber). lies_between near.low.items near.high.items k ≡ false) ks unlisted)
+    (λ k core l. frame_tested schema margins k row.at.items near frames core reach inside ∙ l) in
+    let unseen : AllByRecursion (Outside schema margins row.at.items) (numbers (take m (drop i chunks))) = subst (AllByRecursion (Outside schema margins row.at.items)) (sym (numbers_taken m (drop i chunks) (drop i listed) (numbers_dropped i chunks listed same))) outside in
+    λ rows a. let t = taken rows a in more_taken (IsPart schema.dimensions margins rows) (IsPart schema.dimensions margins (rows ++ row ∷ [])) i j m chunks e t.0 t.1 (skip_all schema margins row rows (take m (drop i chunks)) unseen)
+
 pub same_numbers_set : (chunks : List Chunk) (i : ℕ) (chunk new : Chunk) → i < length chunks → chunk ≡ get_or chunks i chunk → new.at ≡ chunk.at → numbers (set chunks i new) ≡ numbers chunks
 same_numbers_set [] i chunk new l e s = absurd (omega arith)
 same_numbers_set (x ∷ chunks) zero chunk new l e s = ap (λ (a : ArrayVec ℕ). a.items ∷ numbers chunks) (s ∙ ap (λ (z : Chunk). z.at) e)
@@ -218,3 +239,6 @@ taken_by_all schema margins row i old chunks l taken = λ rows a. subst (AllByRe
 
 pub not_longer : (i : ℕ) (chunks : List Chunk) (listed : List (ArrayVec ℕ)) → numbers chunks ≡ numbers_in listed → length listed ≤ i → length chunks ≤ i
 not_longer i chunks listed same h = let l = lengths_same chunks listed same in omega arith
+
+pub rest_after : {X : Type 0} (xs : List X) (i : ℕ) → take (length xs - (i + 1)) (drop (i + 1) xs) ≡ drop (suc i) xs
+rest_after xs i = rw add-one (take_all (length xs - suc i) (drop (suc i) xs) (let l = length-drop (suc i) xs in omega arith))

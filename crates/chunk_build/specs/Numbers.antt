@@ -25,8 +25,12 @@ abbrev pub starts_with : ChunkNumber → List (ArrayVec ℕ) → Bool
 starts_with k [] = false
 starts_with k (n ∷ listed) = is_eq (number_order n.items k)
 
--- the numbers of the chunks whose core has one of the rows, in order and each of them once
+-- the numbers of the chunks whose core has one of the rows
+pub record NameCores (dims : List Dimension) (rows : List Row) (found : List (ArrayVec ℕ)) : Type 0 where
+  pub sized : AllByRecursion (λ k. length k ≡ length dims) (numbers_in found)
+  pub cores : (k : ChunkNumber) → length k ≡ length dims → is_listed k (numbers_in found) ≡ has_cell dims rows k
+
+-- the same in order and each of them once
 pub record AreCoresOf (dims : List Dimension) (rows : List Row) (listed : List (ArrayVec ℕ)) : Type 0 where
   pub in_order : NumbersRise (numbers_in listed)
-  pub sized : AllByRecursion (λ k. length k ≡ length dims) (numbers_in listed)
-  pub cores : (k : ChunkNumber) → length k ≡ length dims → is_listed k (numbers_in listed) ≡ has_cell dims rows k
+  pub named : NameCores dims rows listed

@@ -1,10 +1,12 @@
 //! Which chunks have a coordinate in their frame.
-ghost use Rattle.std.specs.Prelude.{◌≡◌, ◌+◌, ◌-◌, ◌/◌, ◌≤◌, ◌^◌, ◌≤ℤ◌, ◌-ℤ◌, ◌++◌, map, length, unsigned_abs, IsTrue};
+ghost use Rattle.std.specs.Prelude.{◌≡◌, ◌+◌, ◌-◌, ◌/◌, ◌≤◌, ◌^◌, ◌≤ℤ◌, ◌-ℤ◌, ◌++◌, map, length, unsigned_abs, IsTrue, false};
+ghost use Rattle.std.specs.Ordering.{is_lt};
 ghost use Rattle.cell_values.specs.Schemas.{IsValid};
 ghost use Rattle.array_rows.specs.Boxes.{bounds_of, is_between, is_inside};
+ghost use Rattle.array_geom.specs.Link.{number_order};
 ghost use Rattle.array_geom.specs.Ranges.{AreMargins, AreNear, IsNear};
 ghost use Rattle.chunk_build.specs.Frames.{HasFrames};
-ghost use Rattle.chunk_build.specs.Near.{lies_between, near_high, near_low};
+ghost use Rattle.chunk_build.specs.Near.{lies_between, near_high, near_low, next_between};
 ghost use Rattle.chunk_build.specs.Reach.{Reaches};
 
 use cell_values::{ChunkAt, Coord, Dimension, Margins, Schema};
@@ -98,6 +100,49 @@ pub(crate) fn lies_between(low: &[u64], high: &[u64], chunk: &[u64]) -> bool
     }
 }
 
+fn push_each(out: &mut ChunkAt, numbers: &[u64])
+    requires { length out.old.items + length numbers.now ≤ 6 }
+    ensures { out.new.items ≡ out.old.items ++ numbers.now }
+{
+    for number in numbers {
+        out.push(*number);
+    }
+}
+
+/// Whether a number comes after the highest one.
+fn is_past(high: &[u64], chunk: &[u64]) -> bool
+    ensures { result ≡ is_lt (number_order high.now chunk.now) }
+{
+    high.cmp(chunk).is_lt()
+}
+
+fn push_next(out: &mut ChunkAt, low: &[u64], high: &[u64], chunk: &[u64])
+    requires room { length out.old.items + length low.now ≤ 6 }
+    requires not_after { is_lt (number_order high.now chunk.now) ≡ false }
+    ensures { out.new.items ≡ out.old.items ++ next_between low.now high.now chunk.now }
+{
+    match low {
+        [] => {}
+        [l, lows @ ..] => match high {
+            [] => {}
+            [_, highs @ ..] => match chunk {
+                [] => {}
+                [k, rest @ ..] => {
+                    if *k < *l {
+                        push_each(out, low);
+                    } else if is_past(highs, rest) {
+                        out.push(*k + 1);
+                        push_each(out, lows);
+                    } else {
+                        out.push(*k);
+                        push_next(out, lows, highs, rest);
+                    }
+                }
+            },
+        },
+    }
+}
+
 /// The numbers between which those of the chunks lie that have a coordinate in their frame.
 #[derive(Drop)]
 pub(crate) struct Reached {
@@ -140,4 +185,16 @@ pub(crate) fn numbers_near(schema: &Schema, margins: &Margins, at: &Coord) -> Re
         low: lowest(schema, margins, at),
         high: highest(schema, margins, at),
     }
+}
+
+/// The first number of the box that does not come before one, which is not after the box.
+pub(crate) fn next_near(near: &Reached, chunk: &ChunkAt) -> ChunkAt
+    requires { is_lt (number_order near.now.high.items chunk.now.items) ≡ false }
+    ensures { result.items ≡ next_between near.now.low.items near.now.high.items chunk.now.items }
+{
+    let low = near.low.as_slice();
+    let high = near.high.as_slice();
+    let mut next = ChunkAt::new();
+    push_next(&mut next, low, high, chunk.as_slice());
+    next
 }

@@ -5,7 +5,7 @@ ghost use Rattle.std.specs.List.{AllByRecursion};
 ghost use Rattle.array_rows.specs.Arrays.{AreRowsOf};
 ghost use Rattle.array_geom.specs.Geometry.{ChunkNumber};
 ghost use Rattle.array_geom.specs.Link.{NumbersRise, is_listed, number_order};
-ghost use Rattle.chunk_build.specs.Numbers.{AreBefore, AreCoresOf, AreFrom, numbers_in, starts_with};
+ghost use Rattle.chunk_build.specs.Numbers.{AreBefore, AreCoresOf, AreFrom, NameCores, numbers_in, starts_with};
 
 use array_geom::chunk_of;
 use cell_values::{ChunkAt, List, Memory, Row, Schema};
@@ -55,20 +55,41 @@ fn stands_at(listed: &[ChunkAt], at: usize, number: &ChunkAt) -> bool
     }
 }
 
-/// Adds a number where it is not listed.
-fn put_number(listed: &mut List<ChunkAt>, number: ChunkAt) -> Result<(), Memory>
-    requires { NumbersRise (numbers_in listed.old) }
-    ensures in_order { OnOk result (NumbersRise (numbers_in listed.new)) }
-    ensures sized { OnOk result ((n : ℕ) → length number.items ≡ n → AllByRecursion (λ k. length k ≡ n) (numbers_in listed.old)
-        → AllByRecursion (λ k. length k ≡ n) (numbers_in listed.new)) }
-    ensures listed { OnOk result ((k : ChunkNumber) → is_listed k (numbers_in listed.new) ≡ (is_eq (number_order number.items k) || is_listed k (numbers_in listed.old))) }
+/// Adds a number unless it is the last one.
+fn push_other(found: &mut List<ChunkAt>, number: ChunkAt) -> Result<(), Memory>
+    ensures sized { OnOk result ((n : ℕ) → length number.items ≡ n → AllByRecursion (λ k. length k ≡ n) (numbers_in found.old)
+        → AllByRecursion (λ k. length k ≡ n) (numbers_in found.new)) }
+    ensures listed { OnOk result ((k : ChunkNumber) → is_listed k (numbers_in found.new) ≡ (is_eq (number_order number.items k) || is_listed k (numbers_in found.old))) }
 {
-    let at = count_before(listed.as_slice(), &number);
-    if stands_at(listed.as_slice(), at, &number) {
+    let last = found.len().saturating_sub(1);
+    if stands_at(found.as_slice(), last, &number) {
         return Ok(());
     }
-    listed.insert(at, number)?;
+    found.push(number)?;
     Ok(())
+}
+
+/// The numbers of the chunks whose core has one of the rows, in the order of the rows.
+fn numbers_of(schema: &Schema, rows: &[Row]) -> Result<List<ChunkAt>, Memory>
+    requires { AreRowsOf schema.now rows.now }
+    ensures { IfOk result (λ found. NameCores schema.now.dimensions rows.now found) }
+{
+    let mut found = schema.dimensions.another();
+    for row in rows {
+        push_other(&mut found, chunk_of(schema, &row.at))?;
+    }
+    Ok(found)
+}
+
+/// The same numbers in rising order, each of them once.
+fn in_order(found: List<ChunkAt>) -> Result<List<ChunkAt>, Memory>
+    ensures in_order { IfOk result (λ listed. NumbersRise (numbers_in listed)) }
+    ensures listed { IfOk result (λ listed. (k : ChunkNumber) → is_listed k (numbers_in listed) ≡ is_listed k (numbers_in found)) }
+{
+    let mut numbers = found.into_vec();
+    numbers.sort()?;
+    numbers.dedup();
+    Ok(List::from_vec(numbers))
 }
 
 /// The numbers of the chunks whose core has one of the rows, in order.
@@ -76,9 +97,5 @@ pub(crate) fn cores_of(schema: &Schema, rows: &[Row]) -> Result<List<ChunkAt>, M
     requires { AreRowsOf schema.now rows.now }
     ensures { IfOk result (λ listed. AreCoresOf schema.now.dimensions rows.now listed) }
 {
-    let mut listed = schema.dimensions.another();
-    for row in rows {
-        put_number(&mut listed, chunk_of(schema, &row.at))?;
-    }
-    Ok(listed)
+    in_order(numbers_of(schema, rows)?)
 }

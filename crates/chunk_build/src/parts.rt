@@ -1,15 +1,17 @@
 //! Rows put into the chunks that have them in their frames.
-ghost use Rattle.std.specs.Prelude.{◌≡◌, ◌++◌, [], ◌∷◌, List as Items, length, IsTrue, OnOk, IfOk};
+ghost use Rattle.std.specs.Prelude.{◌≡◌, ◌≤◌, ◌++◌, [], ◌∷◌, List as Items, false, length, take, IsTrue, OnOk, IfOk};
 ghost use Rattle.std.specs.List.{AllByRecursion};
+ghost use Rattle.std.specs.Ordering.{is_lt};
 ghost use Rattle.cell_values.specs.declared.datum.Row.{Row as Placed};
 ghost use Rattle.array_rows.specs.Boxes.{bounds_of, is_inside};
 ghost use Rattle.array_geom.specs.Geometry.{HasFrame, frame};
-ghost use Rattle.array_geom.specs.Link.{IsPart, NumbersRise, numbers};
+ghost use Rattle.array_geom.specs.Link.{IsPart, NumbersRise, number_order, numbers};
 ghost use Rattle.chunk_build.specs.Frames.{HasFrames, AreFramed, TakesRow, TakeRow};
+ghost use Rattle.chunk_build.specs.Near.{lies_between};
 ghost use Rattle.chunk_build.specs.Numbers.{numbers_in};
 ghost use Rattle.chunk_build.specs.Reach.{Reaches};
 
-use crate::near::{Reached, lies_between, numbers_near};
+use crate::near::{Reached, lies_between, next_near, numbers_near};
 use crate::numbers::{comes_before, count_before};
 use array_geom::{Chunk, position};
 use cell_values::{ChunkAt, Margins, Memory, Row, Schema};
@@ -49,6 +51,19 @@ fn offer(
     Ok(())
 }
 
+/// How many of the numbers after one come before the box's next number.
+fn count_outside(near: &Reached, last: &ChunkAt, later: &[ChunkAt]) -> usize
+    requires in_order { NumbersRise (numbers_in (last.now ∷ later.now)) }
+    requires not_after { is_lt (number_order near.now.high.items last.now.items) ≡ false }
+    ensures within { result ≤ length later.now }
+    ensures outside { AllByRecursion (λ n. lies_between near.now.low.items near.now.high.items n.items ≡ false) (take result later.now) }
+{
+    if lies_between(near.low.as_slice(), near.high.as_slice(), last.as_slice()) {
+        return 0;
+    }
+    count_before(later, &next_near(near, last))
+}
+
 /// Adds the cell of a row to each chunk whose frame has it.
 pub(crate) fn put_row(
     schema: &Schema,
@@ -66,12 +81,14 @@ pub(crate) fn put_row(
     ensures row { OnOk result (TakeRow schema.now margins.now.items row.now chunks.old.items chunks.new.items) }
 {
     let near = numbers_near(schema, margins, &row.at);
-    let first = count_before(listed, &near.low);
-    for index in first..listed.len() {
-        if comes_before(&near.high, &listed[index]) {
+    let mut index = count_before(listed, &near.low);
+    while index < listed.len() {
+        let number = &listed[index];
+        if comes_before(&near.high, number) {
             return Ok(());
         }
         offer(schema, margins, &near, &mut chunks[index], row)?;
+        index += 1 + count_outside(&near, number, &listed[index + 1..]);
     }
     Ok(())
 }

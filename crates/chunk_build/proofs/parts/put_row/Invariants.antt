@@ -1,4 +1,4 @@
-use Rattle.std.proofs.Common.{◌≡◌}
+use Rattle.std.proofs.Common.{◌≡◌, ◌-◌, length}
 use Rattle.array_geom.specs.Link.{numbers}
 use Rattle.chunk_build.specs.Numbers.{numbers_in}
 use Rattle.chunk_build.proofs.PartLaws.{TakenUpTo}
@@ -9,3 +9,6 @@ invariant-loop-index l = record {
   same : numbers l.chunks.items ≡ numbers_in l.listed;
   taken : TakenUpTo l.schema l.margins.items l.row l.index l.initial.chunks.items l.chunks.items;
 }
+
+abbrev pub decreases-loop-index : goal.decreases-loop-index
+decreases-loop-index l = length l.listed - l.index
