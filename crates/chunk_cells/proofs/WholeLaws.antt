@@ -33,8 +33,10 @@ same_numbers (chunk ∷ chunks) = ap (λ (ks : List ChunkNumber). chunk.at.items
 are_cores : (dims : List Dimension) (margins : List ℕ) (rows : List Row) (chunks : List Chunk) → AreChunksOf dims margins rows chunks → AreCoresOf dims rows (numbered chunks)
 are_cores dims margins rows chunks are = record {
   in_order = subst NumbersRise (sym (same_numbers chunks)) are.in_order;
-  sized = subst (AllByRecursion (λ (k : ChunkNumber). length k ≡ length dims)) (sym (same_numbers chunks)) are.sized;
-  cores = λ k l. ap (is_listed k) (same_numbers chunks) ∙ are.listed k l;
+  named = record {
+    sized = subst (AllByRecursion (λ (k : ChunkNumber). length k ≡ length dims)) (sym (same_numbers chunks)) are.sized;
+    cores = λ k l. ap (is_listed k) (same_numbers chunks) ∙ are.listed k l;
+  };
 }
 
 all_placed : (schema : Schema) (array : ChunkedArray) (rows : List Row) → HoldsRows schema array rows → (chunks : List Chunk) → AreFramed schema.dimensions (numbers chunks) → AllByRecursion (IsPart schema.dimensions array.margins.items rows) chunks → AllByRecursion (HasPlaces schema array.margins.items) chunks
