@@ -8,12 +8,13 @@ ghost use Rattle.afl_types.specs.Checking.{AreValid};
 
 mod stored;
 
-use afl_parser::parse;
+use afl_parser::{Tree, parse};
 use afl_types::{TypeFault, Typed, check};
 use anyhow::Result;
+use cell_values::Span;
 use logical_plan::{Names, Plan, reads, schema_of};
 use result_print::{Refusal, refusal_line};
-use schema_grammar::schema_text;
+use schema_grammar::{TypeKind, schema_text};
 use std::io::BufRead;
 use std::str::from_utf8;
 use stored::names;
@@ -33,27 +34,41 @@ fn tell_plan(rt: &(impl Print + AllocGlobal), plan: &Plan) -> Result<()> {
     Ok(())
 }
 
+/// Prints a line.
+fn tell_word(rt: &impl Print, word: &str) -> Result<()> {
+    println!(rt; "{word}")?;
+    Ok(())
+}
+
+/// Prints the rule that a statement breaks, with the place.
+fn tell_fault(rt: &(impl Print + AllocGlobal), span: Span, kind: TypeKind) -> Result<()> {
+    let line = refusal_line(rt.alloc(), &Refusal::Typing { span, kind })?;
+    print!(rt; "{}", from_utf8(line.as_slice()).unwrap_or("no text"))?;
+    Ok(())
+}
+
+/// Prints what checking answers to a tree.
+fn tell_tree(rt: &(impl Print + AllocGlobal), text: &[u8], tree: &Tree, names: &Names) -> Result<()>
+    requires { AreValid names.now.arrays }
+{
+    match check(rt.alloc(), tree, text, names) {
+        Ok(Typed::Query(plan)) => tell_plan(rt, &plan),
+        Err(TypeFault::Rule { span, kind }) => tell_fault(rt, span, kind),
+        Err(TypeFault::Memory) => tell_word(rt, "no memory"),
+    }
+}
+
 /// Prints what checking answers to a statement.
 fn tell(rt: &(impl Print + AllocGlobal), text: &[u8], names: &Names) -> Result<()>
     requires { AreValid names.now.arrays }
 {
     if text.len() > LIMIT {
-        println!(rt; "too long")?;
-        return Ok(());
+        return tell_word(rt, "too long");
     }
-    let Ok(tree) = parse(rt.alloc(), text) else {
-        println!(rt; "no statement")?;
-        return Ok(());
-    };
-    match check(rt.alloc(), &tree, text, names) {
-        Ok(Typed::Query(plan)) => tell_plan(rt, &plan)?,
-        Err(TypeFault::Rule { span, kind }) => {
-            let line = refusal_line(rt.alloc(), &Refusal::Typing { span, kind })?;
-            print!(rt; "{}", from_utf8(line.as_slice()).unwrap_or("no text"))?;
-        }
-        Err(TypeFault::Memory) => println!(rt; "no memory")?,
+    match parse(rt.alloc(), text) {
+        Ok(tree) => tell_tree(rt, text, &tree, names),
+        Err(_) => tell_word(rt, "no statement"),
     }
-    Ok(())
 }
 
 /// Prints a title, or what checking answers to the statement of a line.

@@ -1,5 +1,5 @@
 //! The stored arrays that statements may speak of.
-ghost use Rattle.std.specs.Prelude.{◌≤◌, length, IfSome};
+ghost use Rattle.std.specs.Prelude.{◌≤◌, length, IfSome, OnSome};
 ghost use Rattle.cell_values.specs.Schemas.{IsValid};
 ghost use Rattle.afl_types.specs.Checking.{AreValid};
 
@@ -26,6 +26,16 @@ fn stored(alloc: Global, text: &[u8], versions: &[u32]) -> Option<NameEntry>
     }
 }
 
+/// Adds the array that a text creates.
+fn push_stored(arrays: &mut List<NameEntry>, text: &[u8], versions: &[u32]) -> Option<()>
+    requires short { length text.now ≤ 1048576 }
+    requires valid { AreValid arrays.old }
+    ensures { OnSome result (AreValid arrays.new) }
+{
+    let entry = stored(arrays.allocator(), text, versions)?;
+    arrays.push(entry).ok()
+}
+
 /// `A` of one dimension, `B` of each type, `E` without versions, `G` whose first versions are removed, and `W` whose bounds
 /// are as wide as bounds may be.
 pub(crate) fn names(alloc: Global) -> Option<Names>
@@ -37,10 +47,10 @@ pub(crate) fn names(alloc: Global) -> Option<Names>
     let g = b"create array G <v:string>[i=0:*,5,0]";
     let w = b"create array W <v:int64>[i=-4611686018427387903:*,2,0,j=0:1,2,0]";
     let mut arrays = List::new(alloc);
-    arrays.push(stored(alloc, a, &[1, 2])?).ok()?;
-    arrays.push(stored(alloc, b, &[1])?).ok()?;
-    arrays.push(stored(alloc, e, &[])?).ok()?;
-    arrays.push(stored(alloc, g, &[3, 5])?).ok()?;
-    arrays.push(stored(alloc, w, &[6])?).ok()?;
+    push_stored(&mut arrays, a, &[1, 2])?;
+    push_stored(&mut arrays, b, &[1])?;
+    push_stored(&mut arrays, e, &[])?;
+    push_stored(&mut arrays, g, &[3, 5])?;
+    push_stored(&mut arrays, w, &[6])?;
     Some(Names { arrays })
 }
