@@ -4,7 +4,7 @@ use std::test::*;
 use version_catalog::*;
 
 /// Array A of `<v:int64>[i=0:3,2,0]`, whose version 2 stands, with a directory of 44 bytes in page 7.
-const ONE: [u8; 74] = [
+pub(crate) const ONE: [u8; 74] = [
     1, 0, 0, 0, 1, 65, 1, 1, 118, 1, 1, 1, 1, 105, 0, 0, 0, 0, 0, 0, 0, 0, 3, 0, 0, 0, 0, 0, 0, 0,
     2, 0, 0, 0, 0, 0, 0, 0, 0, 0, 0, 0, 0, 0, 0, 0, 3, 0, 0, 0, 1, 0, 0, 0, 2, 0, 0, 0, 44, 0, 0,
     0, 0, 0, 0, 0, 1, 0, 0, 0, 7, 0, 0, 0,
