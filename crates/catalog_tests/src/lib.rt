@@ -1,5 +1,9 @@
-//! Directories of chunks.
+//! Directories, catalogues and records, and their changes.
 #![tactic(auto)]
 
+#[cfg(test)]
+mod catalogues;
+#[cfg(test)]
+mod changes;
 #[cfg(test)]
 mod directories;
