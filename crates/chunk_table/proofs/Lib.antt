@@ -1,0 +1,4 @@
+pub mod ChunkLaws
+pub mod FitLaws
+pub mod PartLaws
+pub mod SampleLaws
