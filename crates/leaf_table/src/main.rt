@@ -1,56 +1,24 @@
-//! Reads an array of two chunks from sources in memory, and prints what is answered and which chunks were asked for.
+//! Reads an array of two chunks from sources in memory, alone and under a filter, and prints what is answered and which chunks
+//! were asked for.
 #![tactic(auto)]
 
 ghost use Rattle.cell_values.specs.Schemas.{IsValid};
 ghost use Rattle.chunk_source.specs.Source.{Reads};
 
 mod example;
+mod plans;
+mod show;
 
 use anyhow::Result;
-use array_geom::{Chunk, ChunkedArray};
-use cell_values::Cell;
-use chunk_read::{ExecFault, read_leaf};
-use chunk_source::{Asked, ChunkSource};
+use chunk_read::read_leaf;
+use chunk_source::ChunkSource;
 use example::{example_leaf, failing_source, sure_source};
 use logical_plan::Leaf;
+use plans::{tell_failing_filter, tell_sure_filter};
+use show::{tell_array, tell_asked, tell_cause, tell_faults};
 
 /// The number of a leaf in a plan.
 const NUMBER: u32 = 3;
-
-fn tell_cell(rt: &impl Print, cell: &Cell) -> Result<()> {
-    match cell {
-        Cell::Full(values) => print!(rt; " {:?}", values.as_slice())?,
-        Cell::Doubt(kind) => print!(rt; " in doubt {kind:?}")?,
-    }
-    Ok(())
-}
-
-fn tell_chunk(rt: &impl Print, chunk: &Chunk) -> Result<()> {
-    print!(rt; "  chunk {:?}", chunk.at.as_slice())?;
-    for (position, cell) in chunk
-        .positions
-        .as_slice()
-        .iter()
-        .zip(chunk.cells.as_slice())
-    {
-        print!(rt; ", at {position}")?;
-        tell_cell(rt, cell)?;
-    }
-    println!(rt; "")?;
-    Ok(())
-}
-
-fn tell_array(rt: &impl Print, array: &ChunkedArray) -> Result<()> {
-    for chunk in array.chunks.as_slice() {
-        tell_chunk(rt, chunk)?;
-    }
-    Ok(())
-}
-
-fn tell_cause(rt: &impl Print, cause: ExecFault) -> Result<()> {
-    println!(rt; "  {cause:?}")?;
-    Ok(())
-}
 
 /// Reads a leaf, and prints its chunks or why it could not be read, and how often the source has failed.
 fn tell_leaf<S: ChunkSource>(rt: &impl Print, source: &mut S, leaf: &Leaf) -> Result<()>
@@ -61,21 +29,7 @@ fn tell_leaf<S: ChunkSource>(rt: &impl Print, source: &mut S, leaf: &Leaf) -> Re
         Ok(array) => tell_array(rt, &array)?,
         Err(cause) => tell_cause(rt, cause)?,
     }
-    println!(rt;
-        "  faults {}, damaged {:?}",
-        source.faults(),
-        source.damaged()
-    )?;
-    Ok(())
-}
-
-fn tell_asked(rt: &impl Print, asked: &[Asked]) -> Result<()> {
-    print!(rt; "  asked")?;
-    for one in asked {
-        print!(rt; " leaf {} chunk {:?}", one.leaf, one.at.as_slice())?;
-    }
-    println!(rt; "")?;
-    Ok(())
+    tell_faults(rt, source)
 }
 
 #[tactic(auto, using(crate::proofs::Stored::schema_valid))]
@@ -96,11 +50,21 @@ fn tell_sure(rt: &(impl Print + AllocGlobal)) -> Result<()> {
     tell_asked(rt, source.asked())
 }
 
+/// The array under a filter that leaves one of its cells.
+fn tell_filters(rt: &(impl Print + AllocGlobal)) -> Result<()> {
+    tell_failing_filter(rt, "no call fails", &[])?;
+    tell_failing_filter(rt, "the first call fails", &[0])?;
+    tell_failing_filter(rt, "the second call fails", &[1])?;
+    tell_failing_filter(rt, "the third call fails", &[2])?;
+    tell_sure_filter(rt)
+}
+
 fn main(rt: HostRuntime) -> Result<()> {
     tell_failing(&rt, "no call fails", &[])?;
     tell_failing(&rt, "the first call fails", &[0])?;
     tell_failing(&rt, "the second call fails", &[1])?;
     tell_failing(&rt, "the third call fails", &[2])?;
     tell_failing(&rt, "the fourth call would fail", &[3])?;
-    tell_sure(&rt)
+    tell_sure(&rt)?;
+    tell_filters(&rt)
 }
