@@ -1,17 +1,15 @@
 -- The rows of a box by runs.
-use Rattle.std.proofs.Common.{◌≡◌, ℕ, zero, suc, ◌+◌, ◌-◌, ◌<◌, ◌≤◌, Bool, true, false, not, cond, IsTrue, List, [], ◌∷◌, ◌++◌, filter, length, get_or, take, drop, one-add, append-nil, take-append-drop, refl, sym, ap, ◌∙◌, subst, append_assoc, arith}
-use Rattle.std.specs.Prelude.{slice_index_or}
-use Rattle.std.specs.List.{All, prefix_len}
+use Rattle.std.proofs.Common.{◌≡◌, ℕ, ◌+◌, ◌-◌, ◌≤◌, Bool, true, false, not, cond, List, [], ◌∷◌, ◌++◌, filter, take, drop, one-add, append-nil, take-append-drop, refl, sym, ap, ◌∙◌, subst, append_assoc, arith}
+use Rattle.std.specs.List.{prefix_len}
 use Rattle.std.proofs.lemmas.List.{drop-drop}
 use Rattle.std.proofs.lemmas.List.Elements.{filter-append}
-use Rattle.std.proofs.lemmas.List.Sums.{prefix_len-le-length}
 use Rattle.cell_values.specs.declared.datum.Row.{Row}
 use Rattle.cell_values.specs.declared.schema.Bounds.{Bounds}
 use Rattle.array_rows.specs.Boxes.{is_inside, within}
 use Rattle.array_rows.specs.Rows.{IsRising}
 use Rattle.group_parts.proofs.RowLemmas.{rising_right}
 use Rattle.window_overlap.specs.declared.runs.Run.{Run}
-use Rattle.window_overlap.specs.Runs.{rows_of, AreRuns}
+use Rattle.window_overlap.specs.Runs.{rows_of}
 use Rattle.window_overlap.specs.Skips.{begins_outside}
 
 -- ---- rows at the beginning

@@ -1,7 +1,7 @@
 -- States that take the rows of runs, and the values of all aggregates.
-use Rattle.std.proofs.Common.{◌≡◌, Bool, append-nil, take-append-drop, ℕ, zero, suc, ◌+◌, ◌-◌, ◌<◌, ◌≤◌, ◌^◌, IsTrue, true, ◌&&◌, List, [], ◌∷◌, ◌++◌, map, length, get_or, take, drop, Some, None, refl, sym, ap, ◌∙◌, subst, append_assoc, arith, length-append}
+use Rattle.std.proofs.Common.{◌≡◌, Bool, append-nil, take-append-drop, ℕ, zero, suc, ◌+◌, ◌-◌, ◌<◌, ◌^◌, IsTrue, true, List, [], ◌∷◌, ◌++◌, map, length, get_or, take, drop, None, refl, sym, ap, ◌∙◌, subst, append_assoc, arith, length-append}
 use Rattle.std.specs.List.{AllByRecursion, list_all}
-use Rattle.std.proofs.lemmas.List.{take_more, map-append, length-map}
+use Rattle.std.proofs.lemmas.List.{take_more, map-append}
 use Rattle.cell_values.specs.declared.datum.Datum.{Datum}
 use Rattle.cell_values.specs.declared.datum.Row.{Row}
 use Rattle.cell_values.specs.declared.schema.Attribute.{Attribute}
@@ -10,7 +10,7 @@ use Rattle.array_rows.specs.Rows.{IsRising, placed, cell_at, put_row}
 use Rattle.array_geom.proofs.TestLaws.{and_parts}
 use Rattle.logical_plan.specs.declared.parts.Aggregate.{Aggregate}
 use Rattle.logical_plan.specs.Groups.{aggregate_of, cells_of}
-use Rattle.logical_plan.specs.Typing.{is_aggregate_of, are_aggregates_of}
+use Rattle.logical_plan.specs.Typing.{is_aggregate_of}
 use Rattle.agg_states.specs.Stands.{StandsFor}
 use Rattle.agg_states.specs.Summary.{Summary}
 use Rattle.group_parts.proofs.RowLemmas.{put_last, free_last, rising_left}

@@ -1,5 +1,5 @@
 -- The windows of a chunk's core.
-use Rattle.std.specs.Prelude.{ℕ, if◌then◌else◌, List, Option, None}
+use Rattle.std.specs.Prelude.{if◌then◌else◌, List, Option, None}
 use Rattle.cell_values.specs.declared.datum.Cell.{Cell}
 use Rattle.cell_values.specs.declared.datum.Row.{Row}
 use Rattle.cell_values.specs.declared.schema.Bounds.{Bounds}

@@ -14,6 +14,7 @@ ghost use Rattle.logical_plan.specs.Typing.{are_aggregates_of};
 ghost use Rattle.window_overlap.specs.Cores.{core_windows, window_within};
 ghost use Rattle.window_overlap.specs.Reaches.{AreShort, AreWithinMargins, CanAggregate, HaveLowPlaces};
 
+use crate::corners::window_of;
 use crate::windows::window_cell;
 use array_geom::{Chunk, Grid, core_box, grid_of};
 use array_rows::is_in_box;
@@ -61,7 +62,8 @@ fn push_window(
     ensures { OnOk result (made.new ≡ with_cell made.old position (window_within core.now reach.now aggs.now rows.now row.now.at.items row.now.cell)) }
 {
     if is_in_box(core, &row.at) {
-        let cell = window_cell(rows, &row.at, &row.cell, reach, aggs)?;
+        let area = window_of(&row.at, reach);
+        let cell = window_cell(rows, &area, &row.cell, aggs)?;
         made.positions.push(position)?;
         made.cells.push(cell)?;
     }

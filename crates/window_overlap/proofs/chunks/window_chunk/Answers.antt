@@ -3,7 +3,6 @@ use Rattle.cell_values.specs.declared.datum.Row.{Row}
 use Rattle.std.specs.List.{AllByRecursion}
 use Rattle.cell_values.specs.Cells.{IsCellOf}
 use Rattle.array_geom.specs.Link.{rows_in, chunk_rows}
-use Rattle.array_geom.specs.Geometry.{frame_low, frame_lengths}
 use Rattle.array_geom.proofs.NearLemmas.{valid_placed, margins_of}
 use Rattle.window_overlap.specs.Reaches.{HaveLowPlaces}
 use Rattle.window_overlap.proofs.ChunkLaws.{each_row}

@@ -1,4 +1,4 @@
-use Rattle.std.proofs.Common.{length, drop, refl, sym, ap, ◌∙◌, ◌≤◌, List, ℕ, subst}
+use Rattle.std.proofs.Common.{length, drop, refl, ◌≤◌, List, ℕ, subst}
 use Rattle.array_geom.specs.Geometry.{frame_low, frame_lengths}
 use Rattle.chunk_change.proofs.Steps.{done}
 use Rattle.window_overlap.specs.Cores.{window_within}

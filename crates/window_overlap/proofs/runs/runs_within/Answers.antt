@@ -1,7 +1,4 @@
-use Rattle.std.proofs.Common.{subst, sym, length, arith}
-use Rattle.std.proofs.Common.{List}
-use Rattle.cell_values.specs.declared.datum.Row.{Row}
-use Rattle.array_rows.specs.Rows.{IsRising}
+use Rattle.std.proofs.Common.{length}
 use Rattle.window_overlap.proofs.RunLaws.{next_run, outside_behind}
 use Rattle.window_overlap.proofs.runs.runs_within.Goals as goal
 
