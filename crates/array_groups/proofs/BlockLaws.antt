@@ -1,5 +1,5 @@
 -- Blocks lie within the bounds of their schemas.
-use Rattle.std.proofs.Common.{◌≡◌, ℕ, zero, suc, ◌/◌, ◌≤◌, ℤ, pos, ◌≤ℤ◌, ◌+ℤ◌, ◌-ℤ◌, unsigned_abs, int_le, ◌&&◌, true, IsTrue, List, [], ◌∷◌, map, refl, sym, ap, subst, arith}
+use Rattle.std.proofs.Common.{◌≡◌, ℕ, zero, suc, ◌/◌, ◌≤◌, ℤ, ◌≤ℤ◌, ◌-ℤ◌, unsigned_abs, int_le, ◌&&◌, true, IsTrue, List, [], ◌∷◌, map, refl, sym, ap, subst, arith}
 use Rattle.std.specs.Int.{w64, saturate_signed}
 use Rattle.std.specs.List.{AllByRecursion}
 use Rattle.std.proofs.Math.Nat.{div-mul-le_self}

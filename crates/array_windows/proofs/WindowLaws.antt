@@ -1,5 +1,5 @@
 -- The windows of an array are rows of their schema.
-use Rattle.std.proofs.Common.{◌≡◌, ℕ, suc, ◌+◌, ◌*◌, ◌<◌, ◌≤◌, ◌^◌, ◌&&◌, Bool, true, false, cond, IsTrue, List, [], ◌∷◌, map, filter, length, Option, Some, None, Ok, refl, sym, ap, ◌∙◌, subst, arith}
+use Rattle.std.proofs.Common.{◌≡◌, ℕ, suc, ◌+◌, ◌*◌, ◌<◌, ◌≤◌, ◌^◌, ◌&&◌, Bool, true, false, cond, IsTrue, List, [], ◌∷◌, map, filter, length, Option, Some, None, refl, sym, ap, ◌∙◌, subst, arith}
 use Rattle.std.specs.Prelude.{nat_le, ◌==◌}
 use Rattle.std.specs.List.{AllByRecursion}
 use Rattle.std.proofs.lemmas.List.{length-map}
@@ -7,7 +7,6 @@ use Rattle.cell_values.specs.declared.datum.Cell.{Cell}
 use Rattle.cell_values.specs.declared.datum.Cell.TheVariants.{Full, Doubt}
 use Rattle.cell_values.specs.declared.datum.Row.{Row}
 use Rattle.cell_values.specs.declared.schema.Attribute.{Attribute}
-use Rattle.cell_values.specs.declared.schema.Dimension.{Dimension}
 use Rattle.cell_values.specs.declared.schema.Schema.{Schema}
 use Rattle.cell_values.specs.Cells.{is_of_kind, IsCellOf}
 use Rattle.cell_values.specs.Schemas.{IsValid}
@@ -16,7 +15,6 @@ use Rattle.array_rows.specs.Boxes.{is_inside, within, bounds_of}
 use Rattle.array_rows.specs.Cellwise.{put_first, cell_wise}
 use Rattle.array_rows.specs.Rows.{Coordinate}
 use Rattle.array_rows.proofs.RowsLemmas.{IsRising-cell_wise}
-use Rattle.array_geom.specs.declared.chunk.ChunkedArray.{ChunkedArray}
 use Rattle.array_geom.specs.Geometry.{overlaps, frame_lengths, volume}
 use Rattle.array_geom.proofs.NearLemmas.{valid_placed}
 use Rattle.array_geom.proofs.TestLaws.{and_parts, at_most}

@@ -1,6 +1,4 @@
 use Rattle.std.proofs.Common.{ap, ◌∙◌}
-use Rattle.cell_values.specs.declared.datum.Row.{Row}
-use Rattle.std.proofs.Common.{List}
 use Rattle.logical_plan.specs.Groups.{window_rows}
 use Rattle.logical_plan.specs.PlanSchema.{window_schema}
 use Rattle.array_groups.proofs.WholeLaws.{of_cores, means_whole, stands_for}
