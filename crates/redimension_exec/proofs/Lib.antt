@@ -1,0 +1,3 @@
+pub mod LandedLaws
+pub mod MeantLaws
+pub mod ValueLaws
