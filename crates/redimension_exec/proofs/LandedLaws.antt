@@ -67,8 +67,10 @@ lands_inside origins bounds once taken c (Full vs) t e = cases (first_some bad_k
   where
     values : List Datum
     values = map (target_value c vs) origins
+
     target : Coordinate
     target = counted_up origins (alike_so_far (counted_places origins 0) taken (map number_of values)) (map number_of values)
+
     cases : (o : Option FaultKind) (b : Bool) → unless_fault o (cond b drops (landing_at bounds once taken target)) ≡ lands t → is_inside bounds t ≡ true
     cases (Some kind) b f = cc
     cases None true f = cc
@@ -111,7 +113,7 @@ carried_are_rows source target rows made are valid typed e =
     let split = whole_of (λ (all : List Landed). in_order (map (carried values) all)) (landed origins bounds true rows []) made (sym e) in
     let fits = valid_dimensions source are.valid in
     let each = both_all (λ (row : Row). IsTrue (is_inside (bounds_of source.dimensions) row.at.items)) (λ row. IsCellOf source.attributes row.cell) (λ row. IsCellOf target.attributes (carried_cell values row.at.items row.cell))
-          (λ row i k. carried_fits source.attributes (value_origin source) target.attributes row.at.items row.cell (inside_fits source.dimensions row.at.items fits i) k taken.1) rows are.are_rows.in_bounds are.kinds in
+    (λ row i k. carried_fits source.attributes (value_origin source) target.attributes row.at.items row.cell (inside_fits source.dimensions row.at.items fits i) k taken.1) rows are.are_rows.in_bounds are.kinds in
     let all = all_landed origins bounds true (λ row. IsCellOf target.attributes (carried_cell values row.at.items row.cell)) rows [] split.0 each split.1 in
     subst (AreRowsOf target) split.2
     (record {
@@ -127,6 +129,7 @@ carried_are_rows source target rows made are valid typed e =
         → AllByRecursion (λ l. IsTrue (is_inside (bounds_of target.dimensions) l.0)) ls
     firsts [] h = tt
     firsts (l ∷ ls) h = (h.0.0, firsts ls h.1)
+
     seconds : (ls : List Landed) → AllByRecursion (λ l. IsTrue (is_inside (bounds_of target.dimensions) l.0) × IsCellOf target.attributes (carried_cell (map (value_origin source) target.attributes) l.1.at.items l.1.cell)) ls
         → AllByRecursion (λ l. IsCellOf target.attributes (carried_cell (map (value_origin source) target.attributes) l.1.at.items l.1.cell)) ls
     seconds [] h = tt

@@ -30,7 +30,7 @@ any_counted p (x ∷ xs) = cases (p x) (any_counted p xs)
     cases false ih = ih
 
 -- without synthetic dimensions nothing is counted up
-up_none : (os : List Origin) (n : ℕ) (c : Coordinate) → has_counted os ≡ false → length c ≡ length os → counted_up os n c ≡ c
+pub up_none : (os : List Origin) (n : ℕ) (c : Coordinate) → has_counted os ≡ false → length c ≡ length os → counted_up os n c ≡ c
 up_none [] n c h l = refl
 up_none (o ∷ os) n [] h l = refl
 up_none (counted lo ∷ os) n (x ∷ c) h l = cc

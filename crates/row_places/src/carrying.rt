@@ -9,7 +9,8 @@ use crate::ordering::in_order;
 use crate::places::{Place, places_of_attributes, places_of_dimensions};
 use cell_values::{Bounds, Broken, Coord, Dimension, List, Memory, Row, Schema};
 
-fn bounds_of(dimensions: &[Dimension]) -> Bounds
+/// All places of an array with these dimensions.
+pub fn bounds_of(dimensions: &[Dimension]) -> Bounds
     requires { length dimensions.now ≤ 6 }
     ensures { result ≡ bounds_of dimensions.now }
 {

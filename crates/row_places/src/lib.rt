@@ -8,4 +8,6 @@ mod numbers;
 mod ordering;
 mod places;
 
-pub use carrying::carried_rows;
+pub use carrying::{bounds_of, carried_rows};
+pub use numbers::first_numbers;
+pub use places::{Place, places_of_attributes, places_of_dimensions};

@@ -172,7 +172,7 @@ fn first_of_values(
 
 /// A row's doubt, or the first fault among its target's numbers; none where a number is null; else the numbers, a synthetic one at
 /// its low bound.
-pub(crate) fn first_numbers(places: &[Place], row: &Row) -> Result<Option<Coord>, FaultKind>
+pub fn first_numbers(places: &[Place], row: &Row) -> Result<Option<Coord>, FaultKind>
     requires { length places.now ≤ 6 }
     ensures { BeginsAs (map origin places.now) row.now.at.items row.now.cell result }
 {
