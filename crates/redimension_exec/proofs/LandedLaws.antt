@@ -85,7 +85,9 @@ whole_of f (Err broken) y e = cc
 -- what holds of each row of the source and of each place in the bounds holds of each row that landed
 all_landed : (origins : List Origin) (bounds : Bounds) (once : Bool) (P : Row → Type 0) (rows : List Row) (taken : List Coordinate) (all : List Landed) → AllByRecursion P rows → landed origins bounds once rows taken ≡ Ok all
     → AllByRecursion (λ l. IsTrue (is_inside bounds l.0) × P l.1) all
-all_landed origins bounds once P [] taken all ps e = subst (λ (those : List Landed). AllByRecursion (λ l. IsTrue (is_inside bounds l.0) × P l.1) those) (cc (e)) tt
+all_landed origins bounds once P [] taken all ps e =
+    let none : [] ≡ all = cc (e) in
+    subst (λ (those : List Landed). AllByRecursion (λ l. IsTrue (is_inside bounds l.0) × P l.1) those) none tt
 all_landed origins bounds once P (row ∷ rows) taken all ps e =
     cases (landing_of origins bounds once taken row.at.items row.cell) refl e (λ now left h. all_landed origins bounds once P rows now left ps.1 h)
   where
@@ -101,7 +103,7 @@ all_landed origins bounds once P (row ∷ rows) taken all ps e =
 
 -- ---- the array
 
-abbrev made_of : Schema → Schema → List Row → Result (List Row) Broken
+abbrev pub made_of : Schema → Schema → List Row → Result (List Row) Broken
 made_of source target rows = carried_rows (map (origin_of source) target.dimensions) (bounds_of target.dimensions) (map (value_origin source) target.attributes) rows
 
 pub carried_are_rows : (source target : Schema) (rows made : List Row) → AreRowsOf source rows → IsValid target → IsTrue (redimensions source target []) → Ok made ≡ made_of source target rows → AreRowsOf target made

@@ -11,7 +11,7 @@ pub returns-in-Ok-None : goal.returns-in-Ok-None
 returns-in-Ok-None c =
     next_drops (map origin c.args.places.now) c.args.bounds.now c.requires.plain c.args.targets.now c.args.kept.now c.args.row (rw c.in-Ok-None.field-0-is at c.in-Ok-None.ensures)
 
-pub returns : goal.returns
-returns c =
+pub returns-in-Ok-Some : goal.returns-in-Ok-Some
+returns-in-Ok-Some c =
     if_ok c.keep.result c.keep.ensures
     (λ o k. next_kept (map origin c.args.places.now) c.args.bounds.now c.requires.plain c.args.targets.now c.args.kept.now c.args.row c.in-Ok-Some.at o c.keep.new.targets c.keep.new.kept (rw c.in-Ok-Some.field-0-is at c.in-Ok-Some.ensures) k)
