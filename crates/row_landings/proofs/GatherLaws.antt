@@ -1,5 +1,5 @@
 -- Rows that land without synthetic dimensions and where several may land at one coordinate: no row depends on those before it.
-use Rattle.std.proofs.Common.{◌≡◌, ℕ, suc, ◌+◌, ◌<◌, ℤ, Bool, true, false, cond, List, [], ◌∷◌, ◌++◌, map, length, drop, Option, Some, None, Result, Ok, Err, refl, sym, ap, ◌∙◌, subst, arith}
+use Rattle.std.proofs.Common.{◌≡◌, ℕ, ◌+◌, ℤ, false, cond, List, [], ◌∷◌, ◌++◌, map, length, Option, Some, None, Result, Ok, Err, refl, sym, ap, ◌∙◌, arith}
 use Rattle.std.proofs.lemmas.List.{append-nil, append_assoc, length-append}
 use Rattle.std.specs.List.{list_any}
 use Rattle.std.specs.Prelude.{IfOk, not}
@@ -7,19 +7,17 @@ use Rattle.arrayvec.specs.ArrayVec.{ArrayVec}
 use Rattle.cell_values.specs.declared.datum.Broken.{Broken}
 use Rattle.cell_values.specs.declared.datum.Cell.{Cell}
 use Rattle.cell_values.specs.declared.datum.Cell.TheVariants.{Full, Doubt}
-use Rattle.cell_values.specs.declared.datum.Datum.{Datum}
 use Rattle.cell_values.specs.declared.datum.FaultKind.{FaultKind}
-use Rattle.cell_values.specs.declared.datum.FaultKind.TheVariants.{OutOfBounds, Collision}
+use Rattle.cell_values.specs.declared.datum.FaultKind.TheVariants.{OutOfBounds}
 use Rattle.cell_values.specs.declared.datum.Row.{Row}
 use Rattle.cell_values.specs.declared.schema.Bounds.{Bounds}
 use Rattle.cell_values.specs.Nulls.{is_null}
-use Rattle.array_rows.specs.Boxes.{is_inside}
 use Rattle.array_rows.specs.Rows.{Coordinate}
 use Rattle.logical_plan.specs.Faults.{if_whole}
-use Rattle.logical_plan.specs.Groups.{bad_kind, first_some, number_of}
+use Rattle.logical_plan.specs.Groups.{bad_kind, first_some}
 use Rattle.logical_plan.specs.Redimension.{Origin, Landing, Landed, lands, drops, breaks, target_value, counted_places, counted_up, alike_so_far, landing_at, landing_of, unless_fault, after_landing, landed}
 use Rattle.row_places.specs.Counting.{has_counted}
-use Rattle.row_landings.specs.Gathering.{pairs, followed, AreLandings, IsKept, IsNext}
+use Rattle.row_landings.specs.Gathering.{pairs, followed, IsKept, IsNext}
 use Rattle.row_places.specs.Landings.{BeginsAs, first_numbers}
 use Rattle.row_places.proofs.LandingLaws.{first_length}
 use Rattle.row_places.proofs.TakenLaws.{up_none}

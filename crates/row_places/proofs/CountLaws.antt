@@ -1,5 +1,5 @@
 -- Numbers without the synthetic ones, and counts of targets by them.
-use Rattle.std.proofs.Common.{◌≡◌, ℕ, suc, ◌+◌, ◌<◌, ◌≤◌, ℤ, pos, Bool, true, false, cond, ◌||◌, List, [], ◌∷◌, ◌++◌, length, filter, map, Option, Some, refl, sym, ap, ◌∙◌, arith}
+use Rattle.std.proofs.Common.{◌≡◌, ℕ, ◌+◌, ◌<◌, ◌≤◌, ℤ, pos, Bool, true, false, cond, ◌||◌, List, [], ◌∷◌, ◌++◌, length, filter, map, Option, Some, refl, sym, ap, ◌∙◌, arith}
 use Rattle.std.proofs.lemmas.Bool.{ne_eqb}
 use Rattle.std.proofs.lemmas.Int.{ints}
 use Rattle.std.proofs.lemmas.List.{append-nil}
@@ -8,18 +8,18 @@ use Rattle.std.specs.BTreeMap.{BTreeMap, Updates}
 use Rattle.std.specs.List.{list_any}
 use Rattle.std.specs.Option.{unwrap_or}
 use Rattle.std.specs.Ordering.{is_eq}
-use Rattle.std.specs.Prelude.{◌==◌, ◌&&◌, nat_lt, ◌+ℤ◌}
+use Rattle.std.specs.Prelude.{◌==◌, ◌&&◌, ◌+ℤ◌}
 use Rattle.std.specs.declared.cmp.Ordering.{Ordering}
 use Rattle.std.specs.declared.cmp.Ordering.TheVariants.{Less, Equal, Greater}
 use Rattle.arrayvec.specs.ArrayVec.{ArrayVec}
 use Rattle.array_rows.specs.Boxes.{is_between}
 use Rattle.array_rows.specs.Rows.{Coordinate, row_major}
-use Rattle.array_rows.proofs.RowsLemmas.{row_major_exact, same_coordinate}
+use Rattle.array_rows.proofs.RowsLemmas.{row_major_exact}
 use Rattle.logical_plan.specs.BoxOps.{items_but}
 use Rattle.logical_plan.specs.Redimension.{Origin, from_dimension, from_attribute, counted, counted_places, counted_up, alike_so_far}
 use Rattle.row_places.specs.declared.places.Place.{Place}
 use Rattle.row_places.specs.Places.{origin}
-use Rattle.row_places.specs.Counting.{by_numbers, has_counted, uncounted, HasLows, landed_with, AreNumbered}
+use Rattle.row_places.specs.Counting.{by_numbers, has_counted, uncounted, HasLows, landed_with}
 
 pub and_false : (a b : Bool) → b ≡ false → (a && b) ≡ false
 and_false true b e = e

@@ -1,5 +1,5 @@
 -- Rows at different coordinates, sorted.
-use Rattle.std.proofs.Common.{◌≡◌, ℕ, suc, ◌+◌, ◌<◌, ◌≤◌, ℤ, Bool, true, false, cond, ◌||◌, List, [], ◌∷◌, length, filter, map, Option, Some, None, Result, Ok, Err, refl, sym, ap, ◌∙◌, subst, arith}
+use Rattle.std.proofs.Common.{◌≡◌, ℕ, suc, ◌+◌, ◌≤◌, Bool, true, false, cond, ◌||◌, List, [], ◌∷◌, length, filter, map, Option, Some, None, Result, Ok, Err, refl, sym, ap, ◌∙◌, subst, arith}
 use Rattle.std.specs.List.{list_any}
 use Rattle.std.specs.List.Sorted.{IsSortedBy, IsStableBy, ties}
 use Rattle.std.specs.Ordering.{is_eq, is_lt, ordering_reverse}
@@ -16,7 +16,7 @@ use Rattle.cell_values.specs.declared.datum.Row.{Row}
 use Rattle.cell_values.specs.declared.schema.Bounds.{Bounds}
 use Rattle.cell_values.specs.Nulls.{is_null}
 use Rattle.array_rows.specs.Boxes.{is_inside}
-use Rattle.array_rows.specs.Rows.{Coordinate, row_major, IsBefore, IsRising, placed, cell_at, in_order}
+use Rattle.array_rows.specs.Rows.{Coordinate, row_major, IsRising, placed, cell_at, in_order}
 use Rattle.array_rows.proofs.RowsLemmas.{row_major_total, row_major_exact, same_coordinate, same_rows, IsBefore-trans}
 use Rattle.array_rows.proofs.RowSets.{IsRising-in_order, cell_at-in_order}
 use Rattle.logical_plan.specs.Faults.{if_whole}

@@ -1,5 +1,5 @@
 -- Rows that land one after the other.
-use Rattle.std.proofs.Common.{◌≡◌, ℕ, ℤ, true, List, [], ◌∷◌, ◌++◌, map, length, take, drop, Option, Some, None, Result, Ok, Err, refl, sym, ap, ◌∙◌, subst, append_assoc}
+use Rattle.std.proofs.Common.{◌≡◌, ℕ, ℤ, true, List, [], ◌∷◌, ◌++◌, map, Some, None, Result, Ok, Err, refl, sym, ap, ◌∙◌, subst, append_assoc}
 use Rattle.std.proofs.lemmas.List.{append-nil, map-append, reverse-append}
 use Rattle.std.specs.BTreeMap.{BTreeMap, IsEmpty, is_at}
 use Rattle.std.specs.Map.{lookup}
@@ -12,7 +12,7 @@ use Rattle.cell_values.specs.declared.datum.Row.{Row}
 use Rattle.cell_values.specs.declared.schema.Bounds.{Bounds}
 use Rattle.array_rows.specs.Rows.{Coordinate}
 use Rattle.logical_plan.specs.Faults.{if_whole}
-use Rattle.logical_plan.specs.Redimension.{Origin, Landed, after_landing, carried, landed, landing_of, lands, drops, breaks}
+use Rattle.logical_plan.specs.Redimension.{Origin, Landed, after_landing, carried, landed}
 use Rattle.row_places.specs.Counting.{by_numbers, AreCountsOf}
 use Rattle.row_places.specs.Steps.{IsLanded, IsStep, continued, targets_of}
 

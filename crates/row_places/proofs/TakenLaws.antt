@@ -1,5 +1,5 @@
 -- Whether a target was taken before.
-use Rattle.std.proofs.Common.{◌≡◌, ℕ, suc, ◌+◌, ◌<◌, ◌≤◌, ℤ, pos, Bool, true, false, cond, ◌||◌, List, [], ◌∷◌, length, filter, map, refl, sym, ap, ◌∙◌, subst, arith}
+use Rattle.std.proofs.Common.{◌≡◌, ℕ, ◌+◌, ◌≤◌, ℤ, Bool, true, false, cond, ◌||◌, List, [], ◌∷◌, length, filter, refl, sym, ap, ◌∙◌, subst, arith}
 use Rattle.std.specs.BTreeMap as tree
 use Rattle.std.specs.BTreeMap.{BTreeMap, Updates}
 use Rattle.std.specs.List.{list_any}
@@ -7,17 +7,13 @@ use Rattle.std.specs.Option.{unwrap_or}
 use Rattle.std.specs.Ordering.{is_eq}
 use Rattle.std.specs.Prelude.{nat_lt, not, ◌&&◌, Some}
 use Rattle.arrayvec.specs.ArrayVec.{ArrayVec}
-use Rattle.cell_values.specs.declared.datum.Cell.{Cell}
-use Rattle.cell_values.specs.declared.datum.Cell.TheVariants.{Full, Doubt}
-use Rattle.cell_values.specs.declared.datum.Datum.{Datum}
 use Rattle.cell_values.specs.declared.datum.FaultKind.TheVariants.{OutOfBounds, Collision}
 use Rattle.cell_values.specs.declared.schema.Bounds.{Bounds}
 use Rattle.array_rows.specs.Boxes.{is_inside}
 use Rattle.array_rows.specs.Rows.{Coordinate, row_major}
 use Rattle.array_rows.proofs.RowsLemmas.{row_major_exact, same_coordinate}
-use Rattle.logical_plan.specs.Redimension.{Origin, from_dimension, from_attribute, counted, counted_places, counted_up, alike_so_far, landing_at, breaks, lands, target_value}
+use Rattle.logical_plan.specs.Redimension.{Origin, from_dimension, from_attribute, counted, counted_places, counted_up, alike_so_far, landing_at, breaks, lands}
 use Rattle.row_places.specs.Counting.{by_numbers, has_counted, uncounted, HasLows, landed_with, AreNumbered, AreCountsOf}
-use Rattle.row_places.specs.Landings.{first_numbers}
 use Rattle.row_places.proofs.CountLaws.{alike_is, counts_each, is_equal, same_number, uncounted_none, uncounted_up}
 
 -- some item passes a test exactly where more than none of them do

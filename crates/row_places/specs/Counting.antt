@@ -8,7 +8,7 @@ use Rattle.std.specs.Ordering.{is_eq}
 use Rattle.std.specs.declared.cmp.Ordering.{Ordering}
 use Rattle.arrayvec.specs.ArrayVec.{ArrayVec}
 use Rattle.array_rows.specs.Rows.{Coordinate, row_major}
-use Rattle.logical_plan.specs.Redimension.{Origin, from_dimension, from_attribute, counted, counted_places, counted_up, alike_so_far}
+use Rattle.logical_plan.specs.Redimension.{Origin, counted, counted_up}
 
 abbrev pub by_numbers : ArrayVec ℤ → ArrayVec ℤ → Ordering
 by_numbers v w = row_major v.items w.items

@@ -7,7 +7,7 @@ use Rattle.cell_values.specs.declared.datum.Cell.TheVariants.{Full, Doubt}
 use Rattle.cell_values.specs.declared.schema.Bounds.{Bounds}
 use Rattle.array_rows.specs.Rows.{Coordinate}
 use Rattle.logical_plan.specs.Groups.{number_of}
-use Rattle.logical_plan.specs.Redimension.{Origin, lands, drops, breaks, target_value, counted_places, alike_so_far, counted_up, landing_at, landing_of}
+use Rattle.logical_plan.specs.Redimension.{Origin, drops, breaks, target_value, counted_places, alike_so_far, counted_up, landing_at, landing_of}
 
 -- the numbers that a cell gives a target, a synthetic one at its low bound
 abbrev pub first_numbers : List Origin → Coordinate → Cell → List ℤ

@@ -1,5 +1,4 @@
 -- Where the numbers and values of a target come from, as the code keeps it.
-use Rattle.std.specs.Prelude.{◌≡◌, List, map}
 use Rattle.logical_plan.specs.Redimension.{Origin, from_dimension, from_attribute, counted}
 use Rattle.row_places.specs.declared.places.Place.{Place}
 use Rattle.row_places.specs.declared.places.Place.TheVariants.{OfDimension, OfAttribute, Counted}

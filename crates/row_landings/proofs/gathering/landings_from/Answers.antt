@@ -1,6 +1,6 @@
 use Rattle.std.proofs.Common.{map, ◌∙◌}
 use Rattle.row_places.specs.Places.{origin}
-use Rattle.row_landings.proofs.GatherLaws.{kept_first, kept_more, kept_breaks, kept_all}
+use Rattle.row_landings.proofs.GatherLaws.{kept_first}
 use Rattle.row_landings.proofs.gathering.landings_from.Goals as goal
 
 pub keeping-init : goal.keeping-init

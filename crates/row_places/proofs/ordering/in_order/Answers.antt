@@ -1,8 +1,7 @@
-use Rattle.std.proofs.Common.{◌≡◌, List, map, rules, sym, ap, subst, ◌∙◌}
+use Rattle.std.proofs.Common.{List, rules, subst, ◌∙◌}
 use Rattle.std.proofs.lemmas.List.Sorted.{answers_always, ranks_by}
 use Rattle.std.specs.List.Sorted.{IsSortedBy, IsStableBy}
 use Rattle.cell_values.specs.declared.datum.Row.{Row}
-use Rattle.array_rows.specs.Rows.{row_major, in_order}
 use Rattle.array_rows.proofs.RowsLemmas.{row_major_total}
 use Rattle.row_places.proofs.SortLaws.{comes_before, sorted_rows}
 use Rattle.row_places.proofs.ordering.in_order.Goals as goal
