@@ -78,12 +78,12 @@ lands_inside origins bounds once taken c (Full vs) t e = cases (first_some bad_k
         let found : (is_inside bounds target ≡ true) × (target ≡ t) = inside_target (is_inside bounds target) (once && list_any (λ s. is_eq (row_major s target)) taken) target t f in
         subst (λ (g : Coordinate). is_inside bounds g ≡ true) found.1 found.0
 
-whole_of : {A B : Type 0} (f : A → B) (r : Result A Broken) (y : B) → if_whole f r ≡ Ok y → (x : A) × (r ≡ Ok x) × (f x ≡ y)
+pub whole_of : {A B : Type 0} (f : A → B) (r : Result A Broken) (y : B) → if_whole f r ≡ Ok y → (x : A) × (r ≡ Ok x) × (f x ≡ y)
 whole_of f (Ok x) y e = (x, refl, cc (e))
 whole_of f (Err broken) y e = cc
 
 -- what holds of each row of the source and of each place in the bounds holds of each row that landed
-all_landed : (origins : List Origin) (bounds : Bounds) (once : Bool) (P : Row → Type 0) (rows : List Row) (taken : List Coordinate) (all : List Landed) → AllByRecursion P rows → landed origins bounds once rows taken ≡ Ok all
+pub all_landed : (origins : List Origin) (bounds : Bounds) (once : Bool) (P : Row → Type 0) (rows : List Row) (taken : List Coordinate) (all : List Landed) → AllByRecursion P rows → landed origins bounds once rows taken ≡ Ok all
     → AllByRecursion (λ l. IsTrue (is_inside bounds l.0) × P l.1) all
 all_landed origins bounds once P [] taken all ps e =
     let none : [] ≡ all = cc (e) in

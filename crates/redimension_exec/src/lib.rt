@@ -3,5 +3,7 @@
 
 mod building;
 mod cells;
+mod groups;
 
 pub use cells::redimension_cells;
+pub use groups::groups_landed;
