@@ -1,9 +1,8 @@
 -- Groups of the cells that land at one coordinate.
-use Rattle.std.specs.Prelude.{◌≡◌, false, List, [], Option, Result, Ok, Err}
+use Rattle.std.specs.Prelude.{◌≡◌, false, List, [], Result, Ok, Err}
 use Rattle.cell_values.specs.declared.datum.Broken.{Broken}
 use Rattle.cell_values.specs.declared.datum.Row.{Row}
 use Rattle.cell_values.specs.declared.schema.Bounds.{Bounds}
-use Rattle.array_rows.specs.Rows.{Coordinate}
 use Rattle.logical_plan.specs.declared.parts.Aggregate.{Aggregate}
 use Rattle.logical_plan.specs.Redimension.{Origin, Landed, landed, landed_at}
 use Rattle.group_parts.specs.declared.groups.Groups.{Groups}
