@@ -130,11 +130,7 @@ fn push_counted(
                             push_raised(out, number, count, least, most)
                                 && push_counted(out, places, count, at, low, high)
                         }
-                        Place::OfDimension(_) => {
-                            push_number(out, number, least, most)
-                                && push_counted(out, places, count, at, low, high)
-                        }
-                        Place::OfAttribute(_) => {
+                        Place::OfDimension(_) | Place::OfAttribute(_) => {
                             push_number(out, number, least, most)
                                 && push_counted(out, places, count, at, low, high)
                         }
