@@ -3,3 +3,4 @@ pub mod LandingLaws
 pub mod SortLaws
 pub mod StepLaws
 pub mod TakenLaws
+mod WorkedTargets
