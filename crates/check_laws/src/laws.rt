@@ -1,9 +1,14 @@
 //! Laws of checking.
-ghost use Rattle.check_laws.specs.Laws.{CheckedPlansAreTyped, ParsedLeavesFit};
+ghost use Rattle.check_laws.specs.Laws.{CheckedChangesAreTyped, CheckedPlansAreTyped, ParsedLeavesFit};
 
 /// The plan that checking answers is typed.
 pub fn checked_plans_are_typed()
     ensures { CheckedPlansAreTyped }
+{}
+
+/// The change that checking answers is typed for the names of the stored arrays.
+pub fn checked_changes_are_typed()
+    ensures { CheckedChangesAreTyped }
 {}
 
 /// The numbers, texts and codes of a tree that is parsed are within the limits of values.
