@@ -11,6 +11,6 @@ behind_gap text at = at + gap_len (drop at text)
 abbrev pub third_token : List ℕ → ℕ → ℕ
 third_token text start = behind_gap text (behind_gap text (start + 6) + 5)
 
--- so many bytes from there on, within the statement
+-- the bytes of the name from there on. A place has 32 bits, and a greater one is told as the greatest
 abbrev pub created_place : List ℕ → Span → List ℕ → Span
-created_place text s name = record { start = min (third_token text s.start) s.end; end = min (third_token text s.start + length name) s.end }
+created_place text s name = record { start = min (third_token text s.start) 4294967295; end = min (third_token text s.start + length name) 4294967295 }

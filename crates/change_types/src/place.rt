@@ -1,5 +1,5 @@
 //! Where the name of a new array stands.
-ghost use Rattle.std.specs.Prelude.{◌≡◌, ◌≤◌, max, length};
+ghost use Rattle.std.specs.Prelude.{◌≡◌, ◌≤◌, max, min, length};
 ghost use Rattle.change_types.specs.Place.{behind_gap, created_place};
 
 use crate::gap::gap_end;
@@ -23,6 +23,13 @@ fn behind_gap(text: &[u8], at: usize) -> usize
     }
 }
 
+/// A place in 32 bits: the greatest one where there is none.
+fn place_of(at: usize) -> u32
+    ensures { result ≡ min at 4294967295 }
+{
+    at.min(u32::MAX as usize) as u32
+}
+
 /// The place of the name in a statement that creates an array: it is the third token.
 pub(crate) fn created_place(text: &[u8], statement: Span, name: &[u8]) -> Span
     ensures { result ≡ created_place text.now statement name.now }
@@ -30,9 +37,8 @@ pub(crate) fn created_place(text: &[u8], statement: Span, name: &[u8]) -> Span
     let array = behind_gap(text, statement.start as usize + CREATE);
     let start = behind_gap(text, array + ARRAY);
     let end = start.saturating_add(name.len());
-    let last = statement.end as usize;
     Span {
-        start: start.min(last) as u32,
-        end: end.min(last) as u32,
+        start: place_of(start),
+        end: place_of(end),
     }
 }

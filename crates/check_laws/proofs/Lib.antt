@@ -1,3 +1,4 @@
+pub mod CreatedPlaces
 pub mod ParsedLeaves
 pub mod ReadVersions
 pub mod RowsFit

@@ -3,4 +3,6 @@
 
 mod laws;
 
-pub use laws::{checked_changes_are_typed, checked_plans_are_typed, parsed_leaves_fit};
+pub use laws::{
+    checked_changes_are_typed, checked_plans_are_typed, created_places_are_names, parsed_leaves_fit,
+};
