@@ -14,7 +14,7 @@ use std::alloc::Global;
 use type_rules::{TypeFault, broken};
 
 /// What a version is stored in: the array of this name, under this schema.
-#[derive(Debug, Drop)]
+#[derive(Drop)]
 pub(crate) struct Target {
     pub name: Name,
     pub schema: Schema,
