@@ -78,6 +78,12 @@ fn cut_of(
     }
 }
 
+fn span_of(tree: &Tree) -> Span
+    ensures { result ≡ span_of tree.now }
+{
+    tree.span
+}
+
 /// `remove_versions` of a name, which stands at a place, and a tree.
 fn cut_by(
     arrays: &List<NameEntry>,
@@ -88,7 +94,7 @@ fn cut_by(
     ensures { Answers result (cut_by arrays.now at name.now (span_of number.now) (number_in number.now)) }
 {
     match number_in(number) {
-        Some(below) => cut_of(arrays, at, number.span, name, below),
+        Some(below) => cut_of(arrays, at, span_of(number), name, below),
         None => Err(wrong_type(number)),
     }
 }
