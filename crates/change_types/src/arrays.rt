@@ -78,6 +78,22 @@ fn cut_of(
     }
 }
 
+/// `remove_versions` of a name and what number an argument is, each with its place.
+fn cut_by(
+    arrays: &List<NameEntry>,
+    at: Span,
+    name: &Name,
+    number_at: Span,
+    number: Option<i64>,
+) -> Result<Change, TypeFault>
+    ensures { Answers result (cut_by arrays.now at name.now number_at number) }
+{
+    match number {
+        Some(below) => cut_of(arrays, at, number_at, name, below),
+        None => Err(broken(number_at, TypeKind::WrongType)),
+    }
+}
+
 fn span_of(tree: &Tree) -> Span
     ensures { result ≡ span_of tree.now }
 {
@@ -85,7 +101,7 @@ fn span_of(tree: &Tree) -> Span
 }
 
 /// `remove_versions` of a name, which stands at a place, and a tree.
-fn cut_by(
+fn cut_named(
     arrays: &List<NameEntry>,
     at: Span,
     name: &Name,
@@ -93,10 +109,7 @@ fn cut_by(
 ) -> Result<Change, TypeFault>
     ensures { Answers result (cut_by arrays.now at name.now (span_of number.now) (number_in number.now)) }
 {
-    match number_in(number) {
-        Some(below) => cut_of(arrays, at, span_of(number), name, below),
-        None => Err(wrong_type(number)),
-    }
+    cut_by(arrays, at, name, span_of(number), number_in(number))
 }
 
 /// `remove_versions` of two trees.
@@ -104,7 +117,7 @@ fn cut_from(arrays: &List<NameEntry>, array: &Tree, number: &Tree) -> Result<Cha
     ensures { Answers result (cut_from arrays.now array.now number.now) }
 {
     match &array.node {
-        Node::Ref(name) => cut_by(arrays, array.span, name, number),
+        Node::Ref(name) => cut_named(arrays, array.span, name, number),
         _ => Err(wrong_type(array)),
     }
 }
