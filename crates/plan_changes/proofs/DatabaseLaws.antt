@@ -1,6 +1,6 @@
 -- A database stays one through a typed change without fault.
 use Rattle.std.proofs.Common.{◌≡◌, ℕ, zero, suc, ◌+◌, Bool, true, false, cond, not, ◌&&◌, ◌||◌, nat_eq, nat_lt, List, [], ◌∷◌, ◌++◌, map, Option, Some, None, Result, Ok, Err, refl, sym, ap, subst}
-use Rattle.std.specs.Prelude.{insert, IfOk, IsTrue}
+use Rattle.std.specs.Prelude.{IfOk, IsTrue}
 use Rattle.std.specs.List.{AllByRecursion, filter, find, list_all, prefix_len}
 use Rattle.std.specs.Ordering.{nat_cmp, is_lt, ordering_reverse}
 use Rattle.std.specs.Cmp.Lexicographic.{slice_cmp, bytes_decides}
@@ -9,8 +9,6 @@ use Rattle.std.specs.declared.cmp.Ordering.{Ordering}
 use Rattle.std.specs.declared.cmp.Ordering.TheVariants.{Less, Equal, Greater}
 use Rattle.std.proofs.lemmas.Bool.{and_parts}
 use Rattle.std.proofs.lemmas.Cmp.{nat_list_cmp_total}
-use Rattle.std.proofs.lemmas.Map.Lookups.{exact_bytes}
-use Rattle.std.proofs.lemmas.Map.Text.{is_eq-slice_cmp}
 use Rattle.cell_values.specs.Schemas.{IsValid, is_valid}
 use Rattle.cell_values.specs.declared.datum.Broken.{Broken}
 use Rattle.cell_values.specs.declared.datum.Datum.{Datum}
@@ -35,13 +33,13 @@ use Rattle.plan_changes.specs.declared.change.Change.{Change}
 use Rattle.plan_changes.specs.declared.change.Change.TheVariants.{Create, Store, Insert, Remove, RemoveVersions}
 use Rattle.plan_changes.specs.Allowed.{has_room, has_number}
 use Rattle.plan_changes.specs.Changes.{is_named, has_array, entry_named}
-use Rattle.plan_changes.specs.Databases.{Version, Stored, Database, HoldsArrays, entry_of, names_of, is_array, rows_or, rows_in, rows_of, newest_in, newest_rows, fitted, fault_of_change, rows_if_whole, new_rows, has_stored, with_stored, with_absent_stored, with_rows, from_version, after}
-use Rattle.plan_changes.specs.Stored.{is_before, NamesRise, IsStored, AreStored, IsDatabase, HasItsNames}
-use Rattle.plan_changes.specs.Typed.{same_kinds, are_alike, IsVersionOf, IsTypedOver, FitsInto, IsTypedFor}
+use Rattle.plan_changes.specs.Databases.{Version, Stored, Database, entry_of, names_of, is_array, rows_or, rows_in, rows_of, newest_in, newest_rows, fitted, fault_of_change, rows_if_whole, new_rows, has_stored, with_stored, with_absent_stored, with_rows, from_version, after}
+use Rattle.plan_changes.specs.Stored.{is_before, NamesRise, IsStored, AreStored, IsDatabase}
+use Rattle.plan_changes.specs.Typed.{same_kinds, IsVersionOf, FitsInto, IsTypedFor}
 use Rattle.plan_changes.specs.Kept.{MeansArray, StoresArray, StoredPlansMeanArrays, ChangesKeepDatabases}
 use Rattle.plan_changes.proofs.FitLaws.{mapped, bounds_alike, kinds_alike, fit_array, fit_sound}
 use Rattle.plan_changes.proofs.NamesOf.{names_depend_on_no_row}
-use Rattle.plan_changes.proofs.StoredLaws.{lt_is, RiseAfter, names_in, after_next, tail_rises, all_inserted, all_less, changes_keep_names}
+use Rattle.plan_changes.proofs.StoredLaws.{RiseAfter, names_in, after_next, tail_rises, all_inserted, all_less, changes_keep_names}
 
 -- ---- lists
 

@@ -1,6 +1,6 @@
 -- The rows of an array of a schema, fitted to another one that is like it.
 use Rattle.std.proofs.Common.{◌≡◌, Bool, true, false, cond, List, [], ◌∷◌, map, Option, Some, None, refl, sym, ap, ◌∙◌, subst}
-use Rattle.std.specs.Prelude.{◌&&◌, not, IsTrue}
+use Rattle.std.specs.Prelude.{◌&&◌, not}
 use Rattle.std.specs.List.{AllByRecursion}
 use Rattle.std.specs.Option.{option_or}
 use Rattle.std.specs.Ordering.{int_eq}
@@ -23,10 +23,10 @@ use Rattle.cell_values.specs.declared.schema.Schema.{Schema}
 use Rattle.cell_values.specs.Cells.{is_of_kind, AreOfKinds, IsCellOf}
 use Rattle.cell_values.specs.Nulls.{is_null}
 use Rattle.cell_values.specs.Schemas.{IsValid}
-use Rattle.array_rows.specs.Arrays.{AreRows, AreRowsOf}
+use Rattle.array_rows.specs.Arrays.{AreRowsOf}
 use Rattle.array_rows.specs.Boxes.{is_inside, corners, bounds_of}
-use Rattle.array_rows.specs.Cellwise.{cell_wise, put_first}
-use Rattle.array_rows.specs.Rows.{Coordinate, placed, IsRising}
+use Rattle.array_rows.specs.Cellwise.{put_first}
+use Rattle.array_rows.specs.Rows.{Coordinate, placed}
 use Rattle.array_rows.proofs.RowsLemmas.{IsRising-cell_wise}
 use Rattle.expr_nulls.specs.Typing.{same_kind}
 use Rattle.logical_plan.specs.CellOps.{fit_value, fit_values, fit_cell, fit_rows}

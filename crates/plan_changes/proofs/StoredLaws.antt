@@ -1,27 +1,23 @@
 -- A change that the names allow leaves names that rise.
-use Rattle.std.proofs.Common.{◌≡◌, ℕ, zero, suc, ◌+◌, ◌<◌, ◌≤◌, Bool, true, false, cond, not, ◌&&◌, ◌||◌, nat_lt, nat_le, List, [], ◌∷◌, ◌++◌, map, length, refl, sym, ap, subst, ◌∙◌, arith}
-use Rattle.std.specs.Prelude.{IsTrue}
-use Rattle.std.specs.List.{AllByRecursion, filter, insert, list_all, list_any, prefix_len}
+use Rattle.std.proofs.Common.{◌≡◌, ℕ, zero, suc, ◌+◌, ◌<◌, ◌≤◌, Bool, true, false, cond, not, ◌&&◌, ◌||◌, nat_lt, List, [], ◌∷◌, ◌++◌, map, length, refl, sym, ap, subst, ◌∙◌, arith}
+use Rattle.std.specs.List.{AllByRecursion, filter, insert, list_all}
 use Rattle.std.specs.Ordering.{nat_cmp, is_lt, is_eq, ordering_reverse}
 use Rattle.std.specs.Cmp.Lexicographic.{slice_cmp}
 use Rattle.std.specs.Str.{bytes_eq}
 use Rattle.std.specs.declared.cmp.Ordering.{Ordering}
 use Rattle.std.specs.declared.cmp.Ordering.TheVariants.{Less, Equal, Greater}
-use Rattle.std.proofs.lemmas.Bool.{and_parts, and_from, or_parts, not-true, ltb-true, ltb-false}
+use Rattle.std.proofs.lemmas.Bool.{and_parts, or_parts, not-true, ltb-true}
 use Rattle.std.proofs.lemmas.Cmp.{nat_list_cmp_total}
 use Rattle.std.proofs.lemmas.List.Edits.{length-insert}
 use Rattle.std.proofs.lemmas.List.Sums.{prefix_len-le-length}
-use Rattle.std.proofs.lemmas.Map.Lookups.{exact_bytes}
 use Rattle.std.proofs.lemmas.Map.Text.{is_eq-slice_cmp}
 use Rattle.cell_values.specs.Naming.{IsName}
-use Rattle.cell_values.specs.Schemas.{IsValid, is_valid}
+use Rattle.cell_values.specs.Schemas.{is_valid}
 use Rattle.cell_values.specs.declared.schema.Schema.{Schema}
 use Rattle.logical_plan.specs.declared.names.NameEntry.{NameEntry}
-use Rattle.logical_plan.specs.declared.names.Names.{Names}
-use Rattle.plan_changes.specs.declared.change.Change.{Change}
 use Rattle.plan_changes.specs.declared.change.Change.TheVariants.{Create, Store, Insert, Remove, RemoveVersions}
-use Rattle.plan_changes.specs.Allowed.{has_room, has_number, names_allow}
-use Rattle.plan_changes.specs.Changes.{is_named, has_array, name_of, place_of, new_entry, with_array, with_absent, with_version, without_below, arrays_after, names_after}
+use Rattle.plan_changes.specs.Allowed.{has_room, has_number}
+use Rattle.plan_changes.specs.Changes.{is_named, has_array, place_of, new_entry, with_array, with_version, without_below}
 use Rattle.plan_changes.proofs.Maps.{all_inserted as all_pass_inserted}
 use Rattle.plan_changes.specs.Stored.{is_before, NamesRise, RiseBetween, HasNames, IsStored, AreStored, ChangesKeepNames}
 

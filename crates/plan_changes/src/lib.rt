@@ -12,5 +12,7 @@ pub use change::{Change, changed_name};
 pub use laws::{
     changes_keep_databases, changes_keep_names, names_depend_on_no_row, stored_plans_mean_arrays,
 };
-pub use lookups::{entry_named, has_array, has_room, is_same, last_of, newest_of, next_of};
-pub use names::changed_names;
+pub use lookups::{
+    entry_named, has_array, has_room, is_before, is_same, last_of, newest_of, next_of,
+};
+pub use names::{changed_names, from_number};
