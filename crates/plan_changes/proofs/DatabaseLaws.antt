@@ -36,7 +36,7 @@ use Rattle.plan_changes.specs.Changes.{is_named, has_array, entry_named}
 use Rattle.plan_changes.specs.Databases.{Version, Stored, Database, entry_of, names_of, is_array, rows_or, rows_in, rows_of, newest_in, newest_rows, fitted, fault_of_change, rows_if_whole, new_rows, has_stored, with_stored, with_absent_stored, with_rows, from_version, after}
 use Rattle.plan_changes.specs.Stored.{is_before, NamesRise, IsStored, AreStored, IsDatabase}
 use Rattle.plan_changes.specs.Typed.{same_kinds, IsVersionOf, FitsInto, IsTypedFor}
-use Rattle.plan_changes.specs.Kept.{MeansArray, StoresArray, StoredPlansMeanArrays, ChangesKeepDatabases}
+use Rattle.plan_changes.specs.Kept.{StoresArrays, PlansMeanArrays, ChangesKeepDatabases}
 use Rattle.plan_changes.proofs.FitLaws.{mapped, bounds_alike, kinds_alike, fit_array, fit_sound}
 use Rattle.plan_changes.proofs.NamesOf.{names_depend_on_no_row}
 use Rattle.plan_changes.proofs.StoredLaws.{RiseAfter, names_in, after_next, tail_rises, all_inserted, all_less, changes_keep_names}
@@ -117,7 +117,7 @@ not_before_itself name l = flips (slice_cmp nat_cmp name name) (nat_list_cmp_tot
 same_bytes : (a b : List ℕ) → bytes_eq a b ≡ true → a ≡ b
 same_bytes a b e = (bytes_decides a b).0 e
 
-apart : (name prev next : List ℕ) → bytes_eq prev name ≡ true → is_before prev next ≡ true → bytes_eq next name ≡ true → ⊥
+pub apart : (name prev next : List ℕ) → bytes_eq prev name ≡ true → is_before prev next ≡ true → bytes_eq next name ≡ true → ⊥
 apart name prev next e l f =
     let p : prev ≡ name = same_bytes prev name e in
     let q : next ≡ name = same_bytes next name f in
@@ -197,8 +197,8 @@ leaf_rows db is leaf v = by_found (find (is_named leaf.name) (map entry_of db)) 
     by_found (Some entry) e f =
         by_number (subst IsValid (sym f.0) (found_stored leaf.name entry (map entry_of db) is.names.each e).schema) (found_schema leaf.name leaf.schema entry db f.0 is.names.rising e) leaf.version
 
-pub stored_plans_mean_arrays : StoredPlansMeanArrays
-stored_plans_mean_arrays db plan is typed keeps =
+pub plans_mean_arrays : PlansMeanArrays
+plans_mean_arrays plan keeps db is typed =
     typed_arrays (rows_of db) plan keeps typed.typed
     (weaker (λ leaf. IsVersionOf leaf (entry_named (map entry_of db) leaf.name)) (λ leaf. AreRowsOf leaf.schema (version_rows (rows_of db) leaf.name leaf.version)) (leaf_rows db is) (leaves plan) typed.reads)
 
@@ -217,7 +217,7 @@ fitted_stand : (schema from : Schema) → IsValid schema → bounds_of schema.di
 fitted_stand schema from valid bounds kinds (Ok rows) is none = (fit_array schema from rows valid bounds kinds is, fit_sound schema rows none)
 fitted_stand schema from valid bounds kinds (Err broken) is none = absurd cc
 
-new_stand : (db : Database) (o : Option NameEntry) (schema : Schema) (plan : Query) → IsValid schema → FitsInto o schema plan → MeansArray db plan → fault_of (fitted schema plan db) ≡ None
+new_stand : (db : Database) (o : Option NameEntry) (schema : Schema) (plan : Query) → IsValid schema → FitsInto o schema plan → IfOk (meaning (rows_of db) plan).rows (AreRowsOf (schema_of plan)) → fault_of (fitted schema plan db) ≡ None
     → MayStand schema (rows_if_whole (fitted schema plan db))
 new_stand db o schema plan valid fits means none =
     let like = fits_like o schema plan fits in
@@ -252,7 +252,7 @@ cut_one name below a h = by_test (is_array name a)
     by_test false = h
 
 -- an insert into the array that is found
-insert_suits : (db : Database) → IsDatabase db → (name : List ℕ) (schema : Schema) (plan : Query) → FitsInto (entry_named (map entry_of db) name) schema plan → MeansArray db plan → fault_of (fitted schema plan db) ≡ None
+insert_suits : (db : Database) → IsDatabase db → (name : List ℕ) (schema : Schema) (plan : Query) → FitsInto (entry_named (map entry_of db) name) schema plan → IfOk (meaning (rows_of db) plan).rows (AreRowsOf (schema_of plan)) → fault_of (fitted schema plan db) ≡ None
     → AllByRecursion (Suits name (put_all (rows_if_whole (fitted schema plan db)) (newest_rows db name))) db
 insert_suits db is name schema plan fits means none = by_found (find (is_named name) (map entry_of db)) refl fits
   where
@@ -267,16 +267,16 @@ insert_suits db is name schema plan fits means none = by_found (find (is_named n
         suits_all name schema rows
         (both_stand schema (rows_if_whole (fitted schema plan db)) (newest_rows db name) (new_stand db (Some entry) schema plan valid f means none) (found_rows name schema (newest_in (find (is_array name) db)) valid db is.rows same)) db same
 
-holds_after : (db : Database) (change : Change) → IsDatabase db → IsTypedFor (names_of db) change → StoresArray db change → fault_of_change db change ≡ None → AllByRecursion Holds (after db change)
+holds_after : (db : Database) (change : Change) → IsDatabase db → IsTypedFor (names_of db) change → StoresArrays change → fault_of_change db change ≡ None → AllByRecursion Holds (after db change)
 holds_after db (Create name schema) is typed stores none = with_new Holds name schema db tt is.rows
 holds_after db (Store name schema plan) is typed stores none =
     let valid : IsValid schema = (and_parts (is_valid schema) ((has_array (map entry_of db) name || has_room (map entry_of db)) && list_all (has_number name) (map entry_of db)) typed.0).0 in
-    let stand = new_stand db (entry_named (map entry_of db) name) schema plan valid typed.1.1 stores none in
+    let stand = new_stand db (entry_named (map entry_of db) name) schema plan valid typed.1.1 (stores db is typed.1.0) none in
     rows_added name (rows_if_whole (fitted schema plan db)) (with_absent_stored name schema db)
     (suits_all name schema (rows_if_whole (fitted schema plan db)) stand (with_absent_stored name schema db)
     (with_absent_new (HasSchema name schema) name schema db (λ yes. refl) (fitting_schema name schema plan db is.names.rising typed.1.1)))
     (with_absent_new Holds name schema db tt is.rows)
-holds_after db (Insert name schema plan) is typed stores none = rows_added name (new_rows db (Insert name schema plan)) db (insert_suits db is name schema plan typed.1.1 stores none) is.rows
+holds_after db (Insert name schema plan) is typed stores none = rows_added name (new_rows db (Insert name schema plan)) db (insert_suits db is name schema plan typed.1.1 (stores db is typed.1.0) none) is.rows
 holds_after db (Remove name) is typed stores none = all_less Holds (λ a. not (is_array name a)) db is.rows
 holds_after db (RemoveVersions name below) is typed stores none = mapped Holds Holds (from_version name below) (cut_one name below) db is.rows
 
