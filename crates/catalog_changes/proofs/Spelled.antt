@@ -1,5 +1,5 @@
 -- The record of a change has a spelling, and the change leaves a catalogue that has one.
-use Rattle.std.proofs.Common.{◌≡◌, ℕ, suc, ◌-◌, ◌<◌, ◌≤◌, Bool, true, false, cond, ◌&&◌, ◌||◌, not, nat_le, List, [], ◌∷◌, length, Option, Some, None, IsTrue, refl, sym, subst, arith}
+use Rattle.std.proofs.Common.{◌≡◌, ℕ, suc, ◌-◌, ◌≤◌, Bool, true, false, cond, ◌&&◌, ◌||◌, not, nat_le, List, [], ◌∷◌, length, Option, Some, None, IsTrue, refl, sym, subst, arith}
 use Rattle.std.specs.Prelude.{slice_index_or}
 use Rattle.std.specs.List.{AllByRecursion, find, list_all}
 use Rattle.std.proofs.lemmas.Bool.{and_parts, leb-true}
@@ -19,7 +19,7 @@ use Rattle.catalog_rules.specs.declared.catalog_record.CatalogRecord.{CatalogRec
 use Rattle.catalog_rules.specs.declared.catalog_record.CatalogRecord.TheVariants as entries
 use Rattle.catalog_rules.specs.Catalogs.{IsBlob, IsCatalog, IsRecord, names_in}
 use Rattle.catalog_changes.specs.Records.{entries_of}
-use Rattle.catalog_changes.specs.Changed.{has_its_directory, stored_by, record_for, after_change, IsItsBlob, ChangesHaveRecords, ChangesKeepCatalogs}
+use Rattle.catalog_changes.specs.Changed.{stored_by, record_for, after_change, IsItsBlob, ChangesHaveRecords, ChangesKeepCatalogs}
 use Rattle.catalog_changes.proofs.Kept.{records_keep_catalogs}
 use Rattle.catalog_changes.proofs.Recorded.{record_made, record_stands}
 

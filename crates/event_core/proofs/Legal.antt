@@ -6,6 +6,7 @@ use Rattle.logical_plan.specs.declared.names.NameEntry.{NameEntry}
 use Rattle.logical_plan.specs.declared.names.Names.{Names}
 use Rattle.plan_changes.specs.declared.change.Change.{Change}
 use Rattle.plan_changes.specs.Changes.{has_array}
+use Rattle.plan_changes.specs.Databases.{Database, names_of}
 use Rattle.plan_changes.specs.Stored.{NamesRise, AreStored}
 use Rattle.plan_changes.specs.Typed.{IsTypedFor}
 use Rattle.plan_changes.proofs.DatabaseLaws.{apart, changes_keep_databases}
