@@ -4,6 +4,7 @@ ghost use Rattle.std.specs.Option.{option_copied};
 ghost use Rattle.std.specs.Str.{bytes_eq};
 ghost use Rattle.plan_changes.specs.Allowed.{has_room};
 ghost use Rattle.plan_changes.specs.Changes.{has_array, entry_named, next_of, last_of, newest_of};
+ghost use Rattle.plan_changes.specs.Stored.{is_before};
 
 use cell_values::{List, Name};
 use logical_plan::NameEntry;
@@ -13,6 +14,13 @@ pub fn is_same(a: &Name, b: &Name) -> bool
     ensures { result ≡ bytes_eq a.now b.now }
 {
     a.as_slice() == b.as_slice()
+}
+
+/// Whether a name comes before another, in byte order.
+pub fn is_before(a: &Name, b: &Name) -> bool
+    ensures { result ≡ is_before a.now b.now }
+{
+    a.as_slice().cmp(b.as_slice()).is_lt()
 }
 
 /// Whether some array has a name.
