@@ -10,7 +10,7 @@ use Rattle.cell_values.specs.declared.schema.Dimension.{Dimension}
 use Rattle.cell_values.specs.declared.schema.Schema.{Schema}
 use Rattle.array_rows.specs.Arrays.{Meant}
 use Rattle.array_rows.specs.Rows.{placed}
-use Rattle.expr_nulls.specs.Expr.{Expr, attribute_value, literal, relation}
+use Rattle.expr_nulls.specs.Expr.{attribute_value, literal, relation}
 use Rattle.logical_plan.specs.declared.parts.Leaf.{Leaf}
 use Rattle.logical_plan.specs.Query.{Query, filtered, scanned}
 use Rattle.leaf_table.specs.declared.layout.Layout.{Layout}
