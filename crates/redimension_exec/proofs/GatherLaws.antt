@@ -14,7 +14,8 @@ use Rattle.cell_values.specs.declared.schema.Bounds.{Bounds}
 use Rattle.cell_values.specs.declared.schema.Schema.{Schema}
 use Rattle.cell_values.specs.Cells.{IsCellOf}
 use Rattle.cell_values.specs.Schemas.{IsValid}
-use Rattle.array_cores.specs.Cores.{cores_of, meant_by_cores, unless_broken}
+use Rattle.array_cores.proofs.CoreLaws.{cores_are_rows}
+use Rattle.array_cores.specs.Cores.{HaveCells, cores_of, meant_by_cores, unless_broken}
 use Rattle.array_geom.specs.declared.chunk.ChunkedArray.{ChunkedArray}
 use Rattle.array_rows.specs.Arrays.{AreRowsOf}
 use Rattle.array_rows.specs.Boxes.{is_inside, bounds_of}
@@ -142,6 +143,10 @@ means array target [] r none some e = absurd (omega (arith, some))
 means array target (g ∷ gs) r none some e =
     (λ i. meant_of target (if_whole (fit_rows target.attributes) (e i)))
     ∙ (λ i. meant_of target (and_then (redimension_rows array.schema target (g ∷ gs)) (unless_broken (sym none i) (cores_of array))))
+
+pub of_cores : (array : ChunkedArray) (source : Schema) (rows : List Row) → source ≡ array.schema → rows ≡ cores_of array → HaveCells array.schema array.margins.items array.chunks → AreRowsOf source rows
+of_cores array source rows s c h =
+    subst (λ (z : Schema). AreRowsOf z rows) (sym s) (subst (AreRowsOf array.schema) (sym c) (cores_are_rows array.schema array.margins.items array.chunks h))
 
 -- what is gathered from a copy of the schema and the rows of the cores
 pub of_array : (array : ChunkedArray) (source target : Schema) (gs : List Aggregate) (rows : List Row) (made r : Result (List Row) Broken) → source ≡ array.schema → rows ≡ cores_of array → made ≡ made_of source target gs rows → made ≡ r
