@@ -1,0 +1,5 @@
+pub mod Distinct
+pub mod FreeNames
+pub mod SchemasFit
+pub mod Steps
+pub mod Unpaired
