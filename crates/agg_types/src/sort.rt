@@ -61,6 +61,7 @@ pub(crate) fn unnamed(tree: &Tree) -> &Tree
 }
 
 /// The argument, where there is one alone.
+#[tactic(auto, using(crate::proofs::Sole::too_few, crate::proofs::Sole::too_many))]
 fn sole(arguments: &[Tree]) -> Option<&Tree>
     ensures { option_copied result ≡ sole (to_terms arguments.now) }
 {
