@@ -2,3 +2,4 @@ pub mod Among
 pub mod Kept
 pub mod Sole
 pub mod Steps
+mod WorkedAggregates

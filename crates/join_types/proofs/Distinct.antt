@@ -1,7 +1,7 @@
 -- Names that are given one after the other are all different.
-use Rattle.std.proofs.Common.{◌≡◌, ℕ, zero, suc, ◌+◌, ◌^◌, ◌≤◌, ◌<◌, Bool, true, false, not, ◌&&◌, ◌||◌, List, [], ◌∷◌, ◌++◌, length, refl, sym, ap, subst, ◌∙◌, append_assoc, arith}
+use Rattle.std.proofs.Common.{◌≡◌, ℕ, zero, suc, ◌+◌, ◌^◌, ◌≤◌, ◌<◌, Bool, true, false, not, ◌||◌, List, [], ◌∷◌, ◌++◌, length, refl, sym, ap, subst, ◌∙◌, append_assoc, arith}
 use Rattle.std.specs.Fmt.{decimal}
-use Rattle.std.specs.List.{list_any, list_all}
+use Rattle.std.specs.List.{list_all}
 use Rattle.std.specs.Prelude.{codes, if◌then◌else◌}
 use Rattle.std.specs.Str.{bytes_eq}
 use Rattle.std.proofs.lemmas.Bool.{and_parts, and_from, or_parts, not-true}
@@ -92,8 +92,7 @@ suffix_differs k m name less high = by_test (bytes_eq (with_suffix name k) (with
     by_test false e = refl
     by_test true e =
         let same : with_suffix name k ≡ with_suffix name m = (bytes_eq-Decides (with_suffix name k) (with_suffix name m)).0 e in
-        let behind : codes "_" ++ decimal k ≡ codes "_" ++ decimal m = append_cancel_left name (codes "_" ++ decimal k) (codes "_" ++ decimal m) same in
-        let number : k ≡ m = decimal_injective k m (omega (arith, less, high)) high (append_cancel_left (codes "_") (decimal k) (decimal m) behind) in
+        let number : k ≡ m = decimal_injective k m (omega (arith, less, high)) high (append_cancel_left (name ++ codes "_") (decimal k) (decimal m) same) in
         absurd (omega (arith, less, number))
 
 not_later : (n k m : ℕ) (name : List ℕ) → k < m → m + n < 2 ^ 64 → is_among (with_suffix name k) (suffixes n m name) ≡ false

@@ -1,6 +1,6 @@
 -- Names that are given one after the other.
-use Rattle.std.proofs.Common.{◌≡◌, ◌^◌, ◌≤◌, ◌<◌, ◌+◌, ℕ, Bool, true, false, ◌&&◌, ◌||◌, ◌==◌, IfOk, Ok, List, [], ◌∷◌, ◌++◌, length, refl, sym, ap, subst, ◌∙◌, append_assoc, arith}
-use Rattle.std.specs.Prelude.{codes, map, nat_le, IsTrue}
+use Rattle.std.proofs.Common.{◌≡◌, ◌^◌, ◌≤◌, ◌<◌, ◌+◌, ℕ, Bool, true, false, ◌||◌, ◌==◌, IfOk, Ok, List, [], ◌∷◌, ◌++◌, length, refl, sym, ap, subst, ◌∙◌, append_assoc, arith}
+use Rattle.std.specs.Prelude.{codes, nat_le}
 use Rattle.std.specs.Fmt.{decimal}
 use Rattle.std.specs.List.{list_all}
 use Rattle.std.specs.Char.{digit_value}
@@ -69,7 +69,7 @@ module _ (s : Span) where
   pub enough_names : (dims : List Dimension) (attributes : List Attribute) (out : List (List ℕ)) → in_turn (next_name s) [] (dimension_names dims ++ attribute_names attributes) ≡ Ok out → length dims ≤ length out
   enough_names dims attributes out e =
       let count : length out ≡ 0 + length (dimension_names dims ++ attribute_names attributes) = turns_count (next_name s) [] (dimension_names dims ++ attribute_names attributes) out e in
-      omega (arith, count, length-append (dimension_names dims) (attribute_names attributes), length-map (λ (d : Dimension). d.name) dims)
+      omega (arith, count, length-append (dimension_names dims) (attribute_names attributes), length-map dims (λ (d : Dimension). d.name))
 
   pub are_side_by_side : (dims : List Dimension) (attributes : List Attribute) → IfOk (beside s dims attributes) (λ schema. schema ≡ side_by_side dims attributes)
   are_side_by_side dims attributes =

@@ -1,5 +1,5 @@
 -- What holds of the schemas and pairs that checking answers: they are those of the operator, and the schema is valid where it is within the limits.
-use Rattle.std.proofs.Common.{◌≡◌, ℕ, suc, ◌+◌, ◌^◌, ◌≤◌, ◌<◌, ◌==◌, Bool, true, false, not, cond, ◌&&◌, ◌||◌, Option, Some, None, Ok, IfOk, List, [], ◌∷◌, ◌++◌, length, map, take, drop, refl, sym, ap, subst, ◌∙◌, arith}
+use Rattle.std.proofs.Common.{◌≡◌, ℕ, suc, ◌+◌, ◌^◌, ◌≤◌, ◌<◌, ◌==◌, Bool, true, false, not, cond, ◌&&◌, ◌||◌, Option, Some, None, Ok, IfOk, List, [], ◌∷◌, ◌++◌, length, take, drop, refl, sym, ap, subst, ◌∙◌, arith}
 use Rattle.std.specs.List.{AllByRecursion, list_any, list_all}
 use Rattle.std.specs.Prelude.{nat_le, nat_lt, position}
 use Rattle.std.specs.Str.{bytes_eq}
@@ -81,7 +81,7 @@ module _ (dims : List Dimension) (attributes : List Attribute) where
   given_count : length given ≡ length dims + length attributes
   given_count =
       free_names_count (dimension_names dims ++ attribute_names attributes) ∙ length-append (dimension_names dims) (attribute_names attributes)
-      ∙ ap (λ n. n + length (attribute_names attributes)) (length-map (λ (d : Dimension). d.name) dims) ∙ ap (λ n. length dims + n) (length-map (λ (a : Attribute). a.name) attributes)
+      ∙ ap (λ n. n + length (attribute_names attributes)) (length-map dims (λ (d : Dimension). d.name)) ∙ ap (λ n. length dims + n) (length-map attributes (λ (a : Attribute). a.name))
 
   beside_valid : 1 ≤ length attributes → 1 ≤ length dims → length dims + length attributes < 2 ^ 32 → list_all is_dimension dims ≡ true → IsWithin (side_by_side dims attributes) → IsValid (side_by_side dims attributes)
   beside_valid some one few each within =
@@ -221,10 +221,10 @@ module _ (s : Span) (left right : Schema) (left_valid : IsValid left) (right_val
   few_right : length right.dimensions ≤ 6
   few_right = leb-true (length right.dimensions) 6 (and_parts (nat_le 1 (length right.dimensions)) (nat_le (length right.dimensions) 6) r.dimensions).1
 
-  pub record JoinFits (schema : Schema) : Type 0 where
+  pub record JoinFits (made : Schema) : Type 0 where
     pub bounds : same_bounds left.dimensions right.dimensions ≡ true
-    pub schema : schema ≡ join_schema left right
-    pub valid : IsWithin schema → IsValid schema
+    pub schema : made ≡ join_schema left right
+    pub valid : IsWithin made → IsValid made
 
   pub join_fits : IfOk (joined_schema s left right) JoinFits
   join_fits =

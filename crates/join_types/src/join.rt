@@ -22,10 +22,12 @@ fn has_bounds_of(left: &Dimension, right: &Dimension) -> bool
 fn same_bounds(left: &[Dimension], right: &[Dimension]) -> bool
     ensures { result ≡ same_bounds left.now right.now }
 {
-    match (left, right) {
-        ([], []) => true,
-        ([a, left @ ..], [b, right @ ..]) => has_bounds_of(a, b) && same_bounds(left, right),
-        _ => false,
+    match left {
+        [] => right.is_empty(),
+        [a, left @ ..] => match right {
+            [] => false,
+            [b, right @ ..] => has_bounds_of(a, b) && same_bounds(left, right),
+        },
     }
 }
 
