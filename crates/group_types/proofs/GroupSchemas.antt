@@ -1,14 +1,13 @@
 -- The schemas of groups and windows are valid.
-use Rattle.std.proofs.Common.{◌≡◌, ℕ, suc, zero, ◌+◌, ◌-◌, ◌/◌, ◌^◌, ◌≤◌, ◌<◌, ℤ, pos, negsuc, ◌≤ℤ◌, ◌+ℤ◌, ◌-ℤ◌, unsigned_abs, min, Bool, true, ◌&&◌, List, [], ◌∷◌, ◌++◌, length, map, refl, sym, ap, subst, ◌∙◌, arith}
+use Rattle.std.proofs.Common.{◌≡◌, ℕ, suc, zero, ◌-◌, ◌/◌, ◌^◌, ◌≤◌, ℤ, pos, negsuc, ◌≤ℤ◌, ◌+ℤ◌, ◌-ℤ◌, unsigned_abs, min, true, ◌&&◌, List, [], ◌∷◌, ◌++◌, length, refl, ap, ◌∙◌, arith}
 use Rattle.std.specs.Int.{w64, saturate_signed}
 use Rattle.std.specs.List.{list_all}
-use Rattle.std.specs.Prelude.{nat_le, int_le}
+use Rattle.std.specs.Prelude.{int_le}
 use Rattle.std.proofs.lemmas.Bool.{and_parts, and_from, leb-true, le-leb}
 use Rattle.std.proofs.lemmas.Int.{ints}
 use Rattle.std.proofs.lemmas.List.{length-map}
 use Rattle.cell_values.specs.declared.schema.Attribute.{Attribute}
 use Rattle.cell_values.specs.declared.schema.Dimension.{Dimension}
-use Rattle.cell_values.specs.declared.schema.Schema.{Schema}
 use Rattle.cell_values.specs.Schemas.{IsValid, dimension_names, are_distinct, is_dimension, is_bound, bounds_in_range, bounds_in_order, has_chunk, overlap_fits}
 use Rattle.array_rows.specs.Boxes.{by_pairs}
 use Rattle.logical_plan.specs.Groups.{block}
@@ -23,7 +22,7 @@ use Rattle.agg_types.proofs.Kept.{derived_names}
 pub made_valid : (attributes : List Attribute) (gs : List Aggregate) (dims : List Dimension) → 1 ≤ length gs → 1 ≤ length dims → are_distinct (aggregate_names gs ++ dimension_names dims) ≡ true → list_all is_dimension dims ≡ true
     → IsWithin (record { attributes = aggregate_attributes attributes gs; dimensions = dims }) → IsValid (record { attributes = aggregate_attributes attributes gs; dimensions = dims })
 made_valid attributes gs dims some one distinct each within =
-    let count : length (aggregate_attributes attributes gs) ≡ length gs = length-map (λ (g : Aggregate). derived g.name (aggregate_kind attributes g)) gs in
+    let count : length (aggregate_attributes attributes gs) ≡ length gs = length-map gs (λ (g : Aggregate). derived g.name (aggregate_kind attributes g)) in
     valid_of_parts (record { attributes = aggregate_attributes attributes gs; dimensions = dims }) (record {
       attributes = has_some (aggregate_attributes attributes gs) 64 (omega (arith, some, count)) within.attributes;
       dimensions = has_some dims 6 one within.dimensions;
@@ -89,7 +88,7 @@ blocks_fit d size e =
     (and_from (bounds_in_range x && bounds_in_order x) (has_chunk x)
     (and_from (bounds_in_range x) (bounds_in_order x)
     (and_from (is_bound d.lo) (is_bound (saturate_signed w64 b)) t.0 (ap is_bound exact ∙ le-leb (unsigned_abs b) 4611686018427387903 near))
-    (ap (int_le d.lo) exact ∙ at_most_int d.lo b first)) q.1) refl
+    (ap (int_le d.lo) exact ∙ at_most_int d.lo b first)) q.1) (le-leb 0 d.chunk (omega arith))
 
 pub all_blocks_fit : (dims : List Dimension) (sizes : List ℕ) → list_all is_dimension dims ≡ true → list_all is_dimension (by_pairs in_blocks dims sizes) ≡ true
 all_blocks_fit [] sizes e = refl

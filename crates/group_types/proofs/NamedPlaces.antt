@@ -1,10 +1,10 @@
 -- What names of dimensions choose: places that there are, with names that are all different.
-use Rattle.std.proofs.Common.{◌≡◌, ◌⊎◌, inl, inr, ℕ, zero, suc, ◌+◌, ◌<◌, ◌≤◌, ◌==◌, Bool, true, false, not, ◌&&◌, ◌||◌, List, [], ◌∷◌, ◌++◌, length, map, Option, Some, None, Ok, IfOk, refl, sym, ap, subst, ◌∙◌, arith}
+use Rattle.std.proofs.Common.{◌≡◌, ◌⊎◌, inl, inr, ℕ, zero, suc, ◌+◌, ◌<◌, ◌≤◌, ◌==◌, Bool, true, false, not, ◌&&◌, List, [], ◌∷◌, ◌++◌, length, map, Option, Some, None, IfOk, refl, sym, ap, subst, ◌∙◌, arith}
 use Rattle.std.specs.Prelude.{slice_get, position, nat_lt, get_or}
 use Rattle.std.specs.List.{list_any, list_all, cons_option, AllByRecursion}
 use Rattle.std.specs.Option.{option_map}
 use Rattle.std.specs.Str.{bytes_eq}
-use Rattle.std.proofs.lemmas.Bool.{and_parts, and_from, or_parts, not-true, lt-ltb, eq-eqb}
+use Rattle.std.proofs.lemmas.Bool.{and_parts, and_from, or_parts, not-true, lt-ltb, le-leb, eq-eqb}
 use Rattle.std.proofs.lemmas.List.{length-append, map-append, append-nil}
 use Rattle.std.proofs.lemmas.List.Elements.{filter_map-append}
 use Rattle.std.proofs.lemmas.List.Folds.{list_all-append}
@@ -43,9 +43,9 @@ position_below p (x ∷ xs) i e = (position-Some p (x ∷ xs) i x e).0
 
 -- a dimension without its overlap is one
 bare_fits : (d : Dimension) → is_dimension d ≡ true → is_dimension (without_overlap d) ≡ true
-bare_fits d e = let p = and_parts (bounds_in_range d && bounds_in_order d && has_chunk d) (overlap_fits d) e in and_from (bounds_in_range d && bounds_in_order d && has_chunk d) true p.0 refl
+bare_fits d e = let p = and_parts (bounds_in_range d && bounds_in_order d && has_chunk d) (overlap_fits d) e in and_from (bounds_in_range d && bounds_in_order d && has_chunk d) (overlap_fits (without_overlap d)) p.0 (le-leb 0 d.chunk (omega arith))
 
-module _ (dims : List Dimension) (apart : are_distinct (dimension_names dims) ≡ true) (each : list_all is_dimension dims ≡ true) where
+module _ (dims : List Dimension) (apart : are_distinct (dimension_names dims) ≡ true) (all_fit : list_all is_dimension dims ≡ true) where
   abbrev bare : List ℕ → List Dimension
   bare places = map without_overlap (items_at places dims)
 
@@ -97,7 +97,7 @@ module _ (dims : List Dimension) (apart : are_distinct (dimension_names dims) �
         below = list_all-append (λ place. nat_lt place (length dims)) done (p ∷ []) ∙ and_from (are_below (length dims) done) (nat_lt p (length dims) && true) named.below (ap (λ b. b && true) (lt-ltb p (length dims) lt));
         distinct = ap are_distinct names ∙ distinct_between (dimension_names (bare done)) [] d.name behind (fresh done p d e none) refl;
         each = ap (list_all is_dimension) more ∙ list_all-append is_dimension (bare done) (without_overlap d ∷ [])
-            ∙ and_from (list_all is_dimension (bare done)) (is_dimension (without_overlap d) && true) named.each (ap (λ b. b && true) (bare_fits d (fits_at dims p d each e)));
+            ∙ and_from (list_all is_dimension (bare done)) (is_dimension (without_overlap d) && true) named.each (ap (λ b. b && true) (bare_fits d (fits_at dims p d all_fit e)));
         count = ap length more ∙ length-append (bare done) (without_overlap d ∷ []) ∙ ap (λ n. n + 1) named.count ∙ sym (length-append done (p ∷ []));
       }
 

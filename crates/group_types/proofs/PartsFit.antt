@@ -1,19 +1,17 @@
 -- What holds of the parts that checking answers: they fit the source, and the schema of the result is valid where it is within the limits.
-use Rattle.std.proofs.Common.{◌≡◌, ℕ, zero, suc, ◌+◌, ◌*◌, ◌≤◌, ◌==◌, ℤ, pos, negsuc, ◌≤ℤ◌, unsigned_abs, Bool, true, false, ◌&&◌, Option, Some, None, Ok, IfOk, List, [], ◌∷◌, ◌++◌, length, map, refl, sym, ap, subst, ◌∙◌, arith}
+use Rattle.std.proofs.Common.{◌≡◌, ℕ, zero, suc, ◌+◌, ◌*◌, ◌≤◌, ◌==◌, ℤ, pos, negsuc, unsigned_abs, true, ◌&&◌, Option, Some, None, Ok, IfOk, List, [], ◌∷◌, ◌++◌, length, refl, ap, ◌∙◌, arith}
 use Rattle.std.specs.List.{AllByRecursion, list_all}
 use Rattle.std.specs.Prelude.{nat_le, int_le}
 use Rattle.std.proofs.lemmas.Bool.{and_parts, and_from, leb-true, le-leb, eqb-true, eq-eqb}
-use Rattle.std.proofs.lemmas.Int.{ints}
 use Rattle.std.proofs.lemmas.List.Folds.{list_all-append}
 use Rattle.cell_values.specs.declared.name.Span.{Span}
-use Rattle.cell_values.specs.declared.schema.Dimension.{Dimension}
 use Rattle.cell_values.specs.declared.schema.Schema.{Schema}
 use Rattle.cell_values.specs.Schemas.{IsValid, attribute_names, dimension_names, are_distinct, is_dimension}
 use Rattle.schema_grammar.specs.declared.kinds.TypeKind.TheVariants.{OutOfRange, WindowTooLarge, WrongCount}
 use Rattle.afl_parser.specs.Term.{Term}
 use Rattle.afl_parser.specs.Grammar.{span_of}
 use Rattle.array_rows.specs.Boxes.{by_pairs}
-use Rattle.logical_plan.specs.PlanSchema.{aggregate_schema, group_dimensions, in_blocks, one_place, regrid_schema, window_schema}
+use Rattle.logical_plan.specs.PlanSchema.{aggregate_schema, group_dimensions, in_blocks, regrid_schema, window_schema}
 use Rattle.logical_plan.specs.Typing.{are_aggregates_of, are_below, are_blocks_of, are_windows_of, aggregate_names}
 use Rattle.logical_plan.specs.declared.parts.Aggregate.{Aggregate}
 use Rattle.logical_plan.specs.declared.parts.Reach.{Reach}
@@ -31,7 +29,7 @@ use Rattle.agg_types.specs.Aggregates.{aggregate_one, aggregates_of}
 use Rattle.agg_types.proofs.Kept.{Kept, aggregates_kept}
 use Rattle.group_types.specs.Blocks.{block_one, regrid_parts, with_blocks}
 use Rattle.group_types.specs.Groups.{aggregate_parts, with_places}
-use Rattle.group_types.specs.Numbers.{at_least, number_from}
+use Rattle.group_types.specs.Numbers.{at_least}
 use Rattle.group_types.specs.Windows.{reach_one, window_parts, with_reach}
 use Rattle.group_types.specs.declared.aggregate.Groups.{Groups}
 use Rattle.group_types.specs.declared.regrid.Blocks.{Blocks}
@@ -73,9 +71,9 @@ sizes_kept numbers =
     (one_or_more (span_of t) (number_in t)))
     [] numbers (nothing_asked numbers) refl
 
-module _ (s : Span) (source : Schema) (valid : IsValid source) where
+module _ (s : Span) (source : Schema) (is_valid : IsValid source) where
   parts : ValidParts source
-  parts = valid_parts source valid
+  parts = valid_parts source is_valid
 
   alone : are_distinct (dimension_names source.dimensions) ≡ true
   alone = (distinct_front (attribute_names source.attributes) (dimension_names source.dimensions) parts.distinct).1

@@ -1,6 +1,6 @@
 -- `window`: for each dimension how far a window reaches before and after its centre, no less than 0, and then one aggregate at least.
 -- A window has at most 2^24 places, and a chunk with what the windows of its cells reach at most 2^48.
-use Rattle.std.specs.Prelude.{ℕ, pos, ◌*◌, ◌&&◌, ◌==◌, nat_le, length, Ok, List, []}
+use Rattle.std.specs.Prelude.{pos, ◌*◌, ◌&&◌, ◌==◌, nat_le, length, Ok, List, []}
 use Rattle.cell_values.specs.declared.name.Span.{Span}
 use Rattle.cell_values.specs.declared.schema.Schema.{Schema}
 use Rattle.cell_values.specs.Schemas.{dimension_names}

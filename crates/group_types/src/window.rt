@@ -60,11 +60,14 @@ fn reached_length(dimension: &Dimension, reach: &Reach) -> u64
 fn reached_size(dimensions: &[Dimension], reach: &[Reach]) -> u64
     ensures { result ≡ min (reached_size dimensions.now reach.now) (2 ^ 64 - 1) }
 {
-    match (dimensions, reach) {
-        ([dimension, dimensions @ ..], [first, rest @ ..]) => {
-            reached_length(dimension, first).saturating_mul(reached_size(dimensions, rest))
-        }
-        _ => 1,
+    match dimensions {
+        [] => 1,
+        [dimension, dimensions @ ..] => match reach {
+            [] => 1,
+            [first, rest @ ..] => {
+                reached_length(dimension, first).saturating_mul(reached_size(dimensions, rest))
+            }
+        },
     }
 }
 

@@ -1,4 +1,4 @@
-use Rattle.std.proofs.Common.{◌≡◌, ◌∙◌}
+use Rattle.std.proofs.Common.{◌∙◌}
 use Rattle.group_types.specs.Blocks.{block_one}
 use Rattle.group_types.proofs.Steps.{turn_on}
 use Rattle.group_types.proofs.regrid.sizes_of.Goals as goal

@@ -1,4 +1,4 @@
-use Rattle.std.proofs.Common.{◌≡◌, ◌∙◌}
+use Rattle.std.proofs.Common.{◌∙◌}
 use Rattle.group_types.specs.Windows.{reach_one}
 use Rattle.group_types.proofs.Steps.{pairs_turn}
 use Rattle.group_types.proofs.window.reach_of.Goals as goal
