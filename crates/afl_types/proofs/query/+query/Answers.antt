@@ -1,5 +1,5 @@
 use Rattle.std.proofs.Common.{◌-◌, length, take, drop}
-use Rattle.afl_types.proofs.Sources.{some_first, with_source}
+use Rattle.afl_types.proofs.Sources.{some_first, two_first, with_source, with_two}
 use Rattle.afl_types.proofs.query.+query.Goals as goal
 
 pub over_first-returns-in-len1-up : goal.over_first-returns-in-len1-up
@@ -8,3 +8,10 @@ over_first-returns-in-len1-up t c =
     (take (length c.args.arguments.now - 1) (drop 1 c.args.arguments.now))
     (some_first c.args.arguments.now c.source-item.result c.in-len1-up.len_at_least c.source-item.is)
     c.over.ensures
+
+pub over_both-returns-in-len2-up : goal.over_both-returns-in-len2-up
+over_both-returns-in-len2-up t c =
+    with_two c.args.arrays.now c.args.span c.args.name.now c.args.operator c.over_two.result c.args.arguments.now c.left-item.result c.right-item.result
+    (take (length c.args.arguments.now - 2) (drop 2 c.args.arguments.now))
+    (two_first c.args.arguments.now c.left-item.result c.right-item.result c.in-len2-up.len_at_least c.left-item.is c.right-item.is)
+    c.over_two.ensures
