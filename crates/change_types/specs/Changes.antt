@@ -1,7 +1,7 @@
 -- Statements that change arrays or list something: what each is over the stored arrays, or the first rule that it breaks.
 --
 -- The sort of each argument comes first, from left to right, and then the rules of the statement in their order.
-use Rattle.std.specs.Prelude.{ℕ, ℤ, pos, int_le, Bool, not, ◌&&◌, nat_lt, unsigned_abs, if◌then◌else◌, codes, Option, Some, None, Ok, List}
+use Rattle.std.specs.Prelude.{ℕ, ℤ, pos, int_le, Bool, not, ◌&&◌, nat_lt, unsigned_abs, cond, codes, Option, Some, None, Ok, List}
 use Rattle.std.specs.Str.{bytes_eq}
 use Rattle.cell_values.specs.declared.name.Span.{Span}
 use Rattle.cell_values.specs.declared.schema.Schema.{Schema}
@@ -94,7 +94,7 @@ array_call arrays s arguments = refused s WrongCount
 
 -- a number from 1 to the newest version
 abbrev pub below_of : ℕ → ℤ → Option ℕ
-below_of newest n = if int_le (pos 1) n && int_le n (pos newest) then Some (unsigned_abs n) else None
+below_of newest n = cond (int_le (pos 1) n && int_le n (pos newest)) (Some (unsigned_abs n)) None
 
 abbrev pub cut_at : Span → List ℕ → Option ℕ → Checked Change
 cut_at at name (Some below) = Ok (RemoveVersions name below)
@@ -105,13 +105,13 @@ abbrev pub cut_of : Span → Span → List ℕ → ℤ → Option NameEntry → 
 cut_of t at name n (Some entry) = cut_at at name (below_of (last_of entry.versions) n)
 cut_of t at name n None = refused t UnknownArray
 
--- a number, with or without one prefix `-`
-abbrev pub with_number : {A : Type 0} → Span → (ℤ → Checked A) → Option ℤ → Checked A
-with_number at next (Some n) = next n
-with_number at next None = refused at WrongType
+-- the argument behind the name is a number, with or without one prefix `-`
+abbrev pub cut_by : List NameEntry → Span → List ℕ → Span → Option ℤ → Checked Change
+cut_by arrays t name at (Some n) = cut_of t at name n (entry_named arrays name)
+cut_by arrays t name at None = refused at WrongType
 
 abbrev pub cut_from : List NameEntry → Term → Term → Checked Change
-cut_from arrays (reference t name) i = with_number (span_of i) (λ n. cut_of t (span_of i) name n (entry_named arrays name)) (number_in i)
+cut_from arrays (reference t name) i = cut_by arrays t name (span_of i) (number_in i)
 cut_from arrays n i = refused (span_of n) WrongType
 
 -- `remove_versions` of a name and a number

@@ -1,9 +1,11 @@
 //! Statements about a stored array as it stands, and the list of all of them.
 ghost use Rattle.std.specs.Prelude.{◌≡◌};
+ghost use Rattle.afl_parser.specs.Grammar.{span_of};
 ghost use Rattle.afl_parser.specs.Term.{to_terms};
+ghost use Rattle.operator_rules.specs.Sorts.{number_in};
 ghost use Rattle.plan_changes.specs.Changes.{entry_named};
 ghost use Rattle.type_rules.specs.Checked.{Answers};
-ghost use Rattle.change_types.specs.Changes.{below_of, stored_name, array_call, cut_of, cut_from, cut_call, is_arrays, listed, list_call};
+ghost use Rattle.change_types.specs.Changes.{below_of, stored_name, array_call, cut_of, cut_by, cut_from, cut_call, is_arrays, listed, list_call};
 
 use afl_parser::{Node, Tree};
 use cell_values::{List, Name, Span};
@@ -76,15 +78,46 @@ fn cut_of(
     }
 }
 
+/// `remove_versions` of a name and what number an argument is, each with its place.
+fn cut_by(
+    arrays: &List<NameEntry>,
+    at: Span,
+    name: &Name,
+    number_at: Span,
+    number: Option<i64>,
+) -> Result<Change, TypeFault>
+    ensures { Answers result (cut_by arrays.now at name.now number_at number) }
+{
+    match number {
+        Some(below) => cut_of(arrays, at, number_at, name, below),
+        None => Err(broken(number_at, TypeKind::WrongType)),
+    }
+}
+
+fn span_of(tree: &Tree) -> Span
+    ensures { result ≡ span_of tree.now }
+{
+    tree.span
+}
+
+/// `remove_versions` of a name, which stands at a place, and a tree.
+fn cut_named(
+    arrays: &List<NameEntry>,
+    at: Span,
+    name: &Name,
+    number: &Tree,
+) -> Result<Change, TypeFault>
+    ensures { Answers result (cut_by arrays.now at name.now (span_of number.now) (number_in number.now)) }
+{
+    cut_by(arrays, at, name, span_of(number), number_in(number))
+}
+
 /// `remove_versions` of two trees.
 fn cut_from(arrays: &List<NameEntry>, array: &Tree, number: &Tree) -> Result<Change, TypeFault>
     ensures { Answers result (cut_from arrays.now array.now number.now) }
 {
     match &array.node {
-        Node::Ref(name) => match number_in(number) {
-            Some(below) => cut_of(arrays, array.span, number.span, name, below),
-            None => Err(wrong_type(number)),
-        },
+        Node::Ref(name) => cut_named(arrays, array.span, name, number),
         _ => Err(wrong_type(array)),
     }
 }

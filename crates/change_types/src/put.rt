@@ -13,9 +13,9 @@ use schema_grammar::TypeKind;
 use std::alloc::Global;
 use type_rules::{TypeFault, broken};
 
-/// What a version is stored in: the array of this name, under this schema.
-#[derive(Debug, Drop)]
-pub(crate) struct Target {
+/// What a version is stored in: the array of this name, under this schema. Only contracts and proofs of other crates name it.
+#[derive(Drop)]
+pub struct Target {
     pub name: Name,
     pub schema: Schema,
 }

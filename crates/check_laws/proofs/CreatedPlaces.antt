@@ -55,11 +55,11 @@ module _ (text : List ℕ) where
 
   -- ---- the first three tokens
 
-  first_of : Placed → List Placed → Placed
+  abbrev first_of : Placed → List Placed → Placed
   first_of none [] = none
   first_of none (p ∷ ps) = p
 
-  rest_of : List Placed → List Placed
+  abbrev rest_of : List Placed → List Placed
   rest_of [] = []
   rest_of (p ∷ ps) = ps
 

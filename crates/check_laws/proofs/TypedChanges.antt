@@ -1,6 +1,6 @@
 -- The changes that checking answers are typed for the names.
-use Rattle.std.proofs.Common.{◌≡◌, ℕ, ℤ, pos, negsuc, Bool, true, false, not, ◌&&◌, ◌||◌, Option, Some, None, Ok, IfOk, IsTrue, List, refl, sym, ap, subst, ◌∙◌}
-use Rattle.std.specs.Prelude.{int_le, nat_le, nat_lt, unsigned_abs, if◌then◌else◌}
+use Rattle.std.proofs.Common.{◌≡◌, ℕ, ℤ, pos, negsuc, Bool, true, false, cond, not, ◌&&◌, ◌||◌, Option, Some, None, Ok, IfOk, IsTrue, List, refl, sym, ap, subst, ◌∙◌}
+use Rattle.std.specs.Prelude.{int_le, nat_le, nat_lt, unsigned_abs}
 use Rattle.std.specs.List.{list_all}
 use Rattle.std.proofs.lemmas.Bool.{and_parts, and_from, or_left, or_right}
 use Rattle.cell_values.specs.declared.name.Span.{Span}
@@ -31,7 +31,7 @@ use Rattle.expr_types.specs.Laws.{leaves_fit, all_leaves_fit}
 use Rattle.operator_rules.specs.Sorts.{number_in}
 use Rattle.source_types.specs.Build.{meant}
 use Rattle.source_types.proofs.Holding.{meant_valid}
-use Rattle.change_types.specs.Changes.{array_call, below_of, created, created_as, cut_at, cut_call, cut_from, cut_of, fitting, insert_call, insert_target, inserted_schema, known, list_call, store_call, store_target, stored_name, stored_schema, with_number}
+use Rattle.change_types.specs.Changes.{array_call, below_of, created, created_as, cut_at, cut_by, cut_call, cut_from, cut_of, fitting, insert_call, insert_target, inserted_schema, known, list_call, store_call, store_target, stored_name, stored_schema}
 use Rattle.change_types.specs.Place.{created_place}
 use Rattle.change_types.specs.declared.put.Target.{Target}
 use Rattle.afl_types.specs.Checking.{AreValid, check_of}
@@ -181,7 +181,7 @@ module _ (names : Names) (stored : AreStored names) where
   abbrev IsBelow : ℕ → ℕ → Type 0
   IsBelow newest below = (nat_le 1 below && nat_le below newest) ≡ true
 
-  below_at : (newest : ℕ) (n : ℤ) (b : Bool) (below : ℕ) → (int_le (pos 1) n && int_le n (pos newest)) ≡ b → (if b then Some (unsigned_abs n) else None) ≡ Some below → IsBelow newest below
+  below_at : (newest : ℕ) (n : ℤ) (b : Bool) (below : ℕ) → (int_le (pos 1) n && int_le n (pos newest)) ≡ b → cond b (Some (unsigned_abs n)) None ≡ Some below → IsBelow newest below
   below_at newest (pos n) true below is e = let same : n ≡ below = cc in subst (IsBelow newest) same is
   below_at newest (negsuc n) true below is e = absurd cc
   below_at newest n false below is e = absurd (let no : None ≡ Some below = e in cc)
@@ -197,12 +197,12 @@ module _ (names : Names) (stored : AreStored names) where
       cut_fits at name (last_of entry.versions) (has_found arrays name entry e) (ap newest_or e) n (below_of (last_of entry.versions) n) refl
   cut_of_typed t at name n None e = tt
 
-  numbered : (t at : Span) (name : List ℕ) (o : Option ℤ) → IfOk (with_number at (λ n. cut_of t at name n (entry_named arrays name)) o) Fits
-  numbered t at name (Some n) = cut_of_typed t at name n (entry_named arrays name) refl
-  numbered t at name None = tt
+  cut_by_typed : (t at : Span) (name : List ℕ) (o : Option ℤ) → IfOk (cut_by arrays t name at o) Fits
+  cut_by_typed t at name (Some n) = cut_of_typed t at name n (entry_named arrays name) refl
+  cut_by_typed t at name None = tt
 
   cut_from_typed : (n i : Term) → IfOk (cut_from arrays n i) Fits
-  cut_from_typed (reference t name) i = numbered t (span_of i) name (number_in i)
+  cut_from_typed (reference t name) i = cut_by_typed t (span_of i) name (number_in i)
   cut_from_typed n i = tt
 
   cut_typed : (s : Span) (arguments : Terms) → IfOk (cut_call arrays s arguments) Fits

@@ -1,4 +1,5 @@
-use Rattle.std.proofs.Common.{◌≡◌, List, Err, sym, subst, arith}
+use Rattle.std.proofs.Common.{◌≡◌, List, length, Err, inl, inr, sym, subst, arith}
+use Rattle.std.proofs.lemmas.Bool.{cases_lt}
 use Rattle.schema_grammar.specs.declared.kinds.TypeKind.TheVariants.{WrongCount}
 use Rattle.afl_parser.specs.Term.{Term, to_terms}
 use Rattle.plan_changes.specs.declared.change.Change.{Change}
@@ -18,5 +19,9 @@ returns-in-len2 c =
 pub returns-in_default : goal.returns-in_default
 returns-in_default c =
     let made : Checked Change = insert_of c.args.arrays.now c.args.span (to_terms c.args.arguments.now) in
-    let is : made ≡ refused c.args.span WrongCount = grind (arith, few_for_insert, many_for_insert) in
+    let is : made ≡ refused c.args.span WrongCount 
+        = elim (cases_lt (length c.args.arguments.now) 2) [
+          inl few ↦ few_for_insert c.args.arrays.now c.args.span c.args.arguments.now few
+        | inr some ↦ many_for_insert c.args.arrays.now c.args.span c.args.arguments.now (first_of (omega arith, grind arith))
+        ] in
     subst (λ (fault : TypeFault). Answers {A = Change} (Err fault) made) (sym c.broken.ensures) is
