@@ -1,5 +1,5 @@
 -- The place that is told of a new array's name is that of the third token.
-use Rattle.std.proofs.Common.{◌≡◌, ◌⊎◌, inl, inr, ℕ, ◌+◌, ◌-◌, ◌≤◌, min, Option, Some, List, [], ◌∷◌, length, take, drop, map, refl, sym, ap, ◌∙◌, arith}
+use Rattle.std.proofs.Common.{◌≡◌, inl, inr, ℕ, ◌+◌, ◌-◌, ◌≤◌, min, Some, List, [], ◌∷◌, length, take, drop, sym, ap, ◌∙◌, arith}
 use Rattle.std.specs.Prelude.{slice_get}
 use Rattle.std.specs.Option.{option_map}
 use Rattle.std.proofs.lemmas.List.{length-drop, length-take}
@@ -17,7 +17,7 @@ use Rattle.afl_lexer.proofs.Places.{gap_at}
 use Rattle.schema_grammar.specs.Spelling.{placed, across}
 use Rattle.schema_grammar.specs.declared.shape_text.SchemaText.{SchemaText}
 use Rattle.afl_parser.specs.Grammar.{Derives}
-use Rattle.afl_parser.specs.Statement.{DerivesText, lexemes}
+use Rattle.afl_parser.specs.Statement.{lexemes}
 use Rattle.afl_parser.specs.Term.{create}
 use Rattle.change_types.specs.Place.{behind_gap, created_place, third_token}
 use Rattle.check_laws.specs.Laws.{CreatedPlaceIsTheName}

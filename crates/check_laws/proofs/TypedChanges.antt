@@ -1,19 +1,18 @@
 -- The changes that checking answers are typed for the names.
-use Rattle.std.proofs.Common.{◌≡◌, ℕ, ℤ, pos, negsuc, Bool, true, false, cond, not, ◌&&◌, ◌||◌, Option, Some, None, Ok, IfOk, IsTrue, List, refl, sym, ap, subst, ◌∙◌}
+use Rattle.std.proofs.Common.{◌≡◌, ℕ, ℤ, pos, negsuc, Bool, true, false, cond, not, ◌&&◌, ◌||◌, Option, Some, None, Ok, IfOk, IsTrue, List, refl, sym, ap, subst}
 use Rattle.std.specs.Prelude.{int_le, nat_le, nat_lt, unsigned_abs}
 use Rattle.std.specs.List.{list_all}
 use Rattle.std.proofs.lemmas.Bool.{and_parts, and_from, or_left, or_right}
 use Rattle.cell_values.specs.declared.name.Span.{Span}
 use Rattle.cell_values.specs.declared.schema.Schema.{Schema}
 use Rattle.cell_values.specs.Schemas.{IsValid, is_valid}
-use Rattle.schema_grammar.specs.declared.kinds.TypeKind.TheVariants.{ArrayExists, SchemaDiffers, TooManyArrays, TooManyVersions, UnknownVersion}
+use Rattle.schema_grammar.specs.declared.kinds.TypeKind.TheVariants.{ArrayExists, SchemaDiffers, TooManyArrays, TooManyVersions}
 use Rattle.schema_grammar.specs.declared.shape_text.SchemaText.{SchemaText}
 use Rattle.afl_parser.specs.Grammar.{span_of}
 use Rattle.afl_parser.specs.Term.{Term, create, reference, call, Terms, no_terms, and_term}
 use Rattle.logical_plan.proofs.SchemaLaws.{typed_valid}
 use Rattle.logical_plan.specs.PlanSchema.{schema_of}
 use Rattle.logical_plan.specs.Query.{Query}
-use Rattle.logical_plan.specs.Typing.{IsTyped}
 use Rattle.logical_plan.specs.declared.names.NameEntry.{NameEntry}
 use Rattle.logical_plan.specs.declared.names.Names.{Names}
 use Rattle.plan_changes.specs.Allowed.{has_number, has_room}
@@ -21,8 +20,8 @@ use Rattle.plan_changes.specs.Changes.{entry_named, has_array, last_of, newest_o
 use Rattle.plan_changes.specs.Stored.{AreStored}
 use Rattle.plan_changes.specs.Typed.{are_alike, FitsInto, IsTypedFor, IsTypedOver}
 use Rattle.plan_changes.specs.declared.change.Change.{Change}
-use Rattle.plan_changes.specs.declared.change.Change.TheVariants.{Create, Store, Insert, Remove, RemoveVersions}
-use Rattle.type_rules.specs.Checked.{Checked, demand, then}
+use Rattle.plan_changes.specs.declared.change.Change.TheVariants.{Remove}
+use Rattle.type_rules.specs.Checked.{Checked, then}
 use Rattle.type_rules.specs.Operators.{operator_named}
 use Rattle.type_rules.specs.declared.operator.Operator.{Operator}
 use Rattle.type_rules.specs.declared.operator.Operator.TheVariants as operator
@@ -31,7 +30,7 @@ use Rattle.expr_types.specs.Laws.{leaves_fit, all_leaves_fit}
 use Rattle.operator_rules.specs.Sorts.{number_in}
 use Rattle.source_types.specs.Build.{meant}
 use Rattle.source_types.proofs.Holding.{meant_valid}
-use Rattle.change_types.specs.Changes.{array_call, below_of, created, created_as, cut_at, cut_by, cut_call, cut_from, cut_of, fitting, insert_call, insert_target, inserted_schema, known, list_call, store_call, store_target, stored_name, stored_schema}
+use Rattle.change_types.specs.Changes.{array_call, below_of, created, created_as, cut_at, cut_by, cut_call, cut_from, cut_of, insert_call, insert_target, inserted_schema, known, list_call, store_call, store_target, stored_name, stored_schema}
 use Rattle.change_types.specs.Place.{created_place}
 use Rattle.change_types.specs.declared.put.Target.{Target}
 use Rattle.afl_types.specs.Checking.{AreValid, check_of}
@@ -40,7 +39,7 @@ use Rattle.afl_types.specs.Statements.{changed, insert_of, queried, said, statem
 use Rattle.afl_types.specs.declared.checking.Typed.{Typed}
 use Rattle.afl_types.specs.declared.checking.Typed.TheVariants.{Query as AQuery, Change as AChange, Versions, Show, ListArrays}
 use Rattle.afl_types.proofs.Small.{entry_valid}
-use Rattle.check_laws.proofs.ReadVersions.{ReadsVersions, plan_reads}
+use Rattle.check_laws.proofs.ReadVersions.{plan_reads}
 use Rattle.check_laws.proofs.StoredNames.{found_numbered, has_found, none_numbered, schemas_valid}
 use Rattle.check_laws.proofs.TypedQueries.{checked_typed}
 use Rattle.check_laws.specs.Laws.{CheckedChangesAreTyped}
