@@ -26,7 +26,7 @@ use Rattle.afl_types.specs.Checking.{check_of}
 use Rattle.afl_types.specs.Queries.{called, over, query_of}
 use Rattle.afl_types.specs.Statements.{queried, said, statement_of}
 use Rattle.afl_types.specs.declared.call.Call.{Call}
-use Rattle.afl_types.specs.declared.call.Call.TheVariants.{Build, Scan, Over}
+use Rattle.afl_types.specs.declared.call.Call.TheVariants.{Build, Scan, Over, Two}
 use Rattle.afl_types.specs.declared.call.OverSource.{OverSource}
 use Rattle.afl_types.specs.declared.call.OverSource.TheVariants.{Filter, Apply, Project, Between, Subarray, Slice}
 use Rattle.afl_types.specs.declared.checking.Typed.{Typed}
@@ -73,6 +73,7 @@ keeps_slice s source arguments run = slice_holds IsRun s source arguments (λ fi
 -- what is asked of a call so that its plan is run
 abbrev AreKept : Option Call → Type 0
 AreKept (Some (Over o)) = Keeps o
+AreKept (Some (Two o)) = ⊥
 AreKept _ = Unit {0}
 
 kept_by : (o : Option Operator) → is_to_come o ≡ false → AreKept (call_of o)
@@ -108,6 +109,7 @@ mutual
   called_run s name (Some (Over o)) (and_term source arguments) kept f =
       over_run s o kept source arguments (query_run source (or_parts (is_unbuilt source) (has_unbuilt arguments) f).0)
   called_run s name (Some (Over o)) no_terms kept f = tt
+  called_run s name (Some (Two o)) arguments kept f = absurd kept
   called_run s name None arguments kept f = nested_holds IsRun s name (operator_named name)
 
 -- an operator that is run makes no statement of its own

@@ -4,4 +4,6 @@ pub mod ReadVersions
 pub mod RowsFit
 pub mod StoredNames
 pub mod TypedChanges
+pub mod TypedGroups
+pub mod TypedJoins
 pub mod TypedQueries

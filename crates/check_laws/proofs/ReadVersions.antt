@@ -1,5 +1,5 @@
 -- What a checked plan reads are versions of stored arrays, or none of an array that has none.
-use Rattle.std.proofs.Common.{◌≡◌, ◌⊎◌, inl, inr, ℕ, suc, ◌-◌, ℤ, Bool, true, false, cond, ◌||◌, length, Option, Some, None, Ok, IfOk, IsTrue, List, [], ◌∷◌, refl, sym, ap, subst, ◌∙◌, arith}
+use Rattle.std.proofs.Common.{◌≡◌, ◌⊎◌, inl, inr, ℕ, suc, ◌-◌, ℤ, Bool, true, false, cond, ◌||◌, length, Option, Some, None, Ok, IfOk, IsTrue, List, [], ◌∷◌, ◌++◌, refl, sym, ap, subst, ◌∙◌, arith}
 use Rattle.std.specs.Prelude.{nat_eq, slice_get, unwrap_or}
 use Rattle.std.specs.List.{AllByRecursion, find, list_any}
 use Rattle.std.specs.Str.{bytes_eq}
@@ -9,7 +9,9 @@ use Rattle.schema_grammar.specs.declared.kinds.TypeKind.TheVariants.{WrongCount}
 use Rattle.afl_lexer.proofs.Words.{same_bytes}
 use Rattle.afl_parser.specs.Term.{Term, reference, version, call, group, Terms, no_terms, and_term}
 use Rattle.logical_plan.specs.Leaves.{leaves}
-use Rattle.logical_plan.specs.Query.{Query}
+use Rattle.logical_plan.specs.Query.{Query, joined, crossed, regridded, windowed, aggregated}
+use Rattle.logical_plan.specs.PlanSchema.{schema_of}
+use Rattle.logical_plan.specs.declared.parts.Leaf.{Leaf}
 use Rattle.logical_plan.specs.declared.names.NameEntry.{NameEntry}
 use Rattle.plan_changes.specs.Changes.{entry_named, is_named}
 use Rattle.plan_changes.specs.Typed.{IsVersionOf}
@@ -21,12 +23,20 @@ use Rattle.source_types.specs.Stored.{newest, is_version, leaf_of, newest_of, at
 use Rattle.source_types.proofs.Holding.{build_holds}
 use Rattle.cellwise_types.proofs.Holding.{filter_holds, apply_holds, project_holds}
 use Rattle.box_types.proofs.Holding.{between_holds, subarray_holds, slice_holds}
-use Rattle.afl_types.specs.Calls.{call_of, fits_count, ruled}
-use Rattle.afl_types.specs.Queries.{called, over, query_of}
+use Rattle.afl_types.specs.Calls.{call_of, fits_count, fits_two, ruled, ruled_two}
+use Rattle.afl_types.specs.Queries.{called, over, over_two, query_of}
 use Rattle.afl_types.specs.declared.call.Call.{Call}
-use Rattle.afl_types.specs.declared.call.Call.TheVariants.{Build, Scan, Over}
+use Rattle.afl_types.specs.declared.call.Call.TheVariants.{Build, Scan, Over, Two}
 use Rattle.afl_types.specs.declared.call.OverSource.{OverSource}
-use Rattle.afl_types.specs.declared.call.OverSource.TheVariants.{Filter, Apply, Project, Between, Subarray, Slice}
+use Rattle.afl_types.specs.declared.call.OverSource.TheVariants.{Filter, Apply, Project, Between, Subarray, Slice, Regrid, Window, Aggregate}
+use Rattle.afl_types.specs.declared.call.OverTwo.{OverTwo}
+use Rattle.afl_types.specs.declared.call.OverTwo.TheVariants.{Join, CrossJoin}
+use Rattle.group_types.specs.Blocks.{regrid_parts}
+use Rattle.group_types.specs.Groups.{aggregate_parts}
+use Rattle.group_types.specs.Windows.{window_parts}
+use Rattle.join_types.specs.Crosses.{cross_parts}
+use Rattle.join_types.specs.JoinSchemas.{joined_schema}
+use Rattle.operator_rules.proofs.Holding.{new_holds}
 use Rattle.afl_types.proofs.NoQuery.{nested_holds}
 
 -- ---- what is found in a list
@@ -115,12 +125,37 @@ module _ (arrays : List NameEntry) where
   ruled_reads s Between source arguments reads = between_holds ReadsVersions s source arguments (λ count. reads)
   ruled_reads s Subarray source arguments reads = subarray_holds ReadsVersions s source arguments (λ count order range within. reads)
   ruled_reads s Slice source arguments reads = slice_holds ReadsVersions s source arguments (λ fixed e some within. reads)
+  ruled_reads s Regrid source arguments reads =
+      thens ReadsVersions (regrid_parts s (schema_of source) arguments) _ (λ p e. new_holds ReadsVersions s (regridded source p.sizes p.aggregates) (λ within. reads))
+  ruled_reads s Window source arguments reads =
+      thens ReadsVersions (window_parts s (schema_of source) arguments) _ (λ p e. new_holds ReadsVersions s (windowed source p.reach p.aggregates) (λ within. reads))
+  ruled_reads s Aggregate source arguments reads =
+      thens ReadsVersions (aggregate_parts s (schema_of source) arguments) _ (λ p e. new_holds ReadsVersions s (aggregated source p.aggregates p.places) (λ within. reads))
+
+  both_read : (xs ys : List Leaf) → AllByRecursion (λ leaf. IsVersionOf leaf (entry_named arrays leaf.name)) xs → AllByRecursion (λ leaf. IsVersionOf leaf (entry_named arrays leaf.name)) ys
+      → AllByRecursion (λ leaf. IsVersionOf leaf (entry_named arrays leaf.name)) (xs ++ ys)
+  both_read [] ys h k = k
+  both_read (x ∷ xs) ys h k = (h.0, both_read xs ys h.1 k)
+
+  ruled_two_reads : (s : Span) (operator : OverTwo) (left right : Query) (arguments : List Term) → ReadsVersions left → ReadsVersions right → IfOk (ruled_two s operator left right arguments) ReadsVersions
+  ruled_two_reads s Join left right arguments l r =
+      thens ReadsVersions (joined_schema s (schema_of left) (schema_of right)) _ (λ schema e. new_holds ReadsVersions s (joined left right schema) (λ within. both_read (leaves left) (leaves right) l r))
+  ruled_two_reads s CrossJoin left right arguments l r =
+      thens ReadsVersions (cross_parts s (schema_of left) (schema_of right) arguments) _ (λ p e. new_holds ReadsVersions s (crossed left right p.pairs p.schema) (λ within. both_read (leaves left) (leaves right) l r))
 
   over_reads : (s : Span) (operator : OverSource) (source : Term) (arguments : Terms) → IfOk (query_of arrays source) ReadsVersions → IfOk (over s operator (query_of arrays source) (to_list arguments)) ReadsVersions
   over_reads s operator source arguments reads =
       demanded ReadsVersions (fits_count operator (length (to_list arguments))) s WrongCount _ (λ count.
       thens ReadsVersions (query_of arrays source) _ (λ plan e.
       ruled_reads s operator plan (to_list arguments) (of_answer ReadsVersions (query_of arrays source) plan reads e)))
+
+  over_two_reads : (s : Span) (operator : OverTwo) (left right : Term) (arguments : Terms) → IfOk (query_of arrays left) ReadsVersions → IfOk (query_of arrays right) ReadsVersions
+      → IfOk (over_two s operator (query_of arrays left) (query_of arrays right) (to_list arguments)) ReadsVersions
+  over_two_reads s operator left right arguments h k =
+      demanded ReadsVersions (fits_two operator (length (to_list arguments))) s WrongCount _ (λ count.
+      thens ReadsVersions (query_of arrays left) _ (λ l e.
+      thens ReadsVersions (query_of arrays right) _ (λ r f.
+      ruled_two_reads s operator l r (to_list arguments) (of_answer ReadsVersions (query_of arrays left) l h e) (of_answer ReadsVersions (query_of arrays right) r k f))))
 
   mutual
     query_reads : (t : Term) → IfOk (query_of arrays t) ReadsVersions
@@ -134,6 +169,9 @@ module _ (arrays : List NameEntry) where
     called_reads s name (Some Scan) arguments = scan_reads s arguments
     called_reads s name (Some (Over operator)) (and_term source arguments) = over_reads s operator source arguments (query_reads source)
     called_reads s name (Some (Over operator)) no_terms = tt
+    called_reads s name (Some (Two operator)) (and_term left (and_term right arguments)) = over_two_reads s operator left right arguments (query_reads left) (query_reads right)
+    called_reads s name (Some (Two operator)) (and_term left no_terms) = tt
+    called_reads s name (Some (Two operator)) no_terms = tt
     called_reads s name None arguments = nested_holds ReadsVersions s name (operator_named name)
 
   pub plan_reads : (t : Term) (query : Query) → query_of arrays t ≡ Ok query → ReadsVersions query

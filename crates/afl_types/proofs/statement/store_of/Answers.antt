@@ -19,9 +19,9 @@ returns-in-len2 c =
 pub returns-in_default : goal.returns-in_default
 returns-in_default c =
     let made : Checked Change = store_of c.args.arrays.now c.args.span (to_terms c.args.arguments.now) in
-    let is : made ≡ refused c.args.span WrongCount 
-        = elim (cases_lt (length c.args.arguments.now) 2) [
-          inl few ↦ few_for_store c.args.arrays.now c.args.span c.args.arguments.now few
-        | inr some ↦ many_for_store c.args.arrays.now c.args.span c.args.arguments.now (first_of (omega arith, grind arith))
-        ] in
+    let is : made ≡ refused c.args.span WrongCount
+    = elim (cases_lt (length c.args.arguments.now) 2) [
+      | inl few ↦ few_for_store c.args.arrays.now c.args.span c.args.arguments.now few
+      | inr some ↦ many_for_store c.args.arrays.now c.args.span c.args.arguments.now (first_of (omega arith, grind arith))
+    ] in
     subst (λ (fault : TypeFault). Answers {A = Change} (Err fault) made) (sym c.broken.ensures) is
