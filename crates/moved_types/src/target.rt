@@ -1,6 +1,6 @@
 //! The rules on the dimensions and attributes of a target.
 ghost use Rattle.std.specs.Prelude.{◌≡◌, ◌≤◌, ◌&&◌, if◌then◌else◌, length, map, None, Some};
-ghost use Rattle.std.specs.List.{list_all, list_any};
+ghost use Rattle.std.specs.List.{find, list_all, list_any};
 ghost use Rattle.std.specs.Option.{option_copied};
 ghost use Rattle.std.specs.Str.{bytes_eq};
 ghost use Rattle.cell_values.specs.Schemas.{attribute_names, is_among};
@@ -28,12 +28,15 @@ fn has_number(attributes: &[Attribute], name: &[u8]) -> bool
 }
 
 /// Whether a dimension of a target is neither a dimension of the source nor an `int64` attribute of it.
+#[tactic(auto, using(crate::proofs::Origins::is_own, crate::proofs::Origins::not_own))]
 fn is_synthetic(source: &Schema, dimension: &Dimension) -> bool
     ensures { result ≡ is_synthetic source.now dimension.now }
 {
     let name = dimension.name.as_slice();
-    dimension_place(source.dimensions.as_slice(), name).is_none()
-        && !has_number(source.attributes.as_slice(), name)
+    match dimension_place(source.dimensions.as_slice(), name) {
+        Some(_) => false,
+        None => !has_number(source.attributes.as_slice(), name),
+    }
 }
 
 fn count_synthetic(source: &Schema, dimensions: &[Dimension]) -> usize
@@ -89,6 +92,7 @@ fn attribute_fault(attributes: &[Attribute], wanted: Kind, place: usize) -> Opti
 }
 
 /// The rule that an attribute of a target without aggregates breaks.
+#[tactic(auto, using(crate::proofs::Origins::of_attribute, crate::proofs::Origins::of_numbers, crate::proofs::Origins::of_nothing))]
 fn carried_fault(source: &Schema, attribute: &Attribute) -> Option<TypeKind>
     ensures { result ≡ carried_fault source.now attribute.now }
 {
@@ -114,13 +118,19 @@ fn first_carried(source: &Schema, attributes: &[Attribute]) -> Option<TypeKind>
     None
 }
 
-/// The aggregate of a name.
-fn aggregate_named<'a>(aggregates: &'a [Aggregate], name: &[u8]) -> Option<&'a Aggregate>
-    ensures { option_copied result ≡ named aggregates.now name.now }
+fn find_aggregate<'a>(aggregates: &'a [Aggregate], name: &[u8]) -> Option<&'a Aggregate>
+    ensures { option_copied result ≡ find (λ g. bytes_eq g.name name.now) aggregates.now }
 {
     aggregates
         .iter()
         .find(|aggregate| same_name(&aggregate.name, name))
+}
+
+/// The aggregate of a name.
+fn aggregate_named<'a>(aggregates: &'a [Aggregate], name: &[u8]) -> Option<&'a Aggregate>
+    ensures { option_copied result ≡ named aggregates.now name.now }
+{
+    find_aggregate(aggregates, name)
 }
 
 /// The kind of an aggregate's value.
@@ -188,6 +198,7 @@ fn all_named(attributes: &[Attribute], aggregates: &[Aggregate]) -> bool
 }
 
 /// The rule that an aggregate breaks that no attribute names.
+#[tactic(auto, using(crate::proofs::Origins::each_named, crate::proofs::Origins::not_each_named))]
 fn unnamed_fault(attributes: &[Attribute], aggregates: &[Aggregate]) -> Option<TypeKind>
     ensures { result ≡ unnamed_fault attributes.now aggregates.now }
 {
