@@ -28,7 +28,7 @@ use Rattle.agg_types.specs.Aggregates.{aggregate_one, aggregates_of}
 use Rattle.agg_types.proofs.Kept.{Kept, aggregates_kept}
 use Rattle.source_types.specs.Build.{meant}
 use Rattle.source_types.proofs.Holding.{meant_valid}
-use Rattle.moved_types.specs.Redimension.{redimension_parts, unless_broken, with_aggregates, with_target}
+use Rattle.moved_types.specs.Redimension.{redimension_parts, unless_broken, with_target}
 use Rattle.moved_types.specs.Targets.{attributes_fault, carried_fault, gathered_fault, may_count, origin_fault, unnamed_fault, value_fault}
 use Rattle.moved_types.specs.declared.redimension.Redimensioned.{Redimensioned}
 

@@ -1,13 +1,11 @@
 -- Worked examples of `redimension`, over an array `<v:int64>[i=0:3,2,0]` and an array `<t:string>[i=0:3,2,0]`.
-use Rattle.std.proofs.Common.{◌≡◌, ℕ, ◌+◌, ℤ, pos, Bool, true, false, Ok, List, [], ◌∷◌, refl}
+use Rattle.std.proofs.Common.{◌≡◌, ℕ, ◌+◌, pos, true, false, Ok, List, [], ◌∷◌, refl}
 use Rattle.std.specs.Prelude.{codes}
 use Rattle.cell_values.specs.declared.name.Span.{Span}
-use Rattle.cell_values.specs.declared.schema.Attribute.{Attribute}
 use Rattle.cell_values.specs.declared.schema.Dimension.{Dimension}
-use Rattle.cell_values.specs.declared.schema.Kind.{Kind}
 use Rattle.cell_values.specs.declared.schema.Kind.TheVariants.{Int64, Str}
 use Rattle.cell_values.specs.declared.schema.Schema.{Schema}
-use Rattle.schema_grammar.specs.declared.kinds.TypeKind.TheVariants.{BoundsOrder, NameTooLong, RepeatedName, UnknownName, UnknownType, WrongCount, WrongType, ZeroChunk}
+use Rattle.schema_grammar.specs.declared.kinds.TypeKind.TheVariants.{BoundsOrder, RepeatedName, UnknownName, UnknownType, WrongCount, WrongType, ZeroChunk}
 use Rattle.schema_grammar.specs.declared.shape_text.AttrText.{AttrText}
 use Rattle.schema_grammar.specs.declared.shape_text.DimText.{DimText}
 use Rattle.afl_parser.specs.Term.{Term, call, reference, renamed, schema, star, no_terms, and_term}

@@ -15,11 +15,12 @@ use Rattle.logical_plan.specs.Redimension.{Origin, counted, named, origin_of, va
 use Rattle.logical_plan.specs.Typing.{aggregate_names, is_kind_of, is_origin}
 use Rattle.logical_plan.specs.declared.parts.Aggregate.{Aggregate}
 
--- neither a dimension of the source nor an attribute of it
+-- from neither a dimension nor an attribute of the source
 abbrev pub is_counted : Origin → Bool
 is_counted (counted lo) = true
 is_counted origin = false
 
+-- neither a dimension of the source nor an `int64` attribute of it
 abbrev pub is_synthetic : Schema → Dimension → Bool
 is_synthetic source d = is_counted (origin_of source d)
 
@@ -28,7 +29,7 @@ abbrev pub may_count : ℕ → List Term → Bool
 may_count n [] = nat_le n 1
 may_count n (t ∷ ts) = n == 0
 
--- the rule that an attribute of this kind breaks whose values come from here
+-- the rule that an attribute of this kind breaks, if any, where its values come from here
 abbrev pub origin_fault : List Attribute → Kind → Origin → Option TypeKind
 origin_fault attributes kind (counted lo) = Some UnknownName
 origin_fault attributes kind origin = if is_origin attributes kind origin then None else Some WrongType
@@ -37,6 +38,7 @@ origin_fault attributes kind origin = if is_origin attributes kind origin then N
 abbrev pub carried_fault : Schema → Attribute → Option TypeKind
 carried_fault source a = origin_fault source.attributes a.kind (value_origin source a)
 
+-- the same where its values are those of an aggregate
 abbrev pub value_fault : List Attribute → Kind → Option Aggregate → Option TypeKind
 value_fault attributes kind None = Some UnknownName
 value_fault attributes kind (Some g) = if is_kind_of attributes kind (Some g) then None else Some WrongType

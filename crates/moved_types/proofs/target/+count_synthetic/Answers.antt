@@ -1,4 +1,4 @@
-use Rattle.std.proofs.Common.{◌≡◌, ◌∙◌, ap}
+use Rattle.std.proofs.Common.{◌∙◌, ap}
 use Rattle.std.specs.Int.{from_bool}
 use Rattle.moved_types.proofs.Origins.{counted_on}
 use Rattle.moved_types.proofs.target.+count_synthetic.Goals as goal
