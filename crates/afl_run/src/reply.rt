@@ -2,6 +2,7 @@
 ghost use Rattle.std.specs.Prelude.{◌≡◌, ◌≤◌, false, length, IfOk, IsTrue};
 ghost use Rattle.expr_types.specs.Laws.{leaves_fit};
 ghost use Rattle.plan_rows.specs.Found.{CanAnswer};
+ghost use Rattle.type_rules.specs.Checked.{Answers, Checked};
 ghost use Rattle.afl_types.specs.Checking.{check_of};
 ghost use Rattle.afl_run.specs.Reply.{CanReply, IsReplyTo, checked_reply, no_names, plan_reply, refused, reply_to_tree, typed_reply};
 ghost use Rattle.afl_run.specs.Unbuilt.{is_unbuilt};
@@ -63,10 +64,26 @@ fn reply_to_query(alloc: Global, text: &[u8], tree: &Tree) -> Result<Reply, Memo
     requires built { is_unbuilt tree.now ≡ false }
     ensures { IfOk result (λ reply. reply ≡ checked_reply (check_of tree.now text.now no_names)) }
 {
+    reply_to_checked(alloc, checked(alloc, text, tree))
+}
+
+/// What checking answers to a tree where no array is stored.
+fn checked(alloc: Global, text: &[u8], tree: &Tree) -> Result<Typed, TypeFault>
+    ensures { Answers result (check_of tree.now text.now no_names) }
+{
     let names = Names {
         arrays: List::new(alloc),
     };
-    match check(alloc, tree, text, &names) {
+    check(alloc, tree, text, &names)
+}
+
+/// The reply to what checking answered.
+#[tactic(auto, using(crate::proofs::CheckedReplies::typed_answer, crate::proofs::CheckedReplies::broken_answer))]
+fn reply_to_checked(alloc: Global, checked: Result<Typed, TypeFault>) -> Result<Reply, Memory>
+    requires { IfOk checked CanReply }
+    ensures { (answer : Checked Typed) → Answers checked answer → IfOk result (λ reply. reply ≡ checked_reply answer) }
+{
+    match checked {
         Ok(typed) => reply_to_typed(alloc, &typed),
         Err(TypeFault::Rule { span, kind }) => refuse(alloc, Refusal::Typing { span, kind }),
         Err(TypeFault::Memory) => Err(Memory),
