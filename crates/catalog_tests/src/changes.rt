@@ -6,7 +6,7 @@ ghost use Rattle.catalog_changes.specs.Changed.{has_its_directory};
 use crate::catalogues::{ONE, wrong_record};
 use catalog_changes::*;
 use catalog_rules::*;
-use cell_values::{Bytes, List, Memory};
+use cell_values::{Bytes, List, Memory, Schema};
 use logical_plan::Plan;
 use plan_changes::Change;
 use std::alloc::Global;
@@ -186,31 +186,57 @@ fn no_array_is_made_beside_1024(rt: HostRuntime) -> Result<(), Memory> {
     Ok(())
 }
 
-/// The bytes of the record of an insert into A, and those of the catalogue after it; none where it is not allowed.
+fn copy_of(directory: &Option<BlobAt>) -> Result<Option<BlobAt>, Memory>
+    ensures { IfOk result (λ copy. copy ≡ directory.now) }
+{
+    match directory {
+        Some(directory) => Ok(Some(directory.copy()?)),
+        None => Ok(None),
+    }
+}
+
+/// The bytes of the record of a change, and those of the catalogue after it.
+fn changed(
+    catalog: &Catalog,
+    change: Change,
+    directory: Option<BlobAt>,
+) -> Result<(Bytes, Bytes), Memory>
+    requires names { IsTrue (names_allow (names_in catalog.now) change) }
+    requires directory { IsTrue (has_its_directory change directory) }
+{
+    let alloc = catalog.arrays.allocator();
+    let entry = record_of(catalog, &change, copy_of(&directory)?)?;
+    let after = with_change(catalog, &change, directory)?;
+    Ok((
+        encode_record(alloc, &entry)?,
+        encode_catalog(alloc, &after)?,
+    ))
+}
+
+/// The schema of the records.
+fn schema_of(alloc: Global) -> Result<Schema, Memory> {
+    match record(alloc, CREATE, 66, 0)? {
+        CatalogRecord::Create { schema, .. } => Ok(schema),
+        _ => Err(Memory),
+    }
+}
+
+/// No cells are inserted into the array A.
 fn after_insert(alloc: Global) -> Result<(Bytes, Bytes), Memory> {
     let catalog = decoded(alloc)?;
-    if let CatalogRecord::First {
-        name,
-        schema,
-        directory,
-    } = record(alloc, FIRST, 65, 0)?
-    {
-        let next = CatalogRecord::Next {
-            name: name.copy()?,
-            directory: directory.copy()?,
-        };
-        if allowed(&catalog, &next) {
-            let plan = Plan::literal(schema.copy()?, List::new(alloc));
+    let source = schema_of(alloc)?;
+    let schema = schema_of(alloc)?;
+    let entry = record(alloc, NEXT, 65, 0)?;
+    if allowed(&catalog, &entry) {
+        if let CatalogRecord::Next { name, directory } = &entry {
+            let directory = directory.copy()?;
+            let name = name.copy()?;
+            let plan = Plan::literal(source, List::new(alloc));
             let insert = Change::Insert { name, schema, plan };
-            let entry = record_of(&catalog, &insert, Some(directory.copy()?))?;
-            let after = with_change(&catalog, &insert, Some(directory))?;
-            return Ok((
-                encode_record(alloc, &entry)?,
-                encode_catalog(alloc, &after)?,
-            ));
+            return changed(&catalog, insert, Some(directory));
         }
     }
-    Ok((Bytes::new(alloc), Bytes::new(alloc)))
+    Err(Memory)
 }
 
 #[test]
@@ -224,40 +250,15 @@ fn an_insert_makes_the_next_version(rt: HostRuntime) -> Result<(), Memory> {
     Ok(())
 }
 
-fn copy_of(directory: &Option<BlobAt>) -> Result<Option<BlobAt>, Memory>
-    ensures { IfOk result (λ copy. copy ≡ directory.now) }
-{
-    match directory {
-        Some(directory) => Ok(Some(directory.copy()?)),
-        None => Ok(None),
-    }
-}
-
-/// The bytes of the record of a change, and those of the catalogue after it.
-fn changed(
-    catalog: &Catalog,
-    change: &Change,
-    directory: Option<BlobAt>,
-) -> Result<(Bytes, Bytes), Memory>
-    requires names { IsTrue (names_allow (names_in catalog.now) change.now) }
-    requires directory { IsTrue (has_its_directory change.now directory) }
-{
-    let alloc = catalog.arrays.allocator();
-    let entry = record_of(catalog, change, copy_of(&directory)?)?;
-    let after = with_change(catalog, change, directory)?;
-    Ok((
-        encode_record(alloc, &entry)?,
-        encode_catalog(alloc, &after)?,
-    ))
-}
-
 /// The array B is made.
 fn after_create(alloc: Global) -> Result<(Bytes, Bytes), Memory> {
     let catalog = decoded(alloc)?;
     let entry = record(alloc, CREATE, 66, 0)?;
     if allowed(&catalog, &entry) {
-        if let CatalogRecord::Create { name, schema } = entry {
-            return changed(&catalog, &Change::Create { name, schema }, None);
+        if let CatalogRecord::Create { name, schema } = &entry {
+            let name = name.copy()?;
+            let schema = schema.copy()?;
+            return changed(&catalog, Change::Create { name, schema }, None);
         }
     }
     Err(Memory)
@@ -266,17 +267,21 @@ fn after_create(alloc: Global) -> Result<(Bytes, Bytes), Memory> {
 /// The first version of the array B is stored.
 fn after_store(alloc: Global) -> Result<(Bytes, Bytes), Memory> {
     let catalog = decoded(alloc)?;
+    let source = schema_of(alloc)?;
     let entry = record(alloc, FIRST, 66, 0)?;
     if allowed(&catalog, &entry) {
         if let CatalogRecord::First {
             name,
             schema,
             directory,
-        } = entry
+        } = &entry
         {
-            let plan = Plan::literal(schema.copy()?, List::new(alloc));
+            let directory = directory.copy()?;
+            let name = name.copy()?;
+            let schema = schema.copy()?;
+            let plan = Plan::literal(source, List::new(alloc));
             let store = Change::Store { name, schema, plan };
-            return changed(&catalog, &store, Some(directory));
+            return changed(&catalog, store, Some(directory));
         }
     }
     Err(Memory)
@@ -287,8 +292,9 @@ fn after_remove(alloc: Global) -> Result<(Bytes, Bytes), Memory> {
     let catalog = decoded(alloc)?;
     let entry = record(alloc, REMOVE, 65, 0)?;
     if allowed(&catalog, &entry) {
-        if let CatalogRecord::Remove { name } = entry {
-            return changed(&catalog, &Change::Remove { name }, None);
+        if let CatalogRecord::Remove { name } = &entry {
+            let name = name.copy()?;
+            return changed(&catalog, Change::Remove { name }, None);
         }
     }
     Err(Memory)
@@ -299,8 +305,12 @@ fn after_cut(alloc: Global) -> Result<(Bytes, Bytes), Memory> {
     let catalog = decoded(alloc)?;
     let entry = record(alloc, BELOW, 65, 2)?;
     if allowed(&catalog, &entry) {
-        if let CatalogRecord::RemoveVersions { name, below } = entry {
-            return changed(&catalog, &Change::RemoveVersions { name, below }, None);
+        if let CatalogRecord::RemoveVersions { name, below } = &entry {
+            let cut = Change::RemoveVersions {
+                name: name.copy()?,
+                below: *below,
+            };
+            return changed(&catalog, cut, None);
         }
     }
     Err(Memory)
