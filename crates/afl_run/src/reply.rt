@@ -2,7 +2,6 @@
 ghost use Rattle.std.specs.Prelude.{◌≡◌, ◌≤◌, false, length, IfOk, IsTrue};
 ghost use Rattle.expr_types.specs.Laws.{leaves_fit};
 ghost use Rattle.plan_rows.specs.Found.{CanAnswer};
-ghost use Rattle.type_rules.specs.Checked.{Answers, Checked};
 ghost use Rattle.afl_types.specs.Checking.{check_of};
 ghost use Rattle.afl_run.specs.Reply.{CanReply, IsReplyTo, checked_reply, no_names, plan_reply, refused, reply_to_tree, typed_reply};
 ghost use Rattle.afl_run.specs.Unbuilt.{is_unbuilt};
@@ -49,7 +48,7 @@ pub(crate) fn refuse(alloc: Global, refusal: Refusal) -> Result<Reply, Memory>
 /// The reply to a tree of a text.
 fn reply_to_tree(alloc: Global, text: &[u8], tree: &Tree) -> Result<Reply, Memory>
     requires { IsTrue (leaves_fit tree.now) }
-    ensures { IfOk result (λ reply. reply ≡ reply_to_tree text.now tree.now) }
+    ensures { IfOk result (λ reply. reply ≡ reply_to_tree tree.now) }
 {
     if is_unbuilt(tree) {
         refuse(alloc, Refusal::NotBuilt)
@@ -62,28 +61,12 @@ fn reply_to_tree(alloc: Global, text: &[u8], tree: &Tree) -> Result<Reply, Memor
 fn reply_to_query(alloc: Global, text: &[u8], tree: &Tree) -> Result<Reply, Memory>
     requires fit { IsTrue (leaves_fit tree.now) }
     requires built { is_unbuilt tree.now ≡ false }
-    ensures { IfOk result (λ reply. reply ≡ checked_reply (check_of tree.now text.now no_names)) }
-{
-    reply_to_checked(alloc, checked(alloc, text, tree))
-}
-
-/// What checking answers to a tree where no array is stored.
-fn checked(alloc: Global, text: &[u8], tree: &Tree) -> Result<Typed, TypeFault>
-    ensures { Answers result (check_of tree.now text.now no_names) }
+    ensures { IfOk result (λ reply. reply ≡ checked_reply (check_of tree.now no_names)) }
 {
     let names = Names {
         arrays: List::new(alloc),
     };
-    check(alloc, tree, text, &names)
-}
-
-/// The reply to what checking answered.
-#[tactic(auto, using(crate::proofs::CheckedReplies::typed_answer, crate::proofs::CheckedReplies::broken_answer))]
-fn reply_to_checked(alloc: Global, checked: Result<Typed, TypeFault>) -> Result<Reply, Memory>
-    requires { IfOk checked CanReply }
-    ensures { (answer : Checked Typed) → Answers checked answer → IfOk result (λ reply. reply ≡ checked_reply answer) }
-{
-    match checked {
+    match check(alloc, tree, text, &names) {
         Ok(typed) => reply_to_typed(alloc, &typed),
         Err(TypeFault::Rule { span, kind }) => refuse(alloc, Refusal::Typing { span, kind }),
         Err(TypeFault::Memory) => Err(Memory),
@@ -97,9 +80,6 @@ fn reply_to_typed(alloc: Global, typed: &Typed) -> Result<Reply, Memory>
 {
     match typed {
         Typed::Query(plan) => reply_to_plan(alloc, plan),
-        Typed::Change(_) | Typed::Versions(_) | Typed::Show(_) | Typed::ListArrays => {
-            unreachable!()
-        }
     }
 }
 

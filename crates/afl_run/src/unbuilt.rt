@@ -21,12 +21,7 @@ fn is_to_come(name: &[u8]) -> bool
             | Operator::Project
             | Operator::Between
             | Operator::Subarray
-            | Operator::Slice
-            | Operator::Regrid
-            | Operator::Window
-            | Operator::Aggregate
-            | Operator::Join
-            | Operator::CrossJoin,
+            | Operator::Slice,
         ) => false,
         Some(_) => true,
     }

@@ -1,10 +1,12 @@
-use Rattle.afl_types.specs.Checking.{check_of}
-use Rattle.afl_run.specs.Reply.{no_names}
-use Rattle.afl_run.proofs.CheckedReplies.{can_reply_to}
+use Rattle.afl_run.proofs.CheckedReplies.{broken_answer, typed_answer}
+use Rattle.afl_run.proofs.PlansNow.{can_reply}
 use Rattle.afl_run.proofs.reply.reply_to_query.Goals as goal
 
-pub reply_to_checked-requires : goal.reply_to_checked-requires
-reply_to_checked-requires c = can_reply_to c.args.tree.now c.args.text.now c.checked.result c.requires.fit c.requires.built c.checked.ensures
+pub reply_to_typed-requires : goal.reply_to_typed-requires
+reply_to_typed-requires c = can_reply c.args.tree.now (record { arrays = c.new.result }) c.in-Ok.typed c.new.ensures c.requires.fit c.requires.built c.in-Ok.ensures
 
-pub returns : goal.returns
-returns c = c.reply_to_checked.ensures (check_of c.args.tree.now c.args.text.now no_names) c.checked.ensures
+pub returns-in-Ok : goal.returns-in-Ok
+returns-in-Ok c = typed_answer c.args.tree.now (record { arrays = c.new.result }) c.new.ensures c.reply_to_typed.result c.in-Ok.typed c.in-Ok.ensures c.reply_to_typed.ensures
+
+pub returns-in-Err-Rule : goal.returns-in-Err-Rule
+returns-in-Err-Rule c = broken_answer c.args.tree.now (record { arrays = c.new.result }) c.new.ensures c.refuse.result c.in-Err-Rule.field-0 c.in-Err-Rule.span c.in-Err-Rule.kind c.in-Err-Rule.field-0-is c.in-Err-Rule.ensures c.refuse.ensures
