@@ -30,7 +30,7 @@ use Rattle.afl_types.specs.Queries.{called, query_of}
 use Rattle.afl_types.specs.declared.call.Call.{Call}
 use Rattle.afl_types.specs.declared.call.Call.TheVariants.{Build, Scan, Over, Two}
 use Rattle.afl_types.specs.declared.call.OverSource.{OverSource}
-use Rattle.afl_types.specs.declared.call.OverSource.TheVariants.{Filter, Apply, Project, Between, Subarray, Slice, Regrid, Window, Aggregate}
+use Rattle.afl_types.specs.declared.call.OverSource.TheVariants.{Filter, Apply, Project, Between, Subarray, Slice, Redimension, Regrid, Window, Aggregate}
 use Rattle.afl_types.specs.declared.call.OverTwo.{OverTwo}
 use Rattle.afl_types.specs.declared.call.OverTwo.TheVariants.{Join, CrossJoin}
 use Rattle.group_types.specs.Blocks.{regrid_parts}
@@ -38,6 +38,8 @@ use Rattle.group_types.specs.Groups.{aggregate_parts}
 use Rattle.group_types.specs.Windows.{window_parts}
 use Rattle.join_types.specs.Crosses.{cross_parts}
 use Rattle.join_types.specs.JoinSchemas.{joined_schema}
+use Rattle.moved_types.specs.Redimension.{redimension_parts}
+use Rattle.moved_types.proofs.PartsFit.{MovedFit, redimension_fits}
 use Rattle.afl_types.proofs.NoQuery.{nested_holds}
 
 pub small_valid : (s : Schema) → IsValid s → IsSmall s
@@ -87,6 +89,9 @@ module _ (arrays : List NameEntry) (valid : AreValid arrays) where
   ruled_small s Subarray source arguments small =
       subarray_holds HasSmallSchema s source arguments (λ count order range within. small_within (schema_of (subarray source (box_of (schema_of source).dimensions arguments))) within)
   ruled_small s Slice source arguments small = slice_holds HasSmallSchema s source arguments (λ fixed e some within. small_within (schema_of (sliced source fixed)) within)
+  ruled_small s Redimension source arguments small =
+      thens HasSmallSchema (redimension_parts s (schema_of source) arguments) _ (λ p e.
+      small_valid p.schema (of_answer (MovedFit s (schema_of source)) (redimension_parts s (schema_of source) arguments) p (redimension_fits s (schema_of source) arguments) e).valid)
   ruled_small s Regrid source arguments small =
       thens HasSmallSchema (regrid_parts s (schema_of source) arguments) _ (λ p e. made_small s (regridded source p.sizes p.aggregates))
   ruled_small s Window source arguments small =

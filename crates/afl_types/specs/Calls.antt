@@ -13,10 +13,11 @@ use Rattle.box_types.specs.Boxes.{between_call, subarray_call}
 use Rattle.box_types.specs.Slice.{slice_call}
 use Rattle.afl_types.specs.GroupCalls.{regrid_call, window_call, aggregate_call}
 use Rattle.afl_types.specs.JoinCalls.{join_call, cross_call}
+use Rattle.afl_types.specs.MovedCalls.{redimension_call}
 use Rattle.afl_types.specs.declared.call.Call.{Call}
 use Rattle.afl_types.specs.declared.call.Call.TheVariants.{Build, Scan, Over, Two}
 use Rattle.afl_types.specs.declared.call.OverSource.{OverSource}
-use Rattle.afl_types.specs.declared.call.OverSource.TheVariants.{Filter, Apply, Project, Between, Subarray, Slice, Regrid, Window, Aggregate}
+use Rattle.afl_types.specs.declared.call.OverSource.TheVariants.{Filter, Apply, Project, Between, Subarray, Slice, Redimension, Regrid, Window, Aggregate}
 use Rattle.afl_types.specs.declared.call.OverTwo.{OverTwo}
 use Rattle.afl_types.specs.declared.call.OverTwo.TheVariants.{Join, CrossJoin}
 
@@ -29,6 +30,7 @@ call_of (Some operator.Project) = Some (Over Project)
 call_of (Some operator.Between) = Some (Over Between)
 call_of (Some operator.Subarray) = Some (Over Subarray)
 call_of (Some operator.Slice) = Some (Over Slice)
+call_of (Some operator.Redimension) = Some (Over Redimension)
 call_of (Some operator.Regrid) = Some (Over Regrid)
 call_of (Some operator.Window) = Some (Over Window)
 call_of (Some operator.Aggregate) = Some (Over Aggregate)
@@ -48,6 +50,7 @@ fits_count Project count = nat_le 1 count
 fits_count Between count = true
 fits_count Subarray count = true
 fits_count Slice count = are_pairs count
+fits_count Redimension count = nat_le 1 count
 fits_count Regrid count = true
 fits_count Window count = true
 fits_count Aggregate count = true
@@ -65,6 +68,7 @@ ruled s Project source arguments = project_call s source arguments
 ruled s Between source arguments = between_call s source arguments
 ruled s Subarray source arguments = subarray_call s source arguments
 ruled s Slice source arguments = slice_call s source arguments
+ruled s Redimension source arguments = redimension_call s source arguments
 ruled s Regrid source arguments = regrid_call s source arguments
 ruled s Window source arguments = window_call s source arguments
 ruled s Aggregate source arguments = aggregate_call s source arguments

@@ -3,6 +3,7 @@ pub mod Checking
 pub mod GroupCalls
 pub mod JoinCalls
 pub mod Limits
+pub mod MovedCalls
 pub mod Nested
 pub mod Queries
 pub mod Statements

@@ -6,6 +6,7 @@ ghost use Rattle.afl_types.specs.Calls.{are_pairs, call_of, fits_count, fits_two
 
 use crate::group_calls::{aggregate_call, regrid_call, window_call};
 use crate::join_calls::{cross_call, join_call};
+use crate::moved_calls::redimension_call;
 use afl_parser::Tree;
 use box_types::{between_call, slice_call, subarray_call};
 use cell_values::Span;
@@ -34,6 +35,7 @@ pub enum OverSource {
     Between,
     Subarray,
     Slice,
+    Redimension,
     Regrid,
     Window,
     Aggregate,
@@ -58,6 +60,7 @@ pub(crate) fn call_of(operator: Option<Operator>) -> Option<Call>
         Some(Operator::Between) => Some(Call::Over(OverSource::Between)),
         Some(Operator::Subarray) => Some(Call::Over(OverSource::Subarray)),
         Some(Operator::Slice) => Some(Call::Over(OverSource::Slice)),
+        Some(Operator::Redimension) => Some(Call::Over(OverSource::Redimension)),
         Some(Operator::Regrid) => Some(Call::Over(OverSource::Regrid)),
         Some(Operator::Window) => Some(Call::Over(OverSource::Window)),
         Some(Operator::Aggregate) => Some(Call::Over(OverSource::Aggregate)),
@@ -81,7 +84,7 @@ impl OverSource {
         match self {
             OverSource::Filter => count == 1,
             OverSource::Apply | OverSource::Slice => are_pairs(count),
-            OverSource::Project => 1 <= count,
+            OverSource::Project | OverSource::Redimension => 1 <= count,
             OverSource::Between
             | OverSource::Subarray
             | OverSource::Regrid
@@ -90,10 +93,11 @@ impl OverSource {
         }
     }
 
-    /// The plan over a source, with the arguments behind it.
+    /// The plan over a source, with the arguments behind it in `text`.
     pub(crate) fn ruled(
         self,
         alloc: Global,
+        text: &[u8],
         span: Span,
         source: Plan,
         arguments: &[Tree],
@@ -109,6 +113,7 @@ impl OverSource {
             OverSource::Between => between_call(alloc, span, source, arguments),
             OverSource::Subarray => subarray_call(alloc, span, source, arguments),
             OverSource::Slice => slice_call(alloc, span, source, arguments),
+            OverSource::Redimension => redimension_call(alloc, text, span, source, arguments),
             OverSource::Regrid => regrid_call(alloc, span, source, arguments),
             OverSource::Window => window_call(alloc, span, source, arguments),
             OverSource::Aggregate => aggregate_call(alloc, span, source, arguments),

@@ -5,6 +5,7 @@ mod call;
 mod checking;
 mod group_calls;
 mod join_calls;
+mod moved_calls;
 mod nested;
 mod query;
 mod statement;

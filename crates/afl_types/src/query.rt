@@ -37,7 +37,7 @@ fn over(
         return Err(broken(span, TypeKind::WrongCount));
     }
     let plan = query_of(alloc, text, arrays, source)?;
-    operator.ruled(alloc, span, plan, arguments)
+    operator.ruled(alloc, text, span, plan, arguments)
 }
 
 /// A call of an operator on a source, its first argument.

@@ -6,4 +6,5 @@ pub mod StoredNames
 pub mod TypedChanges
 pub mod TypedGroups
 pub mod TypedJoins
+pub mod TypedMoves
 pub mod TypedQueries

@@ -28,7 +28,7 @@ use Rattle.afl_types.specs.Queries.{called, over, over_two, query_of}
 use Rattle.afl_types.specs.declared.call.Call.{Call}
 use Rattle.afl_types.specs.declared.call.Call.TheVariants.{Build, Scan, Over, Two}
 use Rattle.afl_types.specs.declared.call.OverSource.{OverSource}
-use Rattle.afl_types.specs.declared.call.OverSource.TheVariants.{Filter, Apply, Project, Between, Subarray, Slice, Regrid, Window, Aggregate}
+use Rattle.afl_types.specs.declared.call.OverSource.TheVariants.{Filter, Apply, Project, Between, Subarray, Slice, Redimension, Regrid, Window, Aggregate}
 use Rattle.afl_types.specs.declared.call.OverTwo.{OverTwo}
 use Rattle.afl_types.specs.declared.call.OverTwo.TheVariants.{Join, CrossJoin}
 use Rattle.group_types.specs.Blocks.{regrid_parts}
@@ -36,6 +36,7 @@ use Rattle.group_types.specs.Groups.{aggregate_parts}
 use Rattle.group_types.specs.Windows.{window_parts}
 use Rattle.join_types.specs.Crosses.{cross_parts}
 use Rattle.join_types.specs.JoinSchemas.{joined_schema}
+use Rattle.moved_types.specs.Redimension.{redimension_parts}
 use Rattle.operator_rules.proofs.Holding.{new_holds}
 use Rattle.afl_types.proofs.NoQuery.{nested_holds}
 
@@ -125,6 +126,7 @@ module _ (arrays : List NameEntry) where
   ruled_reads s Between source arguments reads = between_holds ReadsVersions s source arguments (λ count. reads)
   ruled_reads s Subarray source arguments reads = subarray_holds ReadsVersions s source arguments (λ count order range within. reads)
   ruled_reads s Slice source arguments reads = slice_holds ReadsVersions s source arguments (λ fixed e some within. reads)
+  ruled_reads s Redimension source arguments reads = thens ReadsVersions (redimension_parts s (schema_of source) arguments) _ (λ p e. reads)
   ruled_reads s Regrid source arguments reads =
       thens ReadsVersions (regrid_parts s (schema_of source) arguments) _ (λ p e. new_holds ReadsVersions s (regridded source p.sizes p.aggregates) (λ within. reads))
   ruled_reads s Window source arguments reads =

@@ -54,11 +54,12 @@ use Rattle.afl_types.specs.Queries.{called, query_of}
 use Rattle.afl_types.specs.declared.call.Call.{Call}
 use Rattle.afl_types.specs.declared.call.Call.TheVariants.{Build, Scan, Over, Two}
 use Rattle.afl_types.specs.declared.call.OverSource.{OverSource}
-use Rattle.afl_types.specs.declared.call.OverSource.TheVariants.{Filter, Apply, Project, Between, Subarray, Slice, Regrid, Window, Aggregate}
+use Rattle.afl_types.specs.declared.call.OverSource.TheVariants.{Filter, Apply, Project, Between, Subarray, Slice, Redimension, Regrid, Window, Aggregate}
 use Rattle.afl_types.specs.declared.call.OverTwo.{OverTwo}
 use Rattle.afl_types.specs.declared.call.OverTwo.TheVariants.{Join, CrossJoin}
 use Rattle.check_laws.proofs.TypedGroups.{regrid_typed, window_typed, aggregate_typed}
 use Rattle.check_laws.proofs.TypedJoins.{join_typed, cross_typed}
+use Rattle.check_laws.proofs.TypedMoves.{redimension_typed}
 use Rattle.afl_types.proofs.NoQuery.{nested_holds}
 use Rattle.afl_types.proofs.Small.{entry_valid}
 use Rattle.literal_types.proofs.Limits.{are_bytes}
@@ -205,6 +206,7 @@ ruled_typed s Project source arguments leaves t = project_typed s source t argum
 ruled_typed s Between source arguments leaves t = between_typed s source t arguments
 ruled_typed s Subarray source arguments leaves t = subarray_typed s source t arguments
 ruled_typed s Slice source arguments leaves t = slice_typed s source t arguments
+ruled_typed s Redimension source arguments leaves t = redimension_typed s source t arguments
 ruled_typed s Regrid source arguments leaves t = regrid_typed s source t arguments
 ruled_typed s Window source arguments leaves t = window_typed s source t arguments
 ruled_typed s Aggregate source arguments leaves t = aggregate_typed s source t arguments
