@@ -3,7 +3,7 @@ use Rattle.std.proofs.Common.{ℕ, Bool, true, false, Option, IfOk, List}
 use Rattle.std.specs.Prelude.{if◌then◌else◌}
 use Rattle.cell_values.specs.declared.name.Span.{Span}
 use Rattle.schema_grammar.specs.declared.kinds.TypeKind.TheVariants.{UnknownName, WrongType}
-use Rattle.type_rules.specs.Checked.{Checked, refused}
+use Rattle.type_rules.specs.Checked.{refused}
 use Rattle.type_rules.specs.Operators.{name_span}
 use Rattle.type_rules.specs.declared.operator.Operator.{Operator}
 use Rattle.afl_types.specs.Nested.{nested, stands_alone}

@@ -1,5 +1,5 @@
 -- Calls of operators on a source, by the list of their arguments.
-use Rattle.std.proofs.Common.{◌≡◌, ◌<◌, ◌≤◌, ℕ, Some, Err, Result, List, [], ◌∷◌, length, take, drop, get_or, ◌-◌, refl, sym, ap, subst, ◌∙◌, arith}
+use Rattle.std.proofs.Common.{◌≡◌, ◌<◌, ◌≤◌, ℕ, Some, Result, List, [], ◌∷◌, length, take, drop, get_or, ◌-◌, refl, sym, ap, subst, ◌∙◌, arith}
 use Rattle.std.proofs.lemmas.List.{take_all}
 use Rattle.cell_values.specs.declared.name.Span.{Span}
 use Rattle.schema_grammar.specs.declared.kinds.TypeKind.TheVariants.{WrongCount}

@@ -1,8 +1,7 @@
 -- What a checked plan reads are versions of stored arrays, or none of an array that has none.
-use Rattle.std.proofs.Common.{◌≡◌, ◌⊎◌, inl, inr, ℕ, suc, ◌-◌, ℤ, Bool, true, false, cond, ◌||◌, length, Option, Some, None, Ok, IfOk, IsTrue, List, [], ◌∷◌, ◌++◌, refl, sym, ap, subst, ◌∙◌, arith}
+use Rattle.std.proofs.Common.{◌≡◌, ◌⊎◌, inl, inr, ℕ, suc, ◌-◌, ℤ, Bool, true, false, cond, length, Option, Some, None, Ok, IfOk, IsTrue, List, [], ◌∷◌, ◌++◌, refl, sym, ap, subst, ◌∙◌, arith}
 use Rattle.std.specs.Prelude.{nat_eq, slice_get, unwrap_or}
 use Rattle.std.specs.List.{AllByRecursion, find, list_any}
-use Rattle.std.specs.Str.{bytes_eq}
 use Rattle.std.proofs.lemmas.Bool.{eq-eqb, or_left, or_right}
 use Rattle.cell_values.specs.declared.name.Span.{Span}
 use Rattle.schema_grammar.specs.declared.kinds.TypeKind.TheVariants.{WrongCount}
@@ -15,7 +14,6 @@ use Rattle.logical_plan.specs.declared.parts.Leaf.{Leaf}
 use Rattle.logical_plan.specs.declared.names.NameEntry.{NameEntry}
 use Rattle.plan_changes.specs.Changes.{entry_named, is_named}
 use Rattle.plan_changes.specs.Typed.{IsVersionOf}
-use Rattle.type_rules.specs.Checked.{Checked}
 use Rattle.type_rules.specs.Operators.{operator_named}
 use Rattle.type_rules.proofs.Holding.{demanded, thens, of_answer}
 use Rattle.operator_rules.specs.Sorts.{to_list}

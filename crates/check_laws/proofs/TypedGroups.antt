@@ -1,5 +1,5 @@
 -- The plans of `regrid`, `window` and `aggregate` that checking answers are typed where their source is.
-use Rattle.std.proofs.Common.{◌≡◌, IfOk, List}
+use Rattle.std.proofs.Common.{IfOk, List}
 use Rattle.cell_values.specs.declared.name.Span.{Span}
 use Rattle.cell_values.specs.declared.schema.Schema.{Schema}
 use Rattle.cell_values.specs.Schemas.{IsValid}

@@ -1,5 +1,5 @@
 -- The plans of `join` and `cross_join` that checking answers are typed where their sources are.
-use Rattle.std.proofs.Common.{◌≡◌, IfOk, List}
+use Rattle.std.proofs.Common.{IfOk, List}
 use Rattle.cell_values.specs.declared.name.Span.{Span}
 use Rattle.cell_values.specs.declared.schema.Schema.{Schema}
 use Rattle.cell_values.specs.Schemas.{IsValid}

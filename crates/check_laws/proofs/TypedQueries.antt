@@ -1,5 +1,5 @@
 -- The plans that checking answers are typed.
-use Rattle.std.proofs.Common.{◌≡◌, ◌+◌, ◌*◌, ◌-◌, ◌≤◌, ◌==◌, ◌&&◌, ℕ, ℤ, Bool, true, false, length, map, drop, Option, Some, None, Ok, IfOk, IsTrue, List, [], ◌∷◌, ◌++◌, refl, sym, ap, subst, ◌∙◌, arith}
+use Rattle.std.proofs.Common.{◌≡◌, ◌+◌, ◌*◌, ◌≤◌, ◌==◌, ◌&&◌, ℕ, true, length, map, drop, Option, Some, None, Ok, IfOk, IsTrue, List, [], ◌∷◌, ◌++◌, refl, sym, ap, subst, ◌∙◌, arith}
 use Rattle.std.specs.Prelude.{nat_le}
 use Rattle.std.specs.List.{AllByRecursion, list_all}
 use Rattle.std.proofs.lemmas.Bool.{and_parts, and_from, leb-true, eqb-true, eq-eqb}
@@ -11,14 +11,14 @@ use Rattle.cell_values.specs.declared.schema.Bounds.{Bounds}
 use Rattle.cell_values.specs.declared.schema.Dimension.{Dimension}
 use Rattle.cell_values.specs.declared.schema.Kind.TheVariants.{Bool as Truths}
 use Rattle.cell_values.specs.declared.schema.Schema.{Schema}
-use Rattle.cell_values.specs.Schemas.{IsValid, attribute_names, dimension_names, names_of, are_distinct, is_dimension, frame_fits, bounds_in_order, bounds_in_range}
+use Rattle.cell_values.specs.Schemas.{IsValid, attribute_names, dimension_names, are_distinct}
 use Rattle.schema_grammar.specs.declared.kinds.TypeKind.TheVariants.{WrongCount}
 use Rattle.afl_parser.specs.Term.{Term, text, call, group, Terms, no_terms, and_term}
 use Rattle.logical_plan.proofs.SchemaLaws.{typed_valid}
-use Rattle.logical_plan.specs.BoxOps.{items_at, items_but, fixed_places}
-use Rattle.logical_plan.specs.PlanSchema.{derived, schema_of, apply_schema, project_schema, subarray_schema, slice_schema}
-use Rattle.logical_plan.specs.Query.{Query, built, listed, filtered, applied, projected, between, subarray, sliced}
-use Rattle.logical_plan.specs.Typing.{IsTyped, is_bounded, places_in, builds, fits_one, are_below, are_apart, is_box_of}
+use Rattle.logical_plan.specs.BoxOps.{items_but, fixed_places}
+use Rattle.logical_plan.specs.PlanSchema.{derived, schema_of, apply_schema, project_schema}
+use Rattle.logical_plan.specs.Query.{Query, built, listed}
+use Rattle.logical_plan.specs.Typing.{IsTyped, is_bounded, places_in, fits_one, are_below, are_apart, is_box_of}
 use Rattle.logical_plan.specs.declared.names.NameEntry.{NameEntry}
 use Rattle.logical_plan.specs.declared.parts.Applied.{Applied}
 use Rattle.logical_plan.specs.declared.parts.Fixed.{Fixed}
@@ -32,11 +32,9 @@ use Rattle.expr_types.proofs.KindLemmas.{typed_have_kinds}
 use Rattle.literal_types.specs.LiteralRows.{literal_rows}
 use Rattle.operator_rules.specs.InTurn.{in_turn, pairs_in_turn}
 use Rattle.operator_rules.specs.Sorts.{to_list}
-use Rattle.operator_rules.proofs.Holding.{IsWithin}
 use Rattle.operator_rules.proofs.Names.{distinct_front}
 use Rattle.operator_rules.proofs.Turns.{turns_keep, turns_count, pairs_keep}
 use Rattle.operator_rules.proofs.ValidSchemas.{ValidParts, valid_parts, valid_of_parts, has_some}
-use Rattle.source_types.specs.Stored.{entry_named}
 use Rattle.source_types.proofs.Holding.{build_holds, referred_holds, scan_holds}
 use Rattle.cellwise_types.specs.Apply.{applied_one}
 use Rattle.cellwise_types.specs.Project.{projected_one}

@@ -70,15 +70,26 @@ fn tell_over(rt: &(impl Print + AllocGlobal), text: &[u8], arrays: Arrays) -> Re
     }
 }
 
+/// The statement of a line, and the arrays that it is checked over.
+fn statement_in(line: &[u8]) -> (Arrays, &[u8]) {
+    if let Some(text) = line.strip_prefix(b"#full ".as_slice()) {
+        (Arrays::Full, text)
+    } else if let Some(text) = line.strip_prefix(b"#last ".as_slice()) {
+        (Arrays::OneVersion, text)
+    } else if let Some(text) = line.strip_prefix(b"#none ".as_slice()) {
+        (Arrays::NoVersion, text)
+    } else {
+        (Arrays::Few, line)
+    }
+}
+
 /// Prints a title, or what checking answers to the statement of a line.
 fn answer(rt: &(impl Print + AllocGlobal), line: &[u8]) -> Result<()> {
-    match line {
-        [b'#', b'#', ..] => tell_word(rt, from_utf8(line).unwrap_or("##")),
-        [b'#', b'f', b'u', b'l', b'l', b' ', text @ ..] => tell_over(rt, text, Arrays::Full),
-        [b'#', b'l', b'a', b's', b't', b' ', text @ ..] => tell_over(rt, text, Arrays::OneVersion),
-        [b'#', b'n', b'o', b'n', b'e', b' ', text @ ..] => tell_over(rt, text, Arrays::NoVersion),
-        text => tell_over(rt, text, Arrays::Few),
+    if line.starts_with(b"##".as_slice()) {
+        return tell_word(rt, from_utf8(line).unwrap_or("##"));
     }
+    let (arrays, text) = statement_in(line);
+    tell_over(rt, text, arrays)
 }
 
 fn main(rt: HostRuntime) -> Result<()> {
