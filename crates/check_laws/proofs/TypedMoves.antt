@@ -1,5 +1,5 @@
 -- The plan of `redimension` that checking answers is typed where its source is.
-use Rattle.std.proofs.Common.{◌≡◌, IfOk, List}
+use Rattle.std.proofs.Common.{IfOk, List}
 use Rattle.cell_values.specs.declared.name.Span.{Span}
 use Rattle.cell_values.specs.declared.schema.Schema.{Schema}
 use Rattle.afl_parser.specs.Term.{Term}
