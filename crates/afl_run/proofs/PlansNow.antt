@@ -29,14 +29,13 @@ use Rattle.afl_types.specs.declared.call.OverSource.{OverSource}
 use Rattle.afl_types.specs.declared.call.OverSource.TheVariants.{Filter, Apply, Project, Between, Subarray, Slice}
 use Rattle.afl_types.specs.declared.checking.Typed.{Typed}
 use Rattle.afl_types.specs.declared.checking.Typed.TheVariants.{Query as AQuery}
-use Rattle.chunk_exec.specs.Computed.{is_executed}
 use Rattle.check_laws.proofs.TypedQueries.{checked_typed}
 use Rattle.afl_run.specs.Reply.{CanReply}
 use Rattle.afl_run.specs.Unbuilt.{is_to_come, is_unbuilt, has_unbuilt}
 
--- of the operators that are run, and without stored arrays
+-- without stored arrays
 abbrev IsRun : Query → Type 0
-IsRun query = IsTrue (is_executed query) × (leaves query ≡ [])
+IsRun query = leaves query ≡ []
 
 nothing_asked : (ts : List Term) → AllByRecursion (λ t. Unit {0}) ts
 nothing_asked [] = tt
@@ -100,7 +99,7 @@ mutual
 
   called_run : (s : Span) (name : List ℕ) (o : Option Call) (arguments : Terms) → AreKept o → has_unbuilt arguments ≡ false → IfOk (called [] s name o arguments) IsRun
   called_run s name (Some Build) arguments kept f =
-      build_holds IsRun (λ t. Unit {0}) (λ meaning attribute value x leaf valid b one few t fit. (refl, refl)) (λ meaning d at spelled rows leaf valid one e. (refl, refl)) s arguments (nothing_asked (to_list arguments))
+      build_holds IsRun (λ t. Unit {0}) (λ meaning attribute value x leaf valid b one few t fit. refl) (λ meaning d at spelled rows leaf valid one e. refl) s arguments (nothing_asked (to_list arguments))
   called_run s name (Some Scan) arguments kept f = scan_holds IsRun [] none_stored s arguments
   called_run s name (Some (Over o)) (and_term source arguments) kept f =
       over_run s o kept source arguments (query_run source (or_parts (is_unbuilt source) (has_unbuilt arguments) f).0)
@@ -113,4 +112,4 @@ can_reply tree names typed none fit now e =
     of_answer CanReply (check_of tree names) typed (thens CanReply (query_of names.arrays tree) (λ q. Ok (AQuery q)) (λ q f.
     let checked : query_of [] tree ≡ Ok q = sym asked ∙ f in
     let run : IsRun q = of_answer IsRun (query_of [] tree) q (query_run tree now) checked in
-    record { now = run.0; typed = checked_typed [] tree q tt fit checked; unread = run.1 })) e
+    record { typed = checked_typed [] tree q tt fit checked; unread = run })) e
