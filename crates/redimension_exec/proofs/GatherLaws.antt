@@ -1,5 +1,5 @@
 -- Rows that gather the cells which land at one coordinate.
-use Rattle.std.proofs.Common.{◌≡◌, ◌<◌, ◌≤◌, ◌^◌, false, cond, IsTrue, List, [], ◌∷◌, map, filter, length, Some, None, Result, Ok, Err, refl, sym, ap, ◌∙◌, subst, arith}
+use Rattle.std.proofs.Common.{◌≡◌, ◌<◌, ◌≤◌, ◌^◌, false, cond, IsTrue, List, [], ◌∷◌, map, filter, length, Some, Result, Ok, Err, refl, sym, ap, ◌∙◌, subst, arith}
 use Rattle.std.specs.List.{AllByRecursion, AllZip, list_all}
 use Rattle.std.specs.Option.{option_map}
 use Rattle.std.specs.Prelude.{IfOk}
@@ -15,7 +15,7 @@ use Rattle.cell_values.specs.declared.schema.Schema.{Schema}
 use Rattle.cell_values.specs.Cells.{IsCellOf}
 use Rattle.cell_values.specs.Schemas.{IsValid}
 use Rattle.array_cores.proofs.CoreLaws.{cores_are_rows}
-use Rattle.array_cores.specs.Cores.{HaveCells, cores_of, meant_by_cores, unless_broken}
+use Rattle.array_cores.specs.Cores.{HaveCells, cores_of}
 use Rattle.array_geom.specs.declared.chunk.ChunkedArray.{ChunkedArray}
 use Rattle.array_rows.specs.Arrays.{AreRowsOf}
 use Rattle.array_rows.specs.Boxes.{is_inside, bounds_of}
@@ -23,23 +23,18 @@ use Rattle.array_rows.specs.Rows.{Coordinate, row_major, placed, cell_at, in_ord
 use Rattle.array_rows.proofs.RowsLemmas.{row_major_exact, same_rows}
 use Rattle.array_rows.proofs.RowSets.{IsRising-in_order, cell_at-in_order}
 use Rattle.logical_plan.specs.declared.parts.Aggregate.{Aggregate}
-use Rattle.logical_plan.specs.CellOps.{fit_rows}
-use Rattle.logical_plan.specs.Faults.{if_whole, and_then}
+use Rattle.logical_plan.specs.Faults.{if_whole}
 use Rattle.logical_plan.specs.Groups.{aggregates_of}
-use Rattle.logical_plan.specs.Meaning.{redimensioned_from}
-use Rattle.logical_plan.specs.Redimension.{Landed, origin_of, landed, landed_at, named, by_names, gathered_rows, redimension_rows}
+use Rattle.logical_plan.specs.Redimension.{Landed, origin_of, landed, landed_at, named, by_names, gathered_rows}
 use Rattle.logical_plan.specs.Typing.{is_kind_of}
-use Rattle.group_parts.specs.declared.groups.Group.{Group}
 use Rattle.group_parts.specs.declared.groups.Groups.{Groups}
 use Rattle.group_parts.specs.Counts.{cells_in}
-use Rattle.group_parts.specs.Grouped.{AreGroupsOf}
 use Rattle.group_parts.specs.Sets.{unless_empty}
 use Rattle.exec_group.specs.Merging.{IsSetFor}
 use Rattle.exec_group.specs.Told.{IsRowOf, AreRowsOfSets}
 use Rattle.exec_group.proofs.ToldLaws.{told_rows, rows_of_target}
 use Rattle.redimension_exec.specs.Grouping.{landed_sets, AreGroupsLanded}
 use Rattle.redimension_exec.proofs.LandedLaws.{all_landed}
-use Rattle.redimension_exec.proofs.MeantLaws.{meant_of}
 use Rattle.redimension_exec.proofs.OrderLaws.{Gathers, ordered, ordered_typed, ordered_kinds, cell_named}
 
 -- ---- what is told at a coordinate
@@ -137,29 +132,6 @@ few_in rows made groups is cells few =
 
 -- ---- the array
 
-means : (array : ChunkedArray) (target : Schema) (gs : List Aggregate) (r : Result (List Row) Broken) → array.broken ≡ None → 1 ≤ length gs → r ≡ made_of array.schema target gs (cores_of array)
-    → meant_of target (if_whole (fit_rows target.attributes) r) ≡ redimensioned_from target gs (meant_by_cores array)
-means array target [] r none some e = absurd (omega (arith, some))
-means array target (g ∷ gs) r none some e =
-    (λ i. meant_of target (if_whole (fit_rows target.attributes) (e i)))
-    ∙ (λ i. meant_of target (and_then (redimension_rows array.schema target (g ∷ gs)) (unless_broken (sym none i) (cores_of array))))
-
 pub of_cores : (array : ChunkedArray) (source : Schema) (rows : List Row) → source ≡ array.schema → rows ≡ cores_of array → HaveCells array.schema array.margins.items array.chunks → AreRowsOf source rows
 of_cores array source rows s c h =
     subst (λ (z : Schema). AreRowsOf z rows) (sym s) (subst (AreRowsOf array.schema) (sym c) (cores_are_rows array.schema array.margins.items array.chunks h))
-
--- what is gathered from a copy of the schema and the rows of the cores
-pub of_array : (array : ChunkedArray) (source target : Schema) (gs : List Aggregate) (rows : List Row) (made r : Result (List Row) Broken) → source ≡ array.schema → rows ≡ cores_of array → made ≡ made_of source target gs rows → made ≡ r
-    → r ≡ made_of array.schema target gs (cores_of array)
-of_array array source target gs rows made r s c e is = sym is ∙ e ∙ (λ i. made_of (s i) target gs (c i))
-
-pub gathers_whole : (array : ChunkedArray) (target : Schema) (gs : List Aggregate) (rows : List Row) → array.broken ≡ None → 1 ≤ length gs → Ok rows ≡ made_of array.schema target gs (cores_of array)
-    → meant_of target (Ok (fit_rows target.attributes rows)) ≡ redimensioned_from target gs (meant_by_cores array)
-gathers_whole array target gs rows none some e = means array target gs (Ok rows) none some e
-
-pub gathers_breaking : (array : ChunkedArray) (target : Schema) (gs : List Aggregate) (broken : Broken) → array.broken ≡ None → 1 ≤ length gs → Err broken ≡ made_of array.schema target gs (cores_of array)
-    → meant_of target (Err broken) ≡ redimensioned_from target gs (meant_by_cores array)
-gathers_breaking array target gs broken none some e = means array target gs (Err broken) none some e
-
-pub rows_in : (target : Schema) (made : Result (List Row) Broken) (rows : List Row) → made ≡ Ok rows → IfOk made (AreRowsOf target) → AreRowsOf target rows
-rows_in target made rows is are = subst (λ (r : Result (List Row) Broken). IfOk r (AreRowsOf target)) is are

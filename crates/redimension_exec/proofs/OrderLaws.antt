@@ -1,8 +1,8 @@
 -- Aggregates in the order of the attributes that have their names.
-use Rattle.std.proofs.Common.{◌≡◌, ℕ, ◌+◌, ◌<◌, ◌≤◌, Bool, true, false, cond, IsTrue, List, [], ◌∷◌, ◌++◌, map, filter, length, get_or, take, Option, Some, None, refl, sym, ap, ◌∙◌, subst, arith}
+use Rattle.std.proofs.Common.{◌≡◌, ℕ, ◌+◌, ◌<◌, ◌≤◌, Bool, true, false, cond, IsTrue, List, [], ◌∷◌, ◌++◌, map, length, get_or, take, Option, Some, None, refl, sym, ap, ◌∙◌, subst, arith}
 use Rattle.std.proofs.lemmas.List.{take_more}
 use Rattle.std.proofs.lemmas.List.Elements.{filter_map-append}
-use Rattle.std.specs.List.{AllByRecursion, cons_option, filter_map, list_all, list_any}
+use Rattle.std.specs.List.{cons_option, filter_map, list_all}
 use Rattle.std.specs.Option.{option_to_list}
 use Rattle.std.specs.Prelude.{◌&&◌, ◌==◌}
 use Rattle.std.specs.Str.{bytes_eq}
@@ -11,16 +11,14 @@ use Rattle.cell_values.specs.declared.datum.Cell.TheVariants.{Full}
 use Rattle.cell_values.specs.declared.datum.Datum.{Datum}
 use Rattle.cell_values.specs.declared.datum.Row.{Row}
 use Rattle.cell_values.specs.declared.schema.Attribute.{Attribute}
-use Rattle.cell_values.specs.declared.schema.Kind.{Kind}
 use Rattle.cell_values.specs.declared.schema.Schema.{Schema}
 use Rattle.cell_values.specs.Schemas.{are_distinct, is_among, attribute_names}
-use Rattle.expr_nulls.specs.Typing.{same_kind}
 use Rattle.logical_plan.specs.declared.parts.Aggregate.{Aggregate}
 use Rattle.logical_plan.specs.Groups.{aggregate_of, aggregates_of, cells_of}
 use Rattle.logical_plan.specs.PlanSchema.{aggregate_kind}
 use Rattle.logical_plan.specs.Redimension.{Origin, from_dimension, from_attribute, counted, origin_of, counted_places, named, value_or_null, by_names}
 use Rattle.logical_plan.specs.Typing.{is_aggregate_of, are_aggregates_of, aggregate_names, is_kind_of, kinds_of, redimensions, synthetic_count}
-use Rattle.row_places.specs.Counting.{is_counted, has_counted}
+use Rattle.row_places.specs.Counting.{has_counted}
 use Rattle.redimension_exec.proofs.ValueLaws.{same as kind_same}
 
 -- ---- what a redimension with aggregates asks for
