@@ -1,9 +1,9 @@
--- The statements that are not built yet: `create array`, and those that call, anywhere, another operator than `build`, `scan`,
--- `filter`, `apply`, `project`, `between`, `subarray` and `slice`.
+-- The statements that are not built yet: `create array`, and those that call, anywhere, `redimension`, or an operator that changes
+-- arrays or lists something.
 use Rattle.std.specs.Prelude.{Bool, true, false, ◌||◌, Option, Some, None}
 use Rattle.afl_parser.specs.Term.{Term, create, number, text, truth, null, missing, reference, version, call, schema, star, renamed, opposite, negative, binary, group, Terms, no_terms, and_term}
 use Rattle.type_rules.specs.declared.operator.Operator.{Operator}
-use Rattle.type_rules.specs.declared.operator.Operator.TheVariants.{Build, Scan, Filter, Apply, Project, Between, Subarray, Slice}
+use Rattle.type_rules.specs.declared.operator.Operator.TheVariants.{Build, Scan, Filter, Apply, Project, Between, Subarray, Slice, Regrid, Window, Aggregate, Join, CrossJoin}
 use Rattle.type_rules.specs.Operators.{operator_named}
 
 -- an operator, if any, that is not built
@@ -17,6 +17,11 @@ is_to_come (Some Project) = false
 is_to_come (Some Between) = false
 is_to_come (Some Subarray) = false
 is_to_come (Some Slice) = false
+is_to_come (Some Regrid) = false
+is_to_come (Some Window) = false
+is_to_come (Some Aggregate) = false
+is_to_come (Some Join) = false
+is_to_come (Some CrossJoin) = false
 is_to_come (Some operator) = true
 
 abbrev mutual

@@ -21,7 +21,12 @@ fn is_to_come(name: &[u8]) -> bool
             | Operator::Project
             | Operator::Between
             | Operator::Subarray
-            | Operator::Slice,
+            | Operator::Slice
+            | Operator::Regrid
+            | Operator::Window
+            | Operator::Aggregate
+            | Operator::Join
+            | Operator::CrossJoin,
         ) => false,
         Some(_) => true,
     }

@@ -3,8 +3,12 @@
 
 mod call;
 mod checking;
+mod group_calls;
+mod join_calls;
+mod nested;
 mod query;
+mod statement;
 
-pub use call::{Call, OverSource};
+pub use call::{Call, OverSource, OverTwo};
 pub use checking::{Typed, check};
 pub use type_rules::{Form, OneForm, Operator, TypeFault, operator_named};

@@ -5,17 +5,18 @@ ghost use Rattle.type_rules.specs.Checked.{Answers};
 ghost use Rattle.type_rules.specs.Operators.{operator_named};
 ghost use Rattle.afl_types.specs.Calls.{call_of};
 ghost use Rattle.afl_types.specs.Checking.{AreValid};
-ghost use Rattle.afl_types.specs.Queries.{called, over, query_of};
+ghost use Rattle.afl_types.specs.Queries.{called, over, over_two, query_of};
 ghost use Rattle.afl_types.specs.declared.call.Call.{Call};
 
-use crate::call::{Call, OverSource, call_of};
+use crate::call::{Call, OverSource, OverTwo, call_of};
+use crate::nested::no_query;
 use afl_parser::{Node, Tree};
 use cell_values::Span;
 use logical_plan::{NameEntry, Plan};
 use schema_grammar::TypeKind;
 use source_types::{build_call, referred, scan_call};
 use std::alloc::Global;
-use type_rules::{TypeFault, broken, name_span, operator_named};
+use type_rules::{TypeFault, broken, operator_named};
 
 /// An operator on a source, which is checked before the arguments behind it.
 #[cycle(query)]
@@ -60,6 +61,53 @@ fn over_first(
     }
 }
 
+/// An operator on two sources, which are checked before the arguments behind them, the left one first.
+#[cycle(query)]
+#[tactic(auto, using(crate::proofs::Steps::ok_then, crate::proofs::Steps::err_then, crate::proofs::Small::few_dimensions))]
+fn over_two(
+    alloc: Global,
+    text: &[u8],
+    arrays: &[NameEntry],
+    span: Span,
+    operator: OverTwo,
+    left: &Tree,
+    right: &Tree,
+    arguments: &[Tree],
+) -> Result<Plan, TypeFault>
+    requires { AreValid arrays.now }
+    ensures { Answers result (over_two span operator (query_of arrays.now left.now) (query_of arrays.now right.now) arguments.now) }
+{
+    if !operator.fits_count(arguments.len()) {
+        return Err(broken(span, TypeKind::WrongCount));
+    }
+    let left = query_of(alloc, text, arrays, left)?;
+    let right = query_of(alloc, text, arrays, right)?;
+    operator.ruled(alloc, span, left, right, arguments)
+}
+
+/// A call of an operator on two sources, its first arguments.
+#[cycle(query)]
+#[tactic(auto, using(crate::proofs::Sources::without_two))]
+fn over_both(
+    alloc: Global,
+    text: &[u8],
+    arrays: &[NameEntry],
+    span: Span,
+    name: &[u8],
+    operator: OverTwo,
+    arguments: &[Tree],
+) -> Result<Plan, TypeFault>
+    requires { AreValid arrays.now }
+    ensures { Answers result (called arrays.now span name.now (Some (Call.Two operator)) (to_terms arguments.now)) }
+{
+    match arguments {
+        [left, right, rest @ ..] => {
+            over_two(alloc, text, arrays, span, operator, left, right, rest)
+        }
+        _ => Err(broken(span, TypeKind::WrongCount)),
+    }
+}
+
 /// A call of an operator.
 #[cycle(query)]
 fn called(
@@ -79,7 +127,10 @@ fn called(
         Some(Call::Over(operator)) => {
             over_first(alloc, text, arrays, span, name, operator, arguments)
         }
-        None => Err(broken(name_span(span, name), TypeKind::UnknownName)),
+        Some(Call::Two(operator)) => {
+            over_both(alloc, text, arrays, span, name, operator, arguments)
+        }
+        None => Err(no_query(span, name)),
     }
 }
 

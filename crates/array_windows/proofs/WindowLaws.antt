@@ -1,5 +1,5 @@
 -- The windows of an array are rows of their schema.
-use Rattle.std.proofs.Common.{◌≡◌, ℕ, suc, ◌+◌, ◌*◌, ◌<◌, ◌≤◌, ◌^◌, ◌&&◌, Bool, true, false, cond, IsTrue, List, [], ◌∷◌, map, filter, length, Option, Some, None, refl, sym, ap, ◌∙◌, subst, arith}
+use Rattle.std.proofs.Common.{◌≡◌, ℕ, ◌+◌, ◌*◌, ◌<◌, ◌≤◌, ◌^◌, ◌&&◌, IsTrue, List, [], ◌∷◌, map, length, Option, Some, None, refl, sym, ap, ◌∙◌, subst, arith}
 use Rattle.std.specs.Prelude.{nat_le, ◌==◌}
 use Rattle.std.specs.List.{AllByRecursion}
 use Rattle.std.proofs.lemmas.List.{length-map}
@@ -29,16 +29,9 @@ use Rattle.exec_group.proofs.PartLaws as parts
 use Rattle.array_groups.proofs.InsideLaws.{kinds_told}
 use Rattle.window_overlap.specs.Reaches.{AreShort, HaveLowPlaces, CanAggregate}
 use Rattle.window_overlap.proofs.PartLaws.{low_places}
+use Rattle.window_overlap.proofs.WindowLaws.{part_no_longer}
 
 -- ---- the cells of windows
-
-part_no_longer : (test : Row → Bool) (rows : List Row) → length (filter test rows) ≤ length rows
-part_no_longer test [] = omega arith
-part_no_longer test (row ∷ rows) = cases (test row) (part_no_longer test rows)
-  where
-    cases : (b : Bool) → length (filter test rows) ≤ length rows → length (cond b (row ∷ filter test rows) (filter test rows)) ≤ suc (length rows)
-    cases true l = omega (arith, l)
-    cases false l = omega (arith, l)
 
 all_cells : (attributes : List Attribute) (rows : List Row) → AllByRecursion (λ row. IsCellOf attributes row.cell) rows → AllByRecursion (IsCellOf attributes) (cells_of rows)
 all_cells attributes [] h = tt

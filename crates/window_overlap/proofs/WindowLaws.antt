@@ -22,7 +22,7 @@ use Rattle.window_overlap.specs.Reaches.{CanAggregate}
 pub rising_within : (area : Bounds) (rows some : List Row) → some ≡ within area rows → IsRising rows → IsRising some
 rising_within area rows some e r = subst IsRising (sym e) (IsRising-rows_where (is_inside area) rows r)
 
-part_no_longer : (test : Row → Bool) (rows : List Row) → length (filter test rows) ≤ length rows
+pub part_no_longer : (test : Row → Bool) (rows : List Row) → length (filter test rows) ≤ length rows
 part_no_longer test [] = omega arith
 part_no_longer test (row ∷ rows) = cases (test row) (part_no_longer test rows)
   where
