@@ -1,3 +1,4 @@
+pub mod BlockLaws
 pub mod GroupLaws
 pub mod InsideLaws
 pub mod WholeLaws

@@ -5,10 +5,12 @@ use Rattle.std.specs.Prelude.{IfOk}
 use Rattle.cell_values.specs.declared.datum.Broken.{Broken}
 use Rattle.cell_values.specs.declared.datum.Row.{Row}
 use Rattle.cell_values.specs.declared.memory.Memory.{Memory}
+use Rattle.cell_values.specs.declared.schema.Attribute.{Attribute}
 use Rattle.cell_values.specs.declared.schema.Dimension.{Dimension}
 use Rattle.cell_values.specs.declared.schema.Schema.{Schema}
 use Rattle.cell_values.specs.Schemas.{IsValid}
 use Rattle.array_rows.specs.Arrays.{AreRowsOf, Meant}
+use Rattle.array_rows.specs.Rows.{Coordinate}
 use Rattle.array_geom.specs.declared.chunk.ChunkedArray.{ChunkedArray}
 use Rattle.array_geom.specs.Geometry.{overlaps}
 use Rattle.array_geom.specs.Link.{Is}
@@ -18,32 +20,30 @@ use Rattle.array_cores.proofs.CoreLaws.{cores_are_rows}
 use Rattle.logical_plan.specs.declared.parts.Aggregate.{Aggregate}
 use Rattle.logical_plan.specs.BoxOps.{items_at}
 use Rattle.logical_plan.specs.Faults.{if_whole}
-use Rattle.logical_plan.specs.Groups.{aggregate_rows}
-use Rattle.logical_plan.specs.Meaning.{made}
-use Rattle.logical_plan.specs.PlanSchema.{without_overlap, aggregate_schema}
+use Rattle.logical_plan.specs.Meaning.{made as means}
+use Rattle.logical_plan.specs.PlanSchema.{without_overlap, aggregate_attributes, aggregate_schema}
 use Rattle.logical_plan.specs.Typing.{are_aggregates_of, are_below, kinds_of}
 use Rattle.group_parts.specs.declared.groups.Group.{Group}
 use Rattle.group_parts.specs.Grouped.{AreGroupsOf}
-use Rattle.exec_group.specs.Keys.{aggregate_sets}
-use Rattle.exec_group.specs.Merging.{CanBeTold, HoldsSets}
-use Rattle.array_groups.specs.Meant.{aggregate_meant}
-use Rattle.array_groups.proofs.GroupLaws.{aggregate_told}
-use Rattle.array_groups.proofs.InsideLaws.{aggregate_fits, kinds_told, as_many_items}
+use Rattle.group_parts.specs.Sets.{Sets}
+use Rattle.exec_group.specs.Merging.{CanBeTold, HoldsSets, IsSetFor}
+use Rattle.exec_group.specs.Told.{AreRowsOfSets}
+use Rattle.array_groups.proofs.InsideLaws.{kinds_told, as_many_items}
 
 abbrev meant_of : Schema → Result (List Row) Broken → Meant
 meant_of schema rows = record { schema = schema; rows = rows }
 
-means_whole : (schema_of : Schema → Schema) (rows_of : Schema → List Row → List Row) (array : ChunkedArray) (schema : Schema) (new : List Row)
-    → array.broken ≡ None → schema ≡ schema_of array.schema → new ≡ rows_of array.schema (cores_of array) → meant_of schema (Ok new) ≡ made schema_of rows_of (meant_by_cores array)
+pub means_whole : (schema_of : Schema → Schema) (rows_of : Schema → List Row → List Row) (array : ChunkedArray) (schema : Schema) (new : List Row)
+    → array.broken ≡ None → schema ≡ schema_of array.schema → new ≡ rows_of array.schema (cores_of array) → meant_of schema (Ok new) ≡ means schema_of rows_of (meant_by_cores array)
 means_whole schema_of rows_of array schema new none e m =
     let rows : Ok new ≡ if_whole (rows_of array.schema) (unless_broken array.broken (cores_of array)) =
     ap (λ (z : List Row). Ok z) m ∙ ap (λ b. if_whole (rows_of array.schema) (unless_broken b (cores_of array))) (sym none) in
     λ i. meant_of (e i) (rows i)
 
-pub means_broken : (gs : List Aggregate) (places : List ℕ) (array : ChunkedArray) (schema : Schema) (broken : Broken) → schema ≡ aggregate_schema gs places array.schema → array.broken ≡ Some broken
-    → meant_of schema (Err broken) ≡ aggregate_meant gs places (meant_by_cores array)
-means_broken gs places array schema broken e b =
-    let rows : Err broken ≡ if_whole (aggregate_rows places gs) (unless_broken array.broken (cores_of array)) = ap (λ z. if_whole (aggregate_rows places gs) (unless_broken z (cores_of array))) (sym b) in
+pub means_broken : (schema_of : Schema → Schema) (rows_of : Schema → List Row → List Row) (array : ChunkedArray) (schema : Schema) (broken : Broken)
+    → schema ≡ schema_of array.schema → array.broken ≡ Some broken → meant_of schema (Err broken) ≡ means schema_of rows_of (meant_by_cores array)
+means_broken schema_of rows_of array schema broken e b =
+    let rows : Err broken ≡ if_whole (rows_of array.schema) (unless_broken array.broken (cores_of array)) = ap (λ z. if_whole (rows_of array.schema) (unless_broken z (cores_of array))) (sym b) in
     λ i. meant_of (e i) (rows i)
 
 pub stands_for : (r : Result ChunkedArray Memory) (a b : Meant) → a ≡ b → IfOk r (λ made. Is made a) → IfOk r (λ made. Is made b)
@@ -66,24 +66,23 @@ few_names gs (d ∷ places) schema target e v l =
     let same = ap (λ (s : Schema). length s.dimensions) e ∙ length-map (items_at (d ∷ places) schema.dimensions) without_overlap ∙ as_many_items schema.dimensions (d ∷ places) l in
     omega (arith, few, same)
 
-abbrev pub can_tell : (array : ChunkedArray) (gs : List Aggregate) (places : List ℕ) (target : Schema) (rows : List Row) (groups : List Group) → rows ≡ cores_of array → HaveCells array.schema array.margins.items array.chunks
-    → target ≡ aggregate_schema gs places array.schema → IsTrue (are_aggregates_of array.schema.attributes gs) → IsTrue (are_below (length array.schema.dimensions) places) → AreGroupsOf gs (aggregate_sets places rows) groups
-    → CanBeTold target groups
-can_tell array gs places target rows groups same h e typed l are = record {
+abbrev pub can_tell : (source target : Schema) (gs : List Aggregate) (sets : Sets) (groups : List Group) → target.attributes ≡ aggregate_attributes source.attributes gs → IsTrue (are_aggregates_of source.attributes gs)
+    → ((c : Coordinate) → IsSetFor source.attributes target c (sets c)) → AreGroupsOf gs sets groups → CanBeTold target groups
+can_tell source target gs sets groups e typed fits are = record {
   gs = gs;
-  attributes = array.schema.attributes;
-  sets = aggregate_sets places rows;
+  attributes = source.attributes;
+  sets = sets;
   groups_of = are;
   typed = typed;
-  cells = aggregate_fits array.schema target gs places rows (of_cores array rows same h) e l;
-  kinds = ap (λ (s : Schema). kinds_of s.attributes) e ∙ kinds_told array.schema.attributes gs;
+  cells = fits;
+  kinds = ap (λ (attributes : List Attribute). kinds_of attributes) e ∙ kinds_told source.attributes gs;
 }
 
-pub told_whole : (array : ChunkedArray) (gs : List Aggregate) (places : List ℕ) (target : Schema) (rows : List Row) (made : ChunkedArray) → rows ≡ cores_of array → array.broken ≡ None
-    → target ≡ aggregate_schema gs places array.schema → HoldsSets target gs (aggregate_sets places rows) made → Is made (aggregate_meant gs places (meant_by_cores array))
-told_whole array gs places target rows made same none e h =
+pub told_whole : (schema_of : Schema → Schema) (rows_of : Schema → List Row → List Row) (array : ChunkedArray) (gs : List Aggregate) (sets : Sets) (target : Schema) (rows : List Row) (made : ChunkedArray) → rows ≡ cores_of array → array.broken ≡ None
+    → target ≡ schema_of array.schema → ((new : List Row) → AreRowsOfSets gs sets new → new ≡ rows_of array.schema rows) → HoldsSets target gs sets made → Is made (means schema_of rows_of (meant_by_cores array))
+told_whole schema_of rows_of array gs sets target rows made same none e told h =
     subst (λ (m : Meant). Is made m)
-    (means_whole (aggregate_schema gs places) (λ s. aggregate_rows places gs) array target h.rows none e (aggregate_told places gs rows h.rows h.told ∙ ap (aggregate_rows places gs) same))
+    (means_whole schema_of rows_of array target h.rows none e (told h.rows h.told ∙ ap (rows_of array.schema) same))
     h.is
 
 pub if_ok : {X E : Type 0} {P Q : X → Type 0} (r : Result X E) → IfOk r P → ((x : X) → P x → Q x) → IfOk r Q

@@ -1,2 +1,3 @@
+pub mod CrossLaws
 pub mod MadeLaws
 pub mod SideLaws

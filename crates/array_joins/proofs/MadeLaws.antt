@@ -23,7 +23,7 @@ use Rattle.array_cores.proofs.CoreLaws.{cores_are_rows}
 use Rattle.chunk_cells.specs.Whole.{CoresRise}
 use Rattle.logical_plan.specs.Faults.{if_whole, and_then}
 use Rattle.logical_plan.specs.Joins.{join_rows}
-use Rattle.array_joins.specs.Meant.{join_meant}
+use Rattle.logical_plan.specs.Meaning.{made_of_two}
 
 pub few_dimensions : (schema : Schema) (dims : List Dimension) → dims ≡ schema.dimensions → IsValid schema → length dims ≤ 6
 few_dimensions schema dims same valid = let few = (valid_placed schema valid).few in subst (λ (ds : List Dimension). length ds ≤ 6) (sym same) few
@@ -57,19 +57,24 @@ of_cores array rows e h = subst (AreRowsOf array.schema) (sym e) (cores_are_rows
 abbrev meant_of : Schema → Result (List Row) Broken → Meant
 meant_of schema rows = record { schema = schema; rows = rows }
 
-pub means_whole : (schema : Schema) (left right : ChunkedArray) (left_rows right_rows rows : List Row) → left.broken ≡ None → right.broken ≡ None → left_rows ≡ cores_of left → right_rows ≡ cores_of right → rows ≡ join_rows left_rows right_rows
-    → meant_of schema (Ok rows) ≡ join_meant schema (meant_by_cores left) (meant_by_cores right)
-means_whole schema left right left_rows right_rows rows l r e f m =
-    ap (λ (z : List Row). meant_of schema (Ok z)) (m ∙ (λ i. join_rows (e i) (f i)))
-    ∙ (λ i. meant_of schema (and_then (λ a. if_whole (join_rows a) (unless_broken (sym r i) (cores_of right))) (unless_broken (sym l i) (cores_of left))))
+-- what two arrays give, by a function of their rows
+abbrev pub MadeOf : Type 0
+MadeOf = List Row → List Row → List Row
 
-pub means_left : (schema : Schema) (left right : ChunkedArray) (broken : Broken) → left.broken ≡ Some broken → meant_of schema (Err broken) ≡ join_meant schema (meant_by_cores left) (meant_by_cores right)
-means_left schema left right broken l =
-    λ i. meant_of schema (and_then (λ a. if_whole (join_rows a) (unless_broken right.broken (cores_of right))) (unless_broken (sym l i) (cores_of left)))
+pub means_whole : (rows_of : MadeOf) (schema : Schema) (left right : ChunkedArray) (left_rows right_rows rows : List Row) → left.broken ≡ None → right.broken ≡ None → left_rows ≡ cores_of left → right_rows ≡ cores_of right
+    → rows ≡ rows_of left_rows right_rows → meant_of schema (Ok rows) ≡ made_of_two schema rows_of (meant_by_cores left) (meant_by_cores right)
+means_whole rows_of schema left right left_rows right_rows rows l r e f m =
+    ap (λ (z : List Row). meant_of schema (Ok z)) (m ∙ (λ i. rows_of (e i) (f i)))
+    ∙ (λ i. meant_of schema (and_then (λ a. if_whole (rows_of a) (unless_broken (sym r i) (cores_of right))) (unless_broken (sym l i) (cores_of left))))
 
-pub means_right : (schema : Schema) (left right : ChunkedArray) (broken : Broken) → left.broken ≡ None → right.broken ≡ Some broken → meant_of schema (Err broken) ≡ join_meant schema (meant_by_cores left) (meant_by_cores right)
-means_right schema left right broken l r =
-    λ i. meant_of schema (and_then (λ a. if_whole (join_rows a) (unless_broken (sym r i) (cores_of right))) (unless_broken (sym l i) (cores_of left)))
+pub means_left : (rows_of : MadeOf) (schema : Schema) (left right : ChunkedArray) (broken : Broken) → left.broken ≡ Some broken → meant_of schema (Err broken) ≡ made_of_two schema rows_of (meant_by_cores left) (meant_by_cores right)
+means_left rows_of schema left right broken l =
+    λ i. meant_of schema (and_then (λ a. if_whole (rows_of a) (unless_broken right.broken (cores_of right))) (unless_broken (sym l i) (cores_of left)))
+
+pub means_right : (rows_of : MadeOf) (schema : Schema) (left right : ChunkedArray) (broken : Broken) → left.broken ≡ None → right.broken ≡ Some broken
+    → meant_of schema (Err broken) ≡ made_of_two schema rows_of (meant_by_cores left) (meant_by_cores right)
+means_right rows_of schema left right broken l r =
+    λ i. meant_of schema (and_then (λ a. if_whole (rows_of a) (unless_broken (sym r i) (cores_of right))) (unless_broken (sym l i) (cores_of left)))
 
 pub stands_for : (r : Result ChunkedArray Memory) (a b : Meant) → a ≡ b → IfOk r (λ made. Is made a) → IfOk r (λ made. Is made b)
 stands_for r a b e h = subst (λ (m : Meant). IfOk r (λ made. Is made m)) e h

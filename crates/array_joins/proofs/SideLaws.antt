@@ -26,7 +26,7 @@ use Rattle.logical_plan.specs.PlanSchema.{free_name, free_names, renamed_dimensi
 
 -- ---- names
 
-as_many_names : (given names : List (List ℕ)) → length (free_names given names) ≡ length names
+pub as_many_names : (given names : List (List ℕ)) → length (free_names given names) ≡ length names
 as_many_names given [] = refl
 as_many_names given (name ∷ names) = ap suc (as_many_names (given ++ free_name given name ∷ []) names)
 

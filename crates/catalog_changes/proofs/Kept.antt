@@ -12,8 +12,9 @@ use Rattle.plan_changes.specs.declared.change.Change.TheVariants.{Create, Store,
 use Rattle.plan_changes.specs.Allowed.{has_room, has_number}
 use Rattle.plan_changes.specs.Changes.{is_named, has_array, new_entry, with_array, with_version, without_below, arrays_after}
 use Rattle.plan_changes.specs.Stored.{is_before, AreStored}
+use Rattle.plan_changes.proofs.FitLaws.{mapped}
 use Rattle.plan_changes.proofs.NamesOf.{map_filter, prefix_map, map_insert, map_map}
-use Rattle.plan_changes.proofs.StoredLaws.{add_array, add_version, take_out, cut_versions, stored_numbers}
+use Rattle.plan_changes.proofs.StoredLaws.{all_inserted, all_less, add_array, add_version, take_out, cut_versions, stored_numbers}
 use Rattle.schema_items.specs.Spelling.{IsSpelled}
 use Rattle.catalog_rules.specs.declared.catalog.BlobAt.{BlobAt}
 use Rattle.catalog_rules.specs.declared.catalog.CatalogArray.{CatalogArray}
@@ -80,24 +81,6 @@ names_are_kept catalog change directory fits = ap (λ (arrays : List NameEntry).
 
 -- ---- directories of changed arrays
 
-all_inserted : (P : CatalogArray → Type 0) (x : CatalogArray) (xs : List CatalogArray) (i : ℕ) → P x → AllByRecursion P xs → AllByRecursion P (insert xs i x)
-all_inserted P x [] zero px all = (px, tt)
-all_inserted P x [] (suc i) px all = (px, tt)
-all_inserted P x (y ∷ ys) zero px all = (px, all)
-all_inserted P x (y ∷ ys) (suc i) px all = (all.0, all_inserted P x ys i px all.1)
-
-all_mapped : (P : CatalogArray → Type 0) (f : CatalogArray → CatalogArray) → ((a : CatalogArray) → P a → P (f a)) → (xs : List CatalogArray) → AllByRecursion P xs → AllByRecursion P (map f xs)
-all_mapped P f h [] all = tt
-all_mapped P f h (x ∷ xs) all = (h x all.0, all_mapped P f h xs all.1)
-
-kept_if : (P : CatalogArray → Type 0) (b : Bool) (x : CatalogArray) (left : List CatalogArray) → P x → AllByRecursion P left → AllByRecursion P (cond b (x ∷ left) left)
-kept_if P true x left px all = (px, all)
-kept_if P false x left px all = all
-
-all_kept : (P : CatalogArray → Type 0) (p : CatalogArray → Bool) (xs : List CatalogArray) → AllByRecursion P xs → AllByRecursion P (filter p xs)
-all_kept P p [] all = tt
-all_kept P p (x ∷ xs) all = kept_if P (p x) x (filter p xs) all.0 (all_kept P p xs all.1)
-
 blobs_and : (ds : List BlobAt) (d : BlobAt) → AllByRecursion IsBlob ds → IsBlob d → AllByRecursion IsBlob (ds ++ d ∷ [])
 blobs_and [] d all is = (is, tt)
 blobs_and (x ∷ ds) d all is = (all.0, blobs_and ds d all.1 is)
@@ -131,7 +114,7 @@ raise_by : (name : List ℕ) (directory : BlobAt) (a : CatalogArray) (b : Bool) 
 raise_by name directory a false e is has = has
 raise_by name directory a true e is has =
     subst (λ (entry : NameEntry). HasDirectories (record { entry = entry; directories = a.directories ++ directory ∷ [] })) (sym (with_version_is name a.entry e))
-    (record { schema = has.schema; one_each = length-append a.directories (directory ∷ []) ∙ ap (λ (n : ℕ). n + 1) has.one_each ∙ sym (length-append a.entry.versions (a.entry.next ∷ [])); blobs = blobs_and a.directories directory has.blobs is })
+    (record { one_each = length-append a.directories (directory ∷ []) ∙ ap (λ (n : ℕ). n + 1) has.one_each ∙ sym (length-append a.entry.versions (a.entry.next ∷ [])); blobs = blobs_and a.directories directory has.blobs is })
 
 raise_one : (name : List ℕ) (directory : BlobAt) → IsBlob directory → (a : CatalogArray) → HasDirectories a → HasDirectories (with_directory name directory a)
 raise_one name directory is a has = raise_by name directory a (is_named name a.entry) refl is has
@@ -143,14 +126,14 @@ shorten_by name below a true e has =
     let gone = count_by (λ version. nat_lt version below) a.entry.versions in
     let left : length (drop gone a.directories) ≡ length a.directories - gone = length-drop gone a.directories in
     subst (λ (entry : NameEntry). HasDirectories (record { entry = entry; directories = drop gone a.directories })) (sym (without_below_is name below a.entry e))
-    (record { schema = has.schema; one_each = omega (arith, left, left_and_gone below a.entry.versions, has.one_each); blobs = blobs_from a.directories gone has.blobs })
+    (record { one_each = omega (arith, left, left_and_gone below a.entry.versions, has.one_each); blobs = blobs_from a.directories gone has.blobs })
 
 shorten_one : (name : List ℕ) (below : ℕ) (a : CatalogArray) → HasDirectories a → HasDirectories (from_version name below a)
 shorten_one name below a has = shorten_by name below a (is_named name a.entry) refl has
 
-new_has_directories : (name : List ℕ) (schema : Schema) (arrays : List CatalogArray) → IsSpelled schema → AllByRecursion HasDirectories arrays → AllByRecursion HasDirectories (with_new name schema arrays)
-new_has_directories name schema arrays is all =
-    all_inserted HasDirectories (new_array name schema) arrays (prefix_len (λ array. is_before array.entry.name name) arrays) (record { schema = is; one_each = refl; blobs = tt }) all
+new_has_directories : (name : List ℕ) (schema : Schema) (arrays : List CatalogArray) → AllByRecursion HasDirectories arrays → AllByRecursion HasDirectories (with_new name schema arrays)
+new_has_directories name schema arrays all =
+    all_inserted HasDirectories (new_array name schema) arrays (prefix_len (λ array. is_before array.entry.name name) arrays) (record { one_each = refl; blobs = tt }) all
 
 -- ---- records
 
@@ -160,7 +143,7 @@ Stored entries = AreStored (record { arrays = entries })
 new_stored : (name : List ℕ) (schema : Schema) (arrays : List CatalogArray) → IsName name → IsSpelled schema → (not (has_array (entries_of arrays) name) && has_room (entries_of arrays)) ≡ true → Stored (entries_of arrays) → Stored (with_array name schema (entries_of arrays))
 new_stored name schema arrays named is ok h =
     let a = and_parts (not (has_array (entries_of arrays) name)) (has_room (entries_of arrays)) ok in
-    add_array name schema (entries_of arrays) named is.valid a.1 (not-true (has_array (entries_of arrays) name) a.0) h
+    add_array name schema (entries_of arrays) named (record { attributes = is.attributes; dimensions = is.dimensions }) is.valid a.1 (not-true (has_array (entries_of arrays) name) a.0) h
 
 other_has : (name : List ℕ) (e : NameEntry) → is_named name e ≡ false → has_number name e ≡ true
 other_has name e apart = ap (λ (t : Bool). not t || nat_lt e.next 65536) apart
@@ -174,7 +157,7 @@ absent_numbers name (e ∷ es) none =
 pub records_keep_catalogs : RecordsKeepCatalogs
 records_keep_catalogs catalog (entries.Create name schema) is good ok = record {
   names = subst Stored (sym (new_named name schema catalog.arrays)) (new_stored name schema catalog.arrays good.0 good.1 ok is.names);
-  each = new_has_directories name schema catalog.arrays good.1 is.each;
+  each = new_has_directories name schema catalog.arrays is.each;
 }
 records_keep_catalogs catalog (entries.First name schema directory) is good ok =
     let a = and_parts (not (has_array (entries_of catalog.arrays) name)) (has_room (entries_of catalog.arrays)) ok in
@@ -184,19 +167,19 @@ records_keep_catalogs catalog (entries.First name schema directory) is good ok =
     raised_named name directory (with_new name schema catalog.arrays) ∙ ap (map (with_version name)) (new_named name schema catalog.arrays) in
     record {
       names = subst Stored (sym entries_are) (add_version name (with_array name schema (entries_of catalog.arrays)) (stored_numbers name schema (entries_of catalog.arrays) _ (absent_numbers name (entries_of catalog.arrays) none)) more);
-      each = all_mapped HasDirectories (with_directory name directory) (raise_one name directory good.2) (with_new name schema catalog.arrays) (new_has_directories name schema catalog.arrays good.1 is.each);
+      each = mapped HasDirectories HasDirectories (with_directory name directory) (raise_one name directory good.2) (with_new name schema catalog.arrays) (new_has_directories name schema catalog.arrays is.each);
     }
 records_keep_catalogs catalog (entries.Next name directory) is good ok =
     let a = and_parts (has_array (entries_of catalog.arrays) name) (list_all (has_number name) (entries_of catalog.arrays)) ok in
     record {
       names = subst Stored (sym (raised_named name directory catalog.arrays)) (add_version name (entries_of catalog.arrays) a.1 is.names);
-      each = all_mapped HasDirectories (with_directory name directory) (raise_one name directory good.1) catalog.arrays is.each;
+      each = mapped HasDirectories HasDirectories (with_directory name directory) (raise_one name directory good.1) catalog.arrays is.each;
     }
 records_keep_catalogs catalog (entries.Remove name) is good ok = record {
   names = subst Stored (sym (without_named name catalog.arrays)) (take_out (λ entry. not (is_named name entry)) (entries_of catalog.arrays) is.names);
-  each = all_kept HasDirectories (λ array. not (is_array name array)) catalog.arrays is.each;
+  each = all_less HasDirectories (λ array. not (is_array name array)) catalog.arrays is.each;
 }
 records_keep_catalogs catalog (entries.RemoveVersions name below) is good ok = record {
   names = subst Stored (sym (cut_named name below catalog.arrays)) (cut_versions name below (entries_of catalog.arrays) is.names);
-  each = all_mapped HasDirectories (from_version name below) (shorten_one name below) catalog.arrays is.each;
+  each = mapped HasDirectories HasDirectories (from_version name below) (shorten_one name below) catalog.arrays is.each;
 }

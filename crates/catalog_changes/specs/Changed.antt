@@ -3,14 +3,16 @@ use Rattle.std.specs.Prelude.{◌≡◌, ℕ, Bool, true, false, if◌then◌els
 use Rattle.cell_values.specs.declared.schema.Schema.{Schema}
 use Rattle.plan_changes.specs.declared.change.Change.{Change}
 use Rattle.plan_changes.specs.declared.change.Change.TheVariants.{Create, Store, Insert, Remove, RemoveVersions}
+use Rattle.plan_changes.specs.Allowed.{names_allow}
 use Rattle.plan_changes.specs.Changes.{has_array, names_after}
+use Rattle.plan_changes.specs.Stored.{HasItsNames}
 use Rattle.catalog_rules.specs.declared.catalog.BlobAt.{BlobAt}
 use Rattle.catalog_rules.specs.declared.catalog.CatalogArray.{CatalogArray}
 use Rattle.catalog_rules.specs.declared.catalog.Catalog.{Catalog}
 use Rattle.catalog_rules.specs.declared.catalog_record.CatalogRecord.{CatalogRecord}
 use Rattle.catalog_rules.specs.declared.catalog_record.CatalogRecord.TheVariants as entries
 use Rattle.catalog_rules.specs.declared.catalog_record.CatalogRecord.TheVariants.{First, Next}
-use Rattle.catalog_rules.specs.Catalogs.{IsCatalog, IsRecord, names_in}
+use Rattle.catalog_rules.specs.Catalogs.{IsBlob, IsCatalog, IsRecord, names_in}
 use Rattle.catalog_changes.specs.Records.{entries_of, is_allowed, with_new, with_directory, from_version, without, after_record}
 
 -- a directory comes with a change that makes a version, and with no other
@@ -59,3 +61,18 @@ NamesAreKept = (catalog : Catalog) (change : Change) (directory : Option BlobAt)
 -- a record that is allowed leaves a catalogue that has a spelling
 abbrev pub RecordsKeepCatalogs : Type 0
 RecordsKeepCatalogs = (catalog : Catalog) (entry : CatalogRecord) → IsCatalog catalog → IsRecord entry → IsTrue (is_allowed catalog entry) → IsCatalog (after_record catalog entry)
+
+-- a directory, where one comes, in as many pages as it needs
+abbrev pub IsItsBlob : Option BlobAt → Type 0
+IsItsBlob None = Unit {0}
+IsItsBlob (Some directory) = IsBlob directory
+
+-- the record of a change that the names allow has a spelling
+abbrev pub ChangesHaveRecords : Type 0
+ChangesHaveRecords = (catalog : Catalog) (change : Change) (directory : Option BlobAt) (entry : CatalogRecord) → IsCatalog catalog → HasItsNames change → IsTrue (names_allow (names_in catalog) change) → IsItsBlob directory →
+    record_for catalog change directory ≡ Some entry → IsRecord entry
+
+-- such a change leaves a catalogue that has a spelling
+abbrev pub ChangesKeepCatalogs : Type 0
+ChangesKeepCatalogs = (catalog : Catalog) (change : Change) (directory : Option BlobAt) → IsCatalog catalog → HasItsNames change → IsTrue (names_allow (names_in catalog) change) → IsTrue (has_its_directory change directory) → IsItsBlob directory →
+    IsCatalog (after_change catalog change directory)

@@ -9,14 +9,7 @@ ghost use Rattle.catalog_changes.specs.Records.{entries_of, is_array, with_new, 
 use catalog_rules::{BlobAt, CatalogArray};
 use cell_values::{List, Memory, Name, Schema};
 use logical_plan::NameEntry;
-use plan_changes::is_same;
-
-/// Whether a name comes before another, in byte order.
-fn is_before(a: &Name, b: &Name) -> bool
-    ensures { result ≡ is_before a.now b.now }
-{
-    a.as_slice().cmp(b.as_slice()).is_lt()
-}
+use plan_changes::{from_number, is_before, is_same};
 
 /// How many arrays come before a name.
 fn place_of(arrays: &List<CatalogArray>, name: &Name) -> usize
@@ -127,15 +120,6 @@ fn without_first(directories: List<BlobAt>, count: usize) -> List<BlobAt>
     let kept = items.len() - gone;
     items.rotate_left(gone);
     items.truncate(kept);
-    List::from_vec(items)
-}
-
-/// The numbers without those below one.
-fn from_number(numbers: List<u32>, below: u32) -> List<u32>
-    ensures { result ≡ filter (λ number. not (nat_lt number below)) numbers }
-{
-    let mut items = numbers.into_vec();
-    items.retain(|number| !(*number < below));
     List::from_vec(items)
 }
 

@@ -1,5 +1,5 @@
 //! Laws of catalogues.
-ghost use Rattle.catalog_changes.specs.Changed.{NamesAreKept, RecordsKeepCatalogs};
+ghost use Rattle.catalog_changes.specs.Changed.{NamesAreKept, RecordsKeepCatalogs, ChangesHaveRecords, ChangesKeepCatalogs};
 
 /// The names of the catalogue after a change are the names after the change.
 pub fn names_are_kept()
@@ -9,4 +9,14 @@ pub fn names_are_kept()
 /// A record that is allowed leaves a catalogue that has a spelling.
 pub fn records_keep_catalogs()
     ensures { RecordsKeepCatalogs }
+{}
+
+/// The record of a change that the names allow has a spelling.
+pub fn changes_have_records()
+    ensures { ChangesHaveRecords }
+{}
+
+/// A change that the names allow leaves a catalogue that has a spelling.
+pub fn changes_keep_catalogs()
+    ensures { ChangesKeepCatalogs }
 {}

@@ -7,5 +7,7 @@ mod laws;
 mod rules;
 
 pub use changes::{record_of, with_change, with_record};
-pub use laws::{names_are_kept, records_keep_catalogs};
+pub use laws::{
+    changes_have_records, changes_keep_catalogs, names_are_kept, records_keep_catalogs,
+};
 pub use rules::allowed;

@@ -8,7 +8,7 @@ ghost use Rattle.catalog_changes.specs.Records.{entries_of, is_array, newest_in,
 
 use catalog_rules::{Catalog, CatalogArray, CatalogRecord};
 use cell_values::{List, Name};
-use plan_changes::is_same;
+use plan_changes::{is_same, last_of};
 
 fn any_array(arrays: &List<CatalogArray>, name: &Name) -> bool
     ensures { result ≡ list_any (is_array name.now) arrays.now }
@@ -50,22 +50,12 @@ fn array_named<'a>(arrays: &'a List<CatalogArray>, name: &Name) -> Option<&'a Ca
         .find(|array| is_same(&array.entry.name, name))
 }
 
-/// The last of some numbers, 0 where there is none.
-fn last(numbers: &List<u32>) -> u32
-    ensures { result ≡ last_of numbers.now }
-{
-    match numbers.as_slice().last() {
-        Some(number) => *number,
-        None => 0,
-    }
-}
-
 /// The newest version of an array, 0 where there is none.
 fn newest_in(found: Option<&CatalogArray>) -> u32
     ensures { result ≡ newest_in (option_copied found.entry) }
 {
     match found {
-        Some(array) => last(&array.entry.versions),
+        Some(array) => last_of(&array.entry.versions),
         None => 0,
     }
 }

@@ -20,9 +20,8 @@ IsBlob blob = LieIn blob.length blob.pages
 abbrev pub names_in : Catalog → Names
 names_in catalog = record { arrays = map (λ array. array.entry) catalog.arrays }
 
--- an array whose schema has a spelling, with a directory for each version
+-- an array with a directory for each version
 pub record HasDirectories (array : CatalogArray) : Type 0 where
-  pub schema : IsSpelled array.entry.schema
   pub one_each : length array.directories ≡ length array.entry.versions
   pub blobs : AllByRecursion IsBlob array.directories
 

@@ -73,3 +73,9 @@ impl Catalog {
         })
     }
 }
+
+impl Copies for Catalog {
+    fn copy(&self) -> Result<Catalog, Memory> {
+        self.copy()
+    }
+}

@@ -1,1 +1,3 @@
-pub mod ComputedLaws
+mod SourceLaws
+mod OperatorLaws
+mod ComputedLaws

@@ -1,59 +1,43 @@
 //! The arrays of plans, operator by operator.
-ghost use Rattle.std.specs.Prelude.{◌≡◌, IfOk};
+ghost use Rattle.std.specs.Prelude.{◌≡◌, ◌+◌, length, IfOk, OnOk};
 ghost use Rattle.chunk_source.specs.Source.{Keeps};
 ghost use Rattle.chunk_read.specs.Faults.{Answers};
+ghost use Rattle.logical_plan.specs.Leaves.{leaves};
 ghost use Rattle.chunk_exec.specs.Computed.{CanCompute, IsComputed};
 
 use crate::ExecFault;
-use crate::given::{build, literal};
-use crate::steps::{apply, between, filter, project};
+use crate::leaf::given_array;
+use crate::operators::{of_one, of_two};
+use crate::sources::{Sources, sources_of};
 use array_geom::ChunkedArray;
-use chunk_read::read_leaf;
 use chunk_source::ChunkSource;
-use exec_parts::{slice_owned, subarray_owned};
-use logical_plan::{Plan, PlanNode};
+use logical_plan::Plan;
 use std::alloc::Global;
 
-/// The array of a plan.
+/// The array of a plan, whose leaves have the next numbers.
 pub(crate) fn compute<S: ChunkSource>(
     alloc: Global,
     plan: &Plan,
     source: &mut S,
+    next: &mut u32,
 ) -> Result<ChunkedArray, ExecFault>
     requires { CanCompute (S.state source.old) plan.now }
-    ensures computed { IfOk result (IsComputed (S.state source.old) (S.state source.new) plan.now) }
+    ensures computed { IfOk result (IsComputed next.old (S.state source.old) (S.state source.new) plan.now) }
+    ensures next { OnOk result (next.new ≡ next.old + length (leaves plan.now)) }
     ensures kept { Keeps (S.state source.old) (S.state source.new) }
     ensures cause { Answers (S.state source.old) (S.state source.new) result }
     ensures start { S.start source.new ≡ S.start source.old }
 {
-    match &plan.node {
-        PlanNode::Build(schema, value) => Ok(build(alloc, schema, value)?),
-        PlanNode::Literal(schema, rows) => Ok(literal(schema, rows.as_slice())?),
-        PlanNode::Scan(leaf) => read_leaf(source, 0, leaf),
-        PlanNode::Filter(from, test) => {
-            let array = compute(alloc, from, source)?;
-            Ok(filter(alloc, plan, array, test)?)
+    match sources_of(plan) {
+        Sources::Given => given_array(alloc, plan, source, next),
+        Sources::One(from) => {
+            let array = compute(alloc, from, source, next)?;
+            Ok(of_one(alloc, plan, array)?)
         }
-        PlanNode::Apply(from, values) => {
-            let array = compute(alloc, from, source)?;
-            Ok(apply(alloc, plan, array, values)?)
+        Sources::Two(left, right) => {
+            let left = compute(alloc, left, source, next)?;
+            let right = compute(alloc, right, source, next)?;
+            Ok(of_two(plan, left, right)?)
         }
-        PlanNode::Project(from, places) => {
-            let array = compute(alloc, from, source)?;
-            Ok(project(alloc, plan, array, places)?)
-        }
-        PlanNode::Between(from, area) => {
-            let array = compute(alloc, from, source)?;
-            Ok(between(alloc, plan, array, area)?)
-        }
-        PlanNode::Subarray(from, area) => {
-            let array = compute(alloc, from, source)?;
-            Ok(subarray_owned(array, area)?)
-        }
-        PlanNode::Slice(from, fixed) => {
-            let array = compute(alloc, from, source)?;
-            Ok(slice_owned(array, fixed.as_slice())?)
-        }
-        _ => unreachable!(),
     }
 }

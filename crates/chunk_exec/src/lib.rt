@@ -3,7 +3,10 @@
 
 mod compute;
 mod given;
+mod leaf;
+mod operators;
 mod running;
+mod sources;
 mod steps;
 
 pub use chunk_read::ExecFault;

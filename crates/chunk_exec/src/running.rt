@@ -43,5 +43,6 @@ pub fn execute<S: ChunkSource, G: Gate>(
 {
     let _ = (workers, session);
     let _ = gate;
-    compute(alloc, plan, source)
+    let mut next = 0;
+    compute(alloc, plan, source, &mut next)
 }

@@ -5,3 +5,4 @@ mod arrays;
 mod values;
 
 pub use arrays::fit;
+pub use values::fit_rows;

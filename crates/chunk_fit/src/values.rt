@@ -40,7 +40,7 @@ fn fit_cell(attributes: &[Attribute], cell: Cell) -> Cell
 }
 
 /// The rows with a fault in the place of each null that is not to be there.
-pub(crate) fn fit_rows(attributes: &[Attribute], rows: List<Row>) -> Result<List<Row>, Memory>
+pub fn fit_rows(attributes: &[Attribute], rows: List<Row>) -> Result<List<Row>, Memory>
     requires { AllByRecursion (λ row. HasValues attributes.now row.cell) rows }
     ensures { IfOk result (λ fitted. fitted ≡ fit_rows attributes.now rows) }
 {

@@ -39,3 +39,20 @@ impl Copies for DirEntry {
         self.copy()
     }
 }
+
+impl Directory {
+    /// An equal directory.
+    pub fn copy(&self) -> Result<Directory, Memory>
+        ensures { IfOk result (λ copy. copy ≡ self.now) }
+    {
+        Ok(Directory {
+            entries: self.entries.copy()?,
+        })
+    }
+}
+
+impl Copies for Directory {
+    fn copy(&self) -> Result<Directory, Memory> {
+        self.copy()
+    }
+}

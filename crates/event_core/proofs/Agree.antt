@@ -30,7 +30,7 @@ use Rattle.event_core.proofs.Free.{allowed_before, allowed_now}
 same_name : (a b : List ℕ) → bytes_eq a b ≡ true → a ≡ b
 same_name a b e = (bytes_eq-Decides a b).0 e
 
-name_refl : (a : List ℕ) → bytes_eq a a ≡ true
+pub name_refl : (a : List ℕ) → bytes_eq a a ≡ true
 name_refl a = (bytes_eq-Decides a a).1 refl
 
 name_sym : (a b : List ℕ) → bytes_eq a b ≡ bytes_eq b a
@@ -251,7 +251,7 @@ agree_after names (RemoveVersions name below) used versions ok u h n v =
     ∙ ap (λ b. not (bytes_eq n name && nat_lt v below) && b) (h n v)
     ∙ sym (any-filter_same (λ w. is_pages_of n w && nat_eq w.version v) (λ w. not (is_pages_of name w && nat_lt w.version below)) (not (bytes_eq n name && nat_lt v below)) (λ w t. two_same w.version v below w.name n name t) versions)
 
-typed_then : (base : Core) (h : History) (session : ℕ) (change : Change) (used : Used) → IsTrue (is_allowed base (Commit session change used ∷ h)) → IsTrue (names_allow (names_at base h) change)
+pub typed_then : (base : Core) (h : History) (session : ℕ) (change : Change) (used : Used) → IsTrue (is_allowed base (Commit session change used ∷ h)) → IsTrue (names_allow (names_at base h) change)
 typed_then base h session change used ok =
     let typed : Bool = names_allow (names_at base h) change in
     let rest : Bool = are_different (fresh_at base h change used) && list_all (holds (free_at base h)) (fresh_at base h change used) in

@@ -1,13 +1,19 @@
 -- The worked list: a base, a legal history over it, and its free pages, all computed.
 use Rattle.std.proofs.Common.{◌≡◌, true, false, [], ◌∷◌, length, map, refl, IsTrue, arith}
+use Rattle.std.specs.Prelude.{pos}
+use Rattle.cell_values.specs.declared.datum.Datum.TheVariants.{Int}
+use Rattle.expr_nulls.specs.Expr.{literal}
+use Rattle.logical_plan.specs.Query.{built}
+use Rattle.plan_changes.proofs.DatabaseLaws.{plans_mean_arrays}
+use Rattle.plan_changes.specs.Stored.{HasItsNames}
 use Rattle.plan_changes.specs.Typed.{HasTypedPlan}
 use Rattle.event_core.specs.declared.entry.Entry.TheVariants.{Pin, Unpin, Commit}
 use Rattle.event_core.specs.History.{open_pins}
 use Rattle.event_core.specs.Pages.{free_at}
 use Rattle.event_core.specs.Allowed.{IsBase, is_allowed}
-use Rattle.event_core.specs.Legal.{BeginsAt, IsLegal}
+use Rattle.event_core.specs.Legal.{BeginsAt, IsLegal, AllStoreArrays}
 use Rattle.event_core.specs.Promises.{is_awaiting}
-use Rattle.event_core.specs.Worked.{worked_base, worked_store, worked, worked_on, worked_cost}
+use Rattle.event_core.specs.Worked.{worked_base, worked_schema, worked_store, worked, worked_on, worked_cost}
 
 pub base_is : IsBase worked_base
 base_is = record { pins = refl; entries = refl; free = refl }
@@ -18,18 +24,25 @@ allowed_is = refl
 store_typed : HasTypedPlan worked_base.names worked_store
 store_typed = (record { typed = (refl, refl); reads = tt }, refl)
 
+store_names : HasItsNames worked_store
+store_names = (refl, record { attributes = (refl, tt); dimensions = (refl, tt) })
+
 begins_at : BeginsAt [] worked_base
-begins_at = record { base = base_is; database = record { names = record { count = omega arith; rising = tt; each = tt }; rows = tt }; names = refl }
+begins_at = record { base = base_is; database = record { names = record { count = omega arith; rising = tt; each = tt }; rows = tt }; names = refl; pages = λ name version. refl }
 
 -- entry by entry, the oldest first
 first_legal : IsLegal worked_cost [] worked_base (Pin 1 ∷ Unpin 0 ∷ Commit 0 worked_store (record { version = 2 ∷ 3 ∷ []; catalogue = 4 ∷ [] }) ∷ Pin 0 ∷ [])
-first_legal = ((((begins_at, refl, tt, tt), refl, (refl, refl, store_typed), (refl, refl)), refl, tt, tt), refl, tt, tt)
+first_legal = ((((begins_at, refl, tt, tt), refl, (refl, store_names, store_typed), (refl, refl)), refl, tt, tt), refl, tt, tt)
 
 worked_legal : IsLegal worked_cost [] worked_base worked
 worked_legal = (((first_legal, refl, tt, tt), refl, (refl, refl, tt), (refl, refl)), refl, tt, tt)
 
 pub legal_is : IsLegal worked_cost [] worked_base worked_on
 legal_is = (((worked_legal, refl, tt, tt), refl, tt, tt), refl, tt, tt)
+
+-- the plan that it stores means arrays
+pub stores_arrays : AllStoreArrays worked_on
+stores_arrays = ((tt, plans_mean_arrays (built worked_schema (literal (Int (pos 7)))) refl), tt)
 
 -- the removed version's pages wait for the pin of session 1
 pub free_is : free_at worked_base worked ≡ 1 ∷ 4 ∷ 6 ∷ 7 ∷ 8 ∷ 9 ∷ 10 ∷ 11 ∷ 12 ∷ 13 ∷ 14 ∷ 15 ∷ []

@@ -18,6 +18,10 @@ can_name names name version = list_any (λ entry. is_named name entry && holds e
 abbrev pub has_version : List VersionPages → List ℕ → ℕ → Bool
 has_version versions name version = list_any (λ v. is_pages_of name v && nat_eq v.version version) versions
 
+-- each version that can be named has pages, and no other has
+abbrev pub HavePages : Names → List VersionPages → Type 0
+HavePages names versions = (name : List ℕ) (version : ℕ) → can_name names name version ≡ has_version versions name version
+
 -- whether no two entries have one name
 abbrev pub are_unique : List NameEntry → Bool
 are_unique [] = true
@@ -26,5 +30,4 @@ are_unique (entry ∷ entries) = not (has_array entries entry.name) && are_uniqu
 -- after each allowed history the versions that can be named are those that have pages, if it is so at its base
 abbrev pub NamedVersionsHavePages : Type 0
 NamedVersionsHavePages = (base : Core) (h : History) → IsTrue (are_unique base.names.arrays) →
-    ((name : List ℕ) (version : ℕ) → can_name base.names name version ≡ has_version base.pages name version) → IsTrue (is_allowed base h) →
-    (name : List ℕ) (version : ℕ) → can_name (names_at base h) name version ≡ has_version (pages_at base h) name version
+    HavePages base.names base.pages → IsTrue (is_allowed base h) → HavePages (names_at base h) (pages_at base h)

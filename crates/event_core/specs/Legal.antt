@@ -1,17 +1,17 @@
 -- Legal histories.
 use Rattle.std.specs.Prelude.{◌≡◌, ℕ, Bool, false, not, ◌&&◌, ◌||◌, nat_eq, [], ◌∷◌, length, None, IsTrue}
 use Rattle.plan_changes.specs.declared.change.Change.{Change}
-use Rattle.cell_values.specs.Naming.{IsName}
-use Rattle.plan_changes.specs.Changes.{name_of}
 use Rattle.plan_changes.specs.Databases.{Database, fault_of_change, names_of}
-use Rattle.plan_changes.specs.Stored.{IsDatabase, AreStored}
+use Rattle.plan_changes.specs.Kept.{StoresArrays}
+use Rattle.plan_changes.specs.Stored.{IsDatabase, AreStored, HasItsNames}
 use Rattle.plan_changes.specs.Typed.{HasTypedPlan}
 use Rattle.event_core.specs.declared.entry.Entry.{Entry}
 use Rattle.event_core.specs.declared.entry.Entry.TheVariants.{Pin, Unpin, Commit, Reap}
 use Rattle.event_core.specs.declared.state.Core.{Core}
-use Rattle.event_core.specs.History.{History, names_at}
+use Rattle.event_core.specs.History.{History, names_at, pages_at}
 use Rattle.event_core.specs.Pages.{fresh_at}
 use Rattle.event_core.specs.Allowed.{IsBase, allows, is_allowed}
+use Rattle.event_core.specs.Agree.{HavePages}
 use Rattle.event_core.specs.Cells.{at}
 
 -- whether a session has a commit under its open pin, told by its own entries alone
@@ -22,11 +22,11 @@ has_committed s (Unpin t ∷ before) = has_committed s before
 has_committed s (Commit t change used ∷ before) = nat_eq t s || has_committed s before
 has_committed s (Reap ∷ before) = has_committed s before
 
--- one commit a pin, of a typed plan, about an array that has a name
+-- one commit a pin, of a typed plan, about an array and a schema that have names
 abbrev pub IsOrderly : Core → History → Entry → Type 0
 IsOrderly base h (Pin s) = Unit {0}
 IsOrderly base h (Unpin s) = Unit {0}
-IsOrderly base h (Commit s change used) = IsTrue (not (has_committed s h)) × IsName (name_of change) × HasTypedPlan (names_at base h) change
+IsOrderly base h (Commit s change used) = IsTrue (not (has_committed s h)) × HasItsNames change × HasTypedPlan (names_at base h) change
 IsOrderly base h Reap = Unit {0}
 
 -- how many pages a change takes over a database after a history: those of its payloads, its directory and its record or
@@ -41,21 +41,57 @@ IsSound cost db base h (Unpin s) = Unit {0}
 IsSound cost db base h (Commit s change used) = (fault_of_change (at db h) change ≡ None) × (length (fresh_at base h change used) ≡ cost (at db h) h change)
 IsSound cost db base h Reap = Unit {0}
 
--- where a legal history begins: a base that has the names of a database
+-- where a legal history begins: a base that has the names of a database, and pages for each version that can be named, and for no other
 pub record BeginsAt (db : Database) (start : Core) : Type 0 where
   pub base : IsBase start
   pub database : IsDatabase db
   pub names : start.names ≡ names_of db
+  pub pages : HavePages start.names start.pages
 
 -- each entry is allowed, orderly and sound after those before it
 abbrev pub IsLegal : Cost → Database → Core → History → Type 0
 IsLegal cost db base [] = BeginsAt db base
 IsLegal cost db base (entry ∷ before) = IsLegal cost db base before × IsTrue (allows base before entry) × IsOrderly base before entry × IsSound cost db base before entry
 
--- a legal history is an allowed one
-abbrev pub LegalIsAllowed : Type 0
-LegalIsAllowed = (cost : Cost) (db : Database) (base : Core) (h : History) → IsLegal cost db base h → IsTrue (is_allowed base h)
+-- ---- where nothing is known of the cells
 
--- after a legal history the names rise, their versions rise below the next number, and no more arrays stand than may
-abbrev pub LegalNamesAreStored : Type 0
-LegalNamesAreStored = (cost : Cost) (db : Database) (base : Core) (h : History) → IsLegal cost db base h → AreStored (names_at base h)
+-- the same of a base, without a database
+pub record BeginsWithNames (start : Core) : Type 0 where
+  pub base : IsBase start
+  pub names : AreStored start.names
+  pub pages : HavePages start.names start.pages
+
+-- each entry is allowed and orderly after those before it. Nothing is said of faults and of costs
+abbrev pub IsOrdered : Core → History → Type 0
+IsOrdered base [] = BeginsWithNames base
+IsOrdered base (entry ∷ before) = IsOrdered base before × IsTrue (allows base before entry) × IsOrderly base before entry
+
+-- ---- laws
+
+-- a legal history is an ordered one
+abbrev pub LegalIsOrdered : Type 0
+LegalIsOrdered = (cost : Cost) (db : Database) (base : Core) (h : History) → IsLegal cost db base h → IsOrdered base h
+
+-- an ordered history is an allowed one over a base
+abbrev pub OrderedIsAllowed : Type 0
+OrderedIsAllowed = (base : Core) (h : History) → IsOrdered base h → IsBase base × IsTrue (is_allowed base h)
+
+-- after an ordered history the names rise, their versions rise below the next number, and no more arrays stand than may
+abbrev pub OrderedNamesAreStored : Type 0
+OrderedNamesAreStored = (base : Core) (h : History) → IsOrdered base h → AreStored (names_at base h)
+
+-- after an ordered history each version that can be named has pages, and no other
+abbrev pub OrderedVersionsHavePages : Type 0
+OrderedVersionsHavePages = (base : Core) (h : History) → IsOrdered base h → HavePages (names_at base h) (pages_at base h)
+
+-- each plan that a history stores means arrays of its schema
+abbrev pub AllStoreArrays : History → Type 0
+AllStoreArrays [] = Unit {0}
+AllStoreArrays (Pin s ∷ before) = AllStoreArrays before
+AllStoreArrays (Unpin s ∷ before) = AllStoreArrays before
+AllStoreArrays (Commit s change used ∷ before) = AllStoreArrays before × StoresArrays change
+AllStoreArrays (Reap ∷ before) = AllStoreArrays before
+
+-- after a legal history of such plans there is a database
+abbrev pub LegalDatabases : Type 0
+LegalDatabases = (cost : Cost) (db : Database) (base : Core) (h : History) → IsLegal cost db base h → AllStoreArrays h → IsDatabase (at db h)

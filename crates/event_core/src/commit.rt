@@ -1,8 +1,7 @@
 //! The pages of a commit.
 ghost use Rattle.std.specs.Prelude.{◌≡◌, ◌∷◌, [], ◌++◌, ◌&&◌, not, nat_lt, IfOk, OnOk, OnErr};
 ghost use Rattle.std.specs.List.{filter};
-ghost use Rattle.std.specs.Option.{option_copied};
-ghost use Rattle.plan_changes.specs.Changes.{entry_named, next_of, last_of, newest_of, name_of};
+ghost use Rattle.plan_changes.specs.Changes.{next_of};
 ghost use Rattle.version_reaper.specs.PageSets.{holds};
 ghost use Rattle.event_core.specs.History.{is_pages_of, pages_after};
 ghost use Rattle.event_core.specs.Pages.{fresh_of};
@@ -11,62 +10,8 @@ ghost use Rattle.event_core.specs.Known.{pages_if, known_of};
 use crate::marks::Marks;
 use crate::{Core, Used, VersionPages};
 use cell_values::{List, Memory, Name};
-use logical_plan::{NameEntry, Names};
-use plan_changes::{Change, is_same};
-
-/// The last of some numbers, 0 where there is none.
-fn last(numbers: &List<u32>) -> u32
-    ensures { result ≡ last_of numbers.now }
-{
-    match numbers.as_slice().last() {
-        Some(number) => *number,
-        None => 0,
-    }
-}
-
-/// The array of a name.
-fn entry_named<'a>(names: &'a Names, name: &Name) -> Option<&'a NameEntry>
-    ensures { option_copied result ≡ entry_named names.now.arrays name.now }
-{
-    names
-        .arrays
-        .as_slice()
-        .iter()
-        .find(|entry| is_same(&entry.name, name))
-}
-
-/// The number of the next version, 1 where no array has the name.
-fn next_version(names: &Names, name: &Name) -> u32
-    ensures { result ≡ next_of names.now.arrays name.now }
-{
-    match entry_named(names, name) {
-        Some(entry) => entry.next,
-        None => 1,
-    }
-}
-
-/// The newest version, 0 where there is none.
-fn newest_version(names: &Names, name: &Name) -> u32
-    ensures { result ≡ newest_of names.now.arrays name.now }
-{
-    match entry_named(names, name) {
-        Some(entry) => last(&entry.versions),
-        None => 0,
-    }
-}
-
-/// The name that a change is about.
-fn changed_name(change: &Change) -> &Name
-    ensures { result.now ≡ name_of change.now }
-{
-    match change {
-        Change::Create { name, .. } => name,
-        Change::Store { name, .. } => name,
-        Change::Insert { name, .. } => name,
-        Change::Remove { name } => name,
-        Change::RemoveVersions { name, .. } => name,
-    }
-}
+use logical_plan::Names;
+use plan_changes::{Change, changed_name, is_same, newest_of, next_of};
 
 /// Adds the pages of a version, if it is this one.
 fn push_if(
@@ -87,7 +32,7 @@ fn push_if(
 fn known_pages(core: &Core, name: &Name) -> Result<List<u32>, Memory>
     ensures { IfOk result (λ pages. pages ≡ known_of core.now.names core.now.pages core.now.catalogue name.now) }
 {
-    let newest = newest_version(&core.names, name);
+    let newest = newest_of(&core.names.arrays, name);
     let mut pages = core.catalogue.copy()?;
     for version in core.pages.as_slice() {
         push_if(&mut pages, version, name, newest)?;
@@ -165,7 +110,7 @@ fn push_next(
 {
     let next = VersionPages {
         name: name.copy()?,
-        version: next_version(names, name),
+        version: next_of(&names.arrays, name),
         pages: used.copy()?,
     };
     versions.push(next)?;

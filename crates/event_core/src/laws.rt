@@ -5,7 +5,7 @@ ghost use Rattle.event_core.specs.Pages.{free_at};
 ghost use Rattle.event_core.specs.Allowed.{IsBase};
 ghost use Rattle.event_core.specs.Agree.{NamedVersionsHavePages};
 ghost use Rattle.event_core.specs.Cells.{NamesAreOfTheDatabase};
-ghost use Rattle.event_core.specs.Legal.{IsLegal, LegalIsAllowed, LegalNamesAreStored};
+ghost use Rattle.event_core.specs.Legal.{IsLegal, LegalIsOrdered, OrderedIsAllowed, OrderedNamesAreStored, OrderedVersionsHavePages, AllStoreArrays, LegalDatabases};
 ghost use Rattle.event_core.specs.Promises.{NoFreePageIsLive, NoFreshPageWasLive, PinnedPagesStayLive, ReapFreesTheRest, FreePagesAreWithin, PagesAreConserved};
 ghost use Rattle.event_core.specs.Worked.{worked_base, worked, worked_on, worked_cost};
 
@@ -53,20 +53,36 @@ pub fn names_are_of_the_database()
     names_depend_on_no_row();
 }
 
-/// A legal history is an allowed one.
-pub fn legal_is_allowed()
-    ensures { LegalIsAllowed }
+/// A legal history is an ordered one: legal but for what it says of cells.
+pub fn legal_is_ordered()
+    ensures { LegalIsOrdered }
 {}
 
-/// After a legal history the names and the numbers of versions rise, and no more arrays stand than may.
-pub fn legal_names_are_stored()
-    ensures { LegalNamesAreStored }
+/// An ordered history is an allowed one, over a base.
+pub fn ordered_is_allowed()
+    ensures { OrderedIsAllowed }
+{}
+
+/// After an ordered history the names and the numbers of versions rise, and no more arrays stand than may.
+pub fn ordered_names_are_stored()
+    ensures { OrderedNamesAreStored }
+{}
+
+/// After an ordered history the versions that can be named are those that have pages.
+pub fn ordered_versions_have_pages()
+    ensures { OrderedVersionsHavePages }
+{}
+
+/// After a legal history, of plans that mean arrays of their schemas, there is a database.
+pub fn legal_databases()
+    ensures { LegalDatabases }
 {}
 
 /// There is a legal history, in which a removed version's pages wait until the pin that could name it is gone.
 pub fn a_history_is_legal()
     ensures base { IsBase worked_base }
     ensures legal { IsLegal worked_cost [] worked_base worked_on }
+    ensures stores { AllStoreArrays worked_on }
     ensures places { map (λ pin. length pin.before) (open_pins worked) ≡ 3 ∷ 4 ∷ [] }
     ensures free { free_at worked_base worked ≡ 1 ∷ 4 ∷ 6 ∷ 7 ∷ 8 ∷ 9 ∷ 10 ∷ 11 ∷ 12 ∷ 13 ∷ 14 ∷ 15 ∷ [] }
     ensures free_later { free_at worked_base worked_on ≡ 1 ∷ 2 ∷ 3 ∷ 4 ∷ 6 ∷ 7 ∷ 8 ∷ 9 ∷ 10 ∷ 11 ∷ 12 ∷ 13 ∷ 14 ∷ 15 ∷ [] }

@@ -20,18 +20,18 @@ use Rattle.logical_plan.specs.BoxOps.{items_but, has_fixed, fixed_places}
 use Rattle.moved_rows.specs.Laws.{SlicesAreArrays}
 use Rattle.moved_rows.proofs.MovedLaws.{AllAt, rising_moved, all_moved, all_where, passing}
 
-abbrev is_among : List ℕ → ℕ → Bool
+abbrev pub is_among : List ℕ → ℕ → Bool
 is_among places n = list_any (λ place. place == n) places
 
 -- coordinates that agree at some places, of which the first number has the place n
-abbrev AgreeFrom : List ℕ → ℕ → Coordinate → Coordinate → Type 0
+abbrev pub AgreeFrom : List ℕ → ℕ → Coordinate → Coordinate → Type 0
 AgreeFrom places n a b = (k m : ℕ) → m ≡ n + k → is_among places m ≡ true → slice_index_or a k (pos 0) ≡ slice_index_or b k (pos 0)
 
 itself : (x : ℤ) → int_cmp x x ≡ Equal
 itself x = tied_itself int_cmp_total x
 
 -- the numbers at which coordinates agree do not decide their order
-order_but : (places : List ℕ) (n : ℕ) (a b : Coordinate) → length a ≡ length b → AgreeFrom places n a b → row_major (items_but places n a) (items_but places n b) ≡ row_major a b
+pub order_but : (places : List ℕ) (n : ℕ) (a b : Coordinate) → length a ≡ length b → AgreeFrom places n a b → row_major (items_but places n a) (items_but places n b) ≡ row_major a b
 order_but places n [] [] e agree = refl
 order_but places n [] (y ∷ b) e agree = cc
 order_but places n (x ∷ a) [] e agree = cc
@@ -49,7 +49,7 @@ order_but places n (x ∷ a) (y ∷ b) e agree =
         rest ∙ sym (ap (λ (o : Ordering). ordering_then o (row_major a b)) tied)
 
 -- what lies in a box lies in it without some dimensions
-inside_but : (places : List ℕ) (n : ℕ) (dims : List Dimension) (c : Coordinate) → is_inside (bounds_of dims) c ≡ true → is_inside (bounds_of (items_but places n dims)) (items_but places n c) ≡ true
+pub inside_but : (places : List ℕ) (n : ℕ) (dims : List Dimension) (c : Coordinate) → is_inside (bounds_of dims) c ≡ true → is_inside (bounds_of (items_but places n dims)) (items_but places n c) ≡ true
 inside_but places n [] [] e = refl
 inside_but places n [] (x ∷ c) e = cc
 inside_but places n (d ∷ dims) [] e = cc
@@ -84,7 +84,7 @@ agree (g ∷ fixed) m a b e f t = cases (g.dimension == m) refl t (agree fixed m
         ap (λ (k : ℕ). slice_index_or a k (pos 0)) (sym here) ∙ left ∙ sym right ∙ ap (λ (k : ℕ). slice_index_or b k (pos 0)) here
 
 -- what lies in a box has a number for each dimension
-long : (dims : List Dimension) (c : Coordinate) → is_inside (bounds_of dims) c ≡ true → length c ≡ length dims
+pub long : (dims : List Dimension) (c : Coordinate) → is_inside (bounds_of dims) c ≡ true → length c ≡ length dims
 long [] [] e = refl
 long [] (x ∷ c) e = cc
 long (d ∷ dims) [] e = cc

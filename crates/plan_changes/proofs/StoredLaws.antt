@@ -1,41 +1,37 @@
 -- A change that the names allow leaves names that rise.
-use Rattle.std.proofs.Common.{◌≡◌, ℕ, zero, suc, ◌+◌, ◌<◌, ◌≤◌, Bool, true, false, cond, not, ◌&&◌, ◌||◌, nat_lt, nat_le, List, [], ◌∷◌, ◌++◌, map, length, refl, sym, ap, subst, ◌∙◌, arith}
-use Rattle.std.specs.Prelude.{IsTrue}
-use Rattle.std.specs.List.{AllByRecursion, filter, insert, list_all, list_any, prefix_len}
+use Rattle.std.proofs.Common.{◌≡◌, ℕ, zero, suc, ◌+◌, ◌<◌, ◌≤◌, Bool, true, false, cond, not, ◌&&◌, ◌||◌, nat_lt, List, [], ◌∷◌, ◌++◌, map, length, refl, sym, ap, subst, ◌∙◌, arith}
+use Rattle.std.specs.List.{AllByRecursion, filter, insert, list_all}
 use Rattle.std.specs.Ordering.{nat_cmp, is_lt, is_eq, ordering_reverse}
 use Rattle.std.specs.Cmp.Lexicographic.{slice_cmp}
 use Rattle.std.specs.Str.{bytes_eq}
 use Rattle.std.specs.declared.cmp.Ordering.{Ordering}
 use Rattle.std.specs.declared.cmp.Ordering.TheVariants.{Less, Equal, Greater}
-use Rattle.std.proofs.lemmas.Bool.{and_parts, and_from, or_parts, not-true, ltb-true, ltb-false}
+use Rattle.std.proofs.lemmas.Bool.{and_parts, or_parts, not-true, ltb-true}
 use Rattle.std.proofs.lemmas.Cmp.{nat_list_cmp_total}
 use Rattle.std.proofs.lemmas.List.Edits.{length-insert}
 use Rattle.std.proofs.lemmas.List.Sums.{prefix_len-le-length}
-use Rattle.std.proofs.lemmas.Map.Lookups.{exact_bytes}
 use Rattle.std.proofs.lemmas.Map.Text.{is_eq-slice_cmp}
 use Rattle.cell_values.specs.Naming.{IsName}
-use Rattle.cell_values.specs.Schemas.{IsValid, is_valid}
+use Rattle.cell_values.specs.Schemas.{is_valid}
 use Rattle.cell_values.specs.declared.schema.Schema.{Schema}
 use Rattle.logical_plan.specs.declared.names.NameEntry.{NameEntry}
-use Rattle.logical_plan.specs.declared.names.Names.{Names}
-use Rattle.plan_changes.specs.declared.change.Change.{Change}
 use Rattle.plan_changes.specs.declared.change.Change.TheVariants.{Create, Store, Insert, Remove, RemoveVersions}
-use Rattle.plan_changes.specs.Allowed.{has_room, has_number, names_allow}
-use Rattle.plan_changes.specs.Changes.{is_named, has_array, name_of, place_of, new_entry, with_array, with_absent, with_version, without_below, arrays_after, names_after}
+use Rattle.plan_changes.specs.Allowed.{has_room, has_number}
+use Rattle.plan_changes.specs.Changes.{is_named, has_array, place_of, new_entry, with_array, with_version, without_below}
 use Rattle.plan_changes.proofs.Maps.{all_inserted as all_pass_inserted}
-use Rattle.plan_changes.specs.Stored.{is_before, NamesRise, RiseBetween, IsStored, AreStored, ChangesKeepNames}
+use Rattle.plan_changes.specs.Stored.{is_before, NamesRise, RiseBetween, HasNames, IsStored, AreStored, ChangesKeepNames}
 
-abbrev names_in : List NameEntry → List (List ℕ)
+abbrev pub names_in : List NameEntry → List (List ℕ)
 names_in = map (λ entry. entry.name)
 
 -- ---- names in order
 
-lt_is : (o : Ordering) → is_lt o ≡ true → o ≡ Less
+pub lt_is : (o : Ordering) → is_lt o ≡ true → o ≡ Less
 lt_is Less e = refl
 lt_is Equal e = absurd cc
 lt_is Greater e = absurd cc
 
-before_trans : (a b c : List ℕ) → is_before a b ≡ true → is_before b c ≡ true → is_before a c ≡ true
+pub before_trans : (a b c : List ℕ) → is_before a b ≡ true → is_before b c ≡ true → is_before a c ≡ true
 before_trans a b c p q = ap is_lt (nat_list_cmp_total.trans a b c (lt_is (slice_cmp nat_cmp a b) p) (lt_is (slice_cmp nat_cmp b c) q))
 
 -- of two different names one comes before the other
@@ -57,7 +53,7 @@ behind_it a b l e = other_way (slice_cmp nat_cmp a b) (slice_cmp nat_cmp b a) (n
 rise_behind : (x : NameEntry) (e : NameEntry) (es : List NameEntry) → is_before x.name e.name ≡ true → NamesRise (names_in (e ∷ es)) → NamesRise (names_in (x ∷ e ∷ es))
 rise_behind x e es l h = (l, h)
 
-tail_rises : (e : NameEntry) (es : List NameEntry) → NamesRise (names_in (e ∷ es)) → NamesRise (names_in es)
+pub tail_rises : (e : NameEntry) (es : List NameEntry) → NamesRise (names_in (e ∷ es)) → NamesRise (names_in es)
 tail_rises e [] h = tt
 tail_rises e (f ∷ es) h = h.1
 
@@ -71,7 +67,7 @@ place_step name x e es false l =
     ap (λ (i : ℕ). insert (e ∷ es) i x) first
 
 -- the names that rise behind one
-abbrev RiseAfter : List ℕ → List NameEntry → Type 0
+abbrev pub RiseAfter : List ℕ → List NameEntry → Type 0
 RiseAfter name es = NamesRise (name ∷ names_in es)
 
 after_by : (name : List ℕ) (x : NameEntry) (prev : List ℕ) (e : NameEntry) (es : List NameEntry) → x.name ≡ name → is_before prev name ≡ true → RiseAfter prev (e ∷ es) → bytes_eq e.name name ≡ false
@@ -100,21 +96,21 @@ rise_more name x (e ∷ es) same none h =
     let n = or_parts (bytes_eq e.name name) (has_array es name) none in
     rise_by name x e es same h n.0 n.1 (is_before e.name name) refl
 
-all_inserted : (P : NameEntry → Type 0) (x : NameEntry) (es : List NameEntry) (i : ℕ) → P x → AllByRecursion P es → AllByRecursion P (insert es i x)
+pub all_inserted : {A : Type 0} (P : A → Type 0) (x : A) (es : List A) (i : ℕ) → P x → AllByRecursion P es → AllByRecursion P (insert es i x)
 all_inserted P x [] zero px all = (px, tt)
 all_inserted P x [] (suc i) px all = (px, tt)
 all_inserted P x (e ∷ es) zero px all = (px, all)
 all_inserted P x (e ∷ es) (suc i) px all = (all.0, all_inserted P x es i px all.1)
 
-pub add_array : (name : List ℕ) (schema : Schema) (es : List NameEntry) → IsName name → is_valid schema ≡ true → has_room es ≡ true → has_array es name ≡ false
+pub add_array : (name : List ℕ) (schema : Schema) (es : List NameEntry) → IsName name → HasNames schema → is_valid schema ≡ true → has_room es ≡ true → has_array es name ≡ false
     → AreStored (record { arrays = es }) → AreStored (record { arrays = with_array name schema es })
-add_array name schema es named valid room none h =
+add_array name schema es named of_names valid room none h =
     let below : length es < 1024 = ltb-true (length es) 1024 room in
     let more : length (with_array name schema es) ≡ length es + 1 = length-insert es (place_of es name) (new_entry name schema) (prefix_len-le-length (λ entry. is_before entry.name name) es) in
     record {
       count = omega (arith, below, more);
       rising = rise_more name (new_entry name schema) es refl none h.rising;
-      each = all_inserted IsStored (new_entry name schema) es (place_of es name) (record { name = named; schema = valid; next = (omega arith, omega arith); versions = tt }) h.each;
+      each = all_inserted IsStored (new_entry name schema) es (place_of es name) (record { name = named; schema = valid; named = of_names; next = (omega arith, omega arith); versions = tt }) h.each;
     }
 
 -- ---- one more version
@@ -129,7 +125,7 @@ raised name entry number h = by_test (is_named name entry) number where
   by_test false e = h
   by_test true e =
       let below : entry.next < 65536 = ltb-true entry.next 65536 e in
-      record { name = h.name; schema = h.schema; next = (omega arith, omega (arith, below)); versions = rise_on 0 entry.next entry.versions (omega (arith, h.next.0)) h.versions }
+      record { name = h.name; schema = h.schema; named = h.named; next = (omega arith, omega (arith, below)); versions = rise_on 0 entry.next entry.versions (omega (arith, h.next.0)) h.versions }
 
 same_names : (f : NameEntry → NameEntry) → ((entry : NameEntry) → (f entry).name ≡ entry.name) → (es : List NameEntry) → names_in (map f es) ≡ names_in es
 same_names f same [] = refl
@@ -178,7 +174,7 @@ cut_one : (name : List ℕ) (below : ℕ) (entry : NameEntry) → IsStored entry
 cut_one name below entry h = by_test (is_named name entry) where
   by_test : (b : Bool) → IsStored (cond b (record entry { versions = filter (λ v. not (nat_lt v below)) entry.versions }) entry)
   by_test false = h
-  by_test true = record { name = h.name; schema = h.schema; next = h.next; versions = rise_kept (λ v. not (nat_lt v below)) 0 entry.next entry.versions h.versions }
+  by_test true = record { name = h.name; schema = h.schema; named = h.named; next = h.next; versions = rise_kept (λ v. not (nat_lt v below)) 0 entry.next entry.versions h.versions }
 
 cut_name : (name : List ℕ) (below : ℕ) (entry : NameEntry) → (without_below name below entry).name ≡ entry.name
 cut_name name below entry = by_test (is_named name entry) where
@@ -201,7 +197,7 @@ cut_versions name below es h =
 
 -- ---- an array that goes
 
-after_next : (prev : List ℕ) (e : NameEntry) (es : List NameEntry) → RiseAfter prev (e ∷ es) → RiseAfter prev es
+pub after_next : (prev : List ℕ) (e : NameEntry) (es : List NameEntry) → RiseAfter prev (e ∷ es) → RiseAfter prev es
 after_next prev e [] h = tt
 after_next prev e (f ∷ es) h = (before_trans prev e.name f.name h.0 h.1.0, h.1.1)
 
@@ -229,16 +225,16 @@ fewer : (p : NameEntry → Bool) (es : List NameEntry) → length (filter p es) 
 fewer p [] = omega arith
 fewer p (e ∷ es) = fewer_by (p e) e (filter p es) (length es) (fewer p es)
 
-all_by : (b : Bool) (e : NameEntry) (left : List NameEntry) → IsStored e → AllByRecursion IsStored left → AllByRecursion IsStored (cond b (e ∷ left) left)
-all_by true e left is all = (is, all)
-all_by false e left is all = all
+all_by : {A : Type 0} (P : A → Type 0) (b : Bool) (e : A) (left : List A) → P e → AllByRecursion P left → AllByRecursion P (cond b (e ∷ left) left)
+all_by P true e left is all = (is, all)
+all_by P false e left is all = all
 
-all_less : (p : NameEntry → Bool) (es : List NameEntry) → AllByRecursion IsStored es → AllByRecursion IsStored (filter p es)
-all_less p [] all = tt
-all_less p (e ∷ es) all = all_by (p e) e (filter p es) all.0 (all_less p es all.1)
+pub all_less : {A : Type 0} (P : A → Type 0) (p : A → Bool) (es : List A) → AllByRecursion P es → AllByRecursion P (filter p es)
+all_less P p [] all = tt
+all_less P p (e ∷ es) all = all_by P (p e) e (filter p es) all.0 (all_less P p es all.1)
 
 pub take_out : (p : NameEntry → Bool) (es : List NameEntry) → AreStored (record { arrays = es }) → AreStored (record { arrays = filter p es })
-take_out p es h = record { count = omega (arith, fewer p es, h.count); rising = rise_less p es h.rising; each = all_less p es h.each }
+take_out p es h = record { count = omega (arith, fewer p es, h.count); rising = rise_less p es h.rising; each = all_less IsStored p es h.each }
 
 -- ---- all changes
 
@@ -248,21 +244,21 @@ stored_numbers name schema es i all = all_pass_inserted (has_number name) (new_e
   small true = refl
   small false = refl
 
-store_one : (name : List ℕ) (schema : Schema) (es : List NameEntry) (b : Bool) → has_array es name ≡ b → IsName name → is_valid schema ≡ true → (b || has_room es) ≡ true → list_all (has_number name) es ≡ true
+store_one : (name : List ℕ) (schema : Schema) (es : List NameEntry) (b : Bool) → has_array es name ≡ b → IsName name → HasNames schema → is_valid schema ≡ true → (b || has_room es) ≡ true → list_all (has_number name) es ≡ true
     → AreStored (record { arrays = es }) → AreStored (record { arrays = map (with_version name) (cond b es (with_array name schema es)) })
-store_one name schema es true e named valid room numbers h = add_version name es numbers h
-store_one name schema es false e named valid room numbers h =
-    add_version name (with_array name schema es) (stored_numbers name schema es (place_of es name) numbers) (add_array name schema es named valid room e h)
+store_one name schema es true e named of_names valid room numbers h = add_version name es numbers h
+store_one name schema es false e named of_names valid room numbers h =
+    add_version name (with_array name schema es) (stored_numbers name schema es (place_of es name) numbers) (add_array name schema es named of_names valid room e h)
 
 pub changes_keep_names : ChangesKeepNames
 changes_keep_names names (Create name schema) h named ok =
     let a = and_parts (is_valid schema) (has_room names.arrays && not (has_array names.arrays name)) ok in
     let b = and_parts (has_room names.arrays) (not (has_array names.arrays name)) a.1 in
-    add_array name schema names.arrays named a.0 b.0 (not-true (has_array names.arrays name) b.1) h
+    add_array name schema names.arrays named.0 named.1 a.0 b.0 (not-true (has_array names.arrays name) b.1) h
 changes_keep_names names (Store name schema plan) h named ok =
     let a = and_parts (is_valid schema) ((has_array names.arrays name || has_room names.arrays) && list_all (has_number name) names.arrays) ok in
     let b = and_parts (has_array names.arrays name || has_room names.arrays) (list_all (has_number name) names.arrays) a.1 in
-    store_one name schema names.arrays (has_array names.arrays name) refl named a.0 b.0 b.1 h
+    store_one name schema names.arrays (has_array names.arrays name) refl named.0 named.1 a.0 b.0 b.1 h
 changes_keep_names names (Insert name schema plan) h named ok =
     let a = and_parts (has_array names.arrays name) (list_all (has_number name) names.arrays) ok in
     add_version name names.arrays a.1 h

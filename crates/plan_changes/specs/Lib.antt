@@ -1,5 +1,6 @@
 pub mod Allowed
 pub mod Changes
 pub mod Databases
+pub mod Kept
 pub mod Stored
 pub mod Typed

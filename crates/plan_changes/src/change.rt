@@ -1,5 +1,6 @@
 //! Changes of a database.
 ghost use Rattle.std.specs.Prelude.{◌≡◌, IfOk};
+ghost use Rattle.plan_changes.specs.Changes.{name_of};
 
 use cell_values::{Copies, Memory, Name, Schema};
 use logical_plan::Plan;
@@ -60,6 +61,19 @@ impl Change {
                 below: *below,
             }),
         }
+    }
+}
+
+/// The name that a change is about.
+pub fn changed_name(change: &Change) -> &Name
+    ensures { result.now ≡ name_of change.now }
+{
+    match change {
+        Change::Create { name, .. } => name,
+        Change::Store { name, .. } => name,
+        Change::Insert { name, .. } => name,
+        Change::Remove { name } => name,
+        Change::RemoveVersions { name, .. } => name,
     }
 }
 

@@ -1,38 +1,13 @@
 //! The stored arrays' names after a change.
 ghost use Rattle.std.specs.Prelude.{◌≡◌, ◌≤◌, map, not, nat_lt, OnOk, length, IfOk, IsTrue};
 ghost use Rattle.std.specs.List.{filter, list_all};
-ghost use Rattle.std.specs.Ordering.{is_lt, nat_cmp};
-ghost use Rattle.std.specs.Cmp.Lexicographic.{slice_cmp};
-ghost use Rattle.std.specs.Str.{bytes_eq};
 ghost use Rattle.plan_changes.specs.Changes.{is_named, has_array, place_of, with_array, with_absent, with_version, without_below, names_after};
 ghost use Rattle.plan_changes.specs.Allowed.{has_number, names_allow};
 
 use crate::Change;
+use crate::lookups::{has_array, is_before, is_same};
 use cell_values::{List, Memory, Name, Schema};
 use logical_plan::{NameEntry, Names};
-
-/// Whether two names are the same.
-pub fn is_same(a: &Name, b: &Name) -> bool
-    ensures { result ≡ bytes_eq a.now b.now }
-{
-    a.as_slice() == b.as_slice()
-}
-
-fn has_array(arrays: &List<NameEntry>, name: &Name) -> bool
-    ensures { result ≡ has_array arrays.now name.now }
-{
-    arrays
-        .as_slice()
-        .iter()
-        .any(|entry| is_same(&entry.name, name))
-}
-
-/// Whether a name comes before another, in byte order.
-fn is_before(a: &Name, b: &Name) -> bool
-    ensures { result ≡ is_lt (slice_cmp nat_cmp a.now b.now) }
-{
-    a.as_slice().cmp(b.as_slice()).is_lt()
-}
 
 /// How many arrays come before a name.
 fn place_of(arrays: &List<NameEntry>, name: &Name) -> usize
@@ -116,7 +91,7 @@ fn with_version(arrays: List<NameEntry>, name: &Name) -> Result<List<NameEntry>,
 }
 
 /// The numbers without those below one.
-fn from_number(numbers: List<u32>, below: u32) -> List<u32>
+pub fn from_number(numbers: List<u32>, below: u32) -> List<u32>
     ensures { result ≡ filter (λ number. not (nat_lt number below)) numbers }
 {
     let mut items = numbers.into_vec();

@@ -1,1 +1,3 @@
+pub mod CrossLaws
 pub mod MoveLaws
+pub mod PartnerLaws

@@ -2,6 +2,9 @@
 #![tactic(auto)]
 
 mod beside;
+mod cross;
+mod partners;
 mod rows;
 
+pub use cross::cross_of_rows;
 pub use rows::join_of_rows;

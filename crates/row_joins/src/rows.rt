@@ -9,7 +9,7 @@ use cell_values::{Coord, List, Memory, Row};
 use std::cmp::Ordering;
 use std::collections::VecDeque;
 
-fn order_of(a: &Coord, b: &Coord) -> Ordering
+pub(crate) fn order_of(a: &Coord, b: &Coord) -> Ordering
     ensures { result ≡ row_major a.now.items b.now.items }
 {
     a.as_slice().cmp(b.as_slice())

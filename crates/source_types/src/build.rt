@@ -25,9 +25,9 @@ const MOST_CELLS: u64 = 16777216;
 /// The high bound that is written `*`.
 const UNBOUNDED: i64 = 4611686018427387903;
 
-/// The schema that is written.
+/// The schema that is written in `text`, which is then valid, or the first rule of schemas that it breaks.
 #[tactic(auto, using(crate::proofs::Meanings::is_meant, crate::proofs::Meanings::is_broken))]
-fn meant(alloc: Global, text: &[u8], written: &SchemaText) -> Result<Schema, TypeFault>
+pub fn meant(alloc: Global, text: &[u8], written: &SchemaText) -> Result<Schema, TypeFault>
     ensures meaning { Answers result (meant written.now) }
     ensures valid { IfOk result IsValid }
 {

@@ -4,5 +4,5 @@
 mod build;
 mod stored;
 
-pub use build::build_call;
+pub use build::{build_call, meant};
 pub use stored::{referred, scan_call};

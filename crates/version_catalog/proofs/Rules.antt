@@ -75,18 +75,19 @@ few_numbers low high numbers directories rise le = omega (arith, few_between low
 
 stored_of : (before : Option (List ℕ)) (after : ℕ) (array : CatalogArray) → IsNextArray before after array → IsStored array.entry
 stored_of before after array good =
+    let spelled = is_spelled array.entry.schema good.0.1.0 in
     let numbered = good.0.1.1 in
     let p = and_parts (nat_le 1 array.entry.next) (nat_le array.entry.next 65536) numbered.0.1 in
     record {
       name = good.0.0.0.1;
-      schema = (is_spelled array.entry.schema good.0.1.0).valid;
+      schema = spelled.valid;
+      named = record { attributes = spelled.attributes; dimensions = spelled.dimensions };
       next = (leb-true 1 array.entry.next p.0, leb-true array.entry.next 65536 p.1);
       versions = rising_versions array.entry.next (length (versions_at array.entry.versions array.directories)) 0 array.entry.versions array.directories good.1 numbered.1.each;
     }
 
 directories_in : (before : Option (List ℕ)) (after : ℕ) (array : CatalogArray) → IsNextArray before after array → HasDirectories array
 directories_in before after array good = record {
-  schema = is_spelled array.entry.schema good.0.1.0;
   one_each = good.1;
   blobs = blobs_of array.entry.next (length (versions_at array.entry.versions array.directories)) 0 array.entry.versions array.directories good.1 good.0.1.1.1.each;
 }
@@ -97,7 +98,7 @@ next_array_is before after array stored has next =
       (
         (spelled_name array.entry.name stored.name, next),
         (
-          are_passed array.entry.schema has.schema,
+          are_passed array.entry.schema (record { valid = stored.schema; attributes = stored.named.attributes; dimensions = stored.named.dimensions }),
           (
             (omega (arith, stored.next.1), and_from (nat_le 1 array.entry.next) (nat_le array.entry.next 65536) (le-leb 1 array.entry.next stored.next.0) (le-leb array.entry.next 65536 stored.next.1)),
             record { below = omega (arith, few, stored.next.1); count = refl; each = next_versions array.entry.next 0 array.entry.versions array.directories stored.next.1 has.one_each stored.versions has.blobs },

@@ -38,6 +38,15 @@ impl PageSet {
         })
     }
 
+    /// An equal set.
+    pub fn copy(&self) -> Result<PageSet, Memory>
+        ensures { IfOk result (λ copy. copy ≡ self.now) }
+    {
+        Ok(PageSet {
+            flags: self.flags.copy()?,
+        })
+    }
+
     /// The limit, below which all pages of the set are.
     pub fn limit(&self) -> u32
         ensures { result ≡ length self.now }

@@ -1,4 +1,10 @@
-use Rattle.std.proofs.Common.{arith}
+use Rattle.std.proofs.Common.{ap, arith}
+use Rattle.cell_values.specs.declared.schema.Schema.{Schema}
+use Rattle.logical_plan.specs.Groups.{aggregate_rows}
+use Rattle.logical_plan.specs.PlanSchema.{aggregate_schema}
+use Rattle.exec_group.specs.Keys.{aggregate_sets}
+use Rattle.array_groups.proofs.GroupLaws.{aggregate_told}
+use Rattle.array_groups.proofs.InsideLaws.{aggregate_fits}
 use Rattle.array_groups.proofs.WholeLaws.{of_cores, few_names, can_tell, told_whole, if_ok}
 use Rattle.array_groups.proofs.aggregates.of_whole.Goals as goal
 
@@ -13,10 +19,15 @@ told_array-requires-clause-room c = omega (arith, c.in_ok-groups.ensures.cells, 
 
 pub told_array-requires-clause-sets : goal.told_array-requires-clause-sets
 told_array-requires-clause-sets c =
-    can_tell c.args.array c.args.aggs.now c.args.dims.now c.args.target.now c.in_ok-rows.rows c.in_ok-groups.groups.groups c.in_ok-rows.ensures.rows c.requires.cells c.requires.target c.requires.typed c.requires.names c.in_ok-groups.ensures.groups
+    let rows_of = of_cores c.args.array c.in_ok-rows.rows c.in_ok-rows.ensures.rows c.requires.cells in
+    can_tell c.args.array.schema c.args.target.now c.args.aggs.now (aggregate_sets c.args.dims.now c.in_ok-rows.rows) c.in_ok-groups.groups.groups (ap (λ (s : Schema). s.attributes) c.requires.target) c.requires.typed
+    (aggregate_fits c.args.array.schema c.args.target.now c.args.aggs.now c.args.dims.now c.in_ok-rows.rows rows_of c.requires.target c.requires.names) c.in_ok-groups.ensures.groups
 
 pub returns-clause-array : goal.returns-clause-array
 returns-clause-array c =
-    let can = can_tell c.args.array c.args.aggs.now c.args.dims.now c.args.target.now c.in_ok-rows.rows c.in_ok-groups.groups.groups c.in_ok-rows.ensures.rows c.requires.cells c.requires.target c.requires.typed c.requires.names c.in_ok-groups.ensures.groups in
+    let rows_of = of_cores c.args.array c.in_ok-rows.rows c.in_ok-rows.ensures.rows c.requires.cells in
+    let can = can_tell c.args.array.schema c.args.target.now c.args.aggs.now (aggregate_sets c.args.dims.now c.in_ok-rows.rows) c.in_ok-groups.groups.groups (ap (λ (s : Schema). s.attributes) c.requires.target) c.requires.typed
+    (aggregate_fits c.args.array.schema c.args.target.now c.args.aggs.now c.args.dims.now c.in_ok-rows.rows rows_of c.requires.target c.requires.names) c.in_ok-groups.ensures.groups in
     if_ok c.told_array.result (c.told_array.ensures.array can)
-    (λ made h. told_whole c.args.array c.args.aggs.now c.args.dims.now c.args.target.now c.in_ok-rows.rows made c.in_ok-rows.ensures.rows c.requires.whole c.requires.target h)
+    (λ made h. told_whole (aggregate_schema c.args.aggs.now c.args.dims.now) (λ s. aggregate_rows c.args.dims.now c.args.aggs.now) c.args.array c.args.aggs.now (aggregate_sets c.args.dims.now c.in_ok-rows.rows) c.args.target.now c.in_ok-rows.rows made
+    c.in_ok-rows.ensures.rows c.requires.whole c.requires.target (aggregate_told c.args.dims.now c.args.aggs.now c.in_ok-rows.rows) h)

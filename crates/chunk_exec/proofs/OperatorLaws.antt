@@ -1,0 +1,174 @@
+-- What operators make of the arrays of their sources.
+use Rattle.std.proofs.Common.{◌≡◌, ℕ, suc, zero, ◌≤◌, ◌^◌, List, [], ◌∷◌, length, Result, Ok, Err, refl, sym, ap, ◌∙◌, subst}
+use Rattle.std.specs.Prelude.{IfOk}
+use Rattle.cell_values.specs.declared.datum.Broken.{Broken}
+use Rattle.cell_values.specs.declared.datum.Row.{Row}
+use Rattle.cell_values.specs.declared.schema.Bounds.{Bounds}
+use Rattle.cell_values.specs.declared.schema.Dimension.{Dimension}
+use Rattle.cell_values.specs.declared.schema.Schema.{Schema}
+use Rattle.cell_values.specs.Schemas.{IsValid}
+use Rattle.array_rows.specs.Arrays.{Meant}
+use Rattle.array_rows.specs.Boxes.{within}
+use Rattle.array_geom.specs.declared.chunk.ChunkedArray.{ChunkedArray}
+use Rattle.array_geom.specs.Geometry.{frame_lengths, volume}
+use Rattle.array_geom.specs.Link.{AreChunksOf, HoldsRows, HoldsResult, Is}
+use Rattle.array_cores.specs.Cores.{meant_by_cores}
+use Rattle.array_cores.proofs.CoreLaws.{arrays_are_their_cores, arrays_have_cells}
+use Rattle.array_groups.specs.Meant.{aggregate_meant, regrid_meant}
+use Rattle.array_joins.specs.Meant.{cross_meant, join_meant}
+use Rattle.array_ops.specs.Made.{GivesRows, IsMadeOf}
+use Rattle.expr_nulls.specs.Expr.{Expr}
+use Rattle.logical_plan.specs.declared.parts.Aggregate.{Aggregate}
+use Rattle.logical_plan.specs.declared.parts.Applied.{Applied}
+use Rattle.logical_plan.specs.declared.parts.Fixed.{Fixed}
+use Rattle.logical_plan.specs.declared.parts.Leaf.{Leaf}
+use Rattle.logical_plan.specs.declared.parts.Pair.{Pair}
+use Rattle.logical_plan.specs.CellOps.{filter_rows, apply_rows, project_rows}
+use Rattle.logical_plan.specs.Faults.{if_whole}
+use Rattle.logical_plan.specs.Meaning.{Database, meaning}
+use Rattle.logical_plan.specs.PlanSchema.{schema_of, subarray_schema, slice_schema, regrid_schema, aggregate_schema}
+use Rattle.logical_plan.specs.Query.{Query, scanned, filtered, applied, projected, between, subarray, sliced, joined, crossed, regridded, aggregated}
+use Rattle.logical_plan.specs.Typing.{IsTyped}
+use Rattle.logical_plan.proofs.ArrayLaws.{typed_arrays}
+use Rattle.logical_plan.proofs.SchemaLaws.{meaning_schema, typed_valid}
+use Rattle.exec_parts.specs.Parts.{part_meant, slice_meant}
+use Rattle.chunk_exec.specs.Operated.{sources, AreMeant, CanOperate, IsResultOf}
+
+-- ---- rows of the schemas of plans
+
+-- a stored array of these rows
+abbrev told_as : List Row → Database
+told_as rows name version = rows
+
+abbrev leaf_of : Schema → Leaf
+leaf_of schema = record { name = []; version = suc zero; schema = schema }
+
+gives_filter : (source : Query) (test : Expr) → IsTyped (filtered source test) → GivesRows (filter_rows test) (schema_of source) (schema_of (filtered source test))
+gives_filter source test typed rows are = typed_arrays (told_as rows) (filtered (scanned (leaf_of (schema_of source))) test) refl (are.valid, typed.1) (are, tt)
+
+gives_apply : (source : Query) (values : List Applied) → IsTyped (applied source values) → GivesRows (apply_rows values) (schema_of source) (schema_of (applied source values))
+gives_apply source values typed rows are = typed_arrays (told_as rows) (applied (scanned (leaf_of (schema_of source))) values) refl (are.valid, typed.1, typed.2) (are, tt)
+
+gives_project : (source : Query) (places : List ℕ) → IsTyped (projected source places) → GivesRows (project_rows places) (schema_of source) (schema_of (projected source places))
+gives_project source places typed rows are = typed_arrays (told_as rows) (projected (scanned (leaf_of (schema_of source))) places) refl (are.valid, typed.1, typed.2) (are, tt)
+
+gives_between : (source : Query) (area : Bounds) → IsTyped (between source area) → GivesRows (within area) (schema_of source) (schema_of (between source area))
+gives_between source area typed rows are = typed_arrays (told_as rows) (between (scanned (leaf_of (schema_of source))) area) refl (are.valid, typed.1) (are, tt)
+
+-- ---- an operator over an array
+
+is_made : (operator : List Row → List Row) (schema : Schema) (array new : ChunkedArray) (source meant : Meant) → meant.schema ≡ schema → meant.rows ≡ if_whole operator source.rows → GivesRows operator source.schema schema → IsValid schema
+    → schema.dimensions ≡ array.schema.dimensions → IsMadeOf operator schema array new → Is array source → Is new meant
+is_made operator schema array new source meant s r gives valid d made is = record {
+  schema = made.schema_is ∙ sym s;
+  valid = subst IsValid (sym s) valid;
+  margins = margins ∙ is.margins ∙ ap (λ (z : List Dimension). length z) dims ∙ ap (λ (z : Schema). length z.dimensions) (sym s);
+  cells = subst (λ (z : Schema). HoldsResult z new meant.rows) (sym s) (cases source.rows r is.cells);
+}
+  where
+    dims : source.schema.dimensions ≡ schema.dimensions
+    dims = ap (λ (z : Schema). z.dimensions) (sym is.schema) ∙ sym d
+
+    numbers : new.margins.items ≡ array.margins.items
+    numbers = ap (λ m. m.items) made.margins
+
+    margins : length new.margins.items ≡ length array.margins.items
+    margins = ap (λ (z : List ℕ). length z) numbers
+
+    held : (rows : List Row) → HoldsRows source.schema array rows → HoldsRows schema new (operator rows)
+    held rows h =
+        let chunks : AreChunksOf schema.dimensions array.margins.items rows array.chunks = subst (λ (z : List Dimension). AreChunksOf z array.margins.items rows array.chunks) dims h.chunks in
+        let places : volume (frame_lengths schema.dimensions array.margins.items) ≤ 2 ^ 48 = subst (λ (z : List Dimension). volume (frame_lengths z array.margins.items) ≤ 2 ^ 48) dims h.places in
+        record {
+          whole = made.broken ∙ h.whole;
+          rows_of = gives rows h.rows_of;
+          each = margins ∙ h.each ∙ ap (λ (z : List Dimension). length z) dims;
+          places = subst (λ (z : List ℕ). volume (frame_lengths schema.dimensions z) ≤ 2 ^ 48) (sym numbers) places;
+          chunks = made.chunks h.whole rows (subst (λ (z : List ℕ). AreChunksOf schema.dimensions z rows array.chunks) (sym numbers) chunks);
+        }
+
+    cases : (z : Result (List Row) Broken) → meant.rows ≡ if_whole operator z → HoldsResult source.schema array z → HoldsResult schema new meant.rows
+    cases (Ok rows) e h = subst (HoldsResult schema new) (sym e) (held rows h)
+    cases (Err broken) e h = subst (HoldsResult schema new) (sym e) (made.broken ∙ h)
+
+-- ---- answers
+
+pub if_ok : {T E : Type 0} (P Q : T → Type 0) (answer : Result T E) → ((made : T) → P made → Q made) → IfOk answer P → IfOk answer Q
+if_ok P Q (Ok made) follows h = follows made h
+if_ok P Q (Err e) follows h = tt
+
+-- ---- the forms of operators
+
+-- chunk by chunk
+by_chunks : (source query : Query) (operator : List Row → List Row) (array made : ChunkedArray) → sources query ≡ source ∷ []
+    → ((db : Database) → (meaning db query).rows ≡ if_whole operator (meaning db source).rows) → GivesRows operator (schema_of source) (schema_of query) → (schema_of query).dimensions ≡ (schema_of source).dimensions
+    → CanOperate query (array ∷ []) → array.schema ≡ schema_of source → IsMadeOf operator (schema_of query) array made → IsResultOf query (array ∷ []) made
+by_chunks source query operator array made one rows gives dims can schema m =
+    let from : GivesRows operator array.schema (schema_of query) = subst (λ (z : Schema). GivesRows operator z (schema_of query)) (sym schema) gives in
+    record {
+      schema_is = m.schema_is;
+      cells = m.cells from;
+      means = λ db h.
+          let is : AreMeant db (source ∷ []) (array ∷ []) = subst (λ (z : List Query). AreMeant db z (array ∷ [])) one h in
+          is_made operator (schema_of query) array made (meaning db source) (meaning db query) (meaning_schema db query) (rows db)
+          (subst (λ (z : Schema). GivesRows operator z (schema_of query)) (sym (meaning_schema db source)) gives) (typed_valid query can.typed)
+          (dims ∙ ap (λ (z : Schema). z.dimensions) (sym schema)) m is.0;
+    }
+
+-- over the cores of an array
+computed_by_cores : (source query : Query) (operator : Meant → Meant) (array made : ChunkedArray) → sources query ≡ source ∷ [] → ((db : Database) → meaning db query ≡ operator (meaning db source))
+    → (operator (meant_by_cores array)).schema ≡ schema_of query → Is made (operator (meant_by_cores array)) → IsResultOf query (array ∷ []) made
+computed_by_cores source query operator array made one meant schema is = record {
+  schema_is = is.schema ∙ schema;
+  cells = arrays_have_cells made (operator (meant_by_cores array)) is;
+  means = λ db h.
+      let are : AreMeant db (source ∷ []) (array ∷ []) = subst (λ (z : List Query). AreMeant db z (array ∷ [])) one h in
+      subst (Is made) (ap operator (arrays_are_their_cores array (meaning db source) are.0) ∙ sym (meant db)) is;
+}
+
+-- over the cores of two arrays
+computed_of_two : (left right query : Query) (operator : Meant → Meant → Meant) (a b made : ChunkedArray) → sources query ≡ left ∷ right ∷ [] → ((db : Database) → meaning db query ≡ operator (meaning db left) (meaning db right))
+    → (operator (meant_by_cores a) (meant_by_cores b)).schema ≡ schema_of query → Is made (operator (meant_by_cores a) (meant_by_cores b)) → IsResultOf query (a ∷ b ∷ []) made
+computed_of_two left right query operator a b made two meant schema is = record {
+  schema_is = is.schema ∙ schema;
+  cells = arrays_have_cells made (operator (meant_by_cores a) (meant_by_cores b)) is;
+  means = λ db h.
+      let are : AreMeant db (left ∷ right ∷ []) (a ∷ b ∷ []) = subst (λ (z : List Query). AreMeant db z (a ∷ b ∷ [])) two h in
+      let l : meant_by_cores a ≡ meaning db left = arrays_are_their_cores a (meaning db left) are.0 in
+      let r : meant_by_cores b ≡ meaning db right = arrays_are_their_cores b (meaning db right) are.1.0 in
+      subst (Is made) (ap (λ (z : Meant). operator z (meant_by_cores b)) l ∙ ap (operator (meaning db left)) r ∙ sym (meant db)) is;
+}
+
+-- ---- operators chunk by chunk
+
+pub filter_result : (source : Query) (test : Expr) (array made : ChunkedArray) → CanOperate (filtered source test) (array ∷ []) → IsMadeOf (filter_rows test) (schema_of (filtered source test)) array made → IsResultOf (filtered source test) (array ∷ []) made
+filter_result source test array made can m = by_chunks source (filtered source test) (filter_rows test) array made refl (λ db. refl) (gives_filter source test can.typed) refl can can.schemas.0 m
+
+pub apply_result : (source : Query) (values : List Applied) (array made : ChunkedArray) → CanOperate (applied source values) (array ∷ []) → IsMadeOf (apply_rows values) (schema_of (applied source values)) array made → IsResultOf (applied source values) (array ∷ []) made
+apply_result source values array made can m = by_chunks source (applied source values) (apply_rows values) array made refl (λ db. refl) (gives_apply source values can.typed) refl can can.schemas.0 m
+
+pub project_result : (source : Query) (places : List ℕ) (array made : ChunkedArray) → CanOperate (projected source places) (array ∷ []) → IsMadeOf (project_rows places) (schema_of (projected source places)) array made → IsResultOf (projected source places) (array ∷ []) made
+project_result source places array made can m = by_chunks source (projected source places) (project_rows places) array made refl (λ db. refl) (gives_project source places can.typed) refl can can.schemas.0 m
+
+pub between_result : (source : Query) (area : Bounds) (array made : ChunkedArray) → CanOperate (between source area) (array ∷ []) → IsMadeOf (within area) (schema_of (between source area)) array made → IsResultOf (between source area) (array ∷ []) made
+between_result source area array made can m = by_chunks source (between source area) (within area) array made refl (λ db. refl) (gives_between source area can.typed) refl can can.schemas.0 m
+
+-- ---- operators over cores
+
+pub subarray_result : (source : Query) (area : Bounds) (array made : ChunkedArray) → CanOperate (subarray source area) (array ∷ []) → Is made (part_meant area (meant_by_cores array)) → IsResultOf (subarray source area) (array ∷ []) made
+subarray_result source area array made can is = computed_by_cores source (subarray source area) (part_meant area) array made refl (λ db. refl) (ap (subarray_schema area) can.schemas.0) is
+
+pub slice_result : (source : Query) (fixed : List Fixed) (array made : ChunkedArray) → CanOperate (sliced source fixed) (array ∷ []) → Is made (slice_meant fixed (meant_by_cores array)) → IsResultOf (sliced source fixed) (array ∷ []) made
+slice_result source fixed array made can is = computed_by_cores source (sliced source fixed) (slice_meant fixed) array made refl (λ db. refl) (ap (slice_schema fixed) can.schemas.0) is
+
+pub regrid_result : (source : Query) (sizes : List ℕ) (gs : List Aggregate) (array made : ChunkedArray) → CanOperate (regridded source sizes gs) (array ∷ []) → Is made (regrid_meant sizes gs (meant_by_cores array)) → IsResultOf (regridded source sizes gs) (array ∷ []) made
+regrid_result source sizes gs array made can is = computed_by_cores source (regridded source sizes gs) (regrid_meant sizes gs) array made refl (λ db. refl) (ap (regrid_schema sizes gs) can.schemas.0) is
+
+pub aggregate_result : (source : Query) (gs : List Aggregate) (places : List ℕ) (array made : ChunkedArray) → CanOperate (aggregated source gs places) (array ∷ []) → Is made (aggregate_meant gs places (meant_by_cores array)) → IsResultOf (aggregated source gs places) (array ∷ []) made
+aggregate_result source gs places array made can is = computed_by_cores source (aggregated source gs places) (aggregate_meant gs places) array made refl (λ db. refl) (ap (aggregate_schema gs places) can.schemas.0) is
+
+pub join_result : (left right : Query) (schema : Schema) (a b made : ChunkedArray) → Is made (join_meant schema (meant_by_cores a) (meant_by_cores b)) → IsResultOf (joined left right schema) (a ∷ b ∷ []) made
+join_result left right schema a b made is = computed_of_two left right (joined left right schema) (join_meant schema) a b made refl (λ db. refl) refl is
+
+pub cross_result : (left right : Query) (pairs : List Pair) (schema : Schema) (a b made : ChunkedArray) → Is made (cross_meant schema pairs (meant_by_cores a) (meant_by_cores b)) → IsResultOf (crossed left right pairs schema) (a ∷ b ∷ []) made
+cross_result left right pairs schema a b made is = computed_of_two left right (crossed left right pairs schema) (cross_meant schema pairs) a b made refl (λ db. refl) refl is

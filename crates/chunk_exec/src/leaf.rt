@@ -1,0 +1,64 @@
+//! The arrays of plans without sources: given in the plan, or stored.
+ghost use Rattle.std.specs.Prelude.{◌≡◌, ◌+◌, [], length, IfOk, OnOk};
+ghost use Rattle.cell_values.specs.Schemas.{IsValid};
+ghost use Rattle.chunk_source.specs.Source.{Keeps, Reads};
+ghost use Rattle.chunk_read.specs.Faults.{Answers};
+ghost use Rattle.logical_plan.specs.Leaves.{leaves};
+ghost use Rattle.logical_plan.specs.Query.{scanned};
+ghost use Rattle.chunk_exec.specs.Computed.{CanCompute, IsComputed};
+ghost use Rattle.chunk_exec.specs.Operated.{sources};
+
+use crate::ExecFault;
+use crate::given::{build, literal};
+use array_geom::ChunkedArray;
+use chunk_read::read_leaf;
+use chunk_source::ChunkSource;
+use logical_plan::{Leaf, Plan, PlanNode};
+use std::alloc::Global;
+
+/// The array of the leaf that has the next number. More leaves than a `u32` counts are as good as no memory.
+fn next_leaf<S: ChunkSource>(
+    source: &mut S,
+    next: &mut u32,
+    leaf: &Leaf,
+) -> Result<ChunkedArray, ExecFault>
+    requires reads { Reads (S.state source.old) leaf.now }
+    requires valid { IsValid leaf.now.schema }
+    ensures computed { IfOk result (IsComputed next.old (S.state source.old) (S.state source.new) (scanned leaf.now)) }
+    ensures next { OnOk result (next.new ≡ next.old + 1) }
+    ensures kept { Keeps (S.state source.old) (S.state source.new) }
+    ensures cause { Answers (S.state source.old) (S.state source.new) result }
+    ensures start { S.start source.new ≡ S.start source.old }
+{
+    let number = *next;
+    match number.checked_add(1) {
+        Some(after) => {
+            *next = after;
+            read_leaf(source, number, leaf)
+        }
+        None => Err(ExecFault::Memory),
+    }
+}
+
+/// The array of a plan that works on no other.
+pub(crate) fn given_array<S: ChunkSource>(
+    alloc: Global,
+    plan: &Plan,
+    source: &mut S,
+    next: &mut u32,
+) -> Result<ChunkedArray, ExecFault>
+    requires can { CanCompute (S.state source.old) plan.now }
+    requires given { sources plan.now ≡ [] }
+    ensures computed { IfOk result (IsComputed next.old (S.state source.old) (S.state source.new) plan.now) }
+    ensures next { OnOk result (next.new ≡ next.old + length (leaves plan.now)) }
+    ensures kept { Keeps (S.state source.old) (S.state source.new) }
+    ensures cause { Answers (S.state source.old) (S.state source.new) result }
+    ensures start { S.start source.new ≡ S.start source.old }
+{
+    match &plan.node {
+        PlanNode::Build(schema, value) => Ok(build(alloc, schema, value)?),
+        PlanNode::Literal(schema, rows) => Ok(literal(schema, rows.as_slice())?),
+        PlanNode::Scan(leaf) => next_leaf(source, next, leaf),
+        _ => unreachable!(),
+    }
+}

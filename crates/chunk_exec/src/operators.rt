@@ -1,0 +1,51 @@
+//! What the last operator of a plan makes of the arrays of its sources.
+ghost use Rattle.std.specs.Prelude.{[], ◌∷◌, IfOk};
+ghost use Rattle.chunk_exec.specs.Operated.{CanOperate, IsResultOf};
+
+use crate::steps::{aggregate, apply, between, filter, project, regrid};
+use array_geom::ChunkedArray;
+use array_joins::{cross_join, join};
+use cell_values::Memory;
+use exec_parts::{slice_owned, subarray_owned};
+use logical_plan::{Plan, PlanNode};
+use std::alloc::Global;
+
+/// The array of a plan of one source.
+pub(crate) fn of_one(
+    alloc: Global,
+    plan: &Plan,
+    array: ChunkedArray,
+) -> Result<ChunkedArray, Memory>
+    requires { CanOperate plan.now (array ∷ []) }
+    ensures { IfOk result (IsResultOf plan.now (array ∷ [])) }
+{
+    match &plan.node {
+        PlanNode::Filter(_, test) => filter(alloc, plan, array, test),
+        PlanNode::Apply(_, values) => apply(alloc, plan, array, values),
+        PlanNode::Project(_, places) => project(alloc, plan, array, places),
+        PlanNode::Between(_, area) => between(alloc, plan, array, area),
+        PlanNode::Subarray(_, area) => subarray_owned(array, area),
+        PlanNode::Slice(_, fixed) => slice_owned(array, fixed.as_slice()),
+        PlanNode::Regrid(_, blocks, aggs) => regrid(alloc, plan, array, blocks, aggs),
+        PlanNode::Aggregate(_, aggs, places) => aggregate(alloc, plan, array, aggs, places),
+        _ => unreachable!(),
+    }
+}
+
+/// The array of a plan of two sources.
+pub(crate) fn of_two(
+    plan: &Plan,
+    left: ChunkedArray,
+    right: ChunkedArray,
+) -> Result<ChunkedArray, Memory>
+    requires { CanOperate plan.now (left ∷ right ∷ []) }
+    ensures { IfOk result (IsResultOf plan.now (left ∷ right ∷ [])) }
+{
+    match &plan.node {
+        PlanNode::Join(_, _, schema) => join(left, right, schema),
+        PlanNode::CrossJoin(_, _, pairs, schema) => {
+            cross_join(left, right, pairs.as_slice(), schema)
+        }
+        _ => unreachable!(),
+    }
+}

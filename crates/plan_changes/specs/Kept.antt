@@ -1,0 +1,32 @@
+-- Databases stay databases.
+use Rattle.std.specs.Prelude.{◌≡◌, None, IfOk, IsTrue}
+use Rattle.array_rows.specs.Arrays.{AreRowsOf}
+use Rattle.logical_plan.specs.Laws.{keeps_places}
+use Rattle.logical_plan.specs.Meaning.{meaning}
+use Rattle.logical_plan.specs.PlanSchema.{schema_of}
+use Rattle.logical_plan.specs.Query.{Query}
+use Rattle.plan_changes.specs.declared.change.Change.{Change}
+use Rattle.plan_changes.specs.declared.change.Change.TheVariants.{Create, Store, Insert, Remove, RemoveVersions}
+use Rattle.plan_changes.specs.Databases.{Database, rows_of, names_of, fault_of_change, after}
+use Rattle.plan_changes.specs.Stored.{IsDatabase, HasItsNames}
+use Rattle.plan_changes.specs.Typed.{IsTypedOver, IsTypedFor}
+
+-- over each database that it is typed for a plan means an array of its schema, where it is not broken
+abbrev pub MeansArrays : Query → Type 0
+MeansArrays plan = (db : Database) → IsDatabase db → IsTypedOver (names_of db) plan → IfOk (meaning (rows_of db) plan).rows (AreRowsOf (schema_of plan))
+
+-- so does the plan of a change
+abbrev pub StoresArrays : Change → Type 0
+StoresArrays (Create name schema) = Unit {0}
+StoresArrays (Store name schema plan) = MeansArrays plan
+StoresArrays (Insert name schema plan) = MeansArrays plan
+StoresArrays (Remove name) = Unit {0}
+StoresArrays (RemoveVersions name below) = Unit {0}
+
+-- so does a plan of builds, literals and scans, filtered, cut to boxes, and with more or fewer attributes
+abbrev pub PlansMeanArrays : Type 0
+PlansMeanArrays = (plan : Query) → IsTrue (keeps_places plan) → MeansArrays plan
+
+-- a typed change without fault leaves a database
+abbrev pub ChangesKeepDatabases : Type 0
+ChangesKeepDatabases = (db : Database) (change : Change) → IsDatabase db → HasItsNames change → IsTypedFor (names_of db) change → StoresArrays change → fault_of_change db change ≡ None → IsDatabase (after db change)

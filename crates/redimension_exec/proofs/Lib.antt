@@ -1,0 +1,4 @@
+pub mod GroupLaws
+pub mod LandedLaws
+pub mod MeantLaws
+pub mod ValueLaws

@@ -1,0 +1,70 @@
+-- Redimensions of whole arrays.
+use Rattle.std.proofs.Common.{◌≡◌, ℕ, suc, ◌≤◌, ◌^◌, IsTrue, List, [], ◌∷◌, length, Some, None, Result, Ok, Err, refl, sym, ap, ◌∙◌, subst, arith}
+use Rattle.std.specs.Prelude.{◌&&◌, IfOk}
+use Rattle.std.specs.List.{list_all}
+use Rattle.cell_values.specs.declared.datum.Broken.{Broken}
+use Rattle.cell_values.specs.declared.datum.Row.{Row}
+use Rattle.cell_values.specs.declared.memory.Memory.{Memory}
+use Rattle.cell_values.specs.declared.schema.Dimension.{Dimension}
+use Rattle.cell_values.specs.declared.schema.Schema.{Schema}
+use Rattle.cell_values.specs.Schemas.{has_attributes, has_dimensions, are_distinct, names_of, is_dimension, frame_size, frame_fits, IsValid}
+use Rattle.array_rows.specs.Arrays.{AreRowsOf, Meant}
+use Rattle.array_geom.specs.declared.chunk.ChunkedArray.{ChunkedArray}
+use Rattle.array_geom.specs.Geometry.{overlaps, frame_lengths, volume}
+use Rattle.array_geom.specs.Link.{Is}
+use Rattle.array_geom.proofs.NearLemmas.{valid_placed, size_is_volume}
+use Rattle.array_geom.proofs.TestLaws.{and_parts, at_most}
+use Rattle.array_cores.specs.Cores.{HaveCells, cores_of, meant_by_cores, unless_broken}
+use Rattle.array_cores.proofs.CoreLaws.{cores_are_rows}
+use Rattle.logical_plan.specs.CellOps.{fit_rows}
+use Rattle.logical_plan.specs.Faults.{if_whole, and_then}
+use Rattle.logical_plan.specs.Meaning.{redimensioned_from}
+use Rattle.logical_plan.specs.Redimension.{redimension_rows}
+use Rattle.logical_plan.specs.Typing.{redimensions}
+use Rattle.redimension_exec.proofs.LandedLaws.{made_of, carried_are_rows}
+
+pub few_dimensions : (schema : Schema) → IsValid schema → length schema.dimensions ≤ 6
+few_dimensions schema valid = (valid_placed schema valid).few
+
+each_of : (dims : List Dimension) → length (overlaps dims) ≡ length dims
+each_of [] = refl
+each_of (d ∷ dims) = ap suc (each_of dims)
+
+pub overlap_each : (schema : Schema) (margins : List ℕ) → margins ≡ overlaps schema.dimensions → length margins ≡ length schema.dimensions
+overlap_each schema margins same = ap length same ∙ each_of schema.dimensions
+
+pub overlap_places : (schema : Schema) (margins : List ℕ) → margins ≡ overlaps schema.dimensions → IsValid schema → volume (frame_lengths schema.dimensions margins) ≤ 2 ^ 48
+overlap_places schema margins same valid =
+    let dims = schema.dimensions in
+    let a = and_parts (has_attributes schema.attributes && has_dimensions dims && are_distinct (names_of schema) && list_all is_dimension dims) (frame_fits dims) valid in
+    let small : frame_size dims ≤ 281474976710656 = at_most (frame_size dims) 281474976710656 a.1 in
+    let size : frame_size dims ≡ volume (frame_lengths dims (overlaps dims)) = size_is_volume dims in
+    let few : volume (frame_lengths dims (overlaps dims)) ≤ 2 ^ 48 = omega arith in
+    subst (λ (ms : List ℕ). volume (frame_lengths dims ms) ≤ 2 ^ 48) (sym same) few
+
+abbrev meant_of : Schema → Result (List Row) Broken → Meant
+meant_of schema rows = record { schema = schema; rows = rows }
+
+pub stands_for : (r : Result ChunkedArray Memory) (a b : Meant) → a ≡ b → IfOk r (λ made. Is made a) → IfOk r (λ made. Is made b)
+stands_for r a b e h = subst (λ (m : Meant). IfOk r (λ made. Is made m)) e h
+
+pub rows_of_whole : (array : ChunkedArray) (target : Schema) (rows : List Row) → HaveCells array.schema array.margins.items array.chunks → IsValid target → IsTrue (redimensions array.schema target []) → Ok rows ≡ made_of array.schema target (cores_of array)
+    → AreRowsOf target rows
+rows_of_whole array target rows h valid typed e = carried_are_rows array.schema target (cores_of array) rows (cores_are_rows array.schema array.margins.items array.chunks h) valid typed e
+
+means : (array : ChunkedArray) (target : Schema) (r : Result (List Row) Broken) → array.broken ≡ None → r ≡ made_of array.schema target (cores_of array)
+    → meant_of target (if_whole (fit_rows target.attributes) r) ≡ redimensioned_from target [] (meant_by_cores array)
+means array target r none e =
+    (λ i. meant_of target (if_whole (fit_rows target.attributes) (e i)))
+    ∙ (λ i. meant_of target (and_then (redimension_rows array.schema target []) (unless_broken (sym none i) (cores_of array))))
+
+pub means_whole : (array : ChunkedArray) (target : Schema) (rows : List Row) → array.broken ≡ None → Ok rows ≡ made_of array.schema target (cores_of array)
+    → meant_of target (Ok (fit_rows target.attributes rows)) ≡ redimensioned_from target [] (meant_by_cores array)
+means_whole array target rows none e = means array target (Ok rows) none e
+
+pub means_breaking : (array : ChunkedArray) (target : Schema) (broken : Broken) → array.broken ≡ None → Err broken ≡ made_of array.schema target (cores_of array)
+    → meant_of target (Err broken) ≡ redimensioned_from target [] (meant_by_cores array)
+means_breaking array target broken none e = means array target (Err broken) none e
+
+pub means_broken : (array : ChunkedArray) (target : Schema) (broken : Broken) → array.broken ≡ Some broken → meant_of target (Err broken) ≡ redimensioned_from target [] (meant_by_cores array)
+means_broken array target broken b = λ i. meant_of target (and_then (redimension_rows array.schema target []) (unless_broken (sym b i) (cores_of array)))

@@ -1,0 +1,5 @@
+pub mod Counting
+pub mod Landings
+pub mod Places
+pub mod Sorting
+pub mod Steps

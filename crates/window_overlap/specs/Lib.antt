@@ -1,0 +1,4 @@
+pub mod Cores
+pub mod Reaches
+pub mod Runs
+pub mod Skips

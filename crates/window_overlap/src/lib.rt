@@ -1,0 +1,12 @@
+//! Aggregates of the cells around each cell.
+#![tactic(auto)]
+
+mod chunks;
+mod corners;
+mod runs;
+mod skips;
+mod states;
+mod windows;
+
+pub use chunks::window_chunk;
+pub use windows::windows_of_rows;
