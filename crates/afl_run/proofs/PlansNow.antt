@@ -5,13 +5,12 @@ use Rattle.std.specs.List.{AllByRecursion}
 use Rattle.std.proofs.lemmas.Bool.{or_parts}
 use Rattle.cell_values.specs.declared.name.Span.{Span}
 use Rattle.schema_grammar.specs.declared.kinds.TypeKind.TheVariants.{WrongCount}
-use Rattle.afl_parser.specs.Term.{Term, create, call, group, Terms, no_terms, and_term}
+use Rattle.afl_parser.specs.Term.{Term, call, group, Terms, no_terms, and_term}
 use Rattle.logical_plan.specs.Leaves.{leaves}
 use Rattle.logical_plan.specs.Query.{Query}
 use Rattle.logical_plan.specs.declared.names.NameEntry.{NameEntry}
 use Rattle.logical_plan.specs.declared.names.Names.{Names}
 use Rattle.type_rules.proofs.Holding.{demanded, thens, of_answer}
-use Rattle.type_rules.specs.Checked.{Checked}
 use Rattle.type_rules.specs.Operators.{operator_named}
 use Rattle.type_rules.specs.declared.operator.Operator.{Operator}
 use Rattle.type_rules.specs.declared.operator.Operator.TheVariants as operator
@@ -24,14 +23,12 @@ use Rattle.box_types.proofs.Holding.{between_holds, subarray_holds, slice_holds}
 use Rattle.afl_types.specs.Calls.{call_of, fits_count, ruled}
 use Rattle.afl_types.specs.Checking.{check_of}
 use Rattle.afl_types.specs.Queries.{called, over, query_of}
-use Rattle.afl_types.specs.Statements.{queried, said, statement_of}
 use Rattle.afl_types.specs.declared.call.Call.{Call}
 use Rattle.afl_types.specs.declared.call.Call.TheVariants.{Build, Scan, Over}
 use Rattle.afl_types.specs.declared.call.OverSource.{OverSource}
 use Rattle.afl_types.specs.declared.call.OverSource.TheVariants.{Filter, Apply, Project, Between, Subarray, Slice}
 use Rattle.afl_types.specs.declared.checking.Typed.{Typed}
 use Rattle.afl_types.specs.declared.checking.Typed.TheVariants.{Query as AQuery}
-use Rattle.afl_types.proofs.NoQuery.{nested_holds}
 use Rattle.chunk_exec.specs.Computed.{is_executed}
 use Rattle.check_laws.proofs.TypedQueries.{checked_typed}
 use Rattle.afl_run.specs.Reply.{CanReply}
@@ -108,29 +105,12 @@ mutual
   called_run s name (Some (Over o)) (and_term source arguments) kept f =
       over_run s o kept source arguments (query_run source (or_parts (is_unbuilt source) (has_unbuilt arguments) f).0)
   called_run s name (Some (Over o)) no_terms kept f = tt
-  called_run s name None arguments kept f = nested_holds IsRun s name (operator_named name)
+  called_run s name None arguments kept f = tt
 
--- an operator that is run makes no statement of its own
-said_query : (o : Option Operator) (s : Span) (arguments : Terms) (other : Checked Typed) → is_to_come o ≡ false → said [] s o arguments other ≡ other
-said_query (Some operator.Store) s arguments other e = absurd (cc (e))
-said_query (Some operator.Insert) s arguments other e = absurd (cc (e))
-said_query (Some operator.Remove) s arguments other e = absurd (cc (e))
-said_query (Some operator.RemoveVersions) s arguments other e = absurd (cc (e))
-said_query (Some operator.Versions) s arguments other e = absurd (cc (e))
-said_query (Some operator.Show) s arguments other e = absurd (cc (e))
-said_query (Some operator.ListNames) s arguments other e = absurd (cc (e))
-said_query _ s arguments other e = refl
-
--- a statement all of whose operators are built is a query
-is_query : (text : List ℕ) (tree : Term) → is_unbuilt tree ≡ false → statement_of [] text tree ≡ queried (query_of [] tree)
-is_query text (create s name written) e = absurd (cc (e))
-is_query text (call s name arguments) e =
-    said_query (operator_named name) s arguments (queried (query_of [] (call s name arguments))) (or_parts (is_to_come (operator_named name)) (has_unbuilt arguments) e).0
-is_query text tree e = refl
-
-pub can_reply : (tree : Term) (text : List ℕ) (names : Names) (typed : Typed) → names.arrays ≡ [] → IsTrue (leaves_fit tree) → is_unbuilt tree ≡ false → check_of tree text names ≡ Ok typed → CanReply typed
-can_reply tree text names typed none fit now e =
-    let asked : check_of tree text names ≡ queried (query_of [] tree) = ap (λ (z : List NameEntry). statement_of z text tree) none ∙ is_query text tree now in
-    of_answer CanReply (queried (query_of [] tree)) typed (thens CanReply (query_of [] tree) (λ q. Ok (AQuery q)) (λ q checked.
+pub can_reply : (tree : Term) (names : Names) (typed : Typed) → names.arrays ≡ [] → IsTrue (leaves_fit tree) → is_unbuilt tree ≡ false → check_of tree names ≡ Ok typed → CanReply typed
+can_reply tree names typed none fit now e =
+    let asked : query_of names.arrays tree ≡ query_of [] tree = ap (λ (z : List NameEntry). query_of z tree) none in
+    of_answer CanReply (check_of tree names) typed (thens CanReply (query_of names.arrays tree) (λ q. Ok (AQuery q)) (λ q f.
+    let checked : query_of [] tree ≡ Ok q = sym asked ∙ f in
     let run : IsRun q = of_answer IsRun (query_of [] tree) q (query_run tree now) checked in
-    record { now = run.0; typed = checked_typed [] tree q tt fit checked; unread = run.1 })) (sym asked ∙ e)
+    record { now = run.0; typed = checked_typed [] tree q tt fit checked; unread = run.1 })) e

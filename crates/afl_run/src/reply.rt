@@ -48,7 +48,7 @@ pub(crate) fn refuse(alloc: Global, refusal: Refusal) -> Result<Reply, Memory>
 /// The reply to a tree of a text.
 fn reply_to_tree(alloc: Global, text: &[u8], tree: &Tree) -> Result<Reply, Memory>
     requires { IsTrue (leaves_fit tree.now) }
-    ensures { IfOk result (λ reply. reply ≡ reply_to_tree text.now tree.now) }
+    ensures { IfOk result (λ reply. reply ≡ reply_to_tree tree.now) }
 {
     if is_unbuilt(tree) {
         refuse(alloc, Refusal::NotBuilt)
@@ -61,7 +61,7 @@ fn reply_to_tree(alloc: Global, text: &[u8], tree: &Tree) -> Result<Reply, Memor
 fn reply_to_query(alloc: Global, text: &[u8], tree: &Tree) -> Result<Reply, Memory>
     requires fit { IsTrue (leaves_fit tree.now) }
     requires built { is_unbuilt tree.now ≡ false }
-    ensures { IfOk result (λ reply. reply ≡ checked_reply (check_of tree.now text.now no_names)) }
+    ensures { IfOk result (λ reply. reply ≡ checked_reply (check_of tree.now no_names)) }
 {
     let names = Names {
         arrays: List::new(alloc),
@@ -80,9 +80,6 @@ fn reply_to_typed(alloc: Global, typed: &Typed) -> Result<Reply, Memory>
 {
     match typed {
         Typed::Query(plan) => reply_to_plan(alloc, plan),
-        Typed::Change(_) | Typed::Versions(_) | Typed::Show(_) | Typed::ListArrays => {
-            unreachable!()
-        }
     }
 }
 

@@ -30,7 +30,6 @@ use Rattle.afl_types.specs.declared.call.Call.{Call}
 use Rattle.afl_types.specs.declared.call.Call.TheVariants.{Build, Scan, Over}
 use Rattle.afl_types.specs.declared.call.OverSource.{OverSource}
 use Rattle.afl_types.specs.declared.call.OverSource.TheVariants.{Filter, Apply, Project, Between, Subarray, Slice}
-use Rattle.afl_types.proofs.NoQuery.{nested_holds}
 
 pub small_valid : (s : Schema) → IsValid s → IsSmall s
 small_valid s h =
@@ -96,7 +95,7 @@ module _ (arrays : List NameEntry) (valid : AreValid arrays) where
     called_small s name (Some Scan) arguments = scan_holds HasSmallSchema arrays (λ name entry v e. small_valid entry.schema (entry_valid name entry e)) s arguments
     called_small s name (Some (Over operator)) (and_term source arguments) = over_small s operator arguments source (small source)
     called_small s name (Some (Over operator)) no_terms = tt
-    called_small s name None arguments = nested_holds HasSmallSchema s name (operator_named name)
+    called_small s name None arguments = tt
 
   pub query_small : (t : Term) (query : Query) → query_of arrays t ≡ Ok query → IsSmall (schema_of query)
   query_small t query e = of_answer HasSmallSchema (query_of arrays t) query (small t) e

@@ -4,17 +4,16 @@
 -- left to right, and then the operator's own rules in their order.
 use Rattle.std.specs.Prelude.{ℕ, length, Option, Some, None, List}
 use Rattle.cell_values.specs.declared.name.Span.{Span}
-use Rattle.schema_grammar.specs.declared.kinds.TypeKind.TheVariants.{WrongCount}
+use Rattle.schema_grammar.specs.declared.kinds.TypeKind.TheVariants.{UnknownName, WrongCount}
 use Rattle.afl_parser.specs.Term.{Term, call, group, Terms, no_terms, and_term}
 use Rattle.logical_plan.specs.Query.{Query}
 use Rattle.logical_plan.specs.declared.names.NameEntry.{NameEntry}
 use Rattle.type_rules.specs.Checked.{Checked, refused, demand, then}
-use Rattle.type_rules.specs.Operators.{operator_named}
+use Rattle.type_rules.specs.Operators.{operator_named, name_span}
 use Rattle.operator_rules.specs.Sorts.{to_list}
 use Rattle.source_types.specs.Build.{build_call}
 use Rattle.source_types.specs.Stored.{referred, scan_call}
 use Rattle.afl_types.specs.Calls.{call_of, fits_count, ruled}
-use Rattle.afl_types.specs.Nested.{nested}
 use Rattle.afl_types.specs.declared.call.Call.{Call}
 use Rattle.afl_types.specs.declared.call.Call.TheVariants.{Build, Scan, Over}
 use Rattle.afl_types.specs.declared.call.OverSource.{OverSource}
@@ -36,4 +35,4 @@ module _ (arrays : List NameEntry) where
     called s name (Some Scan) arguments = scan_call arrays s arguments
     called s name (Some (Over operator)) (and_term source arguments) = over s operator (query_of source) (to_list arguments)
     called s name (Some (Over operator)) no_terms = refused s WrongCount
-    called s name None arguments = nested s name (operator_named name)
+    called s name None arguments = refused (name_span s name) UnknownName

@@ -3,9 +3,7 @@
 
 mod call;
 mod checking;
-mod nested;
 mod query;
-mod statement;
 
 pub use call::{Call, OverSource};
 pub use checking::{Typed, check};

@@ -9,14 +9,13 @@ ghost use Rattle.afl_types.specs.Queries.{called, over, query_of};
 ghost use Rattle.afl_types.specs.declared.call.Call.{Call};
 
 use crate::call::{Call, OverSource, call_of};
-use crate::nested::no_query;
 use afl_parser::{Node, Tree};
 use cell_values::Span;
 use logical_plan::{NameEntry, Plan};
 use schema_grammar::TypeKind;
 use source_types::{build_call, referred, scan_call};
 use std::alloc::Global;
-use type_rules::{TypeFault, broken, operator_named};
+use type_rules::{TypeFault, broken, name_span, operator_named};
 
 /// An operator on a source, which is checked before the arguments behind it.
 #[cycle(query)]
@@ -80,7 +79,7 @@ fn called(
         Some(Call::Over(operator)) => {
             over_first(alloc, text, arrays, span, name, operator, arguments)
         }
-        None => Err(no_query(span, name)),
+        None => Err(broken(name_span(span, name), TypeKind::UnknownName)),
     }
 }
 

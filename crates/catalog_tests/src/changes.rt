@@ -1,9 +1,4 @@
-ghost use Rattle.std.specs.Prelude.{◌≡◌, IfOk, IsTrue};
-ghost use Rattle.plan_changes.specs.Allowed.{names_allow};
-ghost use Rattle.catalog_rules.specs.Catalogs.{IsRecord, names_in};
-ghost use Rattle.catalog_changes.specs.Changed.{has_its_directory};
-
-use crate::catalogues::{ONE, wrong_record};
+use crate::catalogues::ONE;
 use catalog_changes::*;
 use catalog_rules::*;
 use cell_values::{Bytes, List, Memory};
@@ -45,36 +40,6 @@ fn record_bytes(alloc: Global, kind: u8, letter: u8, number: u8) -> Result<Bytes
     Ok(bytes)
 }
 
-/// A kind of record, a byte of it that is changed, and where the first wrong item then begins.
-const WRONG: [(u8, usize, u8, u64); 10] = [
-    // the name
-    (CREATE, 2, 49, 1),
-    (REMOVE, 1, 0, 1),
-    (BELOW, 2, 49, 1),
-    // no attribute, more overlap than a chunk
-    (CREATE, 3, 0, 3),
-    (CREATE, 35, 3, 35),
-    // a directory without bytes, two pages for 8 bytes
-    (FIRST, 43, 0, 43),
-    (FIRST, 51, 2, 51),
-    (NEXT, 3, 0, 3),
-    (NEXT, 11, 2, 11),
-    // a record of another kind has more bytes
-    (CREATE, 0, 4, 3),
-];
-
-#[test]
-fn the_first_wrong_item_of_each_kind_is_told(rt: HostRuntime) -> Result<(), Memory> {
-    for (kind, place, byte, at) in WRONG.as_slice() {
-        let mut bytes = record_bytes(rt.alloc(), *kind, 66, 2)?;
-        if *place < bytes.len() {
-            bytes.set(*place, *byte);
-        }
-        assert!(rt; wrong_record(rt.alloc(), bytes.as_slice()) == Some(*at));
-    }
-    Ok(())
-}
-
 /// Whether the catalogue allows such a record; nothing where one of them is not read.
 fn is_allowed(alloc: Global, kind: u8, letter: u8, number: u8) -> Option<bool> {
     let bytes = record_bytes(alloc, kind, letter, number).ok()?;
@@ -113,9 +78,7 @@ fn decoded(alloc: Global) -> Result<Catalog, Memory> {
     }
 }
 
-fn record(alloc: Global, kind: u8, letter: u8, number: u8) -> Result<CatalogRecord, Memory>
-    ensures { IfOk result IsRecord }
-{
+fn record(alloc: Global, kind: u8, letter: u8, number: u8) -> Result<CatalogRecord, Memory> {
     let bytes = record_bytes(alloc, kind, letter, number)?;
     match decode_record(alloc, bytes.as_slice()) {
         Ok(entry) => Ok(entry),
@@ -221,105 +184,5 @@ fn an_insert_makes_the_next_version(rt: HostRuntime) -> Result<(), Memory> {
     let version = [3, 0, 0, 0, 8, 0, 0, 0, 0, 0, 0, 0, 1, 0, 0, 0, 9, 0, 0, 0];
     assert_eq!(rt; after.len(), 94);
     assert!(rt; after.as_slice().ends_with(version.as_slice()));
-    Ok(())
-}
-
-fn copy_of(directory: &Option<BlobAt>) -> Result<Option<BlobAt>, Memory>
-    ensures { IfOk result (λ copy. copy ≡ directory.now) }
-{
-    match directory {
-        Some(directory) => Ok(Some(directory.copy()?)),
-        None => Ok(None),
-    }
-}
-
-/// The bytes of the record of a change, and those of the catalogue after it.
-fn changed(
-    catalog: &Catalog,
-    change: &Change,
-    directory: Option<BlobAt>,
-) -> Result<(Bytes, Bytes), Memory>
-    requires names { IsTrue (names_allow (names_in catalog.now) change.now) }
-    requires directory { IsTrue (has_its_directory change.now directory) }
-{
-    let alloc = catalog.arrays.allocator();
-    let entry = record_of(catalog, change, copy_of(&directory)?)?;
-    let after = with_change(catalog, change, directory)?;
-    Ok((
-        encode_record(alloc, &entry)?,
-        encode_catalog(alloc, &after)?,
-    ))
-}
-
-/// The array B is made.
-fn after_create(alloc: Global) -> Result<(Bytes, Bytes), Memory> {
-    let catalog = decoded(alloc)?;
-    let entry = record(alloc, CREATE, 66, 0)?;
-    if allowed(&catalog, &entry) {
-        if let CatalogRecord::Create { name, schema } = entry {
-            return changed(&catalog, &Change::Create { name, schema }, None);
-        }
-    }
-    Err(Memory)
-}
-
-/// The first version of the array B is stored.
-fn after_store(alloc: Global) -> Result<(Bytes, Bytes), Memory> {
-    let catalog = decoded(alloc)?;
-    let entry = record(alloc, FIRST, 66, 0)?;
-    if allowed(&catalog, &entry) {
-        if let CatalogRecord::First {
-            name,
-            schema,
-            directory,
-        } = entry
-        {
-            let plan = Plan::literal(schema.copy()?, List::new(alloc));
-            let store = Change::Store { name, schema, plan };
-            return changed(&catalog, &store, Some(directory));
-        }
-    }
-    Err(Memory)
-}
-
-/// The array A is removed.
-fn after_remove(alloc: Global) -> Result<(Bytes, Bytes), Memory> {
-    let catalog = decoded(alloc)?;
-    let entry = record(alloc, REMOVE, 65, 0)?;
-    if allowed(&catalog, &entry) {
-        if let CatalogRecord::Remove { name } = entry {
-            return changed(&catalog, &Change::Remove { name }, None);
-        }
-    }
-    Err(Memory)
-}
-
-/// The versions of A below 2 are removed, of which there is none.
-fn after_cut(alloc: Global) -> Result<(Bytes, Bytes), Memory> {
-    let catalog = decoded(alloc)?;
-    let entry = record(alloc, BELOW, 65, 2)?;
-    if allowed(&catalog, &entry) {
-        if let CatalogRecord::RemoveVersions { name, below } = entry {
-            return changed(&catalog, &Change::RemoveVersions { name, below }, None);
-        }
-    }
-    Err(Memory)
-}
-
-#[test]
-fn changes_have_records_of_their_kind(rt: HostRuntime) -> Result<(), Memory> {
-    let alloc = rt.alloc();
-    let (entry, after) = after_create(alloc)?;
-    assert!(rt; entry.as_slice() == record_bytes(alloc, CREATE, 66, 0)?.as_slice());
-    assert_eq!(rt; after.len(), 124);
-    let (entry, after) = after_store(alloc)?;
-    assert!(rt; entry.as_slice() == record_bytes(alloc, FIRST, 66, 0)?.as_slice());
-    assert_eq!(rt; after.len(), 144);
-    let (entry, after) = after_remove(alloc)?;
-    assert!(rt; entry.as_slice() == record_bytes(alloc, REMOVE, 65, 0)?.as_slice());
-    assert!(rt; after.as_slice() == [0; 4].as_slice());
-    let (entry, after) = after_cut(alloc)?;
-    assert!(rt; entry.as_slice() == record_bytes(alloc, BELOW, 65, 2)?.as_slice());
-    assert!(rt; after.as_slice() == ONE.as_slice());
     Ok(())
 }

@@ -55,7 +55,6 @@ use Rattle.afl_types.specs.declared.call.Call.{Call}
 use Rattle.afl_types.specs.declared.call.Call.TheVariants.{Build, Scan, Over}
 use Rattle.afl_types.specs.declared.call.OverSource.{OverSource}
 use Rattle.afl_types.specs.declared.call.OverSource.TheVariants.{Filter, Apply, Project, Between, Subarray, Slice}
-use Rattle.afl_types.proofs.NoQuery.{nested_holds}
 use Rattle.afl_types.proofs.Small.{entry_valid}
 use Rattle.literal_types.proofs.Limits.{are_bytes}
 use Rattle.check_laws.proofs.RowsFit.{literal_fits}
@@ -223,7 +222,7 @@ module _ (arrays : List NameEntry) (stored : AreValid arrays) where
         let p = and_parts (leaves_fit source) (all_leaves_fit arguments) leaves in
         over_typed s operator arguments source p.1 (query_typed source p.0)
     called_typed s name (Some (Over operator)) no_terms leaves = tt
-    called_typed s name None arguments leaves = nested_holds IsTyped s name (operator_named name)
+    called_typed s name None arguments leaves = tt
 
 pub checked_typed : CheckedPlansAreTyped
 checked_typed arrays tree query stored leaves e = of_answer IsTyped (query_of arrays tree) query (query_typed arrays stored tree leaves) e

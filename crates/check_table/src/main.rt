@@ -1,29 +1,38 @@
 //! Tells of each line of standard input, a statement, what checking makes of it over a few stored arrays: the versions that
-//! it reads and the schema of what it gives, the change or listing that it is, or the first rule that it breaks with the place.
+//! it reads and the schema of what it gives, or the first rule that it breaks with the place.
 //!
-//! A line that begins with `##` is a title, and is printed as it is. Behind `#full `, `#last ` and `#none ` a statement is checked
-//! over other arrays: as many as there may be, and an array with a number for one more version or for none.
+//! A line that begins with `##` is a title, and is printed as it is.
 #![tactic(auto)]
 
 ghost use Rattle.afl_types.specs.Checking.{AreValid};
 
 mod stored;
-mod told;
 
 use afl_parser::{Tree, parse};
-use afl_types::{TypeFault, check};
+use afl_types::{TypeFault, Typed, check};
 use anyhow::Result;
 use cell_values::Span;
-use logical_plan::Names;
+use logical_plan::{Names, Plan, reads, schema_of};
 use result_print::{Refusal, refusal_line};
-use schema_grammar::TypeKind;
+use schema_grammar::{TypeKind, schema_text};
 use std::io::BufRead;
 use std::str::from_utf8;
-use stored::{Arrays, names};
-use told::tell_typed;
+use stored::names;
 
 /// How many bytes a statement may have.
 const LIMIT: usize = 1_048_576;
+
+/// Prints the versions that a plan reads, and its schema.
+fn tell_plan(rt: &(impl Print + AllocGlobal), plan: &Plan) -> Result<()> {
+    for leaf in reads(rt.alloc(), plan)?.as_slice() {
+        let name = from_utf8(leaf.name.as_slice()).unwrap_or("no text");
+        print!(rt; "{name}@{} ", leaf.version)?;
+    }
+    let schema = schema_of(rt.alloc(), plan)?;
+    let text = schema_text(rt.alloc(), &schema)?;
+    println!(rt; "{}", from_utf8(text.as_slice()).unwrap_or("no text"))?;
+    Ok(())
+}
 
 /// Prints a line.
 fn tell_word(rt: &impl Print, word: &str) -> Result<()> {
@@ -43,7 +52,7 @@ fn tell_tree(rt: &(impl Print + AllocGlobal), text: &[u8], tree: &Tree, names: &
     requires { AreValid names.now.arrays }
 {
     match check(rt.alloc(), tree, text, names) {
-        Ok(typed) => tell_typed(rt, &typed),
+        Ok(Typed::Query(plan)) => tell_plan(rt, &plan),
         Err(TypeFault::Rule { span, kind }) => tell_fault(rt, span, kind),
         Err(TypeFault::Memory) => tell_word(rt, "no memory"),
     }
@@ -62,26 +71,22 @@ fn tell(rt: &(impl Print + AllocGlobal), text: &[u8], names: &Names) -> Result<(
     }
 }
 
-/// Prints what checking answers to a statement over some of the arrays.
-fn tell_over(rt: &(impl Print + AllocGlobal), text: &[u8], arrays: Arrays) -> Result<()> {
-    match names(rt.alloc(), arrays) {
-        Some(names) => tell(rt, text, &names),
-        None => tell_word(rt, "no arrays"),
-    }
-}
-
 /// Prints a title, or what checking answers to the statement of a line.
-fn answer(rt: &(impl Print + AllocGlobal), line: &[u8]) -> Result<()> {
+fn answer(rt: &(impl Print + AllocGlobal), line: &[u8], names: &Names) -> Result<()>
+    requires { AreValid names.now.arrays }
+{
     match line {
-        [b'#', b'#', ..] => tell_word(rt, from_utf8(line).unwrap_or("##")),
-        [b'#', b'f', b'u', b'l', b'l', b' ', text @ ..] => tell_over(rt, text, Arrays::Full),
-        [b'#', b'l', b'a', b's', b't', b' ', text @ ..] => tell_over(rt, text, Arrays::OneVersion),
-        [b'#', b'n', b'o', b'n', b'e', b' ', text @ ..] => tell_over(rt, text, Arrays::NoVersion),
-        text => tell_over(rt, text, Arrays::Few),
+        [b'#', b'#', ..] => println!(rt; "{}", from_utf8(line).unwrap_or("##"))?,
+        text => tell(rt, text, names)?,
     }
+    Ok(())
 }
 
 fn main(rt: HostRuntime) -> Result<()> {
+    let Some(names) = names(rt.alloc()) else {
+        println!(rt; "no arrays")?;
+        return Ok(());
+    };
     let mut input = rt.reader();
     let mut line = Vec::new(rt.alloc());
     for _ in 0..u64::MAX {
@@ -90,8 +95,8 @@ fn main(rt: HostRuntime) -> Result<()> {
             break;
         }
         match line.as_slice() {
-            [text @ .., b'\n'] => answer(&rt, text)?,
-            text => answer(&rt, text)?,
+            [text @ .., b'\n'] => answer(&rt, text, &names)?,
+            text => answer(&rt, text, &names)?,
         }
     }
     Ok(())

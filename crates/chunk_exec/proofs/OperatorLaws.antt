@@ -16,6 +16,7 @@ use Rattle.array_cores.specs.Cores.{meant_by_cores}
 use Rattle.array_cores.proofs.CoreLaws.{arrays_are_their_cores, arrays_have_cells}
 use Rattle.array_groups.specs.Meant.{aggregate_meant, regrid_meant}
 use Rattle.array_joins.specs.Meant.{cross_meant, join_meant}
+use Rattle.array_windows.specs.Meant.{window_meant}
 use Rattle.array_ops.specs.Made.{GivesRows, IsMadeOf}
 use Rattle.expr_nulls.specs.Expr.{Expr}
 use Rattle.logical_plan.specs.declared.parts.Aggregate.{Aggregate}
@@ -23,11 +24,12 @@ use Rattle.logical_plan.specs.declared.parts.Applied.{Applied}
 use Rattle.logical_plan.specs.declared.parts.Fixed.{Fixed}
 use Rattle.logical_plan.specs.declared.parts.Leaf.{Leaf}
 use Rattle.logical_plan.specs.declared.parts.Pair.{Pair}
+use Rattle.logical_plan.specs.declared.parts.Reach.{Reach}
 use Rattle.logical_plan.specs.CellOps.{filter_rows, apply_rows, project_rows}
 use Rattle.logical_plan.specs.Faults.{if_whole}
 use Rattle.logical_plan.specs.Meaning.{Database, meaning}
-use Rattle.logical_plan.specs.PlanSchema.{schema_of, subarray_schema, slice_schema, regrid_schema, aggregate_schema}
-use Rattle.logical_plan.specs.Query.{Query, scanned, filtered, applied, projected, between, subarray, sliced, joined, crossed, regridded, aggregated}
+use Rattle.logical_plan.specs.PlanSchema.{schema_of, subarray_schema, slice_schema, regrid_schema, window_schema, aggregate_schema}
+use Rattle.logical_plan.specs.Query.{Query, scanned, filtered, applied, projected, between, subarray, sliced, joined, crossed, regridded, windowed, aggregated}
 use Rattle.logical_plan.specs.Typing.{IsTyped}
 use Rattle.logical_plan.proofs.ArrayLaws.{typed_arrays}
 use Rattle.logical_plan.proofs.SchemaLaws.{meaning_schema, typed_valid}
@@ -163,6 +165,9 @@ slice_result source fixed array made can is = computed_by_cores source (sliced s
 
 pub regrid_result : (source : Query) (sizes : List ℕ) (gs : List Aggregate) (array made : ChunkedArray) → CanOperate (regridded source sizes gs) (array ∷ []) → Is made (regrid_meant sizes gs (meant_by_cores array)) → IsResultOf (regridded source sizes gs) (array ∷ []) made
 regrid_result source sizes gs array made can is = computed_by_cores source (regridded source sizes gs) (regrid_meant sizes gs) array made refl (λ db. refl) (ap (regrid_schema sizes gs) can.schemas.0) is
+
+pub window_result : (source : Query) (reach : List Reach) (gs : List Aggregate) (array made : ChunkedArray) → CanOperate (windowed source reach gs) (array ∷ []) → Is made (window_meant reach gs (meant_by_cores array)) → IsResultOf (windowed source reach gs) (array ∷ []) made
+window_result source reach gs array made can is = computed_by_cores source (windowed source reach gs) (window_meant reach gs) array made refl (λ db. refl) (ap (window_schema gs) can.schemas.0) is
 
 pub aggregate_result : (source : Query) (gs : List Aggregate) (places : List ℕ) (array made : ChunkedArray) → CanOperate (aggregated source gs places) (array ∷ []) → Is made (aggregate_meant gs places (meant_by_cores array)) → IsResultOf (aggregated source gs places) (array ∷ []) made
 aggregate_result source gs places array made can is = computed_by_cores source (aggregated source gs places) (aggregate_meant gs places) array made refl (λ db. refl) (ap (aggregate_schema gs places) can.schemas.0) is

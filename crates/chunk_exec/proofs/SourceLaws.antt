@@ -38,7 +38,7 @@ executed_sources (joined left right schema) e = let both = and_parts (is_execute
 executed_sources (crossed left right pairs schema) e = let both = and_parts (is_executed left) (is_executed right) e in (both.0, (both.1, tt))
 executed_sources (redimensioned source schema gs) e = cc
 executed_sources (regridded source sizes gs) e = (e, tt)
-executed_sources (windowed source reach gs) e = cc
+executed_sources (windowed source reach gs) e = (e, tt)
 executed_sources (aggregated source gs places) e = (e, tt)
 executed_sources query e = tt
 

@@ -9,12 +9,12 @@ use Rattle.array_geom.specs.Link.{Is}
 use Rattle.logical_plan.specs.Leaves.{leaves}
 use Rattle.logical_plan.specs.Meaning.{meaning, whole}
 use Rattle.logical_plan.specs.PlanSchema.{schema_of}
-use Rattle.logical_plan.specs.Query.{Query, built, listed, scanned, filtered, applied, projected, between, subarray, sliced, joined, crossed, regridded, aggregated}
+use Rattle.logical_plan.specs.Query.{Query, built, listed, scanned, filtered, applied, projected, between, subarray, sliced, joined, crossed, regridded, windowed, aggregated}
 use Rattle.logical_plan.specs.Typing.{IsTyped}
 use Rattle.chunk_source.specs.Source.{SourceState, Reads}
 use Rattle.chunk_read.specs.Reading.{asked_of}
 
--- builds, literals and scans; filtered, with more or fewer attributes, cut to boxes and slices; joins, and aggregates of blocks and by dimensions
+-- builds, literals and scans; filtered, with more or fewer attributes, cut to boxes and slices; joins, and aggregates of blocks, of windows and by dimensions
 abbrev pub is_executed : Query → Bool
 is_executed (built schema e) = true
 is_executed (listed schema rows) = true
@@ -28,6 +28,7 @@ is_executed (sliced source fixed) = is_executed source
 is_executed (joined left right schema) = is_executed left && is_executed right
 is_executed (crossed left right pairs schema) = is_executed left && is_executed right
 is_executed (regridded source sizes gs) = is_executed source
+is_executed (windowed source reach gs) = is_executed source
 is_executed (aggregated source gs places) = is_executed source
 is_executed query = false
 

@@ -2,7 +2,7 @@
 ghost use Rattle.std.specs.Prelude.{[], ◌∷◌, IfOk};
 ghost use Rattle.chunk_exec.specs.Operated.{CanOperate, IsResultOf};
 
-use crate::steps::{aggregate, apply, between, filter, project, regrid};
+use crate::steps::{aggregate, apply, between, filter, project, regrid, window};
 use array_geom::ChunkedArray;
 use array_joins::{cross_join, join};
 use cell_values::Memory;
@@ -27,6 +27,7 @@ pub(crate) fn of_one(
         PlanNode::Subarray(_, area) => subarray_owned(array, area),
         PlanNode::Slice(_, fixed) => slice_owned(array, fixed.as_slice()),
         PlanNode::Regrid(_, blocks, aggs) => regrid(alloc, plan, array, blocks, aggs),
+        PlanNode::Window(_, reach, aggs) => window(alloc, plan, array, reach, aggs),
         PlanNode::Aggregate(_, aggs, places) => aggregate(alloc, plan, array, aggs, places),
         _ => unreachable!(),
     }

@@ -5,15 +5,16 @@ ghost use Rattle.array_rows.specs.Boxes.{within};
 ghost use Rattle.array_cores.specs.Cores.{HasCells, meant_by_cores};
 ghost use Rattle.array_geom.specs.Link.{Is};
 ghost use Rattle.array_groups.specs.Meant.{aggregate_meant, regrid_meant};
+ghost use Rattle.array_windows.specs.Meant.{window_meant};
 ghost use Rattle.array_ops.specs.Made.{IsMadeOf};
 ghost use Rattle.logical_plan.specs.CellOps.{filter_rows, apply_rows, project_rows};
-ghost use Rattle.logical_plan.specs.PlanSchema.{aggregate_schema, regrid_schema, schema_of};
-ghost use Rattle.logical_plan.specs.Typing.{are_aggregates_of, are_below};
+ghost use Rattle.logical_plan.specs.PlanSchema.{aggregate_schema, regrid_schema, schema_of, window_schema};
+ghost use Rattle.logical_plan.specs.Typing.{are_aggregates_of, are_below, are_windows_of};
 
 use array_geom::ChunkedArray;
 use cell_values::{Bounds, List, Memory};
 use expr_nulls::TypedExpr;
-use logical_plan::{Aggregate, Applied, Plan, schema_of};
+use logical_plan::{Aggregate, Applied, Plan, Reach, schema_of};
 use std::alloc::Global;
 
 /// The cells where the test of a plan is true.
@@ -92,6 +93,25 @@ pub(crate) fn regrid(
 {
     let target = schema_of(alloc, plan)?;
     array_groups::regrid(array, blocks.as_slice(), aggs.as_slice(), &target)
+}
+
+/// The aggregates of a plan's windows.
+pub(crate) fn window(
+    alloc: Global,
+    plan: &Plan,
+    array: ChunkedArray,
+    reach: &List<Reach>,
+    aggs: &List<Aggregate>,
+) -> Result<ChunkedArray, Memory>
+    requires cells { HasCells array }
+    requires schema { schema_of plan.now ≡ window_schema aggs.now array.schema }
+    requires valid { IsValid (schema_of plan.now) }
+    requires reach { IsTrue (are_windows_of array.schema reach.now) }
+    requires typed { IsTrue (are_aggregates_of array.schema.attributes aggs.now) }
+    ensures { IfOk result (λ made. Is made (window_meant reach.now aggs.now (meant_by_cores array))) }
+{
+    let target = schema_of(alloc, plan)?;
+    array_windows::window(array, reach.as_slice(), aggs.as_slice(), &target)
 }
 
 /// The aggregates of a plan, by the dimensions at its places.

@@ -15,11 +15,11 @@ use Rattle.plan_changes.proofs.StoredLaws.{RiseAfter, names_in, after_next, tail
 use Rattle.event_core.specs.declared.entry.Used.{Used}
 use Rattle.event_core.specs.declared.entry.Entry.TheVariants.{Pin, Unpin, Commit, Reap}
 use Rattle.event_core.specs.declared.state.Core.{Core}
-use Rattle.event_core.specs.Agree.{are_unique, HavePages}
-use Rattle.event_core.specs.Allowed.{IsBase, is_allowed}
+use Rattle.event_core.specs.Agree.{are_unique}
+use Rattle.event_core.specs.Allowed.{is_allowed}
 use Rattle.event_core.specs.Cells.{at}
-use Rattle.event_core.specs.History.{History, names_at, pages_at}
-use Rattle.event_core.specs.Legal.{Cost, BeginsAt, IsLegal, BeginsWithNames, IsOrdered, LegalIsOrdered, OrderedIsAllowed, OrderedNamesAreStored, OrderedVersionsHavePages, AllStoreArrays, LegalDatabases}
+use Rattle.event_core.specs.History.{History, names_at}
+use Rattle.event_core.specs.Legal.{Cost, BeginsAt, IsLegal, BeginsWithNames, IsOrdered, LegalIsOrdered, OrderedIsAllowed, OrderedNamesAreStored, OrderedVersionsHavePages, LegalDatabases}
 use Rattle.event_core.proofs.Agree.{name_refl, named_versions_have_pages, typed_then}
 use Rattle.event_core.proofs.Cells.{names_are_of_the_database}
 

@@ -33,7 +33,7 @@ fn row_told(group: Group) -> Result<Row, Memory>
 }
 
 /// A row for each group, with the aggregates of its cells.
-pub(crate) fn rows_told(groups: Groups) -> Result<List<Row>, Memory>
+pub fn rows_told(groups: Groups) -> Result<List<Row>, Memory>
     ensures { IfOk result (AllZip IsRowOf groups.groups) }
 {
     let mut rows = groups.groups.another();

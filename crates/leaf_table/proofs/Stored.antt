@@ -15,7 +15,9 @@ use Rattle.logical_plan.specs.declared.parts.Leaf.{Leaf}
 use Rattle.logical_plan.specs.Typing.{AreSound}
 use Rattle.mem_chunks.specs.declared.leaf_array.LeafArray.{LeafArray}
 use Rattle.mem_chunks.specs.Found.{IsRead, IsStoredArray, rows_of}
-use Rattle.leaf_table.specs.Example.{schema, leaf, rows, meant}
+use Rattle.leaf_table.specs.Example.{dimensions, schema, leaf, rows, meant}
+use Rattle.leaf_table.specs.declared.layout.Layout.{Layout}
+use Rattle.leaf_table.specs.declared.layout.Layout.TheVariants.{Singles, Pairs, Whole}
 
 abbrev row_with : ArrayVec ℤ → Cell → Row
 row_with at cell = record { at = at; cell = cell }
@@ -25,35 +27,47 @@ placed_at at c cell e = ap (λ (items : List ℤ). placed items cell) e
 
 -- ---- what `assemble` asks for
 
-are_rows : AreRowsOf schema rows
-are_rows = record {
-  valid = refl;
+valid : (layout : Layout) → IsValid (schema layout)
+valid Singles = refl
+valid Pairs = refl
+valid Whole = refl
+
+are_rows : (layout : Layout) → AreRowsOf (schema layout) rows
+are_rows layout = record {
+  valid = valid layout;
   are_rows = record { rising = ((refl, tt), (tt, tt)); in_bounds = (refl, (refl, tt)) };
   kinds = ((refl, tt), ((refl, tt), tt));
 }
 
-pub schema_valid : (s : Schema) → s ≡ schema → IsValid s
-schema_valid s e = subst IsValid (sym e) refl
+pub schema_valid : (layout : Layout) (s : Schema) → s ≡ schema layout → IsValid s
+schema_valid layout s e = subst IsValid (sym e) (valid layout)
 
-pub rows_are : (s : Schema) (rs : List Row) → s ≡ schema → rs ≡ rows → AreRowsOf s rs
-rows_are s rs e f = subst (λ (z : Schema). AreRowsOf z rs) (sym e) (subst (AreRowsOf schema) (sym f) are_rows)
+pub pairs_valid : (s : Schema) → s ≡ schema Pairs → IsValid s
+pairs_valid s e = schema_valid Pairs s e
 
-pub margin_each : (s : Schema) (margins : List ℕ) → margins ≡ overlaps s.dimensions → s ≡ schema → length margins ≡ length s.dimensions
-margin_each s margins e f = ap length e ∙ subst (λ (z : Schema). length (overlaps z.dimensions) ≡ length z.dimensions) (sym f) refl
+pub rows_are : (layout : Layout) (s : Schema) (rs : List Row) → s ≡ schema layout → rs ≡ rows → AreRowsOf s rs
+rows_are layout s rs e f = subst (λ (z : Schema). AreRowsOf z rs) (sym e) (subst (AreRowsOf (schema layout)) (sym f) (are_rows layout))
 
-pub few_places : (s : Schema) (margins : List ℕ) → margins ≡ overlaps s.dimensions → s ≡ schema → volume (frame_lengths s.dimensions margins) ≤ 2 ^ 48
-few_places s margins e f =
-    let few : volume (frame_lengths schema.dimensions (overlaps schema.dimensions)) ≤ 2 ^ 48 = omega arith in
-    subst (λ (ms : List ℕ). volume (frame_lengths s.dimensions ms) ≤ 2 ^ 48) (sym e) (subst (λ (z : Schema). volume (frame_lengths z.dimensions (overlaps z.dimensions)) ≤ 2 ^ 48) (sym f) few)
+pub margin_each : (layout : Layout) (s : Schema) (margins : List ℕ) → margins ≡ overlaps s.dimensions → s ≡ schema layout → length margins ≡ length s.dimensions
+margin_each layout s margins e f = ap length e ∙ subst (λ (z : Schema). length (overlaps z.dimensions) ≡ length z.dimensions) (sym f) refl
+
+few : (layout : Layout) → volume (frame_lengths (dimensions layout) (overlaps (dimensions layout))) ≤ 2 ^ 48
+few Singles = omega arith
+few Pairs = omega arith
+few Whole = omega arith
+
+pub few_places : (layout : Layout) (s : Schema) (margins : List ℕ) → margins ≡ overlaps s.dimensions → s ≡ schema layout → volume (frame_lengths s.dimensions margins) ≤ 2 ^ 48
+few_places layout s margins e f =
+    subst (λ (ms : List ℕ). volume (frame_lengths s.dimensions ms) ≤ 2 ^ 48) (sym e) (subst (λ (z : Schema). volume (frame_lengths z.dimensions (overlaps z.dimensions)) ≤ 2 ^ 48) (sym f) (few layout))
 
 -- ---- the stored array
 
-sound : AreSound schema rows
-sound = (refl, (refl, tt))
+sound : (layout : Layout) → AreSound (schema layout) rows
+sound layout = (refl, (refl, tt))
 
-pub is_stored : (stored : LeafArray) → stored.leaf ≡ leaf → Is stored.array meant → stored.array.margins.items ≡ overlaps schema.dimensions → IsStoredArray stored
-is_stored stored e is margins =
-    let same : stored.leaf.schema ≡ schema = ap (λ (l : Leaf). l.schema) e in
+pub is_stored : (layout : Layout) (stored : LeafArray) → stored.leaf ≡ leaf layout → Is stored.array (meant layout) → stored.array.margins.items ≡ overlaps (dimensions layout) → IsStoredArray stored
+is_stored layout stored e is margins =
+    let same : stored.leaf.schema ≡ schema layout = ap (λ (l : Leaf). l.schema) e in
     let here : stored.array.schema ≡ stored.leaf.schema = is.schema ∙ sym same in
     let held : HoldsRows stored.array.schema stored.array rows = subst (λ (s : Schema). HoldsRows s stored.array rows) (sym is.schema) is.cells in
     let core : rows_of stored ≡ rows = subst (λ (s : Schema). rows_of (record { leaf = record stored.leaf { schema = s }; array = stored.array }) ≡ rows) here (chunks_have_their_rows stored.array.schema stored.array rows held) in
@@ -61,12 +75,12 @@ is_stored stored e is margins =
       schema = here;
       margins = margins ∙ sym (ap (λ (s : Schema). overlaps s.dimensions) same);
       rows = subst (HoldsRows stored.leaf.schema stored.array) (sym core) (subst (λ (s : Schema). HoldsRows s stored.array rows) here held);
-      sound = subst (λ (s : Schema). AreSound s (rows_of stored)) (sym same) (subst (AreSound schema) (sym core) sound);
+      sound = subst (λ (s : Schema). AreSound s (rows_of stored)) (sym same) (subst (AreSound (schema layout)) (sym core) (sound layout));
     }
 
 pub all_stored : (stored : LeafArray) → IsStoredArray stored → AllByRecursion IsStoredArray (stored ∷ [])
 all_stored stored is = (is, tt)
 
 -- the leaf is that of the one array
-pub is_read : (stored : LeafArray) → stored.leaf ≡ leaf → IsRead (stored ∷ []) leaf
-is_read stored e = subst (λ (l : Leaf). IsRead (record { leaf = l; array = stored.array } ∷ []) leaf) (sym e) (inr refl)
+pub is_read : (layout : Layout) (stored : LeafArray) → stored.leaf ≡ leaf layout → IsRead (stored ∷ []) (leaf layout)
+is_read layout stored e = subst (λ (l : Leaf). IsRead (record { leaf = l; array = stored.array } ∷ []) (leaf layout)) (sym e) (inr refl)

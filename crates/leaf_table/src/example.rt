@@ -1,4 +1,4 @@
-//! An array of four places in two chunks, with a cell in each.
+//! An array of four places with two cells.
 ghost use Rattle.std.specs.Prelude.{◌≡◌, ◌≤◌, ◌∷◌, [], length, IfOk};
 ghost use Rattle.std.specs.List.{AllByRecursion};
 ghost use Rattle.cell_values.specs.declared.datum.Cell.TheVariants.{Full};
@@ -9,8 +9,9 @@ ghost use Rattle.array_geom.specs.Link.{Is};
 ghost use Rattle.chunk_source.specs.Source.{Reads};
 ghost use Rattle.mem_chunks.specs.Found.{IsRead, IsStoredArray};
 ghost use Rattle.mem_chunks.specs.InMemory.{memory_state, sure_state};
-ghost use Rattle.leaf_table.specs.Example.{schema, leaf, rows, meant};
+ghost use Rattle.leaf_table.specs.Example.{attributes, dimensions, schema, leaf, rows, meant};
 
+use crate::layout::Layout;
 use array_geom::ChunkedArray;
 use cell_values::{
     Attribute, Cell, Datum, Dimension, Kind, List, Memory, Name, Row, Schema, coord_of,
@@ -32,7 +33,7 @@ fn name(alloc: Global, bytes: &[u8]) -> Result<Name, Memory>
 }
 
 fn attributes(alloc: Global) -> Result<List<Attribute>, Memory>
-    ensures { IfOk result (λ made. made ≡ schema.attributes) }
+    ensures { IfOk result (λ made. made ≡ attributes) }
 {
     let mut attributes = List::new(alloc);
     attributes.push(Attribute {
@@ -43,37 +44,37 @@ fn attributes(alloc: Global) -> Result<List<Attribute>, Memory>
     Ok(attributes)
 }
 
-fn dimensions(alloc: Global) -> Result<List<Dimension>, Memory>
-    ensures { IfOk result (λ made. made ≡ schema.dimensions) }
+fn dimensions(alloc: Global, layout: Layout) -> Result<List<Dimension>, Memory>
+    ensures { IfOk result (λ made. made ≡ dimensions layout) }
 {
     let mut dimensions = List::new(alloc);
     dimensions.push(Dimension {
         name: name(alloc, b"i")?,
         lo: 0,
         hi: 3,
-        chunk: 2,
-        overlap: 1,
+        chunk: layout.chunk_length(),
+        overlap: layout.overlap(),
     })?;
     Ok(dimensions)
 }
 
-fn schema(alloc: Global) -> Result<Schema, Memory>
-    ensures { IfOk result (λ made. made ≡ schema) }
+fn schema(alloc: Global, layout: Layout) -> Result<Schema, Memory>
+    ensures { IfOk result (λ made. made ≡ schema layout) }
 {
     Ok(Schema {
         attributes: attributes(alloc)?,
-        dimensions: dimensions(alloc)?,
+        dimensions: dimensions(alloc, layout)?,
     })
 }
 
 /// The leaf of the array.
-pub(crate) fn example_leaf(alloc: Global) -> Result<Leaf, Memory>
-    ensures { IfOk result (λ made. made ≡ leaf) }
+pub(crate) fn example_leaf(alloc: Global, layout: Layout) -> Result<Leaf, Memory>
+    ensures { IfOk result (λ made. made ≡ leaf layout) }
 {
     Ok(Leaf {
         name: name(alloc, b"a")?,
         version: 1,
-        schema: schema(alloc)?,
+        schema: schema(alloc, layout)?,
     })
 }
 
@@ -99,45 +100,49 @@ fn rows(alloc: Global) -> Result<List<Row>, Memory>
 }
 
 #[tactic(auto, using(crate::proofs::Stored::schema_valid, crate::proofs::Stored::rows_are, crate::proofs::Stored::margin_each, crate::proofs::Stored::few_places))]
-fn array(alloc: Global) -> Result<ChunkedArray, Memory>
-    ensures array { IfOk result (λ made. Is made meant) }
-    ensures margins { IfOk result (λ made. made.margins.items ≡ overlaps schema.dimensions) }
+fn array(alloc: Global, layout: Layout) -> Result<ChunkedArray, Memory>
+    ensures array { IfOk result (λ made. Is made (meant layout)) }
+    ensures margins { IfOk result (λ made. made.margins.items ≡ overlaps (dimensions layout)) }
 {
-    let schema = schema(alloc)?;
+    let schema = schema(alloc, layout)?;
     let rows = rows(alloc)?;
     assemble(&schema, &overlaps_of(&schema), rows.as_slice())
 }
 
-fn stored(alloc: Global) -> Result<LeafArray, Memory>
+fn stored(alloc: Global, layout: Layout) -> Result<LeafArray, Memory>
     ensures stored { IfOk result IsStoredArray }
-    ensures leaf { IfOk result (λ made. made.leaf ≡ leaf) }
+    ensures leaf { IfOk result (λ made. made.leaf ≡ leaf layout) }
 {
     Ok(LeafArray {
-        leaf: example_leaf(alloc)?,
-        array: array(alloc)?,
+        leaf: example_leaf(alloc, layout)?,
+        array: array(alloc, layout)?,
     })
 }
 
 #[tactic(auto, using(crate::proofs::Stored::all_stored, crate::proofs::Stored::is_read))]
-fn arrays(alloc: Global) -> Result<List<LeafArray>, Memory>
+fn arrays(alloc: Global, layout: Layout) -> Result<List<LeafArray>, Memory>
     ensures stored { IfOk result (AllByRecursion IsStoredArray) }
-    ensures read { IfOk result (λ arrays. IsRead arrays leaf) }
+    ensures read { IfOk result (λ arrays. IsRead arrays (leaf layout)) }
 {
     let mut arrays = List::new(alloc);
-    arrays.push(stored(alloc)?)?;
+    arrays.push(stored(alloc, layout)?)?;
     Ok(arrays)
 }
 
 /// A source over the array, some of whose calls fail.
-pub(crate) fn failing_source(alloc: Global, fails: &[u64]) -> Result<MemChunks, Memory>
-    ensures { IfOk result (λ source. Reads (memory_state source) leaf) }
+pub(crate) fn failing_source(
+    alloc: Global,
+    layout: Layout,
+    fails: &[u64],
+) -> Result<MemChunks, Memory>
+    ensures { IfOk result (λ source. Reads (memory_state source) (leaf layout)) }
 {
-    MemChunks::new(arrays(alloc)?, List::from_slice(alloc, fails)?)
+    MemChunks::new(arrays(alloc, layout)?, List::from_slice(alloc, fails)?)
 }
 
 /// A source over the array that never fails.
-pub(crate) fn sure_source(alloc: Global) -> Result<SureChunks, Memory>
-    ensures { IfOk result (λ source. Reads (sure_state source) leaf) }
+pub(crate) fn sure_source(alloc: Global, layout: Layout) -> Result<SureChunks, Memory>
+    ensures { IfOk result (λ source. Reads (sure_state source) (leaf layout)) }
 {
-    Ok(SureChunks::new(arrays(alloc)?))
+    Ok(SureChunks::new(arrays(alloc, layout)?))
 }

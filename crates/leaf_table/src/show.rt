@@ -1,8 +1,10 @@
 //! What is printed of arrays, and of the sources that gave them.
+ghost use Rattle.array_parts.specs.Placed.{IsSound};
 
 use anyhow::Result;
 use array_geom::{Chunk, ChunkedArray};
-use cell_values::Cell;
+use cell_values::{Cell, List, Row};
+use chunk_cells::rows;
 use chunk_read::ExecFault;
 use chunk_source::{Asked, ChunkSource};
 
@@ -33,6 +35,26 @@ fn tell_chunk(rt: &impl Print, chunk: &Chunk) -> Result<()> {
 pub(crate) fn tell_array(rt: &impl Print, array: &ChunkedArray) -> Result<()> {
     for chunk in array.chunks.as_slice() {
         tell_chunk(rt, chunk)?;
+    }
+    Ok(())
+}
+
+fn tell_rows(rt: &impl Print, rows: &List<Row>) -> Result<()> {
+    for row in rows.as_slice() {
+        print!(rt; "  cell {:?}", row.at.as_slice())?;
+        tell_cell(rt, &row.cell)?;
+        println!(rt; "")?;
+    }
+    Ok(())
+}
+
+/// The cells of an array, by their coordinates.
+pub(crate) fn tell_cells(rt: &impl Print, array: &ChunkedArray) -> Result<()>
+    requires { IsSound array.now }
+{
+    match &array.broken {
+        Some(broken) => println!(rt; "  broken {broken:?}")?,
+        None => tell_rows(rt, &rows(array)?)?,
     }
     Ok(())
 }

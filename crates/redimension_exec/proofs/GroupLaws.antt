@@ -1,5 +1,5 @@
 -- Groups of rows that land at one coordinate.
-use Rattle.std.proofs.Common.{◌≡◌, ◌<◌, ◌≤◌, ◌^◌, ℤ, Bool, true, false, cond, IsTrue, List, [], ◌∷◌, map, filter, length, Option, Result, Ok, refl, sym, ap, ◌∙◌, subst, arith}
+use Rattle.std.proofs.Common.{◌≡◌, ℕ, ◌<◌, ◌≤◌, ◌^◌, ℤ, Bool, true, false, cond, IsTrue, List, [], ◌∷◌, map, filter, length, Option, Result, Ok, refl, sym, ap, ◌∙◌, subst, arith}
 use Rattle.std.specs.List.{AllByRecursion}
 use Rattle.std.specs.Ordering.{is_eq}
 use Rattle.std.specs.declared.cmp.Ordering.TheVariants.{Less}
@@ -145,3 +145,13 @@ pub landed_rise : (origins : List Origin) (bounds : Bounds) (rows : List Row) (l
 landed_rise origins bounds rows landings landed_as rise is are kept k =
     let land : AreLandings origins bounds rows (Ok landings) = subst (AreLandings origins bounds rows) is are in
     subst IsRising (sym k) (kept_rise origins bounds rows landings.targets landings.rows rise land.0 land.1)
+
+-- what is no more than the rows that land is no more than all rows
+pub landed_fewer : (origins : List Origin) (bounds : Bounds) (rows : List Row) (landings : Landings) (landed_as : Result Landings Broken) → IsRising rows → landed_as ≡ Ok landings → AreLandings origins bounds rows landed_as
+    → (kept : List Row) → kept ≡ landings.rows → (n : ℕ) → n ≤ length kept → n ≤ length rows
+landed_fewer origins bounds rows landings landed_as rise is are kept k n l =
+    let land : AreLandings origins bounds rows (Ok landings) = subst (AreLandings origins bounds rows) is are in
+    let fewer = (rising_landed origins bounds rows [] (pairs landings.targets landings.rows) rise land.1).1 in
+    let many = as_many landings.targets landings.rows land.0 in
+    let same = ap length k in
+    omega (arith, fewer, many, same, l)

@@ -16,6 +16,7 @@ use Rattle.array_geom.proofs.NearLemmas.{valid_placed, size_is_volume}
 use Rattle.array_geom.proofs.TestLaws.{and_parts, at_most}
 use Rattle.array_cores.specs.Cores.{HaveCells, cores_of, meant_by_cores, unless_broken}
 use Rattle.array_cores.proofs.CoreLaws.{cores_are_rows}
+use Rattle.logical_plan.specs.declared.parts.Aggregate.{Aggregate}
 use Rattle.logical_plan.specs.CellOps.{fit_rows}
 use Rattle.logical_plan.specs.Faults.{if_whole, and_then}
 use Rattle.logical_plan.specs.Meaning.{redimensioned_from}
@@ -42,7 +43,7 @@ overlap_places schema margins same valid =
     let few : volume (frame_lengths dims (overlaps dims)) ≤ 2 ^ 48 = omega arith in
     subst (λ (ms : List ℕ). volume (frame_lengths dims ms) ≤ 2 ^ 48) (sym same) few
 
-abbrev meant_of : Schema → Result (List Row) Broken → Meant
+abbrev pub meant_of : Schema → Result (List Row) Broken → Meant
 meant_of schema rows = record { schema = schema; rows = rows }
 
 pub stands_for : (r : Result ChunkedArray Memory) (a b : Meant) → a ≡ b → IfOk r (λ made. Is made a) → IfOk r (λ made. Is made b)
@@ -66,5 +67,5 @@ pub means_breaking : (array : ChunkedArray) (target : Schema) (broken : Broken) 
     → meant_of target (Err broken) ≡ redimensioned_from target [] (meant_by_cores array)
 means_breaking array target broken none e = means array target (Err broken) none e
 
-pub means_broken : (array : ChunkedArray) (target : Schema) (broken : Broken) → array.broken ≡ Some broken → meant_of target (Err broken) ≡ redimensioned_from target [] (meant_by_cores array)
-means_broken array target broken b = λ i. meant_of target (and_then (redimension_rows array.schema target []) (unless_broken (sym b i) (cores_of array)))
+pub means_broken : (array : ChunkedArray) (target : Schema) (gs : List Aggregate) (broken : Broken) → array.broken ≡ Some broken → meant_of target (Err broken) ≡ redimensioned_from target gs (meant_by_cores array)
+means_broken array target gs broken b = λ i. meant_of target (and_then (redimension_rows array.schema target gs) (unless_broken (sym b i) (cores_of array)))

@@ -57,7 +57,7 @@ number_fits (x ∷ c) (suc place) h = number_fits c place (and_parts (fits_int64
 
 -- ---- values of the target's kinds
 
-same : (j k : Kind) → same_kind j k ≡ true → j ≡ k
+pub same : (j k : Kind) → same_kind j k ≡ true → j ≡ k
 same Int64 Int64 e = refl
 same Str Str e = refl
 same Truths Truths e = refl

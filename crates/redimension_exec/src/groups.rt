@@ -3,6 +3,7 @@ ghost use Rattle.std.specs.Prelude.{◌≡◌, ◌≤◌, ◌<◌, ◌^◌, fals
 ghost use Rattle.array_rows.specs.Boxes.{bounds_of};
 ghost use Rattle.array_rows.specs.Rows.{IsRising};
 ghost use Rattle.logical_plan.specs.Redimension.{origin_of};
+ghost use Rattle.group_parts.specs.Counts.{cells_in};
 ghost use Rattle.row_places.specs.Counting.{has_counted};
 ghost use Rattle.redimension_exec.specs.Grouping.{AreGroupsLanded};
 
@@ -23,7 +24,8 @@ pub fn groups_landed(
     requires plain { has_counted (map (origin_of source.now) target.now.dimensions) ≡ false }
     requires counted { length rows < 2 ^ 63 }
     requires rising { IsRising rows }
-    ensures { IfOk result (AreGroupsLanded aggregates.now (map (origin_of source.now) target.now.dimensions) (bounds_of target.now.dimensions) rows) }
+    ensures groups { IfOk result (AreGroupsLanded aggregates.now (map (origin_of source.now) target.now.dimensions) (bounds_of target.now.dimensions) rows) }
+    ensures cells { IfOk result (λ made. IfOk made (λ groups. cells_in groups.groups ≤ length rows)) }
 {
     let alloc = rows.allocator();
     let landed = landed_rows(source, target, rows)?;

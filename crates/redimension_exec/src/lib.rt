@@ -1,9 +1,13 @@
 //! Arrays whose cells are moved to coordinates that their values give.
 #![tactic(auto)]
 
+mod arrays;
 mod building;
 mod cells;
+mod gathering;
 mod groups;
+mod ordering;
 
+pub use arrays::redimension;
 pub use cells::redimension_cells;
 pub use groups::groups_landed;

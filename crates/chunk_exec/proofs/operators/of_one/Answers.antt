@@ -4,15 +4,16 @@ use Rattle.std.specs.Prelude.{IfOk}
 use Rattle.array_cores.specs.Cores.{meant_by_cores}
 use Rattle.array_geom.specs.Link.{Is}
 use Rattle.array_groups.specs.Meant.{aggregate_meant, regrid_meant}
+use Rattle.array_windows.specs.Meant.{window_meant}
 use Rattle.array_ops.specs.Made.{IsMadeOf}
 use Rattle.array_rows.specs.Boxes.{within}
 use Rattle.exec_parts.specs.Parts.{part_meant, slice_meant}
 use Rattle.logical_plan.specs.declared.parts.Fixed.{Fixed}
 use Rattle.logical_plan.specs.CellOps.{filter_rows, apply_rows, project_rows}
 use Rattle.logical_plan.specs.PlanSchema.{schema_of}
-use Rattle.logical_plan.specs.Query.{Query, filtered, applied, projected, between, subarray, sliced, regridded, aggregated}
+use Rattle.logical_plan.specs.Query.{Query, filtered, applied, projected, between, subarray, sliced, regridded, windowed, aggregated}
 use Rattle.chunk_exec.specs.Operated.{CanOperate, IsResultOf}
-use Rattle.chunk_exec.proofs.OperatorLaws.{if_ok, filter_result, apply_result, project_result, between_result, subarray_result, slice_result, regrid_result, aggregate_result}
+use Rattle.chunk_exec.proofs.OperatorLaws.{if_ok, filter_result, apply_result, project_result, between_result, subarray_result, slice_result, regrid_result, window_result, aggregate_result}
 use Rattle.logical_plan.proofs.SchemaLaws.{typed_valid}
 use Rattle.chunk_exec.proofs.operators.of_one.Goals as goal
 
@@ -98,6 +99,18 @@ returns-in-Regrid c =
     let can : CanOperate query (array ∷ []) = subst (λ (z : Query). CanOperate z (array ∷ [])) is c.requires in
     subst (λ (z : Query). IfOk c.regrid.result (IsResultOf z (array ∷ []))) (sym is)
     (if_ok (λ made. Is made (regrid_meant blocks aggs (meant_by_cores array))) (IsResultOf query (array ∷ [])) c.regrid.result (λ made h. regrid_result source blocks aggs array made can h) c.regrid.ensures)
+
+pub returns-in-Window : goal.returns-in-Window
+returns-in-Window c =
+    let array = c.args.array in
+    let source = c.in-Window.field-0.value in
+    let reach = c.in-Window.reach in
+    let aggs = c.in-Window.aggs in
+    let query = windowed source reach aggs in
+    let is : c.args.plan.now ≡ query = first_of (search rules, cc, grind (arith, common_steps)) in
+    let can : CanOperate query (array ∷ []) = subst (λ (z : Query). CanOperate z (array ∷ [])) is c.requires in
+    subst (λ (z : Query). IfOk c.window.result (IsResultOf z (array ∷ []))) (sym is)
+    (if_ok (λ made. Is made (window_meant reach aggs (meant_by_cores array))) (IsResultOf query (array ∷ [])) c.window.result (λ made h. window_result source reach aggs array made can h) c.window.ensures)
 
 pub returns-in-Aggregate : goal.returns-in-Aggregate
 returns-in-Aggregate c =

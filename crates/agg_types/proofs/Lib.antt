@@ -1,0 +1,5 @@
+pub mod Among
+pub mod Kept
+pub mod Sole
+pub mod Steps
+mod WorkedAggregates

@@ -1,0 +1,2 @@
+pub mod AggregateSort
+pub mod Aggregates

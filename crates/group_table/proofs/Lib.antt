@@ -1,0 +1,4 @@
+pub mod Apart
+pub mod Arrays
+pub mod Fitting
+pub mod Merging

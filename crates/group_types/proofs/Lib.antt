@@ -1,0 +1,6 @@
+pub mod GroupNames
+pub mod GroupSchemas
+pub mod NamedPlaces
+pub mod PartsFit
+pub mod Sizes
+pub mod Steps

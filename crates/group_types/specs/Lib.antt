@@ -1,0 +1,4 @@
+pub mod Blocks
+pub mod Groups
+pub mod Numbers
+pub mod Windows

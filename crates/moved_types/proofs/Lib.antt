@@ -1,0 +1,4 @@
+pub mod Origins
+pub mod PartsFit
+pub mod Steps
+mod WorkedRedimensions

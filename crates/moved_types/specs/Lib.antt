@@ -1,0 +1,2 @@
+pub mod Redimension
+pub mod Targets
