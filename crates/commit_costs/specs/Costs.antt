@@ -10,9 +10,9 @@ use Rattle.array_geom.specs.declared.chunk.Chunk.{Chunk}
 use Rattle.array_geom.specs.Geometry.{ChunkNumber, chunk_of, frame, overlaps, position_of}
 use Rattle.array_geom.specs.Link.{is_listed, is_not_empty}
 use Rattle.page_items.specs.Pages.{pages_needed}
-use Rattle.chunk_rle.specs.Chunks.{spelling} as payloads
+use Rattle.chunk_rle.specs.Chunks.{spelling as payload_spelling}
 use Rattle.chunk_map.specs.declared.directory.DirEntry.{DirEntry}
-use Rattle.chunk_map.specs.Spelling.{spelling} as directories
+use Rattle.chunk_map.specs.Spelling.{spelling as directory_spelling}
 use Rattle.page_chain.specs.Chains.{content_size}
 use Rattle.page_chain.specs.Pages.{page_size, pages_for}
 use Rattle.plan_changes.specs.declared.change.Change.{Change}
@@ -45,7 +45,7 @@ stored_chunk schema rows k =
     record { at = record { items = k }; positions = map (λ row. position_of dims (overlaps dims) k row.at.items) part; cells = map (λ row. row.cell) part }
 
 abbrev pub payload_length : Schema → List Row → ChunkNumber → ℕ
-payload_length schema rows k = length (payloads.spelling schema.attributes (stored_chunk schema rows k))
+payload_length schema rows k = length (payload_spelling schema.attributes (stored_chunk schema rows k))
 
 abbrev pub payload_pages : Schema → List Row → List ChunkNumber → ℕ
 payload_pages schema rows [] = 0
@@ -66,7 +66,7 @@ dir_entry schema rows k = record { at = record { items = k }; length = payload_l
 
 -- the directory of a version of these rows
 abbrev pub directory_of : Schema → List Row → BlobAt
-directory_of schema rows = blob_of (length (directories.spelling (record { entries = map (dir_entry schema rows) (numbers_of schema.dimensions rows) })))
+directory_of schema rows = blob_of (length (directory_spelling (record { entries = map (dir_entry schema rows) (numbers_of schema.dimensions rows) })))
 
 -- the directory of the version that a change makes
 abbrev pub directory_for : Database → Change → Option BlobAt
