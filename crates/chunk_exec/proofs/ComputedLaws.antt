@@ -28,7 +28,7 @@ use Rattle.chunk_read.specs.Reading.{asked_of}
 use Rattle.chunk_read.proofs.ReadLemmas.{listed_still, reads_still}
 use Rattle.chunk_exec.specs.Computed.{CanCompute, IsComputed, IsGiven}
 use Rattle.chunk_exec.specs.Operated.{sources, AreMeant, IsResultOf}
-use Rattle.chunk_exec.proofs.SourceLaws.{IsExecuted, executed_sources, leaves_of_one, leaves_of_two, typed_sources}
+use Rattle.chunk_exec.proofs.SourceLaws.{leaves_of_one, leaves_of_two, typed_sources}
 
 -- ---- one call after another
 
@@ -76,7 +76,6 @@ computed_one first old new query source array made is from result = record {
 
 pub can_right : (old mid : SourceState) (query left right : Query) → left ∷ right ∷ [] ≡ sources query → Keeps old mid → CanCompute old query → CanCompute mid right
 can_right old mid query left right is k can = record {
-  now = let e : AllByRecursion IsExecuted (left ∷ right ∷ []) = subst (AllByRecursion IsExecuted) (sym is) (executed_sources query can.now) in e.1.0;
   typed = let t : AllByRecursion IsTyped (left ∷ right ∷ []) = subst (AllByRecursion IsTyped) (sym is) (typed_sources query can.typed) in t.1.0;
   reads = all_reads_still old mid (leaves right) k (all_right (Reads old) (leaves left) (leaves right) (subst (AllByRecursion (Reads old)) (leaves_of_two query left right is) can.reads));
 }

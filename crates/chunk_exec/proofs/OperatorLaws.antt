@@ -27,9 +27,9 @@ use Rattle.logical_plan.specs.declared.parts.Pair.{Pair}
 use Rattle.logical_plan.specs.declared.parts.Reach.{Reach}
 use Rattle.logical_plan.specs.CellOps.{filter_rows, apply_rows, project_rows}
 use Rattle.logical_plan.specs.Faults.{if_whole}
-use Rattle.logical_plan.specs.Meaning.{Database, meaning}
+use Rattle.logical_plan.specs.Meaning.{Database, meaning, redimensioned_from}
 use Rattle.logical_plan.specs.PlanSchema.{schema_of, subarray_schema, slice_schema, regrid_schema, window_schema, aggregate_schema}
-use Rattle.logical_plan.specs.Query.{Query, scanned, filtered, applied, projected, between, subarray, sliced, joined, crossed, regridded, windowed, aggregated}
+use Rattle.logical_plan.specs.Query.{Query, scanned, filtered, applied, projected, between, subarray, sliced, joined, crossed, redimensioned, regridded, windowed, aggregated}
 use Rattle.logical_plan.specs.Typing.{IsTyped}
 use Rattle.logical_plan.proofs.ArrayLaws.{typed_arrays}
 use Rattle.logical_plan.proofs.SchemaLaws.{meaning_schema, typed_valid}
@@ -162,6 +162,9 @@ subarray_result source area array made can is = computed_by_cores source (subarr
 
 pub slice_result : (source : Query) (fixed : List Fixed) (array made : ChunkedArray) → CanOperate (sliced source fixed) (array ∷ []) → Is made (slice_meant fixed (meant_by_cores array)) → IsResultOf (sliced source fixed) (array ∷ []) made
 slice_result source fixed array made can is = computed_by_cores source (sliced source fixed) (slice_meant fixed) array made refl (λ db. refl) (ap (slice_schema fixed) can.schemas.0) is
+
+pub redimension_result : (source : Query) (schema : Schema) (gs : List Aggregate) (array made : ChunkedArray) → Is made (redimensioned_from schema gs (meant_by_cores array)) → IsResultOf (redimensioned source schema gs) (array ∷ []) made
+redimension_result source schema gs array made is = computed_by_cores source (redimensioned source schema gs) (redimensioned_from schema gs) array made refl (λ db. refl) refl is
 
 pub regrid_result : (source : Query) (sizes : List ℕ) (gs : List Aggregate) (array made : ChunkedArray) → CanOperate (regridded source sizes gs) (array ∷ []) → Is made (regrid_meant sizes gs (meant_by_cores array)) → IsResultOf (regridded source sizes gs) (array ∷ []) made
 regrid_result source sizes gs array made can is = computed_by_cores source (regridded source sizes gs) (regrid_meant sizes gs) array made refl (λ db. refl) (ap (regrid_schema sizes gs) can.schemas.0) is

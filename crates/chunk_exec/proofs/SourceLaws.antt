@@ -1,12 +1,9 @@
 -- What holds of a plan holds of its sources.
 use Rattle.std.proofs.Common.{◌≡◌, ℕ, ◌+◌, ◌<◌, List, [], ◌∷◌, ◌++◌, sym, subst, arith}
-use Rattle.std.specs.Prelude.{IsTrue}
 use Rattle.std.specs.List.{AllByRecursion}
-use Rattle.std.proofs.lemmas.Bool.{and_parts}
 use Rattle.logical_plan.specs.Leaves.{leaves}
 use Rattle.logical_plan.specs.Query.{Query, query_size, built, filtered, applied, projected, between, subarray, sliced, joined, crossed, redimensioned, regridded, windowed, aggregated}
 use Rattle.logical_plan.specs.Typing.{IsTyped}
-use Rattle.chunk_exec.specs.Computed.{is_executed}
 use Rattle.chunk_exec.specs.Operated.{sources}
 
 pub typed_sources : (query : Query) → IsTyped query → AllByRecursion IsTyped (sources query)
@@ -23,24 +20,6 @@ typed_sources (regridded source sizes gs) t = (t.0, tt)
 typed_sources (windowed source reach gs) t = (t.0, tt)
 typed_sources (aggregated source gs places) t = (t.0, tt)
 typed_sources query t = tt
-
-abbrev pub IsExecuted : Query → Type 0
-IsExecuted query = IsTrue (is_executed query)
-
-pub executed_sources : (query : Query) → IsTrue (is_executed query) → AllByRecursion IsExecuted (sources query)
-executed_sources (filtered source test) e = (e, tt)
-executed_sources (applied source values) e = (e, tt)
-executed_sources (projected source places) e = (e, tt)
-executed_sources (between source area) e = (e, tt)
-executed_sources (subarray source area) e = (e, tt)
-executed_sources (sliced source fixed) e = (e, tt)
-executed_sources (joined left right schema) e = let both = and_parts (is_executed left) (is_executed right) e in (both.0, (both.1, tt))
-executed_sources (crossed left right pairs schema) e = let both = and_parts (is_executed left) (is_executed right) e in (both.0, (both.1, tt))
-executed_sources (redimensioned source schema gs) e = cc
-executed_sources (regridded source sizes gs) e = (e, tt)
-executed_sources (windowed source reach gs) e = (e, tt)
-executed_sources (aggregated source gs places) e = (e, tt)
-executed_sources query e = tt
 
 pub leaves_of_one : (query source : Query) → source ∷ [] ≡ sources query → leaves query ≡ leaves source
 leaves_of_one (built schema e) source is = cc

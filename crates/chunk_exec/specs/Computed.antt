@@ -1,5 +1,5 @@
 -- What is computed of a plan over a source.
-use Rattle.std.specs.Prelude.{◌≡◌, ℕ, ◌++◌, Bool, true, false, ◌&&◌, List, IfSome, IsTrue}
+use Rattle.std.specs.Prelude.{◌≡◌, ℕ, ◌++◌, List, IfSome}
 use Rattle.std.specs.List.{AllByRecursion}
 use Rattle.cell_values.specs.declared.datum.Row.{Row}
 use Rattle.cell_values.specs.declared.schema.Schema.{Schema}
@@ -9,32 +9,13 @@ use Rattle.array_geom.specs.Link.{Is}
 use Rattle.logical_plan.specs.Leaves.{leaves}
 use Rattle.logical_plan.specs.Meaning.{meaning, whole}
 use Rattle.logical_plan.specs.PlanSchema.{schema_of}
-use Rattle.logical_plan.specs.Query.{Query, built, listed, scanned, filtered, applied, projected, between, subarray, sliced, joined, crossed, regridded, windowed, aggregated}
+use Rattle.logical_plan.specs.Query.{Query}
 use Rattle.logical_plan.specs.Typing.{IsTyped}
 use Rattle.chunk_source.specs.Source.{SourceState, Reads}
 use Rattle.chunk_read.specs.Reading.{asked_of}
 
--- builds, literals and scans; filtered, with more or fewer attributes, cut to boxes and slices; joins, and aggregates of blocks, of windows and by dimensions
-abbrev pub is_executed : Query → Bool
-is_executed (built schema e) = true
-is_executed (listed schema rows) = true
-is_executed (scanned leaf) = true
-is_executed (filtered source test) = is_executed source
-is_executed (applied source values) = is_executed source
-is_executed (projected source places) = is_executed source
-is_executed (between source area) = is_executed source
-is_executed (subarray source area) = is_executed source
-is_executed (sliced source fixed) = is_executed source
-is_executed (joined left right schema) = is_executed left && is_executed right
-is_executed (crossed left right pairs schema) = is_executed left && is_executed right
-is_executed (regridded source sizes gs) = is_executed source
-is_executed (windowed source reach gs) = is_executed source
-is_executed (aggregated source gs places) = is_executed source
-is_executed query = false
-
--- a typed plan of the operators that are executed now, over leaves that the source has
+-- a typed plan over leaves that the source has
 pub record CanCompute (source : SourceState) (query : Query) : Type 0 where
-  pub now : IsTrue (is_executed query)
   pub typed : IsTyped query
   pub reads : AllByRecursion (Reads source) (leaves query)
 

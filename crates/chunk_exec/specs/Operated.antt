@@ -1,5 +1,5 @@
 -- The plans on whose arrays the last operator of a plan works, and what it makes of these arrays.
-use Rattle.std.specs.Prelude.{◌≡◌, List, [], ◌∷◌, IsTrue}
+use Rattle.std.specs.Prelude.{◌≡◌, List, [], ◌∷◌}
 use Rattle.std.specs.List.{AllByRecursion, AllZip}
 use Rattle.array_cores.specs.Cores.{HasCells}
 use Rattle.array_geom.specs.declared.chunk.ChunkedArray.{ChunkedArray}
@@ -8,7 +8,6 @@ use Rattle.logical_plan.specs.Meaning.{Database, meaning}
 use Rattle.logical_plan.specs.PlanSchema.{schema_of}
 use Rattle.logical_plan.specs.Query.{Query, built, listed, scanned, filtered, applied, projected, between, subarray, sliced, joined, crossed, redimensioned, regridded, windowed, aggregated}
 use Rattle.logical_plan.specs.Typing.{IsTyped}
-use Rattle.chunk_exec.specs.Computed.{is_executed}
 
 -- from left to right
 abbrev pub sources : Query → List Query
@@ -37,7 +36,6 @@ AreMeant db = AllZip (λ query array. Is array (meaning db query))
 
 -- arrays, one for each source of a typed plan, of its schema and with cells that are rows of it
 pub record CanOperate (query : Query) (arrays : List ChunkedArray) : Type 0 where
-  pub now : IsTrue (is_executed query)
   pub typed : IsTyped query
   pub schemas : HaveSchemas (sources query) arrays
   pub cells : AllByRecursion HasCells arrays

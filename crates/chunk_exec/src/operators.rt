@@ -8,6 +8,7 @@ use array_joins::{cross_join, join};
 use cell_values::Memory;
 use exec_parts::{slice_owned, subarray_owned};
 use logical_plan::{Plan, PlanNode};
+use redimension_exec::redimension;
 use std::alloc::Global;
 
 /// The array of a plan of one source.
@@ -26,6 +27,7 @@ pub(crate) fn of_one(
         PlanNode::Between(_, area) => between(alloc, plan, array, area),
         PlanNode::Subarray(_, area) => subarray_owned(array, area),
         PlanNode::Slice(_, fixed) => slice_owned(array, fixed.as_slice()),
+        PlanNode::Redimension(_, schema, aggs) => redimension(array, schema, aggs.as_slice()),
         PlanNode::Regrid(_, blocks, aggs) => regrid(alloc, plan, array, blocks, aggs),
         PlanNode::Window(_, reach, aggs) => window(alloc, plan, array, reach, aggs),
         PlanNode::Aggregate(_, aggs, places) => aggregate(alloc, plan, array, aggs, places),

@@ -14,4 +14,4 @@ typed Pairs = (refl, refl)
 typed Whole = (refl, refl)
 
 pub can_compute : (layout : Layout) (source : SourceState) (query : Query) → query ≡ above_five layout → Reads source (leaf layout) → CanCompute source query
-can_compute layout source query is reads = subst (λ (q : Query). CanCompute source q) (sym is) (record { now = refl; typed = typed layout; reads = (reads, tt) })
+can_compute layout source query is reads = subst (λ (q : Query). CanCompute source q) (sym is) (record { typed = typed layout; reads = (reads, tt) })

@@ -18,7 +18,6 @@ use Rattle.plan_rows.specs.Found.{CanAnswer, nothing}
 
 pub can_compute : (source : SourceState) (query : Query) → CanAnswer query → CanCompute source query
 can_compute source query can = record {
-  now = can.now;
   typed = can.typed;
   reads = subst (λ (z : List Leaf). AllByRecursion (Reads source) z) (sym can.unread) tt;
 }

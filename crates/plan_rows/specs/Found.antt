@@ -1,7 +1,6 @@
 -- What plans give where no array is stored.
-use Rattle.std.specs.Prelude.{◌≡◌, [], Some, None, IsTrue}
+use Rattle.std.specs.Prelude.{◌≡◌, [], Some, None}
 use Rattle.logical_plan.specs.Faults.{fault_of}
-use Rattle.chunk_exec.specs.Computed.{is_executed}
 use Rattle.logical_plan.specs.Leaves.{leaves}
 use Rattle.logical_plan.specs.Meaning.{Database, Meant, whole}
 use Rattle.logical_plan.specs.Query.{Query}
@@ -13,9 +12,8 @@ use Rattle.plan_rows.specs.declared.rows.PlanRows.TheVariants.{Fault, Rows}
 abbrev pub nothing : Database
 nothing name version = []
 
--- a typed plan of the operators that are executed, which reads no stored array
+-- a typed plan that reads no stored array
 pub record CanAnswer (query : Query) : Type 0 where
-  pub now : IsTrue (is_executed query)
   pub typed : IsTyped query
   pub unread : leaves query ≡ []
 

@@ -9,11 +9,13 @@ use Rattle.array_ops.specs.Made.{IsMadeOf}
 use Rattle.array_rows.specs.Boxes.{within}
 use Rattle.exec_parts.specs.Parts.{part_meant, slice_meant}
 use Rattle.logical_plan.specs.declared.parts.Fixed.{Fixed}
+use Rattle.logical_plan.specs.declared.parts.Aggregate.{Aggregate}
 use Rattle.logical_plan.specs.CellOps.{filter_rows, apply_rows, project_rows}
+use Rattle.logical_plan.specs.Meaning.{redimensioned_from}
 use Rattle.logical_plan.specs.PlanSchema.{schema_of}
-use Rattle.logical_plan.specs.Query.{Query, filtered, applied, projected, between, subarray, sliced, regridded, windowed, aggregated}
+use Rattle.logical_plan.specs.Query.{Query, filtered, applied, projected, between, subarray, sliced, redimensioned, regridded, windowed, aggregated}
 use Rattle.chunk_exec.specs.Operated.{CanOperate, IsResultOf}
-use Rattle.chunk_exec.proofs.OperatorLaws.{if_ok, filter_result, apply_result, project_result, between_result, subarray_result, slice_result, regrid_result, window_result, aggregate_result}
+use Rattle.chunk_exec.proofs.OperatorLaws.{if_ok, filter_result, apply_result, project_result, between_result, subarray_result, slice_result, redimension_result, regrid_result, window_result, aggregate_result}
 use Rattle.logical_plan.proofs.SchemaLaws.{typed_valid}
 use Rattle.chunk_exec.proofs.operators.of_one.Goals as goal
 
@@ -87,6 +89,18 @@ returns-in-Slice c =
     subst (λ (z : Query). IfOk c.slice_owned.result (IsResultOf z (array ∷ []))) (sym is)
     (if_ok (λ made. Is made (slice_meant fixed (meant_by_cores array))) (IsResultOf query (array ∷ [])) c.slice_owned.result (λ made h. slice_result source fixed array made can h)
     (subst (λ (z : List Fixed). IfOk c.slice_owned.result (λ made. Is made (slice_meant z (meant_by_cores array)))) c.as_slice.ensures c.slice_owned.ensures.array))
+
+pub returns-in-Redimension : goal.returns-in-Redimension
+returns-in-Redimension c =
+    let array = c.args.array in
+    let source = c.in-Redimension.field-0.value in
+    let schema = c.in-Redimension.schema in
+    let aggs = c.in-Redimension.aggs in
+    let query = redimensioned source schema aggs in
+    let is : c.args.plan.now ≡ query = first_of (search rules, cc, grind (arith, common_steps)) in
+    subst (λ (z : Query). IfOk c.redimension.result (IsResultOf z (array ∷ []))) (sym is)
+    (if_ok (λ made. Is made (redimensioned_from schema aggs (meant_by_cores array))) (IsResultOf query (array ∷ [])) c.redimension.result (redimension_result source schema aggs array)
+    (subst (λ (z : List Aggregate). IfOk c.redimension.result (λ made. Is made (redimensioned_from schema z (meant_by_cores array)))) c.as_slice-in-Redimension.ensures c.redimension.ensures.array))
 
 pub returns-in-Regrid : goal.returns-in-Regrid
 returns-in-Regrid c =
