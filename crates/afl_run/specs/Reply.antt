@@ -18,8 +18,8 @@ use Rattle.logical_plan.specs.Meaning.{Meant, meaning}
 use Rattle.type_rules.specs.Checked.{Checked}
 use Rattle.afl_types.specs.Checking.{check_of}
 use Rattle.afl_types.specs.declared.checking.Typed.{Typed}
-use Rattle.afl_types.specs.declared.checking.Typed.TheVariants.{Query}
-use Rattle.plan_rows.specs.Found.{CanAnswer, nothing}
+use Rattle.afl_types.specs.declared.checking.Typed.TheVariants.{Query, Change, Versions, Show, ListArrays}
+use Rattle.plan_rows.specs.Found.{nothing}
 use Rattle.result_print.specs.Texts.{array_text}
 use Rattle.result_print.specs.Lines.{line_of_refusal}
 use Rattle.result_print.specs.declared.refusal.Refusal.{Refusal}
@@ -58,23 +58,24 @@ meant_reply array = array_reply array.schema array.rows
 abbrev pub plan_reply : AQuery → Reply
 plan_reply query = meant_reply (meaning nothing query)
 
--- a checked statement whose reply is computed
-abbrev pub CanReply : Typed → Type 0
-CanReply (Query query) = CanAnswer query
-
+-- the reply to a checked statement: changes and listings are not built yet
 abbrev pub typed_reply : Typed → Reply
 typed_reply (Query query) = plan_reply query
+typed_reply (Change change) = refused NotBuilt
+typed_reply (Versions name) = refused NotBuilt
+typed_reply (Show name) = refused NotBuilt
+typed_reply ListArrays = refused NotBuilt
 
 abbrev pub checked_reply : Checked Typed → Reply
 checked_reply (Ok typed) = typed_reply typed
 checked_reply (Err breach) = refused (Typing breach.span breach.kind)
 
--- the reply to a tree
-abbrev pub reply_to_tree : Term → Reply
-reply_to_tree tree = if is_unbuilt tree then refused NotBuilt else checked_reply (check_of tree no_names)
+-- the reply to a tree of a text
+abbrev pub reply_to_tree : List ℕ → Term → Reply
+reply_to_tree text tree = if is_unbuilt tree then refused NotBuilt else checked_reply (check_of tree text no_names)
 
 -- The bytes have this reply: that of the tree that they derive, or that of their stop. They have one of these, and no other.
 abbrev pub IsReplyTo : List ℕ → Reply → Type 0
 IsReplyTo text reply =
-    ((tree : Term) × DerivesText text tree × (reply ≡ reply_to_tree tree))
+    ((tree : Term) × DerivesText text tree × (reply ≡ reply_to_tree text tree))
     ⊎ ((at : ℕ) × (kind : ParseKind) × StopsText text at kind × (reply ≡ refused (Parse at kind)))

@@ -1,23 +1,21 @@
--- The statements that are not built yet: `create array`, and those that call, anywhere, another operator than `build`, `scan`,
--- `filter`, `apply`, `project`, `between`, `subarray` and `slice`.
-use Rattle.std.specs.Prelude.{Bool, true, false, ◌||◌, Option, Some, None}
+-- The statements that are not built yet: `create array`, and those that call, anywhere, an operator that changes arrays or lists
+-- something: `store`, `insert`, `remove`, `remove_versions`, `versions`, `show` or `list`.
+use Rattle.std.specs.Prelude.{Bool, true, false, ◌||◌, Option, Some}
 use Rattle.afl_parser.specs.Term.{Term, create, number, text, truth, null, missing, reference, version, call, schema, star, renamed, opposite, negative, binary, group, Terms, no_terms, and_term}
 use Rattle.type_rules.specs.declared.operator.Operator.{Operator}
-use Rattle.type_rules.specs.declared.operator.Operator.TheVariants.{Build, Scan, Filter, Apply, Project, Between, Subarray, Slice}
+use Rattle.type_rules.specs.declared.operator.Operator.TheVariants.{Store, Insert, Remove, RemoveVersions, Versions, Show, ListNames}
 use Rattle.type_rules.specs.Operators.{operator_named}
 
 -- an operator, if any, that is not built
 abbrev pub is_to_come : Option Operator → Bool
-is_to_come None = false
-is_to_come (Some Build) = false
-is_to_come (Some Scan) = false
-is_to_come (Some Filter) = false
-is_to_come (Some Apply) = false
-is_to_come (Some Project) = false
-is_to_come (Some Between) = false
-is_to_come (Some Subarray) = false
-is_to_come (Some Slice) = false
-is_to_come (Some operator) = true
+is_to_come (Some Store) = true
+is_to_come (Some Insert) = true
+is_to_come (Some Remove) = true
+is_to_come (Some RemoveVersions) = true
+is_to_come (Some Versions) = true
+is_to_come (Some Show) = true
+is_to_come (Some ListNames) = true
+is_to_come _ = false
 
 abbrev mutual
   pub is_unbuilt : Term → Bool

@@ -1,17 +1,19 @@
 //! The reply to a statement.
-ghost use Rattle.std.specs.Prelude.{◌≡◌, ◌≤◌, false, length, IfOk, IsTrue};
+ghost use Rattle.std.specs.Prelude.{◌≡◌, ◌≤◌, [], false, length, IfOk, IsTrue};
 ghost use Rattle.expr_types.specs.Laws.{leaves_fit};
 ghost use Rattle.plan_rows.specs.Found.{CanAnswer};
+ghost use Rattle.type_rules.specs.Checked.{Answers};
+ghost use Rattle.query_types.specs.Queries.{query_of};
 ghost use Rattle.afl_types.specs.Checking.{check_of};
-ghost use Rattle.afl_run.specs.Reply.{CanReply, IsReplyTo, checked_reply, no_names, plan_reply, refused, reply_to_tree, typed_reply};
+ghost use Rattle.afl_run.specs.Reply.{IsReplyTo, checked_reply, no_names, plan_reply, refused, reply_to_tree};
 ghost use Rattle.afl_run.specs.Unbuilt.{is_unbuilt};
 
 use crate::unbuilt::is_unbuilt;
 use afl_parser::{ParseFault, Tree, parse};
-use afl_types::{TypeFault, Typed, check};
 use cell_values::{Broken, Bytes, List, Memory};
 use logical_plan::{Names, Plan};
 use plan_rows::{PlanRows, rows_of};
+use query_types::{TypeFault, query_plan};
 use result_print::{Refusal, dcsv, refusal_line};
 use std::alloc::Global;
 
@@ -48,7 +50,7 @@ pub(crate) fn refuse(alloc: Global, refusal: Refusal) -> Result<Reply, Memory>
 /// The reply to a tree of a text.
 fn reply_to_tree(alloc: Global, text: &[u8], tree: &Tree) -> Result<Reply, Memory>
     requires { IsTrue (leaves_fit tree.now) }
-    ensures { IfOk result (λ reply. reply ≡ reply_to_tree tree.now) }
+    ensures { IfOk result (λ reply. reply ≡ reply_to_tree text.now tree.now) }
 {
     if is_unbuilt(tree) {
         refuse(alloc, Refusal::NotBuilt)
@@ -57,30 +59,27 @@ fn reply_to_tree(alloc: Global, text: &[u8], tree: &Tree) -> Result<Reply, Memor
     }
 }
 
-/// The reply to a tree all of whose operators are built.
+/// The reply to a tree all of whose operators are built: it is a query.
 fn reply_to_query(alloc: Global, text: &[u8], tree: &Tree) -> Result<Reply, Memory>
     requires fit { IsTrue (leaves_fit tree.now) }
     requires built { is_unbuilt tree.now ≡ false }
-    ensures { IfOk result (λ reply. reply ≡ checked_reply (check_of tree.now no_names)) }
+    ensures { IfOk result (λ reply. reply ≡ checked_reply (check_of tree.now text.now no_names)) }
 {
-    let names = Names {
-        arrays: List::new(alloc),
-    };
-    match check(alloc, tree, text, &names) {
-        Ok(typed) => reply_to_typed(alloc, &typed),
+    match plan_of(alloc, text, tree) {
+        Ok(plan) => reply_to_plan(alloc, &plan),
         Err(TypeFault::Rule { span, kind }) => refuse(alloc, Refusal::Typing { span, kind }),
         Err(TypeFault::Memory) => Err(Memory),
     }
 }
 
-/// The reply to a checked statement.
-fn reply_to_typed(alloc: Global, typed: &Typed) -> Result<Reply, Memory>
-    requires { CanReply typed.now }
-    ensures { IfOk result (λ reply. reply ≡ typed_reply typed.now) }
+/// The plan of a query where no array is stored.
+fn plan_of(alloc: Global, text: &[u8], tree: &Tree) -> Result<Plan, TypeFault>
+    ensures { Answers result (query_of [] tree.now) }
 {
-    match typed {
-        Typed::Query(plan) => reply_to_plan(alloc, plan),
-    }
+    let names = Names {
+        arrays: List::new(alloc),
+    };
+    query_plan(alloc, tree, text, &names)
 }
 
 /// The reply to a plan: the first fault of its array, or its text.

@@ -1,4 +1,4 @@
-//! The statements that are not built yet.
+//! The statements that are not built yet: those that change arrays or list something.
 ghost use Rattle.std.specs.Prelude.{◌≡◌};
 ghost use Rattle.afl_parser.specs.Term.{to_terms};
 ghost use Rattle.type_rules.specs.Operators.{operator_named};
@@ -7,27 +7,25 @@ ghost use Rattle.afl_run.specs.Unbuilt.{has_unbuilt, is_to_come, is_unbuilt};
 use afl_parser::{Node, Tree};
 use afl_types::{Operator, operator_named};
 
-/// Whether a name is that of an operator which is not built.
+/// Whether a name is that of an operator which changes arrays or lists something.
 fn is_to_come(name: &[u8]) -> bool
     ensures { result ≡ is_to_come (operator_named name.now) }
 {
     match operator_named(name) {
-        None
-        | Some(
-            Operator::Build
-            | Operator::Scan
-            | Operator::Filter
-            | Operator::Apply
-            | Operator::Project
-            | Operator::Between
-            | Operator::Subarray
-            | Operator::Slice,
-        ) => false,
-        Some(_) => true,
+        Some(
+            Operator::Store
+            | Operator::Insert
+            | Operator::Remove
+            | Operator::RemoveVersions
+            | Operator::Versions
+            | Operator::Show
+            | Operator::ListNames,
+        ) => true,
+        _ => false,
     }
 }
 
-/// Whether the statement creates an array, or calls an operator that is not built.
+/// Whether the statement creates an array, or calls an operator that changes arrays or lists something.
 #[cycle(unbuilt)]
 pub(crate) fn is_unbuilt(tree: &Tree) -> bool
     ensures { result ≡ is_unbuilt tree.now }
