@@ -1,4 +1,3 @@
-pub mod Small
-pub mod Sources
-pub mod Steps
-mod WorkedQueries
+pub mod Parts
+pub mod Targets
+mod WorkedStatements

@@ -1,4 +1,2 @@
-pub mod Calls
 pub mod Checking
-pub mod Limits
-pub mod Queries
+pub mod Statements

@@ -1,28 +1,79 @@
 //! Checking of statements.
+ghost use Rattle.std.specs.Prelude.{◌≡◌, IfOk};
 ghost use Rattle.type_rules.specs.Checked.{Answers};
-ghost use Rattle.afl_types.specs.Checking.{AreValid, check_of};
+ghost use Rattle.query_types.specs.Arrays.{AreValid};
+ghost use Rattle.afl_types.specs.Checking.{check_of};
 
-use crate::TypeFault;
-use crate::query::query_of;
-use afl_parser::Tree;
+use crate::statement::{of_change, of_query, said};
+use afl_parser::{Node, Tree};
+use cell_values::{Copies, Memory, Name};
+use change_types::create_array;
 use logical_plan::{Names, Plan};
+use plan_changes::Change;
+use query_types::{TypeFault, query_plan};
 use std::alloc::Global;
 
 /// A typed statement.
 #[derive(Debug, Drop)]
 pub enum Typed {
     Query(Plan),
+    Change(Change),
+    /// The numbers of a stored array's versions are listed.
+    Versions(Name),
+    /// A stored array's schema is shown.
+    Show(Name),
+    /// The stored arrays are listed.
+    ListArrays,
+}
+
+impl Typed {
+    /// An equal statement.
+    pub fn copy(&self) -> Result<Typed, Memory>
+        ensures { IfOk result (λ copy. copy ≡ self.now) }
+    {
+        match self {
+            Typed::Query(plan) => Ok(Typed::Query(plan.copy()?)),
+            Typed::Change(change) => Ok(Typed::Change(change.copy()?)),
+            Typed::Versions(name) => Ok(Typed::Versions(name.copy()?)),
+            Typed::Show(name) => Ok(Typed::Show(name.copy()?)),
+            Typed::ListArrays => Ok(Typed::ListArrays),
+        }
+    }
+}
+
+impl Copies for Typed {
+    fn copy(&self) -> Result<Typed, Memory> {
+        self.copy()
+    }
 }
 
 /// What a statement's tree is over the stored arrays, or the first rule that it breaks. `text` is the statement's.
 ///
 /// Rules are tested in this order: at a call its name, the number of its arguments, the sort of each argument from
 /// left to right, where an argument that is a query is checked wholly at its turn, and then the operator's own rules.
-#[tactic(auto, using(crate::proofs::Steps::ok_then, crate::proofs::Steps::err_then))]
+/// Only the whole statement may create an array, change arrays or list something.
 pub fn check(alloc: Global, tree: &Tree, text: &[u8], names: &Names) -> Result<Typed, TypeFault>
     requires { AreValid names.now.arrays }
-    ensures { Answers result (check_of tree.now names.now) }
+    ensures { Answers result (check_of tree.now text.now names.now) }
 {
-    let plan = query_of(alloc, text, names.arrays.as_slice(), tree)?;
-    Ok(Typed::Query(plan))
+    match &tree.node {
+        Node::Create(name, written) => of_change(create_array(
+            alloc,
+            &names.arrays,
+            text,
+            tree.span,
+            name,
+            written,
+        )),
+        Node::Call(name, arguments) => said(
+            alloc,
+            text,
+            names,
+            tree,
+            tree.span,
+            name.as_slice(),
+            arguments.as_slice(),
+        ),
+        _ => of_query(query_plan(alloc, tree, text, names)),
+    }
 }

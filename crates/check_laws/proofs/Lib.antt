@@ -1,3 +1,10 @@
+pub mod CreatedPlaces
 pub mod ParsedLeaves
+pub mod ReadVersions
 pub mod RowsFit
+pub mod StoredNames
+pub mod TypedChanges
+pub mod TypedGroups
+pub mod TypedJoins
+pub mod TypedMoves
 pub mod TypedQueries

@@ -1,5 +1,5 @@
 -- The numbers, texts and codes of a tree that is parsed are within the limits.
-use Rattle.std.proofs.Common.{◌≡◌, ◌⊎◌, inl, inr, ℕ, suc, ℤ, pos, ◌<◌, ◌≤◌, get_or, Bool, true, false, ◌&&◌, IsTrue, List, [], ◌∷◌, map, refl, sym, ap, subst, ◌∙◌, arith}
+use Rattle.std.proofs.Common.{◌≡◌, inl, inr, ℕ, suc, ℤ, pos, ◌<◌, get_or, Bool, true, false, IsTrue, List, [], ◌∷◌, map, refl, subst, arith}
 use Rattle.std.specs.Prelude.{nat_le, nat_lt}
 use Rattle.std.specs.List.{list_all}
 use Rattle.std.proofs.lemmas.Bool.{and_parts, and_from, le-leb}

@@ -1,8 +1,8 @@
 -- The rows of a literal are rows of its schema, without a fault and without a null where none may be.
-use Rattle.std.proofs.Common.{◌≡◌, ℕ, ◌<◌, ◌≤◌, ◌==◌, ℤ, pos, negsuc, ◌+ℤ◌, ◌≤ℤ◌, ◌<ℤ◌, Bool, true, false, not, ◌&&◌, ◌||◌, IsTrue, Option, Some, None, IfSome, List, [], ◌∷◌, length, refl, sym, ap, subst, ◌∙◌, arith}
+use Rattle.std.proofs.Common.{◌≡◌, ℕ, ◌==◌, ℤ, pos, ◌+ℤ◌, ◌≤ℤ◌, Bool, true, false, ◌&&◌, IsTrue, Option, Some, None, IfSome, List, [], ◌∷◌, length, refl, sym, ap, subst, ◌∙◌, arith}
 use Rattle.std.specs.Prelude.{int_le, if◌then◌else◌}
 use Rattle.std.specs.Cmp.{int_cmp_is}
-use Rattle.std.specs.List.{list_all, AllByRecursion, AllZip}
+use Rattle.std.specs.List.{list_all, AllByRecursion}
 use Rattle.std.specs.Ordering.{int_cmp, ordering_then}
 use Rattle.std.specs.declared.cmp.Ordering.{Ordering}
 use Rattle.std.specs.declared.cmp.Ordering.TheVariants.{Less, Equal}
@@ -22,7 +22,7 @@ use Rattle.cell_values.specs.declared.schema.Kind.{Kind}
 use Rattle.cell_values.specs.declared.schema.Kind.TheVariants.{Int64, Str, Bool as Truths}
 use Rattle.cell_values.specs.declared.schema.Schema.{Schema}
 use Rattle.array_rows.specs.Arrays.{AreRows, AreRowsOf}
-use Rattle.array_rows.specs.Boxes.{is_inside, is_between, bounds_of}
+use Rattle.array_rows.specs.Boxes.{is_inside, bounds_of}
 use Rattle.array_rows.specs.Rows.{placed, row_major, IsBefore, IsRising}
 use Rattle.logical_plan.specs.Typing.{may_stand, may_all_stand, is_sound, AreSound}
 use Rattle.literal_types.specs.LiteralRows.{is_value_of, fits_attribute, fit_attributes, fits_element, with_row, rows_from, rows_of, literal_rows}

@@ -1,5 +1,5 @@
 -- The plans that checking answers are typed.
-use Rattle.std.proofs.Common.{◌≡◌, ◌+◌, ◌*◌, ◌-◌, ◌≤◌, ◌==◌, ◌&&◌, ℕ, ℤ, Bool, true, false, length, map, drop, Option, Some, None, Ok, IfOk, IsTrue, List, [], ◌∷◌, ◌++◌, refl, sym, ap, subst, ◌∙◌, arith}
+use Rattle.std.proofs.Common.{◌≡◌, ◌+◌, ◌*◌, ◌≤◌, ◌==◌, ◌&&◌, ℕ, true, length, map, drop, Option, Some, None, Ok, IfOk, IsTrue, List, [], ◌∷◌, ◌++◌, refl, sym, ap, subst, ◌∙◌, arith}
 use Rattle.std.specs.Prelude.{nat_le}
 use Rattle.std.specs.List.{AllByRecursion, list_all}
 use Rattle.std.proofs.lemmas.Bool.{and_parts, and_from, leb-true, eqb-true, eq-eqb}
@@ -11,14 +11,14 @@ use Rattle.cell_values.specs.declared.schema.Bounds.{Bounds}
 use Rattle.cell_values.specs.declared.schema.Dimension.{Dimension}
 use Rattle.cell_values.specs.declared.schema.Kind.TheVariants.{Bool as Truths}
 use Rattle.cell_values.specs.declared.schema.Schema.{Schema}
-use Rattle.cell_values.specs.Schemas.{IsValid, attribute_names, dimension_names, names_of, are_distinct, is_dimension, frame_fits, bounds_in_order, bounds_in_range}
+use Rattle.cell_values.specs.Schemas.{IsValid, attribute_names, dimension_names, are_distinct}
 use Rattle.schema_grammar.specs.declared.kinds.TypeKind.TheVariants.{WrongCount}
 use Rattle.afl_parser.specs.Term.{Term, text, call, group, Terms, no_terms, and_term}
 use Rattle.logical_plan.proofs.SchemaLaws.{typed_valid}
-use Rattle.logical_plan.specs.BoxOps.{items_at, items_but, fixed_places}
-use Rattle.logical_plan.specs.PlanSchema.{derived, schema_of, apply_schema, project_schema, subarray_schema, slice_schema}
-use Rattle.logical_plan.specs.Query.{Query, built, listed, filtered, applied, projected, between, subarray, sliced}
-use Rattle.logical_plan.specs.Typing.{IsTyped, is_bounded, places_in, builds, fits_one, are_below, are_apart, is_box_of}
+use Rattle.logical_plan.specs.BoxOps.{items_but, fixed_places}
+use Rattle.logical_plan.specs.PlanSchema.{derived, schema_of, apply_schema, project_schema}
+use Rattle.logical_plan.specs.Query.{Query, built, listed}
+use Rattle.logical_plan.specs.Typing.{IsTyped, is_bounded, places_in, fits_one, are_below, are_apart, is_box_of}
 use Rattle.logical_plan.specs.declared.names.NameEntry.{NameEntry}
 use Rattle.logical_plan.specs.declared.parts.Applied.{Applied}
 use Rattle.logical_plan.specs.declared.parts.Fixed.{Fixed}
@@ -32,11 +32,9 @@ use Rattle.expr_types.proofs.KindLemmas.{typed_have_kinds}
 use Rattle.literal_types.specs.LiteralRows.{literal_rows}
 use Rattle.operator_rules.specs.InTurn.{in_turn, pairs_in_turn}
 use Rattle.operator_rules.specs.Sorts.{to_list}
-use Rattle.operator_rules.proofs.Holding.{IsWithin}
 use Rattle.operator_rules.proofs.Names.{distinct_front}
 use Rattle.operator_rules.proofs.Turns.{turns_keep, turns_count, pairs_keep}
 use Rattle.operator_rules.proofs.ValidSchemas.{ValidParts, valid_parts, valid_of_parts, has_some}
-use Rattle.source_types.specs.Stored.{entry_named}
 use Rattle.source_types.proofs.Holding.{build_holds, referred_holds, scan_holds}
 use Rattle.cellwise_types.specs.Apply.{applied_one}
 use Rattle.cellwise_types.specs.Project.{projected_one}
@@ -48,14 +46,20 @@ use Rattle.box_types.specs.Slice.{fixed_one}
 use Rattle.box_types.proofs.FixedPlaces.{Held, holds_one}
 use Rattle.box_types.proofs.Holding.{between_holds, subarray_holds, slice_holds}
 use Rattle.box_types.proofs.Parts.{length_pairs, slice_valid, part_valid}
-use Rattle.afl_types.specs.Calls.{call_of, fits_count, ruled}
-use Rattle.afl_types.specs.Checking.{AreValid}
-use Rattle.afl_types.specs.Queries.{called, query_of}
-use Rattle.afl_types.specs.declared.call.Call.{Call}
-use Rattle.afl_types.specs.declared.call.Call.TheVariants.{Build, Scan, Over}
-use Rattle.afl_types.specs.declared.call.OverSource.{OverSource}
-use Rattle.afl_types.specs.declared.call.OverSource.TheVariants.{Filter, Apply, Project, Between, Subarray, Slice}
-use Rattle.afl_types.proofs.Small.{entry_valid}
+use Rattle.query_types.specs.Calls.{call_of, fits_count, fits_two, ruled, ruled_two}
+use Rattle.query_types.specs.Arrays.{AreValid}
+use Rattle.query_types.specs.Queries.{called, query_of}
+use Rattle.query_types.specs.declared.call.Call.{Call}
+use Rattle.query_types.specs.declared.call.Call.TheVariants.{Build, Scan, Over, Two}
+use Rattle.query_types.specs.declared.call.OverSource.{OverSource}
+use Rattle.query_types.specs.declared.call.OverSource.TheVariants.{Filter, Apply, Project, Between, Subarray, Slice, Redimension, Regrid, Window, Aggregate}
+use Rattle.query_types.specs.declared.call.OverTwo.{OverTwo}
+use Rattle.query_types.specs.declared.call.OverTwo.TheVariants.{Join, CrossJoin}
+use Rattle.check_laws.proofs.TypedGroups.{regrid_typed, window_typed, aggregate_typed}
+use Rattle.check_laws.proofs.TypedJoins.{join_typed, cross_typed}
+use Rattle.check_laws.proofs.TypedMoves.{redimension_typed}
+use Rattle.query_types.proofs.NoQuery.{nested_holds}
+use Rattle.query_types.proofs.Small.{entry_valid}
 use Rattle.literal_types.proofs.Limits.{are_bytes}
 use Rattle.check_laws.proofs.RowsFit.{literal_fits}
 use Rattle.check_laws.specs.Laws.{CheckedPlansAreTyped}
@@ -200,6 +204,14 @@ ruled_typed s Project source arguments leaves t = project_typed s source t argum
 ruled_typed s Between source arguments leaves t = between_typed s source t arguments
 ruled_typed s Subarray source arguments leaves t = subarray_typed s source t arguments
 ruled_typed s Slice source arguments leaves t = slice_typed s source t arguments
+ruled_typed s Redimension source arguments leaves t = redimension_typed s source t arguments
+ruled_typed s Regrid source arguments leaves t = regrid_typed s source t arguments
+ruled_typed s Window source arguments leaves t = window_typed s source t arguments
+ruled_typed s Aggregate source arguments leaves t = aggregate_typed s source t arguments
+
+ruled_two_typed : (s : Span) (operator : OverTwo) (left right : Query) (arguments : List Term) → IsTyped left → IsTyped right → IfOk (ruled_two s operator left right arguments) IsTyped
+ruled_two_typed s Join left right arguments l r = join_typed s left right l r
+ruled_two_typed s CrossJoin left right arguments l r = cross_typed s left right l r arguments
 
 module _ (arrays : List NameEntry) (stored : AreValid arrays) where
   over_typed : (s : Span) (operator : OverSource) (arguments : Terms) (t : Term) → IsTrue (all_leaves_fit arguments) → IfOk (query_of arrays t) IsTyped
@@ -208,6 +220,14 @@ module _ (arrays : List NameEntry) (stored : AreValid arrays) where
       demanded IsTyped (fits_count operator (length (to_list arguments))) s WrongCount _ (λ count.
       thens IsTyped (query_of arrays t) _ (λ plan e.
       ruled_typed s operator plan (to_list arguments) (leaves_of arguments leaves) (of_answer IsTyped (query_of arrays t) plan h e)))
+
+  over_two_typed : (s : Span) (operator : OverTwo) (arguments : Terms) (x y : Term) → IfOk (query_of arrays x) IsTyped → IfOk (query_of arrays y) IsTyped
+      → IfOk (demand (fits_two operator (length (to_list arguments))) s WrongCount (then (query_of arrays x) (λ l. then (query_of arrays y) (λ r. ruled_two s operator l r (to_list arguments))))) IsTyped
+  over_two_typed s operator arguments x y h k =
+      demanded IsTyped (fits_two operator (length (to_list arguments))) s WrongCount _ (λ count.
+      thens IsTyped (query_of arrays x) _ (λ l e.
+      thens IsTyped (query_of arrays y) _ (λ r f.
+      ruled_two_typed s operator l r (to_list arguments) (of_answer IsTyped (query_of arrays x) l h e) (of_answer IsTyped (query_of arrays y) r k f))))
 
   mutual
     query_typed : (t : Term) → Leaf t → IfOk (query_of arrays t) IsTyped
@@ -222,7 +242,13 @@ module _ (arrays : List NameEntry) (stored : AreValid arrays) where
         let p = and_parts (leaves_fit source) (all_leaves_fit arguments) leaves in
         over_typed s operator arguments source p.1 (query_typed source p.0)
     called_typed s name (Some (Over operator)) no_terms leaves = tt
-    called_typed s name None arguments leaves = tt
+    called_typed s name (Some (Two operator)) (and_term x (and_term y arguments)) leaves =
+        let p = and_parts (leaves_fit x) (leaves_fit y && all_leaves_fit arguments) leaves in
+        let q = and_parts (leaves_fit y) (all_leaves_fit arguments) p.1 in
+        over_two_typed s operator arguments x y (query_typed x p.0) (query_typed y q.0)
+    called_typed s name (Some (Two operator)) (and_term x no_terms) leaves = tt
+    called_typed s name (Some (Two operator)) no_terms leaves = tt
+    called_typed s name None arguments leaves = nested_holds IsTyped s name (operator_named name)
 
 pub checked_typed : CheckedPlansAreTyped
 checked_typed arrays tree query stored leaves e = of_answer IsTyped (query_of arrays tree) query (query_typed arrays stored tree leaves) e

@@ -1,7 +1,7 @@
 //! The stored arrays that statements may speak of.
 ghost use Rattle.std.specs.Prelude.{◌≤◌, length, IfSome, OnSome};
 ghost use Rattle.cell_values.specs.Schemas.{IsValid};
-ghost use Rattle.afl_types.specs.Checking.{AreValid};
+ghost use Rattle.query_types.specs.Arrays.{AreValid};
 
 use afl_parser::{Node, parse};
 use cell_values::List;
@@ -9,8 +9,41 @@ use logical_plan::{NameEntry, Names};
 use schema_grammar::meaning;
 use std::alloc::Global;
 
+/// Which arrays are stored.
+#[derive(Clone, Copy, Debug, PartialEq, Eq)]
+pub(crate) enum Arrays {
+    /// `A` of one dimension, `B` of each type, `E` without versions, `G` whose first versions are removed, and `W` whose bounds
+    /// are as wide as bounds may be.
+    Few,
+    /// 1,019 more.
+    Full,
+    /// The few, where the next version of `A` has the last number that there is.
+    OneVersion,
+    /// The few, where there is no number for one more version of `A`.
+    NoVersion,
+}
+
+impl Arrays {
+    /// The number of the next version of `A`.
+    fn next(self) -> u32 {
+        match self {
+            Arrays::Few | Arrays::Full => 7,
+            Arrays::OneVersion => 65_535,
+            Arrays::NoVersion => 65_536,
+        }
+    }
+
+    /// How many arrays stand beside the few.
+    fn others(self) -> usize {
+        match self {
+            Arrays::Full => 1_019,
+            Arrays::Few | Arrays::OneVersion | Arrays::NoVersion => 0,
+        }
+    }
+}
+
 /// The array that a text creates, with these versions.
-fn stored(alloc: Global, text: &[u8], versions: &[u32]) -> Option<NameEntry>
+fn stored(alloc: Global, text: &[u8], next: u32, versions: &[u32]) -> Option<NameEntry>
     requires { length text.now ≤ 1048576 }
     ensures { IfSome result (λ entry. IsValid entry.schema) }
 {
@@ -19,7 +52,7 @@ fn stored(alloc: Global, text: &[u8], versions: &[u32]) -> Option<NameEntry>
         Node::Create(name, written) => Some(NameEntry {
             name: name.copy().ok()?,
             schema: meaning(alloc, text, written).ok()?,
-            next: 7,
+            next,
             versions: List::from_slice(alloc, versions).ok()?,
         }),
         _ => None,
@@ -27,18 +60,41 @@ fn stored(alloc: Global, text: &[u8], versions: &[u32]) -> Option<NameEntry>
 }
 
 /// Adds the array that a text creates.
-fn push_stored(arrays: &mut List<NameEntry>, text: &[u8], versions: &[u32]) -> Option<()>
+fn push_stored(arrays: &mut List<NameEntry>, text: &[u8], next: u32, versions: &[u32]) -> Option<()>
     requires short { length text.now ≤ 1048576 }
     requires valid { AreValid arrays.old }
     ensures { OnSome result (AreValid arrays.new) }
 {
-    let entry = stored(arrays.allocator(), text, versions)?;
+    let entry = stored(arrays.allocator(), text, next, versions)?;
     arrays.push(entry).ok()
 }
 
-/// `A` of one dimension, `B` of each type, `E` without versions, `G` whose first versions are removed, and `W` whose bounds
-/// are as wide as bounds may be.
-pub(crate) fn names(alloc: Global) -> Option<Names>
+/// Adds one of many arrays.
+fn push_other(arrays: &mut List<NameEntry>, number: usize) -> Option<()>
+    requires { AreValid arrays.old }
+    ensures { OnSome result (AreValid arrays.new) }
+{
+    let alloc = arrays.allocator();
+    let text = format!(in alloc; "create array X{number} <v:int64>[i=0:2,2,0]").ok()?;
+    if text.len() > 64 {
+        return None;
+    }
+    push_stored(arrays, text.as_bytes(), 1, &[])
+}
+
+/// Adds many arrays.
+fn push_others(arrays: &mut List<NameEntry>, count: usize) -> Option<()>
+    requires { AreValid arrays.old }
+    ensures { OnSome result (AreValid arrays.new) }
+{
+    for number in 0..count {
+        push_other(arrays, number)?;
+    }
+    Some(())
+}
+
+/// The stored arrays.
+pub(crate) fn names(alloc: Global, which: Arrays) -> Option<Names>
     ensures { IfSome result (λ names. AreValid names.arrays) }
 {
     let a = b"create array A <v:int64>[i=0:2,2,0]";
@@ -47,10 +103,11 @@ pub(crate) fn names(alloc: Global) -> Option<Names>
     let g = b"create array G <v:string>[i=0:*,5,0]";
     let w = b"create array W <v:int64>[i=-4611686018427387903:*,2,0,j=0:1,2,0]";
     let mut arrays = List::new(alloc);
-    push_stored(&mut arrays, a, &[1, 2])?;
-    push_stored(&mut arrays, b, &[1])?;
-    push_stored(&mut arrays, e, &[])?;
-    push_stored(&mut arrays, g, &[3, 5])?;
-    push_stored(&mut arrays, w, &[6])?;
+    push_stored(&mut arrays, a, which.next(), &[1, 2])?;
+    push_stored(&mut arrays, b, 7, &[1])?;
+    push_stored(&mut arrays, e, 7, &[])?;
+    push_stored(&mut arrays, g, 7, &[3, 5])?;
+    push_stored(&mut arrays, w, 7, &[6])?;
+    push_others(&mut arrays, which.others())?;
     Some(Names { arrays })
 }

@@ -10,26 +10,37 @@ use Rattle.cell_values.specs.Schemas.{IsValid, has_attributes, has_dimensions, a
 use Rattle.schema_grammar.specs.declared.kinds.TypeKind.TheVariants.{WrongCount}
 use Rattle.afl_parser.specs.Term.{Term, call, group, Terms, no_terms, and_term}
 use Rattle.logical_plan.specs.PlanSchema.{schema_of}
-use Rattle.logical_plan.specs.Query.{Query, applied, projected, subarray, sliced}
+use Rattle.logical_plan.specs.Query.{Query, applied, projected, subarray, sliced, joined, crossed, regridded, windowed, aggregated}
 use Rattle.logical_plan.specs.declared.names.NameEntry.{NameEntry}
 use Rattle.type_rules.specs.Checked.{demand, then}
 use Rattle.type_rules.specs.Operators.{operator_named}
 use Rattle.type_rules.proofs.Holding.{demanded, thens, of_answer}
+use Rattle.operator_rules.specs.NewSchema.{of_new_schema}
 use Rattle.operator_rules.specs.Sorts.{to_list}
-use Rattle.operator_rules.proofs.Holding.{IsWithin}
+use Rattle.operator_rules.proofs.Holding.{IsWithin, new_holds}
 use Rattle.source_types.specs.Stored.{entry_named}
 use Rattle.source_types.proofs.Holding.{build_holds, referred_holds, scan_holds}
 use Rattle.cellwise_types.proofs.Holding.{filter_holds, apply_holds, project_holds}
 use Rattle.box_types.specs.Boxes.{box_of}
 use Rattle.box_types.proofs.Holding.{between_holds, subarray_holds, slice_holds}
-use Rattle.afl_types.specs.Calls.{call_of, fits_count, ruled}
-use Rattle.afl_types.specs.Checking.{AreValid}
-use Rattle.afl_types.specs.Limits.{IsSmall, HasSmallSchema}
-use Rattle.afl_types.specs.Queries.{called, query_of}
-use Rattle.afl_types.specs.declared.call.Call.{Call}
-use Rattle.afl_types.specs.declared.call.Call.TheVariants.{Build, Scan, Over}
-use Rattle.afl_types.specs.declared.call.OverSource.{OverSource}
-use Rattle.afl_types.specs.declared.call.OverSource.TheVariants.{Filter, Apply, Project, Between, Subarray, Slice}
+use Rattle.query_types.specs.Calls.{call_of, fits_count, fits_two, ruled, ruled_two}
+use Rattle.query_types.specs.Arrays.{AreValid}
+use Rattle.query_types.specs.Limits.{IsSmall, HasSmallSchema}
+use Rattle.query_types.specs.Queries.{called, query_of}
+use Rattle.query_types.specs.declared.call.Call.{Call}
+use Rattle.query_types.specs.declared.call.Call.TheVariants.{Build, Scan, Over, Two}
+use Rattle.query_types.specs.declared.call.OverSource.{OverSource}
+use Rattle.query_types.specs.declared.call.OverSource.TheVariants.{Filter, Apply, Project, Between, Subarray, Slice, Redimension, Regrid, Window, Aggregate}
+use Rattle.query_types.specs.declared.call.OverTwo.{OverTwo}
+use Rattle.query_types.specs.declared.call.OverTwo.TheVariants.{Join, CrossJoin}
+use Rattle.group_types.specs.Blocks.{regrid_parts}
+use Rattle.group_types.specs.Groups.{aggregate_parts}
+use Rattle.group_types.specs.Windows.{window_parts}
+use Rattle.join_types.specs.Crosses.{cross_parts}
+use Rattle.join_types.specs.JoinSchemas.{joined_schema}
+use Rattle.moved_types.specs.Redimension.{redimension_parts}
+use Rattle.moved_types.proofs.PartsFit.{MovedFit, redimension_fits}
+use Rattle.query_types.proofs.NoQuery.{nested_holds}
 
 pub small_valid : (s : Schema) → IsValid s → IsSmall s
 small_valid s h =
@@ -67,6 +78,9 @@ module _ (arrays : List NameEntry) (valid : AreValid arrays) where
   entry_valid name entry e =
       subst (λ (o : Option NameEntry). IfSome o (λ entry. IsValid entry.schema)) e (found (λ entry. IsValid entry.schema) (λ entry. bytes_eq entry.name name) arrays valid)
 
+  made_small : (s : Span) (query : Query) → IfOk (of_new_schema s query) HasSmallSchema
+  made_small s query = new_holds HasSmallSchema s query (λ within. small_within (schema_of query) within)
+
   ruled_small : (s : Span) (operator : OverSource) (source : Query) (arguments : List Term) → HasSmallSchema source → IfOk (ruled s operator source arguments) HasSmallSchema
   ruled_small s Filter source arguments small = filter_holds HasSmallSchema s source arguments (λ e x one t fit. small)
   ruled_small s Apply source arguments small = apply_holds HasSmallSchema s source arguments (λ values e within. small_within (schema_of (applied source values)) within)
@@ -75,6 +89,21 @@ module _ (arrays : List NameEntry) (valid : AreValid arrays) where
   ruled_small s Subarray source arguments small =
       subarray_holds HasSmallSchema s source arguments (λ count order range within. small_within (schema_of (subarray source (box_of (schema_of source).dimensions arguments))) within)
   ruled_small s Slice source arguments small = slice_holds HasSmallSchema s source arguments (λ fixed e some within. small_within (schema_of (sliced source fixed)) within)
+  ruled_small s Redimension source arguments small =
+      thens HasSmallSchema (redimension_parts s (schema_of source) arguments) _ (λ p e.
+      small_valid p.schema (of_answer (MovedFit s (schema_of source)) (redimension_parts s (schema_of source) arguments) p (redimension_fits s (schema_of source) arguments) e).valid)
+  ruled_small s Regrid source arguments small =
+      thens HasSmallSchema (regrid_parts s (schema_of source) arguments) _ (λ p e. made_small s (regridded source p.sizes p.aggregates))
+  ruled_small s Window source arguments small =
+      thens HasSmallSchema (window_parts s (schema_of source) arguments) _ (λ p e. made_small s (windowed source p.reach p.aggregates))
+  ruled_small s Aggregate source arguments small =
+      thens HasSmallSchema (aggregate_parts s (schema_of source) arguments) _ (λ p e. made_small s (aggregated source p.aggregates p.places))
+
+  ruled_two_small : (s : Span) (operator : OverTwo) (left right : Query) (arguments : List Term) → IfOk (ruled_two s operator left right arguments) HasSmallSchema
+  ruled_two_small s Join left right arguments =
+      thens HasSmallSchema (joined_schema s (schema_of left) (schema_of right)) _ (λ schema e. made_small s (joined left right schema))
+  ruled_two_small s CrossJoin left right arguments =
+      thens HasSmallSchema (cross_parts s (schema_of left) (schema_of right) arguments) _ (λ p e. made_small s (crossed left right p.pairs p.schema))
 
   over_small : (s : Span) (operator : OverSource) (arguments : Terms) (t : Term) → IfOk (query_of arrays t) HasSmallSchema
       → IfOk (demand (fits_count operator (length (to_list arguments))) s WrongCount (then (query_of arrays t) (λ plan. ruled s operator plan (to_list arguments)))) HasSmallSchema
@@ -82,6 +111,14 @@ module _ (arrays : List NameEntry) (valid : AreValid arrays) where
       demanded HasSmallSchema (fits_count operator (length (to_list arguments))) s WrongCount _ (λ count.
       thens HasSmallSchema (query_of arrays t) _ (λ plan e.
       ruled_small s operator plan (to_list arguments) (of_answer HasSmallSchema (query_of arrays t) plan small e)))
+
+  over_two_small : (s : Span) (operator : OverTwo) (arguments : Terms) (x y : Term)
+      → IfOk (demand (fits_two operator (length (to_list arguments))) s WrongCount (then (query_of arrays x) (λ l. then (query_of arrays y) (λ r. ruled_two s operator l r (to_list arguments))))) HasSmallSchema
+  over_two_small s operator arguments x y =
+      demanded HasSmallSchema (fits_two operator (length (to_list arguments))) s WrongCount _ (λ count.
+      thens HasSmallSchema (query_of arrays x) _ (λ l e.
+      thens HasSmallSchema (query_of arrays y) _ (λ r f.
+      ruled_two_small s operator l r (to_list arguments))))
 
   mutual
     small : (t : Term) → IfOk (query_of arrays t) HasSmallSchema
@@ -95,7 +132,10 @@ module _ (arrays : List NameEntry) (valid : AreValid arrays) where
     called_small s name (Some Scan) arguments = scan_holds HasSmallSchema arrays (λ name entry v e. small_valid entry.schema (entry_valid name entry e)) s arguments
     called_small s name (Some (Over operator)) (and_term source arguments) = over_small s operator arguments source (small source)
     called_small s name (Some (Over operator)) no_terms = tt
-    called_small s name None arguments = tt
+    called_small s name (Some (Two operator)) (and_term x (and_term y arguments)) = over_two_small s operator arguments x y
+    called_small s name (Some (Two operator)) (and_term x no_terms) = tt
+    called_small s name (Some (Two operator)) no_terms = tt
+    called_small s name None arguments = nested_holds HasSmallSchema s name (operator_named name)
 
   pub query_small : (t : Term) (query : Query) → query_of arrays t ≡ Ok query → IsSmall (schema_of query)
   query_small t query e = of_answer HasSmallSchema (query_of arrays t) query (small t) e

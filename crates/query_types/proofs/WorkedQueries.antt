@@ -8,13 +8,13 @@ use Rattle.afl_parser.specs.Term.{number, truth, null, reference, version, call,
 use Rattle.afl_parser.specs.declared.tree.BinaryOp.TheVariants.{Mul}
 use Rattle.expr_nulls.specs.Expr.{dimension_value, calculation}
 use Rattle.expr_nulls.specs.declared.expr.ArithOp.TheVariants as arith_op
-use Rattle.logical_plan.specs.Query.{built}
+use Rattle.logical_plan.specs.Query.{built, redimensioned}
 use Rattle.logical_plan.specs.declared.names.NameEntry.{NameEntry}
 use Rattle.schema_grammar.specs.Rules.{schema_of}
 use Rattle.type_rules.specs.Checked.{refused}
 use Rattle.type_rules.specs.Operators.{query_named, change_named}
 use Rattle.source_types.specs.Stored.{leaf_of}
-use Rattle.afl_types.specs.Queries.{query_of}
+use Rattle.query_types.specs.Queries.{query_of}
 
 at : ℕ → ℕ → Span
 at a b = record { start = a; end = b }
@@ -134,3 +134,14 @@ no_literal : query_of arrays (call (at 0 38) (codes "build") (and_term (schema (
     ≡ refused (at 33 37) WrongType
 unfolding at written entry arrays query_named change_named
 no_literal = refl
+
+-- redimension(Q): the number of arguments comes before the source
+redimension_count : query_of arrays (call (at 0 14) (codes "redimension") (and_term (reference (at 12 13) (codes "Q")) no_terms)) ≡ refused (at 0 14) WrongCount
+unfolding at written entry arrays query_named change_named
+redimension_count = refl
+
+-- redimension(A@1, <v:int64>[i=0:1,2,0])
+redimension_whole : query_of arrays (call (at 0 40) (codes "redimension") (and_term (version (at 12 15) (codes "A") (pos 1)) (and_term (schema (at 17 39) (written 0 1)) no_terms)))
+    ≡ Ok (redimensioned (leaf_of (entry (codes "A") (1 ∷ 2 ∷ [])) 1) (schema_of (written 0 1)) [])
+unfolding at written entry arrays query_named change_named
+redimension_whole = refl

@@ -3,19 +3,20 @@ ghost use Rattle.std.specs.Prelude.{Some};
 ghost use Rattle.afl_parser.specs.Term.{to_terms};
 ghost use Rattle.type_rules.specs.Checked.{Answers};
 ghost use Rattle.type_rules.specs.Operators.{operator_named};
-ghost use Rattle.afl_types.specs.Calls.{call_of};
-ghost use Rattle.afl_types.specs.Checking.{AreValid};
-ghost use Rattle.afl_types.specs.Queries.{called, over, query_of};
-ghost use Rattle.afl_types.specs.declared.call.Call.{Call};
+ghost use Rattle.query_types.specs.Calls.{call_of};
+ghost use Rattle.query_types.specs.Arrays.{AreValid};
+ghost use Rattle.query_types.specs.Queries.{called, over, over_two, query_of};
+ghost use Rattle.query_types.specs.declared.call.Call.{Call};
 
-use crate::call::{Call, OverSource, call_of};
+use crate::call::{Call, OverSource, OverTwo, call_of};
+use crate::nested::no_query;
 use afl_parser::{Node, Tree};
 use cell_values::Span;
-use logical_plan::{NameEntry, Plan};
+use logical_plan::{NameEntry, Names, Plan};
 use schema_grammar::TypeKind;
 use source_types::{build_call, referred, scan_call};
 use std::alloc::Global;
-use type_rules::{TypeFault, broken, name_span, operator_named};
+use type_rules::{TypeFault, broken, operator_named};
 
 /// An operator on a source, which is checked before the arguments behind it.
 #[cycle(query)]
@@ -36,7 +37,7 @@ fn over(
         return Err(broken(span, TypeKind::WrongCount));
     }
     let plan = query_of(alloc, text, arrays, source)?;
-    operator.ruled(alloc, span, plan, arguments)
+    operator.ruled(alloc, text, span, plan, arguments)
 }
 
 /// A call of an operator on a source, its first argument.
@@ -60,6 +61,53 @@ fn over_first(
     }
 }
 
+/// An operator on two sources, which are checked before the arguments behind them, the left one first.
+#[cycle(query)]
+#[tactic(auto, using(crate::proofs::Steps::ok_then, crate::proofs::Steps::err_then, crate::proofs::Small::few_dimensions))]
+fn over_two(
+    alloc: Global,
+    text: &[u8],
+    arrays: &[NameEntry],
+    span: Span,
+    operator: OverTwo,
+    left: &Tree,
+    right: &Tree,
+    arguments: &[Tree],
+) -> Result<Plan, TypeFault>
+    requires { AreValid arrays.now }
+    ensures { Answers result (over_two span operator (query_of arrays.now left.now) (query_of arrays.now right.now) arguments.now) }
+{
+    if !operator.fits_count(arguments.len()) {
+        return Err(broken(span, TypeKind::WrongCount));
+    }
+    let left = query_of(alloc, text, arrays, left)?;
+    let right = query_of(alloc, text, arrays, right)?;
+    operator.ruled(alloc, span, left, right, arguments)
+}
+
+/// A call of an operator on two sources, its first arguments.
+#[cycle(query)]
+#[tactic(auto, using(crate::proofs::Sources::without_two))]
+fn over_both(
+    alloc: Global,
+    text: &[u8],
+    arrays: &[NameEntry],
+    span: Span,
+    name: &[u8],
+    operator: OverTwo,
+    arguments: &[Tree],
+) -> Result<Plan, TypeFault>
+    requires { AreValid arrays.now }
+    ensures { Answers result (called arrays.now span name.now (Some (Call.Two operator)) (to_terms arguments.now)) }
+{
+    match arguments {
+        [left, right, rest @ ..] => {
+            over_two(alloc, text, arrays, span, operator, left, right, rest)
+        }
+        _ => Err(broken(span, TypeKind::WrongCount)),
+    }
+}
+
 /// A call of an operator.
 #[cycle(query)]
 fn called(
@@ -79,13 +127,16 @@ fn called(
         Some(Call::Over(operator)) => {
             over_first(alloc, text, arrays, span, name, operator, arguments)
         }
-        None => Err(broken(name_span(span, name), TypeKind::UnknownName)),
+        Some(Call::Two(operator)) => {
+            over_both(alloc, text, arrays, span, name, operator, arguments)
+        }
+        None => Err(no_query(span, name)),
     }
 }
 
-/// The plan that a tree is over the stored arrays, or the first rule that it breaks.
+/// The plan that a tree is over some stored arrays.
 #[cycle(query)]
-pub(crate) fn query_of(
+fn query_of(
     alloc: Global,
     text: &[u8],
     arrays: &[NameEntry],
@@ -106,4 +157,20 @@ pub(crate) fn query_of(
         ),
         _ => referred(arrays, tree),
     }
+}
+
+/// The plan that a tree is over the stored arrays, or the first rule that it breaks. `text` is the statement's.
+///
+/// Rules are tested in this order: at a call its name, the number of its arguments, its sources, each wholly and the
+/// left one first, the sort of each further argument from left to right, and then the operator's own rules.
+pub fn query_plan(
+    alloc: Global,
+    tree: &Tree,
+    text: &[u8],
+    names: &Names,
+) -> Result<Plan, TypeFault>
+    requires { AreValid names.now.arrays }
+    ensures { Answers result (query_of names.now.arrays tree.now) }
+{
+    query_of(alloc, text, names.arrays.as_slice(), tree)
 }

@@ -1,9 +1,12 @@
-//! The operators that are built: what a call is by its operator, and the rules of an operator on a source.
+//! The operators that are built: what a call is by its operator, and the rules of an operator on one source or two.
 ghost use Rattle.std.specs.Prelude.{◌≡◌, ◌≤◌, length};
 ghost use Rattle.logical_plan.specs.PlanSchema.{schema_of};
 ghost use Rattle.type_rules.specs.Checked.{Answers};
-ghost use Rattle.afl_types.specs.Calls.{are_pairs, call_of, fits_count, ruled};
+ghost use Rattle.query_types.specs.Calls.{are_pairs, call_of, fits_count, fits_two, ruled, ruled_two};
 
+use crate::group_calls::{aggregate_call, regrid_call, window_call};
+use crate::join_calls::{cross_call, join_call};
+use crate::moved_calls::redimension_call;
 use afl_parser::Tree;
 use box_types::{between_call, slice_call, subarray_call};
 use cell_values::Span;
@@ -19,6 +22,8 @@ pub enum Call {
     Scan,
     /// The first argument is the source.
     Over(OverSource),
+    /// The first two arguments are the sources.
+    Two(OverTwo),
 }
 
 /// An operator on a source.
@@ -30,6 +35,17 @@ pub enum OverSource {
     Between,
     Subarray,
     Slice,
+    Redimension,
+    Regrid,
+    Window,
+    Aggregate,
+}
+
+/// An operator on two sources.
+#[derive(Clone, Copy, Debug, PartialEq, Eq)]
+pub enum OverTwo {
+    Join,
+    CrossJoin,
 }
 
 pub(crate) fn call_of(operator: Option<Operator>) -> Option<Call>
@@ -44,6 +60,12 @@ pub(crate) fn call_of(operator: Option<Operator>) -> Option<Call>
         Some(Operator::Between) => Some(Call::Over(OverSource::Between)),
         Some(Operator::Subarray) => Some(Call::Over(OverSource::Subarray)),
         Some(Operator::Slice) => Some(Call::Over(OverSource::Slice)),
+        Some(Operator::Redimension) => Some(Call::Over(OverSource::Redimension)),
+        Some(Operator::Regrid) => Some(Call::Over(OverSource::Regrid)),
+        Some(Operator::Window) => Some(Call::Over(OverSource::Window)),
+        Some(Operator::Aggregate) => Some(Call::Over(OverSource::Aggregate)),
+        Some(Operator::Join) => Some(Call::Two(OverTwo::Join)),
+        Some(Operator::CrossJoin) => Some(Call::Two(OverTwo::CrossJoin)),
         _ => None,
     }
 }
@@ -62,15 +84,20 @@ impl OverSource {
         match self {
             OverSource::Filter => count == 1,
             OverSource::Apply | OverSource::Slice => are_pairs(count),
-            OverSource::Project => 1 <= count,
-            OverSource::Between | OverSource::Subarray => true,
+            OverSource::Project | OverSource::Redimension => 1 <= count,
+            OverSource::Between
+            | OverSource::Subarray
+            | OverSource::Regrid
+            | OverSource::Window
+            | OverSource::Aggregate => true,
         }
     }
 
-    /// The plan over a source, with the arguments behind it.
+    /// The plan over a source, with the arguments behind it in `text`.
     pub(crate) fn ruled(
         self,
         alloc: Global,
+        text: &[u8],
         span: Span,
         source: Plan,
         arguments: &[Tree],
@@ -86,6 +113,41 @@ impl OverSource {
             OverSource::Between => between_call(alloc, span, source, arguments),
             OverSource::Subarray => subarray_call(alloc, span, source, arguments),
             OverSource::Slice => slice_call(alloc, span, source, arguments),
+            OverSource::Redimension => redimension_call(alloc, text, span, source, arguments),
+            OverSource::Regrid => regrid_call(alloc, span, source, arguments),
+            OverSource::Window => window_call(alloc, span, source, arguments),
+            OverSource::Aggregate => aggregate_call(alloc, span, source, arguments),
+        }
+    }
+}
+
+impl OverTwo {
+    /// Whether so many arguments may stand behind the sources.
+    pub(crate) fn fits_count(self, count: usize) -> bool
+        ensures { result ≡ fits_two self count }
+    {
+        match self {
+            OverTwo::Join => count == 0,
+            OverTwo::CrossJoin => are_pairs(count),
+        }
+    }
+
+    /// The plan over two sources, with the arguments behind them.
+    pub(crate) fn ruled(
+        self,
+        alloc: Global,
+        span: Span,
+        left: Plan,
+        right: Plan,
+        arguments: &[Tree],
+    ) -> Result<Plan, TypeFault>
+        requires left { length (schema_of left).dimensions ≤ 6 }
+        requires right { length (schema_of right).dimensions ≤ 6 }
+        ensures { Answers result (ruled_two span self left right arguments.now) }
+    {
+        match self {
+            OverTwo::Join => join_call(alloc, span, left, right),
+            OverTwo::CrossJoin => cross_call(alloc, span, left, right, arguments),
         }
     }
 }

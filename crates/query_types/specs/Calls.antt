@@ -1,4 +1,4 @@
--- The operators that are built: what a call is by its operator, and the rules of an operator on a source.
+-- The operators that are built: what a call is by its operator, and the rules of an operator on one source or two.
 use Rattle.std.specs.Prelude.{ℕ, ◌%◌, Bool, true, ◌&&◌, ◌==◌, nat_le, Option, Some, None, List}
 use Rattle.cell_values.specs.declared.name.Span.{Span}
 use Rattle.afl_parser.specs.Term.{Term}
@@ -11,10 +11,15 @@ use Rattle.cellwise_types.specs.Apply.{apply_call}
 use Rattle.cellwise_types.specs.Project.{project_call}
 use Rattle.box_types.specs.Boxes.{between_call, subarray_call}
 use Rattle.box_types.specs.Slice.{slice_call}
-use Rattle.afl_types.specs.declared.call.Call.{Call}
-use Rattle.afl_types.specs.declared.call.Call.TheVariants.{Build, Scan, Over}
-use Rattle.afl_types.specs.declared.call.OverSource.{OverSource}
-use Rattle.afl_types.specs.declared.call.OverSource.TheVariants.{Filter, Apply, Project, Between, Subarray, Slice}
+use Rattle.query_types.specs.GroupCalls.{regrid_call, window_call, aggregate_call}
+use Rattle.query_types.specs.JoinCalls.{join_call, cross_call}
+use Rattle.query_types.specs.MovedCalls.{redimension_call}
+use Rattle.query_types.specs.declared.call.Call.{Call}
+use Rattle.query_types.specs.declared.call.Call.TheVariants.{Build, Scan, Over, Two}
+use Rattle.query_types.specs.declared.call.OverSource.{OverSource}
+use Rattle.query_types.specs.declared.call.OverSource.TheVariants.{Filter, Apply, Project, Between, Subarray, Slice, Redimension, Regrid, Window, Aggregate}
+use Rattle.query_types.specs.declared.call.OverTwo.{OverTwo}
+use Rattle.query_types.specs.declared.call.OverTwo.TheVariants.{Join, CrossJoin}
 
 abbrev pub call_of : Option Operator → Option Call
 call_of (Some operator.Build) = Some Build
@@ -25,6 +30,12 @@ call_of (Some operator.Project) = Some (Over Project)
 call_of (Some operator.Between) = Some (Over Between)
 call_of (Some operator.Subarray) = Some (Over Subarray)
 call_of (Some operator.Slice) = Some (Over Slice)
+call_of (Some operator.Redimension) = Some (Over Redimension)
+call_of (Some operator.Regrid) = Some (Over Regrid)
+call_of (Some operator.Window) = Some (Over Window)
+call_of (Some operator.Aggregate) = Some (Over Aggregate)
+call_of (Some operator.Join) = Some (Two Join)
+call_of (Some operator.CrossJoin) = Some (Two CrossJoin)
 call_of _ = None
 
 -- pairs, and at least one
@@ -39,6 +50,15 @@ fits_count Project count = nat_le 1 count
 fits_count Between count = true
 fits_count Subarray count = true
 fits_count Slice count = are_pairs count
+fits_count Redimension count = nat_le 1 count
+fits_count Regrid count = true
+fits_count Window count = true
+fits_count Aggregate count = true
+
+-- so many arguments may stand behind two sources
+abbrev pub fits_two : OverTwo → ℕ → Bool
+fits_two Join count = count == 0
+fits_two CrossJoin count = are_pairs count
 
 -- the sorts of the arguments behind the source, and the operator's own rules
 abbrev pub ruled : Span → OverSource → Query → List Term → Checked Query
@@ -48,3 +68,11 @@ ruled s Project source arguments = project_call s source arguments
 ruled s Between source arguments = between_call s source arguments
 ruled s Subarray source arguments = subarray_call s source arguments
 ruled s Slice source arguments = slice_call s source arguments
+ruled s Redimension source arguments = redimension_call s source arguments
+ruled s Regrid source arguments = regrid_call s source arguments
+ruled s Window source arguments = window_call s source arguments
+ruled s Aggregate source arguments = aggregate_call s source arguments
+
+abbrev pub ruled_two : Span → OverTwo → Query → Query → List Term → Checked Query
+ruled_two s Join left right arguments = join_call s left right
+ruled_two s CrossJoin left right arguments = cross_call s left right arguments

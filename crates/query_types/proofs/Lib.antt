@@ -1,0 +1,5 @@
+pub mod NoQuery
+pub mod Small
+pub mod Sources
+pub mod Steps
+mod WorkedQueries

@@ -1,0 +1,72 @@
+//! The plans of `join` and `cross_join`.
+ghost use Rattle.std.specs.Prelude.{◌≤◌, length};
+ghost use Rattle.logical_plan.specs.PlanSchema.{schema_of};
+ghost use Rattle.type_rules.specs.Checked.{Answers};
+ghost use Rattle.join_types.specs.Crosses.{cross_parts};
+ghost use Rattle.join_types.specs.JoinSchemas.{joined_schema};
+ghost use Rattle.query_types.specs.JoinCalls.{cross_call, join_call};
+
+use afl_parser::Tree;
+use cell_values::{Schema, Span};
+use join_types::{Crossed, cross_parts, join_schema};
+use logical_plan::Plan;
+use operator_rules::{of_new_schema, shape_of};
+use std::alloc::Global;
+use type_rules::TypeFault;
+
+fn joined_over(alloc: Global, span: Span, left: &Plan, right: &Plan) -> Result<Schema, TypeFault>
+    ensures { Answers result (joined_schema span (schema_of left.now) (schema_of right.now)) }
+{
+    let left_schema = shape_of(alloc, left)?;
+    let right_schema = shape_of(alloc, right)?;
+    join_schema(alloc, span, &left_schema, &right_schema)
+}
+
+/// `join` of two sources.
+#[tactic(auto, using(crate::proofs::Steps::ok_then, crate::proofs::Steps::err_then))]
+pub(crate) fn join_call(
+    alloc: Global,
+    span: Span,
+    left: Plan,
+    right: Plan,
+) -> Result<Plan, TypeFault>
+    ensures { Answers result (join_call span left right) }
+{
+    let schema = joined_over(alloc, span, &left, &right)?;
+    let plan = Plan::join(alloc, left, right, schema)?;
+    of_new_schema(alloc, span, plan)
+}
+
+fn crossed_over(
+    alloc: Global,
+    span: Span,
+    left: &Plan,
+    right: &Plan,
+    arguments: &[Tree],
+) -> Result<Crossed, TypeFault>
+    requires left { length (schema_of left.now).dimensions ≤ 6 }
+    requires right { length (schema_of right.now).dimensions ≤ 6 }
+    ensures { Answers result (cross_parts span (schema_of left.now) (schema_of right.now) arguments.now) }
+{
+    let left_schema = shape_of(alloc, left)?;
+    let right_schema = shape_of(alloc, right)?;
+    cross_parts(alloc, span, &left_schema, &right_schema, arguments)
+}
+
+/// `cross_join` of two sources, with the names behind them.
+#[tactic(auto, using(crate::proofs::Steps::ok_then, crate::proofs::Steps::err_then))]
+pub(crate) fn cross_call(
+    alloc: Global,
+    span: Span,
+    left: Plan,
+    right: Plan,
+    arguments: &[Tree],
+) -> Result<Plan, TypeFault>
+    requires left { length (schema_of left).dimensions ≤ 6 }
+    requires right { length (schema_of right).dimensions ≤ 6 }
+    ensures { Answers result (cross_call span left right arguments.now) }
+{
+    let parts = crossed_over(alloc, span, &left, &right, arguments)?;
+    let plan = Plan::cross_join(alloc, left, right, parts.pairs, parts.schema)?;
+    of_new_schema(alloc, span, plan)
+}

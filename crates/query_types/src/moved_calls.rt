@@ -1,0 +1,45 @@
+//! The plan of `redimension`.
+ghost use Rattle.std.specs.Prelude.{◌≤◌, length};
+ghost use Rattle.logical_plan.specs.PlanSchema.{schema_of};
+ghost use Rattle.type_rules.specs.Checked.{Answers};
+ghost use Rattle.moved_types.specs.Redimension.{redimension_parts};
+ghost use Rattle.query_types.specs.MovedCalls.{redimension_call};
+
+use afl_parser::Tree;
+use cell_values::Span;
+use logical_plan::Plan;
+use moved_types::{Redimensioned, redimension_parts};
+use operator_rules::shape_of;
+use std::alloc::Global;
+use type_rules::TypeFault;
+
+fn redimension_over(
+    alloc: Global,
+    text: &[u8],
+    span: Span,
+    source: &Plan,
+    arguments: &[Tree],
+) -> Result<Redimensioned, TypeFault>
+    requires { length (schema_of source.now).attributes ≤ 64 }
+    ensures { Answers result (redimension_parts span (schema_of source.now) arguments.now) }
+{
+    let schema = shape_of(alloc, source)?;
+    redimension_parts(alloc, text, span, &schema, arguments)
+}
+
+/// `redimension` of a source, with what stands behind it in `text`.
+#[tactic(auto, using(crate::proofs::Steps::ok_then, crate::proofs::Steps::err_then))]
+pub(crate) fn redimension_call(
+    alloc: Global,
+    text: &[u8],
+    span: Span,
+    source: Plan,
+    arguments: &[Tree],
+) -> Result<Plan, TypeFault>
+    requires { length (schema_of source).attributes ≤ 64 }
+    ensures { Answers result (redimension_call span source arguments.now) }
+{
+    let parts = redimension_over(alloc, text, span, &source, arguments)?;
+    let plan = Plan::redimension(alloc, source, parts.schema, parts.aggregates)?;
+    Ok(plan)
+}
