@@ -5,7 +5,7 @@ ghost use Rattle.type_rules.specs.Operators.{operator_named};
 ghost use Rattle.afl_run.specs.Unbuilt.{has_unbuilt, is_to_come, is_unbuilt};
 
 use afl_parser::{Node, Tree};
-use afl_types::{Operator, operator_named};
+use type_rules::{Operator, operator_named};
 
 /// Whether a name is that of an operator which changes arrays or lists something.
 fn is_to_come(name: &[u8]) -> bool
