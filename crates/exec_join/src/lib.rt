@@ -1,7 +1,9 @@
-//! Joins of chunks.
+//! Joins of chunks, and arrays in the chunks of others.
 #![tactic(auto)]
 
+mod arrays;
 mod beside;
 mod join;
 
+pub use arrays::repart;
 pub use join::join_chunks;
