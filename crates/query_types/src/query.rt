@@ -163,12 +163,7 @@ fn query_of(
 ///
 /// Rules are tested in this order: at a call its name, the number of its arguments, its sources, each wholly and the
 /// left one first, the sort of each further argument from left to right, and then the operator's own rules.
-pub fn query_plan(
-    alloc: Global,
-    tree: &Tree,
-    text: &[u8],
-    names: &Names,
-) -> Result<Plan, TypeFault>
+pub fn query_plan(alloc: Global, tree: &Tree, text: &[u8], names: &Names) -> Result<Plan, TypeFault>
     requires { AreValid names.now.arrays }
     ensures { Answers result (query_of names.now.arrays tree.now) }
 {
