@@ -1,5 +1,5 @@
 -- What a statement is by the part that makes it.
-use Rattle.std.proofs.Common.{◌≡◌, Ok, Err, Result, ap, ◌∙◌}
+use Rattle.std.proofs.Common.{◌≡◌, ◌∙◌, Ok, Err, ap}
 use Rattle.type_rules.specs.Checked.{Checked, Answers, then}
 use Rattle.type_rules.specs.declared.fault.TypeFault.{TypeFault}
 use Rattle.type_rules.specs.declared.fault.TypeFault.TheVariants.{Rule, Memory}
