@@ -1,5 +1,5 @@
 -- A line of four places, of which two hold a cell.
-use Rattle.std.specs.Prelude.{ℕ, pos, Bool, true, false, List, [], ◌∷◌, codes}
+use Rattle.std.specs.Prelude.{pos, Bool, true, false, List, [], ◌∷◌, codes}
 use Rattle.cell_values.specs.declared.datum.Cell.TheVariants.{Full}
 use Rattle.cell_values.specs.declared.datum.Datum.TheVariants.{Int}
 use Rattle.cell_values.specs.declared.datum.Row.{Row}
