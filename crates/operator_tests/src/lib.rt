@@ -1,7 +1,9 @@
-//! Aggregates and joins of a few cells.
+//! Aggregates, joins and other chunks of a few cells.
 #![tactic(auto)]
 
 #[cfg(test)]
 mod joins;
+#[cfg(test)]
+mod lines;
 #[cfg(test)]
 mod states;

@@ -1,4 +1,4 @@
-use Rattle.std.proofs.Common.{◌≡◌, List, Ok, sym, ap, ◌∙◌, subst}
+use Rattle.std.proofs.Common.{List, Ok, sym, ap, ◌∙◌, subst}
 use Rattle.cell_values.specs.declared.datum.Row.{Row}
 use Rattle.array_rows.specs.Arrays.{AreRowsOf, Meant}
 use Rattle.array_geom.specs.Link.{Is}
