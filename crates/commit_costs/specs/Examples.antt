@@ -23,19 +23,19 @@ schema overlap = record {
   dimensions = record { name = codes "i"; lo = pos 0; hi = pos 3; chunk = 2; overlap = overlap } ∷ [];
 }
 
-abbrev pub row : ℕ → Row
-row i = placed (pos i ∷ []) (Full (Int (pos 7) ∷ []))
+abbrev pub cell_at : ℕ → Row
+cell_at i = placed (pos i ∷ []) (Full (Int (pos 7) ∷ []))
 
 abbrev pub rows_at : ℕ → List Row → Query
 rows_at overlap rows = listed (schema overlap) rows
 
 -- the same number at each place, stored as A
 abbrev pub store : ℕ → Change
-store overlap = Store (codes "A") (schema overlap) (rows_at overlap (row 0 ∷ row 1 ∷ row 2 ∷ row 3 ∷ []))
+store overlap = Store (codes "A") (schema overlap) (rows_at overlap (cell_at 0 ∷ cell_at 1 ∷ cell_at 2 ∷ cell_at 3 ∷ []))
 
 -- one cell, put into A
 abbrev pub insert_at : ℕ → ℕ → Change
-insert_at overlap i = Insert (codes "A") (schema overlap) (rows_at overlap (row i ∷ []))
+insert_at overlap i = Insert (codes "A") (schema overlap) (rows_at overlap (cell_at i ∷ []))
 
 abbrev pub stored : ℕ → Database
 stored overlap = after [] (store overlap)
