@@ -43,7 +43,7 @@ fn tell_tree(rt: &(impl Print + AllocGlobal), text: &[u8], tree: &Tree, names: &
     requires { AreValid names.now.arrays }
 {
     match check(rt.alloc(), tree, text, names) {
-        Ok(typed) => tell_typed(rt, &typed),
+        Ok(typed) => tell_typed(rt, typed),
         Err(TypeFault::Rule { span, kind }) => tell_fault(rt, span, kind),
         Err(TypeFault::Memory) => tell_word(rt, "no memory"),
     }

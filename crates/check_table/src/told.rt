@@ -68,13 +68,13 @@ fn tell_create(rt: &(impl Print + AllocGlobal), name: &Name, schema: &Schema) ->
     Ok(())
 }
 
-fn tell_change(rt: &(impl Print + AllocGlobal), change: &Change) -> Result<()> {
+fn tell_change(rt: &(impl Print + AllocGlobal), change: Change) -> Result<()> {
     match change {
-        Change::Create { name, schema } => tell_create(rt, name, schema),
-        Change::Store { name, schema, plan } => tell_version(rt, "store", name, schema, plan),
-        Change::Insert { name, schema, plan } => tell_version(rt, "insert", name, schema, plan),
-        Change::Remove { name } => tell_name(rt, "remove", name),
-        Change::RemoveVersions { name, below } => tell_below(rt, name, *below),
+        Change::Create { name, schema } => tell_create(rt, &name, &schema),
+        Change::Store { name, schema, plan } => tell_version(rt, "store", &name, &schema, &plan),
+        Change::Insert { name, schema, plan } => tell_version(rt, "insert", &name, &schema, &plan),
+        Change::Remove { name } => tell_name(rt, "remove", &name),
+        Change::RemoveVersions { name, below } => tell_below(rt, &name, below),
     }
 }
 
@@ -94,12 +94,12 @@ fn tell_list(rt: &impl Print) -> Result<()> {
 }
 
 /// Prints what a statement is.
-pub(crate) fn tell_typed(rt: &(impl Print + AllocGlobal), typed: &Typed) -> Result<()> {
+pub(crate) fn tell_typed(rt: &(impl Print + AllocGlobal), typed: Typed) -> Result<()> {
     match typed {
-        Typed::Query(plan) => tell_plan(rt, plan),
+        Typed::Query(plan) => tell_plan(rt, &plan),
         Typed::Change(change) => tell_change(rt, change),
-        Typed::Versions(name) => tell_name(rt, "versions", name),
-        Typed::Show(name) => tell_name(rt, "show", name),
+        Typed::Versions(name) => tell_name(rt, "versions", &name),
+        Typed::Show(name) => tell_name(rt, "show", &name),
         Typed::ListArrays => tell_list(rt),
     }
 }
