@@ -25,7 +25,7 @@ fn cell(alloc: Global, held: Held) -> Result<Cell, Memory> {
     }
 }
 
-fn pair(alloc: Global, left: i64, right: i64) -> Result<Cell, Memory> {
+pub(crate) fn pair(alloc: Global, left: i64, right: i64) -> Result<Cell, Memory> {
     let mut values = List::new(alloc);
     values.push(Datum::Int(left))?;
     values.push(Datum::Int(right))?;

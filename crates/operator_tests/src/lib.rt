@@ -7,3 +7,5 @@ mod joins;
 mod lines;
 #[cfg(test)]
 mod states;
+#[cfg(test)]
+mod windows;
