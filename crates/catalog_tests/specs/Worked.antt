@@ -1,5 +1,5 @@
 -- A catalogue, and changes that its names allow.
-use Rattle.std.specs.Prelude.{ℕ, pos, true, List, [], ◌∷◌}
+use Rattle.std.specs.Prelude.{ℕ, pos, true, [], ◌∷◌}
 use Rattle.cell_values.specs.declared.schema.Kind.TheVariants.{Int64}
 use Rattle.cell_values.specs.declared.schema.Schema.{Schema}
 use Rattle.logical_plan.specs.Query.{listed}

@@ -53,7 +53,8 @@ fn writes(catalog: &Catalog, change: &Change, record: &[u8], after: &[u8]) -> Re
     Ok(entry.as_slice() == record && bytes.as_slice() == after)
 }
 
-/// The change goes here and nowhere else.
+/// The same, and the change goes: by `drop`, whose proof is one for all, and not at the end of a scope, where it would be
+/// proved in each.
 fn is_made(catalog: &Catalog, change: Change, record: &[u8], after: &[u8]) -> Result<bool, Memory>
     requires names { IsTrue (names_allow (names_in catalog.now) change) }
     requires directory { IsTrue (has_its_directory change None) }

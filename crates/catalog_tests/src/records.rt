@@ -117,9 +117,13 @@ fn record(alloc: Global, kind: u8, letter: u8, number: u8) -> Result<CatalogReco
     decode_record(alloc, bytes.as_slice()).or(Err(Memory))
 }
 
-fn is_spelled_again(alloc: Global, kind: u8) -> Result<bool, Memory> {
+fn spelled_again(alloc: Global, kind: u8) -> Result<Bytes, Memory> {
     let entry = record(alloc, kind, 66, 2)?;
-    let again = encode_record(alloc, &entry)?;
+    encode_record(alloc, &entry)
+}
+
+fn is_spelled_again(alloc: Global, kind: u8) -> Result<bool, Memory> {
+    let again = spelled_again(alloc, kind)?;
     let bytes = record_bytes(alloc, kind, 66, 2)?;
     Ok(again.as_slice() == bytes.as_slice())
 }
@@ -191,15 +195,19 @@ fn many(array: &CatalogArray, count: u32) -> Result<Catalog, Memory> {
     Ok(Catalog { arrays })
 }
 
+/// Whether so many such arrays allow a record of this kind for B.
+fn is_allowed_beside(array: &CatalogArray, count: u32, kind: u8) -> Result<bool, Memory> {
+    let catalog = many(array, count)?;
+    is_allowed(&catalog, kind, 66, 0)
+}
+
 #[test]
 fn no_array_is_made_beside_1024(rt: HostRuntime) -> Result<(), Memory> {
     let one = catalog(rt.alloc(), &ONE)?;
     if let [array] = one.arrays.as_slice() {
-        let most = many(array, 1024)?;
-        assert!(rt; !is_allowed(&most, CREATE, 66, 0)?);
-        assert!(rt; !is_allowed(&most, FIRST, 66, 0)?);
-        let fewer = many(array, 1023)?;
-        assert!(rt; is_allowed(&fewer, FIRST, 66, 0)?);
+        assert!(rt; !is_allowed_beside(array, 1024, CREATE)?);
+        assert!(rt; !is_allowed_beside(array, 1024, FIRST)?);
+        assert!(rt; is_allowed_beside(array, 1023, FIRST)?);
     }
     Ok(())
 }
