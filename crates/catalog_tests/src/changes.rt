@@ -20,7 +20,9 @@ fn recorded(catalog: &Catalog, change: &Change, directory: Option<BlobAt>) -> Re
     requires directory { IsTrue (has_its_directory change.now directory) }
 {
     let entry = record_of(catalog, change, directory)?;
-    encode_record(catalog.arrays.allocator(), &entry)
+    let bytes = encode_record(catalog.arrays.allocator(), &entry);
+    drop(entry);
+    bytes
 }
 
 /// The bytes of the catalogue after a change.

@@ -28,9 +28,10 @@ fn one(alloc: Global) -> Result<Directory, Memory>
     Ok(Directory { entries })
 }
 
-fn written(alloc: Global) -> Result<Bytes, Memory> {
+fn is_written(alloc: Global) -> Result<bool, Memory> {
     let directory = one(alloc)?;
-    encode_directory(alloc, &directory, 1)
+    let bytes = encode_directory(alloc, &directory, 1)?;
+    Ok(bytes.as_slice() == ONE.as_slice())
 }
 
 /// The bytes of what some bytes of entries for chunks of so many dimensions are read as.
@@ -42,11 +43,19 @@ fn written_again(alloc: Global, dims: u32, bytes: &[u8]) -> Result<Bytes, Memory
     encode_directory(alloc, &directory, dims)
 }
 
+fn is_written_again(alloc: Global, dims: u32, bytes: &[u8]) -> Result<bool, Memory>
+    requires some { 1 ≤ dims }
+    requires few { dims ≤ 6 }
+{
+    let again = written_again(alloc, dims, bytes)?;
+    Ok(again.as_slice() == bytes)
+}
+
 #[test]
 fn a_directory_has_one_spelling(rt: HostRuntime) -> Result<(), Memory> {
-    assert!(rt; written(rt.alloc())?.as_slice() == ONE.as_slice());
-    assert!(rt; written_again(rt.alloc(), 1, &ONE)?.as_slice() == ONE.as_slice());
-    assert!(rt; written_again(rt.alloc(), 2, &TWO)?.as_slice() == TWO.as_slice());
+    assert!(rt; is_written(rt.alloc())?);
+    assert!(rt; is_written_again(rt.alloc(), 1, &ONE)?);
+    assert!(rt; is_written_again(rt.alloc(), 2, &TWO)?);
     Ok(())
 }
 
@@ -157,20 +166,21 @@ fn pages_of(directory: &Directory) -> Result<List<u32>, Memory> {
     Ok(pages)
 }
 
-/// The pages of the directory in which these entries stand in place of those of their chunks.
-fn pages_after(old: &Directory, fresh: &[DirEntry]) -> Result<List<u32>, Memory>
+/// Whether these are the pages of the directory in which some entries stand in place of those of their chunks.
+fn are_pages_after(old: &Directory, fresh: &[DirEntry], pages: &[u32]) -> Result<bool, Memory>
     requires old { AreRising old.now.entries }
     requires fresh { AreRising fresh.now }
 {
     let new = replaced(old, fresh)?;
-    pages_of(&new)
+    let told = pages_of(&new)?;
+    Ok(told.as_slice() == pages)
 }
 
 #[test]
 fn fresh_entries_stand_in_place_of_the_old_ones(rt: HostRuntime) -> Result<(), Memory> {
     let old = three(rt.alloc(), [7, 9, 11])?;
     let fresh = two(rt.alloc(), [20, 21])?;
-    assert!(rt; pages_after(&old, fresh.as_slice())?.as_slice() == [7, 20, 21, 11].as_slice());
-    assert!(rt; pages_after(&old, &[])?.as_slice() == [7, 9, 11].as_slice());
+    assert!(rt; are_pages_after(&old, fresh.as_slice(), &[7, 20, 21, 11])?);
+    assert!(rt; are_pages_after(&old, &[], &[7, 9, 11])?);
     Ok(())
 }
