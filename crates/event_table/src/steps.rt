@@ -5,8 +5,8 @@ ghost use Rattle.event_core.specs.Allowed.{IsBase, is_allowed};
 ghost use Rattle.event_core.specs.Replay.{core_allows};
 ghost use Rattle.event_core.specs.Worked.{worked_base};
 
-use crate::tell::{tell_core, tell_names, tell_numbers};
 use crate::entries::{entries, first_entries};
+use crate::tell::{tell_core, tell_names, tell_numbers};
 use anyhow::Result;
 use event_core::{Core, Entry, Used, fresh_pages, run_events, step};
 use plan_changes::{Change, changed_names};

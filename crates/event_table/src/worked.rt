@@ -38,10 +38,7 @@ pub fn start(alloc: Global) -> Result<Core, Memory>
     ensures { IfOk result (λ base. base ≡ worked_base) }
 {
     let catalogue = List::from_slice(alloc, &[1])?;
-    let free = List::from_slice(
-        alloc,
-        &[2, 3, 4, 5, 6, 7, 8, 9, 10, 11, 12, 13, 14, 15],
-    )?;
+    let free = List::from_slice(alloc, &[2, 3, 4, 5, 6, 7, 8, 9, 10, 11, 12, 13, 14, 15])?;
     Ok(Core {
         names: Names {
             arrays: List::new(alloc),
