@@ -48,7 +48,7 @@ fn up_to_pins(alloc: Global) -> Result<List<Entry>, Memory>
 }
 
 /// The first seven: session 0 removes the array, and a reap.
-pub fn first_entries(alloc: Global) -> Result<List<Entry>, Memory>
+pub(crate) fn first_entries(alloc: Global) -> Result<List<Entry>, Memory>
     ensures { IfOk result (λ entries. reverse entries ≡ worked) }
 {
     let entries = up_to_pins(alloc)?;
@@ -57,7 +57,7 @@ pub fn first_entries(alloc: Global) -> Result<List<Entry>, Memory>
 }
 
 /// All ten: both sessions unpin, and a second reap.
-pub fn entries(alloc: Global) -> Result<List<Entry>, Memory>
+pub(crate) fn entries(alloc: Global) -> Result<List<Entry>, Memory>
     ensures { IfOk result (λ entries. reverse entries ≡ worked_on) }
 {
     let entries = first_entries(alloc)?;

@@ -51,7 +51,7 @@ fn tell_steps(rt: &impl Print, base: &Core, entries: &[Entry]) -> Result<()>
 }
 
 /// Prints the worked entries over their base.
-pub fn tell_worked(rt: &impl Print, base: &Core) -> Result<()>
+pub(crate) fn tell_worked(rt: &impl Print, base: &Core) -> Result<()>
     requires { base.now ≡ worked_base }
 {
     let entries = entries(base.free.allocator())?;
@@ -59,7 +59,7 @@ pub fn tell_worked(rt: &impl Print, base: &Core) -> Result<()>
 }
 
 /// Prints what the first seven of them make of the base at once.
-pub fn tell_first(rt: &impl Print, base: &Core) -> Result<()>
+pub(crate) fn tell_first(rt: &impl Print, base: &Core) -> Result<()>
     requires { base.now ≡ worked_base }
 {
     let entries = first_entries(base.free.allocator())?;

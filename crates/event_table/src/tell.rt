@@ -7,7 +7,7 @@ use logical_plan::{NameEntry, Names};
 use std::str::from_utf8;
 use version_reaper::live;
 
-pub fn tell_numbers(rt: &impl Print, title: &str, numbers: &List<u32>) -> Result<()> {
+pub(crate) fn tell_numbers(rt: &impl Print, title: &str, numbers: &List<u32>) -> Result<()> {
     print!(rt; "{title}:")?;
     for number in numbers {
         print!(rt; " {number}")?;
@@ -22,7 +22,7 @@ fn tell_array(rt: &impl Print, array: &NameEntry) -> Result<()> {
     tell_numbers(rt, "versions", &array.versions)
 }
 
-pub fn tell_names(rt: &impl Print, names: &Names) -> Result<()> {
+pub(crate) fn tell_names(rt: &impl Print, names: &Names) -> Result<()> {
     for array in &names.arrays {
         tell_array(rt, array)?;
     }
@@ -90,7 +90,7 @@ fn tell_live(rt: &impl Print, core: &Core) -> Result<()> {
     Ok(())
 }
 
-pub fn tell_core(rt: &impl Print, core: &Core) -> Result<()> {
+pub(crate) fn tell_core(rt: &impl Print, core: &Core) -> Result<()> {
     println!(rt; "entries {}, limit {}", core.entries, core.limit)?;
     tell_names(rt, &core.names)?;
     tell_versions(rt, &core.pages)?;

@@ -15,7 +15,7 @@ use plan_changes::Change;
 use std::alloc::Global;
 
 /// Some items, and one behind them.
-pub fn one_more<T: Drop>(items: List<T>, item: T) -> Result<List<T>, Memory>
+pub(crate) fn one_more<T: Drop>(items: List<T>, item: T) -> Result<List<T>, Memory>
     ensures { IfOk result (λ more. more ≡ items ++ item ∷ []) }
 {
     let mut more = items;
@@ -34,7 +34,7 @@ fn name(alloc: Global, bytes: &[u8]) -> Result<Name, Memory>
 }
 
 /// No arrays, 16 pages, page 1 as the catalogue.
-pub fn start(alloc: Global) -> Result<Core, Memory>
+pub(crate) fn start(alloc: Global) -> Result<Core, Memory>
     ensures { IfOk result (λ base. base ≡ worked_base) }
 {
     let catalogue = List::from_slice(alloc, &[1])?;
@@ -110,7 +110,7 @@ fn commit_of_sevens(name: Name, schema: Schema, places: Schema, used: Used) -> E
 }
 
 /// Session 0 stores A on pages 2 and 3.
-pub fn stored(alloc: Global) -> Result<Entry, Memory>
+pub(crate) fn stored(alloc: Global) -> Result<Entry, Memory>
     ensures { IfOk result (λ entry. entry ≡ Commit 0 worked_store (record { version = 2 ∷ 3 ∷ []; catalogue = 4 ∷ [] })) }
 {
     let name = name(alloc, b"A")?;
@@ -120,7 +120,7 @@ pub fn stored(alloc: Global) -> Result<Entry, Memory>
 }
 
 /// Session 0 removes A.
-pub fn removed(alloc: Global) -> Result<Entry, Memory>
+pub(crate) fn removed(alloc: Global) -> Result<Entry, Memory>
     ensures { IfOk result (λ entry. entry ≡ Commit 0 (Remove (codes "A")) (record { version = []; catalogue = 5 ∷ [] })) }
 {
     let name = name(alloc, b"A")?;
