@@ -1,0 +1,49 @@
+-- When numbers of cells fit.
+use Rattle.std.specs.Prelude.{◌<◌, Bool, true, false, ◌&&◌, List, [], ◌∷◌, length, Result, IfOk}
+use Rattle.cell_values.specs.declared.datum.Broken.{Broken}
+use Rattle.cell_values.specs.declared.datum.Row.{Row}
+use Rattle.logical_plan.specs.declared.parts.Aggregate.{Aggregate}
+use Rattle.logical_plan.specs.Meaning.{Database, meaning}
+use Rattle.logical_plan.specs.Query.{Query, built, listed, scanned, filtered, applied, projected, between, subarray, sliced, joined, crossed, redimensioned, regridded, windowed, aggregated}
+
+-- an array that is aggregated has fewer than 2^63 cells, so that a number of them is one of 64 bits
+abbrev pub CanCount : List Aggregate → Result (List Row) Broken → Type 0
+CanCount [] rows = Unit {0}
+CanCount (g ∷ gs) rows = IfOk rows (λ all. length all < 9223372036854775808)
+
+-- so has each array that a plan aggregates
+abbrev pub CountsFit : Database → Query → Type 0
+CountsFit db (built schema e) = Unit {0}
+CountsFit db (listed schema rows) = Unit {0}
+CountsFit db (scanned leaf) = Unit {0}
+CountsFit db (filtered source test) = CountsFit db source
+CountsFit db (applied source values) = CountsFit db source
+CountsFit db (projected source places) = CountsFit db source
+CountsFit db (between source area) = CountsFit db source
+CountsFit db (subarray source area) = CountsFit db source
+CountsFit db (sliced source fixed) = CountsFit db source
+CountsFit db (joined left right schema) = CountsFit db left × CountsFit db right
+CountsFit db (crossed left right pairs schema) = CountsFit db left × CountsFit db right
+CountsFit db (redimensioned source schema gs) = CountsFit db source × CanCount gs (meaning db source).rows
+CountsFit db (regridded source sizes gs) = CountsFit db source × CanCount gs (meaning db source).rows
+CountsFit db (windowed source reach gs) = CountsFit db source × CanCount gs (meaning db source).rows
+CountsFit db (aggregated source gs places) = CountsFit db source × CanCount gs (meaning db source).rows
+
+-- a plan without aggregates: blocks, windows and groups have some, and a redimension may have some
+abbrev pub aggregates_nothing : Query → Bool
+aggregates_nothing (built schema e) = true
+aggregates_nothing (listed schema rows) = true
+aggregates_nothing (scanned leaf) = true
+aggregates_nothing (filtered source test) = aggregates_nothing source
+aggregates_nothing (applied source values) = aggregates_nothing source
+aggregates_nothing (projected source places) = aggregates_nothing source
+aggregates_nothing (between source area) = aggregates_nothing source
+aggregates_nothing (subarray source area) = aggregates_nothing source
+aggregates_nothing (sliced source fixed) = aggregates_nothing source
+aggregates_nothing (joined left right schema) = aggregates_nothing left && aggregates_nothing right
+aggregates_nothing (crossed left right pairs schema) = aggregates_nothing left && aggregates_nothing right
+aggregates_nothing (redimensioned source schema []) = aggregates_nothing source
+aggregates_nothing (redimensioned source schema (g ∷ gs)) = false
+aggregates_nothing (regridded source sizes gs) = false
+aggregates_nothing (windowed source reach gs) = false
+aggregates_nothing (aggregated source gs places) = false
