@@ -1,4 +1,4 @@
-ghost use Rattle.std.specs.Prelude.{◌≡◌, [], ◌∷◌, IfOk};
+ghost use Rattle.std.specs.Prelude.{◌≡◌, ◌≤◌, [], ◌∷◌, IfOk};
 ghost use Rattle.chunk_map.specs.Entries.{AreRising};
 
 use cell_values::{Bytes, ChunkAt, List, Memory};
@@ -28,29 +28,42 @@ fn one(alloc: Global) -> Result<Directory, Memory>
     Ok(Directory { entries })
 }
 
-#[test]
-fn a_directory_has_one_spelling(rt: HostRuntime) -> Result<(), Fail> {
-    let bytes = encode_directory(rt.alloc(), &one(rt.alloc())?, 1)?;
-    assert!(rt; bytes.as_slice() == ONE.as_slice());
-    match decode_directory(rt.alloc(), 1, &ONE) {
-        Ok(directory) => {
-            assert_eq!(rt; directory.entries.len(), 1);
-            let again = encode_directory(rt.alloc(), &directory, 1)?;
-            assert!(rt; again.as_slice() == ONE.as_slice());
-        }
-        Err(_) => assert!(rt; false),
-    }
-    Ok(())
+fn written(alloc: Global) -> Result<Bytes, Memory> {
+    let directory = one(alloc)?;
+    encode_directory(alloc, &directory, 1)
+}
+
+/// The bytes of what some bytes of entries for chunks of so many dimensions are read as.
+fn written_again(alloc: Global, dims: u32, bytes: &[u8]) -> Result<Bytes, Memory>
+    requires some { 1 ≤ dims }
+    requires few { dims ≤ 6 }
+{
+    let directory = decode_directory(alloc, dims, bytes).or(Err(Memory))?;
+    encode_directory(alloc, &directory, dims)
 }
 
 #[test]
-fn a_page_that_is_cut_is_told_at_its_first_byte(rt: HostRuntime) -> Result<(), Fail> {
-    let (front, _) = ONE.as_slice().split_at(43);
-    match decode_directory(rt.alloc(), 1, front) {
-        Err(BadDirectory::At { at }) => assert_eq!(rt; at, 40),
-        _ => assert!(rt; false),
-    }
+fn a_directory_has_one_spelling(rt: HostRuntime) -> Result<(), Memory> {
+    assert!(rt; written(rt.alloc())?.as_slice() == ONE.as_slice());
+    assert!(rt; written_again(rt.alloc(), 1, &ONE)?.as_slice() == ONE.as_slice());
+    assert!(rt; written_again(rt.alloc(), 2, &TWO)?.as_slice() == TWO.as_slice());
     Ok(())
+}
+
+fn wrong_in(alloc: Global, dims: u32, bytes: &[u8]) -> Option<u64>
+    requires some { 1 ≤ dims }
+    requires few { dims ≤ 6 }
+{
+    match decode_directory(alloc, dims, bytes) {
+        Err(BadDirectory::At { at }) => Some(at),
+        _ => None,
+    }
+}
+
+#[test]
+fn a_page_that_is_cut_is_told_at_its_first_byte(rt: HostRuntime) {
+    let (front, _) = ONE.as_slice().split_at(43);
+    assert!(rt; wrong_in(rt.alloc(), 1, front) == Some(40));
 }
 
 /// Chunks (1, 4) and (2, 4), whose payloads of 44 and of 8 bytes the commits 2 and 1 wrote into the pages 7 and 9.
@@ -85,10 +98,7 @@ fn wrong_item(alloc: Global, place: usize, byte: u8) -> Result<Option<u64>, Memo
     if place < bytes.len() {
         bytes.set(place, byte);
     }
-    match decode_directory(alloc, 2, bytes.as_slice()) {
-        Err(BadDirectory::At { at }) => Ok(Some(at)),
-        _ => Ok(None),
-    }
+    Ok(wrong_in(alloc, 2, bytes.as_slice()))
 }
 
 #[test]
@@ -100,11 +110,67 @@ fn the_first_wrong_item_of_a_directory_is_told(rt: HostRuntime) -> Result<(), Me
     Ok(())
 }
 
+/// The entry of chunk (k, 4) with 8 bytes in a page.
+fn entry(alloc: Global, k: u64, page: u32) -> Result<DirEntry, Memory>
+    ensures { IfOk result (λ entry. entry.at.items ≡ k ∷ 4 ∷ []) }
+{
+    let mut at = ChunkAt::new();
+    at.push(k);
+    at.push(4);
+    Ok(DirEntry {
+        at,
+        length: 8,
+        birth: 3,
+        pages: List::from_slice(alloc, &[page])?,
+    })
+}
+
+/// Chunks (1, 4), (3, 4) and (5, 4) in these pages.
+fn three(alloc: Global, pages: [u32; 3]) -> Result<Directory, Memory>
+    ensures { IfOk result (λ directory. AreRising directory.entries) }
+{
+    let [first, second, third] = pages;
+    let mut entries = List::new(alloc);
+    entries.push(entry(alloc, 1, first)?)?;
+    entries.push(entry(alloc, 3, second)?)?;
+    entries.push(entry(alloc, 5, third)?)?;
+    Ok(Directory { entries })
+}
+
+/// Chunks (3, 4) and (4, 4) in these pages.
+fn two(alloc: Global, pages: [u32; 2]) -> Result<List<DirEntry>, Memory>
+    ensures { IfOk result (λ entries. AreRising entries) }
+{
+    let [first, second] = pages;
+    let mut entries = List::new(alloc);
+    entries.push(entry(alloc, 3, first)?)?;
+    entries.push(entry(alloc, 4, second)?)?;
+    Ok(entries)
+}
+
+/// The pages of all entries.
+fn pages_of(directory: &Directory) -> Result<List<u32>, Memory> {
+    let mut pages = directory.entries.another();
+    for entry in directory.entries.as_slice() {
+        pages.extend(entry.pages.as_slice())?;
+    }
+    Ok(pages)
+}
+
+/// The pages of the directory in which these entries stand in place of those of their chunks.
+fn pages_after(old: &Directory, fresh: &[DirEntry]) -> Result<List<u32>, Memory>
+    requires old { AreRising old.now.entries }
+    requires fresh { AreRising fresh.now }
+{
+    let new = replaced(old, fresh)?;
+    pages_of(&new)
+}
+
 #[test]
-fn a_fresh_entry_stands_in_place_of_the_old_one(rt: HostRuntime) -> Result<(), Fail> {
-    let old = one(rt.alloc())?;
-    let fresh = one(rt.alloc())?;
-    let new = replaced(&old, fresh.entries.as_slice())?;
-    assert_eq!(rt; new.entries.len(), 1);
+fn fresh_entries_stand_in_place_of_the_old_ones(rt: HostRuntime) -> Result<(), Memory> {
+    let old = three(rt.alloc(), [7, 9, 11])?;
+    let fresh = two(rt.alloc(), [20, 21])?;
+    assert!(rt; pages_after(&old, fresh.as_slice())?.as_slice() == [7, 20, 21, 11].as_slice());
+    assert!(rt; pages_after(&old, &[])?.as_slice() == [7, 9, 11].as_slice());
     Ok(())
 }

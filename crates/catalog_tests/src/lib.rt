@@ -7,3 +7,9 @@ mod catalogues;
 mod changes;
 #[cfg(test)]
 mod directories;
+#[cfg(test)]
+mod records;
+#[cfg(test)]
+mod vectors;
+#[cfg(test)]
+mod worked;
