@@ -1,0 +1,3 @@
+pub mod Legal
+pub mod Logs
+pub mod Worked

@@ -1,0 +1,70 @@
+-- Worked costs of commits: an array of four places in chunks of two.
+use Rattle.std.specs.Prelude.{◌≡◌, ◌+◌, ◌%◌, ◌≤◌, ℕ, pos, true, List, [], ◌∷◌, codes, Some, None}
+use Rattle.cell_values.specs.declared.datum.Row.{Row}
+use Rattle.cell_values.specs.declared.datum.Cell.TheVariants.{Full}
+use Rattle.cell_values.specs.declared.datum.Datum.TheVariants.{Int}
+use Rattle.cell_values.specs.declared.schema.Kind.TheVariants.{Int64}
+use Rattle.cell_values.specs.declared.schema.Schema.{Schema}
+use Rattle.array_rows.specs.Rows.{placed}
+use Rattle.logical_plan.specs.Query.{Query, listed}
+use Rattle.plan_changes.specs.declared.change.Change.{Change}
+use Rattle.plan_changes.specs.declared.change.Change.TheVariants.{Create, Store, Insert, Remove, RemoveVersions}
+use Rattle.plan_changes.specs.Databases.{Database, after}
+use Rattle.event_core.specs.declared.entry.Entry.TheVariants.{Pin, Unpin, Commit, Reap}
+use Rattle.event_core.specs.History.{History}
+use Rattle.event_core.specs.Legal.{IsLegal}
+use Rattle.event_core.specs.Worked.{worked_base, worked_on}
+use Rattle.commit_costs.specs.Costs.{cost_from, records_at}
+
+-- <v:int64>[i=0:3,2,overlap]
+abbrev pub schema : ℕ → Schema
+schema overlap = record {
+  attributes = record { name = codes "v"; kind = Int64; nullable = true } ∷ [];
+  dimensions = record { name = codes "i"; lo = pos 0; hi = pos 3; chunk = 2; overlap = overlap } ∷ [];
+}
+
+abbrev pub row : ℕ → Row
+row i = placed (pos i ∷ []) (Full (Int (pos 7) ∷ []))
+
+abbrev pub rows_at : ℕ → List Row → Query
+rows_at overlap rows = listed (schema overlap) rows
+
+-- the same number at each place, stored as A
+abbrev pub store : ℕ → Change
+store overlap = Store (codes "A") (schema overlap) (rows_at overlap (row 0 ∷ row 1 ∷ row 2 ∷ row 3 ∷ []))
+
+-- one cell, put into A
+abbrev pub insert_at : ℕ → ℕ → Change
+insert_at overlap i = Insert (codes "A") (schema overlap) (rows_at overlap (row i ∷ []))
+
+abbrev pub stored : ℕ → Database
+stored overlap = after [] (store overlap)
+
+-- A store writes both chunks, the directory and the record; with a full log, or without one, the catalogue and the log page in
+-- the record's place. An insert writes the chunks that have its cell in their frame. Other changes write no version.
+pub record CommitsCostTheirPages : Type 0 where
+  pub stored_first : cost_from (Some 0) [] [] (store 0) ≡ 4
+  pub log_full : cost_from (Some 64) [] [] (store 0) ≡ 5
+  pub no_log : cost_from None [] [] (store 0) ≡ 5
+  pub inserted : cost_from (Some 63) (stored 0) [] (insert_at 0 2) ≡ 3
+  pub beside : cost_from (Some 63) (stored 1) [] (insert_at 1 2) ≡ 4
+  pub made : cost_from (Some 0) [] [] (Create (codes "A") (schema 0)) ≡ 1
+  pub removed : cost_from (Some 64) (stored 0) [] (Remove (codes "A")) ≡ 2
+  pub cut : cost_from (Some 0) (stored 0) [] (RemoveVersions (codes "A") 1) ≡ 1
+
+-- the worked list of entries is legal at the costs of a file whose log has no record: its store takes a payload, a directory and
+-- a record, its removal a record
+abbrev pub WorkedIsLegal : Type 0
+WorkedIsLegal = IsLegal (cost_from (Some 0)) [] worked_base worked_on
+
+-- how many commits a history has
+abbrev pub commits : History → ℕ
+commits [] = 0
+commits (Commit session change used ∷ before) = commits before + 1
+commits (Pin session ∷ before) = commits before
+commits (Unpin session ∷ before) = commits before
+commits (Reap ∷ before) = commits before
+
+-- each 65th commit begins a new log
+abbrev pub LogsComeRound : Type 0
+LogsComeRound = (records : ℕ) (h : History) → records ≤ 64 → records_at (Some records) h ≡ Some ((records + commits h) % 65)

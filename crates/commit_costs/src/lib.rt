@@ -1,0 +1,6 @@
+//! How many pages a commit takes.
+#![tactic(auto)]
+
+mod laws;
+
+pub use laws::{a_history_is_legal_at_its_costs, commits_cost_their_pages, logs_come_round};
