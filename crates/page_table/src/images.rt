@@ -154,7 +154,7 @@ fn add_images(
 }
 
 /// What the images open as that a stop behind so many calls of the disk may leave: with every write kept, with none, and with each one
-/// alone left out, filled with 0, 1 or 255.
+/// alone left out, filled with 0, 1, 2 or 255.
 pub(crate) fn seen_behind(
     alloc: Global,
     disk: &MemDisk,
@@ -162,7 +162,7 @@ pub(crate) fn seen_behind(
     before: u64,
 ) -> Result<Seen, Memory> {
     let mut seen = Seen::nothing();
-    for fill in [0u8, 1, 255] {
+    for fill in [0u8, 1, 2, 255] {
         add_images(alloc, disk, calls, before, fill, &mut seen)?;
     }
     Ok(seen)
