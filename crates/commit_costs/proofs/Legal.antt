@@ -1,5 +1,5 @@
 -- The worked list of entries, at the costs of the file.
-use Rattle.std.proofs.Common.{◌≡◌, [], ◌∷◌, Some, refl, arith}
+use Rattle.std.proofs.Common.{[], ◌∷◌, Some, refl, arith}
 use Rattle.chunk_rle.specs.Chunks.{spelling as payload_spelling}
 use Rattle.chunk_rle.specs.Spelling.{spell_runs, spell_value}
 use Rattle.chunk_rle.specs.Table.{is_same}

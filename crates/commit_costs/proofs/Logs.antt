@@ -1,10 +1,9 @@
 -- Logs of at most 64 records.
-use Rattle.std.proofs.Common.{◌≡◌, ◌∙◌, ◌⊎◌, ◌+◌, ◌%◌, ◌≤◌, ◌<◌, ℕ, Bool, true, false, [], ◌∷◌, Some, inl, inr, refl, ap, sym, arith, add_assoc}
+use Rattle.std.proofs.Common.{◌≡◌, ◌∙◌, ◌⊎◌, ◌+◌, ◌%◌, ℕ, Bool, true, false, [], ◌∷◌, Some, inl, inr, ap, arith}
 use Rattle.std.specs.Prelude.{◌==◌, ◌≢◌, if◌then◌else◌, Option}
 use Rattle.std.proofs.lemmas.Bool.Decides.{eqb_tells}
 use Rattle.event_core.specs.declared.entry.Entry.TheVariants.{Pin, Unpin, Commit, Reap}
-use Rattle.event_core.specs.History.{History}
-use Rattle.commit_costs.specs.Costs.{next_records, records_at}
+use Rattle.commit_costs.specs.Costs.{next_records}
 use Rattle.commit_costs.specs.Examples.{LogsComeRound, commits}
 
 -- a new log, or one more record

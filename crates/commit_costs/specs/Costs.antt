@@ -17,7 +17,7 @@ use Rattle.page_chain.specs.Chains.{content_size}
 use Rattle.page_chain.specs.Pages.{page_size, pages_for}
 use Rattle.plan_changes.specs.declared.change.Change.{Change}
 use Rattle.plan_changes.specs.declared.change.Change.TheVariants.{Create, Store, Insert, Remove, RemoveVersions}
-use Rattle.plan_changes.specs.Databases.{Database, Stored, after, entry_of, fitted, new_rows, rows_if_whole}
+use Rattle.plan_changes.specs.Databases.{Database, after, entry_of, fitted, new_rows, rows_if_whole}
 use Rattle.catalog_rules.specs.declared.catalog.BlobAt.{BlobAt}
 use Rattle.catalog_rules.specs.declared.catalog.Catalog.{Catalog}
 use Rattle.catalog_rules.specs.declared.catalog_record.CatalogRecord.{CatalogRecord}
