@@ -24,7 +24,6 @@ pub elapses_push : (first : List ℕ) (calls : List DeviceCall) (call : DeviceCa
 elapses_push first calls call = record {
   later = omega (arith, length-append calls (call ∷ []));
   nothing_else = λ t c le left. split t c left (le_or_more left.0 (length calls));
-  keeps = λ t c le left. (left.0, left.1, omega (arith, left.2, length-append calls (call ∷ [])), subst (λ (l : List DeviceCall). Leaves first l c) (sym (take-push left.0 calls call left.2)) left.3);
 }
   where
     le_or_more : (a b : ℕ) → (a ≤ b) ⊎ (b < a)
@@ -35,7 +34,7 @@ elapses_push first calls call = record {
     split t c left (inr now) = inr (subst (λ (l : List DeviceCall). Leaves first l c) (take_all left.0 (calls ++ call ∷ []) (omega (arith, now, length-append calls (call ∷ [])))) left.3)
 
 pub elapses_same : (first : List ℕ) (calls : List DeviceCall) → Elapses (length calls) (length calls) (LeftSince first calls) (LeftSince first calls) (Leaves first calls)
-elapses_same first calls = record { later = omega arith; nothing_else = λ t c le left. inl left; keeps = λ t c le left. left }
+elapses_same first calls = record { later = omega arith; nothing_else = λ t c le left. inl left }
 
 -- a write that was done is one of its torn outcomes
 pub Torn-written : (at : ℕ) (bytes seen : List ℕ) → Torn at (length bytes) seen (written at bytes seen)

@@ -5,6 +5,7 @@ pub mod ImageLaws
 pub mod Images
 pub mod InMemory
 pub mod Overlay
+pub mod Plain
 pub mod Records
 pub mod Shelf
 pub mod Sink

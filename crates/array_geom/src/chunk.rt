@@ -1,14 +1,15 @@
 //! Chunks, and arrays that are made of them.
 ghost use Rattle.std.specs.Prelude.{◌≡◌, IfOk};
 
-use cell_values::{Broken, Cell, ChunkAt, Copies, List, Margins, Memory, Schema, copy_numbers};
+use cell_columns::Cells;
+use cell_values::{Broken, ChunkAt, Copies, List, Margins, Memory, Schema, copy_numbers};
 
 /// The cells of a chunk's core and of its margins, by their rising positions in the chunk's frame.
 #[derive(Debug, Drop)]
 pub struct Chunk {
     pub at: ChunkAt,
     pub positions: List<u64>,
-    pub cells: List<Cell>,
+    pub cells: Cells,
 }
 
 /// An array: its chunks by their rising numbers, or why it could not be computed.

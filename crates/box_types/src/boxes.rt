@@ -11,7 +11,7 @@ ghost use Rattle.box_types.specs.Boxes.{between_call, by_count, by_parts, of_par
 
 use crate::area::box_of;
 use afl_parser::Tree;
-use cell_values::{Dimension, Span};
+use cell_values::{Dimension, Memory, Span};
 use logical_plan::Plan;
 use operator_rules::{first_but_bounds, of_new_schema, shape_of};
 use schema_grammar::TypeKind;
@@ -63,6 +63,7 @@ fn between_area(
     ensures { Answers result (by_count span dimensions.now bounds.now (λ area. Ok (between source area))) }
 {
     if bounds.len() != 2 * dimensions.len() {
+        drop(source);
         return Err(broken(span, TypeKind::WrongCount));
     }
     Ok(Plan::between(alloc, source, box_of(dimensions, bounds))?)
@@ -78,8 +79,13 @@ fn between_bounds(
     requires { length (schema_of source).dimensions ≤ 6 }
     ensures { Answers result (by_count span (schema_of source).dimensions bounds.now (λ area. Ok (between source area))) }
 {
-    let schema = shape_of(alloc, &source)?;
-    between_area(alloc, span, source, schema.dimensions.as_slice(), bounds)
+    match shape_of(alloc, &source) {
+        Ok(schema) => between_area(alloc, span, source, schema.dimensions.as_slice(), bounds),
+        Err(Memory) => {
+            drop(source);
+            Err(TypeFault::Memory)
+        }
+    }
 }
 
 /// `between` of a source, with the bounds behind it.
@@ -93,7 +99,10 @@ pub fn between_call(
     ensures { Answers result (between_call span source bounds.now) }
 {
     match first_but_bounds(bounds) {
-        Some(other) => Err(broken(other, TypeKind::WrongType)),
+        Some(other) => {
+            drop(source);
+            Err(broken(other, TypeKind::WrongType))
+        }
         None => between_bounds(alloc, span, source, bounds),
     }
 }
@@ -103,6 +112,7 @@ fn in_range(alloc: Global, span: Span, parts: &[Dimension], part: Plan) -> Resul
     ensures { Answers result (demand (list_all bounds_in_range parts.now) span TypeKind.BoundsRange (of_new_schema span part)) }
 {
     if !are_in_range(parts) {
+        drop(part);
         return Err(broken(span, TypeKind::BoundsRange));
     }
     of_new_schema(alloc, span, part)
@@ -113,6 +123,7 @@ fn by_parts(alloc: Global, span: Span, parts: &[Dimension], part: Plan) -> Resul
     ensures { Answers result (by_parts span parts.now (of_new_schema span part)) }
 {
     if !are_in_order(parts) {
+        drop(part);
         return Err(broken(span, TypeKind::EmptyBox));
     }
     in_range(alloc, span, parts, part)
@@ -122,8 +133,13 @@ fn by_parts(alloc: Global, span: Span, parts: &[Dimension], part: Plan) -> Resul
 fn of_parts(alloc: Global, span: Span, part: Plan) -> Result<Plan, TypeFault>
     ensures { Answers result (of_parts span part) }
 {
-    let schema = shape_of(alloc, &part)?;
-    by_parts(alloc, span, schema.dimensions.as_slice(), part)
+    match shape_of(alloc, &part) {
+        Ok(schema) => by_parts(alloc, span, schema.dimensions.as_slice(), part),
+        Err(Memory) => {
+            drop(part);
+            Err(TypeFault::Memory)
+        }
+    }
 }
 
 /// The part of a source in the box of bounds, two for each dimension.
@@ -138,6 +154,7 @@ fn part_area(
     ensures { Answers result (by_count span dimensions.now bounds.now (λ area. of_parts span (subarray source area))) }
 {
     if bounds.len() != 2 * dimensions.len() {
+        drop(source);
         return Err(broken(span, TypeKind::WrongCount));
     }
     let part = Plan::subarray(alloc, source, box_of(dimensions, bounds))?;
@@ -149,8 +166,13 @@ fn part_bounds(alloc: Global, span: Span, source: Plan, bounds: &[Tree]) -> Resu
     requires { length (schema_of source).dimensions ≤ 6 }
     ensures { Answers result (by_count span (schema_of source).dimensions bounds.now (λ area. of_parts span (subarray source area))) }
 {
-    let schema = shape_of(alloc, &source)?;
-    part_area(alloc, span, source, schema.dimensions.as_slice(), bounds)
+    match shape_of(alloc, &source) {
+        Ok(schema) => part_area(alloc, span, source, schema.dimensions.as_slice(), bounds),
+        Err(Memory) => {
+            drop(source);
+            Err(TypeFault::Memory)
+        }
+    }
 }
 
 /// `subarray` of a source, with the bounds behind it.
@@ -164,7 +186,10 @@ pub fn subarray_call(
     ensures { Answers result (subarray_call span source bounds.now) }
 {
     match first_but_bounds(bounds) {
-        Some(other) => Err(broken(other, TypeKind::WrongType)),
+        Some(other) => {
+            drop(source);
+            Err(broken(other, TypeKind::WrongType))
+        }
         None => part_bounds(alloc, span, source, bounds),
     }
 }

@@ -10,7 +10,7 @@ ghost use Rattle.operator_rules.specs.NewSchema.{of_new_schema};
 ghost use Rattle.box_types.specs.Slice.{fixed_at, fixed_named, fixed_one, of_rest, slice_call, slice_of};
 
 use afl_parser::{Node, Tree};
-use cell_values::{Dimension, List, Span};
+use cell_values::{Dimension, List, Memory, Span};
 use expr_types::dimension_place;
 use logical_plan::{Fixed, Plan};
 use operator_rules::{first_but_places, number_in, of_new_schema, shape_of, wrong_type};
@@ -115,6 +115,7 @@ fn with_some(alloc: Global, span: Span, left: &[Dimension], slice: Plan) -> Resu
     ensures { Answers result (demand (nat_le 1 (length left.now)) span TypeKind.WrongCount (of_new_schema span slice)) }
 {
     if left.is_empty() {
+        drop(slice);
         return Err(broken(span, TypeKind::WrongCount));
     }
     of_new_schema(alloc, span, slice)
@@ -124,8 +125,13 @@ fn with_some(alloc: Global, span: Span, left: &[Dimension], slice: Plan) -> Resu
 fn of_rest(alloc: Global, span: Span, slice: Plan) -> Result<Plan, TypeFault>
     ensures { Answers result (of_rest span slice) }
 {
-    let schema = shape_of(alloc, &slice)?;
-    with_some(alloc, span, schema.dimensions.as_slice(), slice)
+    match shape_of(alloc, &slice) {
+        Ok(schema) => with_some(alloc, span, schema.dimensions.as_slice(), slice),
+        Err(Memory) => {
+            drop(slice);
+            Err(TypeFault::Memory)
+        }
+    }
 }
 
 /// The slice of a source of these dimensions.
@@ -140,8 +146,13 @@ fn slice_of(
     requires { length dimensions.now ≤ 6 }
     ensures { Answers result (slice_of span source dimensions.now arguments.now) }
 {
-    let fixed = fixed_all(alloc, dimensions, arguments)?;
-    of_rest(alloc, span, Plan::slice(alloc, source, fixed)?)
+    match fixed_all(alloc, dimensions, arguments) {
+        Ok(fixed) => of_rest(alloc, span, Plan::slice(alloc, source, fixed)?),
+        Err(fault) => {
+            drop(source);
+            Err(fault)
+        }
+    }
 }
 
 /// The slice of a source.
@@ -154,8 +165,13 @@ fn slice_places(
     requires { length (schema_of source).dimensions ≤ 6 }
     ensures { Answers result (slice_of span source (schema_of source).dimensions arguments.now) }
 {
-    let schema = shape_of(alloc, &source)?;
-    slice_of(alloc, span, source, schema.dimensions.as_slice(), arguments)
+    match shape_of(alloc, &source) {
+        Ok(schema) => slice_of(alloc, span, source, schema.dimensions.as_slice(), arguments),
+        Err(Memory) => {
+            drop(source);
+            Err(TypeFault::Memory)
+        }
+    }
 }
 
 /// `slice` of a source, with what stands behind it.
@@ -169,7 +185,10 @@ pub fn slice_call(
     ensures { Answers result (slice_call span source arguments.now) }
 {
     match first_but_places(arguments) {
-        Some(other) => Err(broken(other, TypeKind::WrongType)),
+        Some(other) => {
+            drop(source);
+            Err(broken(other, TypeKind::WrongType))
+        }
         None => slice_places(alloc, span, source, arguments),
     }
 }

@@ -177,8 +177,14 @@ pub fn apply_call(
     ensures { Answers result (apply_call span source arguments.now) }
 {
     if let Some(other) = first_but_values(arguments) {
+        drop(source);
         return Err(broken(other, TypeKind::WrongType));
     }
-    let values = applied_over(alloc, &source, arguments)?;
-    with_values(alloc, span, source, values)
+    match applied_over(alloc, &source, arguments) {
+        Ok(values) => with_values(alloc, span, source, values),
+        Err(fault) => {
+            drop(source);
+            Err(fault)
+        }
+    }
 }

@@ -20,7 +20,10 @@ fn filter_by(alloc: Global, source: Plan, test: Operand) -> Result<Plan, TypeFau
     ensures { Answers result (filter_by source test) }
 {
     if !fits(Kind::Bool, test.kind) {
-        return Err(broken(test.span, TypeKind::WrongType));
+        let span = test.span;
+        drop(source);
+        drop(test);
+        return Err(broken(span, TypeKind::WrongType));
     }
     Ok(Plan::filter(alloc, source, test.expr)?)
 }
@@ -37,8 +40,13 @@ fn filter_typed(
     requires dimensions { length schema.now.dimensions ≤ 6 }
     ensures { Answers result (then (typed schema.now.attributes schema.now.dimensions test.now) (filter_by source)) }
 {
-    let test = typed_over(alloc, schema, test)?;
-    filter_by(alloc, source, test)
+    match typed_over(alloc, schema, test) {
+        Ok(test) => filter_by(alloc, source, test),
+        Err(fault) => {
+            drop(source);
+            Err(fault)
+        }
+    }
 }
 
 /// The cells of a source of this schema where a tree, an expression, is true.
@@ -48,6 +56,7 @@ fn filter_of(alloc: Global, source: Plan, schema: &Schema, test: &Tree) -> Resul
     ensures { Answers result (filter_of source schema.now test.now) }
 {
     if !is_expression(test) {
+        drop(source);
         return Err(wrong_type(test));
     }
     filter_typed(alloc, source, schema, test)
@@ -77,6 +86,9 @@ pub fn filter_call(
 {
     match arguments {
         [test] => filter_over(alloc, source, test),
-        _ => Err(broken(span, TypeKind::WrongCount)),
+        _ => {
+            drop(source);
+            Err(broken(span, TypeKind::WrongCount))
+        }
     }
 }

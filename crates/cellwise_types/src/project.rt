@@ -97,10 +97,16 @@ fn project_named(alloc: Global, span: Span, source: Plan, names: &[Tree]) -> Res
     ensures { Answers result (project_named span source names.now) }
 {
     if let Some(other) = first_but_names(names) {
+        drop(source);
         return Err(broken(other, TypeKind::WrongType));
     }
-    let places = projected_over(alloc, &source, names)?;
-    with_places(alloc, span, source, places)
+    match projected_over(alloc, &source, names) {
+        Ok(places) => with_places(alloc, span, source, places),
+        Err(fault) => {
+            drop(source);
+            Err(fault)
+        }
+    }
 }
 
 /// `project` of a source, with what stands behind it.
@@ -114,6 +120,7 @@ pub fn project_call(
     ensures { Answers result (project_call span source arguments.now) }
 {
     if arguments.is_empty() {
+        drop(source);
         return Err(broken(span, TypeKind::WrongCount));
     }
     project_named(alloc, span, source, arguments)

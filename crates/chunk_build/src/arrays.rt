@@ -10,6 +10,7 @@ ghost use Rattle.chunk_build.specs.Numbers.{numbers_in};
 use crate::numbers::cores_of;
 use crate::parts::put_row;
 use array_geom::{Chunk, ChunkedArray};
+use cell_columns::Cells;
 use cell_values::{ChunkAt, List, Margins, Memory, Row, Schema, copy_numbers};
 use std::alloc::Global;
 
@@ -22,7 +23,7 @@ fn empty_chunks(alloc: Global, listed: &[ChunkAt]) -> Result<Vec<Chunk>, Memory>
         chunks.push(Chunk {
             at: copy_numbers(number),
             positions: List::new(alloc),
-            cells: List::new(alloc),
+            cells: Cells::new(alloc),
         })?;
     }
     Ok(chunks.into_vec())

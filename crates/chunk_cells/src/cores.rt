@@ -51,8 +51,8 @@ pub(crate) fn core_cells(
         positions,
         cells,
     } = chunk;
-    let mut rows = cells.another();
-    let mut cells = cells.into_vec().into_iter();
+    let mut rows = positions.another();
+    let mut cells = cells.into_list()?.into_vec().into_iter();
     for position in positions.as_slice() {
         push_core(&mut rows, &grid, &core, *position, &mut cells)?;
     }

@@ -142,3 +142,16 @@ part_made change dims margins rows old new part made = record {
       ∙ sym (within-cell_wise (frame dims margins old.at.items) change rows)
       ∙ ap (λ (at : ArrayVec ℕ). within (frame dims margins at.items) (cell_wise change rows)) (sym made.number);
 }
+
+-- the same, by the index of the cell
+pub next_at : (change : Coordinate → Cell → Option Cell) (low : List ℤ) (lengths : List ℕ) (old made new : Chunk) (positions : List ℕ) (cells : List Cell) (i : ℕ) (d : Cell) → i < length positions → length cells ≡ length positions
+    → IsOngoing change low lengths old made (drop i positions) (drop i cells)
+    → new ≡ with_cell made (slice_index_or positions i 0) (change (coordinate_in low lengths (slice_index_or positions i 0)) (slice_index_or cells i d))
+    → IsOngoing change low lengths old new (drop (i + 1) positions) (drop (i + 1) cells)
+next_at change low lengths old made new positions cells i d l same h e =
+    let p = slice_index_or positions i 0 in
+    let m : i < length cells = subst (λ n. i < n) (sym same) l in
+    subst (λ (c : Chunk). IsOngoing change low lengths old c (drop (i + 1) positions) (drop (i + 1) cells)) (sym e)
+    (goes_on change low lengths old made p (drop (i + 1) positions) (slice_index_or cells i d ∷ drop (i + 1) cells)
+    (subst (λ (cs : List Cell). IsOngoing change low lengths old made (p ∷ drop (i + 1) positions) cs) (drop_more cells i d m)
+    (subst (λ (ps : List ℕ). IsOngoing change low lengths old made ps (drop i cells)) (drop_more positions i 0 l) h)))

@@ -1,17 +1,18 @@
 //! The cells of a chunk, changed one after the other.
-ghost use Rattle.std.specs.Prelude.{◌≡◌, ◌<◌, List as Items, drop, OnOk, IfOk};
-ghost use Rattle.std.specs.Vec.Iter.{into_iter_items};
+ghost use Rattle.std.specs.Prelude.{◌≡◌, ◌<◌, [], List as Items, Some, length, slice_index_or, OnOk, IfOk};
+ghost use Rattle.cell_values.specs.declared.datum.Cell.TheVariants.{Full};
 ghost use Rattle.cell_values.specs.declared.datum.Row.{Row};
+ghost use Rattle.cell_columns.specs.CellsIn.{cells_in};
 ghost use Rattle.array_rows.specs.Cellwise.{cell_wise};
 ghost use Rattle.array_geom.specs.Geometry.{HasFrame, coordinate_in, volume};
 ghost use Rattle.array_geom.specs.Link.{IsPart};
 ghost use Rattle.array_geom.specs.Ranges.{IsGrid};
-ghost use Rattle.chunk_change.specs.Made.{IsPlaced, IsMadeBy, with_cell, with_next};
+ghost use Rattle.chunk_change.specs.Made.{IsPlaced, IsMadeBy, with_cell};
 
-use crate::CellChange;
+use crate::{CellChange, Quick};
 use array_geom::{Chunk, Grid, grid_of};
+use cell_columns::{Form, Rows};
 use cell_values::{Cell, Coord, Margins, Memory, Schema};
-use std::vec::IntoIter;
 
 /// Adds what becomes of a cell.
 fn push_changed<C: CellChange>(
@@ -30,24 +31,69 @@ fn push_changed<C: CellChange>(
     Ok(())
 }
 
-/// Adds what becomes of the next cell, which stands at this place of the grid.
-fn push_next<C: CellChange>(
+/// Adds a cell of some rows.
+fn push_same(made: &mut Chunk, position: u64, rows: &Rows, k: usize) -> Result<(), Memory>
+    requires { k < length rows.now }
+    ensures { OnOk result (made.new ≡ with_cell made.old position (Some (Full (slice_index_or rows.now k [])))) }
+{
+    made.positions.push(position)?;
+    made.cells.push_row(rows, k)
+}
+
+/// Adds what becomes of a cell, which stands at this place of the grid.
+fn push_slowly<C: CellChange>(
     made: &mut Chunk,
     grid: &Grid,
     position: u64,
-    cells: &mut IntoIter<Cell>,
+    cell: Cell,
     change: &C,
 ) -> Result<(), Memory>
     requires grid { IsGrid grid.now }
     requires inside { position < volume grid.now.lengths.items }
-    ensures made { OnOk result (made.new ≡ with_next (C.changed change.now (coordinate_in grid.now.low.items grid.now.lengths.items position)) position made.old (into_iter_items cells.old)) }
-    ensures left { into_iter_items cells.new ≡ drop 1 (into_iter_items cells.old) }
+    ensures { OnOk result (made.new ≡ with_cell made.old position (C.changed change.now (coordinate_in grid.now.low.items grid.now.lengths.items position) cell)) }
 {
-    if let Some(cell) = cells.next() {
-        let at = grid.place(position);
-        push_changed(made, position, &at, cell, change)?;
+    let at = grid.place(position);
+    push_changed(made, position, &at, cell, change)
+}
+
+fn push_row_changed<C: CellChange>(
+    made: &mut Chunk,
+    grid: &Grid,
+    position: u64,
+    rows: &Rows,
+    k: usize,
+    change: &C,
+) -> Result<(), Memory>
+    requires place { k < length rows.now }
+    requires grid { IsGrid grid.now }
+    requires inside { position < volume grid.now.lengths.items }
+    ensures { OnOk result (made.new ≡ with_cell made.old position (C.changed change.now (coordinate_in grid.now.low.items grid.now.lengths.items position) (Full (slice_index_or rows.now k [])))) }
+{
+    match change.quick(rows, k) {
+        Quick::Stays => push_same(made, position, rows, k),
+        Quick::Goes => Ok(()),
+        Quick::Unknown => push_slowly(made, grid, position, Cell::Full(rows.row(k)?), change),
     }
-    Ok(())
+}
+
+/// Adds what becomes of the cell at a place, which stands at this place of the grid.
+fn push_next<C: CellChange>(
+    made: &mut Chunk,
+    grid: &Grid,
+    position: u64,
+    form: &Form,
+    k: usize,
+    change: &C,
+) -> Result<(), Memory>
+    requires place { k < length (cells_in form.now) }
+    requires grid { IsGrid grid.now }
+    requires inside { position < volume grid.now.lengths.items }
+    ensures { OnOk result (made.new ≡ with_cell made.old position (C.changed change.now (coordinate_in grid.now.low.items grid.now.lengths.items position) (slice_index_or (cells_in form.now) k (Full [])))) }
+{
+    match form {
+        Form::Even(rows) => push_row_changed(made, grid, position, rows, k, change),
+        Form::Mixed(cells) => push_slowly(made, grid, position, cells[k].copy()?, change),
+    }
 }
 
 /// The chunk with each cell changed, those of its margins too.
@@ -73,9 +119,10 @@ pub fn change_chunk<C: CellChange>(
         positions: positions.another(),
         cells: cells.another(),
     };
-    let mut cells = cells.into_vec().into_iter();
-    for position in positions.as_slice() {
-        push_next(&mut made, &grid, *position, &mut cells, change)?;
+    let form = cells.form();
+    let places = positions.as_slice();
+    for k in 0..places.len() {
+        push_next(&mut made, &grid, places[k], form, k, change)?;
     }
     Ok(made)
 }

@@ -4,5 +4,5 @@
 mod change;
 mod chunks;
 
-pub use change::CellChange;
+pub use change::{CellChange, Quick};
 pub use chunks::change_chunk;

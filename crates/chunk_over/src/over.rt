@@ -18,7 +18,7 @@ fn push_cell(made: &mut Chunk, from: &Chunk, index: usize) -> Result<(), Memory>
     ensures { OnOk result (HasNext from.now index made.old made.new) }
 {
     made.positions.push(from.positions[index])?;
-    made.cells.push(from.cells[index].copy()?)?;
+    made.cells.push(from.cells.cell(index)?)?;
     Ok(())
 }
 

@@ -17,6 +17,7 @@ use crate::reading::payload;
 use crate::runs::ChunkRuns;
 use array_geom::Chunk;
 use byte_items::Stop;
+use cell_columns::Cells;
 use cell_values::{Attribute, ChunkAt, Memory, Schema, copy_numbers};
 use std::alloc::Global;
 
@@ -51,7 +52,7 @@ fn chunk(alloc: Global, at: &ChunkAt, runs: &ChunkRuns) -> Result<Chunk, Memory>
     Ok(Chunk {
         at: copy_numbers(at),
         positions,
-        cells,
+        cells: Cells::from_list(cells),
     })
 }
 

@@ -15,6 +15,7 @@ pub fn encode(alloc: Global, schema: &Schema, chunk: &Chunk) -> Result<Bytes, Me
     ensures { IfOk result (λ bytes. bytes ≡ spelling schema.now.attributes chunk.now) }
 {
     let runs = position_runs(alloc, chunk.positions.as_slice())?;
-    let columns = columns(alloc, chunk.cells.as_slice(), schema.attributes.len())?;
+    let cells = chunk.cells.copy()?.into_list()?;
+    let columns = columns(alloc, cells.as_slice(), schema.attributes.len())?;
     bytes_of(alloc, runs.as_slice(), columns.as_slice())
 }

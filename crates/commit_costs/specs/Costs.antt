@@ -6,8 +6,7 @@ use Rattle.cell_values.specs.declared.datum.Row.{Row}
 use Rattle.cell_values.specs.declared.schema.Dimension.{Dimension}
 use Rattle.cell_values.specs.declared.schema.Schema.{Schema}
 use Rattle.array_rows.specs.Boxes.{within}
-use Rattle.array_geom.specs.declared.chunk.Chunk.{Chunk}
-use Rattle.array_geom.specs.Geometry.{ChunkNumber, chunk_of, frame, overlaps, position_of}
+use Rattle.array_geom.specs.Geometry.{ChunkNumber, chunk_of, frame, overlaps}
 use Rattle.array_geom.specs.Link.{is_listed, is_not_empty}
 use Rattle.page_items.specs.Pages.{pages_needed}
 use Rattle.chunk_rle.specs.Chunks.{spelling as payload_spelling}
@@ -23,6 +22,7 @@ use Rattle.catalog_rules.specs.declared.catalog.Catalog.{Catalog}
 use Rattle.catalog_rules.specs.declared.catalog_record.CatalogRecord.{CatalogRecord}
 use Rattle.catalog_changes.specs.Changed.{record_for}
 use Rattle.version_catalog.specs.Spelling.{spell_record, spelling}
+use Rattle.file_meaning.specs.Standing.{stored_chunk}
 use Rattle.event_core.specs.declared.entry.Entry.TheVariants.{Pin, Unpin, Commit, Reap}
 use Rattle.event_core.specs.History.{History}
 use Rattle.event_core.specs.Legal.{Cost}
@@ -36,13 +36,6 @@ with_number k ks = if is_listed k ks then ks else k ∷ ks
 abbrev pub numbers_of : List Dimension → List Row → List ChunkNumber
 numbers_of dims [] = []
 numbers_of dims (row ∷ rows) = with_number (chunk_of dims row.at.items) (numbers_of dims rows)
-
--- the chunk of this number as it is stored: the rows in its frame, whose margins are the overlaps
-abbrev pub stored_chunk : Schema → List Row → ChunkNumber → Chunk
-stored_chunk schema rows k =
-    let dims = schema.dimensions in
-    let part = within (frame dims (overlaps dims) k) rows in
-    record { at = record { items = k }; positions = map (λ row. position_of dims (overlaps dims) k row.at.items) part; cells = map (λ row. row.cell) part }
 
 abbrev pub payload_length : Schema → List Row → ChunkNumber → ℕ
 payload_length schema rows k = length (payload_spelling schema.attributes (stored_chunk schema rows k))

@@ -73,7 +73,8 @@ starts : (cost : Cost) (db : Database) (base : Core) (h : History) → IsLegal c
 starts cost db base [] legal = legal
 starts cost db base (entry ∷ before) legal = starts cost db base before legal.0
 
-typed_now : (cost : Cost) (db : Database) (base : Core) (s : ℕ) (change : Change) (used : Used) (before : History) → IsLegal cost db base (Commit s change used ∷ before) → IsTypedFor (names_of (at db before)) change
+-- a commit's change is typed for the database before it
+pub typed_now : (cost : Cost) (db : Database) (base : Core) (s : ℕ) (change : Change) (used : Used) (before : History) → IsLegal cost db base (Commit s change used ∷ before) → IsTypedFor (names_of (at db before)) change
 typed_now cost db base s change used before legal =
     subst (λ (names : Names). IsTypedFor names change) (sym (names_are_of_the_database names_depend_on_no_row db base before (starts cost db base before legal.0).names))
     (typed_then base before s change used (all_allowed base (Commit s change used ∷ before) (legal_is_ordered cost db base (Commit s change used ∷ before) legal)), legal.2.2)

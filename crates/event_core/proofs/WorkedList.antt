@@ -40,9 +40,9 @@ worked_legal = (((first_legal, refl, tt, tt), refl, (refl, refl, tt), (refl, ref
 pub legal_is : IsLegal worked_cost [] worked_base worked_on
 legal_is = (((worked_legal, refl, tt, tt), refl, tt, tt), refl, tt, tt)
 
--- the plan that it stores means arrays
-pub stores_arrays : AllStoreArrays worked_on
-stores_arrays = ((tt, plans_mean_arrays (built worked_schema (literal (Int (pos 7)))) refl), tt)
+-- the plan that it stores means an array
+pub stores_arrays : AllStoreArrays [] worked_on
+stores_arrays = ((tt, plans_mean_arrays (built worked_schema (literal (Int (pos 7)))) refl [] begins_at.database store_typed.0), tt)
 
 -- the removed version's pages wait for the pin of session 1
 pub free_is : free_at worked_base worked ≡ 1 ∷ 4 ∷ 6 ∷ 7 ∷ 8 ∷ 9 ∷ 10 ∷ 11 ∷ 12 ∷ 13 ∷ 14 ∷ 15 ∷ []

@@ -2,7 +2,7 @@
 use Rattle.std.specs.Prelude.{◌≡◌, ℕ, Bool, false, not, ◌&&◌, ◌||◌, nat_eq, [], ◌∷◌, length, None, IsTrue}
 use Rattle.plan_changes.specs.declared.change.Change.{Change}
 use Rattle.plan_changes.specs.Databases.{Database, fault_of_change, names_of}
-use Rattle.plan_changes.specs.Kept.{StoresArrays}
+use Rattle.plan_changes.specs.Kept.{StoresArray}
 use Rattle.plan_changes.specs.Stored.{IsDatabase, AreStored, HasItsNames}
 use Rattle.plan_changes.specs.Typed.{HasTypedPlan}
 use Rattle.event_core.specs.declared.entry.Entry.{Entry}
@@ -84,14 +84,14 @@ OrderedNamesAreStored = (base : Core) (h : History) → IsOrdered base h → Are
 abbrev pub OrderedVersionsHavePages : Type 0
 OrderedVersionsHavePages = (base : Core) (h : History) → IsOrdered base h → HavePages (names_at base h) (pages_at base h)
 
--- each plan that a history stores means arrays of its schema
-abbrev pub AllStoreArrays : History → Type 0
-AllStoreArrays [] = Unit {0}
-AllStoreArrays (Pin s ∷ before) = AllStoreArrays before
-AllStoreArrays (Unpin s ∷ before) = AllStoreArrays before
-AllStoreArrays (Commit s change used ∷ before) = AllStoreArrays before × StoresArrays change
-AllStoreArrays (Reap ∷ before) = AllStoreArrays before
+-- the plan of each change of a history means an array of its schema over the database before it
+abbrev pub AllStoreArrays : Database → History → Type 0
+AllStoreArrays db [] = Unit {0}
+AllStoreArrays db (Pin s ∷ before) = AllStoreArrays db before
+AllStoreArrays db (Unpin s ∷ before) = AllStoreArrays db before
+AllStoreArrays db (Commit s change used ∷ before) = AllStoreArrays db before × StoresArray (at db before) change
+AllStoreArrays db (Reap ∷ before) = AllStoreArrays db before
 
 -- after a legal history of such plans there is a database
 abbrev pub LegalDatabases : Type 0
-LegalDatabases = (cost : Cost) (db : Database) (base : Core) (h : History) → IsLegal cost db base h → AllStoreArrays h → IsDatabase (at db h)
+LegalDatabases = (cost : Cost) (db : Database) (base : Core) (h : History) → IsLegal cost db base h → AllStoreArrays db h → IsDatabase (at db h)

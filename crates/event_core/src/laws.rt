@@ -73,7 +73,7 @@ pub fn ordered_versions_have_pages()
     ensures { OrderedVersionsHavePages }
 {}
 
-/// After a legal history, of plans that mean arrays of their schemas, there is a database.
+/// After a legal history, whose plans each mean an array of its schema over the database before, there is a database.
 pub fn legal_databases()
     ensures { LegalDatabases }
 {}
@@ -82,7 +82,7 @@ pub fn legal_databases()
 pub fn a_history_is_legal()
     ensures base { IsBase worked_base }
     ensures legal { IsLegal worked_cost [] worked_base worked_on }
-    ensures stores { AllStoreArrays worked_on }
+    ensures stores { AllStoreArrays [] worked_on }
     ensures places { map (λ pin. length pin.before) (open_pins worked) ≡ 3 ∷ 4 ∷ [] }
     ensures free { free_at worked_base worked ≡ 1 ∷ 4 ∷ 6 ∷ 7 ∷ 8 ∷ 9 ∷ 10 ∷ 11 ∷ 12 ∷ 13 ∷ 14 ∷ 15 ∷ [] }
     ensures free_later { free_at worked_base worked_on ≡ 1 ∷ 2 ∷ 3 ∷ 4 ∷ 6 ∷ 7 ∷ 8 ∷ 9 ∷ 10 ∷ 11 ∷ 12 ∷ 13 ∷ 14 ∷ 15 ∷ [] }

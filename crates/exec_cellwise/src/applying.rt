@@ -10,7 +10,8 @@ ghost use Rattle.exec_cellwise.specs.Appended.{append_cell, append_rows};
 
 use array_geom::Chunk;
 use cell_values::{Cell, Coord, Datum, List, Margins, Memory, Schema};
-use chunk_change::{CellChange, change_chunk};
+use cell_columns::Rows;
+use chunk_change::{CellChange, Quick, change_chunk};
 use expr_nulls::{TypedExpr, eval};
 use logical_plan::Applied;
 
@@ -73,6 +74,10 @@ impl CellChange for Append<'_> {
             Cell::Doubt(kind) => Ok(Some(Cell::Doubt(kind))),
         }
     }
+
+    fn quick(&self, _rows: &Rows, _k: usize) -> Quick {
+        Quick::Unknown
+    }
 }
 
 impl CellChange for Apply<'_> {
@@ -86,6 +91,10 @@ impl CellChange for Apply<'_> {
             }
             Cell::Doubt(kind) => Ok(Some(Cell::Doubt(kind))),
         }
+    }
+
+    fn quick(&self, _rows: &Rows, _k: usize) -> Quick {
+        Quick::Unknown
     }
 }
 

@@ -8,7 +8,9 @@ ghost use Rattle.chunk_change.specs.Made.{IsPlaced, IsMadeBy};
 
 use array_geom::Chunk;
 use cell_values::{Cell, Coord, Datum, List, Margins, Memory, Schema};
-use chunk_change::{CellChange, change_chunk};
+use cell_columns::{Rows, Small};
+use chunk_change::{CellChange, Quick, change_chunk};
+use column_walk::walk;
 use expr_nulls::{TypedExpr, eval};
 
 /// A filter with its test.
@@ -38,6 +40,14 @@ impl CellChange for Filter<'_> {
                 Ok(keep(&test, values))
             }
             Cell::Doubt(kind) => Ok(Some(Cell::Doubt(kind))),
+        }
+    }
+
+    fn quick(&self, rows: &Rows, k: usize) -> Quick {
+        match walk(self.test, rows, k) {
+            Small::Truth(true) => Quick::Stays,
+            Small::Truth(false) => Quick::Goes,
+            _ => Quick::Unknown,
         }
     }
 }

@@ -9,6 +9,7 @@ ghost use Rattle.chunk_change.specs.Made.{IsPlaced, IsMadeBy};
 ghost use Rattle.exec_cellwise.specs.Picked.{picked};
 
 use array_geom::Chunk;
+use cell_columns::Cells;
 use cell_values::{Cell, Datum, List, Memory, copy_numbers};
 
 fn value_at(values: &List<Datum>, place: usize) -> Result<Datum, Memory>
@@ -39,12 +40,12 @@ fn project_cell(cell: &Cell, kept: &[u32]) -> Result<Cell, Memory>
     }
 }
 
-fn project_cells(cells: &List<Cell>, kept: &[u32]) -> Result<List<Cell>, Memory>
+fn project_cells(cells: &Cells, kept: &[u32]) -> Result<Cells, Memory>
     ensures { IfOk result (λ made. made ≡ map (picked kept.now) cells.now) }
 {
-    let mut made = List::with_capacity(cells.allocator(), cells.len())?;
-    for cell in cells.as_slice() {
-        made.push(project_cell(cell, kept)?)?;
+    let mut made = cells.another();
+    for k in 0..cells.len() {
+        made.push(project_cell(&cells.cell(k)?, kept)?)?;
     }
     Ok(made)
 }

@@ -38,7 +38,7 @@ fn alone(schema: &Schema, margins: &Margins, chunk: &Chunk) -> Result<ChunkedArr
     ensures margins { IfOk result (λ array. array.margins ≡ margins.now) }
     ensures chunks { IfOk result (λ array. array.chunks ≡ chunk.now ∷ []) }
 {
-    let mut chunks = chunk.cells.another();
+    let mut chunks = chunk.positions.another();
     chunks.push(chunk.copy()?)?;
     Ok(ChunkedArray {
         schema: schema.copy()?,

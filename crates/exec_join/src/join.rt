@@ -29,7 +29,9 @@ fn push_beside(
     requires right_inside { at_right < length right.now.positions }
     ensures { OnOk result (HasBoth left.now right.now at_left at_right made.old made.new) }
 {
-    let cell = cell_beside(&left.cells[at_left], &right.cells[at_right])?;
+    let from_left = left.cells.cell(at_left)?;
+    let from_right = right.cells.cell(at_right)?;
+    let cell = cell_beside(&from_left, &from_right)?;
     made.positions.push(left.positions[at_left])?;
     made.cells.push(cell)?;
     Ok(())

@@ -61,12 +61,15 @@ fn by_new_schema(span: Span, schema: &Schema, plan: Plan) -> Result<Plan, TypeFa
     ensures { Answers result (by_new_schema span schema.now (Ok plan)) }
 {
     if !are_few_dimensions(schema.dimensions.as_slice()) {
+        drop(plan);
         return Err(broken(span, TypeKind::TooManyDimensions));
     }
     if !are_few_attributes(schema.attributes.as_slice()) {
+        drop(plan);
         return Err(broken(span, TypeKind::TooManyAttributes));
     }
     if !frame_fits(schema.dimensions.as_slice()) {
+        drop(plan);
         return Err(broken(span, TypeKind::ChunkTooLarge));
     }
     Ok(plan)
@@ -83,6 +86,11 @@ pub fn shape_of(alloc: Global, plan: &Plan) -> Result<Schema, Memory>
 pub fn of_new_schema(alloc: Global, span: Span, plan: Plan) -> Result<Plan, TypeFault>
     ensures { Answers result (of_new_schema span plan) }
 {
-    let schema = shape_of(alloc, &plan)?;
-    by_new_schema(span, &schema, plan)
+    match shape_of(alloc, &plan) {
+        Ok(schema) => by_new_schema(span, &schema, plan),
+        Err(Memory) => {
+            drop(plan);
+            Err(TypeFault::Memory)
+        }
+    }
 }

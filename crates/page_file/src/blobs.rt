@@ -1,5 +1,5 @@
 //! Blobs and chains in a database's file.
-ghost use Rattle.std.specs.Prelude.{◌≡◌, ℕ, List, [], ◌∷◌, ◌<◌, ◌⊎◌, length, slice_index_or, IfSome, IfOk, OnOk, OnErr, IsErrOf, MatchResult};
+ghost use Rattle.std.specs.Prelude.{◌≡◌, ℕ, List, [], ◌∷◌, ◌<◌, ◌/◌, ◌⊎◌, length, slice_index_or, IfSome, IfOk, IfErr, OnOk, OnErr, IsErrOf, MatchResult};
 ghost use Rattle.afl_outside.specs.Counts.{Rose};
 ghost use Rattle.page_layout.specs.Places.{KeepsPages};
 ghost use Rattle.page_layout.specs.declared.logs.RecordAt.{RecordAt};
@@ -8,16 +8,33 @@ ghost use Rattle.page_chain.specs.Chains.{content_size, IsChainRead, HoldsChain}
 ghost use Rattle.page_chain.specs.Runs.{OnlyReads, OnlyWrites, Sees};
 ghost use Rattle.page_slots.specs.Standing.{IsClosed, IsSound, KeepsSound, LeavesOpening};
 ghost use Rattle.page_slots.specs.Steps.{emptied};
+ghost use Rattle.page_open.specs.Opened.{IsDeviceFault};
 ghost use Rattle.page_writes.specs.Written.{MayWrite, pages_written, blob_written};
 
 use crate::PageFile;
-use afl_outside::{Disk, Failed};
+use afl_outside::{Disk, Failed, has_risen};
 use cell_values::{Bytes, List};
 use page_chain::{BlobFault, Link, OpenCause};
 use page_layout::Root;
 use std::alloc::Global;
 
 impl<D: Disk> PageFile<D> {
+    /// How many whole pages the file has.
+    pub fn pages(&mut self) -> Result<u64, OpenCause>
+        ensures exact { IfSome (D.state self.old.disk).seen (λ seen. IfOk result (λ n. n ≡ length seen / 4096)) }
+        ensures cause { IfErr result (λ fault. IsDeviceFault fault (D.state self.old.disk) (D.state self.new.disk)) }
+        ensures slots { self.new.slots ≡ self.old.slots }
+        ensures reads { OnlyReads (D.state self.old.disk) (D.state self.new.disk) (D.left_since self.old.disk) (D.left_since self.new.disk) (D.may_leave self.old.disk) (D.may_leave self.new.disk) }
+        ensures sound { (seen : List ℕ) → IsSound self.old.slots seen (D.may_leave self.old.disk) → IsSound self.new.slots seen (D.may_leave self.new.disk) }
+    {
+        let before = self.disk.faults();
+        match self.disk.len() {
+            Ok(length) => Ok(length / 4096),
+            Err(Failed) if has_risen(before, self.disk.faults()) => Err(OpenCause::Disk),
+            Err(Failed) => Err(OpenCause::Memory),
+        }
+    }
+
     /// Reads a blob of so many bytes.
     pub fn read_blob(
         &mut self,

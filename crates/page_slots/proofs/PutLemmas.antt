@@ -3,7 +3,7 @@ use Rattle.std.proofs.Common.{◌≡◌, ◌⊎◌, inl, inr, ⊎_elim, ℕ, ◌
 use Rattle.afl_outside.specs.Disk.{DiskState, DiskGoesOn, Elapses, Follows, LeavesOnly, Torn, written}
 use Rattle.afl_outside.specs.ImageLaws.{Torn-same, Torn-written}
 use Rattle.afl_outside.proofs.Moments.{started, goes_on}
-use Rattle.page_slots.specs.Puts.{Over, OnlyPuts, OnlySyncs}
+use Rattle.page_slots.specs.Puts.{Over, SeesTorn, OnlyPuts, OnlySyncs}
 
 pub if_some : {A : Type 0} (o : Option A) (P Q : A → Type 0) → ((x : A) → P x → Q x) → IfSome o P → IfSome o Q
 if_some None P Q f h = h
@@ -19,17 +19,19 @@ goes_twice a b c p q = record {
 }
 
 pub one_put : (at n : ℕ) (old new : DiskState) (past since : ℕ → List ℕ → Type 0) (before now : List ℕ → Type 0) → ((c : List ℕ) → past old.moment c → before c) → DiskGoesOn old new
-    → Follows (Torn at n) before now → Elapses old.moment new.moment past since now → OnlyPuts at n old new past since before now
-one_put at n old new past since before now only same crash time = record {
+    → SeesTorn at n old new → Follows (Torn at n) before now → Elapses old.moment new.moment past since now → OnlyPuts at n old new past since before now
+one_put at n old new past since before now only same sees crash time = record {
   same = same;
+  seen = sees;
   crash = crash;
   time = goes_on old.moment old.moment new.moment past past since now (Over at n before) (started old.moment past (Over at n before) (λ c left. (c, only c left, Torn-same at n c))) time crash;
 }
 
 pub then_sync : (at n : ℕ) (old mid new : DiskState) (past between since : ℕ → List ℕ → Type 0) (before done now : List ℕ → Type 0) → OnlyPuts at n old mid past between before done → DiskGoesOn mid new
-    → ((c : List ℕ) → now c → done c) → Elapses mid.moment new.moment between since now → OnlyPuts at n old new past since before now
-then_sync at n old mid new past between since before done now put same crash time = record {
+    → new.seen ≡ mid.seen → ((c : List ℕ) → now c → done c) → Elapses mid.moment new.moment between since now → OnlyPuts at n old new past since before now
+then_sync at n old mid new past between since before done now put same is crash time = record {
   same = goes_twice old mid new put.same same;
+  seen = λ honest. if_some old.seen (λ seen. (torn : List ℕ) × (mid.seen ≡ Some torn) × Torn at n seen torn) (λ seen. (torn : List ℕ) × (new.seen ≡ Some torn) × Torn at n seen torn) (λ seen tore. (tore.0, is ∙ tore.1, tore.2)) (put.seen honest);
   crash = λ c left. put.crash c (crash c left);
   time = goes_on old.moment mid.moment new.moment past between since now (Over at n before) put.time time (λ c left. put.crash c (crash c left));
 }
@@ -62,9 +64,14 @@ wider before now past since P Q more leaves = record {
 pub sync_is_put : (at n : ℕ) (old new : DiskState) (past since : ℕ → List ℕ → Type 0) (before now : List ℕ → Type 0) → OnlySyncs old new past since before now → OnlyPuts at n old new past since before now
 sync_is_put at n old new past since before now syncs = record {
   same = syncs.same;
+  seen = λ honest. stays old.seen syncs.seen;
   crash = λ c left. (c, syncs.crash c left, Torn-same at n c);
   time = wider old.moment new.moment past since before (Over at n before) (λ c left. (c, left, Torn-same at n c)) syncs.time;
 }
+  where
+    stays : (o : Option (List ℕ)) → new.seen ≡ o → IfSome o (λ seen. (torn : List ℕ) × (new.seen ≡ Some torn) × Torn at n seen torn)
+    stays None is = tt
+    stays (Some x) is = (x, is, Torn-same at n x)
 
 pub if_some_with : {A : Type 0} (o : Option A) (P R Q : A → Type 0) → ((x : A) → P x → R x → Q x) → IfSome o P → IfSome o R → IfSome o Q
 if_some_with None P R Q f h k = h

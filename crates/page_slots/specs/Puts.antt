@@ -7,10 +7,15 @@ use Rattle.afl_outside.specs.declared.source.Failed.{Failed}
 abbrev pub Over : ℕ → ℕ → (List ℕ → Type 0) → List ℕ → Type 0
 Over at count before c = (d : List ℕ) × before d × Torn at count d c
 
--- Only these bytes of the disk were written: a crash at any moment since then leaves what it might have left at the start, but for
--- these bytes.
+-- an honest disk that tells its bytes gives what it gave, but for these bytes
+abbrev pub SeesTorn : ℕ → ℕ → DiskState → DiskState → Type 0
+SeesTorn at count old new = IsTrue old.honest → IfSome old.seen (λ seen. (torn : List ℕ) × (new.seen ≡ Some torn) × Torn at count seen torn)
+
+-- Only these bytes of the disk were written: a read gives what it gave, and a crash at any moment since then leaves what it might have
+-- left at the start, but for these bytes.
 pub record OnlyPuts (at count : ℕ) (old new : DiskState) (past since : ℕ → List ℕ → Type 0) (before now : List ℕ → Type 0) : Type 0 where
   pub same : DiskGoesOn old new
+  pub seen : SeesTorn at count old new
   pub crash : Follows (Torn at count) before now
   pub time : LeavesOnly old.moment new.moment past since (Over at count before)
 

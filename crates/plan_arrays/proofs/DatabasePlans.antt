@@ -18,7 +18,7 @@ use Rattle.plan_arrays.specs.Counts.{CountsFit, aggregates_nothing}
 use Rattle.plan_arrays.specs.Laws.{TypedPlansMeanArrays, PlansWithoutAggregatesMeanArrays}
 use Rattle.plan_arrays.proofs.PlanArrays.{plan_arrays}
 
-pub found_stored : (name : List ℕ) (entry : NameEntry) (es : List NameEntry) → AllByRecursion IsStored es → find (is_named name) es ≡ Some entry → IsStored entry
+found_stored : (name : List ℕ) (entry : NameEntry) (es : List NameEntry) → AllByRecursion IsStored es → find (is_named name) es ≡ Some entry → IsStored entry
 found_stored name entry [] all e = absurd cc
 found_stored name entry (x ∷ es) all e = by_test (is_named name x) e (found_stored name entry es all.1)
   where

@@ -36,7 +36,7 @@ use Rattle.plan_changes.specs.Changes.{is_named, has_array, entry_named}
 use Rattle.plan_changes.specs.Databases.{Version, Stored, Database, entry_of, names_of, is_array, rows_or, rows_in, rows_of, newest_in, newest_rows, fitted, fault_of_change, rows_if_whole, new_rows, has_stored, with_stored, with_absent_stored, with_rows, from_version, after}
 use Rattle.plan_changes.specs.Stored.{is_before, NamesRise, IsStored, AreStored, IsDatabase}
 use Rattle.plan_changes.specs.Typed.{same_kinds, IsVersionOf, FitsInto, IsTypedFor}
-use Rattle.plan_changes.specs.Kept.{StoresArrays, PlansMeanArrays, ChangesKeepDatabases}
+use Rattle.plan_changes.specs.Kept.{StoresArray, PlansMeanArrays, ChangesKeepDatabases}
 use Rattle.plan_changes.proofs.FitLaws.{mapped, bounds_alike, kinds_alike, fit_array, fit_sound}
 use Rattle.plan_changes.proofs.NamesOf.{names_depend_on_no_row}
 use Rattle.plan_changes.proofs.StoredLaws.{RiseAfter, names_in, after_next, tail_rises, all_inserted, all_less, changes_keep_names}
@@ -267,16 +267,16 @@ insert_suits db is name schema plan fits means none = by_found (find (is_named n
         suits_all name schema rows
         (both_stand schema (rows_if_whole (fitted schema plan db)) (newest_rows db name) (new_stand db (Some entry) schema plan valid f means none) (found_rows name schema (newest_in (find (is_array name) db)) valid db is.rows same)) db same
 
-holds_after : (db : Database) (change : Change) → IsDatabase db → IsTypedFor (names_of db) change → StoresArrays change → fault_of_change db change ≡ None → AllByRecursion Holds (after db change)
+holds_after : (db : Database) (change : Change) → IsDatabase db → IsTypedFor (names_of db) change → StoresArray db change → fault_of_change db change ≡ None → AllByRecursion Holds (after db change)
 holds_after db (Create name schema) is typed stores none = with_new Holds name schema db tt is.rows
 holds_after db (Store name schema plan) is typed stores none =
     let valid : IsValid schema = (and_parts (is_valid schema) ((has_array (map entry_of db) name || has_room (map entry_of db)) && list_all (has_number name) (map entry_of db)) typed.0).0 in
-    let stand = new_stand db (entry_named (map entry_of db) name) schema plan valid typed.1.1 (stores db is typed.1.0) none in
+    let stand = new_stand db (entry_named (map entry_of db) name) schema plan valid typed.1.1 stores none in
     rows_added name (rows_if_whole (fitted schema plan db)) (with_absent_stored name schema db)
     (suits_all name schema (rows_if_whole (fitted schema plan db)) stand (with_absent_stored name schema db)
     (with_absent_new (HasSchema name schema) name schema db (λ yes. refl) (fitting_schema name schema plan db is.names.rising typed.1.1)))
     (with_absent_new Holds name schema db tt is.rows)
-holds_after db (Insert name schema plan) is typed stores none = rows_added name (new_rows db (Insert name schema plan)) db (insert_suits db is name schema plan typed.1.1 (stores db is typed.1.0) none) is.rows
+holds_after db (Insert name schema plan) is typed stores none = rows_added name (new_rows db (Insert name schema plan)) db (insert_suits db is name schema plan typed.1.1 stores none) is.rows
 holds_after db (Remove name) is typed stores none = all_less Holds (λ a. not (is_array name a)) db is.rows
 holds_after db (RemoveVersions name below) is typed stores none = mapped Holds Holds (from_version name below) (cut_one name below) db is.rows
 

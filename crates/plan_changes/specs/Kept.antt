@@ -11,17 +11,21 @@ use Rattle.plan_changes.specs.Databases.{Database, rows_of, names_of, fault_of_c
 use Rattle.plan_changes.specs.Stored.{IsDatabase, HasItsNames}
 use Rattle.plan_changes.specs.Typed.{IsTypedOver, IsTypedFor}
 
--- over each database that it is typed for a plan means an array of its schema, where it is not broken
-abbrev pub MeansArrays : Query → Type 0
-MeansArrays plan = (db : Database) → IsDatabase db → IsTypedOver (names_of db) plan → IfOk (meaning (rows_of db) plan).rows (AreRowsOf (schema_of plan))
+-- over a database a plan means an array of its schema, where it is not broken
+abbrev pub MeansArray : Database → Query → Type 0
+MeansArray db plan = IfOk (meaning (rows_of db) plan).rows (AreRowsOf (schema_of plan))
 
--- so does the plan of a change
-abbrev pub StoresArrays : Change → Type 0
-StoresArrays (Create name schema) = Unit {0}
-StoresArrays (Store name schema plan) = MeansArrays plan
-StoresArrays (Insert name schema plan) = MeansArrays plan
-StoresArrays (Remove name) = Unit {0}
-StoresArrays (RemoveVersions name below) = Unit {0}
+-- over each database that it is typed for
+abbrev pub MeansArrays : Query → Type 0
+MeansArrays plan = (db : Database) → IsDatabase db → IsTypedOver (names_of db) plan → MeansArray db plan
+
+-- so does the plan of a change over the database before it
+abbrev pub StoresArray : Database → Change → Type 0
+StoresArray db (Create name schema) = Unit {0}
+StoresArray db (Store name schema plan) = MeansArray db plan
+StoresArray db (Insert name schema plan) = MeansArray db plan
+StoresArray db (Remove name) = Unit {0}
+StoresArray db (RemoveVersions name below) = Unit {0}
 
 -- so does a plan of builds, literals and scans, filtered, cut to boxes, and with more or fewer attributes
 abbrev pub PlansMeanArrays : Type 0
@@ -29,4 +33,4 @@ PlansMeanArrays = (plan : Query) → IsTrue (keeps_places plan) → MeansArrays 
 
 -- a typed change without fault leaves a database
 abbrev pub ChangesKeepDatabases : Type 0
-ChangesKeepDatabases = (db : Database) (change : Change) → IsDatabase db → HasItsNames change → IsTypedFor (names_of db) change → StoresArrays change → fault_of_change db change ≡ None → IsDatabase (after db change)
+ChangesKeepDatabases = (db : Database) (change : Change) → IsDatabase db → HasItsNames change → IsTypedFor (names_of db) change → StoresArray db change → fault_of_change db change ≡ None → IsDatabase (after db change)

@@ -19,7 +19,7 @@ pub fn plans_mean_arrays()
     ensures { PlansMeanArrays }
 {}
 
-/// A typed change without fault, of a plan that means arrays of its schema, leaves a database.
+/// A typed change without fault, of a plan that means an array of its schema over the database, leaves a database.
 pub fn changes_keep_databases()
     ensures { ChangesKeepDatabases }
 {}

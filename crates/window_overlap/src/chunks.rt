@@ -30,15 +30,14 @@ fn frame_rows(grid: &Grid, chunk: &Chunk) -> Result<List<Row>, Memory>
     ensures few { IfOk result (λ rows. length rows < 2 ^ 63) }
 {
     let positions = chunk.positions.as_slice();
-    let cells = chunk.cells.as_slice();
     if positions.len() >= 1 << 63 {
         return Err(Memory);
     }
-    let mut rows = List::with_capacity(chunk.cells.allocator(), cells.len())?;
+    let mut rows = List::with_capacity(chunk.positions.allocator(), positions.len())?;
     for index in 0..positions.len() {
         rows.push(Row {
             at: grid.place(positions[index]),
-            cell: cells[index].copy()?,
+            cell: chunk.cells.cell(index)?,
         })?;
     }
     Ok(rows)

@@ -2,5 +2,5 @@ use Rattle.std.proofs.Common.{◌≡◌, map, take}
 use Rattle.exec_cellwise.specs.Picked.{picked}
 use Rattle.exec_cellwise.proofs.projecting.project_cells.Given as goal
 
-abbrev pub invariant-loop-cell : goal.invariant-loop-cell
-invariant-loop-cell l = l.made ≡ map (picked l.kept) (take l.cell-index l.cell-items)
+abbrev pub invariant-loop-k : goal.invariant-loop-k
+invariant-loop-k l = l.made ≡ map (picked l.kept) (take l.k l.cells)
