@@ -4,6 +4,7 @@ pub mod ExampleLaws
 pub mod LawProofs
 pub mod LinkLaws
 mod LinkWitness
+pub mod MarginLaws
 pub mod NearLemmas
 pub mod NumberLaws
 pub mod PlaceLaws

@@ -7,6 +7,7 @@ mod cores;
 mod frames;
 mod grid;
 mod laws;
+mod margins;
 
 pub use boxes::Boxes;
 pub use chunk::{Changed, Chunk, ChunkedArray};
@@ -16,3 +17,4 @@ pub use grid::{Grid, Lengths};
 pub use laws::{
     boxes_hold_coordinates, chunks_are_one_array, cores_are_parts, position_and_place_are_inverse,
 };
+pub use margins::margins_of;

@@ -1,6 +1,7 @@
 //! Coordinates of cells and chunks, and the order of cells.
-ghost use Rattle.std.specs.Prelude.{◌≡◌, ◌≤◌, ◌↔◌, length, IsTrue, IsOk, IfOk};
-ghost use Rattle.arrayvec.specs.ArrayVec.{array_vec_len};
+ghost use Rattle.std.specs.Prelude.{◌≡◌, ◌≤◌, ◌↔◌, pos, length, slice_index_or, IsTrue, IsOk, IfOk};
+ghost use Rattle.std.specs.Ordering.{nat_cmp};
+ghost use Rattle.std.specs.Cmp.Lexicographic.{slice_cmp};
 ghost use Rattle.cell_values.specs.RowMajor.{row_order};
 
 use crate::{Copies, Memory};
@@ -18,10 +19,26 @@ pub type Margins = ArrayVec<u64, 6>;
 
 /// The order of cells in an array: the first dimension in which they differ decides.
 pub fn row_major(a: &Coord, b: &Coord) -> Ordering
-    requires { array_vec_len a.now ≡ array_vec_len b.now }
     ensures { result ≡ row_order a.now.items b.now.items }
 {
     a.as_slice().cmp(b.as_slice())
+}
+
+/// The order of the chunks of an array: the first dimension in which their numbers differ decides.
+pub fn compare_numbers(a: &ChunkAt, b: &ChunkAt) -> Ordering
+    ensures { result ≡ slice_cmp nat_cmp a.now.items b.now.items }
+{
+    a.as_slice().cmp(b.as_slice())
+}
+
+/// The number of a coordinate in a dimension, 0 where it has none.
+pub fn number_at(at: &Coord, place: usize) -> i64
+    ensures { result ≡ slice_index_or at.now.items place (pos 0) }
+{
+    match at.as_slice().get(place) {
+        Some(number) => *number,
+        None => 0,
+    }
 }
 
 /// Whether two coordinates are the same.

@@ -3,6 +3,7 @@
 
 pub mod coord;
 pub mod datum;
+pub mod limits;
 pub mod list;
 pub mod memory;
 pub mod name;
@@ -11,12 +12,15 @@ pub mod schema;
 pub mod table;
 
 pub use coord::{
-    ChunkAt, Coord, Margins, coord_of, copy_coord, copy_numbers, row_major, same_numbers,
-    same_place,
+    ChunkAt, Coord, Margins, compare_numbers, coord_of, copy_coord, copy_numbers, number_at,
+    row_major, same_numbers, same_place,
 };
 pub use datum::{Broken, Cell, Code, CompareOp, Datum, FaultKind, Row};
+pub use limits::{
+    MAX_ATTRIBUTES, MAX_BOUND, MAX_DIMENSIONS, MAX_FRAME, MAX_NAME, MAX_STATEMENT, MAX_TEXT,
+};
 pub use list::{Bytes, Copies, List};
 pub use memory::Memory;
 pub use name::{Name, Span};
 pub use schema::{Attribute, Bounds, Dimension, Kind, Schema};
-pub use table::{MAX_TEXT, add, and3, compare, div, mul, neg, not3, or3, rem, sub};
+pub use table::{add, and3, compare, div, mul, neg, not3, or3, rem, sub};

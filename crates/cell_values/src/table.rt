@@ -4,12 +4,10 @@
 ghost use Rattle.std.specs.Prelude.{◌≡◌, IfOk, MatchOption};
 ghost use Rattle.cell_values.specs.Table.{exact, joined, total, difference, product, quotient, remainder, negation, holds, comparison, both_of, either_of, opposite};
 
+use crate::limits::MAX_TEXT;
 use crate::{CompareOp, Datum, FaultKind, List, Memory};
 use std::alloc::Global;
 use std::cmp::Ordering;
-
-/// How many bytes a text may have.
-pub const MAX_TEXT: usize = 65535;
 
 /// An operator on two values: a fault of an operand, else a null of an operand with its code, the left one first, else the answer of
 /// the arms.
