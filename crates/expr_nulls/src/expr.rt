@@ -7,7 +7,7 @@ use std::alloc::Global;
 use std::marker::Model;
 
 /// An operator on two numbers; `Add` also joins two texts.
-#[derive(Clone, Copy, Debug, PartialEq, Eq)]
+#[derive(Clone, Copy)]
 pub enum ArithOp {
     Add,
     Sub,
@@ -18,13 +18,13 @@ pub enum ArithOp {
 
 /// An expression over the values and the coordinate of a cell. Contracts see it as an `Expr`, without its boxes.
 #[cycle(expr)]
-#[derive(Debug, Drop)]
+#[derive(Drop)]
 pub struct TypedExpr {
     pub node: ExprNode,
 }
 
 #[cycle(expr)]
-#[derive(Debug, Drop)]
+#[derive(Drop)]
 pub enum ExprNode {
     Lit(Datum),
     /// The value of an attribute, by its place from 0.
@@ -68,6 +68,66 @@ impl Model for TypedExpr {
     ghost use Rattle.expr_nulls.specs.ExprFalls.{depth_le-size};
 
     ghost size_decreases = { λ e h. depth_le-size e.node };
+}
+
+/// Lets an expression go. That its boxes can be let go is proved here once, and not again in each crate that calls this.
+pub fn let_go_expr(expr: TypedExpr) {
+    drop(expr)
+}
+
+/// Two expressions in boxes.
+fn boxed_both(
+    alloc: Global,
+    a: TypedExpr,
+    b: TypedExpr,
+) -> Result<(Box<TypedExpr>, Box<TypedExpr>), Memory>
+    ensures { IfOk result (λ both. (both.0.value ≡ a) × (both.1.value ≡ b)) }
+{
+    match Box::new(alloc, a) {
+        Ok(a) => boxed_beside(alloc, a, b),
+        Err(_) => {
+            drop(b);
+            Err(Memory)
+        }
+    }
+}
+
+/// A box, and a second expression in a box.
+fn boxed_beside(
+    alloc: Global,
+    a: Box<TypedExpr>,
+    b: TypedExpr,
+) -> Result<(Box<TypedExpr>, Box<TypedExpr>), Memory>
+    ensures { IfOk result (λ both. (both.0.value ≡ a.value) × (both.1.value ≡ b)) }
+{
+    match Box::new(alloc, b) {
+        Ok(b) => Ok((a, b)),
+        Err(_) => {
+            drop(a);
+            Err(Memory)
+        }
+    }
+}
+
+/// `a` where `test` is true, else `b`.
+fn choice(
+    alloc: Global,
+    test: TypedExpr,
+    a: Box<TypedExpr>,
+    b: Box<TypedExpr>,
+) -> Result<TypedExpr, Memory>
+    ensures { IfOk result (λ e. e ≡ conditional test a.value b.value) }
+{
+    match Box::new(alloc, test) {
+        Ok(test) => Ok(TypedExpr {
+            node: ExprNode::Iif(test, a, b),
+        }),
+        Err(_) => {
+            drop(a);
+            drop(b);
+            Err(Memory)
+        }
+    }
 }
 
 impl TypedExpr {
@@ -117,8 +177,10 @@ impl TypedExpr {
     ) -> Result<TypedExpr, Memory>
         ensures { IfOk result (λ e. e ≡ calculation op a b) }
     {
-        let node = ExprNode::Arith(op, Box::new(alloc, a)?, Box::new(alloc, b)?);
-        Ok(TypedExpr { node })
+        let (a, b) = boxed_both(alloc, a, b)?;
+        Ok(TypedExpr {
+            node: ExprNode::Arith(op, a, b),
+        })
     }
 
     pub fn compare(
@@ -129,22 +191,28 @@ impl TypedExpr {
     ) -> Result<TypedExpr, Memory>
         ensures { IfOk result (λ e. e ≡ relation op a b) }
     {
-        let node = ExprNode::Compare(op, Box::new(alloc, a)?, Box::new(alloc, b)?);
-        Ok(TypedExpr { node })
+        let (a, b) = boxed_both(alloc, a, b)?;
+        Ok(TypedExpr {
+            node: ExprNode::Compare(op, a, b),
+        })
     }
 
     pub fn and(alloc: Global, a: TypedExpr, b: TypedExpr) -> Result<TypedExpr, Memory>
         ensures { IfOk result (λ e. e ≡ conjunction a b) }
     {
-        let node = ExprNode::And(Box::new(alloc, a)?, Box::new(alloc, b)?);
-        Ok(TypedExpr { node })
+        let (a, b) = boxed_both(alloc, a, b)?;
+        Ok(TypedExpr {
+            node: ExprNode::And(a, b),
+        })
     }
 
     pub fn or(alloc: Global, a: TypedExpr, b: TypedExpr) -> Result<TypedExpr, Memory>
         ensures { IfOk result (λ e. e ≡ disjunction a b) }
     {
-        let node = ExprNode::Or(Box::new(alloc, a)?, Box::new(alloc, b)?);
-        Ok(TypedExpr { node })
+        let (a, b) = boxed_both(alloc, a, b)?;
+        Ok(TypedExpr {
+            node: ExprNode::Or(a, b),
+        })
     }
 
     /// `a` where `test` is true, else `b`.
@@ -156,9 +224,13 @@ impl TypedExpr {
     ) -> Result<TypedExpr, Memory>
         ensures { IfOk result (λ e. e ≡ conditional test a b) }
     {
-        let test = Box::new(alloc, test)?;
-        let node = ExprNode::Iif(test, Box::new(alloc, a)?, Box::new(alloc, b)?);
-        Ok(TypedExpr { node })
+        match boxed_both(alloc, a, b) {
+            Ok((a, b)) => choice(alloc, test, a, b),
+            Err(Memory) => {
+                drop(test);
+                Err(Memory)
+            }
+        }
     }
 
     pub fn is_null(alloc: Global, a: TypedExpr) -> Result<TypedExpr, Memory>

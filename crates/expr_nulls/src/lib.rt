@@ -7,4 +7,4 @@ mod expr;
 mod functions;
 
 pub use evaluate::{eval, typed_values_fit};
-pub use expr::{ArithOp, ExprNode, TypedExpr};
+pub use expr::{ArithOp, ExprNode, TypedExpr, let_go_expr};
