@@ -9,7 +9,7 @@ use Rattle.afl_outside.specs.Counts.{risen, Rose}
 use Rattle.afl_outside.specs.Turns.{Turns, passed, failed}
 use Rattle.afl_outside.specs.Sink.{IsNewSink}
 use Rattle.afl_outside.specs.InMemory.{MemorySink, memory_sink_state}
-use Rattle.afl_outside.specs.Shelf.{KeepsWord, LeavesOthers}
+use Rattle.afl_outside.specs.Shelf.{KeepsWord, LeavesOthers, Hands}
 use Rattle.afl_outside.specs.Files.{file_of, without, file_bytes, if_sure, MemoryShelf, OpensFile, OpensReply, made_reply, memory_shelf_state}
 use Rattle.afl_outside.specs.declared.source.Failed.{Failed}
 use Rattle.afl_outside.specs.declared.mem_file.MemFile.{MemFile}
@@ -88,15 +88,15 @@ none_listed : (call : ℕ) → Contains [] call → ⊥
 none_listed call (k, lt, is) = omega (arith, lt)
 
 -- a script or a device that is opened
-module _ {T : Type 0} (made : MemFile → T) where
+module _ {T : Type 0} (made : MemFile → T) (count : ℕ → ℕ) where
   -- what holds after both ways in which the call can end holds after it
-  outcomes : (P : MemoryShelf → Type 0) (name : List ℕ) (old new : MemoryShelf) (result : Result T Failed) → OpensFile made name old new result
-      → P (record old { files = without old.files name; turns = passed old.turns }) → P (record old { turns = failed old.turns }) → P new
+  outcomes : (P : MemoryShelf → Type 0) (name : List ℕ) (old new : MemoryShelf) (result : Result T Failed) → OpensFile made count name old new result
+      → P (record old { files = without old.files name; turns = passed old.turns; handed = count old.handed }) → P (record old { turns = failed old.turns }) → P new
   outcomes P name old new (Ok x) opens ok err = subst P (sym opens.4) ok
   outcomes P name old new (Err e) opens ok err = subst P (sym opens.1) err
 
   -- it is made of a file of that name
-  pub opened_handed : (P : T → Type 0) (name : List ℕ) (old new : MemoryShelf) (result : Result T Failed) → OpensFile made name old new result → ((f : MemFile) → f.name ≡ name → P (made f)) → IfOk result P
+  pub opened_handed : (P : T → Type 0) (name : List ℕ) (old new : MemoryShelf) (result : Result T Failed) → OpensFile made count name old new result → ((f : MemFile) → f.name ≡ name → P (made f)) → IfOk result P
   opened_handed P name old new (Ok x) opens good = subst P (sym opens.3) (good opens.0 (file_of-name old.files name opens.0 opens.1))
   opened_handed P name old new (Err e) opens good = tt
 
@@ -109,27 +109,27 @@ module _ {T : Type 0} (made : MemFile → T) where
   word first begins [] call before now (Some f) (Err e) ok (inl listed) = absurd (none_listed call listed)
   word first begins [] call before now (Some f) (Err e) ok (inr none) = cc
 
-  pub opened_told : (first : T → Option (List ℕ)) → ((f : MemFile) → first (made f) ≡ Some f.content) → (name : List ℕ) (old new : MemoryShelf) (result : Result T Failed) → OpensFile made name old new result
+  pub opened_told : (first : T → Option (List ℕ)) → ((f : MemFile) → first (made f) ≡ Some f.content) → (name : List ℕ) (old new : MemoryShelf) (result : Result T Failed) → OpensFile made count name old new result
       → KeepsWord ((memory_shelf_state old).scripts name) old.wants new.wants first result
   opened_told first begins name old new (Ok x) opens = word first begins old.turns.fails old.turns.calls old.wants new.wants (file_of old.files name) (Ok x) (opens.0, opens.1, opens.3) tt
   opened_told first begins name old new (Err e) opens = word first begins old.turns.fails old.turns.calls old.wants new.wants (file_of old.files name) (Err e) tt opens.0
 
-  pub opened_others : (name : List ℕ) (old new : MemoryShelf) (result : Result T Failed) → OpensFile made name old new result → old.turns.faults ≤ new.turns.faults
+  pub opened_others : (name : List ℕ) (old new : MemoryShelf) (result : Result T Failed) → OpensFile made count name old new result → old.turns.faults ≤ new.turns.faults
       → LeavesOthers name (memory_shelf_state old) (memory_shelf_state new)
   opened_others name old new result opens later =
       leaves name old new (outcomes (KeepsOthers name old) name old new result opens (record { files = file_bytes-without old.files name; replies = λ n other. refl; fails = refl }) (record { files = λ n other. refl; replies = λ n other. refl; fails = refl })) later
       (outcomes (λ s. old.wants ≤ s.wants) name old new result opens (omega arith) (omega arith))
 
-  pub opened_replies : (name : List ℕ) (old new : MemoryShelf) (result : Result T Failed) → OpensFile made name old new result → (n : List ℕ) → (memory_shelf_state new).replies n ≡ (memory_shelf_state old).replies n
+  pub opened_replies : (name : List ℕ) (old new : MemoryShelf) (result : Result T Failed) → OpensFile made count name old new result → (n : List ℕ) → (memory_shelf_state new).replies n ≡ (memory_shelf_state old).replies n
   opened_replies name old new result opens n = outcomes (λ s. (memory_shelf_state s).replies n ≡ (memory_shelf_state old).replies n) name old new result opens refl refl
 
-  pub opened_cause : (name : List ℕ) (old new : MemoryShelf) (result : Result T Failed) → OpensFile made name old new result → OnErr result (Rose old.turns.faults new.turns.faults ⊎ Rose old.wants new.wants)
+  pub opened_cause : (name : List ℕ) (old new : MemoryShelf) (result : Result T Failed) → OpensFile made count name old new result → OnErr result (Rose old.turns.faults new.turns.faults ⊎ Rose old.wants new.wants)
   opened_cause name old new (Ok x) opens = tt
   opened_cause name old new (Err e) opens = inl (omega (arith, ap (λ (s : MemoryShelf). s.turns.faults) opens.1))
 
 -- a reply that is opened
 reply_outcomes : (P : MemoryShelf → Type 0) (name : List ℕ) (old new : MemoryShelf) (result : Result MemorySink Failed) → OpensReply name old new result
-    → P (record old { replies = without old.replies name; turns = passed old.turns }) → ((turns : Turns) (wants : ℕ) → turns.fails ≡ old.turns.fails → P (record old { turns = turns; wants = wants })) → P new
+    → P (record old { replies = without old.replies name; turns = passed old.turns; handed = risen old.handed }) → ((turns : Turns) (wants : ℕ) → turns.fails ≡ old.turns.fails → P (record old { turns = turns; wants = wants })) → P new
 reply_outcomes P name old new (Ok x) opens ok err = subst P (sym opens.2) ok
 reply_outcomes P name old new (Err e) (inl opens) ok err = subst P (sym opens.1) (err (failed old.turns) old.wants refl)
 reply_outcomes P name old new (Err e) (inr opens) ok err = subst P (sym opens.2) (err (passed old.turns) (risen old.wants) refl)
@@ -169,3 +169,17 @@ pub reply_cause : (name : List ℕ) (old new : MemoryShelf) (result : Result Mem
 reply_cause name old new (Ok x) opens = tt
 reply_cause name old new (Err e) (inl opens) = inl (omega (arith, ap (λ (s : MemoryShelf). s.turns.faults) opens.1))
 reply_cause name old new (Err e) (inr opens) = inr (omega (arith, ap (λ (s : MemoryShelf). s.wants) opens.2))
+
+-- what can be written is counted as it is handed out
+pub script_counted : {T : Type 0} (made : MemFile → T) (name : List ℕ) (old new : MemoryShelf) (result : Result T Failed) → OpensFile made (λ n. n) name old new result → new.handed ≡ old.handed
+script_counted made name old new (Ok x) opens = ap (λ (s : MemoryShelf). s.handed) opens.4
+script_counted made name old new (Err e) opens = ap (λ (s : MemoryShelf). s.handed) opens.1
+
+pub device_counted : {T : Type 0} (made : MemFile → T) (name : List ℕ) (old new : MemoryShelf) (result : Result T Failed) → OpensFile made risen name old new result → Hands old.handed new.handed result
+device_counted made name old new (Ok x) opens = ap (λ (s : MemoryShelf). s.handed) opens.4
+device_counted made name old new (Err e) opens = ap (λ (s : MemoryShelf). s.handed) opens.1
+
+pub reply_counted : (name : List ℕ) (old new : MemoryShelf) (result : Result MemorySink Failed) → OpensReply name old new result → Hands old.handed new.handed result
+reply_counted name old new (Ok x) opens = ap (λ (s : MemoryShelf). s.handed) opens.2
+reply_counted name old new (Err e) (inl opens) = ap (λ (s : MemoryShelf). s.handed) opens.1
+reply_counted name old new (Err e) (inr opens) = ap (λ (s : MemoryShelf). s.handed) opens.2

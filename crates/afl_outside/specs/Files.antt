@@ -29,29 +29,31 @@ abbrev pub made_reply : List ℕ → Option MemFile → MemorySink
 made_reply name None = new_sink name [] []
 made_reply name (Some file) = new_sink file.name file.content file.fails
 
--- A shelf in memory: the files and replies that are left, its calls, and how often it has found no memory.
+-- A shelf in memory: the files and replies that are left, its calls, how often it has found no memory, and how many replies and
+-- devices it has handed out.
 pub record MemoryShelf : Type 0 where
   pub files : List MemFile
   pub replies : List MemFile
   pub turns : Turns
   pub wants : ℕ
+  pub handed : ℕ
 
 -- one from which nothing was taken
 abbrev pub new_shelf : List MemFile → List MemFile → List ℕ → MemoryShelf
-new_shelf files replies fails = record { files = files; replies = replies; turns = no_turns fails; wants = 0 }
+new_shelf files replies fails = record { files = files; replies = replies; turns = no_turns fails; wants = 0; handed = 0 }
 
--- A script or a device is made of the file of that name, which is taken out. The call fails exactly where its number is listed or
--- there is no such file.
-abbrev pub OpensFile : {T : Type 0} → (MemFile → T) → List ℕ → MemoryShelf → MemoryShelf → Result T Failed → Type 0
-OpensFile made name old new (Ok x) = (file : MemFile) × (file_of old.files name ≡ Some file) × ¬ IsListed old.turns × (x ≡ made file)
-    × (new ≡ record old { files = without old.files name; turns = passed old.turns })
-OpensFile made name old new (Err e) = (IsListed old.turns ⊎ (file_of old.files name ≡ None)) × (new ≡ record old { turns = failed old.turns })
+-- A script or a device is made of the file of that name, which is taken out, and counted so. The call fails exactly where its number
+-- is listed or there is no such file.
+abbrev pub OpensFile : {T : Type 0} → (MemFile → T) → (ℕ → ℕ) → List ℕ → MemoryShelf → MemoryShelf → Result T Failed → Type 0
+OpensFile made count name old new (Ok x) = (file : MemFile) × (file_of old.files name ≡ Some file) × ¬ IsListed old.turns × (x ≡ made file)
+    × (new ≡ record old { files = without old.files name; turns = passed old.turns; handed = count old.handed })
+OpensFile made count name old new (Err e) = (IsListed old.turns ⊎ (file_of old.files name ≡ None)) × (new ≡ record old { turns = failed old.turns })
 
--- A reply is made of the file of that name in `replies`, which is taken out. The call fails where its number is listed, and where
+-- A reply is made of the file of that name in `replies`, which is taken out, and is counted. The call fails where its number is listed, and where
 -- there is no such file it may find no memory.
 abbrev pub OpensReply : List ℕ → MemoryShelf → MemoryShelf → Result MemorySink Failed → Type 0
 OpensReply name old new (Ok x) = ¬ IsListed old.turns × (x ≡ made_reply name (file_of old.replies name))
-    × (new ≡ record old { replies = without old.replies name; turns = passed old.turns })
+    × (new ≡ record old { replies = without old.replies name; turns = passed old.turns; handed = risen old.handed })
 OpensReply name old new (Err e) = (IsListed old.turns × (new ≡ record old { turns = failed old.turns }))
     ⊎ (¬ IsListed old.turns × (file_of old.replies name ≡ None) × (new ≡ record old { turns = passed old.turns; wants = risen old.wants }))
 
@@ -68,4 +70,5 @@ memory_shelf_state s = record {
   devices = λ name. if_sure s.turns.fails (file_bytes s.files name);
   faults = s.turns.faults;
   wants = s.wants;
+  handed = s.handed;
 }

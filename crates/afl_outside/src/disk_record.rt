@@ -102,7 +102,12 @@ impl DiskRecord {
 }
 
 /// Writes over the first bytes, of which the first write makes a copy.
-pub(crate) fn lay_over(first: &Bytes, over: &mut Option<Vec<u8>>, at: u64, bytes: &[u8]) -> Result<(), Memory>
+pub(crate) fn lay_over(
+    first: &Bytes,
+    over: &mut Option<Vec<u8>>,
+    at: u64,
+    bytes: &[u8],
+) -> Result<(), Memory>
     ensures ok { OnOk result (laid_over first.now over.new ≡ written at bytes.now (laid_over first.now over.old)) }
     ensures err { OnErr result (laid_over first.now over.new ≡ laid_over first.now over.old) }
 {

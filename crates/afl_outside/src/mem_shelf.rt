@@ -1,5 +1,6 @@
 //! Files in memory.
 ghost use Rattle.std.specs.Prelude.{◌≡◌, ◌≤◌};
+ghost use Rattle.afl_outside.specs.Counts.{risen};
 ghost use Rattle.afl_outside.specs.InMemory.{new_source};
 ghost use Rattle.afl_outside.specs.Records.{new_disk};
 ghost use Rattle.afl_outside.specs.Files.{new_shelf, memory_shelf_state, OpensFile, OpensReply};
@@ -18,6 +19,7 @@ pub struct MemShelf {
     replies: List<MemFile>,
     turns: FailingCalls,
     wants: u64,
+    handed: u64,
 }
 
 impl Model for MemShelf {
@@ -25,7 +27,7 @@ impl Model for MemShelf {
 
     ghost Value = { MemoryShelf };
 
-    ghost view = { λ s. record { files = s.files; replies = s.replies; turns = s.turns; wants = s.wants } };
+    ghost view = { λ s. record { files = s.files; replies = s.replies; turns = s.turns; wants = s.wants; handed = s.handed } };
 }
 
 impl MemShelf {
@@ -39,6 +41,7 @@ impl MemShelf {
             replies,
             turns: FailingCalls::new(fails),
             wants: 0,
+            handed: 0,
         }
     }
 }
@@ -53,7 +56,7 @@ impl Shelf for MemShelf {
     ghost state = { memory_shelf_state };
 
     fn script(&mut self, name: &str) -> Result<MemSource, Failed>
-        ensures exact { OpensFile (λ f. new_source f.name f.content f.fails) name.now self.old self.new result }
+        ensures exact { OpensFile (λ f. new_source f.name f.content f.fails) (λ n. n) name.now self.old self.new result }
         ensures later { self.old.turns.faults ≤ self.new.turns.faults }
     {
         if self.turns.fails_next() {
@@ -89,11 +92,15 @@ impl Shelf for MemShelf {
                     content,
                     fails,
                 },
-            ) => Ok(MemSink::named(name, content, fails)),
+            ) => {
+                self.handed = self.handed.saturating_add(1);
+                Ok(MemSink::named(name, content, fails))
+            }
             None => match Bytes::from_slice(self.replies.allocator(), name.as_bytes()) {
                 Ok(name) => {
                     let content = self.replies.another();
                     let fails = self.replies.another();
+                    self.handed = self.handed.saturating_add(1);
                     Ok(MemSink::named(name, content, fails))
                 }
                 Err(_) => {
@@ -105,7 +112,7 @@ impl Shelf for MemShelf {
     }
 
     fn device(&mut self, name: &str) -> Result<MemDisk, Failed>
-        ensures exact { OpensFile (λ f. new_disk f.name f.content f.fails) name.now self.old self.new result }
+        ensures exact { OpensFile (λ f. new_disk f.name f.content f.fails) risen name.now self.old self.new result }
         ensures later { self.old.turns.faults ≤ self.new.turns.faults }
     {
         if self.turns.fails_next() {
@@ -118,7 +125,10 @@ impl Shelf for MemShelf {
                     content,
                     fails,
                 },
-            ) => Ok(MemDisk::named(name, content, fails)),
+            ) => {
+                self.handed = self.handed.saturating_add(1);
+                Ok(MemDisk::named(name, content, fails))
+            }
             None => {
                 self.turns.fault();
                 Err(Failed)

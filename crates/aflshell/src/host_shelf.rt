@@ -10,11 +10,16 @@ use std::fs;
 pub struct HostShelf {
     rt: HostRuntime,
     faults: u64,
+    handed: u64,
 }
 
 impl HostShelf {
     pub fn new(rt: HostRuntime) -> Self {
-        HostShelf { rt, faults: 0 }
+        HostShelf {
+            rt,
+            faults: 0,
+            handed: 0,
+        }
     }
 }
 
@@ -44,10 +49,14 @@ impl Shelf for HostShelf {
 
     fn reply(&mut self, name: &str) -> Result<HostSink, Failed> {
         if name == "-" {
+            self.handed = self.handed.saturating_add(1);
             return Ok(HostSink::standard(self.rt.stdout()));
         }
         match fs::create(&self.rt, name) {
-            Ok(file) => Ok(HostSink::named(file)),
+            Ok(file) => {
+                self.handed = self.handed.saturating_add(1);
+                Ok(HostSink::named(file))
+            }
             Err(_) => {
                 self.faults = self.faults.saturating_add(1);
                 Err(Failed)

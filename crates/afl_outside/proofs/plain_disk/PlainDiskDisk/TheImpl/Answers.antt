@@ -1,4 +1,4 @@
-use Rattle.std.proofs.Common.{IsTrue, Some, IfSome}
+use Rattle.std.proofs.Common.{IsTrue, IfSome}
 use Rattle.afl_outside.specs.Disk.{Only}
 use Rattle.afl_outside.specs.Plain.{plain_state, plain_images}
 use Rattle.afl_outside.proofs.RecordLemmas.{no_cause}
