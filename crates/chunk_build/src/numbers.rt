@@ -8,21 +8,13 @@ ghost use Rattle.array_geom.specs.Link.{NumbersRise, is_listed, number_order};
 ghost use Rattle.chunk_build.specs.Numbers.{AreBefore, AreCoresOf, AreFrom, NameCores, numbers_in, starts_with};
 
 use array_geom::chunk_of;
-use cell_values::{ChunkAt, List, Memory, Row, Schema};
-use std::cmp::Ordering;
-
-/// The order of chunk numbers: the first dimension in which they differ decides.
-fn order_of(a: &ChunkAt, b: &ChunkAt) -> Ordering
-    ensures { result ≡ number_order a.now.items b.now.items }
-{
-    a.as_slice().cmp(b.as_slice())
-}
+use cell_values::{ChunkAt, List, Memory, Row, Schema, compare_numbers};
 
 /// Whether a chunk's number comes before another.
 pub(crate) fn comes_before(a: &ChunkAt, b: &ChunkAt) -> bool
     ensures { result ≡ is_lt (number_order a.now.items b.now.items) }
 {
-    order_of(a, b).is_lt()
+    compare_numbers(a, b).is_lt()
 }
 
 /// How many of the numbers come before one.
@@ -50,7 +42,7 @@ fn stands_at(listed: &[ChunkAt], at: usize, number: &ChunkAt) -> bool
     ensures { result ≡ starts_with number.now.items (drop at listed.now) }
 {
     match listed.get(at) {
-        Some(found) => order_of(found, number).is_eq(),
+        Some(found) => compare_numbers(found, number).is_eq(),
         None => false,
     }
 }
