@@ -14,7 +14,7 @@ use query_types::{TypeFault, query_plan};
 use std::alloc::Global;
 
 /// A typed statement.
-#[derive(Debug, Drop)]
+#[derive(Drop)]
 pub enum Typed {
     Query(Plan),
     Change(Change),
@@ -24,6 +24,11 @@ pub enum Typed {
     Show(Name),
     /// The stored arrays are listed.
     ListArrays,
+}
+
+/// Lets a typed statement go. That its parts can be let go is proved here once, and not again in each crate that calls this.
+pub fn let_go_typed(typed: Typed) {
+    drop(typed)
 }
 
 impl Typed {

@@ -4,5 +4,5 @@
 mod checking;
 mod statement;
 
-pub use checking::{Typed, check};
+pub use checking::{Typed, check, let_go_typed};
 pub use query_types::{Form, OneForm, Operator, TypeFault, operator_named};

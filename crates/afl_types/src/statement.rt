@@ -21,7 +21,7 @@ use std::alloc::Global;
 use type_rules::{Operator, TypeFault, broken, operator_named};
 
 /// `store` of a tree that is a query, checked wholly, under a name.
-#[tactic(auto, using(query_types::proofs::Steps::ok_then, query_types::proofs::Steps::err_then))]
+#[tactic(auto, using(type_rules::proofs::Steps::ok_then, type_rules::proofs::Steps::err_then))]
 fn store_two(
     alloc: Global,
     text: &[u8],
@@ -38,7 +38,7 @@ fn store_two(
 }
 
 /// `insert` of a tree that is a query, checked wholly, under a name.
-#[tactic(auto, using(query_types::proofs::Steps::ok_then, query_types::proofs::Steps::err_then))]
+#[tactic(auto, using(type_rules::proofs::Steps::ok_then, type_rules::proofs::Steps::err_then))]
 fn insert_two(
     alloc: Global,
     text: &[u8],

@@ -198,7 +198,7 @@ fn new_aggregate(
 }
 
 /// The aggregate that an argument is, behind others.
-#[tactic(auto, using(crate::proofs::Steps::ok_then, crate::proofs::Steps::err_then))]
+#[tactic(auto, using(type_rules::proofs::Steps::ok_then, type_rules::proofs::Steps::err_then))]
 fn aggregate_one(
     alloc: Global,
     span: Span,
@@ -225,7 +225,7 @@ fn aggregate_one(
 /// The aggregates that arguments are, over these attributes, for a result whose dimensions have these names.
 ///
 /// `span` is that of the whole call.
-#[tactic(auto, using(crate::proofs::Steps::ok_then, crate::proofs::Steps::err_then))]
+#[tactic(auto, using(type_rules::proofs::Steps::ok_then, type_rules::proofs::Steps::err_then))]
 pub fn aggregates_of(
     alloc: Global,
     span: Span,

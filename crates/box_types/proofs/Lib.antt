@@ -2,4 +2,3 @@ pub mod FixedPlaces
 pub mod Held
 pub mod Holding
 pub mod Parts
-pub mod Steps

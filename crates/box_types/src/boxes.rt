@@ -12,7 +12,7 @@ ghost use Rattle.box_types.specs.Boxes.{between_call, by_count, by_parts, of_par
 use crate::area::box_of;
 use afl_parser::Tree;
 use cell_values::{Dimension, Memory, Span};
-use logical_plan::Plan;
+use logical_plan::{Plan, let_go};
 use operator_rules::{first_but_bounds, of_new_schema, shape_of};
 use schema_grammar::TypeKind;
 use std::alloc::Global;
@@ -63,7 +63,7 @@ fn between_area(
     ensures { Answers result (by_count span dimensions.now bounds.now (λ area. Ok (between source area))) }
 {
     if bounds.len() != 2 * dimensions.len() {
-        drop(source);
+        let_go(source);
         return Err(broken(span, TypeKind::WrongCount));
     }
     Ok(Plan::between(alloc, source, box_of(dimensions, bounds))?)
@@ -82,7 +82,7 @@ fn between_bounds(
     match shape_of(alloc, &source) {
         Ok(schema) => between_area(alloc, span, source, schema.dimensions.as_slice(), bounds),
         Err(Memory) => {
-            drop(source);
+            let_go(source);
             Err(TypeFault::Memory)
         }
     }
@@ -100,7 +100,7 @@ pub fn between_call(
 {
     match first_but_bounds(bounds) {
         Some(other) => {
-            drop(source);
+            let_go(source);
             Err(broken(other, TypeKind::WrongType))
         }
         None => between_bounds(alloc, span, source, bounds),
@@ -112,7 +112,7 @@ fn in_range(alloc: Global, span: Span, parts: &[Dimension], part: Plan) -> Resul
     ensures { Answers result (demand (list_all bounds_in_range parts.now) span TypeKind.BoundsRange (of_new_schema span part)) }
 {
     if !are_in_range(parts) {
-        drop(part);
+        let_go(part);
         return Err(broken(span, TypeKind::BoundsRange));
     }
     of_new_schema(alloc, span, part)
@@ -123,7 +123,7 @@ fn by_parts(alloc: Global, span: Span, parts: &[Dimension], part: Plan) -> Resul
     ensures { Answers result (by_parts span parts.now (of_new_schema span part)) }
 {
     if !are_in_order(parts) {
-        drop(part);
+        let_go(part);
         return Err(broken(span, TypeKind::EmptyBox));
     }
     in_range(alloc, span, parts, part)
@@ -136,7 +136,7 @@ fn of_parts(alloc: Global, span: Span, part: Plan) -> Result<Plan, TypeFault>
     match shape_of(alloc, &part) {
         Ok(schema) => by_parts(alloc, span, schema.dimensions.as_slice(), part),
         Err(Memory) => {
-            drop(part);
+            let_go(part);
             Err(TypeFault::Memory)
         }
     }
@@ -154,7 +154,7 @@ fn part_area(
     ensures { Answers result (by_count span dimensions.now bounds.now (λ area. of_parts span (subarray source area))) }
 {
     if bounds.len() != 2 * dimensions.len() {
-        drop(source);
+        let_go(source);
         return Err(broken(span, TypeKind::WrongCount));
     }
     let part = Plan::subarray(alloc, source, box_of(dimensions, bounds))?;
@@ -169,7 +169,7 @@ fn part_bounds(alloc: Global, span: Span, source: Plan, bounds: &[Tree]) -> Resu
     match shape_of(alloc, &source) {
         Ok(schema) => part_area(alloc, span, source, schema.dimensions.as_slice(), bounds),
         Err(Memory) => {
-            drop(source);
+            let_go(source);
             Err(TypeFault::Memory)
         }
     }
@@ -187,7 +187,7 @@ pub fn subarray_call(
 {
     match first_but_bounds(bounds) {
         Some(other) => {
-            drop(source);
+            let_go(source);
             Err(broken(other, TypeKind::WrongType))
         }
         None => part_bounds(alloc, span, source, bounds),

@@ -12,7 +12,7 @@ ghost use Rattle.box_types.specs.Slice.{fixed_at, fixed_named, fixed_one, of_res
 use afl_parser::{Node, Tree};
 use cell_values::{Dimension, List, Memory, Span};
 use expr_types::dimension_place;
-use logical_plan::{Fixed, Plan};
+use logical_plan::{Fixed, Plan, let_go};
 use operator_rules::{first_but_places, number_in, of_new_schema, shape_of, wrong_type};
 use schema_grammar::TypeKind;
 use std::alloc::Global;
@@ -59,7 +59,7 @@ fn new_place(span: Span, done: &[Fixed], place: Option<usize>) -> Result<u32, Ty
 }
 
 /// The dimension of a name, held at a number.
-#[tactic(auto, using(crate::proofs::Steps::ok_then, crate::proofs::Steps::err_then))]
+#[tactic(auto, using(type_rules::proofs::Steps::ok_then, type_rules::proofs::Steps::err_then))]
 fn fixed_named(
     dimensions: &[Dimension],
     done: &[Fixed],
@@ -91,7 +91,7 @@ fn fixed_one(
 }
 
 /// The dimensions that are named, each held at a number.
-#[tactic(auto, using(crate::proofs::Steps::ok_then, crate::proofs::Steps::err_then))]
+#[tactic(auto, using(type_rules::proofs::Steps::ok_then, type_rules::proofs::Steps::err_then))]
 fn fixed_all(
     alloc: Global,
     dimensions: &[Dimension],
@@ -115,7 +115,7 @@ fn with_some(alloc: Global, span: Span, left: &[Dimension], slice: Plan) -> Resu
     ensures { Answers result (demand (nat_le 1 (length left.now)) span TypeKind.WrongCount (of_new_schema span slice)) }
 {
     if left.is_empty() {
-        drop(slice);
+        let_go(slice);
         return Err(broken(span, TypeKind::WrongCount));
     }
     of_new_schema(alloc, span, slice)
@@ -128,14 +128,14 @@ fn of_rest(alloc: Global, span: Span, slice: Plan) -> Result<Plan, TypeFault>
     match shape_of(alloc, &slice) {
         Ok(schema) => with_some(alloc, span, schema.dimensions.as_slice(), slice),
         Err(Memory) => {
-            drop(slice);
+            let_go(slice);
             Err(TypeFault::Memory)
         }
     }
 }
 
 /// The slice of a source of these dimensions.
-#[tactic(auto, using(crate::proofs::Steps::ok_then, crate::proofs::Steps::err_then))]
+#[tactic(auto, using(type_rules::proofs::Steps::ok_then, type_rules::proofs::Steps::err_then))]
 fn slice_of(
     alloc: Global,
     span: Span,
@@ -149,7 +149,7 @@ fn slice_of(
     match fixed_all(alloc, dimensions, arguments) {
         Ok(fixed) => of_rest(alloc, span, Plan::slice(alloc, source, fixed)?),
         Err(fault) => {
-            drop(source);
+            let_go(source);
             Err(fault)
         }
     }
@@ -168,7 +168,7 @@ fn slice_places(
     match shape_of(alloc, &source) {
         Ok(schema) => slice_of(alloc, span, source, schema.dimensions.as_slice(), arguments),
         Err(Memory) => {
-            drop(source);
+            let_go(source);
             Err(TypeFault::Memory)
         }
     }
@@ -186,7 +186,7 @@ pub fn slice_call(
 {
     match first_but_places(arguments) {
         Some(other) => {
-            drop(source);
+            let_go(source);
             Err(broken(other, TypeKind::WrongType))
         }
         None => slice_places(alloc, span, source, arguments),

@@ -3,4 +3,3 @@ pub mod Arguments
 pub mod Holding
 pub mod NullAlone
 pub mod Projected
-pub mod Steps

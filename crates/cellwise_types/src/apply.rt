@@ -10,9 +10,10 @@ ghost use Rattle.cellwise_types.specs.Apply.{applied_named, applied_one, apply_c
 
 use crate::source::typed_over;
 use afl_parser::{Node, Tree};
-use cell_values::{Attribute, Dimension, List, Name, Schema, Span};
+use cell_values::{Attribute, Dimension, List, Memory, Name, Schema, Span};
+use expr_nulls::let_go_expr;
 use expr_types::Operand;
-use logical_plan::{Applied, Plan};
+use logical_plan::{Applied, Plan, let_go};
 use operator_rules::{first_but_values, of_new_schema, shape_of, wrong_type};
 use schema_grammar::TypeKind;
 use std::alloc::Global;
@@ -54,17 +55,27 @@ fn named_value(name: &Name, value: Operand) -> Result<Applied, TypeFault>
     ensures { Answers result (named_value name.now value) }
 {
     match value.kind {
-        Some(kind) => Ok(Applied {
-            name: name.copy()?,
-            kind,
-            value: value.expr,
-        }),
-        None => Err(broken(value.span, TypeKind::WrongType)),
+        Some(kind) => match name.copy() {
+            Ok(name) => Ok(Applied {
+                name,
+                kind,
+                value: value.expr,
+            }),
+            Err(Memory) => {
+                let_go_expr(value.expr);
+                Err(TypeFault::Memory)
+            }
+        },
+        None => {
+            let span = value.span;
+            let_go_expr(value.expr);
+            Err(broken(span, TypeKind::WrongType))
+        }
     }
 }
 
 /// An attribute with the value of an expression over a source.
-#[tactic(auto, using(crate::proofs::Steps::ok_then, crate::proofs::Steps::err_then))]
+#[tactic(auto, using(type_rules::proofs::Steps::ok_then, type_rules::proofs::Steps::err_then))]
 fn with_value(
     alloc: Global,
     source: &Schema,
@@ -117,7 +128,7 @@ fn applied_one(
 }
 
 /// The attributes of names and expressions.
-#[tactic(auto, using(crate::proofs::Steps::ok_then, crate::proofs::Steps::err_then))]
+#[tactic(auto, using(type_rules::proofs::Steps::ok_then, type_rules::proofs::Steps::err_then))]
 fn applied_all(
     alloc: Global,
     source: &Schema,
@@ -165,7 +176,7 @@ fn with_values(
 }
 
 /// `apply` of a source, with what stands behind it.
-#[tactic(auto, using(crate::proofs::Steps::ok_then, crate::proofs::Steps::err_then))]
+#[tactic(auto, using(type_rules::proofs::Steps::ok_then, type_rules::proofs::Steps::err_then))]
 pub fn apply_call(
     alloc: Global,
     span: Span,
@@ -177,13 +188,13 @@ pub fn apply_call(
     ensures { Answers result (apply_call span source arguments.now) }
 {
     if let Some(other) = first_but_values(arguments) {
-        drop(source);
+        let_go(source);
         return Err(broken(other, TypeKind::WrongType));
     }
     match applied_over(alloc, &source, arguments) {
         Ok(values) => with_values(alloc, span, source, values),
         Err(fault) => {
-            drop(source);
+            let_go(source);
             Err(fault)
         }
     }

@@ -7,9 +7,10 @@ ghost use Rattle.cellwise_types.specs.Filter.{filter_by, filter_call, filter_of}
 
 use crate::source::typed_over;
 use afl_parser::Tree;
-use cell_values::{Kind, Schema, Span};
+use cell_values::{Kind, Memory, Schema, Span};
+use expr_nulls::let_go_expr;
 use expr_types::{Operand, fits};
-use logical_plan::Plan;
+use logical_plan::{Plan, let_go};
 use operator_rules::{is_expression, shape_of, wrong_type};
 use schema_grammar::TypeKind;
 use std::alloc::Global;
@@ -21,15 +22,15 @@ fn filter_by(alloc: Global, source: Plan, test: Operand) -> Result<Plan, TypeFau
 {
     if !fits(Kind::Bool, test.kind) {
         let span = test.span;
-        drop(source);
-        drop(test);
+        let_go(source);
+        let_go_expr(test.expr);
         return Err(broken(span, TypeKind::WrongType));
     }
     Ok(Plan::filter(alloc, source, test.expr)?)
 }
 
 /// The cells of a source of this schema where an expression is true.
-#[tactic(auto, using(crate::proofs::Steps::ok_then, crate::proofs::Steps::err_then))]
+#[tactic(auto, using(type_rules::proofs::Steps::ok_then, type_rules::proofs::Steps::err_then))]
 fn filter_typed(
     alloc: Global,
     source: Plan,
@@ -43,7 +44,7 @@ fn filter_typed(
     match typed_over(alloc, schema, test) {
         Ok(test) => filter_by(alloc, source, test),
         Err(fault) => {
-            drop(source);
+            let_go(source);
             Err(fault)
         }
     }
@@ -56,7 +57,7 @@ fn filter_of(alloc: Global, source: Plan, schema: &Schema, test: &Tree) -> Resul
     ensures { Answers result (filter_of source schema.now test.now) }
 {
     if !is_expression(test) {
-        drop(source);
+        let_go(source);
         return Err(wrong_type(test));
     }
     filter_typed(alloc, source, schema, test)
@@ -68,8 +69,13 @@ fn filter_over(alloc: Global, source: Plan, test: &Tree) -> Result<Plan, TypeFau
     requires dimensions { length (schema_of source).dimensions ≤ 6 }
     ensures { Answers result (filter_of source (schema_of source) test.now) }
 {
-    let schema = shape_of(alloc, &source)?;
-    filter_of(alloc, source, &schema, test)
+    match shape_of(alloc, &source) {
+        Ok(schema) => filter_of(alloc, source, &schema, test),
+        Err(Memory) => {
+            let_go(source);
+            Err(TypeFault::Memory)
+        }
+    }
 }
 
 /// `filter` of a source, with what stands behind it.
@@ -87,7 +93,7 @@ pub fn filter_call(
     match arguments {
         [test] => filter_over(alloc, source, test),
         _ => {
-            drop(source);
+            let_go(source);
             Err(broken(span, TypeKind::WrongCount))
         }
     }

@@ -11,7 +11,7 @@ ghost use Rattle.cellwise_types.specs.Project.{project_call, project_named, proj
 use afl_parser::{Node, Tree};
 use cell_values::{Attribute, List, Schema, Span};
 use expr_types::attribute_place;
-use logical_plan::Plan;
+use logical_plan::{Plan, let_go};
 use operator_rules::{first_but_names, new_place, of_new_schema, shape_of, wrong_type};
 use schema_grammar::TypeKind;
 use std::alloc::Global;
@@ -43,7 +43,7 @@ fn projected_one(attributes: &[Attribute], done: &[u32], name: &Tree) -> Result<
 }
 
 /// The places of the attributes that are named.
-#[tactic(auto, using(crate::proofs::Steps::ok_then, crate::proofs::Steps::err_then))]
+#[tactic(auto, using(type_rules::proofs::Steps::ok_then, type_rules::proofs::Steps::err_then))]
 fn projected_all(
     alloc: Global,
     attributes: &[Attribute],
@@ -91,19 +91,19 @@ fn with_places(
 }
 
 /// A source with the attributes that are named, and no others.
-#[tactic(auto, using(crate::proofs::Steps::ok_then, crate::proofs::Steps::err_then))]
+#[tactic(auto, using(type_rules::proofs::Steps::ok_then, type_rules::proofs::Steps::err_then))]
 fn project_named(alloc: Global, span: Span, source: Plan, names: &[Tree]) -> Result<Plan, TypeFault>
     requires { length (schema_of source).attributes ≤ 64 }
     ensures { Answers result (project_named span source names.now) }
 {
     if let Some(other) = first_but_names(names) {
-        drop(source);
+        let_go(source);
         return Err(broken(other, TypeKind::WrongType));
     }
     match projected_over(alloc, &source, names) {
         Ok(places) => with_places(alloc, span, source, places),
         Err(fault) => {
-            drop(source);
+            let_go(source);
             Err(fault)
         }
     }
@@ -120,7 +120,7 @@ pub fn project_call(
     ensures { Answers result (project_call span source arguments.now) }
 {
     if arguments.is_empty() {
-        drop(source);
+        let_go(source);
         return Err(broken(span, TypeKind::WrongCount));
     }
     project_named(alloc, span, source, arguments)

@@ -36,7 +36,7 @@ fn created_as(
 /// `create array` with a name and a schema: the change, or the first rule that it breaks.
 ///
 /// `statement` is its place in `text`, in bytes.
-#[tactic(auto, using(crate::proofs::Steps::ok_then, crate::proofs::Steps::err_then))]
+#[tactic(auto, using(type_rules::proofs::Steps::ok_then, type_rules::proofs::Steps::err_then))]
 pub fn create_array(
     alloc: Global,
     arrays: &List<NameEntry>,

@@ -3,7 +3,6 @@
 
 mod arrays;
 mod create;
-mod gap;
 mod place;
 mod put;
 

@@ -2,7 +2,7 @@
 ghost use Rattle.std.specs.Prelude.{◌≡◌, ◌≤◌, max, min, length};
 ghost use Rattle.change_types.specs.Place.{behind_gap, created_place};
 
-use crate::gap::gap_end;
+use afl_lexer::gap_end;
 use cell_values::Span;
 
 /// How many bytes `create` has.

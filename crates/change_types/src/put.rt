@@ -6,7 +6,7 @@ ghost use Rattle.change_types.specs.Changes.{fitting, stored_schema, inserted_sc
 
 use afl_parser::{Node, Tree};
 use cell_values::{List, Name, Schema, Span};
-use logical_plan::{NameEntry, Plan};
+use logical_plan::{NameEntry, Plan, let_go};
 use operator_rules::{shape_of, wrong_type};
 use plan_changes::{Change, are_alike, entry_named, has_room};
 use schema_grammar::TypeKind;
@@ -75,7 +75,7 @@ fn inserted_schema(
 }
 
 /// What `store` puts a version into, where an argument names it.
-#[tactic(auto, using(crate::proofs::Steps::ok_then, crate::proofs::Steps::err_then))]
+#[tactic(auto, using(type_rules::proofs::Steps::ok_then, type_rules::proofs::Steps::err_then))]
 fn stored_in(
     arrays: &List<NameEntry>,
     span: Span,
@@ -93,7 +93,7 @@ fn stored_in(
 }
 
 /// What `insert` puts a version into, where an argument names it.
-#[tactic(auto, using(crate::proofs::Steps::ok_then, crate::proofs::Steps::err_then))]
+#[tactic(auto, using(type_rules::proofs::Steps::ok_then, type_rules::proofs::Steps::err_then))]
 fn inserted_in(
     arrays: &List<NameEntry>,
     span: Span,
@@ -171,7 +171,7 @@ fn target_of_insert(
 /// `store` of a plan and a tree, the array that it is stored in: the change, or the first rule that it breaks.
 ///
 /// `span` is that of the whole call.
-#[tactic(auto, using(crate::proofs::Steps::ok_then, crate::proofs::Steps::err_then))]
+#[tactic(auto, using(type_rules::proofs::Steps::ok_then, type_rules::proofs::Steps::err_then))]
 pub fn store_call(
     alloc: Global,
     arrays: &List<NameEntry>,
@@ -181,14 +181,19 @@ pub fn store_call(
 ) -> Result<Change, TypeFault>
     ensures { Answers result (store_call arrays.now span plan target.now) }
 {
-    let Target { name, schema } = target_of_store(alloc, arrays, span, &plan, target)?;
-    Ok(Change::Store { name, schema, plan })
+    match target_of_store(alloc, arrays, span, &plan, target) {
+        Ok(Target { name, schema }) => Ok(Change::Store { name, schema, plan }),
+        Err(fault) => {
+            let_go(plan);
+            Err(fault)
+        }
+    }
 }
 
 /// `insert` of a plan and a tree, the array that it is inserted into: the change, or the first rule that it breaks.
 ///
 /// `span` is that of the whole call.
-#[tactic(auto, using(crate::proofs::Steps::ok_then, crate::proofs::Steps::err_then))]
+#[tactic(auto, using(type_rules::proofs::Steps::ok_then, type_rules::proofs::Steps::err_then))]
 pub fn insert_call(
     alloc: Global,
     arrays: &List<NameEntry>,
@@ -198,6 +203,11 @@ pub fn insert_call(
 ) -> Result<Change, TypeFault>
     ensures { Answers result (insert_call arrays.now span plan target.now) }
 {
-    let Target { name, schema } = target_of_insert(alloc, arrays, span, &plan, target)?;
-    Ok(Change::Insert { name, schema, plan })
+    match target_of_insert(alloc, arrays, span, &plan, target) {
+        Ok(Target { name, schema }) => Ok(Change::Insert { name, schema, plan }),
+        Err(fault) => {
+            let_go(plan);
+            Err(fault)
+        }
+    }
 }

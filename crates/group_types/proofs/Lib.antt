@@ -3,4 +3,3 @@ pub mod GroupSchemas
 pub mod NamedPlaces
 pub mod PartsFit
 pub mod Sizes
-pub mod Steps

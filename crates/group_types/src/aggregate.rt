@@ -20,7 +20,7 @@ use std::alloc::Global;
 use type_rules::{TypeFault, broken};
 
 /// The parts of an `aggregate` besides its source.
-#[derive(Debug, Drop)]
+#[derive(Drop)]
 pub struct Groups {
     pub aggregates: List<Aggregate>,
     /// The places of the dimensions that are named, from 0.
@@ -28,7 +28,7 @@ pub struct Groups {
 }
 
 /// The dimensions that names are.
-#[tactic(auto, using(crate::proofs::Steps::ok_then, crate::proofs::Steps::err_then))]
+#[tactic(auto, using(type_rules::proofs::Steps::ok_then, type_rules::proofs::Steps::err_then))]
 fn places_of(
     alloc: Global,
     dimensions: &[Dimension],
@@ -97,7 +97,7 @@ fn group_names(
 }
 
 /// Groups with their aggregates.
-#[tactic(auto, using(crate::proofs::Steps::ok_then, crate::proofs::Steps::err_then))]
+#[tactic(auto, using(type_rules::proofs::Steps::ok_then, type_rules::proofs::Steps::err_then))]
 fn with_places(
     alloc: Global,
     span: Span,
@@ -115,7 +115,7 @@ fn with_places(
 }
 
 /// Aggregates, and names of dimensions.
-#[tactic(auto, using(crate::proofs::Steps::ok_then, crate::proofs::Steps::err_then))]
+#[tactic(auto, using(type_rules::proofs::Steps::ok_then, type_rules::proofs::Steps::err_then))]
 fn groups_of(
     alloc: Global,
     span: Span,

@@ -15,7 +15,7 @@ use std::alloc::Global;
 use type_rules::{TypeFault, broken};
 
 /// The parts of a `regrid` besides its source.
-#[derive(Debug, Drop)]
+#[derive(Drop)]
 pub struct Blocks {
     /// The places of a block along each dimension.
     pub sizes: List<u64>,
@@ -23,7 +23,7 @@ pub struct Blocks {
 }
 
 /// The places of a block along each dimension.
-#[tactic(auto, using(crate::proofs::Steps::ok_then, crate::proofs::Steps::err_then))]
+#[tactic(auto, using(type_rules::proofs::Steps::ok_then, type_rules::proofs::Steps::err_then))]
 fn sizes_of(alloc: Global, numbers: &[Tree]) -> Result<List<u64>, TypeFault>
     ensures { Answers result (in_turn block_one [] numbers.now) }
 {
@@ -36,7 +36,7 @@ fn sizes_of(alloc: Global, numbers: &[Tree]) -> Result<List<u64>, TypeFault>
 }
 
 /// Blocks with their aggregates.
-#[tactic(auto, using(crate::proofs::Steps::ok_then, crate::proofs::Steps::err_then))]
+#[tactic(auto, using(type_rules::proofs::Steps::ok_then, type_rules::proofs::Steps::err_then))]
 fn with_blocks(
     alloc: Global,
     span: Span,
@@ -52,7 +52,7 @@ fn with_blocks(
 }
 
 /// Numbers of places, and aggregates.
-#[tactic(auto, using(crate::proofs::Steps::ok_then, crate::proofs::Steps::err_then))]
+#[tactic(auto, using(type_rules::proofs::Steps::ok_then, type_rules::proofs::Steps::err_then))]
 fn blocks_of(
     alloc: Global,
     span: Span,

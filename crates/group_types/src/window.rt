@@ -22,7 +22,7 @@ const MAX_WINDOW: u64 = 16777216;
 const MAX_REACHED: u64 = 281474976710656;
 
 /// The parts of a `window` besides its source.
-#[derive(Debug, Drop)]
+#[derive(Drop)]
 pub struct Windows {
     /// How far a window reaches along each dimension.
     pub reach: List<Reach>,
@@ -81,7 +81,7 @@ fn are_windows_of(source: &Schema, reach: &[Reach]) -> bool
 }
 
 /// How far a window reaches before and after its centre.
-#[tactic(auto, using(crate::proofs::Steps::ok_then, crate::proofs::Steps::err_then))]
+#[tactic(auto, using(type_rules::proofs::Steps::ok_then, type_rules::proofs::Steps::err_then))]
 fn reach_one(before: &Tree, after: &Tree) -> Result<Reach, TypeFault>
     ensures { Answers result (reach_one [] before.now after.now) }
 {
@@ -91,7 +91,7 @@ fn reach_one(before: &Tree, after: &Tree) -> Result<Reach, TypeFault>
 }
 
 /// How far a window reaches along each dimension, two numbers for each.
-#[tactic(auto, using(crate::proofs::Steps::ok_then, crate::proofs::Steps::err_then))]
+#[tactic(auto, using(type_rules::proofs::Steps::ok_then, type_rules::proofs::Steps::err_then))]
 fn reach_of(alloc: Global, numbers: &[Tree]) -> Result<List<Reach>, TypeFault>
     ensures { Answers result (pairs_in_turn reach_one [] numbers.now) }
 {
@@ -106,7 +106,7 @@ fn reach_of(alloc: Global, numbers: &[Tree]) -> Result<List<Reach>, TypeFault>
 }
 
 /// Windows that are small enough, with their aggregates.
-#[tactic(auto, using(crate::proofs::Steps::ok_then, crate::proofs::Steps::err_then))]
+#[tactic(auto, using(type_rules::proofs::Steps::ok_then, type_rules::proofs::Steps::err_then))]
 fn with_reach(
     alloc: Global,
     span: Span,
@@ -125,7 +125,7 @@ fn with_reach(
 }
 
 /// Numbers of places before and after, and aggregates.
-#[tactic(auto, using(crate::proofs::Steps::ok_then, crate::proofs::Steps::err_then))]
+#[tactic(auto, using(type_rules::proofs::Steps::ok_then, type_rules::proofs::Steps::err_then))]
 fn windows_of(
     alloc: Global,
     span: Span,

@@ -2,7 +2,6 @@ pub mod Distinct
 pub mod FreeNames
 pub mod Made
 pub mod SchemasFit
-pub mod Steps
 pub mod Suffixes
 pub mod Unpaired
 mod WorkedNames

@@ -109,7 +109,7 @@ fn with_names(
 }
 
 /// The schema of these dimensions and attributes, each name that is already given with a number behind it.
-#[tactic(auto, using(crate::proofs::Steps::ok_then, crate::proofs::Steps::err_then, crate::proofs::FreeNames::enough_names))]
+#[tactic(auto, using(type_rules::proofs::Steps::ok_then, type_rules::proofs::Steps::err_then, crate::proofs::FreeNames::enough_names))]
 pub(crate) fn beside(
     alloc: Global,
     span: Span,

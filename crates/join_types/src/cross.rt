@@ -19,7 +19,7 @@ use std::alloc::Global;
 use type_rules::{TypeFault, broken};
 
 /// The parts of a `cross_join` besides its sources.
-#[derive(Debug, Drop)]
+#[derive(Drop)]
 pub struct Crossed {
     pub pairs: List<Pair>,
     /// The schema of the result.
@@ -33,7 +33,7 @@ fn has_place(places: &[u32], place: u32) -> bool
 }
 
 /// The dimensions that a left and a right name pair, beside those that are paired already.
-#[tactic(auto, using(crate::proofs::Steps::ok_then, crate::proofs::Steps::err_then))]
+#[tactic(auto, using(type_rules::proofs::Steps::ok_then, type_rules::proofs::Steps::err_then))]
 fn pair_one(
     left: &[Dimension],
     lefts: &[u32],
@@ -52,7 +52,7 @@ fn pair_one(
 }
 
 /// The dimensions that names pair.
-#[tactic(auto, using(crate::proofs::Steps::ok_then, crate::proofs::Steps::err_then))]
+#[tactic(auto, using(type_rules::proofs::Steps::ok_then, type_rules::proofs::Steps::err_then))]
 fn pairs_of(
     alloc: Global,
     left: &[Dimension],
@@ -157,7 +157,7 @@ fn crossed_schema(
 }
 
 /// Pairs with the schema of `cross_join`.
-#[tactic(auto, using(crate::proofs::Steps::ok_then, crate::proofs::Steps::err_then))]
+#[tactic(auto, using(type_rules::proofs::Steps::ok_then, type_rules::proofs::Steps::err_then))]
 fn crossed_by(
     alloc: Global,
     span: Span,
@@ -175,7 +175,7 @@ fn crossed_by(
 /// The pairs and the schema of `cross_join` over sources of these schemas, with the names behind the sources.
 ///
 /// `span` is that of the whole call.
-#[tactic(auto, using(crate::proofs::Steps::ok_then, crate::proofs::Steps::err_then))]
+#[tactic(auto, using(type_rules::proofs::Steps::ok_then, type_rules::proofs::Steps::err_then))]
 pub fn cross_parts(
     alloc: Global,
     span: Span,

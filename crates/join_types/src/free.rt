@@ -53,7 +53,7 @@ fn free_name(alloc: Global, span: Span, given: &[Name], name: &Name) -> Result<N
 /// The names in turn, each that is already given with a number behind it.
 ///
 /// Fails at the first one that is too long, at `span`.
-#[tactic(auto, using(crate::proofs::Steps::ok_then, crate::proofs::Steps::err_then))]
+#[tactic(auto, using(type_rules::proofs::Steps::ok_then, type_rules::proofs::Steps::err_then))]
 pub(crate) fn free_names(alloc: Global, span: Span, names: &[Name]) -> Result<List<Name>, TypeFault>
     ensures { Answers result (in_turn (next_name span) [] names.now) }
 {

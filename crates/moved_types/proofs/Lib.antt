@@ -1,4 +1,3 @@
 pub mod Origins
 pub mod PartsFit
-pub mod Steps
 mod WorkedRedimensions

@@ -18,7 +18,7 @@ use std::alloc::Global;
 use type_rules::{TypeFault, broken};
 
 /// The parts of a `redimension` besides its source.
-#[derive(Debug, Drop)]
+#[derive(Drop)]
 pub struct Redimensioned {
     /// The schema of the result.
     pub schema: Schema,
@@ -69,7 +69,7 @@ fn with_aggregates(
 }
 
 /// A target, written at a place, and the arguments that are its aggregates.
-#[tactic(auto, using(crate::proofs::Steps::ok_then, crate::proofs::Steps::err_then))]
+#[tactic(auto, using(type_rules::proofs::Steps::ok_then, type_rules::proofs::Steps::err_then))]
 fn with_target(
     alloc: Global,
     span: Span,
@@ -90,7 +90,7 @@ fn with_target(
 }
 
 /// A schema, and aggregates.
-#[tactic(auto, using(crate::proofs::Steps::ok_then, crate::proofs::Steps::err_then))]
+#[tactic(auto, using(type_rules::proofs::Steps::ok_then, type_rules::proofs::Steps::err_then))]
 fn redimension_of(
     alloc: Global,
     text: &[u8],

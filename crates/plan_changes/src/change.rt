@@ -5,7 +5,7 @@ ghost use Rattle.plan_changes.specs.Changes.{name_of};
 use cell_values::{Copies, Memory, Name, Schema};
 use logical_plan::Plan;
 
-#[derive(Debug, Drop)]
+#[derive(Drop)]
 pub enum Change {
     /// One more array, without versions.
     Create {
@@ -33,6 +33,11 @@ pub enum Change {
         name: Name,
         below: u32,
     },
+}
+
+/// Lets a change go. That its plan can be let go is proved here once, and not again in each crate that calls this.
+pub fn let_go_change(change: Change) {
+    drop(change)
 }
 
 impl Change {

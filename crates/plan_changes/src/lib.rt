@@ -8,7 +8,7 @@ mod lookups;
 mod names;
 
 pub use alike::are_alike;
-pub use change::{Change, changed_name};
+pub use change::{Change, changed_name, let_go_change};
 pub use laws::{
     changes_keep_databases, changes_keep_names, names_depend_on_no_row, plans_mean_arrays,
 };

@@ -1,5 +1,4 @@
 pub mod NoQuery
 pub mod Small
 pub mod Sources
-pub mod Steps
 mod WorkedQueries

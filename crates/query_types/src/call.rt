@@ -16,7 +16,7 @@ use std::alloc::Global;
 use type_rules::{Operator, TypeFault};
 
 /// A call of an operator that is built.
-#[derive(Clone, Copy, Debug, PartialEq, Eq)]
+#[derive(Clone, Copy)]
 pub enum Call {
     Build,
     Scan,
@@ -27,7 +27,7 @@ pub enum Call {
 }
 
 /// An operator on a source.
-#[derive(Clone, Copy, Debug, PartialEq, Eq)]
+#[derive(Clone, Copy)]
 pub enum OverSource {
     Filter,
     Apply,
@@ -42,7 +42,7 @@ pub enum OverSource {
 }
 
 /// An operator on two sources.
-#[derive(Clone, Copy, Debug, PartialEq, Eq)]
+#[derive(Clone, Copy)]
 pub enum OverTwo {
     Join,
     CrossJoin,

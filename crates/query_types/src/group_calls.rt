@@ -10,7 +10,7 @@ ghost use Rattle.query_types.specs.GroupCalls.{aggregate_call, regrid_call, wind
 use afl_parser::Tree;
 use cell_values::Span;
 use group_types::{Blocks, Groups, Windows, aggregate_parts, regrid_parts, window_parts};
-use logical_plan::Plan;
+use logical_plan::{Plan, let_go};
 use operator_rules::{of_new_schema, shape_of};
 use std::alloc::Global;
 use type_rules::TypeFault;
@@ -29,7 +29,7 @@ fn regrid_over(
 }
 
 /// `regrid` of a source, with what stands behind it.
-#[tactic(auto, using(crate::proofs::Steps::ok_then, crate::proofs::Steps::err_then))]
+#[tactic(auto, using(type_rules::proofs::Steps::ok_then, type_rules::proofs::Steps::err_then))]
 pub(crate) fn regrid_call(
     alloc: Global,
     span: Span,
@@ -39,9 +39,16 @@ pub(crate) fn regrid_call(
     requires { length (schema_of source).attributes ≤ 64 }
     ensures { Answers result (regrid_call span source arguments.now) }
 {
-    let parts = regrid_over(alloc, span, &source, arguments)?;
-    let plan = Plan::regrid(alloc, source, parts.sizes, parts.aggregates)?;
-    of_new_schema(alloc, span, plan)
+    match regrid_over(alloc, span, &source, arguments) {
+        Ok(parts) => {
+            let plan = Plan::regrid(alloc, source, parts.sizes, parts.aggregates)?;
+            of_new_schema(alloc, span, plan)
+        }
+        Err(fault) => {
+            let_go(source);
+            Err(fault)
+        }
+    }
 }
 
 fn window_over(
@@ -59,7 +66,7 @@ fn window_over(
 }
 
 /// `window` of a source, with what stands behind it.
-#[tactic(auto, using(crate::proofs::Steps::ok_then, crate::proofs::Steps::err_then))]
+#[tactic(auto, using(type_rules::proofs::Steps::ok_then, type_rules::proofs::Steps::err_then))]
 pub(crate) fn window_call(
     alloc: Global,
     span: Span,
@@ -70,9 +77,16 @@ pub(crate) fn window_call(
     requires dimensions { length (schema_of source).dimensions ≤ 6 }
     ensures { Answers result (window_call span source arguments.now) }
 {
-    let parts = window_over(alloc, span, &source, arguments)?;
-    let plan = Plan::window(alloc, source, parts.reach, parts.aggregates)?;
-    of_new_schema(alloc, span, plan)
+    match window_over(alloc, span, &source, arguments) {
+        Ok(parts) => {
+            let plan = Plan::window(alloc, source, parts.reach, parts.aggregates)?;
+            of_new_schema(alloc, span, plan)
+        }
+        Err(fault) => {
+            let_go(source);
+            Err(fault)
+        }
+    }
 }
 
 fn aggregate_over(
@@ -90,7 +104,7 @@ fn aggregate_over(
 }
 
 /// `aggregate` of a source, with what stands behind it.
-#[tactic(auto, using(crate::proofs::Steps::ok_then, crate::proofs::Steps::err_then))]
+#[tactic(auto, using(type_rules::proofs::Steps::ok_then, type_rules::proofs::Steps::err_then))]
 pub(crate) fn aggregate_call(
     alloc: Global,
     span: Span,
@@ -101,7 +115,14 @@ pub(crate) fn aggregate_call(
     requires dimensions { length (schema_of source).dimensions ≤ 6 }
     ensures { Answers result (aggregate_call span source arguments.now) }
 {
-    let parts = aggregate_over(alloc, span, &source, arguments)?;
-    let plan = Plan::aggregate(alloc, source, parts.aggregates, parts.places)?;
-    of_new_schema(alloc, span, plan)
+    match aggregate_over(alloc, span, &source, arguments) {
+        Ok(parts) => {
+            let plan = Plan::aggregate(alloc, source, parts.aggregates, parts.places)?;
+            of_new_schema(alloc, span, plan)
+        }
+        Err(fault) => {
+            let_go(source);
+            Err(fault)
+        }
+    }
 }

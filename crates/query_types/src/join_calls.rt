@@ -9,7 +9,7 @@ ghost use Rattle.query_types.specs.JoinCalls.{cross_call, join_call};
 use afl_parser::Tree;
 use cell_values::{Schema, Span};
 use join_types::{Crossed, cross_parts, join_schema};
-use logical_plan::Plan;
+use logical_plan::{Plan, let_go};
 use operator_rules::{of_new_schema, shape_of};
 use std::alloc::Global;
 use type_rules::TypeFault;
@@ -23,7 +23,7 @@ fn joined_over(alloc: Global, span: Span, left: &Plan, right: &Plan) -> Result<S
 }
 
 /// `join` of two sources.
-#[tactic(auto, using(crate::proofs::Steps::ok_then, crate::proofs::Steps::err_then))]
+#[tactic(auto, using(type_rules::proofs::Steps::ok_then, type_rules::proofs::Steps::err_then))]
 pub(crate) fn join_call(
     alloc: Global,
     span: Span,
@@ -32,9 +32,17 @@ pub(crate) fn join_call(
 ) -> Result<Plan, TypeFault>
     ensures { Answers result (join_call span left right) }
 {
-    let schema = joined_over(alloc, span, &left, &right)?;
-    let plan = Plan::join(alloc, left, right, schema)?;
-    of_new_schema(alloc, span, plan)
+    match joined_over(alloc, span, &left, &right) {
+        Ok(schema) => {
+            let plan = Plan::join(alloc, left, right, schema)?;
+            of_new_schema(alloc, span, plan)
+        }
+        Err(fault) => {
+            let_go(left);
+            let_go(right);
+            Err(fault)
+        }
+    }
 }
 
 fn crossed_over(
@@ -54,7 +62,7 @@ fn crossed_over(
 }
 
 /// `cross_join` of two sources, with the names behind them.
-#[tactic(auto, using(crate::proofs::Steps::ok_then, crate::proofs::Steps::err_then))]
+#[tactic(auto, using(type_rules::proofs::Steps::ok_then, type_rules::proofs::Steps::err_then))]
 pub(crate) fn cross_call(
     alloc: Global,
     span: Span,
@@ -66,7 +74,15 @@ pub(crate) fn cross_call(
     requires right { length (schema_of right).dimensions ≤ 6 }
     ensures { Answers result (cross_call span left right arguments.now) }
 {
-    let parts = crossed_over(alloc, span, &left, &right, arguments)?;
-    let plan = Plan::cross_join(alloc, left, right, parts.pairs, parts.schema)?;
-    of_new_schema(alloc, span, plan)
+    match crossed_over(alloc, span, &left, &right, arguments) {
+        Ok(parts) => {
+            let plan = Plan::cross_join(alloc, left, right, parts.pairs, parts.schema)?;
+            of_new_schema(alloc, span, plan)
+        }
+        Err(fault) => {
+            let_go(left);
+            let_go(right);
+            Err(fault)
+        }
+    }
 }

@@ -7,7 +7,7 @@ ghost use Rattle.query_types.specs.MovedCalls.{redimension_call};
 
 use afl_parser::Tree;
 use cell_values::Span;
-use logical_plan::Plan;
+use logical_plan::{Plan, let_go};
 use moved_types::{Redimensioned, redimension_parts};
 use operator_rules::shape_of;
 use std::alloc::Global;
@@ -28,7 +28,7 @@ fn redimension_over(
 }
 
 /// `redimension` of a source, with what stands behind it in `text`.
-#[tactic(auto, using(crate::proofs::Steps::ok_then, crate::proofs::Steps::err_then))]
+#[tactic(auto, using(type_rules::proofs::Steps::ok_then, type_rules::proofs::Steps::err_then))]
 pub(crate) fn redimension_call(
     alloc: Global,
     text: &[u8],
@@ -39,7 +39,11 @@ pub(crate) fn redimension_call(
     requires { length (schema_of source).attributes ≤ 64 }
     ensures { Answers result (redimension_call span source arguments.now) }
 {
-    let parts = redimension_over(alloc, text, span, &source, arguments)?;
-    let plan = Plan::redimension(alloc, source, parts.schema, parts.aggregates)?;
-    Ok(plan)
+    match redimension_over(alloc, text, span, &source, arguments) {
+        Ok(parts) => Ok(Plan::redimension(alloc, source, parts.schema, parts.aggregates)?),
+        Err(fault) => {
+            let_go(source);
+            Err(fault)
+        }
+    }
 }

@@ -12,7 +12,7 @@ use crate::call::{Call, OverSource, OverTwo, call_of};
 use crate::nested::no_query;
 use afl_parser::{Node, Tree};
 use cell_values::Span;
-use logical_plan::{NameEntry, Names, Plan};
+use logical_plan::{NameEntry, Names, Plan, let_go};
 use schema_grammar::TypeKind;
 use source_types::{build_call, referred, scan_call};
 use std::alloc::Global;
@@ -20,7 +20,7 @@ use type_rules::{TypeFault, broken, operator_named};
 
 /// An operator on a source, which is checked before the arguments behind it.
 #[cycle(query)]
-#[tactic(auto, using(crate::proofs::Steps::ok_then, crate::proofs::Steps::err_then, crate::proofs::Small::few_attributes, crate::proofs::Small::few_dimensions))]
+#[tactic(auto, using(type_rules::proofs::Steps::ok_then, type_rules::proofs::Steps::err_then, crate::proofs::Small::few_attributes, crate::proofs::Small::few_dimensions))]
 fn over(
     alloc: Global,
     text: &[u8],
@@ -63,7 +63,7 @@ fn over_first(
 
 /// An operator on two sources, which are checked before the arguments behind them, the left one first.
 #[cycle(query)]
-#[tactic(auto, using(crate::proofs::Steps::ok_then, crate::proofs::Steps::err_then, crate::proofs::Small::few_dimensions))]
+#[tactic(auto, using(type_rules::proofs::Steps::ok_then, type_rules::proofs::Steps::err_then, crate::proofs::Small::few_dimensions))]
 fn over_two(
     alloc: Global,
     text: &[u8],
@@ -81,8 +81,13 @@ fn over_two(
         return Err(broken(span, TypeKind::WrongCount));
     }
     let left = query_of(alloc, text, arrays, left)?;
-    let right = query_of(alloc, text, arrays, right)?;
-    operator.ruled(alloc, span, left, right, arguments)
+    match query_of(alloc, text, arrays, right) {
+        Ok(right) => operator.ruled(alloc, span, left, right, arguments),
+        Err(fault) => {
+            let_go(left);
+            Err(fault)
+        }
+    }
 }
 
 /// A call of an operator on two sources, its first arguments.

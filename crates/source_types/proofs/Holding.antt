@@ -10,7 +10,7 @@ use Rattle.cell_values.specs.declared.schema.Dimension.{Dimension}
 use Rattle.cell_values.specs.declared.schema.Kind.{Kind}
 use Rattle.cell_values.specs.declared.schema.Schema.{Schema}
 use Rattle.cell_values.specs.Schemas.{IsValid}
-use Rattle.source_types.proofs.RulesValid.{rules_valid}
+use Rattle.schema_grammar.proofs.RulesValid.{rules_valid}
 use Rattle.schema_grammar.specs.Rules.{first_broken, rules, schema_of}
 use Rattle.schema_grammar.specs.declared.rules.Rule.{Rule}
 use Rattle.schema_grammar.specs.declared.shape_text.SchemaText.{SchemaText}

@@ -11,6 +11,7 @@ ghost use Rattle.source_types.specs.Build.{meant, built_of, built_within, built_
 
 use afl_parser::{Node, Tree};
 use cell_values::{Dimension, Kind, List, Schema, Span};
+use expr_nulls::let_go_expr;
 use expr_types::{Operand, fits, typed};
 use literal_types::literal_rows;
 use logical_plan::Plan;
@@ -77,7 +78,9 @@ fn built_of(schema: Schema, attribute: Kind, value: Operand) -> Result<Plan, Typ
     if fits(attribute, value.kind) {
         Ok(Plan::build(schema, value.expr))
     } else {
-        Err(broken(value.span, TypeKind::WrongType))
+        let span = value.span;
+        let_go_expr(value.expr);
+        Err(broken(span, TypeKind::WrongType))
     }
 }
 
@@ -94,7 +97,7 @@ fn typed_over(
 }
 
 /// The value of an expression at each coordinate of a schema.
-#[tactic(auto, using(crate::proofs::Steps::ok_then, crate::proofs::Steps::err_then, crate::proofs::Valid::few_dimensions))]
+#[tactic(auto, using(type_rules::proofs::Steps::ok_then, type_rules::proofs::Steps::err_then, crate::proofs::Valid::few_dimensions))]
 fn built_typed(alloc: Global, schema: Schema, kind: Kind, value: &Tree) -> Result<Plan, TypeFault>
     requires { IsValid schema }
     ensures { Answers result (then (typed [] schema.dimensions value.now) (built_of schema kind)) }
@@ -121,7 +124,7 @@ fn built_within(
 }
 
 /// `build` of a schema, written at a place, and an expression.
-#[tactic(auto, using(crate::proofs::Steps::ok_then, crate::proofs::Steps::err_then))]
+#[tactic(auto, using(type_rules::proofs::Steps::ok_then, type_rules::proofs::Steps::err_then))]
 fn built_from(
     alloc: Global,
     text: &[u8],
@@ -143,7 +146,7 @@ fn built_from(
 }
 
 /// `build` of a schema, written at a place, and a literal at another.
-#[tactic(auto, using(crate::proofs::Steps::ok_then, crate::proofs::Steps::err_then, crate::proofs::Valid::high_bound))]
+#[tactic(auto, using(type_rules::proofs::Steps::ok_then, type_rules::proofs::Steps::err_then, crate::proofs::Valid::high_bound))]
 fn listed_from(
     alloc: Global,
     text: &[u8],

@@ -1,7 +1,7 @@
 use Rattle.std.proofs.Common.{◌≡◌, ◌∙◌, List, Ok, subst}
 use Rattle.logical_plan.specs.declared.parts.Aggregate.{Aggregate}
 use Rattle.agg_types.specs.Aggregates.{aggregate_one}
-use Rattle.agg_types.proofs.Steps.{turn_on}
+use Rattle.operator_rules.proofs.Turns.{turn_on}
 use Rattle.agg_types.proofs.aggregate.aggregates_of.Goals as goal
 
 pub loop-argument-preserved : goal.loop-argument-preserved

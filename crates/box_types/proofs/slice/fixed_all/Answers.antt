@@ -1,7 +1,7 @@
 use Rattle.std.proofs.Common.{◌≡◌, ◌∙◌, List, Ok, subst}
 use Rattle.logical_plan.specs.declared.parts.Fixed.{Fixed}
 use Rattle.box_types.specs.Slice.{fixed_one}
-use Rattle.box_types.proofs.Steps.{pairs_turn}
+use Rattle.operator_rules.proofs.Turns.{pairs_turn}
 use Rattle.box_types.proofs.slice.fixed_all.Goals as goal
 
 pub loop-left-preserved : goal.loop-left-preserved

@@ -2,7 +2,7 @@ use Rattle.std.proofs.Common.{◌≡◌, ◌∙◌, List, Ok, subst}
 use Rattle.logical_plan.specs.declared.parts.Applied.{Applied}
 use Rattle.type_rules.specs.Checked.{Checked}
 use Rattle.cellwise_types.specs.Apply.{applied_one}
-use Rattle.cellwise_types.proofs.Steps.{pairs_turn}
+use Rattle.operator_rules.proofs.Turns.{pairs_turn}
 use Rattle.cellwise_types.proofs.apply.applied_all.Goals as goal
 
 pub loop-left-preserved : goal.loop-left-preserved

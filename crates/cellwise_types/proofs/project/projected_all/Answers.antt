@@ -1,7 +1,7 @@
 use Rattle.std.proofs.Common.{◌≡◌, ◌∙◌, ℕ, List, Ok, subst}
 use Rattle.type_rules.specs.Checked.{Checked}
 use Rattle.cellwise_types.specs.Project.{projected_one}
-use Rattle.cellwise_types.proofs.Steps.{turn_on}
+use Rattle.operator_rules.proofs.Turns.{turn_on}
 use Rattle.cellwise_types.proofs.project.projected_all.Goals as goal
 
 pub loop-name-preserved : goal.loop-name-preserved

@@ -1,6 +1,6 @@
 use Rattle.std.proofs.Common.{◌≡◌, ◌∙◌, ℕ, List, Ok, subst}
 use Rattle.name_rules.specs.Names.{dimension_one}
-use Rattle.group_types.proofs.Steps.{turn_on}
+use Rattle.operator_rules.proofs.Turns.{turn_on}
 use Rattle.group_types.proofs.aggregate.places_of.Goals as goal
 
 pub loop-name-preserved : goal.loop-name-preserved

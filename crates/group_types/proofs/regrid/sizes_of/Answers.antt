@@ -1,6 +1,6 @@
 use Rattle.std.proofs.Common.{◌∙◌}
 use Rattle.group_types.specs.Blocks.{block_one}
-use Rattle.group_types.proofs.Steps.{turn_on}
+use Rattle.operator_rules.proofs.Turns.{turn_on}
 use Rattle.group_types.proofs.regrid.sizes_of.Goals as goal
 
 pub loop-number-preserved : goal.loop-number-preserved

@@ -1,6 +1,6 @@
 use Rattle.std.proofs.Common.{◌∙◌}
 use Rattle.group_types.specs.Windows.{reach_one}
-use Rattle.group_types.proofs.Steps.{pairs_turn}
+use Rattle.operator_rules.proofs.Turns.{pairs_turn}
 use Rattle.group_types.proofs.window.reach_of.Goals as goal
 
 pub loop-left-preserved : goal.loop-left-preserved

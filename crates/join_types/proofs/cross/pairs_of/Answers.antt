@@ -4,7 +4,7 @@ use Rattle.logical_plan.specs.Joins.{right_places}
 use Rattle.logical_plan.specs.Typing.{left_places}
 use Rattle.logical_plan.specs.declared.parts.Pair.{Pair}
 use Rattle.join_types.specs.Crosses.{pair_beside, pair_one}
-use Rattle.join_types.proofs.Steps.{pairs_turn}
+use Rattle.operator_rules.proofs.Turns.{pairs_turn}
 use Rattle.join_types.proofs.cross.pairs_of.Goals as goal
 
 pub loop-names-preserved : goal.loop-names-preserved

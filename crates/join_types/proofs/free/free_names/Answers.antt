@@ -1,6 +1,6 @@
 use Rattle.std.proofs.Common.{◌≡◌, ◌∙◌, ℕ, List, Ok, subst}
 use Rattle.join_types.specs.JoinSchemas.{next_name}
-use Rattle.join_types.proofs.Steps.{turn_on}
+use Rattle.operator_rules.proofs.Turns.{turn_on}
 use Rattle.join_types.proofs.free.free_names.Goals as goal
 
 pub loop-name-preserved : goal.loop-name-preserved
