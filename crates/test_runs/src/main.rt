@@ -9,7 +9,7 @@
 mod streams;
 
 use afl_outside::{MemShelf, OpenGate};
-use afl_run::{Arg, Report, notice_line, run};
+use afl_run::{Arg, Report, SessionEnd, notice_line, run};
 use anyhow::Result;
 use std::io::BufRead;
 use std::str::from_utf8;
@@ -35,11 +35,21 @@ fn form_of(line: &[u8]) -> (Form, &[u8]) {
     }
 }
 
+/// What it was that ended a session.
+fn end_word(end: SessionEnd) -> &'static str {
+    match end {
+        SessionEnd::Whole => "Whole",
+        SessionEnd::Source => "Source",
+        SessionEnd::Sink => "Sink",
+        SessionEnd::Memory => "Memory",
+    }
+}
+
 /// Prints what the sessions have written, how they ended, and the status and line of the run.
 fn tell(rt: &(impl Print + AllocGlobal), report: &Report<MemShelf>) -> Result<()> {
     for session in report.sessions.as_slice() {
         print!(rt; "{}", from_utf8(session.sink.bytes()).unwrap_or("no text"))?;
-        print!(rt; "{:?}, ", session.end)?;
+        print!(rt; "{}, ", end_word(session.end))?;
     }
     println!(rt; "status {}", report.status)?;
     let line = notice_line(rt.alloc(), &report.notice)?;
