@@ -6,6 +6,3 @@ mod laws;
 
 pub use boxes::is_in_box;
 pub use laws::{cells_at_coordinates, rows_rise, same_cells_are_same_rows};
-
-#[cfg(test)]
-mod tests;

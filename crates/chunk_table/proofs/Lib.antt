@@ -1,4 +1,0 @@
-pub mod ChunkLaws
-pub mod FitLaws
-pub mod PartLaws
-pub mod SampleLaws

@@ -1,4 +1,0 @@
-pub mod Apart
-pub mod Arrays
-pub mod Fitting
-pub mod Merging

@@ -1,0 +1,98 @@
+//! Schemas that are written as texts.
+ghost use Rattle.std.specs.Prelude.{◌≤◌, length};
+
+use afl_lexer::tokens;
+use anyhow::Result;
+use cell_values::Schema;
+use schema_grammar::{
+    SchemaFault, SchemaText, ShapeFault, TypeKind, meaning, print_shape, schema_text, shape,
+};
+use std::alloc::Global;
+use test_kit::push_text;
+
+/// The syntax tree of a text's tokens from one on, and the token behind it.
+fn read(alloc: Global, text: &[u8], from: usize) -> Result<(SchemaText, usize), ShapeFault>
+    requires { length text.now ≤ 1048576 }
+{
+    match tokens(alloc, text) {
+        Ok(tokens) if from <= tokens.len() => shape(alloc, text, tokens.as_slice(), from),
+        _ => Err(ShapeFault::Memory),
+    }
+}
+
+fn rule_text(kind: TypeKind) -> &'static str {
+    match kind {
+        TypeKind::UnknownType => "unknown type",
+        TypeKind::RepeatedName => "repeated name",
+        TypeKind::BoundsOrder => "bounds order",
+        TypeKind::BoundsRange => "bounds range",
+        TypeKind::ZeroChunk => "zero chunk",
+        TypeKind::OverlapTooLarge => "overlap too large",
+        TypeKind::TooManyDimensions => "too many dimensions",
+        TypeKind::TooManyAttributes => "too many attributes",
+        TypeKind::ChunkTooLarge => "chunk too large",
+        TypeKind::WrongCount => "wrong count",
+        _ => "another rule",
+    }
+}
+
+fn push_stop(out: &mut String, fault: ShapeFault) -> Result<()> {
+    match fault {
+        ShapeFault::Unexpected { token } => write!(out, "stop at token {token}")?,
+        ShapeFault::Memory => out.push_str("no tokens")?,
+    }
+    Ok(())
+}
+
+/// Adds a copy of a schema.
+fn push_copied(out: &mut String, schema: &Schema) -> Result<()> {
+    let copy = schema.copy()?;
+    push_text(out, schema_text(*out.allocator(), &copy)?.as_slice())?;
+    Ok(())
+}
+
+/// Adds the schema that a syntax tree means, or the first rule that it breaks with the place.
+fn push_meaning(out: &mut String, text: &[u8], shape: &SchemaText) -> Result<()> {
+    match meaning(*out.allocator(), text, shape) {
+        Ok(schema) => push_copied(out, &schema),
+        Err(SchemaFault::Rule { span, kind }) => {
+            write!(out, "at {}-{}: {}", span.start, span.end, rule_text(kind))?;
+            Ok(())
+        }
+        Err(SchemaFault::Memory) => {
+            out.push_str("no memory")?;
+            Ok(())
+        }
+    }
+}
+
+/// Adds what the schema that begins at a token means, and the token behind it.
+pub(crate) fn push_schema(out: &mut String, text: &[u8], from: usize) -> Result<()>
+    requires { length text.now ≤ 1048576 }
+{
+    match read(*out.allocator(), text, from) {
+        Ok((shape, next)) => {
+            push_meaning(out, text, &shape)?;
+            write!(out, " before token {next}")?;
+            Ok(())
+        }
+        Err(fault) => push_stop(out, fault),
+    }
+}
+
+/// Adds a copy of a syntax tree.
+fn push_shape(out: &mut String, shape: &SchemaText) -> Result<()> {
+    let copy = shape.copy()?;
+    push_text(out, print_shape(*out.allocator(), &copy)?.as_slice())?;
+    Ok(())
+}
+
+/// Adds the schema as a text writes it.
+pub(crate) fn push_tree(out: &mut String, text: &[u8]) -> Result<()>
+    requires { length text.now ≤ 1048576 }
+{
+    match read(*out.allocator(), text, 0) {
+        Ok((shape, _)) => push_shape(out, &shape),
+        Err(fault) => push_stop(out, fault),
+    }
+}

@@ -1,0 +1,47 @@
+//! Joins of two chunks.
+ghost use Rattle.std.specs.Prelude.{◌≡◌, ◌∷◌, [], length, IfOk};
+
+use crate::aggregates::parts_of;
+use crate::show::push_chunk;
+use anyhow::Result;
+use array_geom::Chunk;
+use cell_columns::Cells;
+use cell_values::{ChunkAt, List, Memory};
+use exec_join::join_chunks;
+use std::alloc::Global;
+use test_kit::{cell_of, place_in};
+
+fn second() -> ChunkAt
+    ensures { result.items ≡ 1 ∷ [] }
+{
+    let mut at = ChunkAt::new();
+    at.push(1);
+    at
+}
+
+/// The second chunk of a line, with these places.
+fn chunk(alloc: Global, words: &[&str]) -> Result<Chunk, Memory>
+    ensures number { IfOk result (λ chunk. chunk.at.items ≡ 1 ∷ []) }
+    ensures each { IfOk result (λ chunk. length chunk.cells ≡ length chunk.positions) }
+{
+    let mut chunk = Chunk {
+        at: second(),
+        positions: List::new(alloc),
+        cells: Cells::new(alloc),
+    };
+    for word in words {
+        let (place, held) = place_in(word);
+        chunk.positions.push(place.unsigned_abs())?;
+        chunk.cells.push(cell_of(alloc, &[], held)?)?;
+    }
+    Ok(chunk)
+}
+
+/// Adds the cells of two chunks at the places that both have.
+pub(crate) fn push_join(out: &mut String, words: &[&str]) -> Result<()> {
+    let alloc = *out.allocator();
+    let (left, right) = parts_of(words);
+    let left = chunk(alloc, left)?;
+    let right = chunk(alloc, right)?;
+    push_chunk(out, &join_chunks(&left, &right)?)
+}

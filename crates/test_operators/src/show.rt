@@ -1,0 +1,91 @@
+//! What is told of arrays, and of the sources that gave them.
+ghost use Rattle.array_parts.specs.Placed.{IsSound};
+
+use anyhow::Result;
+use array_geom::{Chunk, ChunkedArray};
+use cell_values::{Broken, Datum, List, Row};
+use chunk_cells::rows;
+use chunk_read::ExecFault;
+use chunk_source::{Asked, ChunkSource};
+use test_kit::{push_cell, push_coord, push_datum, push_number};
+
+/// Adds a chunk's number, and what it holds at each of its positions.
+pub(crate) fn push_chunk(out: &mut String, chunk: &Chunk) -> Result<()> {
+    out.push_str("chunk ")?;
+    push_number(out, &chunk.at)?;
+    let cells = chunk.cells.copy()?.into_list()?;
+    for (position, cell) in chunk.positions.as_slice().iter().zip(cells.as_slice()) {
+        write!(out, ", at {position}")?;
+        push_cell(out, cell)?;
+    }
+    out.push('\n')?;
+    Ok(())
+}
+
+/// Adds the chunks of an array.
+pub(crate) fn push_array(out: &mut String, array: &ChunkedArray) -> Result<()> {
+    for chunk in array.chunks.as_slice() {
+        push_chunk(out, chunk)?;
+    }
+    Ok(())
+}
+
+fn push_rows(out: &mut String, rows: &List<Row>) -> Result<()> {
+    for row in rows.as_slice() {
+        out.push_str("cell ")?;
+        push_coord(out, &row.at)?;
+        push_cell(out, &row.cell)?;
+        out.push('\n')?;
+    }
+    Ok(())
+}
+
+fn push_broken(out: &mut String, broken: &Broken) -> Result<()> {
+    out.push_str("broken at ")?;
+    push_coord(out, &broken.at)?;
+    out.push_str(": ")?;
+    push_datum(out, &Datum::Bad(broken.kind))?;
+    out.push('\n')?;
+    Ok(())
+}
+
+/// Adds the cells of an array, by their coordinates.
+pub(crate) fn push_cells(out: &mut String, array: &ChunkedArray) -> Result<()>
+    requires { IsSound array.now }
+{
+    match &array.broken {
+        Some(broken) => push_broken(out, broken),
+        None => push_rows(out, &rows(array)?),
+    }
+}
+
+/// Adds why there is no array.
+pub(crate) fn push_cause(out: &mut String, cause: ExecFault) -> Result<()> {
+    match cause {
+        ExecFault::Source => out.push_str("the source failed\n")?,
+        ExecFault::Damaged { page } => writeln!(out, "page {page} is damaged")?,
+        ExecFault::Memory => out.push_str("no memory\n")?,
+    }
+    Ok(())
+}
+
+/// Adds how often a source has failed, and the page that it found damaged.
+pub(crate) fn push_faults<S: ChunkSource>(out: &mut String, source: &S) -> Result<()> {
+    write!(out, "{} failed", source.faults())?;
+    if let Some(page) = source.damaged() {
+        write!(out, ", page {page} is damaged")?;
+    }
+    out.push('\n')?;
+    Ok(())
+}
+
+/// Adds the chunks that were asked for.
+pub(crate) fn push_asked(out: &mut String, asked: &[Asked]) -> Result<()> {
+    out.push_str("asked for")?;
+    for one in asked {
+        write!(out, " leaf {} ", one.leaf)?;
+        push_number(out, &one.at)?;
+    }
+    out.push('\n')?;
+    Ok(())
+}

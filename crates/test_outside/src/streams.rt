@@ -1,0 +1,104 @@
+//! Sources and sinks.
+
+use afl_outside::{Failed, MemSink, MemSource, Sink, Source, SureSink, SureSource};
+use anyhow::Result;
+use cell_values::{Bytes, List};
+use test_kit::push_text;
+
+/// Adds the call that an answer belongs to.
+pub(crate) fn push_call(out: &mut String, call: &str) -> Result<()> {
+    out.push_str(call.trim())?;
+    out.push_str(": ")?;
+    Ok(())
+}
+
+/// Adds what a read of so many bytes gives, eight at most.
+pub(crate) fn push_read<S: Source>(out: &mut String, source: &mut S, count: &str) -> Result<()> {
+    let mut piece = [0u8; 8];
+    let count = count.trim().parse::<usize>().unwrap_or(0).min(8);
+    match source.read(&mut piece[..count]) {
+        Ok(given) => push_text(out, &piece[..given])?,
+        Err(Failed) => out.push_str("failed")?,
+    }
+    Ok(())
+}
+
+/// Adds how many bytes of a piece a sink takes.
+pub(crate) fn push_write<S: Sink>(out: &mut String, sink: &mut S, bytes: &str) -> Result<()> {
+    match sink.write(bytes.trim().as_bytes()) {
+        Ok(taken) => write!(out, "{taken} taken")?,
+        Err(Failed) => out.push_str("failed")?,
+    }
+    Ok(())
+}
+
+fn push_reads<S: Source>(out: &mut String, source: &mut S, calls: &[&str]) -> Result<()> {
+    for call in calls {
+        push_call(out, call)?;
+        push_read(out, source, call.trim().strip_prefix("read").unwrap_or(""))?;
+        out.push('\n')?;
+    }
+    writeln!(out, "{} failed", source.faults())?;
+    Ok(())
+}
+
+fn push_writes<S: Sink>(out: &mut String, sink: &mut S, calls: &[&str]) -> Result<()> {
+    for call in calls {
+        push_call(out, call)?;
+        push_write(out, sink, call.trim().strip_prefix("write").unwrap_or(""))?;
+        out.push('\n')?;
+    }
+    writeln!(
+        out,
+        "{} failed, {} without memory",
+        sink.faults(),
+        sink.wants()
+    )?;
+    Ok(())
+}
+
+/// Adds the bytes that a sink holds.
+pub(crate) fn push_held(out: &mut String, bytes: &[u8]) -> Result<()> {
+    out.push_str("holds '")?;
+    push_text(out, bytes)?;
+    out.push_str("'\n")?;
+    Ok(())
+}
+
+/// Adds what a source in memory answers to calls.
+pub(crate) fn push_source(
+    out: &mut String,
+    content: &str,
+    fails: List<u64>,
+    calls: &[&str],
+) -> Result<()> {
+    let content = Bytes::from_slice(*out.allocator(), content.as_bytes())?;
+    push_reads(out, &mut MemSource::new(content, fails), calls)
+}
+
+/// Adds what a source that never fails answers to calls.
+pub(crate) fn push_sure_source(out: &mut String, content: &str, calls: &[&str]) -> Result<()> {
+    let content = Bytes::from_slice(*out.allocator(), content.as_bytes())?;
+    push_reads(out, &mut SureSource::new(content), calls)
+}
+
+/// Adds what a sink in memory answers to calls, and what it holds.
+pub(crate) fn push_sink(
+    out: &mut String,
+    content: &str,
+    fails: List<u64>,
+    calls: &[&str],
+) -> Result<()> {
+    let content = Bytes::from_slice(*out.allocator(), content.as_bytes())?;
+    let mut sink = MemSink::new(content, fails);
+    push_writes(out, &mut sink, calls)?;
+    push_held(out, sink.bytes())
+}
+
+/// Adds what a sink that never fails answers to calls, and what it holds.
+pub(crate) fn push_sure_sink(out: &mut String, content: &str, calls: &[&str]) -> Result<()> {
+    let content = Bytes::from_slice(*out.allocator(), content.as_bytes())?;
+    let mut sink = SureSink::new(content);
+    push_writes(out, &mut sink, calls)?;
+    push_held(out, sink.bytes())
+}

@@ -1,0 +1,114 @@
+//! Runs the script on each line of standard input over streams in memory, and tells what is written and how the run ends.
+//!
+//! In a script `~` stands for a line feed, and `{127 (}` for 127 of `(`. A script behind `reads: ` is run over a source
+//! whose second read fails, one behind `writes: ` over a sink whose second write fails. Behind `words: ` stand the words
+//! of a command line without a script. A line that begins with `##` is a title, and is printed as it is; each other line
+//! is printed behind `> `, above what its run gives.
+#![tactic(auto)]
+
+mod streams;
+
+use afl_outside::{MemShelf, OpenGate};
+use afl_run::{Arg, Report, SessionEnd, notice_line, run};
+use anyhow::Result;
+use std::io::BufRead;
+use std::str::from_utf8;
+use streams::shelf_of;
+use test_kit::text_of;
+
+/// What is asked of a text.
+#[derive(Clone, Copy)]
+enum Form {
+    Script,
+    FailingRead,
+    FailingWrite,
+    Words,
+}
+
+/// What a line asks for, and the text behind the word that asks for it.
+fn form_of(line: &[u8]) -> (Form, &[u8]) {
+    match line {
+        [b'r', b'e', b'a', b'd', b's', b':', b' ', text @ ..] => (Form::FailingRead, text),
+        [b'w', b'r', b'i', b't', b'e', b's', b':', b' ', text @ ..] => (Form::FailingWrite, text),
+        [b'w', b'o', b'r', b'd', b's', b':', text @ ..] => (Form::Words, text),
+        text => (Form::Script, text),
+    }
+}
+
+/// What it was that ended a session.
+fn end_word(end: SessionEnd) -> &'static str {
+    match end {
+        SessionEnd::Whole => "Whole",
+        SessionEnd::Source => "Source",
+        SessionEnd::Sink => "Sink",
+        SessionEnd::Memory => "Memory",
+    }
+}
+
+/// Prints what the sessions have written, how they ended, and the status and line of the run.
+fn tell(rt: &(impl Print + AllocGlobal), report: &Report<MemShelf>) -> Result<()> {
+    for session in report.sessions.as_slice() {
+        print!(rt; "{}", from_utf8(session.sink.bytes()).unwrap_or("no text"))?;
+        print!(rt; "{}, ", end_word(session.end))?;
+    }
+    println!(rt; "status {}", report.status)?;
+    let line = notice_line(rt.alloc(), &report.notice)?;
+    print!(rt; "{}", from_utf8(line.as_slice()).unwrap_or("no text"))?;
+    Ok(())
+}
+
+/// Runs `try` over a script, where the listed reads and writes fail.
+fn tell_script(
+    rt: &(impl Print + AllocGlobal),
+    text: &[u8],
+    reads: &[u64],
+    writes: &[u64],
+) -> Result<()> {
+    let alloc = rt.alloc();
+    let script = text_of(alloc, text)?;
+    let shelf = shelf_of(alloc, script.as_slice(), reads, writes)?;
+    let words = [Arg::new(String::from_str(alloc, "try")?)];
+    tell(rt, &run(alloc, &words, shelf, &OpenGate))
+}
+
+/// Runs these words over an empty script.
+fn tell_words(rt: &(impl Print + AllocGlobal), text: &[u8]) -> Result<()> {
+    let alloc = rt.alloc();
+    let mut words = Vec::new(alloc);
+    for word in from_utf8(text).unwrap_or("").split_whitespace() {
+        words.push(Arg::new(String::from_str(alloc, word)?))?;
+    }
+    let shelf = shelf_of(alloc, b"", &[], &[])?;
+    tell(rt, &run(alloc, words.as_slice(), shelf, &OpenGate))
+}
+
+/// Prints a title, or a line and what its run comes to.
+fn answer(rt: &(impl Print + AllocGlobal), line: &[u8]) -> Result<()> {
+    if let [b'#', b'#', ..] = line {
+        println!(rt; "{}", from_utf8(line).unwrap_or("##"))?;
+        return Ok(());
+    }
+    println!(rt; "> {}", from_utf8(line).unwrap_or("no text"))?;
+    match form_of(line) {
+        (Form::Script, text) => tell_script(rt, text, &[], &[]),
+        (Form::FailingRead, text) => tell_script(rt, text, &[1], &[]),
+        (Form::FailingWrite, text) => tell_script(rt, text, &[], &[1]),
+        (Form::Words, text) => tell_words(rt, text),
+    }
+}
+
+fn main(rt: HostRuntime) -> Result<()> {
+    let mut input = rt.reader();
+    let mut line = Vec::new(rt.alloc());
+    for _ in 0..u64::MAX {
+        line.clear();
+        if input.read_until(b'\n', &mut line)? == 0 {
+            break;
+        }
+        match line.as_slice() {
+            [text @ .., b'\n'] => answer(&rt, text)?,
+            text => answer(&rt, text)?,
+        }
+    }
+    Ok(())
+}

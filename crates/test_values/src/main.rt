@@ -1,0 +1,78 @@
+//! Tells for each line of standard input, a call on values and its operands, what it gives.
+//!
+//! `2 - 5` and `not ?7` are calls of the value table, `name a1` and `code 7` ask for a name and a code. `row`, `bounds` and
+//! `broken` copy what they are given, `order`, `same` and `box` compare coordinates. A line `list ..` calls one list, which
+//! the next such line finds as it was left. In a line `{64 n}` stands for 64 of `n`.
+#![tactic(auto)]
+
+mod lists;
+mod places;
+mod table;
+
+use anyhow::Result;
+use cell_values::{Bytes, Code, Name};
+use lists::Lists;
+use places::{push_bounds, push_box, push_broken, push_order, push_row, push_same};
+use std::str::from_utf8;
+use table::{push_one, push_two};
+use test_kit::{push_text, text_of};
+
+/// Adds the name that a text is.
+fn push_name(out: &mut String, text: &str) -> Result<()> {
+    match Name::new(Bytes::from_slice(*out.allocator(), text.as_bytes())?) {
+        Some(name) => push_text(out, name.as_slice())?,
+        None => out.push_str("no name")?,
+    }
+    Ok(())
+}
+
+/// Adds the code of a number.
+fn push_code(out: &mut String, digits: &str) -> Result<()> {
+    match Code::new(digits.parse::<u8>().unwrap_or(0)) {
+        Some(code) => write!(out, "code {}", code.number())?,
+        None => out.push_str("no code")?,
+    }
+    Ok(())
+}
+
+/// Adds the answer to the words of a line.
+fn push_answer(out: &mut String, lists: &mut Lists, words: &[&str]) -> Result<()> {
+    match words {
+        ["list", call @ ..] => lists.push_call(out, call),
+        ["name"] => push_name(out, ""),
+        ["name", text] => push_name(out, text),
+        ["code", digits] => push_code(out, digits),
+        ["row", at, values @ ..] => push_row(out, at, values),
+        ["bounds", lo, hi] => push_bounds(out, lo, hi),
+        ["broken", at, kind] => push_broken(out, at, kind),
+        ["order", one, other] => push_order(out, one, other),
+        ["same", one, other] => push_same(out, one, other),
+        ["box", lo, hi, at] => push_box(out, lo, hi, at),
+        [op, a] => push_one(out, op, a),
+        [a, op, b] => push_two(out, a, op, b),
+        _ => Ok(()),
+    }
+}
+
+/// Prints a title, or a line and its answer.
+fn tell(rt: &(impl Print + AllocGlobal), lists: &mut Lists, line: &str) -> Result<()> {
+    if line.starts_with("##") {
+        println!(rt; "{line}")?;
+        return Ok(());
+    }
+    let text = text_of(rt.alloc(), line.as_bytes())?;
+    let text = from_utf8(text.as_slice()).unwrap_or("");
+    let words: Vec<&str> = text.split_whitespace().collect(rt.alloc())?;
+    let mut answer = String::new(rt.alloc());
+    push_answer(&mut answer, lists, words.as_slice())?;
+    println!(rt; "> {line}\n{answer}")?;
+    Ok(())
+}
+
+fn main(rt: HostRuntime) -> Result<()> {
+    let mut lists = Lists::new(rt.alloc());
+    for line in rt.lines(rt.alloc()) {
+        tell(&rt, &mut lists, line?.as_str())?;
+    }
+    Ok(())
+}

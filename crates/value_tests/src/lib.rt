@@ -1,7 +1,0 @@
-//! The values, their table, and expressions over them, as users meet them.
-#![tactic(auto)]
-
-#[cfg(test)]
-mod expressions;
-#[cfg(test)]
-mod values;
