@@ -1,7 +1,7 @@
 -- A disk in memory that is what was last written to it: no write waits for a sync.
 use Rattle.std.specs.Prelude.{◌≡◌, ℕ, ◌≤◌, List, [], true, Some, refl, Result, Ok, Err}
 use Rattle.afl_outside.specs.Counts.{risen}
-use Rattle.afl_outside.specs.Disk.{DiskState, written}
+use Rattle.afl_outside.specs.Disk.{DiskState, Moment, written}
 use Rattle.afl_outside.specs.declared.source.Failed.{Failed}
 
 -- the bytes with which it began, those that it holds, and how often it has found no memory
@@ -22,6 +22,9 @@ plain_images d c = c ≡ d.content
 
 abbrev pub plain_since : PlainBytes → ℕ → List ℕ → Type 0
 plain_since d t c = c ≡ d.content
+
+abbrev pub plain_moment : PlainBytes → Moment
+plain_moment d = record { state = plain_state d; may_leave = plain_images d; left_since = plain_since d }
 
 pub plain_now : (d : PlainBytes) (t : ℕ) (c : List ℕ) → t ≤ 0 → plain_images d c → plain_since d t c
 plain_now d t c le left = left

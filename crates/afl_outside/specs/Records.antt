@@ -1,7 +1,7 @@
 -- What the calls of a disk in memory do.
 use Rattle.std.specs.Prelude.{◌≡◌, ℕ, List, [], ◌∷◌, ◌++◌, true, length, Contains, Some, Result, Ok, Err, ◌⊎◌}
 use Rattle.afl_outside.specs.Counts.{risen}
-use Rattle.afl_outside.specs.Disk.{DiskState}
+use Rattle.afl_outside.specs.Disk.{DiskState, Moment}
 use Rattle.afl_outside.specs.Images.{content_after, Leaves, LeftSince}
 use Rattle.afl_outside.specs.declared.device_call.DeviceCall.{DeviceCall}
 use Rattle.afl_outside.specs.declared.source.Failed.{Failed}
@@ -76,3 +76,13 @@ memory_disk_state d = told_disk d.name d.bytes d.faults d.wants
 
 abbrev pub sure_disk_state : SureBytes → DiskState
 sure_disk_state d = told_disk [] d.bytes 0 d.wants
+
+-- what it tells, and the images that a crash may leave
+abbrev pub moment_of : DiskState → Recorded → Moment
+moment_of state r = record { state = state; may_leave = images_of r; left_since = images_since r }
+
+abbrev pub memory_disk_moment : MemoryDisk → Moment
+memory_disk_moment d = moment_of (memory_disk_state d) d.bytes
+
+abbrev pub sure_disk_moment : SureBytes → Moment
+sure_disk_moment d = moment_of (sure_disk_state d) d.bytes

@@ -4,7 +4,7 @@ ghost use Rattle.std.specs.Io.{ReadsAtMost};
 ghost use Rattle.afl_outside.specs.Disk.{ReadsAt};
 ghost use Rattle.afl_outside.specs.Images.{IsNote, Leaves, stopped_image};
 ghost use Rattle.afl_outside.specs.ImageLaws.{now_counts, only_images_now, content_is_left};
-ghost use Rattle.afl_outside.specs.Records.{new_disk, content_of, images_of, images_since, memory_disk_state, FailsNext, MemoryCalls};
+ghost use Rattle.afl_outside.specs.Records.{new_disk, content_of, memory_disk_moment, FailsNext, MemoryCalls};
 
 use crate::device_call::DeviceCall;
 use crate::disk_record::DiskRecord;
@@ -107,11 +107,7 @@ impl MemDisk {
 }
 
 impl Disk for MemDisk {
-    ghost state = { memory_disk_state };
-
-    ghost may_leave = { λ d. images_of d.bytes };
-
-    ghost left_since = { λ d. images_since d.bytes };
+    ghost moment = { memory_disk_moment };
 
     ghost counts_now = { λ d. now_counts d.bytes.first d.bytes.calls };
 

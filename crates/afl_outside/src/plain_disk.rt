@@ -3,7 +3,7 @@ ghost use Rattle.std.specs.Prelude.{◌≡◌, ◌≤◌, length, IsOk, IfOk};
 ghost use Rattle.std.specs.Io.{ReadsAtMost};
 ghost use Rattle.afl_outside.specs.Disk.{ReadsAt};
 ghost use Rattle.afl_outside.specs.Overlay.{laid_over};
-ghost use Rattle.afl_outside.specs.Plain.{plain_disk, plain_state, plain_images, plain_since, plain_now, plain_only, plain_read, PlainWrites};
+ghost use Rattle.afl_outside.specs.Plain.{plain_disk, plain_moment, plain_now, plain_only, plain_read, PlainWrites};
 
 use crate::disk_record::lay_over;
 use crate::pieces::copy_front;
@@ -51,11 +51,7 @@ impl PlainDisk {
 }
 
 impl Disk for PlainDisk {
-    ghost state = { plain_state };
-
-    ghost may_leave = { plain_images };
-
-    ghost left_since = { plain_since };
+    ghost moment = { plain_moment };
 
     ghost counts_now = { plain_now };
 

@@ -3,7 +3,7 @@ ghost use Rattle.std.specs.Prelude.{◌≡◌, ◌≤◌, length, IsOk, IfOk, tr
 ghost use Rattle.std.specs.Io.{ReadsAtMost};
 ghost use Rattle.afl_outside.specs.Disk.{ReadsAt};
 ghost use Rattle.afl_outside.specs.ImageLaws.{now_counts, only_images_now, content_is_left};
-ghost use Rattle.afl_outside.specs.Records.{unwritten_disk, content_of, images_of, images_since, sure_disk_state, SureCalls};
+ghost use Rattle.afl_outside.specs.Records.{unwritten_disk, content_of, sure_disk_moment, SureCalls};
 
 use crate::device_call::DeviceCall;
 use crate::disk_record::DiskRecord;
@@ -40,11 +40,7 @@ impl SureDisk {
 }
 
 impl Disk for SureDisk {
-    ghost state = { sure_disk_state };
-
-    ghost may_leave = { λ d. images_of d.bytes };
-
-    ghost left_since = { λ d. images_since d.bytes };
+    ghost moment = { sure_disk_moment };
 
     ghost counts_now = { λ d. now_counts d.bytes.first d.bytes.calls };
 

@@ -30,6 +30,7 @@ pub(crate) fn write_whole<K: Sink>(sink: &mut K, text: &[u8]) -> Result<(), Stop
     ensures ok { OnOk result (Takes (K.state sink.old) (K.state sink.new) text.now) }
     ensures err { OnErr result ((n : ℕ) × Takes (K.state sink.old) (K.state sink.new) (take n text.now)) }
     ensures fault { IsErrOf result Stopped.Fault → Rose (K.state sink.old).faults (K.state sink.new).faults }
+    ensures memory { IsErrOf result Stopped.Memory → Rose (K.state sink.old).wants (K.state sink.new).wants }
 {
     let mut done = 0;
     'pieces: while done < text.len() {

@@ -1,5 +1,5 @@
 //! The top call.
-ghost use Rattle.std.specs.Prelude.{◌≡◌, ◌≢◌, ◌↔◌, ◌⊎◌, ◌≤◌, ℕ, Some, None, All, Any, IsSome, IsTrue, IfOk, [], ◌∷◌, ◌<◌, vec_capacity};
+ghost use Rattle.std.specs.Prelude.{◌≡◌, ◌≢◌, ◌↔◌, ◌⊎◌, ◌≤◌, ◌+◌, ◌^◌, length, ℕ, Some, None, All, Any, IsSome, IsTrue, IfOk, [], ◌∷◌, ◌<◌, vec_capacity};
 ghost use Rattle.afl_lexer.specs.Standing.{StandsAfter};
 ghost use Rattle.std.specs.List.{list_any};
 ghost use Rattle.afl_outside.specs.Counts.{Rose};
@@ -42,6 +42,12 @@ pub fn run<F: Shelf, G: Gate>(alloc: Global, words: &[Arg], shelf: F, _gate: &G)
         ⊎ Only (λ r. (r.end ≡ SessionEnd.Source) ⊎ (r.end ≡ SessionEnd.Sink)) result.sessions) }
     ensures later { (F.state shelf).faults ≤ (F.state result.shelf).faults }
 
+    // Whatever can be written and was handed out is in a report; with words of no form nothing is touched. A lack of memory before
+    // the session is told where nothing was opened, or the shelf found none.
+    ensures handed { (F.state shelf).handed + length result.sessions < 2 ^ 64 → (F.state result.shelf).handed ≡ (F.state shelf).handed + length result.sessions }
+    ensures untouched { (word : ℕ) → result.notice ≡ Notice.Usage word → result.shelf ≡ shelf }
+    ensures memory { result.notice ≡ Notice.Memory → result.sessions ≡ [] → (result.shelf ≡ shelf) ⊎ Rose (F.state shelf).wants (F.state result.shelf).wants }
+
     // Where the shelf tells that it opens both, and no stream's count rose, the script was answered, but for memory.
     ensures complete { wrong_word words.now ≡ None → IsSome ((F.state shelf).scripts standard) → IsSome ((F.state shelf).replies standard) →
         All (λ r. (Rose 0 (F.S.state r.source).faults → ⊥) × (Rose 0 (F.K.state r.sink).faults → ⊥)) result.sessions →
@@ -81,7 +87,7 @@ fn status(notice: Notice) -> u8
 }
 
 /// One session from the standard input to the standard output. The memory that it takes besides its replies is there before
-/// its first statement.
+/// anything is opened.
 fn run_try<F: Shelf>(alloc: Global, shelf: F) -> Report<F>
     ensures status { result.status ≡ status_of result.notice }
     ensures opened { All (λ r. IsOpenedAs standard (F.state shelf) (F.S.state r.source) (F.K.state r.sink)) result.sessions }
@@ -90,7 +96,13 @@ fn run_try<F: Shelf>(alloc: Global, shelf: F) -> Report<F>
         ⊎ ((result.sessions ≡ []) × ((result.notice ≡ Notice.Memory)
         ⊎ ((result.notice ≡ Notice.Stream 0) × IsUnopened standard (F.state shelf) (F.state result.shelf)))) }
     ensures later { (F.state shelf).faults ≤ (F.state result.shelf).faults }
+    ensures handed { (F.state shelf).handed + length result.sessions < 2 ^ 64 → (F.state result.shelf).handed ≡ (F.state shelf).handed + length result.sessions }
+    ensures memory { result.notice ≡ Notice.Memory → result.sessions ≡ [] → (result.shelf ≡ shelf) ⊎ Rose (F.state shelf).wants (F.state result.shelf).wants }
 {
+    let (splitter, sessions) = match room(alloc) {
+        Ok(room) => room,
+        Err(Memory) => return unopened(alloc, Notice::Memory, shelf),
+    };
     let mut shelf = shelf;
     let wants = shelf.wants();
     let source = match shelf.script("-") {
@@ -108,12 +120,7 @@ fn run_try<F: Shelf>(alloc: Global, shelf: F) -> Report<F>
             return unopened(alloc, notice, shelf);
         }
     };
-    match room(alloc) {
-        Ok((splitter, sessions)) => {
-            report_of(sessions, serve(alloc, source, sink, splitter), shelf)
-        }
-        Err(Memory) => unopened(alloc, Notice::Memory, shelf),
-    }
+    report_of(sessions, serve(alloc, source, sink, splitter), shelf)
 }
 
 /// A call of the shelf found no memory, or else it failed.

@@ -3,7 +3,7 @@ use Rattle.std.proofs.Common.{◌≡◌, inl, inr, ⊎_elim, ℕ, List, refl, sy
 use Rattle.std.specs.Prelude.{IsTrue, IfSome, Some, None}
 use Rattle.std.specs.declared.option.Option.{Option}
 use Rattle.afl_outside.specs.Disk.{DiskState, DiskGoesOn, Elapses, LeavesOnly, Follows}
-use Rattle.afl_outside.proofs.Moments.{started, goes_on}
+use Rattle.afl_outside.proofs.Moments.{started, goes_on, moment_at}
 use Rattle.page_layout.specs.Places.{IsNone, KeepsPages}
 use Rattle.page_chain.specs.Runs.{OnlyReads, OnlyWrites, Over, Sees}
 use Rattle.page_chain.proofs.Kept.{keeps_self, keeps_on, keeps_more}
@@ -30,12 +30,12 @@ run_on a b c past mid since P Q R one other p q = record {
 }
 
 -- no call
-pub reads_none : (s : DiskState) (past : ℕ → List ℕ → Type 0) (before : List ℕ → Type 0) → ((c : List ℕ) → past s.moment c → before c) → OnlyReads s s past past before before
+pub reads_none : (s : DiskState) (past : ℕ → List ℕ → Type 0) (before : List ℕ → Type 0) → ((c : List ℕ) → past s.moment c → before c) → OnlyReads (moment_at s past before) (moment_at s past before)
 reads_none s past before only = record { seen = refl; same = stands s; crash = λ c left. left; time = started s.moment past before only }
 
 -- one call that reads
 pub reads_once : (old new : DiskState) (past since : ℕ → List ℕ → Type 0) (before now : List ℕ → Type 0) → ((c : List ℕ) → past old.moment c → before c)
-    → new.seen ≡ old.seen → DiskGoesOn old new → ((c : List ℕ) → now c → before c) → Elapses old.moment new.moment past since now → OnlyReads old new past since before now
+    → new.seen ≡ old.seen → DiskGoesOn old new → ((c : List ℕ) → now c → before c) → Elapses old.moment new.moment past since now → OnlyReads (moment_at old past before) (moment_at new since now)
 reads_once old new past since before now only seen same crash time = record {
   seen = seen;
   same = same;
@@ -44,7 +44,7 @@ reads_once old new past since before now only seen same crash time = record {
 }
 
 pub reads_on : (a b c : DiskState) (past mid since : ℕ → List ℕ → Type 0) (before between now : List ℕ → Type 0)
-    → OnlyReads a b past mid before between → OnlyReads b c mid since between now → OnlyReads a c past since before now
+    → OnlyReads (moment_at a past before) (moment_at b mid between) → OnlyReads (moment_at b mid between) (moment_at c since now) → OnlyReads (moment_at a past before) (moment_at c since now)
 reads_on a b c past mid since before between now p q = record {
   seen = q.seen ∙ p.seen;
   same = goes a b c p.same q.same;
@@ -52,7 +52,7 @@ reads_on a b c past mid since before between now p q = record {
   time = run_on a.moment b.moment c.moment past mid since before between before (λ x h. h) p.crash p.time q.time;
 }
 
-pub writes_none : (pages : List ℕ) (s : DiskState) (past : ℕ → List ℕ → Type 0) (before : List ℕ → Type 0) → ((c : List ℕ) → past s.moment c → before c) → OnlyWrites pages s s past past before before
+pub writes_none : (pages : List ℕ) (s : DiskState) (past : ℕ → List ℕ → Type 0) (before : List ℕ → Type 0) → ((c : List ℕ) → past s.moment c → before c) → OnlyWrites pages (moment_at s past before) (moment_at s past before)
 writes_none pages s past before only = record {
   same = stands s;
   crash = λ c left. (c, left, keeps_self pages c);
@@ -61,7 +61,7 @@ writes_none pages s past before only = record {
 
 -- one call that writes these pages
 pub writes_once : (pages : List ℕ) (old new : DiskState) (past since : ℕ → List ℕ → Type 0) (before now : List ℕ → Type 0) → ((c : List ℕ) → past old.moment c → before c)
-    → DiskGoesOn old new → Follows (KeepsPages pages) before now → Elapses old.moment new.moment past since now → OnlyWrites pages old new past since before now
+    → DiskGoesOn old new → Follows (KeepsPages pages) before now → Elapses old.moment new.moment past since now → OnlyWrites pages (moment_at old past before) (moment_at new since now)
 writes_once pages old new past since before now only same crash time = record {
   same = same;
   crash = crash;
@@ -70,7 +70,7 @@ writes_once pages old new past since before now only same crash time = record {
 }
 
 pub writes_more : (few many : List ℕ) (old new : DiskState) (past since : ℕ → List ℕ → Type 0) (before now : List ℕ → Type 0) → ((number : ℕ) → IsNone many number → IsNone few number)
-    → OnlyWrites few old new past since before now → OnlyWrites many old new past since before now
+    → OnlyWrites few (moment_at old past before) (moment_at new since now) → OnlyWrites many (moment_at old past before) (moment_at new since now)
 writes_more few many old new past since before now fewer p = record {
   same = p.same;
   crash = λ c left. wider c (p.crash c left);
@@ -85,7 +85,7 @@ writes_more few many old new past since before now fewer p = record {
     wider c over = (over.0, over.1, keeps_more few many over.0 c fewer over.2)
 
 pub writes_on : (pages : List ℕ) (a b c : DiskState) (past mid since : ℕ → List ℕ → Type 0) (before between now : List ℕ → Type 0)
-    → OnlyWrites pages a b past mid before between → OnlyWrites pages b c mid since between now → OnlyWrites pages a c past since before now
+    → OnlyWrites pages (moment_at a past before) (moment_at b mid between) → OnlyWrites pages (moment_at b mid between) (moment_at c since now) → OnlyWrites pages (moment_at a past before) (moment_at c since now)
 writes_on pages a b c past mid since before between now p q = record {
   same = goes a b c p.same q.same;
   crash = λ x left. lower x (q.crash x left);

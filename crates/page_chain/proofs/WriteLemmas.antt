@@ -4,6 +4,7 @@ use Rattle.std.proofs.lemmas.List.{length-take, length-replicate, drop-drop}
 use Rattle.std.proofs.Math.Nat.{add-mul, one-mul}
 use Rattle.std.specs.Int.{w32, to_le_bytes}
 use Rattle.std.specs.Prelude.{OnOk, Some, Result, Ok, Err}
+use Rattle.afl_outside.proofs.Moments.{moment_at}
 use Rattle.afl_outside.specs.Disk.{DiskState, DiskGoesOn, Elapses, Follows, written, Torn, Writes}
 use Rattle.afl_outside.specs.ImageLaws.{Torn-written}
 use Rattle.afl_outside.specs.declared.source.Failed.{Failed}
@@ -77,7 +78,7 @@ length-piece room bytes = length-padded room (take room bytes) (omega (arith, le
 
 -- one write of a page, as a run
 pub wrote_there : (page at n : ℕ) (old new : DiskState) (past since : ℕ → List ℕ → Type 0) (before now : List ℕ → Type 0) → at ≡ 4096 * page → n ≡ 4096 → ((c : List ℕ) → past old.moment c → before c)
-    → DiskGoesOn old new → Follows (Torn at n) before now → Elapses old.moment new.moment past since now → OnlyWrites (page ∷ []) old new past since before now
+    → DiskGoesOn old new → Follows (Torn at n) before now → Elapses old.moment new.moment past since now → OnlyWrites (page ∷ []) (moment_at old past before) (moment_at new since now)
 wrote_there page at n old new past since before now place size only same crash time =
     writes_once (page ∷ []) old new past since before now only same (λ c left. let h = crash c left in (h.0, h.1, torn_keeps page at n h.0 c place size h.2)) time
 

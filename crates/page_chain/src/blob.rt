@@ -1,5 +1,6 @@
 //! Blobs: bytes in listed pages.
-ghost use Rattle.std.specs.Prelude.{◌≡◌, ℕ, length, IfSome, IfOk, OnOk, OnErr, IsErrOf, ◌⊎◌};
+ghost use Rattle.std.specs.Prelude.{◌≡◌, length, IfSome, IfOk, OnOk, IsErrOf};
+ghost use Rattle.afl_outside.specs.Disk.{FailsWithCause};
 ghost use Rattle.afl_outside.specs.Counts.{Rose};
 ghost use Rattle.page_chain.specs.Pages.{page_size, pages_for, AreDistinct, IsBlobRead, HoldsBlob};
 ghost use Rattle.page_layout.specs.Places.{KeepsPages};
@@ -26,10 +27,10 @@ pub fn read_blob<D: Disk>(
     count: u64,
 ) -> Result<Bytes, BlobFault>
     requires { length pages.now ≡ pages_for page_size count }
-    ensures exact { IfSome (D.state disk.old).seen (λ seen. IsBlobRead seen pages.now count result) }
+    ensures exact { IfSome (D.moment disk.old).state.seen (λ seen. IsBlobRead seen pages.now count result) }
     ensures size { IfOk result (λ bytes. length bytes ≡ count) }
-    ensures fault { IsErrOf result BlobFault.Disk → Rose (D.state disk.old).faults (D.state disk.new).faults }
-    ensures reads { OnlyReads (D.state disk.old) (D.state disk.new) (D.left_since disk.old) (D.left_since disk.new) (D.may_leave disk.old) (D.may_leave disk.new) }
+    ensures fault { IsErrOf result BlobFault.Disk → Rose (D.moment disk.old).state.faults (D.moment disk.new).state.faults }
+    ensures reads { OnlyReads (D.moment disk.old) (D.moment disk.new) }
 {
     let mut bytes = List::new(alloc);
     let mut piece = [0u8; PAGE];
@@ -49,9 +50,9 @@ pub fn read_blob<D: Disk>(
 pub fn write_blob<D: Disk>(disk: &mut D, pages: &[u32], bytes: &[u8]) -> Result<(), Failed>
     requires distinct { AreDistinct pages.now }
     requires pages { length pages.now ≡ pages_for page_size (length bytes.now) }
-    ensures seen { Sees (D.state disk.old) (D.state disk.new) (λ seen now. KeepsPages pages.now seen now × OnOk result (HoldsBlob page_size now pages.now bytes.now)) }
-    ensures cause { OnErr result (Rose (D.state disk.old).faults (D.state disk.new).faults ⊎ Rose (D.state disk.old).wants (D.state disk.new).wants) }
-    ensures writes { OnlyWrites pages.now (D.state disk.old) (D.state disk.new) (D.left_since disk.old) (D.left_since disk.new) (D.may_leave disk.old) (D.may_leave disk.new) }
+    ensures seen { Sees (D.moment disk.old).state (D.moment disk.new).state (λ seen now. KeepsPages pages.now seen now × OnOk result (HoldsBlob page_size now pages.now bytes.now)) }
+    ensures cause { FailsWithCause result (D.moment disk.old) (D.moment disk.new) }
+    ensures writes { OnlyWrites pages.now (D.moment disk.old) (D.moment disk.new) }
 {
     let mut piece = [0u8; PAGE];
     let mut rest = bytes;

@@ -1,5 +1,6 @@
 //! Chains: bytes in pages each of which names the next one.
-ghost use Rattle.std.specs.Prelude.{◌≡◌, ℕ, ◌+◌, ◌-◌, ◌≤◌, ◌<◌, ◌++◌, List, length, take, drop, slice_index, IfSome, IfOk, OnOk, OnErr, IsErrOf, ◌⊎◌};
+ghost use Rattle.std.specs.Prelude.{◌≡◌, ℕ, ◌+◌, ◌-◌, ◌≤◌, ◌<◌, ◌++◌, List, length, take, drop, slice_index, IfSome, IfOk, OnOk, IsErrOf};
+ghost use Rattle.afl_outside.specs.Disk.{FailsWithCause};
 ghost use Rattle.std.specs.Int.{w32, to_le_bytes, from_le_bytes};
 ghost use Rattle.std.specs.FinSet.{from_list};
 ghost use Rattle.afl_outside.specs.Counts.{Rose};
@@ -41,11 +42,11 @@ pub fn read_chain<D: Disk>(
     count: u64,
     taken: &[u32],
 ) -> Result<(Bytes, List<u32>), OpenCause>
-    ensures exact { IfSome (D.state disk.old).seen (λ seen. IsChainRead seen taken.now first.holder first.page count result) }
+    ensures exact { IfSome (D.moment disk.old).state.seen (λ seen. IsChainRead seen taken.now first.holder first.page count result) }
     ensures size { IfOk result (λ x. length x.0 ≡ count) }
     ensures pages { IfOk result (λ x. length x.1 ≡ pages_for (content_size page_size) count) }
-    ensures fault { IsErrOf result OpenCause.Disk → Rose (D.state disk.old).faults (D.state disk.new).faults }
-    ensures reads { OnlyReads (D.state disk.old) (D.state disk.new) (D.left_since disk.old) (D.left_since disk.new) (D.may_leave disk.old) (D.may_leave disk.new) }
+    ensures fault { IsErrOf result OpenCause.Disk → Rose (D.moment disk.old).state.faults (D.moment disk.new).state.faults }
+    ensures reads { OnlyReads (D.moment disk.old) (D.moment disk.new) }
 {
     if count == 0 {
         return Err(OpenCause::NotDatabase { page: first.holder });
@@ -84,9 +85,9 @@ fn follow<D: Disk>(
     piece: &mut [u8],
 ) -> Result<u32, OpenCause>
     requires { length piece.old ≡ page_size }
-    ensures exact { IfSome (D.state disk.old).seen (λ seen. (taken : List ℕ) → used.old ≡ from_list taken → IsFollowed seen taken link.holder link.page used.new piece.new result) }
-    ensures fault { IsErrOf result OpenCause.Disk → Rose (D.state disk.old).faults (D.state disk.new).faults }
-    ensures reads { OnlyReads (D.state disk.old) (D.state disk.new) (D.left_since disk.old) (D.left_since disk.new) (D.may_leave disk.old) (D.may_leave disk.new) }
+    ensures exact { IfSome (D.moment disk.old).state.seen (λ seen. (taken : List ℕ) → used.old ≡ from_list taken → IsFollowed seen taken link.holder link.page used.new piece.new result) }
+    ensures fault { IsErrOf result OpenCause.Disk → Rose (D.moment disk.old).state.faults (D.moment disk.new).state.faults }
+    ensures reads { OnlyReads (D.moment disk.old) (D.moment disk.new) }
 {
     let wrong = OpenCause::NotDatabase { page: link.holder };
     if link.page == 0 {
@@ -118,9 +119,9 @@ fn link_in(piece: &[u8]) -> u32
 pub fn write_chain<D: Disk>(disk: &mut D, pages: &[u32], bytes: &[u8]) -> Result<(), Failed>
     requires distinct { AreDistinct pages.now }
     requires pages { length pages.now ≡ pages_for (content_size page_size) (length bytes.now) }
-    ensures seen { Sees (D.state disk.old) (D.state disk.new) (λ seen now. KeepsPages pages.now seen now × OnOk result (HoldsChain page_size now pages.now bytes.now)) }
-    ensures cause { OnErr result (Rose (D.state disk.old).faults (D.state disk.new).faults ⊎ Rose (D.state disk.old).wants (D.state disk.new).wants) }
-    ensures writes { OnlyWrites pages.now (D.state disk.old) (D.state disk.new) (D.left_since disk.old) (D.left_since disk.new) (D.may_leave disk.old) (D.may_leave disk.new) }
+    ensures seen { Sees (D.moment disk.old).state (D.moment disk.new).state (λ seen now. KeepsPages pages.now seen now × OnOk result (HoldsChain page_size now pages.now bytes.now)) }
+    ensures cause { FailsWithCause result (D.moment disk.old) (D.moment disk.new) }
+    ensures writes { OnlyWrites pages.now (D.moment disk.old) (D.moment disk.new) }
 {
     let mut piece = [0u8; PAGE];
     let mut rest = bytes;

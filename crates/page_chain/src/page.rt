@@ -1,5 +1,6 @@
 //! One page of a disk.
-ghost use Rattle.std.specs.Prelude.{◌≡◌, ℕ, ◌++◌, [], ◌∷◌, length, take, drop, IfSome, IfOk, OnOk, OnErr, IsErrOf, IsTrue, ◌⊎◌};
+ghost use Rattle.std.specs.Prelude.{◌≡◌, [], ◌∷◌, length, take, drop, IfSome, IfOk, OnOk, IsErrOf};
+ghost use Rattle.afl_outside.specs.Disk.{FailsWithCause};
 ghost use Rattle.std.specs.Bool.{OnTrue};
 ghost use Rattle.afl_outside.specs.Counts.{Rose};
 ghost use Rattle.page_chain.specs.Pages.{page_size, page_at, has_page, padded};
@@ -15,10 +16,10 @@ pub(crate) const PAGE: usize = 4096;
 /// Reads a page, and says whether the disk has all of it.
 pub(crate) fn read_page<D: Disk>(disk: &mut D, page: u32, piece: &mut [u8]) -> Result<bool, Stopped>
     requires { length piece.old ≡ page_size }
-    ensures whole { IfSome (D.state disk.old).seen (λ seen. IfOk result (λ whole. whole ≡ has_page page_size seen page)) }
-    ensures bytes { IfSome (D.state disk.old).seen (λ seen. IfOk result (λ whole. OnTrue whole (piece.new ≡ page_at page_size seen page))) }
-    ensures fault { IsErrOf result Stopped.Disk → Rose (D.state disk.old).faults (D.state disk.new).faults }
-    ensures reads { OnlyReads (D.state disk.old) (D.state disk.new) (D.left_since disk.old) (D.left_since disk.new) (D.may_leave disk.old) (D.may_leave disk.new) }
+    ensures whole { IfSome (D.moment disk.old).state.seen (λ seen. IfOk result (λ whole. whole ≡ has_page page_size seen page)) }
+    ensures bytes { IfSome (D.moment disk.old).state.seen (λ seen. IfOk result (λ whole. OnTrue whole (piece.new ≡ page_at page_size seen page))) }
+    ensures fault { IsErrOf result Stopped.Disk → Rose (D.moment disk.old).state.faults (D.moment disk.new).state.faults }
+    ensures reads { OnlyReads (D.moment disk.old) (D.moment disk.new) }
 {
     let before = disk.faults();
     match disk.read_at(page as u64 * PAGE as u64, piece) {
@@ -31,9 +32,9 @@ pub(crate) fn read_page<D: Disk>(disk: &mut D, page: u32, piece: &mut [u8]) -> R
 /// Writes a page.
 pub(crate) fn write_page<D: Disk>(disk: &mut D, page: u32, piece: &[u8]) -> Result<(), Failed>
     requires { length piece.now ≡ page_size }
-    ensures seen { Sees (D.state disk.old) (D.state disk.new) (λ seen now. KeepsPages (page ∷ []) seen now × OnOk result (page_at page_size now page ≡ piece.now)) }
-    ensures cause { OnErr result (Rose (D.state disk.old).faults (D.state disk.new).faults ⊎ Rose (D.state disk.old).wants (D.state disk.new).wants) }
-    ensures writes { OnlyWrites (page ∷ []) (D.state disk.old) (D.state disk.new) (D.left_since disk.old) (D.left_since disk.new) (D.may_leave disk.old) (D.may_leave disk.new) }
+    ensures seen { Sees (D.moment disk.old).state (D.moment disk.new).state (λ seen now. KeepsPages (page ∷ []) seen now × OnOk result (page_at page_size now page ≡ piece.now)) }
+    ensures cause { FailsWithCause result (D.moment disk.old) (D.moment disk.new) }
+    ensures writes { OnlyWrites (page ∷ []) (D.moment disk.old) (D.moment disk.new) }
 {
     disk.write_at(page as u64 * PAGE as u64, piece)
 }

@@ -1,5 +1,6 @@
 //! Blobs and chains in a database's file.
-ghost use Rattle.std.specs.Prelude.{◌≡◌, ℕ, List, [], ◌∷◌, ◌<◌, ◌/◌, ◌⊎◌, length, slice_index_or, IfSome, IfOk, IfErr, OnOk, OnErr, IsErrOf, MatchResult};
+ghost use Rattle.std.specs.Prelude.{◌≡◌, ℕ, List, [], ◌∷◌, ◌<◌, ◌/◌, length, slice_index_or, IfSome, IfOk, IfErr, OnOk, IsErrOf, MatchResult};
+ghost use Rattle.afl_outside.specs.Disk.{FailsWithCause};
 ghost use Rattle.afl_outside.specs.Counts.{Rose};
 ghost use Rattle.page_layout.specs.Places.{KeepsPages};
 ghost use Rattle.page_layout.specs.declared.logs.RecordAt.{RecordAt};
@@ -21,11 +22,11 @@ use std::alloc::Global;
 impl<D: Disk> PageFile<D> {
     /// How many whole pages the file has.
     pub fn pages(&mut self) -> Result<u64, OpenCause>
-        ensures exact { IfSome (D.state self.old.disk).seen (λ seen. IfOk result (λ n. n ≡ length seen / 4096)) }
-        ensures cause { IfErr result (λ fault. IsDeviceFault fault (D.state self.old.disk) (D.state self.new.disk)) }
+        ensures exact { IfSome (D.moment self.old.disk).state.seen (λ seen. IfOk result (λ n. n ≡ length seen / 4096)) }
+        ensures cause { IfErr result (λ fault. IsDeviceFault fault (D.moment self.old.disk).state (D.moment self.new.disk).state) }
         ensures slots { self.new.slots ≡ self.old.slots }
-        ensures reads { OnlyReads (D.state self.old.disk) (D.state self.new.disk) (D.left_since self.old.disk) (D.left_since self.new.disk) (D.may_leave self.old.disk) (D.may_leave self.new.disk) }
-        ensures sound { (seen : List ℕ) → IsSound self.old.slots seen (D.may_leave self.old.disk) → IsSound self.new.slots seen (D.may_leave self.new.disk) }
+        ensures reads { OnlyReads (D.moment self.old.disk) (D.moment self.new.disk) }
+        ensures sound { (seen : List ℕ) → IsSound self.old.slots seen (D.moment self.old.disk).may_leave → IsSound self.new.slots seen (D.moment self.new.disk).may_leave }
     {
         let before = self.disk.faults();
         match self.disk.len() {
@@ -43,12 +44,12 @@ impl<D: Disk> PageFile<D> {
         count: u64,
     ) -> Result<Bytes, BlobFault>
         requires { length pages.now ≡ pages_for page_size count }
-        ensures exact { IfSome (D.state self.old.disk).seen (λ seen. IsBlobRead seen pages.now count result) }
+        ensures exact { IfSome (D.moment self.old.disk).state.seen (λ seen. IsBlobRead seen pages.now count result) }
         ensures size { IfOk result (λ bytes. length bytes ≡ count) }
-        ensures fault { IsErrOf result BlobFault.Disk → Rose (D.state self.old.disk).faults (D.state self.new.disk).faults }
+        ensures fault { IsErrOf result BlobFault.Disk → Rose (D.moment self.old.disk).state.faults (D.moment self.new.disk).state.faults }
         ensures slots { self.new.slots ≡ self.old.slots }
-        ensures reads { OnlyReads (D.state self.old.disk) (D.state self.new.disk) (D.left_since self.old.disk) (D.left_since self.new.disk) (D.may_leave self.old.disk) (D.may_leave self.new.disk) }
-        ensures sound { (seen : List ℕ) → IsSound self.old.slots seen (D.may_leave self.old.disk) → IsSound self.new.slots seen (D.may_leave self.new.disk) }
+        ensures reads { OnlyReads (D.moment self.old.disk) (D.moment self.new.disk) }
+        ensures sound { (seen : List ℕ) → IsSound self.old.slots seen (D.moment self.old.disk).may_leave → IsSound self.new.slots seen (D.moment self.new.disk).may_leave }
     {
         page_chain::read_blob(alloc, &mut self.disk, pages, count)
     }
@@ -56,13 +57,13 @@ impl<D: Disk> PageFile<D> {
     /// Reads the catalogue chain of a root: its bytes and its pages. Its first link stands in page 0, and its log page isn't one of
     /// its pages.
     pub fn read_chain(&mut self, alloc: Global, root: Root) -> Result<(Bytes, List<u32>), OpenCause>
-        ensures exact { IfSome (D.state self.old.disk).seen (λ seen. IsChainRead seen (root.log ∷ []) 0 root.first root.length result) }
+        ensures exact { IfSome (D.moment self.old.disk).state.seen (λ seen. IsChainRead seen (root.log ∷ []) 0 root.first root.length result) }
         ensures size { IfOk result (λ x. length x.0 ≡ root.length) }
         ensures pages { IfOk result (λ x. length x.1 ≡ pages_for (content_size page_size) root.length) }
-        ensures fault { IsErrOf result OpenCause.Disk → Rose (D.state self.old.disk).faults (D.state self.new.disk).faults }
+        ensures fault { IsErrOf result OpenCause.Disk → Rose (D.moment self.old.disk).state.faults (D.moment self.new.disk).state.faults }
         ensures slots { self.new.slots ≡ self.old.slots }
-        ensures reads { OnlyReads (D.state self.old.disk) (D.state self.new.disk) (D.left_since self.old.disk) (D.left_since self.new.disk) (D.may_leave self.old.disk) (D.may_leave self.new.disk) }
-        ensures sound { (seen : List ℕ) → IsSound self.old.slots seen (D.may_leave self.old.disk) → IsSound self.new.slots seen (D.may_leave self.new.disk) }
+        ensures reads { OnlyReads (D.moment self.old.disk) (D.moment self.new.disk) }
+        ensures sound { (seen : List ℕ) → IsSound self.old.slots seen (D.moment self.old.disk).may_leave → IsSound self.new.slots seen (D.moment self.new.disk).may_leave }
     {
         let first = Link {
             holder: 0,
@@ -81,14 +82,14 @@ impl<D: Disk> PageFile<D> {
         taken: &[u32],
     ) -> Result<(Bytes, List<u32>), OpenCause>
         requires { number < length self.old.slots.records }
-        ensures exact { IfSome (D.state self.old.disk).seen (λ seen. (d : RecordAt)
+        ensures exact { IfSome (D.moment self.old.disk).state.seen (λ seen. (d : RecordAt)
             → IsChainRead seen taken.now self.old.slots.current.root.log (slice_index_or self.old.slots.records number d).first (slice_index_or self.old.slots.records number d).length result) }
         ensures size { (d : RecordAt) → IfOk result (λ x. length x.0 ≡ (slice_index_or self.old.slots.records number d).length) }
         ensures pages { (d : RecordAt) → IfOk result (λ x. length x.1 ≡ pages_for (content_size page_size) (slice_index_or self.old.slots.records number d).length) }
-        ensures fault { IsErrOf result OpenCause.Disk → Rose (D.state self.old.disk).faults (D.state self.new.disk).faults }
+        ensures fault { IsErrOf result OpenCause.Disk → Rose (D.moment self.old.disk).state.faults (D.moment self.new.disk).state.faults }
         ensures slots { self.new.slots ≡ self.old.slots }
-        ensures reads { OnlyReads (D.state self.old.disk) (D.state self.new.disk) (D.left_since self.old.disk) (D.left_since self.new.disk) (D.may_leave self.old.disk) (D.may_leave self.new.disk) }
-        ensures sound { (seen : List ℕ) → IsSound self.old.slots seen (D.may_leave self.old.disk) → IsSound self.new.slots seen (D.may_leave self.new.disk) }
+        ensures reads { OnlyReads (D.moment self.old.disk) (D.moment self.new.disk) }
+        ensures sound { (seen : List ℕ) → IsSound self.old.slots seen (D.moment self.old.disk).may_leave → IsSound self.new.slots seen (D.moment self.new.disk).may_leave }
     {
         let at = self.slots.records.as_slice()[number as usize];
         let log = self.slots.current.root.log;
@@ -105,11 +106,11 @@ impl<D: Disk> PageFile<D> {
         requires free { MayWrite pages.now self.old.slots }
         requires pages { length pages.now ≡ pages_for page_size (length bytes.now) }
         ensures slots { MatchResult result (λ _. self.new.slots ≡ blob_written pages.now bytes.now self.old.slots) (λ _. self.new.slots ≡ pages_written pages.now self.old.slots) }
-        ensures sound { KeepsSound self.old.slots self.new.slots (D.state self.old.disk) (D.state self.new.disk) (D.may_leave self.old.disk) (D.may_leave self.new.disk) }
-        ensures opens { LeavesOpening self.old.slots (emptied self.old.slots) (D.state self.old.disk) (D.state self.new.disk) (D.left_since self.old.disk) (D.left_since self.new.disk) (D.may_leave self.old.disk) }
-        ensures seen { Sees (D.state self.old.disk) (D.state self.new.disk) (λ seen now. KeepsPages pages.now seen now × OnOk result (HoldsBlob page_size now pages.now bytes.now)) }
-        ensures writes { OnlyWrites pages.now (D.state self.old.disk) (D.state self.new.disk) (D.left_since self.old.disk) (D.left_since self.new.disk) (D.may_leave self.old.disk) (D.may_leave self.new.disk) }
-        ensures cause { OnErr result (Rose (D.state self.old.disk).faults (D.state self.new.disk).faults ⊎ Rose (D.state self.old.disk).wants (D.state self.new.disk).wants) }
+        ensures sound { KeepsSound self.old.slots self.new.slots (D.moment self.old.disk) (D.moment self.new.disk) }
+        ensures opens { LeavesOpening self.old.slots (emptied self.old.slots) (D.moment self.old.disk) (D.moment self.new.disk) }
+        ensures seen { Sees (D.moment self.old.disk).state (D.moment self.new.disk).state (λ seen now. KeepsPages pages.now seen now × OnOk result (HoldsBlob page_size now pages.now bytes.now)) }
+        ensures writes { OnlyWrites pages.now (D.moment self.old.disk) (D.moment self.new.disk) }
+        ensures cause { FailsWithCause result (D.moment self.old.disk) (D.moment self.new.disk) }
     {
         page_writes::write_blob(&mut self.slots, &mut self.disk, pages, bytes)
     }
@@ -120,11 +121,11 @@ impl<D: Disk> PageFile<D> {
         requires free { MayWrite pages.now self.old.slots }
         requires pages { length pages.now ≡ pages_for (content_size page_size) (length bytes.now) }
         ensures slots { self.new.slots ≡ pages_written pages.now self.old.slots }
-        ensures sound { KeepsSound self.old.slots self.new.slots (D.state self.old.disk) (D.state self.new.disk) (D.may_leave self.old.disk) (D.may_leave self.new.disk) }
-        ensures opens { LeavesOpening self.old.slots (emptied self.old.slots) (D.state self.old.disk) (D.state self.new.disk) (D.left_since self.old.disk) (D.left_since self.new.disk) (D.may_leave self.old.disk) }
-        ensures seen { Sees (D.state self.old.disk) (D.state self.new.disk) (λ seen now. KeepsPages pages.now seen now × OnOk result (HoldsChain page_size now pages.now bytes.now)) }
-        ensures writes { OnlyWrites pages.now (D.state self.old.disk) (D.state self.new.disk) (D.left_since self.old.disk) (D.left_since self.new.disk) (D.may_leave self.old.disk) (D.may_leave self.new.disk) }
-        ensures cause { OnErr result (Rose (D.state self.old.disk).faults (D.state self.new.disk).faults ⊎ Rose (D.state self.old.disk).wants (D.state self.new.disk).wants) }
+        ensures sound { KeepsSound self.old.slots self.new.slots (D.moment self.old.disk) (D.moment self.new.disk) }
+        ensures opens { LeavesOpening self.old.slots (emptied self.old.slots) (D.moment self.old.disk) (D.moment self.new.disk) }
+        ensures seen { Sees (D.moment self.old.disk).state (D.moment self.new.disk).state (λ seen now. KeepsPages pages.now seen now × OnOk result (HoldsChain page_size now pages.now bytes.now)) }
+        ensures writes { OnlyWrites pages.now (D.moment self.old.disk) (D.moment self.new.disk) }
+        ensures cause { FailsWithCause result (D.moment self.old.disk) (D.moment self.new.disk) }
     {
         page_writes::write_chain(&mut self.slots, &mut self.disk, pages, bytes)
     }

@@ -1,7 +1,6 @@
 //! A database's file.
-ghost use Rattle.std.specs.Prelude.{◌≡◌, ℕ, List, ◌<◌, ◌+◌, ◌⊎◌, true, false, IsTrue, IfSome, IfOk, IfErr, OnOk, OnErr, Ok, Err, MatchResult};
-ghost use Rattle.afl_outside.specs.Counts.{Rose};
-ghost use Rattle.afl_outside.specs.Disk.{Only};
+ghost use Rattle.std.specs.Prelude.{◌≡◌, ℕ, List, ◌<◌, ◌+◌, true, false, IsTrue, IfSome, IfOk, IfErr, OnOk, Ok, Err, MatchResult};
+ghost use Rattle.afl_outside.specs.Disk.{FailsWithCause, Only};
 ghost use Rattle.page_layout.specs.Places.{body_of, other};
 ghost use Rattle.page_slots.specs.Puts.{OnlyPuts, OnlySyncs};
 ghost use Rattle.page_slots.specs.Standing.{entry_gate, gate_place, IsTarget, IsShut, IsReady, IsShutRoot, IsShutEntry, IsSound, KeepsSound, LeavesOpening, IsDurable};
@@ -47,14 +46,14 @@ impl<D: Disk> Model for PageFile<D> {
 impl<D: Disk> PageFile<D> {
     /// Opens a file. A disk that isn't opened is handed back.
     pub fn open(mut disk: D) -> Result<PageFile<D>, (OpenCause, D)>
-        ensures opened { IfSome (D.state disk).seen (λ seen. MatchResult result (λ file. IsOpened seen (Ok file.slots)) (λ x. IsOpened seen (Err x.0))) }
-        ensures durable { IfOk result (λ file. IsTrue (D.state disk).honest → IfSome (D.state disk).seen (λ seen. Only seen (D.may_leave file.disk))) }
-        ensures sound { IsTrue (D.state disk).honest → IfSome (D.state disk).seen (λ seen. IfOk result (λ file. IsSound file.slots seen (D.may_leave file.disk))) }
+        ensures opened { IfSome (D.moment disk).state.seen (λ seen. MatchResult result (λ file. IsOpened seen (Ok file.slots)) (λ x. IsOpened seen (Err x.0))) }
+        ensures durable { IfOk result (λ file. IsTrue (D.moment disk).state.honest → IfSome (D.moment disk).state.seen (λ seen. Only seen (D.moment file.disk).may_leave)) }
+        ensures sound { IsTrue (D.moment disk).state.honest → IfSome (D.moment disk).state.seen (λ seen. IfOk result (λ file. IsSound file.slots seen (D.moment file.disk).may_leave)) }
         ensures fresh { IfOk result (λ file. AreFresh file.slots) }
         ensures reads { MatchResult result
-            (λ file. OnlySyncs (D.state disk) (D.state file.disk) (D.left_since disk) (D.left_since file.disk) (D.may_leave disk) (D.may_leave file.disk))
-            (λ x. OnlySyncs (D.state disk) (D.state x.1) (D.left_since disk) (D.left_since x.1) (D.may_leave disk) (D.may_leave x.1)) }
-        ensures cause { IfErr result (λ x. HasCause x.0 (D.state disk) (D.state x.1)) }
+            (λ file. OnlySyncs (D.moment disk) (D.moment file.disk))
+            (λ x. OnlySyncs (D.moment disk) (D.moment x.1)) }
+        ensures cause { IfErr result (λ x. HasCause x.0 (D.moment disk).state (D.moment x.1).state) }
     {
         match open_slots(&mut disk) {
             Ok(slots) => Ok(PageFile { disk, slots }),
@@ -95,14 +94,14 @@ impl<D: Disk> PageFile<D> {
 
     /// How often the disk has failed, but for want of memory.
     pub fn faults(&self) -> u64
-        ensures { result ≡ (D.state self.now.disk).faults }
+        ensures { result ≡ (D.moment self.now.disk).state.faults }
     {
         self.disk.faults()
     }
 
     /// How often the disk has found no memory.
     pub fn wants(&self) -> u64
-        ensures { result ≡ (D.state self.now.disk).wants }
+        ensures { result ≡ (D.moment self.now.disk).state.wants }
     {
         self.disk.wants()
     }
@@ -121,7 +120,7 @@ impl<D: Disk> PageFile<D> {
         requires slot { IsAim slot self.old.slots }
         ensures slots { self.new.slots ≡ aimed (target_of slot) self.old.slots }
         ensures disk { self.new.disk ≡ self.old.disk }
-        ensures sound { (seen : List ℕ) → IsSound self.old.slots seen (D.may_leave self.old.disk) → IsSound self.new.slots seen (D.may_leave self.new.disk) }
+        ensures sound { (seen : List ℕ) → IsSound self.old.slots seen (D.moment self.old.disk).may_leave → IsSound self.new.slots seen (D.moment self.new.disk).may_leave }
     {
         let target = target_of(slot);
         self.slots.aim(target);
@@ -131,12 +130,12 @@ impl<D: Disk> PageFile<D> {
     pub fn close_slot(&mut self) -> Result<(), Failed>
         requires { IsTarget self.old.slots }
         ensures slots { MatchResult result (λ _. self.new.slots ≡ shut self.old.slots.target self.old.slots) (λ _. self.new.slots ≡ doubted self.old.slots) }
-        ensures sound { KeepsSound self.old.slots self.new.slots (D.state self.old.disk) (D.state self.new.disk) (D.may_leave self.old.disk) (D.may_leave self.new.disk) }
-        ensures opens { LeavesOpening self.old.slots self.old.slots (D.state self.old.disk) (D.state self.new.disk) (D.left_since self.old.disk) (D.left_since self.new.disk) (D.may_leave self.old.disk) }
-        ensures durable { OnOk result (IsDurable (D.state self.old.disk) (D.state self.new.disk) (D.may_leave self.new.disk)) }
-        ensures writes { OnlyPuts (gate_place self.old.slots.target self.old.slots) 1 (D.state self.old.disk) (D.state self.new.disk) (D.left_since self.old.disk) (D.left_since self.new.disk) (D.may_leave self.old.disk) (D.may_leave self.new.disk) }
-        ensures quiet { IsShut self.old.slots.target self.old.slots → OnlySyncs (D.state self.old.disk) (D.state self.new.disk) (D.left_since self.old.disk) (D.left_since self.new.disk) (D.may_leave self.old.disk) (D.may_leave self.new.disk) }
-        ensures cause { OnErr result (Rose (D.state self.old.disk).faults (D.state self.new.disk).faults ⊎ Rose (D.state self.old.disk).wants (D.state self.new.disk).wants) }
+        ensures sound { KeepsSound self.old.slots self.new.slots (D.moment self.old.disk) (D.moment self.new.disk) }
+        ensures opens { LeavesOpening self.old.slots self.old.slots (D.moment self.old.disk) (D.moment self.new.disk) }
+        ensures durable { OnOk result (IsDurable (D.moment self.old.disk) (D.moment self.new.disk)) }
+        ensures writes { OnlyPuts (gate_place self.old.slots.target self.old.slots) 1 (D.moment self.old.disk) (D.moment self.new.disk) }
+        ensures quiet { IsShut self.old.slots.target self.old.slots → OnlySyncs (D.moment self.old.disk) (D.moment self.new.disk) }
+        ensures cause { FailsWithCause result (D.moment self.old.disk) (D.moment self.new.disk) }
     {
         page_slots::close_slot(&mut self.slots, &mut self.disk)
     }
@@ -148,11 +147,11 @@ impl<D: Disk> PageFile<D> {
         requires target { self.old.slots.target ≡ targets.Root }
         requires newer { self.old.slots.current.root.sequence < root.sequence }
         ensures slots { MatchResult result (λ _. self.new.slots ≡ record (self.old.slots) { other = roots.Written root }) (λ _. self.new.slots ≡ record (self.old.slots) { other = roots.Closed; doubtful = true }) }
-        ensures sound { KeepsSound self.old.slots self.new.slots (D.state self.old.disk) (D.state self.new.disk) (D.may_leave self.old.disk) (D.may_leave self.new.disk) }
-        ensures opens { LeavesOpening self.old.slots (record (self.old.slots) { other = roots.Closed }) (D.state self.old.disk) (D.state self.new.disk) (D.left_since self.old.disk) (D.left_since self.new.disk) (D.may_leave self.old.disk) }
-        ensures durable { OnOk result (IsDurable (D.state self.old.disk) (D.state self.new.disk) (D.may_leave self.new.disk)) }
-        ensures writes { OnlyPuts (body_of (other self.old.slots.current.side)) 24 (D.state self.old.disk) (D.state self.new.disk) (D.left_since self.old.disk) (D.left_since self.new.disk) (D.may_leave self.old.disk) (D.may_leave self.new.disk) }
-        ensures cause { OnErr result (Rose (D.state self.old.disk).faults (D.state self.new.disk).faults ⊎ Rose (D.state self.old.disk).wants (D.state self.new.disk).wants) }
+        ensures sound { KeepsSound self.old.slots self.new.slots (D.moment self.old.disk) (D.moment self.new.disk) }
+        ensures opens { LeavesOpening self.old.slots (record (self.old.slots) { other = roots.Closed }) (D.moment self.old.disk) (D.moment self.new.disk) }
+        ensures durable { OnOk result (IsDurable (D.moment self.old.disk) (D.moment self.new.disk)) }
+        ensures writes { OnlyPuts (body_of (other self.old.slots.current.side)) 24 (D.moment self.old.disk) (D.moment self.new.disk) }
+        ensures cause { FailsWithCause result (D.moment self.old.disk) (D.moment self.new.disk) }
     {
         page_slots::write_root(&mut self.slots, &mut self.disk, root)
     }
@@ -164,11 +163,11 @@ impl<D: Disk> PageFile<D> {
         requires target { self.old.slots.target ≡ targets.Record }
         requires there { IsTarget self.old.slots }
         ensures slots { MatchResult result (λ _. self.new.slots ≡ record (self.old.slots) { next = entries.Written at }) (λ _. self.new.slots ≡ record (self.old.slots) { next = entries.Closed; doubtful = true }) }
-        ensures sound { KeepsSound self.old.slots self.new.slots (D.state self.old.disk) (D.state self.new.disk) (D.may_leave self.old.disk) (D.may_leave self.new.disk) }
-        ensures opens { LeavesOpening self.old.slots (record (self.old.slots) { next = entries.Closed }) (D.state self.old.disk) (D.state self.new.disk) (D.left_since self.old.disk) (D.left_since self.new.disk) (D.may_leave self.old.disk) }
-        ensures durable { OnOk result (IsDurable (D.state self.old.disk) (D.state self.new.disk) (D.may_leave self.new.disk)) }
-        ensures writes { OnlyPuts (entry_gate self.old.slots + 8) 12 (D.state self.old.disk) (D.state self.new.disk) (D.left_since self.old.disk) (D.left_since self.new.disk) (D.may_leave self.old.disk) (D.may_leave self.new.disk) }
-        ensures cause { OnErr result (Rose (D.state self.old.disk).faults (D.state self.new.disk).faults ⊎ Rose (D.state self.old.disk).wants (D.state self.new.disk).wants) }
+        ensures sound { KeepsSound self.old.slots self.new.slots (D.moment self.old.disk) (D.moment self.new.disk) }
+        ensures opens { LeavesOpening self.old.slots (record (self.old.slots) { next = entries.Closed }) (D.moment self.old.disk) (D.moment self.new.disk) }
+        ensures durable { OnOk result (IsDurable (D.moment self.old.disk) (D.moment self.new.disk)) }
+        ensures writes { OnlyPuts (entry_gate self.old.slots + 8) 12 (D.moment self.old.disk) (D.moment self.new.disk) }
+        ensures cause { FailsWithCause result (D.moment self.old.disk) (D.moment self.new.disk) }
     {
         page_slots::write_record(&mut self.slots, &mut self.disk, at)
     }
@@ -179,11 +178,11 @@ impl<D: Disk> PageFile<D> {
         requires sure { self.old.slots.doubtful ≡ false }
         requires there { IsTarget self.old.slots }
         ensures slots { MatchResult result (λ _. self.new.slots ≡ with_target self.old.slots.target self.old.slots) (λ _. self.new.slots ≡ doubted (ajar self.old.slots.target self.old.slots)) }
-        ensures sound { KeepsSound self.old.slots self.new.slots (D.state self.old.disk) (D.state self.new.disk) (D.may_leave self.old.disk) (D.may_leave self.new.disk) }
-        ensures opens { LeavesOpening self.old.slots (ajar self.old.slots.target self.old.slots) (D.state self.old.disk) (D.state self.new.disk) (D.left_since self.old.disk) (D.left_since self.new.disk) (D.may_leave self.old.disk) }
-        ensures durable { OnOk result (IsDurable (D.state self.old.disk) (D.state self.new.disk) (D.may_leave self.new.disk)) }
-        ensures writes { OnlyPuts (gate_place self.old.slots.target self.old.slots) 1 (D.state self.old.disk) (D.state self.new.disk) (D.left_since self.old.disk) (D.left_since self.new.disk) (D.may_leave self.old.disk) (D.may_leave self.new.disk) }
-        ensures cause { OnErr result (Rose (D.state self.old.disk).faults (D.state self.new.disk).faults ⊎ Rose (D.state self.old.disk).wants (D.state self.new.disk).wants) }
+        ensures sound { KeepsSound self.old.slots self.new.slots (D.moment self.old.disk) (D.moment self.new.disk) }
+        ensures opens { LeavesOpening self.old.slots (ajar self.old.slots.target self.old.slots) (D.moment self.old.disk) (D.moment self.new.disk) }
+        ensures durable { OnOk result (IsDurable (D.moment self.old.disk) (D.moment self.new.disk)) }
+        ensures writes { OnlyPuts (gate_place self.old.slots.target self.old.slots) 1 (D.moment self.old.disk) (D.moment self.new.disk) }
+        ensures cause { FailsWithCause result (D.moment self.old.disk) (D.moment self.new.disk) }
     {
         page_slots::open_slot(&mut self.slots, &mut self.disk)
     }

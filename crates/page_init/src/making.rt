@@ -1,7 +1,6 @@
 //! The first pages of a file.
-ghost use Rattle.std.specs.Prelude.{◌≡◌, ◌⊎◌, ℕ, List, length, Some, IfSome, IfErr, IsTrue, OnOk, OnErr};
-ghost use Rattle.afl_outside.specs.Counts.{Rose};
-ghost use Rattle.afl_outside.specs.Disk.{DiskGoesOn, Only};
+ghost use Rattle.std.specs.Prelude.{◌≡◌, ℕ, List, length, Some, IfSome, IfErr, IsTrue, OnOk};
+ghost use Rattle.afl_outside.specs.Disk.{DiskGoesOn, FailsWithCause, Only};
 ghost use Rattle.page_slots.specs.Puts.{OnlySyncs};
 ghost use Rattle.page_init.specs.Start.{IsEmptyDatabase, IsInit, HasCause, IsDeviceFault, WhereNotEmpty};
 ghost use Rattle.page_init.specs.Laid.{Lays, laid, made};
@@ -23,9 +22,9 @@ const FIRST: Root = Root {
 
 /// Writes zeros up to the end of the third page, then the head of page 0 and the body of slot A.
 fn lay<D: Disk>(disk: &mut D, body: &[u8]) -> Result<(), Failed>
-    ensures laid { OnOk result (Lays (laid body.now) (D.state disk.old) (D.state disk.new)) }
-    ensures same { DiskGoesOn (D.state disk.old) (D.state disk.new) }
-    ensures cause { OnErr result (Rose (D.state disk.old).faults (D.state disk.new).faults ⊎ Rose (D.state disk.old).wants (D.state disk.new).wants) }
+    ensures laid { OnOk result (Lays (laid body.now) (D.moment disk.old).state (D.moment disk.new).state) }
+    ensures same { DiskGoesOn (D.moment disk.old).state (D.moment disk.new).state }
+    ensures cause { FailsWithCause result (D.moment disk.old) (D.moment disk.new) }
 {
     match disk.write_at(3 * PAGE as u64 - 1, &[0]) {
         Ok(()) => {}
@@ -43,9 +42,9 @@ fn lay<D: Disk>(disk: &mut D, body: &[u8]) -> Result<(), Failed>
 
 /// Writes page 0 with closed slots, and then opens slot A. Each of the two is synced.
 fn make<D: Disk>(disk: &mut D, body: &[u8]) -> Result<(), Failed>
-    ensures made { OnOk result (IsTrue (D.state disk.old).honest → IfSome (D.state disk.old).seen (λ seen. ((D.state disk.new).seen ≡ Some (made body.now seen)) × Only (made body.now seen) (D.may_leave disk.new))) }
-    ensures same { DiskGoesOn (D.state disk.old) (D.state disk.new) }
-    ensures cause { OnErr result (Rose (D.state disk.old).faults (D.state disk.new).faults ⊎ Rose (D.state disk.old).wants (D.state disk.new).wants) }
+    ensures made { OnOk result (IsTrue (D.moment disk.old).state.honest → IfSome (D.moment disk.old).state.seen (λ seen. ((D.moment disk.new).state.seen ≡ Some (made body.now seen)) × Only (made body.now seen) (D.moment disk.new).may_leave)) }
+    ensures same { DiskGoesOn (D.moment disk.old).state (D.moment disk.new).state }
+    ensures cause { FailsWithCause result (D.moment disk.old) (D.moment disk.new) }
 {
     match lay(disk, body) {
         Ok(()) => {}
@@ -67,9 +66,9 @@ fn make<D: Disk>(disk: &mut D, body: &[u8]) -> Result<(), Failed>
 
 /// The length of an empty file.
 fn measure<D: Disk>(disk: &mut D) -> Result<(), InitFault>
-    ensures init { IfSome (D.state disk.old).seen (λ seen. IsInit seen result) }
-    ensures reads { OnlySyncs (D.state disk.old) (D.state disk.new) (D.left_since disk.old) (D.left_since disk.new) (D.may_leave disk.old) (D.may_leave disk.new) }
-    ensures cause { IfErr result (λ fault. HasCause fault (D.state disk.old) (D.state disk.new)) }
+    ensures init { IfSome (D.moment disk.old).state.seen (λ seen. IsInit seen result) }
+    ensures reads { OnlySyncs (D.moment disk.old) (D.moment disk.new) }
+    ensures cause { IfErr result (λ fault. HasCause fault (D.moment disk.old).state (D.moment disk.new).state) }
 {
     let before = disk.faults();
     match disk.len() {
@@ -86,9 +85,9 @@ fn measure<D: Disk>(disk: &mut D) -> Result<(), InitFault>
 }
 
 fn make_first<D: Disk>(disk: &mut D) -> Result<(), InitFault>
-    ensures made { OnOk result (IsTrue (D.state disk.old).honest → IfSome (D.state disk.old).seen (λ seen. length seen ≡ 0 → (file : List ℕ) × ((D.state disk.new).seen ≡ Some file) × IsEmptyDatabase file × Only file (D.may_leave disk.new))) }
-    ensures same { DiskGoesOn (D.state disk.old) (D.state disk.new) }
-    ensures cause { IfErr result (λ fault. IsDeviceFault fault (D.state disk.old) (D.state disk.new)) }
+    ensures made { OnOk result (IsTrue (D.moment disk.old).state.honest → IfSome (D.moment disk.old).state.seen (λ seen. length seen ≡ 0 → (file : List ℕ) × ((D.moment disk.new).state.seen ≡ Some file) × IsEmptyDatabase file × Only file (D.moment disk.new).may_leave)) }
+    ensures same { DiskGoesOn (D.moment disk.old).state (D.moment disk.new).state }
+    ensures cause { IfErr result (λ fault. IsDeviceFault fault (D.moment disk.old).state (D.moment disk.new).state) }
 {
     let before = disk.faults();
     match make(disk, &root_body(FIRST)) {
@@ -101,11 +100,11 @@ fn make_first<D: Disk>(disk: &mut D) -> Result<(), InitFault>
 /// Makes an empty file a database with no array. Whatever a crash leaves afterwards is that database. A file that is not empty stays
 /// as it is.
 pub fn init<D: Disk>(disk: &mut D) -> Result<(), InitFault>
-    ensures init { IfSome (D.state disk.old).seen (λ seen. IsInit seen result) }
-    ensures made { OnOk result (IsTrue (D.state disk.old).honest → IfSome (D.state disk.old).seen (λ _. (file : List ℕ) × ((D.state disk.new).seen ≡ Some file) × IsEmptyDatabase file × Only file (D.may_leave disk.new))) }
-    ensures kept { IfErr result (λ fault. WhereNotEmpty fault (OnlySyncs (D.state disk.old) (D.state disk.new) (D.left_since disk.old) (D.left_since disk.new) (D.may_leave disk.old) (D.may_leave disk.new))) }
-    ensures same { DiskGoesOn (D.state disk.old) (D.state disk.new) }
-    ensures cause { IfErr result (λ fault. HasCause fault (D.state disk.old) (D.state disk.new)) }
+    ensures init { IfSome (D.moment disk.old).state.seen (λ seen. IsInit seen result) }
+    ensures made { OnOk result (IsTrue (D.moment disk.old).state.honest → IfSome (D.moment disk.old).state.seen (λ _. (file : List ℕ) × ((D.moment disk.new).state.seen ≡ Some file) × IsEmptyDatabase file × Only file (D.moment disk.new).may_leave)) }
+    ensures kept { IfErr result (λ fault. WhereNotEmpty fault (OnlySyncs (D.moment disk.old) (D.moment disk.new))) }
+    ensures same { DiskGoesOn (D.moment disk.old).state (D.moment disk.new).state }
+    ensures cause { IfErr result (λ fault. HasCause fault (D.moment disk.old).state (D.moment disk.new).state) }
 {
     match measure(disk) {
         Ok(()) => make_first(disk),

@@ -17,11 +17,11 @@ pub fn opens_as_one_root()
 
 /// Whatever a crash leaves now opens as it did, or with the slot that is being opened.
 pub fn images_open<D: Disk>(slots: &Slots, disk: &D)
-    ensures { (seen image : List ℕ) → IsSound slots.now seen (D.may_leave disk.now) → D.may_leave disk.now image → MayOpen slots.now image }
+    ensures { (seen image : List ℕ) → IsSound slots.now seen (D.moment disk.now).may_leave → (D.moment disk.now).may_leave image → MayOpen slots.now image }
 {}
 
 /// Where no slot is doubtful, whatever a crash leaves now opens as the current root with the records of the log.
 pub fn images_open_as_current<D: Disk>(slots: &Slots, disk: &D)
     requires { slots.now.doubtful ≡ false }
-    ensures { (seen image : List ℕ) → IsSound slots.now seen (D.may_leave disk.now) → D.may_leave disk.now image → OpensAs slots.now.current slots.now.records image }
+    ensures { (seen image : List ℕ) → IsSound slots.now seen (D.moment disk.now).may_leave → (D.moment disk.now).may_leave image → OpensAs slots.now.current slots.now.records image }
 {}

@@ -3,6 +3,7 @@ use Rattle.std.proofs.Common.{◌≡◌, ◌<◌, ◌≤◌, ◌⊎◌, inl, inr
 use Rattle.std.proofs.lemmas.List.{get_or-take, get_or-drop}
 use Rattle.std.proofs.lemmas.Bool.{cases_eq}
 use Rattle.std.proofs.lemmas.Bool.Decides.{nat_tests}
+use Rattle.afl_outside.proofs.Moments.{moment_at}
 use Rattle.afl_outside.specs.Disk.{ReadsAt, LeavesOnly, DiskState}
 use Rattle.page_slots.specs.Puts.{OnlySyncs}
 use Rattle.page_slots.proofs.PutLemmas.{goes_twice, if_some}
@@ -41,7 +42,7 @@ page_told number count page seen size read = if_some seen (λ file. ReadsAt file
     (λ file told. page_read number count page file size told) read
 
 -- two runs of calls that write nothing
-pub syncs_twice : (a b c : DiskState) (past between since : ℕ → List ℕ → Type 0) (before mid now : List ℕ → Type 0) → OnlySyncs a b past between before mid → OnlySyncs b c between since mid now → OnlySyncs a c past since before now
+pub syncs_twice : (a b c : DiskState) (past between since : ℕ → List ℕ → Type 0) (before mid now : List ℕ → Type 0) → OnlySyncs (moment_at a past before) (moment_at b between mid) → OnlySyncs (moment_at b between mid) (moment_at c since now) → OnlySyncs (moment_at a past before) (moment_at c since now)
 syncs_twice a b c past between since before mid now first then_ = record {
   same = goes_twice a b c first.same then_.same;
   seen = then_.seen ∙ first.seen;

@@ -1,8 +1,8 @@
 //! What a file opens as.
-ghost use Rattle.std.specs.Prelude.{◌≡◌, ◌≤◌, length, slice_index, false, IsTrue, Some, None, IfSome, OnOk, IfOk, IfErr, MatchResult};
+ghost use Rattle.std.specs.Prelude.{◌≡◌, ◌≤◌, length, slice_index, false, IsTrue, Some, None, IfSome, OnOk, IfOk, IfErr};
 ghost use Rattle.page_slots.specs.Puts.{OnlySyncs};
 ghost use Rattle.page_slots.specs.Standing.{IsSound, OtherHolds};
-ghost use Rattle.afl_outside.specs.Disk.{Only};
+ghost use Rattle.afl_outside.specs.Disk.{IsSettled};
 ghost use Rattle.page_layout.specs.Places.{gate_of, other};
 ghost use Rattle.page_layout.specs.Roots.{current};
 ghost use Rattle.page_slots.specs.Steps.{first_target};
@@ -50,10 +50,10 @@ fn other_of(page: &[u8], it: OpenRoot) -> RootSlot
 }
 
 fn read_front<D: Disk>(disk: &mut D) -> Result<(OpenRoot, RootSlot), OpenCause>
-    ensures front { IfSome (D.state disk.old).seen (λ seen. FrontRead seen result) }
+    ensures front { IfSome (D.moment disk.old).state.seen (λ seen. FrontRead seen result) }
     ensures read { IfOk result (λ x. IsRead x.1) }
-    ensures reads { OnlySyncs (D.state disk.old) (D.state disk.new) (D.left_since disk.old) (D.left_since disk.new) (D.may_leave disk.old) (D.may_leave disk.new) }
-    ensures cause { IfErr result (λ fault. HasCause fault (D.state disk.old) (D.state disk.new)) }
+    ensures reads { OnlySyncs (D.moment disk.old) (D.moment disk.new) }
+    ensures cause { IfErr result (λ fault. HasCause fault (D.moment disk.old).state (D.moment disk.new).state) }
 {
     let mut page = [0u8; PAGE];
     match read_page(disk, 0, &mut page) {
@@ -79,10 +79,10 @@ fn log_of(page: &[u8], log: u32) -> Result<Records, OpenCause>
 }
 
 fn read_log<D: Disk>(disk: &mut D, log: u32) -> Result<Records, OpenCause>
-    ensures log { IfSome (D.state disk.old).seen (λ seen. LogRead seen log result) }
+    ensures log { IfSome (D.moment disk.old).state.seen (λ seen. LogRead seen log result) }
     ensures fits { IfOk result (λ records. length records ≤ 64) }
-    ensures reads { OnlySyncs (D.state disk.old) (D.state disk.new) (D.left_since disk.old) (D.left_since disk.new) (D.may_leave disk.old) (D.may_leave disk.new) }
-    ensures cause { IfErr result (λ fault. HasCause fault (D.state disk.old) (D.state disk.new)) }
+    ensures reads { OnlySyncs (D.moment disk.old) (D.moment disk.new) }
+    ensures cause { IfErr result (λ fault. HasCause fault (D.moment disk.old).state (D.moment disk.new).state) }
 {
     if log == 0 {
         return Err(OpenCause::NotDatabase { page: 0 });
@@ -101,10 +101,10 @@ fn read_log<D: Disk>(disk: &mut D, log: u32) -> Result<Records, OpenCause>
 }
 
 fn read_records<D: Disk>(disk: &mut D, current: OpenRoot) -> Result<Records, OpenCause>
-    ensures log { IfSome (D.state disk.old).seen (λ seen. RecordsRead seen current result) }
+    ensures log { IfSome (D.moment disk.old).state.seen (λ seen. RecordsRead seen current result) }
     ensures fits { IfOk result (λ records. length records ≤ 64) }
-    ensures reads { OnlySyncs (D.state disk.old) (D.state disk.new) (D.left_since disk.old) (D.left_since disk.new) (D.may_leave disk.old) (D.may_leave disk.new) }
-    ensures cause { IfErr result (λ fault. HasCause fault (D.state disk.old) (D.state disk.new)) }
+    ensures reads { OnlySyncs (D.moment disk.old) (D.moment disk.new) }
+    ensures cause { IfErr result (λ fault. HasCause fault (D.moment disk.old).state (D.moment disk.new).state) }
 {
     match current.format {
         Format::One => Ok(Records::new()),
@@ -128,12 +128,12 @@ fn target_of(format: Format, records: &Records) -> Target
 }
 
 fn open_parts<D: Disk>(disk: &mut D) -> Result<Slots, OpenCause>
-    ensures opened { IfSome (D.state disk.old).seen (λ seen. IsOpened seen result) }
-    ensures other { IfSome (D.state disk.old).seen (λ seen. IfOk result (λ slots. OtherHolds slots.other (other slots.current.side) slots.current.root.sequence seen)) }
-    ensures durable { OnOk result (IsTrue (D.state disk.old).honest → IfSome (D.state disk.old).seen (λ seen. Only seen (D.may_leave disk.new))) }
+    ensures opened { IfSome (D.moment disk.old).state.seen (λ seen. IsOpened seen result) }
+    ensures other { IfSome (D.moment disk.old).state.seen (λ seen. IfOk result (λ slots. OtherHolds slots.other (other slots.current.side) slots.current.root.sequence seen)) }
+    ensures durable { OnOk result (IsSettled (D.moment disk.old) (D.moment disk.new)) }
     ensures fresh { IfOk result (λ slots. AreFresh slots) }
-    ensures reads { OnlySyncs (D.state disk.old) (D.state disk.new) (D.left_since disk.old) (D.left_since disk.new) (D.may_leave disk.old) (D.may_leave disk.new) }
-    ensures cause { IfErr result (λ fault. HasCause fault (D.state disk.old) (D.state disk.new)) }
+    ensures reads { OnlySyncs (D.moment disk.old) (D.moment disk.new) }
+    ensures cause { IfErr result (λ fault. HasCause fault (D.moment disk.old).state (D.moment disk.new).state) }
 {
     match settle(disk) {
         Ok(()) => {}
@@ -155,12 +155,12 @@ fn open_parts<D: Disk>(disk: &mut D) -> Result<Slots, OpenCause>
 
 /// Opens a file: syncs it, and reads its current root and its log.
 pub fn open_slots<D: Disk>(disk: &mut D) -> Result<Slots, OpenCause>
-    ensures opened { IfSome (D.state disk.old).seen (λ seen. IsOpened seen result) }
-    ensures durable { OnOk result (IsTrue (D.state disk.old).honest → IfSome (D.state disk.old).seen (λ seen. Only seen (D.may_leave disk.new))) }
-    ensures sound { IsTrue (D.state disk.old).honest → IfSome (D.state disk.old).seen (λ seen. IfOk result (λ slots. IsSound slots seen (D.may_leave disk.new))) }
+    ensures opened { IfSome (D.moment disk.old).state.seen (λ seen. IsOpened seen result) }
+    ensures durable { OnOk result (IsSettled (D.moment disk.old) (D.moment disk.new)) }
+    ensures sound { IsTrue (D.moment disk.old).state.honest → IfSome (D.moment disk.old).state.seen (λ seen. IfOk result (λ slots. IsSound slots seen (D.moment disk.new).may_leave)) }
     ensures fresh { IfOk result (λ slots. AreFresh slots) }
-    ensures reads { OnlySyncs (D.state disk.old) (D.state disk.new) (D.left_since disk.old) (D.left_since disk.new) (D.may_leave disk.old) (D.may_leave disk.new) }
-    ensures cause { IfErr result (λ fault. HasCause fault (D.state disk.old) (D.state disk.new)) }
+    ensures reads { OnlySyncs (D.moment disk.old) (D.moment disk.new) }
+    ensures cause { IfErr result (λ fault. HasCause fault (D.moment disk.old).state (D.moment disk.new).state) }
 {
     match open_parts(disk) {
         Ok(slots) => Ok(slots),

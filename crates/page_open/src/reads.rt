@@ -1,6 +1,6 @@
 //! Pages that are read whole.
-ghost use Rattle.std.specs.Prelude.{◌≡◌, length, IsTrue, IfSome, IfOk, IfErr, OnOk, MatchBool};
-ghost use Rattle.afl_outside.specs.Disk.{Only};
+ghost use Rattle.std.specs.Prelude.{◌≡◌, length, IfSome, IfOk, IfErr, OnOk, MatchBool};
+ghost use Rattle.afl_outside.specs.Disk.{IsSettled};
 ghost use Rattle.page_slots.specs.Puts.{OnlySyncs};
 ghost use Rattle.page_open.specs.Opened.{HasPage, CutsPage, IsDeviceFault};
 
@@ -16,9 +16,9 @@ pub(crate) fn read_page<D: Disk>(
 ) -> Result<bool, OpenCause>
     requires { length page.old ≡ 4096 }
     ensures size { length page.new ≡ 4096 }
-    ensures bytes { IfSome (D.state disk.old).seen (λ seen. IfOk result (λ whole. MatchBool whole (HasPage number page.new seen) (CutsPage number seen))) }
-    ensures reads { OnlySyncs (D.state disk.old) (D.state disk.new) (D.left_since disk.old) (D.left_since disk.new) (D.may_leave disk.old) (D.may_leave disk.new) }
-    ensures cause { IfErr result (λ fault. IsDeviceFault fault (D.state disk.old) (D.state disk.new)) }
+    ensures bytes { IfSome (D.moment disk.old).state.seen (λ seen. IfOk result (λ whole. MatchBool whole (HasPage number page.new seen) (CutsPage number seen))) }
+    ensures reads { OnlySyncs (D.moment disk.old) (D.moment disk.new) }
+    ensures cause { IfErr result (λ fault. IsDeviceFault fault (D.moment disk.old).state (D.moment disk.new).state) }
 {
     let before = disk.faults();
     match disk.read_at(number as u64 * PAGE as u64, page) {
@@ -30,9 +30,9 @@ pub(crate) fn read_page<D: Disk>(
 
 /// Syncs what was written.
 pub(crate) fn settle<D: Disk>(disk: &mut D) -> Result<(), OpenCause>
-    ensures durable { OnOk result (IsTrue (D.state disk.old).honest → IfSome (D.state disk.old).seen (λ seen. Only seen (D.may_leave disk.new))) }
-    ensures reads { OnlySyncs (D.state disk.old) (D.state disk.new) (D.left_since disk.old) (D.left_since disk.new) (D.may_leave disk.old) (D.may_leave disk.new) }
-    ensures cause { IfErr result (λ fault. IsDeviceFault fault (D.state disk.old) (D.state disk.new)) }
+    ensures durable { OnOk result (IsSettled (D.moment disk.old) (D.moment disk.new)) }
+    ensures reads { OnlySyncs (D.moment disk.old) (D.moment disk.new) }
+    ensures cause { IfErr result (λ fault. IsDeviceFault fault (D.moment disk.old).state (D.moment disk.new).state) }
 {
     let before = disk.faults();
     match disk.sync() {

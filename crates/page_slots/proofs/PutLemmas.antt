@@ -2,7 +2,7 @@
 use Rattle.std.proofs.Common.{◌≡◌, ◌⊎◌, inl, inr, ⊎_elim, ℕ, ◌≤◌, List, length, IsTrue, Option, Some, None, IfSome, sym, ◌∙◌, subst, arith}
 use Rattle.afl_outside.specs.Disk.{DiskState, DiskGoesOn, Elapses, Follows, LeavesOnly, Torn, written}
 use Rattle.afl_outside.specs.ImageLaws.{Torn-same, Torn-written}
-use Rattle.afl_outside.proofs.Moments.{started, goes_on}
+use Rattle.afl_outside.proofs.Moments.{started, goes_on, moment_at}
 use Rattle.page_slots.specs.Puts.{Over, SeesTorn, OnlyPuts, OnlySyncs}
 
 pub if_some : {A : Type 0} (o : Option A) (P Q : A → Type 0) → ((x : A) → P x → Q x) → IfSome o P → IfSome o Q
@@ -19,7 +19,7 @@ goes_twice a b c p q = record {
 }
 
 pub one_put : (at n : ℕ) (old new : DiskState) (past since : ℕ → List ℕ → Type 0) (before now : List ℕ → Type 0) → ((c : List ℕ) → past old.moment c → before c) → DiskGoesOn old new
-    → SeesTorn at n old new → Follows (Torn at n) before now → Elapses old.moment new.moment past since now → OnlyPuts at n old new past since before now
+    → SeesTorn at n old new → Follows (Torn at n) before now → Elapses old.moment new.moment past since now → OnlyPuts at n (moment_at old past before) (moment_at new since now)
 one_put at n old new past since before now only same sees crash time = record {
   same = same;
   seen = sees;
@@ -27,8 +27,8 @@ one_put at n old new past since before now only same sees crash time = record {
   time = goes_on old.moment old.moment new.moment past past since now (Over at n before) (started old.moment past (Over at n before) (λ c left. (c, only c left, Torn-same at n c))) time crash;
 }
 
-pub then_sync : (at n : ℕ) (old mid new : DiskState) (past between since : ℕ → List ℕ → Type 0) (before done now : List ℕ → Type 0) → OnlyPuts at n old mid past between before done → DiskGoesOn mid new
-    → new.seen ≡ mid.seen → ((c : List ℕ) → now c → done c) → Elapses mid.moment new.moment between since now → OnlyPuts at n old new past since before now
+pub then_sync : (at n : ℕ) (old mid new : DiskState) (past between since : ℕ → List ℕ → Type 0) (before done now : List ℕ → Type 0) → OnlyPuts at n (moment_at old past before) (moment_at mid between done) → DiskGoesOn mid new
+    → new.seen ≡ mid.seen → ((c : List ℕ) → now c → done c) → Elapses mid.moment new.moment between since now → OnlyPuts at n (moment_at old past before) (moment_at new since now)
 then_sync at n old mid new past between since before done now put same is crash time = record {
   same = goes_twice old mid new put.same same;
   seen = λ honest. if_some old.seen (λ seen. (torn : List ℕ) × (mid.seen ≡ Some torn) × Torn at n seen torn) (λ seen. (torn : List ℕ) × (new.seen ≡ Some torn) × Torn at n seen torn) (λ seen tore. (tore.0, is ∙ tore.1, tore.2)) (put.seen honest);
@@ -37,7 +37,7 @@ then_sync at n old mid new past between since before done now put same is crash 
 }
 
 pub one_sync : (old new : DiskState) (past since : ℕ → List ℕ → Type 0) (before now : List ℕ → Type 0) → ((c : List ℕ) → past old.moment c → before c) → DiskGoesOn old new → new.seen ≡ old.seen
-    → ((c : List ℕ) → now c → before c) → Elapses old.moment new.moment past since now → OnlySyncs old new past since before now
+    → ((c : List ℕ) → now c → before c) → Elapses old.moment new.moment past since now → OnlySyncs (moment_at old past before) (moment_at new since now)
 one_sync old new past since before now only same seen crash time = record {
   same = same;
   seen = seen;
@@ -61,7 +61,7 @@ wider before now past since P Q more leaves = record {
 }
 
 -- nothing was written: that is a put whose bytes stayed
-pub sync_is_put : (at n : ℕ) (old new : DiskState) (past since : ℕ → List ℕ → Type 0) (before now : List ℕ → Type 0) → OnlySyncs old new past since before now → OnlyPuts at n old new past since before now
+pub sync_is_put : (at n : ℕ) (old new : DiskState) (past since : ℕ → List ℕ → Type 0) (before now : List ℕ → Type 0) → OnlySyncs (moment_at old past before) (moment_at new since now) → OnlyPuts at n (moment_at old past before) (moment_at new since now)
 sync_is_put at n old new past since before now syncs = record {
   same = syncs.same;
   seen = λ honest. stays old.seen syncs.seen;

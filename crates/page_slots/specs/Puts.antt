@@ -1,6 +1,6 @@
 -- A write that is synced, and a sync alone.
 use Rattle.std.specs.Prelude.{◌≡◌, ℕ, List, length, IsTrue, Some, IfSome, Result, Ok, Err}
-use Rattle.afl_outside.specs.Disk.{DiskState, DiskGoesOn, Follows, LeavesOnly, Only, Torn, written}
+use Rattle.afl_outside.specs.Disk.{DiskState, DiskGoesOn, Follows, LeavesNoMore, LeavesOnly, Moment, Only, Torn, written}
 use Rattle.afl_outside.specs.declared.source.Failed.{Failed}
 
 -- these bytes torn, over some image that a crash might have left at the start
@@ -13,20 +13,20 @@ SeesTorn at count old new = IsTrue old.honest → IfSome old.seen (λ seen. (tor
 
 -- Only these bytes of the disk were written: a read gives what it gave, and a crash at any moment since then leaves what it might have
 -- left at the start, but for these bytes.
-pub record OnlyPuts (at count : ℕ) (old new : DiskState) (past since : ℕ → List ℕ → Type 0) (before now : List ℕ → Type 0) : Type 0 where
-  pub same : DiskGoesOn old new
-  pub seen : SeesTorn at count old new
-  pub crash : Follows (Torn at count) before now
-  pub time : LeavesOnly old.moment new.moment past since (Over at count before)
+pub record OnlyPuts (at count : ℕ) (old new : Moment) : Type 0 where
+  pub same : DiskGoesOn old.state new.state
+  pub seen : SeesTorn at count old.state new.state
+  pub crash : Follows (Torn at count) old.may_leave new.may_leave
+  pub time : LeavesOnly old.state.moment new.state.moment old.left_since new.left_since (Over at count old.may_leave)
 
 -- Where the call was done, an honest disk holds what was written, and a crash leaves nothing else. Else the range may be torn.
-abbrev pub Put : ℕ → List ℕ → DiskState → DiskState → (List ℕ → Type 0) → Result (Unit {0}) Failed → Type 0
-Put at bytes old new now (Ok u) = IsTrue old.honest → IfSome old.seen (λ seen. (new.seen ≡ Some (written at bytes seen)) × Only (written at bytes seen) now)
-Put at bytes old new now (Err e) = IsTrue old.honest → IfSome old.seen (λ seen. (torn : List ℕ) × (new.seen ≡ Some torn) × Torn at (length bytes) seen torn)
+abbrev pub Put : ℕ → List ℕ → Moment → Moment → Result (Unit {0}) Failed → Type 0
+Put at bytes old new (Ok u) = IsTrue old.state.honest → IfSome old.state.seen (λ seen. (new.state.seen ≡ Some (written at bytes seen)) × Only (written at bytes seen) new.may_leave)
+Put at bytes old new (Err e) = SeesTorn at (length bytes) old.state new.state
 
 -- Nothing was written.
-pub record OnlySyncs (old new : DiskState) (past since : ℕ → List ℕ → Type 0) (before now : List ℕ → Type 0) : Type 0 where
-  pub same : DiskGoesOn old new
-  pub seen : new.seen ≡ old.seen
-  pub crash : (c : List ℕ) → now c → before c
-  pub time : LeavesOnly old.moment new.moment past since before
+pub record OnlySyncs (old new : Moment) : Type 0 where
+  pub same : DiskGoesOn old.state new.state
+  pub seen : new.state.seen ≡ old.state.seen
+  pub crash : LeavesNoMore old new
+  pub time : LeavesOnly old.state.moment new.state.moment old.left_since new.left_since old.may_leave

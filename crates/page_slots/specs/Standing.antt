@@ -1,6 +1,6 @@
 -- What is known of the slots of a file, and of each image that a crash may leave of it.
 use Rattle.std.specs.Prelude.{◌≡◌, ◌≢◌, ℕ, ◌+◌, ◌*◌, ◌<◌, ◌≤◌, ◌⊎◌, List, [], ◌∷◌, ◌++◌, length, slice_index, slice_index_or, IsTrue, true, false, Option, Some, None, IfSome}
-use Rattle.afl_outside.specs.Disk.{DiskState, LeavesOnly, Only}
+use Rattle.afl_outside.specs.Disk.{LeavesOnly, Moment, Only}
 use Rattle.page_layout.specs.Places.{gate_of, body_of, other, IsPage, SameBut}
 use Rattle.page_layout.specs.Roots.{has_front, root_at, slot_in, opened}
 use Rattle.page_layout.specs.Logs.{record_at}
@@ -170,15 +170,15 @@ IsReady targets.Root slots = (root : Root) × (slots.other ≡ roots.Written roo
 IsReady targets.Record slots = (at : RecordAt) × (slots.next ≡ entries.Written at)
 
 -- A call on an honest disk that tells its bytes leaves the slots sound.
-abbrev pub KeepsSound : Slots → Slots → DiskState → DiskState → (List ℕ → Type 0) → (List ℕ → Type 0) → Type 0
-KeepsSound slots later old new before now = IsTrue old.honest
-    → IfSome old.seen (λ seen. IsSound slots seen before → (seen_now : List ℕ) × (new.seen ≡ Some seen_now) × IsSound later seen_now now)
+abbrev pub KeepsSound : Slots → Slots → Moment → Moment → Type 0
+KeepsSound slots later old new = IsTrue old.state.honest
+    → IfSome old.state.seen (λ seen. IsSound slots seen old.may_leave → (now : List ℕ) × (new.state.seen ≡ Some now) × IsSound later now new.may_leave)
 
 -- On an honest disk that tells its bytes, a crash at any moment of a call leaves a file that opens as the slots say.
-abbrev pub LeavesOpening : Slots → Slots → DiskState → DiskState → (ℕ → List ℕ → Type 0) → (ℕ → List ℕ → Type 0) → (List ℕ → Type 0) → Type 0
-LeavesOpening slots during old new past since before = IsTrue old.honest
-    → IfSome old.seen (λ seen. IsSound slots seen before → LeavesOnly old.moment new.moment past since (MayOpen during))
+abbrev pub LeavesOpening : Slots → Slots → Moment → Moment → Type 0
+LeavesOpening slots during old new = IsTrue old.state.honest → IfSome old.state.seen (λ seen. IsSound slots seen old.may_leave
+    → LeavesOnly old.state.moment new.state.moment old.left_since new.left_since (MayOpen during))
 
 -- all that an honest disk tells is on it
-abbrev pub IsDurable : DiskState → DiskState → (List ℕ → Type 0) → Type 0
-IsDurable old new now = IsTrue old.honest → IfSome old.seen (λ seen. (seen_now : List ℕ) × (new.seen ≡ Some seen_now) × Only seen_now now)
+abbrev pub IsDurable : Moment → Moment → Type 0
+IsDurable old new = IsTrue old.state.honest → IfSome old.state.seen (λ seen. (now : List ℕ) × (new.state.seen ≡ Some now) × Only now new.may_leave)

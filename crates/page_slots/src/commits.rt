@@ -1,7 +1,6 @@
 //! The writes that close, fill and open a slot.
-ghost use Rattle.std.specs.Prelude.{◌≡◌, ◌<◌, ◌+◌, ◌⊎◌, true, false, Some, IsTrue, IfSome, OnOk, OnErr, MatchResult};
-ghost use Rattle.afl_outside.specs.Counts.{Rose};
-ghost use Rattle.afl_outside.specs.Disk.{LeavesOnly, Only};
+ghost use Rattle.std.specs.Prelude.{◌≡◌, ◌<◌, ◌+◌, true, false, Some, OnOk, MatchResult};
+ghost use Rattle.afl_outside.specs.Disk.{FailsWithCause};
 ghost use Rattle.page_layout.specs.Places.{body_of, other, gate_of};
 ghost use Rattle.page_slots.specs.Puts.{OnlyPuts, OnlySyncs};
 ghost use Rattle.page_slots.specs.Standing.{entry_gate, gate_place, IsTarget, IsShut, IsClosed, IsReady, IsShutRoot, IsShutEntry, KeepsSound, LeavesOpening, IsDurable};
@@ -22,11 +21,11 @@ pub fn write_root<D: Disk>(slots: &mut Slots, disk: &mut D, root: Root) -> Resul
     requires target { slots.old.target ≡ targets.Root }
     requires newer { slots.old.current.root.sequence < root.sequence }
     ensures slots { MatchResult result (λ _. slots.new ≡ record slots.old { other = roots.Written root }) (λ _. slots.new ≡ record slots.old { other = roots.Closed; doubtful = true }) }
-    ensures sound { KeepsSound slots.old slots.new (D.state disk.old) (D.state disk.new) (D.may_leave disk.old) (D.may_leave disk.new) }
-    ensures opens { LeavesOpening slots.old (record slots.old { other = roots.Closed }) (D.state disk.old) (D.state disk.new) (D.left_since disk.old) (D.left_since disk.new) (D.may_leave disk.old) }
-    ensures durable { OnOk result (IsDurable (D.state disk.old) (D.state disk.new) (D.may_leave disk.new)) }
-    ensures writes { OnlyPuts (body_of (other slots.old.current.side)) 24 (D.state disk.old) (D.state disk.new) (D.left_since disk.old) (D.left_since disk.new) (D.may_leave disk.old) (D.may_leave disk.new) }
-    ensures cause { OnErr result (Rose (D.state disk.old).faults (D.state disk.new).faults ⊎ Rose (D.state disk.old).wants (D.state disk.new).wants) }
+    ensures sound { KeepsSound slots.old slots.new (D.moment disk.old) (D.moment disk.new) }
+    ensures opens { LeavesOpening slots.old (record slots.old { other = roots.Closed }) (D.moment disk.old) (D.moment disk.new) }
+    ensures durable { OnOk result (IsDurable (D.moment disk.old) (D.moment disk.new)) }
+    ensures writes { OnlyPuts (body_of (other slots.old.current.side)) 24 (D.moment disk.old) (D.moment disk.new) }
+    ensures cause { FailsWithCause result (D.moment disk.old) (D.moment disk.new) }
 {
     let at = slots.current.side.other().body() as u64;
     match put(disk, at, &root_body(root)) {
@@ -49,11 +48,11 @@ pub fn write_record<D: Disk>(slots: &mut Slots, disk: &mut D, at: RecordAt) -> R
     requires target { slots.old.target ≡ targets.Record }
     requires there { IsTarget slots.old }
     ensures slots { MatchResult result (λ _. slots.new ≡ record slots.old { next = entries.Written at }) (λ _. slots.new ≡ record slots.old { next = entries.Closed; doubtful = true }) }
-    ensures sound { KeepsSound slots.old slots.new (D.state disk.old) (D.state disk.new) (D.may_leave disk.old) (D.may_leave disk.new) }
-    ensures opens { LeavesOpening slots.old (record slots.old { next = entries.Closed }) (D.state disk.old) (D.state disk.new) (D.left_since disk.old) (D.left_since disk.new) (D.may_leave disk.old) }
-    ensures durable { OnOk result (IsDurable (D.state disk.old) (D.state disk.new) (D.may_leave disk.new)) }
-    ensures writes { OnlyPuts (entry_gate slots.old + 8) 12 (D.state disk.old) (D.state disk.new) (D.left_since disk.old) (D.left_since disk.new) (D.may_leave disk.old) (D.may_leave disk.new) }
-    ensures cause { OnErr result (Rose (D.state disk.old).faults (D.state disk.new).faults ⊎ Rose (D.state disk.old).wants (D.state disk.new).wants) }
+    ensures sound { KeepsSound slots.old slots.new (D.moment disk.old) (D.moment disk.new) }
+    ensures opens { LeavesOpening slots.old (record slots.old { next = entries.Closed }) (D.moment disk.old) (D.moment disk.new) }
+    ensures durable { OnOk result (IsDurable (D.moment disk.old) (D.moment disk.new)) }
+    ensures writes { OnlyPuts (entry_gate slots.old + 8) 12 (D.moment disk.old) (D.moment disk.new) }
+    ensures cause { FailsWithCause result (D.moment disk.old) (D.moment disk.new) }
 {
     let place = slots.entry_gate() + 8;
     match put(disk, place, &record_body(at)) {
@@ -73,11 +72,11 @@ fn close_root<D: Disk>(slots: &mut Slots, disk: &mut D) -> Result<(), Failed>
     requires ajar { ¬ IsShutRoot slots.old.other }
     requires target { slots.old.target ≡ targets.Root }
     ensures slots { MatchResult result (λ _. slots.new ≡ shut slots.old.target slots.old) (λ _. slots.new ≡ doubted slots.old) }
-    ensures sound { KeepsSound slots.old slots.new (D.state disk.old) (D.state disk.new) (D.may_leave disk.old) (D.may_leave disk.new) }
-    ensures opens { LeavesOpening slots.old slots.old (D.state disk.old) (D.state disk.new) (D.left_since disk.old) (D.left_since disk.new) (D.may_leave disk.old) }
-    ensures durable { OnOk result (IsDurable (D.state disk.old) (D.state disk.new) (D.may_leave disk.new)) }
-    ensures writes { OnlyPuts (gate_of (other slots.old.current.side)) 1 (D.state disk.old) (D.state disk.new) (D.left_since disk.old) (D.left_since disk.new) (D.may_leave disk.old) (D.may_leave disk.new) }
-    ensures cause { OnErr result (Rose (D.state disk.old).faults (D.state disk.new).faults ⊎ Rose (D.state disk.old).wants (D.state disk.new).wants) }
+    ensures sound { KeepsSound slots.old slots.new (D.moment disk.old) (D.moment disk.new) }
+    ensures opens { LeavesOpening slots.old slots.old (D.moment disk.old) (D.moment disk.new) }
+    ensures durable { OnOk result (IsDurable (D.moment disk.old) (D.moment disk.new)) }
+    ensures writes { OnlyPuts (gate_of (other slots.old.current.side)) 1 (D.moment disk.old) (D.moment disk.new) }
+    ensures cause { FailsWithCause result (D.moment disk.old) (D.moment disk.new) }
 {
     let place = slots.current.side.other().gate() as u64;
     match put(disk, place, &[0]) {
@@ -97,11 +96,11 @@ fn close_entry<D: Disk>(slots: &mut Slots, disk: &mut D) -> Result<(), Failed>
     requires target { slots.old.target ≡ targets.Record }
     requires there { IsTarget slots.old }
     ensures slots { MatchResult result (λ _. slots.new ≡ shut slots.old.target slots.old) (λ _. slots.new ≡ doubted slots.old) }
-    ensures sound { KeepsSound slots.old slots.new (D.state disk.old) (D.state disk.new) (D.may_leave disk.old) (D.may_leave disk.new) }
-    ensures opens { LeavesOpening slots.old slots.old (D.state disk.old) (D.state disk.new) (D.left_since disk.old) (D.left_since disk.new) (D.may_leave disk.old) }
-    ensures durable { OnOk result (IsDurable (D.state disk.old) (D.state disk.new) (D.may_leave disk.new)) }
-    ensures writes { OnlyPuts (entry_gate slots.old) 1 (D.state disk.old) (D.state disk.new) (D.left_since disk.old) (D.left_since disk.new) (D.may_leave disk.old) (D.may_leave disk.new) }
-    ensures cause { OnErr result (Rose (D.state disk.old).faults (D.state disk.new).faults ⊎ Rose (D.state disk.old).wants (D.state disk.new).wants) }
+    ensures sound { KeepsSound slots.old slots.new (D.moment disk.old) (D.moment disk.new) }
+    ensures opens { LeavesOpening slots.old slots.old (D.moment disk.old) (D.moment disk.new) }
+    ensures durable { OnOk result (IsDurable (D.moment disk.old) (D.moment disk.new)) }
+    ensures writes { OnlyPuts (entry_gate slots.old) 1 (D.moment disk.old) (D.moment disk.new) }
+    ensures cause { FailsWithCause result (D.moment disk.old) (D.moment disk.new) }
 {
     let place = slots.entry_gate();
     match put(disk, place, &[0]) {
@@ -119,11 +118,11 @@ fn close_entry<D: Disk>(slots: &mut Slots, disk: &mut D) -> Result<(), Failed>
 fn close_settled<D: Disk>(slots: &mut Slots, disk: &mut D) -> Result<(), Failed>
     requires { IsShut slots.old.target slots.old }
     ensures slots { MatchResult result (λ _. slots.new ≡ shut slots.old.target slots.old) (λ _. slots.new ≡ doubted slots.old) }
-    ensures sound { KeepsSound slots.old slots.new (D.state disk.old) (D.state disk.new) (D.may_leave disk.old) (D.may_leave disk.new) }
-    ensures opens { LeavesOpening slots.old slots.old (D.state disk.old) (D.state disk.new) (D.left_since disk.old) (D.left_since disk.new) (D.may_leave disk.old) }
-    ensures durable { OnOk result (IsDurable (D.state disk.old) (D.state disk.new) (D.may_leave disk.new)) }
-    ensures syncs { OnlySyncs (D.state disk.old) (D.state disk.new) (D.left_since disk.old) (D.left_since disk.new) (D.may_leave disk.old) (D.may_leave disk.new) }
-    ensures cause { OnErr result (Rose (D.state disk.old).faults (D.state disk.new).faults ⊎ Rose (D.state disk.old).wants (D.state disk.new).wants) }
+    ensures sound { KeepsSound slots.old slots.new (D.moment disk.old) (D.moment disk.new) }
+    ensures opens { LeavesOpening slots.old slots.old (D.moment disk.old) (D.moment disk.new) }
+    ensures durable { OnOk result (IsDurable (D.moment disk.old) (D.moment disk.new)) }
+    ensures syncs { OnlySyncs (D.moment disk.old) (D.moment disk.new) }
+    ensures cause { FailsWithCause result (D.moment disk.old) (D.moment disk.new) }
 {
     match settle(disk) {
         Ok(()) => {
@@ -142,11 +141,11 @@ fn open_root<D: Disk>(slots: &mut Slots, disk: &mut D, root: Root) -> Result<(),
     requires zeroed { slots.old.zeroed ≡ Some root.log }
     requires target { slots.old.target ≡ targets.Root }
     ensures slots { MatchResult result (λ _. slots.new ≡ with_root root slots.old) (λ _. slots.new ≡ record slots.old { other = roots.Opening root; doubtful = true }) }
-    ensures sound { KeepsSound slots.old slots.new (D.state disk.old) (D.state disk.new) (D.may_leave disk.old) (D.may_leave disk.new) }
-    ensures opens { LeavesOpening slots.old (record slots.old { other = roots.Opening root }) (D.state disk.old) (D.state disk.new) (D.left_since disk.old) (D.left_since disk.new) (D.may_leave disk.old) }
-    ensures durable { OnOk result (IsDurable (D.state disk.old) (D.state disk.new) (D.may_leave disk.new)) }
-    ensures writes { OnlyPuts (gate_of (other slots.old.current.side)) 1 (D.state disk.old) (D.state disk.new) (D.left_since disk.old) (D.left_since disk.new) (D.may_leave disk.old) (D.may_leave disk.new) }
-    ensures cause { OnErr result (Rose (D.state disk.old).faults (D.state disk.new).faults ⊎ Rose (D.state disk.old).wants (D.state disk.new).wants) }
+    ensures sound { KeepsSound slots.old slots.new (D.moment disk.old) (D.moment disk.new) }
+    ensures opens { LeavesOpening slots.old (record slots.old { other = roots.Opening root }) (D.moment disk.old) (D.moment disk.new) }
+    ensures durable { OnOk result (IsDurable (D.moment disk.old) (D.moment disk.new)) }
+    ensures writes { OnlyPuts (gate_of (other slots.old.current.side)) 1 (D.moment disk.old) (D.moment disk.new) }
+    ensures cause { FailsWithCause result (D.moment disk.old) (D.moment disk.new) }
 {
     let place = slots.current.side.other().gate() as u64;
     match put(disk, place, &[2]) {
@@ -168,11 +167,11 @@ fn open_entry<D: Disk>(slots: &mut Slots, disk: &mut D, at: RecordAt) -> Result<
     requires target { slots.old.target ≡ targets.Record }
     requires there { IsTarget slots.old }
     ensures slots { MatchResult result (λ _. slots.new ≡ with_record at slots.old) (λ _. slots.new ≡ record slots.old { next = entries.Opening at; doubtful = true }) }
-    ensures sound { KeepsSound slots.old slots.new (D.state disk.old) (D.state disk.new) (D.may_leave disk.old) (D.may_leave disk.new) }
-    ensures opens { LeavesOpening slots.old (record slots.old { next = entries.Opening at }) (D.state disk.old) (D.state disk.new) (D.left_since disk.old) (D.left_since disk.new) (D.may_leave disk.old) }
-    ensures durable { OnOk result (IsDurable (D.state disk.old) (D.state disk.new) (D.may_leave disk.new)) }
-    ensures writes { OnlyPuts (entry_gate slots.old) 1 (D.state disk.old) (D.state disk.new) (D.left_since disk.old) (D.left_since disk.new) (D.may_leave disk.old) (D.may_leave disk.new) }
-    ensures cause { OnErr result (Rose (D.state disk.old).faults (D.state disk.new).faults ⊎ Rose (D.state disk.old).wants (D.state disk.new).wants) }
+    ensures sound { KeepsSound slots.old slots.new (D.moment disk.old) (D.moment disk.new) }
+    ensures opens { LeavesOpening slots.old (record slots.old { next = entries.Opening at }) (D.moment disk.old) (D.moment disk.new) }
+    ensures durable { OnOk result (IsDurable (D.moment disk.old) (D.moment disk.new)) }
+    ensures writes { OnlyPuts (entry_gate slots.old) 1 (D.moment disk.old) (D.moment disk.new) }
+    ensures cause { FailsWithCause result (D.moment disk.old) (D.moment disk.new) }
 {
     let place = slots.entry_gate();
     match put(disk, place, &[1]) {
@@ -193,12 +192,12 @@ fn open_entry<D: Disk>(slots: &mut Slots, disk: &mut D, at: RecordAt) -> Result<
 pub fn close_slot<D: Disk>(slots: &mut Slots, disk: &mut D) -> Result<(), Failed>
     requires { IsTarget slots.old }
     ensures slots { MatchResult result (λ _. slots.new ≡ shut slots.old.target slots.old) (λ _. slots.new ≡ doubted slots.old) }
-    ensures sound { KeepsSound slots.old slots.new (D.state disk.old) (D.state disk.new) (D.may_leave disk.old) (D.may_leave disk.new) }
-    ensures opens { LeavesOpening slots.old slots.old (D.state disk.old) (D.state disk.new) (D.left_since disk.old) (D.left_since disk.new) (D.may_leave disk.old) }
-    ensures durable { OnOk result (IsDurable (D.state disk.old) (D.state disk.new) (D.may_leave disk.new)) }
-    ensures writes { OnlyPuts (gate_place slots.old.target slots.old) 1 (D.state disk.old) (D.state disk.new) (D.left_since disk.old) (D.left_since disk.new) (D.may_leave disk.old) (D.may_leave disk.new) }
-    ensures cause { OnErr result (Rose (D.state disk.old).faults (D.state disk.new).faults ⊎ Rose (D.state disk.old).wants (D.state disk.new).wants) }
-    ensures quiet { IsShut slots.old.target slots.old → OnlySyncs (D.state disk.old) (D.state disk.new) (D.left_since disk.old) (D.left_since disk.new) (D.may_leave disk.old) (D.may_leave disk.new) }
+    ensures sound { KeepsSound slots.old slots.new (D.moment disk.old) (D.moment disk.new) }
+    ensures opens { LeavesOpening slots.old slots.old (D.moment disk.old) (D.moment disk.new) }
+    ensures durable { OnOk result (IsDurable (D.moment disk.old) (D.moment disk.new)) }
+    ensures writes { OnlyPuts (gate_place slots.old.target slots.old) 1 (D.moment disk.old) (D.moment disk.new) }
+    ensures cause { FailsWithCause result (D.moment disk.old) (D.moment disk.new) }
+    ensures quiet { IsShut slots.old.target slots.old → OnlySyncs (D.moment disk.old) (D.moment disk.new) }
 {
     if !slots.may_stand_open() {
         return close_settled(slots, disk);
@@ -215,11 +214,11 @@ pub fn open_slot<D: Disk>(slots: &mut Slots, disk: &mut D) -> Result<(), Failed>
     requires sure { slots.old.doubtful ≡ false }
     requires there { IsTarget slots.old }
     ensures slots { MatchResult result (λ _. slots.new ≡ with_target slots.old.target slots.old) (λ _. slots.new ≡ doubted (ajar slots.old.target slots.old)) }
-    ensures sound { KeepsSound slots.old slots.new (D.state disk.old) (D.state disk.new) (D.may_leave disk.old) (D.may_leave disk.new) }
-    ensures opens { LeavesOpening slots.old (ajar slots.old.target slots.old) (D.state disk.old) (D.state disk.new) (D.left_since disk.old) (D.left_since disk.new) (D.may_leave disk.old) }
-    ensures durable { OnOk result (IsDurable (D.state disk.old) (D.state disk.new) (D.may_leave disk.new)) }
-    ensures writes { OnlyPuts (gate_place slots.old.target slots.old) 1 (D.state disk.old) (D.state disk.new) (D.left_since disk.old) (D.left_since disk.new) (D.may_leave disk.old) (D.may_leave disk.new) }
-    ensures cause { OnErr result (Rose (D.state disk.old).faults (D.state disk.new).faults ⊎ Rose (D.state disk.old).wants (D.state disk.new).wants) }
+    ensures sound { KeepsSound slots.old slots.new (D.moment disk.old) (D.moment disk.new) }
+    ensures opens { LeavesOpening slots.old (ajar slots.old.target slots.old) (D.moment disk.old) (D.moment disk.new) }
+    ensures durable { OnOk result (IsDurable (D.moment disk.old) (D.moment disk.new)) }
+    ensures writes { OnlyPuts (gate_place slots.old.target slots.old) 1 (D.moment disk.old) (D.moment disk.new) }
+    ensures cause { FailsWithCause result (D.moment disk.old) (D.moment disk.new) }
 {
     match slots.target {
         Target::Root => match slots.other {

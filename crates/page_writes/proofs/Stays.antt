@@ -2,6 +2,7 @@
 use Rattle.std.proofs.Common.{◌≡◌, ◌<◌, ◌≤◌, ℕ, ◌+◌, ◌-◌, ◌*◌, true, false, List, length, slice_index, IsTrue, Option, Some, None, IfSome, refl, sym, ◌∙◌, ap, subst, arith}
 use Rattle.std.specs.Prelude.{OnOk, Result, Ok, Err}
 use Rattle.std.proofs.lemmas.Bool.Decides.{nat_tests}
+use Rattle.afl_outside.proofs.Moments.{moment_at, seeing, stated}
 use Rattle.afl_outside.specs.Disk.{DiskState, Follows, LeavesOnly}
 use Rattle.page_layout.specs.Places.{other, IsNone, KeepsPages, SameBut}
 use Rattle.page_layout.specs.Roots.{has_front}
@@ -77,8 +78,8 @@ written_sound slots zeroed pages seen now before after sure none apart crash zer
     unfilled targets.Record = entry_unfilled slots.next (entry_gate slots) (λ at. (c : List ℕ) → after c → SameBut at 1 now c) (sound.sure sure).1
 
 pub writes_sound : (slots : Slots) (zeroed : Option ℕ) (pages : List ℕ) (old new : DiskState) (past since : ℕ → List ℕ → Type 0) (before after : List ℕ → Type 0) (P : List ℕ → List ℕ → Type 0) → IsClosed slots → MayWrite pages slots
-    → OnlyWrites pages old new past since before after → Sees old new P → ((seen now : List ℕ) → P seen now → ZeroHolds slots.target slots.zeroed seen → ZeroHolds slots.target zeroed now)
-    → KeepsSound slots (record slots { other = emptied_root slots.other; next = emptied_entry slots.next; zeroed = zeroed }) old new before after
+    → OnlyWrites pages (moment_at old past before) (moment_at new since after) → Sees old new P → ((seen now : List ℕ) → P seen now → ZeroHolds slots.target slots.zeroed seen → ZeroHolds slots.target zeroed now)
+    → KeepsSound slots (record slots { other = emptied_root slots.other; next = emptied_entry slots.next; zeroed = zeroed }) (seeing old before) (seeing new after)
 writes_sound slots zeroed pages old new past since before after P closed may writes sees zeros honest =
     if_some old.seen (λ seen. (now : List ℕ) × (new.seen ≡ Some now) × P seen now)
     (λ seen. IsSound slots seen before → (now : List ℕ) × (new.seen ≡ Some now) × IsSound (record slots { other = emptied_root slots.other; next = emptied_entry slots.next; zeroed = zeroed }) now after)
@@ -86,7 +87,7 @@ writes_sound slots zeroed pages old new past since before after P closed may wri
     (sees honest)
 
 pub writes_opens : (slots : Slots) (pages : List ℕ) (old new : DiskState) (past since : ℕ → List ℕ → Type 0) (before after : List ℕ → Type 0) → IsClosed slots → MayWrite pages slots
-    → OnlyWrites pages old new past since before after → LeavesOpening slots (emptied slots) old new past since before
+    → OnlyWrites pages (moment_at old past before) (moment_at new since after) → LeavesOpening slots (emptied slots) (moment_at old past before) (stated new since)
 writes_opens slots pages old new past since before after closed may writes = λ honest.
     for_some old.seen (λ seen. IsSound slots seen before → LeavesOnly old.moment new.moment past since (MayOpen (emptied slots)))
     (λ seen. λ sound. wider old.moment new.moment past since (Over pages before) (MayOpen (emptied slots)) (λ c over. may_open (emptied slots) c (holds_on slots slots.zeroed pages over.0 c (sound.sure closed.sure).0 may.apart may.log over.2 (sound.images over.0 over.1))) writes.time)
@@ -97,17 +98,17 @@ zero_on targets.Record zeroed later seen now f hold = tt
 
 -- the slots as the calls leave them
 pub pages_sound : (slots s : Slots) (z : Option ℕ) (pages : List ℕ) (old new : DiskState) (past since : ℕ → List ℕ → Type 0) (before after : List ℕ → Type 0) (P : List ℕ → List ℕ → Type 0) → s ≡ emptied slots → z ≡ unwritten pages s.zeroed
-    → IsClosed slots → MayWrite pages slots → OnlyWrites pages old new past since before after → Sees old new P → ((seen now : List ℕ) → P seen now → KeepsPages pages seen now) → KeepsSound slots (record s { zeroed = z }) old new before after
+    → IsClosed slots → MayWrite pages slots → OnlyWrites pages (moment_at old past before) (moment_at new since after) → Sees old new P → ((seen now : List ℕ) → P seen now → KeepsPages pages seen now) → KeepsSound slots (record s { zeroed = z }) (seeing old before) (seeing new after)
 pages_sound slots s z pages old new past since before after P is zero_is closed may writes sees keeps =
     let z_is : z ≡ unwritten pages slots.zeroed = zero_is ∙ ap (λ (t : Slots). unwritten pages t.zeroed) is in
-    subst (λ (t : Slots). KeepsSound slots (record t { zeroed = z }) old new before after) (sym is)
+    subst (λ (t : Slots). KeepsSound slots (record t { zeroed = z }) (seeing old before) (seeing new after)) (sym is)
     (writes_sound slots z pages old new past since before after P closed may writes sees
     (λ seen now told. zero_on slots.target slots.zeroed z seen now (λ hold. subst (λ (y : Option ℕ). IfSome y (λ page. IsZeroed page now)) (sym z_is) (unwritten_holds pages slots.zeroed seen now (keeps seen now told) hold))))
 
 pub blob_sound : (slots s : Slots) (z : Option ℕ) (pages bytes : List ℕ) (old new : DiskState) (past since : ℕ → List ℕ → Type 0) (before after : List ℕ → Type 0) → s ≡ emptied slots → z ≡ zeroed_by pages bytes s.zeroed
-    → IsClosed slots → MayWrite pages slots → OnlyWrites pages old new past since before after → Sees old new (λ seen now. KeepsPages pages seen now × HoldsBlob page_size now pages bytes) → KeepsSound slots (record s { zeroed = z }) old new before after
+    → IsClosed slots → MayWrite pages slots → OnlyWrites pages (moment_at old past before) (moment_at new since after) → Sees old new (λ seen now. KeepsPages pages seen now × HoldsBlob page_size now pages bytes) → KeepsSound slots (record s { zeroed = z }) (seeing old before) (seeing new after)
 blob_sound slots s z pages bytes old new past since before after is zero_is closed may writes sees =
     let z_is : z ≡ zeroed_by pages bytes slots.zeroed = zero_is ∙ ap (λ (t : Slots). zeroed_by pages bytes t.zeroed) is in
-    subst (λ (t : Slots). KeepsSound slots (record t { zeroed = z }) old new before after) (sym is)
+    subst (λ (t : Slots). KeepsSound slots (record t { zeroed = z }) (seeing old before) (seeing new after)) (sym is)
     (writes_sound slots z pages old new past since before after (λ seen now. KeepsPages pages seen now × HoldsBlob page_size now pages bytes) closed may writes sees
     (λ seen now told. zero_on slots.target slots.zeroed z seen now (λ hold. subst (λ (y : Option ℕ). IfSome y (λ page. IsZeroed page now)) (sym z_is) (zeroed_holds pages bytes slots.zeroed seen now may.apart told.0 told.1 hold))))

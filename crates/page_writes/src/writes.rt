@@ -1,7 +1,7 @@
 //! Blobs and chains, written beside the slots.
-ghost use Rattle.std.specs.Prelude.{◌≡◌, ◌⊎◌, nat_eq, length, OnOk, OnErr, MatchResult};
+ghost use Rattle.std.specs.Prelude.{◌≡◌, nat_eq, length, OnOk, MatchResult};
+ghost use Rattle.afl_outside.specs.Disk.{FailsWithCause};
 ghost use Rattle.std.specs.List.{list_all, list_any};
-ghost use Rattle.afl_outside.specs.Counts.{Rose};
 ghost use Rattle.page_layout.specs.Places.{KeepsPages};
 ghost use Rattle.page_chain.specs.Pages.{page_size, pages_for, HoldsBlob};
 ghost use Rattle.page_chain.specs.Chains.{content_size, HoldsChain};
@@ -66,11 +66,11 @@ pub fn write_blob<D: Disk>(
     requires free { MayWrite pages.now slots.old }
     requires pages { length pages.now ≡ pages_for page_size (length bytes.now) }
     ensures slots { MatchResult result (λ _. slots.new ≡ blob_written pages.now bytes.now slots.old) (λ _. slots.new ≡ pages_written pages.now slots.old) }
-    ensures sound { KeepsSound slots.old slots.new (D.state disk.old) (D.state disk.new) (D.may_leave disk.old) (D.may_leave disk.new) }
-    ensures opens { LeavesOpening slots.old (emptied slots.old) (D.state disk.old) (D.state disk.new) (D.left_since disk.old) (D.left_since disk.new) (D.may_leave disk.old) }
-    ensures seen { Sees (D.state disk.old) (D.state disk.new) (λ seen now. KeepsPages pages.now seen now × OnOk result (HoldsBlob page_size now pages.now bytes.now)) }
-    ensures cause { OnErr result (Rose (D.state disk.old).faults (D.state disk.new).faults ⊎ Rose (D.state disk.old).wants (D.state disk.new).wants) }
-    ensures writes { OnlyWrites pages.now (D.state disk.old) (D.state disk.new) (D.left_since disk.old) (D.left_since disk.new) (D.may_leave disk.old) (D.may_leave disk.new) }
+    ensures sound { KeepsSound slots.old slots.new (D.moment disk.old) (D.moment disk.new) }
+    ensures opens { LeavesOpening slots.old (emptied slots.old) (D.moment disk.old) (D.moment disk.new) }
+    ensures seen { Sees (D.moment disk.old).state (D.moment disk.new).state (λ seen now. KeepsPages pages.now seen now × OnOk result (HoldsBlob page_size now pages.now bytes.now)) }
+    ensures cause { FailsWithCause result (D.moment disk.old) (D.moment disk.new) }
+    ensures writes { OnlyWrites pages.now (D.moment disk.old) (D.moment disk.new) }
 {
     slots.empty();
     match page_chain::write_blob(disk, pages, bytes) {
@@ -96,11 +96,11 @@ pub fn write_chain<D: Disk>(
     requires free { MayWrite pages.now slots.old }
     requires pages { length pages.now ≡ pages_for (content_size page_size) (length bytes.now) }
     ensures slots { slots.new ≡ pages_written pages.now slots.old }
-    ensures sound { KeepsSound slots.old slots.new (D.state disk.old) (D.state disk.new) (D.may_leave disk.old) (D.may_leave disk.new) }
-    ensures opens { LeavesOpening slots.old (emptied slots.old) (D.state disk.old) (D.state disk.new) (D.left_since disk.old) (D.left_since disk.new) (D.may_leave disk.old) }
-    ensures seen { Sees (D.state disk.old) (D.state disk.new) (λ seen now. KeepsPages pages.now seen now × OnOk result (HoldsChain page_size now pages.now bytes.now)) }
-    ensures cause { OnErr result (Rose (D.state disk.old).faults (D.state disk.new).faults ⊎ Rose (D.state disk.old).wants (D.state disk.new).wants) }
-    ensures writes { OnlyWrites pages.now (D.state disk.old) (D.state disk.new) (D.left_since disk.old) (D.left_since disk.new) (D.may_leave disk.old) (D.may_leave disk.new) }
+    ensures sound { KeepsSound slots.old slots.new (D.moment disk.old) (D.moment disk.new) }
+    ensures opens { LeavesOpening slots.old (emptied slots.old) (D.moment disk.old) (D.moment disk.new) }
+    ensures seen { Sees (D.moment disk.old).state (D.moment disk.new).state (λ seen now. KeepsPages pages.now seen now × OnOk result (HoldsChain page_size now pages.now bytes.now)) }
+    ensures cause { FailsWithCause result (D.moment disk.old) (D.moment disk.new) }
+    ensures writes { OnlyWrites pages.now (D.moment disk.old) (D.moment disk.new) }
 {
     slots.empty();
     slots.zeroed = unwritten(pages, slots.zeroed);

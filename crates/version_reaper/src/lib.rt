@@ -4,6 +4,3 @@
 mod page_set;
 
 pub use page_set::{PageSet, free_of, is_in, live};
-
-#[cfg(test)]
-mod tests;

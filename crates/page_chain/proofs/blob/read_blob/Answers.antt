@@ -10,7 +10,7 @@ read_page-requires g c = omega (arith, size_is)
 
 pub returns-in-Ok-false-clause-exact : goal.returns-in-Ok-false-clause-exact
 returns-in-Ok-false-clause-exact g c =
-    blob_stops (g.D.Disk.state c.args.disk.now).seen (g.D.Disk.state c.loop-page.disk).seen c.args.pages.now c.loop-page.page-index _ c.in-Ok-false.field-0 c.loop-page.bytes
+    blob_stops (g.D.Disk.moment c.args.disk.now).state.seen (g.D.Disk.moment c.loop-page.disk).state.seen c.args.pages.now c.loop-page.page-index _ c.in-Ok-false.field-0 c.loop-page.bytes
     c.loop-page.invariant.reads.seen c.loop-page-test.true refl c.in-Ok-false.field-0-test c.in-Ok-false.ensures.whole c.loop-page.invariant.told
 
 pub loop-page-preserved : goal.loop-page-preserved
@@ -22,7 +22,7 @@ loop-page-preserved g c =
     record {
       reads = reads_on _ _ _ _ _ _ _ _ _ so_far.reads c.in-Ok-true.ensures.reads;
       size = one_more_full page_size c.loop-page.bytes c.read_page.new.piece c.extend.new.self i more full so_far.size;
-      told = blob_goes_on (g.D.Disk.state c.args.disk.now).seen (g.D.Disk.state c.loop-page.disk).seen c.args.pages.now i _ c.in-Ok-true.field-0 c.read_page.new.piece c.loop-page.bytes c.extend.new.self
+      told = blob_goes_on (g.D.Disk.moment c.args.disk.now).state.seen (g.D.Disk.moment c.loop-page.disk).state.seen c.args.pages.now i _ c.in-Ok-true.field-0 c.read_page.new.piece c.loop-page.bytes c.extend.new.self
           so_far.reads.seen c.loop-page-test.true refl c.in-Ok-true.field-0-test c.in-Ok-true.ensures.whole c.in-Ok-true.ensures.bytes more so_far.told;
     }
 

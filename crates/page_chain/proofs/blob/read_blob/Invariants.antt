@@ -8,7 +8,7 @@ use Rattle.page_chain.proofs.blob.read_blob.Given as goal
 -- the first pages are there, and their bytes were kept
 abbrev pub invariant-loop-page : goal.invariant-loop-page
 invariant-loop-page g l = record {
-  reads : OnlyReads (g.D.Disk.state l.fn.disk) (g.D.Disk.state l.disk) (g.D.Disk.left_since l.fn.disk) (g.D.Disk.left_since l.disk) (g.D.Disk.may_leave l.fn.disk) (g.D.Disk.may_leave l.disk);
+  reads : OnlyReads (g.D.Disk.moment l.fn.disk) (g.D.Disk.moment l.disk);
   size : length l.bytes ≡ page_size * l.page-index;
-  told : IfSome (g.D.Disk.state l.fn.disk).seen (λ seen. BlobSoFar seen (take l.page-index l.pages) l.bytes);
+  told : IfSome (g.D.Disk.moment l.fn.disk).state.seen (λ seen. BlobSoFar seen (take l.page-index l.pages) l.bytes);
 }

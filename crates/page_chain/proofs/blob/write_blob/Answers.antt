@@ -27,8 +27,8 @@ returns-in_err-write_page-clause-seen g c =
     let page = slice_index pages i in
     let pieces : ℕ → List ℕ = λ k. piece_of page_size c.args.bytes.now k in
     let p = err_from_is_err_and c.from_residual.result c.from_residual.ensures.1 in
-    subst (λ (r : Result (Unit {0}) Failed). Sees (g.D.Disk.state c.args.disk.now) (g.D.Disk.state c.write_page.new.disk) (λ seen now. KeepsPages pages seen now × OnOk r (HoldsBlob page_size now pages c.args.bytes.now))) (sym p.1)
-    (sees_on (g.D.Disk.state c.args.disk.now) (g.D.Disk.state c.loop-page.disk) (g.D.Disk.state c.write_page.new.disk)
+    subst (λ (r : Result (Unit {0}) Failed). Sees (g.D.Disk.moment c.args.disk.now).state (g.D.Disk.moment c.write_page.new.disk).state (λ seen now. KeepsPages pages seen now × OnOk r (HoldsBlob page_size now pages c.args.bytes.now))) (sym p.1)
+    (sees_on (g.D.Disk.moment c.args.disk.now).state (g.D.Disk.moment c.loop-page.disk).state (g.D.Disk.moment c.write_page.new.disk).state
     (WroteSoFar pages pieces i) (λ seen now. KeepsPages (page ∷ []) seen now × Unit {0}) (λ seen now. KeepsPages pages seen now × Unit {0})
     (λ x y z so_far more. (wrote_torn pages pieces i page x y z c.loop-page-test.true refl so_far more.0, tt))
     c.loop-page.invariant.writes.same c.loop-page.invariant.seen c.in_err-write_page.ensures.seen)
@@ -44,7 +44,7 @@ loop-page-preserved g c =
     let size : length c.loop-page.piece ≡ page_size = c.loop-page-test.array_long ∙ sym size_is in
     record {
       writes = writes_on pages _ _ _ _ _ _ _ _ _ before.writes (writes_more (page ∷ []) pages _ _ _ _ _ _ (λ number none. one_of pages i page number c.loop-page-test.true refl none) step.writes);
-      seen = sees_on (g.D.Disk.state c.args.disk.now) (g.D.Disk.state c.loop-page.disk) (g.D.Disk.state c.write_page.new.disk)
+      seen = sees_on (g.D.Disk.moment c.args.disk.now).state (g.D.Disk.moment c.loop-page.disk).state (g.D.Disk.moment c.write_page.new.disk).state
           (WroteSoFar pages pieces i) (λ seen now. KeepsPages (page ∷ []) seen now × (page_at page_size now page ≡ c.put_front-rest.new.piece)) (WroteSoFar pages pieces (i + 1))
           (λ x y z so_far more. wrote_more pages pieces i page x y z c.requires.distinct (λ k. length-piece page_size (drop (k * page_size) c.args.bytes.now)) c.loop-page-test.true refl so_far more.0
           (more.1 ∙ blob_piece (length c.loop-page.piece) i c.put_front-rest.new.piece c.loop-page.rest.now c.args.bytes.now size c.put_front-rest.ensures.piece before.rest))

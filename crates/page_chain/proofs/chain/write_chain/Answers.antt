@@ -28,8 +28,8 @@ returns-in_err-write_page-clause-seen g c =
     let page = slice_index pages i in
     let pieces : ℕ → List ℕ = λ k. chain_piece page_size pages c.args.bytes.now k in
     let p = err_from_is_err_and c.from_residual.result c.from_residual.ensures.1 in
-    subst (λ (r : Result (Unit {0}) Failed). Sees (g.D.Disk.state c.args.disk.now) (g.D.Disk.state c.write_page.new.disk) (λ seen now. KeepsPages pages seen now × OnOk r (HoldsChain page_size now pages c.args.bytes.now))) (sym p.1)
-    (sees_on (g.D.Disk.state c.args.disk.now) (g.D.Disk.state c.loop-i.disk) (g.D.Disk.state c.write_page.new.disk)
+    subst (λ (r : Result (Unit {0}) Failed). Sees (g.D.Disk.moment c.args.disk.now).state (g.D.Disk.moment c.write_page.new.disk).state (λ seen now. KeepsPages pages seen now × OnOk r (HoldsChain page_size now pages c.args.bytes.now))) (sym p.1)
+    (sees_on (g.D.Disk.moment c.args.disk.now).state (g.D.Disk.moment c.loop-i.disk).state (g.D.Disk.moment c.write_page.new.disk).state
     (WroteSoFar pages pieces i) (λ seen now. KeepsPages (page ∷ []) seen now × Unit {0}) (λ seen now. KeepsPages pages seen now × Unit {0})
     (λ x y z so_far more. (wrote_torn pages pieces i page x y z c.loop-i-test.true refl so_far more.0, tt))
     c.loop-i.invariant.writes.same c.loop-i.invariant.seen c.in_err-write_page.ensures.seen)
@@ -45,7 +45,7 @@ loop-i-preserved g c =
     let size : length c.loop-i.piece ≡ page_size = c.loop-i-test.array_long ∙ sym size_is in
     record {
       writes = writes_on pages _ _ _ _ _ _ _ _ _ before.writes (writes_more (page ∷ []) pages _ _ _ _ _ _ (λ number none. one_of pages i page number c.loop-i-test.true refl none) step.writes);
-      seen = sees_on (g.D.Disk.state c.args.disk.now) (g.D.Disk.state c.loop-i.disk) (g.D.Disk.state c.write_page.new.disk)
+      seen = sees_on (g.D.Disk.moment c.args.disk.now).state (g.D.Disk.moment c.loop-i.disk).state (g.D.Disk.moment c.write_page.new.disk).state
           (WroteSoFar pages pieces i) (λ seen now. KeepsPages (page ∷ []) seen now × (page_at page_size now page ≡ c.put_linked-rest.new.piece)) (WroteSoFar pages pieces (i + 1))
           (λ x y z so_far more. wrote_more pages pieces i page x y z c.requires.distinct (length-chain_piece pages c.args.bytes.now) c.loop-i-test.true refl so_far more.0
           (more.1 ∙ chain_piece_is (length c.loop-i.piece) i c.page_after.result c.put_linked-rest.new.piece c.loop-i.rest.now pages c.args.bytes.now size c.page_after.ensures c.put_linked-rest.ensures.piece before.rest))

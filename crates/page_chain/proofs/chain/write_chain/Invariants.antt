@@ -8,7 +8,7 @@ use Rattle.page_chain.proofs.chain.write_chain.Given as goal
 -- the first pages have their pieces, and no other page was written
 abbrev pub invariant-loop-i : goal.invariant-loop-i
 invariant-loop-i g l = record {
-  writes : OnlyWrites l.pages (g.D.Disk.state l.fn.disk) (g.D.Disk.state l.disk) (g.D.Disk.left_since l.fn.disk) (g.D.Disk.left_since l.disk) (g.D.Disk.may_leave l.fn.disk) (g.D.Disk.may_leave l.disk);
-  seen : Sees (g.D.Disk.state l.fn.disk) (g.D.Disk.state l.disk) (WroteSoFar l.pages (chain_piece page_size l.pages l.bytes) l.i);
+  writes : OnlyWrites l.pages (g.D.Disk.moment l.fn.disk) (g.D.Disk.moment l.disk);
+  seen : Sees (g.D.Disk.moment l.fn.disk).state (g.D.Disk.moment l.disk).state (WroteSoFar l.pages (chain_piece page_size l.pages l.bytes) l.i);
   rest : l.rest ≡ drop (l.i * content_size page_size) l.bytes;
 }

@@ -4,7 +4,7 @@ use Rattle.page_chain.proofs.WriteLemmas.{wrote_page, wrote_there}
 use Rattle.page_chain.proofs.page.write_page.Goals as goal
 
 pub returns-clause-seen : goal.returns-clause-seen
-returns-clause-seen g c = wrote_page c.args.page (c.args.page * 4096) c.args.piece.now (g.D.Disk.state c.args.disk.now) (g.D.Disk.state c.write_at.new.self) c.write_at.result (omega arith) c.requires c.write_at.ensures.written
+returns-clause-seen g c = wrote_page c.args.page (c.args.page * 4096) c.args.piece.now (g.D.Disk.moment c.args.disk.now).state (g.D.Disk.moment c.write_at.new.self).state c.write_at.result (omega arith) c.requires c.write_at.ensures.written
 
 pub returns-clause-writes : goal.returns-clause-writes
 returns-clause-writes g c =

@@ -8,7 +8,7 @@ use Rattle.page_init.proofs.making.lay.Goals as goal
 pub returns-in-Ok-write_at-2-clause-laid : goal.returns-in-Ok-write_at-2-clause-laid
 unfolding laid
 returns-in-Ok-write_at-2-clause-laid g c =
-    lays_on (g.D.Disk.state c.args.disk.now) (g.D.Disk.state c.write_at-2.new.self) (g.D.Disk.state c.write_at-3.new.self) (λ (x : List ℕ). written 0 head_bytes (written 12287 (0 ∷ []) x)) (λ (x : List ℕ). written 520 c.args.body.now x)
-    (goes_twice (g.D.Disk.state c.args.disk.now) (g.D.Disk.state c.write_at.new.self) (g.D.Disk.state c.write_at-2.new.self) c.in-Ok.ensures.same c.in-Ok-write_at.ensures.same)
-    (lays_on (g.D.Disk.state c.args.disk.now) (g.D.Disk.state c.write_at.new.self) (g.D.Disk.state c.write_at-2.new.self) (λ (x : List ℕ). written 12287 (0 ∷ []) x) (λ (x : List ℕ). written 0 head_bytes x) c.in-Ok.ensures.same c.in-Ok.ensures.written c.in-Ok-write_at.ensures.written)
-    (subst (λ (at : ℕ). Lays (λ (x : List ℕ). written at c.args.body.now x) (g.D.Disk.state c.write_at-2.new.self) (g.D.Disk.state c.write_at-3.new.self)) c.body.ensures c.in-Ok-write_at-2.ensures.written)
+    lays_on (g.D.Disk.moment c.args.disk.now).state (g.D.Disk.moment c.write_at-2.new.self).state (g.D.Disk.moment c.write_at-3.new.self).state (λ (x : List ℕ). written 0 head_bytes (written 12287 (0 ∷ []) x)) (λ (x : List ℕ). written 520 c.args.body.now x)
+    (goes_twice (g.D.Disk.moment c.args.disk.now).state (g.D.Disk.moment c.write_at.new.self).state (g.D.Disk.moment c.write_at-2.new.self).state c.in-Ok.ensures.same c.in-Ok-write_at.ensures.same)
+    (lays_on (g.D.Disk.moment c.args.disk.now).state (g.D.Disk.moment c.write_at.new.self).state (g.D.Disk.moment c.write_at-2.new.self).state (λ (x : List ℕ). written 12287 (0 ∷ []) x) (λ (x : List ℕ). written 0 head_bytes x) c.in-Ok.ensures.same c.in-Ok.ensures.written c.in-Ok-write_at.ensures.written)
+    (subst (λ (at : ℕ). Lays (λ (x : List ℕ). written at c.args.body.now x) (g.D.Disk.moment c.write_at-2.new.self).state (g.D.Disk.moment c.write_at-3.new.self).state) c.body.ensures c.in-Ok-write_at-2.ensures.written)

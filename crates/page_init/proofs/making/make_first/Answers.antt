@@ -8,8 +8,8 @@ use Rattle.page_init.proofs.making.make_first.Goals as goal
 
 pub returns-in-Ok-clause-made : goal.returns-in-Ok-clause-made
 returns-in-Ok-clause-made g c = λ honest.
-    if_some (g.D.Disk.state c.args.disk.now).seen
-    (λ (seen : List ℕ). ((g.D.Disk.state c.make.new.disk).seen ≡ Some (made c.root_body.result seen)) × Only (made c.root_body.result seen) (g.D.Disk.may_leave c.make.new.disk))
-    (λ (seen : List ℕ). length seen ≡ 0 → (x : List ℕ) × ((g.D.Disk.state c.make.new.disk).seen ≡ Some x) × IsEmptyDatabase x × Only x (g.D.Disk.may_leave c.make.new.disk))
+    if_some (g.D.Disk.moment c.args.disk.now).state.seen
+    (λ (seen : List ℕ). ((g.D.Disk.moment c.make.new.disk).state.seen ≡ Some (made c.root_body.result seen)) × Only (made c.root_body.result seen) (g.D.Disk.moment c.make.new.disk).may_leave)
+    (λ (seen : List ℕ). length seen ≡ 0 → (x : List ℕ) × ((g.D.Disk.moment c.make.new.disk).state.seen ≡ Some x) × IsEmptyDatabase x × Only x (g.D.Disk.moment c.make.new.disk).may_leave)
     (λ seen is. λ none. (made c.root_body.result seen, is.0, database_made c.root_body.result seen c.root_body.ensures.size c.root_body.ensures.reads none, is.1))
     (c.in-Ok.ensures.made honest)
