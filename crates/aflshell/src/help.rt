@@ -10,8 +10,16 @@ usage: aflshell try
   try        answers the statements of standard input on standard output,
              over an empty database
 
-A statement is an AFL query or change, and ends with ';'.
-The exit status is 0 where each statement was accepted.
+A statement is an AFL query. A ';' stands between statements, and the last one
+needs none. Changes and listings, as store(..) and list(..), are read, and
+answered 'error: not built'. Types are int64, string and bool.
+
+The exit status is
+  0  where each statement was answered,
+  1  where some statement was refused,
+  2  where the words have no form,
+  4  where standard input or output failed,
+  5  where memory ran out.
 ";
 
 const VERSION: &str = "aflshell 0.1.0\n";
