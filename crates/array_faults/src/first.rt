@@ -1,6 +1,7 @@
 //! The least fault of chunks, whose cells don't stand in row-major order.
-ghost use Rattle.std.specs.Prelude.{◌≡◌, ◌<◌, length, Some, None};
+ghost use Rattle.std.specs.Prelude.{◌≡◌, ◌<◌, [], length, slice_index_or, Some, None};
 ghost use Rattle.std.specs.List.{AllByRecursion, flat_map};
+ghost use Rattle.cell_values.specs.declared.datum.Cell.TheVariants.{Full};
 ghost use Rattle.array_rows.specs.Arrays.{Meant};
 ghost use Rattle.array_rows.specs.Rows.{placed};
 ghost use Rattle.array_geom.specs.Geometry.{coordinate_in, volume};
@@ -10,9 +11,9 @@ ghost use Rattle.array_parts.specs.Placed.{HasPlaces, IsSound};
 ghost use Rattle.logical_plan.specs.Faults.{fault_of};
 ghost use Rattle.array_faults.specs.Least.{fault_at, least_from, sooner};
 
-use crate::cell_faults::fault_in;
 use array_geom::{Chunk, ChunkedArray, Grid, grid_of};
-use cell_values::{Broken, Cell, Margins, Schema, copy_coord};
+use cell_columns::Cells;
+use cell_values::{Broken, Margins, Schema, copy_coord};
 use std::cmp::Ordering;
 
 /// The fault that comes first in row-major order.
@@ -30,12 +31,20 @@ fn sooner(least: Option<Broken>, fault: Broken) -> Option<Broken>
 }
 
 /// The least of a fault and that of a cell at a position.
-fn with_cell(grid: &Grid, position: u64, cell: &Cell, least: Option<Broken>) -> Option<Broken>
+#[tactic(auto, using(crate::proofs::Steps::same_fault))]
+fn with_cell(
+    grid: &Grid,
+    position: u64,
+    cells: &Cells,
+    place: usize,
+    least: Option<Broken>,
+) -> Option<Broken>
     requires grid { IsGrid grid.now }
     requires inside { position < volume grid.now.lengths.items }
-    ensures { result ≡ sooner least (fault_at (placed (coordinate_in grid.now.low.items grid.now.lengths.items position) cell.now)) }
+    requires place { place < length cells.now }
+    ensures { result ≡ sooner least (fault_at (placed (coordinate_in grid.now.low.items grid.now.lengths.items position) (slice_index_or cells.now place (Full [])))) }
 {
-    match fault_in(cell) {
+    match cells.fault(place) {
         None => least,
         Some(kind) => sooner(
             least,
@@ -51,7 +60,7 @@ fn with_cell(grid: &Grid, position: u64, cell: &Cell, least: Option<Broken>) -> 
 fn with_cells(
     grid: &Grid,
     positions: &[u64],
-    cells: &[Cell],
+    cells: &Cells,
     first: Option<Broken>,
 ) -> Option<Broken>
     requires grid { IsGrid grid.now }
@@ -60,8 +69,8 @@ fn with_cells(
     ensures { result ≡ least_from first (rows_in grid.now.low.items grid.now.lengths.items positions.now cells.now) }
 {
     let mut least = first;
-    for (i, cell) in cells.iter().enumerate() {
-        least = with_cell(grid, positions[i], cell, least);
+    for i in 0..positions.len() {
+        least = with_cell(grid, positions[i], cells, i, least);
     }
     least
 }
@@ -77,12 +86,7 @@ fn with_chunk(
     ensures { result ≡ least_from least (chunk_rows schema.now.dimensions margins.now.items chunk.now) }
 {
     let grid = grid_of(schema, margins, &chunk.at);
-    with_cells(
-        &grid,
-        chunk.positions.as_slice(),
-        chunk.cells.as_slice(),
-        least,
-    )
+    with_cells(&grid, chunk.positions.as_slice(), &chunk.cells, least)
 }
 
 fn least_fault(schema: &Schema, margins: &Margins, chunks: &[Chunk]) -> Option<Broken>

@@ -1,7 +1,6 @@
 //! The first fault of an array in chunks.
 #![tactic(auto)]
 
-mod cell_faults;
 mod first;
 
 pub use first::first_fault;

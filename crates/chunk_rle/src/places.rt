@@ -7,11 +7,11 @@ ghost use Rattle.array_geom.specs.Ranges.{IsGrid};
 ghost use Rattle.chunk_rle.specs.Frames.{all_from, any_from, frame_in, frame_of};
 ghost use Rattle.chunk_rle.specs.Ready.{IsReady, LiesWithin};
 
-use array_geom::{Boxes, Grid, core_box, frame, grid_of};
-use cell_values::{Bounds, ChunkAt, Coord, Dimension, Margins, Schema};
+use array_geom::{Boxes, Grid, core_box, frame, grid_of, margins_of};
+use cell_values::{Bounds, ChunkAt, Coord, Dimension, Schema};
 
 /// The frame of a chunk, and the boxes that its positions are looked up in.
-#[derive(Debug, Drop)]
+#[derive(Drop)]
 pub struct Places {
     pub volume: u64,
     pub grid: Grid,
@@ -43,17 +43,6 @@ fn high_of(dims: &[Dimension]) -> Coord
     high
 }
 
-fn overlaps_of(dims: &[Dimension]) -> Margins
-    requires { length dims.now ≤ 6 }
-    ensures { result.items ≡ overlaps dims.now }
-{
-    let mut overlaps = Margins::new();
-    for d in dims {
-        overlaps.push(d.overlap);
-    }
-    overlaps
-}
-
 fn bounds(schema: &Schema) -> Bounds
     requires { IsValid schema.now }
     ensures { result ≡ bounds_of schema.now.dimensions }
@@ -72,8 +61,7 @@ fn grid(schema: &Schema, at: &ChunkAt) -> Grid
     ensures lengths { result.lengths.items ≡ frame_lengths schema.now.dimensions (overlaps schema.now.dimensions) }
     ensures grid { IsGrid result }
 {
-    let dims = schema.dimensions.as_slice();
-    let margins = overlaps_of(dims);
+    let margins = margins_of(schema);
     grid_of(schema, &margins, at)
 }
 
@@ -89,8 +77,7 @@ fn lies_within(schema: &Schema, at: &ChunkAt, area: &Bounds) -> bool
     requires core { IsTrue (has_core schema.now.dimensions at.now.items) }
     ensures { IsTrue result → LiesWithin schema.now at.now.items area.now }
 {
-    let dims = schema.dimensions.as_slice();
-    let margins = overlaps_of(dims);
+    let margins = margins_of(schema);
     let frame = frame(schema, &margins, at);
     holds_corners(area, &frame)
 }

@@ -10,20 +10,20 @@ pub struct PosRun {
 }
 
 /// One value at so many positions.
-#[derive(Debug, Drop)]
+#[derive(Drop)]
 pub struct Run {
     pub length: u64,
     pub value: Datum,
 }
 
 /// The values of an attribute.
-#[derive(Debug, Drop)]
+#[derive(Drop)]
 pub struct Column {
     pub runs: List<Run>,
 }
 
 /// The positions of a chunk, and the values of each attribute.
-#[derive(Debug, Drop)]
+#[derive(Drop)]
 pub struct ChunkRuns {
     pub positions: List<PosRun>,
     pub columns: List<Column>,

@@ -6,20 +6,9 @@ ghost use Rattle.array_rows.specs.Boxes.{bounds_of};
 ghost use Rattle.array_geom.specs.Geometry.{overlaps};
 ghost use Rattle.array_geom.specs.Link.{Is};
 
-use array_geom::ChunkedArray;
-use cell_values::{Bounds, Broken, Coord, Dimension, List, Margins, Memory, Row, Schema};
+use array_geom::{ChunkedArray, margins_of};
+use cell_values::{Bounds, Broken, Coord, Dimension, List, Memory, Row, Schema};
 use chunk_cells::{assemble, broken_array};
-
-fn overlaps_of(dims: &[Dimension]) -> Margins
-    requires { length dims.now ≤ 6 }
-    ensures { result.items ≡ overlaps dims.now }
-{
-    let mut overlaps = Margins::new();
-    for d in dims {
-        overlaps.push(d.overlap);
-    }
-    overlaps
-}
 
 fn bounds_within(dims: &[Dimension]) -> Bounds
     requires { length dims.now ≤ 6 }
@@ -35,7 +24,7 @@ fn bounds_within(dims: &[Dimension]) -> Bounds
 }
 
 /// All places of an array.
-#[tactic(auto, using(crate::proofs::MadeLaws::few_dimensions))]
+#[tactic(auto, using(array_geom::proofs::MarginLaws::few_dimensions))]
 pub(crate) fn bounds(schema: &Schema) -> Bounds
     requires { IsValid schema.now }
     ensures { result ≡ bounds_of schema.now.dimensions }
@@ -43,16 +32,8 @@ pub(crate) fn bounds(schema: &Schema) -> Bounds
     bounds_within(schema.dimensions.as_slice())
 }
 
-#[tactic(auto, using(crate::proofs::MadeLaws::few_dimensions))]
-fn margins_of(schema: &Schema) -> Margins
-    requires { IsValid schema.now }
-    ensures { result.items ≡ overlaps schema.now.dimensions }
-{
-    overlaps_of(schema.dimensions.as_slice())
-}
-
 /// The array that has these rows, with its overlaps as margins.
-#[tactic(auto, using(crate::proofs::MadeLaws::overlap_each, crate::proofs::MadeLaws::overlap_places))]
+#[tactic(auto, using(array_geom::proofs::MarginLaws::overlap_each, array_geom::proofs::MarginLaws::overlap_places))]
 pub(crate) fn built(schema: &Schema, rows: &List<Row>) -> Result<ChunkedArray, Memory>
     requires { AreRowsOf schema.now rows.now }
     ensures array { IfOk result (λ array. Is array (record { schema = schema.now; rows = Good rows.now })) }
@@ -63,7 +44,7 @@ pub(crate) fn built(schema: &Schema, rows: &List<Row>) -> Result<ChunkedArray, M
 }
 
 /// An array that could not be computed.
-#[tactic(auto, using(crate::proofs::MadeLaws::overlap_each))]
+#[tactic(auto, using(array_geom::proofs::MarginLaws::overlap_each))]
 pub(crate) fn broken_part(schema: &Schema, broken: &Broken) -> Result<ChunkedArray, Memory>
     requires { IsValid schema.now }
     ensures array { IfOk result (λ array. Is array (record { schema = schema.now; rows = Bad broken.now })) }

@@ -18,4 +18,4 @@ pub use leaves::reads;
 pub use names::{NameEntry, Names};
 pub use parts::{AggFunction, Aggregate, Applied, Fixed, Leaf, Pair, Reach};
 pub use plan::{Plan, PlanNode, let_go};
-pub use schema::schema_of;
+pub use schema::{schema_of, schema_of_part, schema_of_slice};

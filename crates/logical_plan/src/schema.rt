@@ -35,7 +35,8 @@ fn projection(source: Schema, places: &List<u32>) -> Result<Schema, Memory>
     })
 }
 
-fn part(source: Schema, area: &Bounds) -> Result<Schema, Memory>
+/// The schema of the part of an array in a box.
+pub fn schema_of_part(source: Schema, area: &Bounds) -> Result<Schema, Memory>
     ensures { IfOk result (λ schema. schema ≡ subarray_schema area.now source) }
 {
     let mut parts = source.dimensions.another();
@@ -51,7 +52,8 @@ fn part(source: Schema, area: &Bounds) -> Result<Schema, Memory>
     })
 }
 
-fn slice(source: Schema, fixed: &List<Fixed>) -> Result<Schema, Memory>
+/// The schema of a slice of an array.
+pub fn schema_of_slice(source: Schema, fixed: &List<Fixed>) -> Result<Schema, Memory>
     ensures { IfOk result (λ schema. schema ≡ slice_schema fixed.now source) }
 {
     Ok(Schema {
@@ -107,8 +109,8 @@ fn schema_within(alloc: Global, plan: &Plan) -> Result<Schema, Memory>
         PlanNode::Filter(source, _) | PlanNode::Between(source, _) => schema_within(alloc, source),
         PlanNode::Apply(source, values) => with_applied(schema_within(alloc, source)?, values),
         PlanNode::Project(source, places) => projection(schema_within(alloc, source)?, places),
-        PlanNode::Subarray(source, area) => part(schema_within(alloc, source)?, area),
-        PlanNode::Slice(source, fixed) => slice(schema_within(alloc, source)?, fixed),
+        PlanNode::Subarray(source, area) => schema_of_part(schema_within(alloc, source)?, area),
+        PlanNode::Slice(source, fixed) => schema_of_slice(schema_within(alloc, source)?, fixed),
         PlanNode::Regrid(source, sizes, aggregates) => {
             regrid(schema_within(alloc, source)?, sizes, aggregates)
         }

@@ -4,18 +4,8 @@ ghost use Rattle.std.specs.List.{list_any};
 ghost use Rattle.array_rows.specs.Boxes.{moved};
 ghost use Rattle.logical_plan.specs.BoxOps.{fixed_places, has_fixed, items_but, slice_rows};
 
-use cell_values::{Coord, List, Memory, Row};
+use cell_values::{Coord, List, Memory, Row, number_at};
 use logical_plan::Fixed;
-
-/// The number in a place of a coordinate, 0 where there is none.
-fn number_at(at: &Coord, place: usize) -> i64
-    ensures { result ≡ slice_index_or at.now.items place (pos 0) }
-{
-    match at.as_slice().get(place) {
-        Some(number) => *number,
-        None => 0,
-    }
-}
 
 fn has_fixed(at: &Coord, fixed: &[Fixed]) -> bool
     ensures { result ≡ has_fixed fixed.now at.now.items }
