@@ -1,13 +1,12 @@
 -- What was read is what is known.
-use Rattle.std.proofs.Common.{◌≡◌, ◌≢◌, ◌<◌, ◌≤◌, ℕ, ◌+◌, ◌*◌, List, length, slice_index, false, Option, Some, None, IfSome, refl, sym, ◌∙◌, ap, subst, arith}
+use Rattle.std.proofs.Common.{ℕ, List, length, Option, None, refl, sym, subst, arith}
 use Rattle.afl_outside.specs.Disk.{Only}
-use Rattle.page_layout.specs.Places.{other, SameBut}
-use Rattle.page_layout.specs.Roots.{current}
+use Rattle.page_layout.specs.Places.{other}
 use Rattle.page_layout.specs.Opens.{HasLog, OpensAs}
 use Rattle.page_layout.specs.declared.sides.Format.{Format}
 use Rattle.page_layout.specs.declared.sides.Format.TheVariants.{One, Two}
 use Rattle.page_layout.specs.declared.logs.RecordAt.{RecordAt}
-use Rattle.page_slots.specs.Standing.{OtherHolds, LogHolds, Holds, ZeroHolds, IsAlone, IsStillRoot, IsStillEntry, IsSound, filled_root, filled_gate}
+use Rattle.page_slots.specs.Standing.{OtherHolds, LogHolds, Holds, ZeroHolds, IsAlone, IsStillRoot, IsStillEntry, IsSound, filled_gate}
 use Rattle.page_slots.specs.declared.slots.Slots.{Slots}
 use Rattle.page_slots.specs.declared.slots.RootSlot.{RootSlot}
 use Rattle.page_slots.specs.declared.slots.RootSlot.TheVariants as roots

@@ -1,10 +1,10 @@
 -- A page that was read.
-use Rattle.std.proofs.Common.{◌≡◌, ◌<◌, ◌≤◌, ◌⊎◌, inl, inr, ⊎_elim, ℕ, ◌+◌, ◌*◌, ◌-◌, min, List, length, take, drop, slice_index, ◌==◌, Bool, true, false, MatchBool, Option, IfSome, refl, sym, ◌∙◌, ap, subst, arith}
+use Rattle.std.proofs.Common.{◌≡◌, inr, ⊎_elim, ℕ, ◌+◌, ◌*◌, List, length, take, drop, slice_index, ◌==◌, Bool, false, MatchBool, Option, IfSome, sym, ◌∙◌, ap, subst, arith}
 use Rattle.std.proofs.lemmas.List.{get_or-take, get_or-drop}
 use Rattle.std.proofs.lemmas.Bool.{cases_eq}
 use Rattle.std.proofs.lemmas.Bool.Decides.{nat_tests}
 use Rattle.afl_outside.proofs.Moments.{moment_at}
-use Rattle.afl_outside.specs.Disk.{ReadsAt, LeavesOnly, DiskState}
+use Rattle.afl_outside.specs.Disk.{ReadsAt, DiskState}
 use Rattle.page_slots.specs.Puts.{OnlySyncs}
 use Rattle.page_slots.proofs.PutLemmas.{goes_twice, if_some}
 use Rattle.page_open.specs.Opened.{HasPage, CutsPage}

@@ -1,10 +1,10 @@
 -- From a page that was read to the file.
-use Rattle.std.proofs.Common.{◌≡◌, ◌≢◌, ◌<◌, ◌≤◌, ◌⊎◌, inl, inr, ⊎_elim, ℕ, ◌+◌, ◌*◌, List, [], length, slice_index, nat_le, ◌==◌, ◌&&◌, ◌||◌, if◌then◌else◌, Bool, true, false, MatchBool, Option, Some, None, IfSome, IfOk, Result, Ok, Err, refl, sym, ◌∙◌, ap, subst, arith}
+use Rattle.std.proofs.Common.{◌≡◌, ◌≢◌, ◌<◌, ◌≤◌, inl, inr, ℕ, ◌+◌, ◌*◌, List, length, slice_index, nat_le, ◌==◌, ◌&&◌, ◌||◌, if◌then◌else◌, Bool, true, false, MatchBool, Option, Some, None, IfSome, IfOk, Result, Ok, Err, refl, sym, ◌∙◌, ap, subst, arith}
 use Rattle.std.proofs.lemmas.Bool.Decides.{nat_tests}
 use Rattle.afl_outside.specs.Disk.{DiskState, Only}
-use Rattle.page_layout.specs.Places.{number_at, gate_of, body_of, other, IsPage}
-use Rattle.page_layout.specs.Roots.{has_front, root_at, slot_in, newer, current, text_number}
-use Rattle.page_layout.specs.Logs.{IsLog, HasStray}
+use Rattle.page_layout.specs.Places.{number_at, gate_of, body_of, other}
+use Rattle.page_layout.specs.Roots.{has_front, slot_in, newer, current, text_number}
+use Rattle.page_layout.specs.Logs.{HasStray}
 use Rattle.page_layout.specs.Opens.{OpensAs}
 use Rattle.page_layout.specs.declared.sides.Side.{Side}
 use Rattle.page_layout.specs.declared.sides.Side.TheVariants.{A, B}

@@ -1,12 +1,12 @@
 -- What opening a file answers.
-use Rattle.std.specs.Prelude.{◌≡◌, ℕ, ◌+◌, ◌*◌, ◌<◌, ◌≤◌, ◌⊎◌, List, [], length, slice_index, false, Some, None, Result, Ok, Err}
+use Rattle.std.specs.Prelude.{◌≡◌, ℕ, ◌+◌, ◌*◌, ◌<◌, ◌≤◌, ◌⊎◌, List, length, slice_index, false, Some, None, Result, Ok, Err}
 use Rattle.afl_outside.specs.Counts.{Rose}
 use Rattle.afl_outside.specs.Disk.{DiskState}
 use Rattle.page_layout.specs.Places.{other, IsPage}
 use Rattle.page_layout.specs.Roots.{current}
 use Rattle.page_layout.specs.Logs.{IsLog, HasStray}
 use Rattle.page_layout.specs.Opens.{HasLog, OpensAs, WrongAt}
-use Rattle.page_layout.specs.declared.sides.Format.TheVariants.{One, Two}
+use Rattle.page_layout.specs.declared.sides.Format.TheVariants.{Two}
 use Rattle.page_layout.specs.declared.roots.OpenRoot.{OpenRoot}
 use Rattle.page_layout.specs.declared.logs.RecordAt.{RecordAt}
 use Rattle.page_slots.specs.Standing.{OtherHolds}

@@ -1,9 +1,9 @@
 -- From what a write does to a disk's bytes to what the call does to the slots.
-use Rattle.std.proofs.Common.{◌≡◌, ℕ, List, length, IsTrue, Option, Some, None, IfSome, sym, ◌∙◌, subst}
+use Rattle.std.proofs.Common.{◌≡◌, ℕ, List, IsTrue, Option, Some, None, IfSome, subst}
 use Rattle.afl_outside.proofs.Moments.{moment_at, seeing, stated}
-use Rattle.afl_outside.specs.Disk.{DiskState, Follows, LeavesOnly, Only, Torn, written}
+use Rattle.afl_outside.specs.Disk.{DiskState, LeavesOnly, Only, Torn, written}
 use Rattle.page_slots.specs.Puts.{Over, OnlyPuts, OnlySyncs}
-use Rattle.page_slots.specs.Standing.{IsSound, MayOpen, KeepsSound, LeavesOpening, IsDurable}
+use Rattle.page_slots.specs.Standing.{IsSound, MayOpen, KeepsSound, LeavesOpening}
 use Rattle.page_slots.specs.declared.slots.Slots.{Slots}
 use Rattle.page_slots.proofs.PutLemmas.{if_some_with, wider}
 

@@ -1,9 +1,8 @@
 -- What an image that holds what is known opens as.
-use Rattle.std.proofs.Common.{◌≡◌, ◌≢◌, ◌<◌, ◌≤◌, ◌⊎◌, inl, inr, ⊎_elim, ℕ, ◌+◌, ◌*◌, List, [], ◌∷◌, ◌++◌, length, slice_index, true, Some, None, refl, sym, ◌∙◌, ap, subst, arith}
+use Rattle.std.proofs.Common.{◌≡◌, ◌<◌, ◌≤◌, ◌⊎◌, inl, inr, ⊎_elim, ℕ, ◌+◌, ◌*◌, List, [], ◌∷◌, ◌++◌, length, slice_index, true, Some, refl, sym, ◌∙◌, ap, subst, arith}
 use Rattle.std.proofs.lemmas.Bool.{cases_eq, cases_lt}
-use Rattle.page_layout.specs.Places.{gate_of, body_of, other, IsPage}
-use Rattle.page_layout.specs.Roots.{has_front, root_at, slot_in, opened, current}
-use Rattle.page_layout.specs.Logs.{record_at, IsLog}
+use Rattle.page_layout.specs.Places.{gate_of, body_of, other}
+use Rattle.page_layout.specs.Roots.{has_front, root_at, slot_in, current}
 use Rattle.page_layout.specs.Opens.{HasLog, OpensAs}
 use Rattle.page_layout.specs.declared.sides.Side.{Side}
 use Rattle.page_layout.specs.declared.sides.Format.{Format}
@@ -11,7 +10,7 @@ use Rattle.page_layout.specs.declared.sides.Format.TheVariants.{One, Two}
 use Rattle.page_layout.specs.declared.roots.Root.{Root}
 use Rattle.page_layout.specs.declared.roots.OpenRoot.{OpenRoot}
 use Rattle.page_layout.specs.declared.logs.RecordAt.{RecordAt}
-use Rattle.page_slots.specs.Standing.{IsZeroed, OtherHolds, NextHolds, PageHolds, LogHolds, Holds, root_in, OpensAsRoot, OpensWith, MayOpen}
+use Rattle.page_slots.specs.Standing.{IsZeroed, OtherHolds, LogHolds, Holds, root_in, OpensAsRoot, OpensWith, MayOpen}
 use Rattle.page_slots.specs.declared.slots.Slots.{Slots}
 use Rattle.page_slots.specs.declared.slots.RootSlot.{RootSlot}
 use Rattle.page_slots.specs.declared.slots.RootSlot.TheVariants as roots

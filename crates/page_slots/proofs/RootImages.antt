@@ -1,9 +1,9 @@
 -- What images hold of page 0, before a write and after it.
-use Rattle.std.proofs.Common.{◌≡◌, ◌≢◌, ◌<◌, ◌≤◌, ◌⊎◌, inl, inr, ⊎_elim, ℕ, ◌+◌, ◌*◌, List, length, slice_index, true, Option, Some, None, refl, sym, ◌∙◌, ap, subst, arith}
+use Rattle.std.proofs.Common.{◌≡◌, ◌≢◌, ◌<◌, ◌≤◌, ◌⊎◌, inl, inr, ⊎_elim, ℕ, ◌+◌, ◌*◌, List, length, slice_index, true, Some, None, refl, sym, ◌∙◌, ap, subst, arith}
 use Rattle.std.proofs.lemmas.Bool.{cases_eq}
 use Rattle.std.proofs.lemmas.Bool.Decides.{nat_tests}
 use Rattle.page_layout.specs.Places.{gate_of, body_of, other, SameBut}
-use Rattle.page_layout.specs.Roots.{has_front, root_at, slot_in, opened, newer, current}
+use Rattle.page_layout.specs.Roots.{has_front, root_at, slot_in, opened, current}
 use Rattle.page_layout.specs.declared.sides.Side.{Side}
 use Rattle.page_layout.specs.declared.sides.Side.TheVariants.{A, B}
 use Rattle.page_layout.specs.declared.sides.Format.{Format}

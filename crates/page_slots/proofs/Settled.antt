@@ -1,7 +1,7 @@
 -- A sync alone.
 use Rattle.std.proofs.Common.{◌≡◌, ℕ, List, Bool, true, false, Option, Some, None, IfSome, refl, sym, subst}
-use Rattle.page_layout.specs.Places.{other, SameBut}
-use Rattle.page_slots.specs.Standing.{Holds, RootsHold, OtherHolds, LogHolds, IsSound, IsShut, IsShutRoot, IsShutEntry, IsAlone, IsStillRoot, IsStillEntry, ZeroHolds, filled_gate, MayOpen}
+use Rattle.page_layout.specs.Places.{SameBut}
+use Rattle.page_slots.specs.Standing.{IsSound, IsShut, IsShutRoot, IsShutEntry, IsAlone, IsStillRoot, IsStillEntry, filled_gate, MayOpen}
 use Rattle.page_slots.specs.Steps.{shut_root, shut_entry, shut}
 use Rattle.page_slots.specs.declared.slots.Slots.{Slots}
 use Rattle.page_slots.specs.declared.slots.RootSlot.{RootSlot}

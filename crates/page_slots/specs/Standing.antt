@@ -2,7 +2,7 @@
 use Rattle.std.specs.Prelude.{◌≡◌, ◌≢◌, ℕ, ◌+◌, ◌*◌, ◌<◌, ◌≤◌, ◌⊎◌, List, [], ◌∷◌, ◌++◌, length, slice_index, slice_index_or, IsTrue, true, false, Option, Some, None, IfSome}
 use Rattle.afl_outside.specs.Disk.{LeavesOnly, Moment, Only}
 use Rattle.page_layout.specs.Places.{gate_of, body_of, other, IsPage, SameBut}
-use Rattle.page_layout.specs.Roots.{has_front, root_at, slot_in, opened}
+use Rattle.page_layout.specs.Roots.{has_front, root_at, slot_in}
 use Rattle.page_layout.specs.Logs.{record_at}
 use Rattle.page_layout.specs.Opens.{OpensAs}
 use Rattle.page_layout.specs.declared.sides.Side.{Side}

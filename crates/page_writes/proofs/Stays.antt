@@ -1,6 +1,5 @@
 -- Pages that aren't page 0 or the log page were written: the slots stay sound.
-use Rattle.std.proofs.Common.{◌≡◌, ◌<◌, ◌≤◌, ℕ, ◌+◌, ◌-◌, ◌*◌, true, false, List, length, slice_index, IsTrue, Option, Some, None, IfSome, refl, sym, ◌∙◌, ap, subst, arith}
-use Rattle.std.specs.Prelude.{OnOk, Result, Ok, Err}
+use Rattle.std.proofs.Common.{◌≡◌, ◌<◌, ◌≤◌, ℕ, ◌+◌, ◌-◌, ◌*◌, true, false, List, length, slice_index, Option, Some, None, IfSome, sym, ◌∙◌, ap, subst, arith}
 use Rattle.std.proofs.lemmas.Bool.Decides.{nat_tests}
 use Rattle.afl_outside.proofs.Moments.{moment_at, seeing, stated}
 use Rattle.afl_outside.specs.Disk.{DiskState, Follows, LeavesOnly}
@@ -10,13 +9,12 @@ use Rattle.page_layout.specs.declared.sides.Format.{Format}
 use Rattle.page_layout.specs.declared.sides.Format.TheVariants.{One, Two}
 use Rattle.page_layout.specs.declared.logs.RecordAt.{RecordAt}
 use Rattle.page_chain.specs.Runs.{Over, OnlyWrites, Sees}
-use Rattle.page_slots.specs.Standing.{Holds, LogHolds, IsClosed, IsSound, IsAlone, IsStillRoot, IsStillEntry, ZeroHolds, filled_gate, entry_gate, KeepsSound, LeavesOpening, MayOpen}
+use Rattle.page_slots.specs.Standing.{Holds, LogHolds, IsClosed, IsSound, IsAlone, IsStillRoot, ZeroHolds, filled_gate, entry_gate, KeepsSound, LeavesOpening, MayOpen}
 use Rattle.page_slots.specs.Steps.{emptied_root, emptied_entry, emptied}
 use Rattle.page_slots.specs.declared.slots.Slots.{Slots}
 use Rattle.page_slots.specs.declared.slots.NextEntry.{NextEntry}
 use Rattle.page_slots.specs.declared.slots.Target.{Target}
 use Rattle.page_slots.specs.declared.slots.Target.TheVariants as targets
-use Rattle.page_layout.specs.Places.{gate_of}
 use Rattle.page_slots.proofs.RootImages.{roots_kept}
 use Rattle.page_slots.proofs.LogImages.{page_kept}
 use Rattle.page_slots.proofs.Opening.{may_open}

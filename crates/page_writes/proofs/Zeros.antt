@@ -1,13 +1,13 @@
 -- The page that was written as zeros.
-use Rattle.std.proofs.Common.{◌≡◌, ◌≢◌, ◌<◌, ◌≤◌, ◌⊎◌, ⊎_elim, ℕ, zero, suc, ◌+◌, ◌-◌, ◌*◌, min, Bool, true, false, List, [], ◌∷◌, ◌++◌, length, take, drop, replicate, slice_index, get_or, Option, Some, None, IfSome, refl, sym, ◌∙◌, ap, subst, arith, length-append, length-drop}
+use Rattle.std.proofs.Common.{◌≡◌, ◌≢◌, ◌<◌, ◌≤◌, ⊎_elim, ℕ, zero, suc, ◌+◌, ◌-◌, ◌*◌, Bool, true, false, List, [], ◌∷◌, length, take, drop, replicate, slice_index, Option, Some, None, IfSome, refl, sym, ◌∙◌, ap, subst, arith, length-drop}
 use Rattle.std.specs.Prelude.{nat_eq, if◌then◌else◌}
 use Rattle.std.specs.List.{list_all, list_any}
-use Rattle.std.proofs.lemmas.List.{get_or-take, get_or-drop, get_or_append_left, get_or-append_right, get_or-replicate, length-take, length-replicate}
+use Rattle.std.proofs.lemmas.List.{get_or-take, get_or-drop, get_or_append_left, get_or-append_right, get_or-replicate, length-take}
 use Rattle.std.proofs.lemmas.List.Folds.{list_any_at, list_all_at}
 use Rattle.std.proofs.lemmas.Bool.{cases_eq, cases_lt}
 use Rattle.std.proofs.lemmas.Bool.Decides.{nat_tests}
-use Rattle.page_layout.specs.Places.{IsNone, IsPage, KeepsPages}
-use Rattle.page_chain.specs.Pages.{page_size, page_at, padded, piece_of, HoldsBlob}
+use Rattle.page_layout.specs.Places.{IsNone, KeepsPages}
+use Rattle.page_chain.specs.Pages.{page_size, page_at, piece_of, HoldsBlob}
 use Rattle.page_chain.proofs.Kept.{size_is}
 use Rattle.page_chain.proofs.WriteLemmas.{length-piece}
 use Rattle.page_slots.specs.Standing.{IsZeroed}

@@ -1,5 +1,5 @@
 -- What writes of pages make of the slots.
-use Rattle.std.specs.Prelude.{◌≡◌, ℕ, nat_eq, if◌then◌else◌, List, [], ◌∷◌, Option, Some, None}
+use Rattle.std.specs.Prelude.{ℕ, nat_eq, if◌then◌else◌, List, [], ◌∷◌, Option, Some, None}
 use Rattle.std.specs.List.{list_all, list_any}
 use Rattle.page_layout.specs.Places.{IsNone}
 use Rattle.page_chain.specs.Pages.{AreDistinct}

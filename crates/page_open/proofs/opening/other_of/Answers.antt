@@ -1,4 +1,4 @@
-use Rattle.std.proofs.Common.{◌≡◌, ℕ, slice_index, sym, ◌∙◌, ap}
+use Rattle.std.proofs.Common.{◌≡◌, slice_index, sym, ◌∙◌, ap}
 use Rattle.page_layout.specs.Places.{gate_of, other}
 use Rattle.page_layout.specs.declared.sides.Side.{Side}
 use Rattle.page_open.proofs.Fronts.{older_one, older_two, other_shut}

@@ -1,12 +1,7 @@
-use Rattle.std.proofs.Common.{◌≡◌, ℕ, List, [], ◌∷◌, length, true, refl, sym, subst, ◌∙◌, ◌+◌, ap, arith}
-use Rattle.page_layout.specs.Places.{gate_of, body_of, other}
-use Rattle.page_layout.specs.declared.sides.Side.{Side}
+use Rattle.std.proofs.Common.{◌≡◌, ℕ, [], ◌∷◌, length, true, refl, sym, subst}
 use Rattle.afl_outside.specs.Disk.{written}
 use Rattle.page_slots.specs.declared.slots.Slots.{Slots}
 use Rattle.page_slots.specs.Standing.{entry_gate, IsSound}
-use Rattle.page_slots.specs.Steps.{shut, with_root, with_record}
-use Rattle.page_slots.specs.declared.slots.RootSlot.TheVariants as roots
-use Rattle.page_slots.specs.declared.slots.NextEntry.TheVariants as entries
 use Rattle.page_slots.proofs.Lifts.{done_at, failed_at, puts_at, sound_done, sound_failed, always_opens}
 use Rattle.page_slots.proofs.EntryCommits.{close_done, close_failed, close_opens}
 use Rattle.page_slots.proofs.commits.close_entry.Goals as goal

@@ -1,7 +1,6 @@
 use Rattle.std.proofs.Common.{true, sym, subst}
 use Rattle.page_slots.specs.Standing.{IsSound}
 use Rattle.page_slots.specs.declared.slots.Slots.{Slots}
-use Rattle.page_slots.specs.Steps.{shut}
 use Rattle.page_slots.proofs.Lifts.{sound_synced, synced_opens}
 use Rattle.page_slots.proofs.Settled.{settle_done, settle_failed, settle_opens}
 use Rattle.page_slots.proofs.commits.close_settled.Goals as goal

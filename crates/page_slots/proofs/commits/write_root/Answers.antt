@@ -1,5 +1,4 @@
-use Rattle.std.proofs.Common.{◌≡◌, ℕ, List, length, refl, ◌∙◌, ap}
-use Rattle.afl_outside.specs.Disk.{Only, Torn, written}
+use Rattle.std.proofs.Common.{◌≡◌, length, refl, ◌∙◌, ap}
 use Rattle.page_layout.specs.Places.{body_of, other}
 use Rattle.page_layout.specs.declared.sides.Side.{Side}
 use Rattle.page_slots.specs.declared.slots.RootSlot.TheVariants as roots

@@ -1,4 +1,3 @@
-use Rattle.std.proofs.Common.{ℕ, List}
 use Rattle.page_layout.specs.Places.{KeepsPages}
 use Rattle.page_writes.proofs.Stays.{pages_sound, blob_sound, writes_opens}
 use Rattle.page_writes.proofs.writes.write_blob.Goals as goal
