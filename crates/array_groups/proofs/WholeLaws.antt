@@ -49,13 +49,6 @@ means_broken schema_of rows_of array schema broken e b =
 pub stands_for : (r : Result ChunkedArray Memory) (a b : Meant) → a ≡ b → IfOk r (λ made. Is made a) → IfOk r (λ made. Is made b)
 stands_for r a b e h = subst (λ (m : Meant). IfOk r (λ made. Is made m)) e h
 
-each_of : (dims : List Dimension) → length (overlaps dims) ≡ length dims
-each_of [] = refl
-each_of (d ∷ dims) = ap suc (each_of dims)
-
-pub overlap_each : (schema : Schema) (margins : List ℕ) → margins ≡ overlaps schema.dimensions → length margins ≡ length schema.dimensions
-overlap_each schema margins same = ap length same ∙ each_of schema.dimensions
-
 pub of_cores : (array : ChunkedArray) (rows : List Row) → rows ≡ cores_of array → HaveCells array.schema array.margins.items array.chunks → AreRowsOf array.schema rows
 of_cores array rows e h = subst (AreRowsOf array.schema) (sym e) (cores_are_rows array.schema array.margins.items array.chunks h)
 

@@ -8,10 +8,10 @@ ghost use Rattle.logical_plan.specs.PlanSchema.{aggregate_schema};
 ghost use Rattle.logical_plan.specs.Typing.{are_aggregates_of, are_below};
 ghost use Rattle.array_groups.specs.Meant.{aggregate_meant};
 
-use array_geom::ChunkedArray;
+use array_geom::{ChunkedArray, margins_of};
 use cell_values::{Memory, Schema};
 use chunk_cells::broken_array;
-use exec_group::{aggregate_groups, margins_of, rows_of_cores, told_array};
+use exec_group::{aggregate_groups, rows_of_cores, told_array};
 use logical_plan::Aggregate;
 
 /// The aggregates of an array that is not broken.
@@ -37,7 +37,7 @@ fn of_whole(
 
 /// The aggregates of the cells that agree in the named dimensions, of all cells without names: an array of the target. What the
 /// array's margins hold doesn't matter.
-#[tactic(auto, using(crate::proofs::WholeLaws::overlap_each))]
+#[tactic(auto, using(array_geom::proofs::MarginLaws::overlap_each))]
 pub fn aggregate(
     array: ChunkedArray,
     aggs: &[Aggregate],

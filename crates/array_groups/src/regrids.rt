@@ -8,10 +8,10 @@ ghost use Rattle.logical_plan.specs.PlanSchema.{regrid_schema};
 ghost use Rattle.logical_plan.specs.Typing.{are_aggregates_of};
 ghost use Rattle.array_groups.specs.Meant.{regrid_meant};
 
-use array_geom::ChunkedArray;
+use array_geom::{ChunkedArray, margins_of};
 use cell_values::{Memory, Schema};
 use chunk_cells::broken_array;
-use exec_group::{margins_of, regrid_groups, rows_of_cores, told_array};
+use exec_group::{regrid_groups, rows_of_cores, told_array};
 use logical_plan::Aggregate;
 
 /// The aggregates by blocks of an array that is not broken.
@@ -36,7 +36,7 @@ fn of_blocks(
 }
 
 /// The aggregates of the cells of each block: an array of the target. What the array's margins hold doesn't matter.
-#[tactic(auto, using(crate::proofs::WholeLaws::overlap_each))]
+#[tactic(auto, using(array_geom::proofs::MarginLaws::overlap_each))]
 pub fn regrid(
     array: ChunkedArray,
     blocks: &[u64],

@@ -25,25 +25,6 @@ use Rattle.logical_plan.specs.Faults.{if_whole, and_then}
 use Rattle.logical_plan.specs.Joins.{join_rows}
 use Rattle.logical_plan.specs.Meaning.{made_of_two}
 
-pub few_dimensions : (schema : Schema) (dims : List Dimension) → dims ≡ schema.dimensions → IsValid schema → length dims ≤ 6
-few_dimensions schema dims same valid = let few = (valid_placed schema valid).few in subst (λ (ds : List Dimension). length ds ≤ 6) (sym same) few
-
-each_of : (dims : List Dimension) → length (overlaps dims) ≡ length dims
-each_of [] = refl
-each_of (d ∷ dims) = ap suc (each_of dims)
-
-pub overlap_each : (schema : Schema) (margins : List ℕ) → margins ≡ overlaps schema.dimensions → length margins ≡ length schema.dimensions
-overlap_each schema margins same = ap length same ∙ each_of schema.dimensions
-
-pub overlap_places : (schema : Schema) (margins : List ℕ) → margins ≡ overlaps schema.dimensions → IsValid schema → volume (frame_lengths schema.dimensions margins) ≤ 2 ^ 48
-overlap_places schema margins same valid =
-    let dims = schema.dimensions in
-    let a = and_parts (has_attributes schema.attributes && has_dimensions dims && are_distinct (names_of schema) && list_all is_dimension dims) (frame_fits dims) valid in
-    let small : frame_size dims ≤ 281474976710656 = at_most (frame_size dims) 281474976710656 a.1 in
-    let size : frame_size dims ≡ volume (frame_lengths dims (overlaps dims)) = size_is_volume dims in
-    let few : volume (frame_lengths dims (overlaps dims)) ≤ 2 ^ 48 = omega arith in
-    subst (λ (ms : List ℕ). volume (frame_lengths dims ms) ≤ 2 ^ 48) (sym same) few
-
 pub rise_in_cores : (schema : Schema) (margins : List ℕ) (chunks : List Chunk) → HaveCells schema margins chunks → CoresRise schema.dimensions margins chunks
 rise_in_cores schema margins chunks h = each chunks h.rows_of
   where

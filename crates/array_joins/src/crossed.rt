@@ -8,15 +8,15 @@ ghost use Rattle.logical_plan.specs.PlanSchema.{cross_schema};
 ghost use Rattle.logical_plan.specs.Typing.{pairs_dimensions};
 ghost use Rattle.array_joins.specs.Meant.{cross_meant};
 
-use crate::building::{margins_of, rows_of};
-use array_geom::ChunkedArray;
+use crate::building::rows_of;
+use array_geom::{ChunkedArray, margins_of};
 use cell_values::{Memory, Schema};
 use chunk_cells::{assemble, broken_array};
 use logical_plan::Pair;
 use row_joins::cross_of_rows;
 
 /// The cross join of two arrays of which none is broken.
-#[tactic(auto, using(crate::proofs::MadeLaws::overlap_each, crate::proofs::MadeLaws::overlap_places))]
+#[tactic(auto, using(array_geom::proofs::MarginLaws::overlap_each, array_geom::proofs::MarginLaws::overlap_places))]
 fn of_whole(
     left: ChunkedArray,
     right: ChunkedArray,
@@ -40,7 +40,7 @@ fn of_whole(
 }
 
 /// The cross join of two arrays of which the left one is not broken.
-#[tactic(auto, using(crate::proofs::MadeLaws::overlap_each))]
+#[tactic(auto, using(array_geom::proofs::MarginLaws::overlap_each))]
 fn with_right(
     left: ChunkedArray,
     right: ChunkedArray,
@@ -65,7 +65,7 @@ fn with_right(
 /// The cells of two arrays side by side for each two whose coordinates agree in the paired dimensions, in chunks of this schema, which
 /// is that of their cross join. What the margins of the two hold doesn't matter. Takes time for a sort of the right cells, a search for
 /// each left cell and the result.
-#[tactic(auto, using(crate::proofs::MadeLaws::overlap_each))]
+#[tactic(auto, using(array_geom::proofs::MarginLaws::overlap_each))]
 pub fn cross_join(
     left: ChunkedArray,
     right: ChunkedArray,

@@ -7,14 +7,14 @@ ghost use Rattle.array_geom.specs.Link.{Is};
 ghost use Rattle.logical_plan.specs.PlanSchema.{join_schema};
 ghost use Rattle.array_joins.specs.Meant.{join_meant};
 
-use crate::building::{margins_of, rows_of};
-use array_geom::ChunkedArray;
+use crate::building::rows_of;
+use array_geom::{ChunkedArray, margins_of};
 use cell_values::{Memory, Schema};
 use chunk_cells::{assemble, broken_array};
 use row_joins::join_of_rows;
 
 /// The join of two arrays of which none is broken.
-#[tactic(auto, using(crate::proofs::MadeLaws::overlap_each, crate::proofs::MadeLaws::overlap_places))]
+#[tactic(auto, using(array_geom::proofs::MarginLaws::overlap_each, array_geom::proofs::MarginLaws::overlap_places))]
 fn of_whole(
     left: ChunkedArray,
     right: ChunkedArray,
@@ -36,7 +36,7 @@ fn of_whole(
 }
 
 /// The join of two arrays of which the left one is not broken.
-#[tactic(auto, using(crate::proofs::MadeLaws::overlap_each))]
+#[tactic(auto, using(array_geom::proofs::MarginLaws::overlap_each))]
 fn with_right(
     left: ChunkedArray,
     right: ChunkedArray,
@@ -58,7 +58,7 @@ fn with_right(
 
 /// The cells of two arrays side by side at each coordinate where both have one, in chunks of this schema, which is that of their
 /// join. What the margins of the two hold doesn't matter.
-#[tactic(auto, using(crate::proofs::MadeLaws::overlap_each))]
+#[tactic(auto, using(array_geom::proofs::MarginLaws::overlap_each))]
 pub fn join(
     left: ChunkedArray,
     right: ChunkedArray,

@@ -25,7 +25,6 @@ use Rattle.logical_plan.specs.Groups.{aggregate_of, cells_of, window, window_cel
 use Rattle.logical_plan.specs.PlanSchema.{aggregate_kind, window_schema}
 use Rattle.logical_plan.specs.Typing.{is_aggregate_of, are_aggregates_of, are_windows_of, kinds_of, window_size, reached_size}
 use Rattle.exec_group.proofs.KindLaws.{aggregate_has_kind, kinds_for}
-use Rattle.exec_group.proofs.PartLaws as parts
 use Rattle.array_groups.proofs.InsideLaws.{kinds_told}
 use Rattle.window_overlap.specs.Reaches.{AreShort, HaveLowPlaces, CanAggregate}
 use Rattle.window_overlap.proofs.PartLaws.{low_places}
@@ -119,9 +118,3 @@ low_rows schema rows are = low_places schema.dimensions rows (valid_placed schem
 
 abbrev pub can_aggregate : (schema : Schema) (gs : List Aggregate) (rows : List Row) → AreRowsOf schema rows → IsTrue (are_aggregates_of schema.attributes gs) → CanAggregate gs rows
 can_aggregate schema gs rows are typed = record { attributes = schema.attributes; typed = typed; cells = are.kinds }
-
-pub overlap_each : (schema : Schema) (margins : List ℕ) → margins ≡ overlaps schema.dimensions → length margins ≡ length schema.dimensions
-overlap_each = parts.overlap_each
-
-pub overlap_places : (schema : Schema) (margins : List ℕ) → margins ≡ overlaps schema.dimensions → IsValid schema → volume (frame_lengths schema.dimensions margins) ≤ 2 ^ 48
-overlap_places = parts.overlap_places

@@ -8,15 +8,15 @@ ghost use Rattle.logical_plan.specs.PlanSchema.{window_schema};
 ghost use Rattle.logical_plan.specs.Typing.{are_aggregates_of, are_windows_of};
 ghost use Rattle.array_windows.specs.Meant.{window_meant};
 
-use array_geom::ChunkedArray;
+use array_geom::{ChunkedArray, margins_of};
 use cell_values::{Memory, Schema};
 use chunk_cells::{assemble, broken_array};
-use exec_group::{margins_of, rows_of_cores};
+use exec_group::rows_of_cores;
 use logical_plan::{Aggregate, Reach};
 use window_overlap::windows_of_rows;
 
 /// The windows of an array that is not broken.
-#[tactic(auto, using(crate::proofs::WindowLaws::overlap_each, crate::proofs::WindowLaws::overlap_places))]
+#[tactic(auto, using(array_geom::proofs::MarginLaws::overlap_each, array_geom::proofs::MarginLaws::overlap_places))]
 fn of_whole(
     array: ChunkedArray,
     reach: &[Reach],
@@ -40,7 +40,7 @@ fn of_whole(
 
 /// The aggregates of the cells in the window around each cell: an array of the target. A cell in doubt stays one. What the array's
 /// margins hold doesn't matter.
-#[tactic(auto, using(crate::proofs::WindowLaws::overlap_each))]
+#[tactic(auto, using(array_geom::proofs::MarginLaws::overlap_each))]
 pub fn window(
     array: ChunkedArray,
     reach: &[Reach],

@@ -1,5 +1,5 @@
 //! An array in the chunks of another schema.
-ghost use Rattle.std.specs.Prelude.{◌≡◌, ◌+◌, ◌≤◌, ◌++◌, length, map, IfOk};
+ghost use Rattle.std.specs.Prelude.{◌≡◌, map, IfOk};
 ghost use Rattle.cell_values.specs.Schemas.{IsValid};
 ghost use Rattle.array_rows.specs.Arrays.{Meant};
 ghost use Rattle.array_rows.specs.Boxes.{bounds_of};
@@ -9,33 +9,9 @@ ghost use Rattle.chunk_cells.specs.Whole.{IsArray};
 ghost use Rattle.chunk_fit.specs.Fitted.{fitted};
 
 use crate::values::fit_rows;
-use array_geom::ChunkedArray;
-use cell_values::{Dimension, Margins, Memory, Schema};
+use array_geom::{ChunkedArray, margins_of};
+use cell_values::{Memory, Schema};
 use chunk_cells::{assemble, broken_array, rows};
-
-fn push_overlaps(margins: &mut Margins, dims: &[Dimension])
-    requires { length margins.old.items + length dims.now ≤ 6 }
-    ensures { margins.new.items ≡ margins.old.items ++ overlaps dims.now }
-{
-    match dims {
-        [] => {}
-        [d, dims @ ..] => {
-            margins.push(d.overlap);
-            push_overlaps(margins, dims);
-        }
-    }
-}
-
-/// The margins with which the chunks of a schema are stored.
-fn overlaps_of(schema: &Schema) -> Margins
-    requires { IsValid schema.now }
-    ensures { result.items ≡ overlaps schema.now.dimensions }
-{
-    let dims = schema.dimensions.as_slice();
-    let mut margins = Margins::new();
-    push_overlaps(&mut margins, dims);
-    margins
-}
 
 /// The same array with the schema, in its chunks and with its overlaps. A null in an attribute that is to have none becomes a fault.
 pub fn fit(array: &ChunkedArray, schema: &Schema) -> Result<ChunkedArray, Memory>
@@ -46,7 +22,7 @@ pub fn fit(array: &ChunkedArray, schema: &Schema) -> Result<ChunkedArray, Memory
     ensures array { (meant : Meant) → Is array.now meant → IfOk result (λ made. Is made (fitted schema.now meant)) }
     ensures margins { IfOk result (λ made. made.margins.items ≡ overlaps schema.now.dimensions) }
 {
-    let margins = overlaps_of(schema);
+    let margins = margins_of(schema);
     match &array.broken {
         Some(broken) => broken_array(schema, &margins, broken),
         None => {

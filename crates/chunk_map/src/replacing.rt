@@ -1,19 +1,12 @@
 //! Directories in which entries are replaced.
 ghost use Rattle.std.specs.Prelude.{◌≡◌, ◌<◌, ◌+◌, ◌++◌, ◌↔◌, List as Items, length, IsTrue, OnOk, IfOk};
-ghost use Rattle.array_geom.specs.Link.{number_order};
 ghost use Rattle.chunk_map.specs.declared.directory.DirEntry.{DirEntry as AnEntry};
 ghost use Rattle.chunk_map.specs.Entries.{AreRising};
 ghost use Rattle.chunk_map.specs.Replacing.{AreReplaced, AreMoved};
 
 use crate::{DirEntry, Directory};
-use cell_values::{ChunkAt, List, Memory};
+use cell_values::{List, Memory, compare_numbers};
 use std::cmp::Ordering;
-
-fn order_of(a: &ChunkAt, b: &ChunkAt) -> Ordering
-    ensures { result ≡ number_order a.now.items b.now.items }
-{
-    a.as_slice().cmp(b.as_slice())
-}
 
 /// Adds the next entry of the two. Of two for one chunk the fresh one is added.
 fn move_next<'a>(
@@ -26,7 +19,7 @@ fn move_next<'a>(
     ensures moved { (f o : Items AnEntry) → AreMoved f o new.old fresh.now old.now → IfOk result (λ left. AreMoved f o new.new left.0.now left.1.now) }
     ensures fewer { IfOk result (λ left. length left.0.now + length left.1.now < length fresh.now + length old.now) }
 {
-    match order_of(&fresh[0].at, &old[0].at) {
+    match compare_numbers(&fresh[0].at, &old[0].at) {
         Ordering::Less => {
             new.push(fresh[0].copy()?)?;
             Ok((&fresh[1..], old))

@@ -19,9 +19,6 @@ use Rattle.logical_plan.specs.declared.parts.Leaf.{Leaf}
 use Rattle.logical_plan.specs.Meaning.{Database, version_rows, whole}
 use Rattle.chunk_source.specs.Source.{numbers_of, IsStored, HasArray}
 
-pub few_dimensions : (schema : Schema) → IsValid schema → length schema.dimensions ≤ 6
-few_dimensions schema valid = (valid_placed schema valid).few
-
 pub each_overlap : (dims : List Dimension) → length (overlaps dims) ≡ length dims
 each_overlap [] = refl
 each_overlap (d ∷ dims) = ap suc (each_overlap dims)

@@ -1,5 +1,5 @@
 //! The arrays of leaves.
-ghost use Rattle.std.specs.Prelude.{◌≡◌, ◌+◌, ◌≤◌, ◌++◌, None, map, length, IfOk, OnOk, IfSome, IsTrue};
+ghost use Rattle.std.specs.Prelude.{◌≡◌, ◌++◌, None, map, IfOk, OnOk, IfSome, IsTrue};
 ghost use Rattle.std.specs.List.{AllByRecursion, AllZip};
 ghost use Rattle.cell_values.specs.Schemas.{IsValid};
 ghost use Rattle.array_geom.specs.Chunks.{IsChunk};
@@ -11,8 +11,8 @@ ghost use Rattle.chunk_source.specs.Source.{Reads, listed, is_among, IsStored, K
 ghost use Rattle.chunk_read.specs.Faults.{Answers};
 
 use crate::ExecFault;
-use array_geom::{Chunk, ChunkedArray};
-use cell_values::{ChunkAt, Dimension, List, Margins, Schema};
+use array_geom::{Chunk, ChunkedArray, margins_of};
+use cell_values::{ChunkAt, List};
 use chunk_source::ChunkSource;
 use logical_plan::Leaf;
 
@@ -39,30 +39,6 @@ fn read_chunks<S: ChunkSource>(
     Ok(read)
 }
 
-fn push_overlaps(margins: &mut Margins, dims: &[Dimension])
-    requires room { length margins.old.items + length dims.now ≤ 6 }
-    ensures { margins.new.items ≡ margins.old.items ++ overlaps dims.now }
-{
-    match dims {
-        [] => {}
-        [d, dims @ ..] => {
-            margins.push(d.overlap);
-            push_overlaps(margins, dims);
-        }
-    }
-}
-
-/// The overlaps of a schema, as margins.
-#[tactic(auto, using(crate::proofs::LeafLaws::few_dimensions))]
-pub fn overlaps_of(schema: &Schema) -> Margins
-    requires { IsValid schema.now }
-    ensures { result.items ≡ overlaps schema.now.dimensions }
-{
-    let mut margins = Margins::new();
-    push_overlaps(&mut margins, schema.dimensions.as_slice());
-    margins
-}
-
 /// The array of a leaf, which has this number in its plan: each of its chunks is asked for once. The margins are the overlaps.
 pub fn read_leaf<S: ChunkSource>(
     source: &mut S,
@@ -86,7 +62,7 @@ pub fn read_leaf<S: ChunkSource>(
     let chunks = read_chunks(source, number, leaf, listed.as_slice())?;
     Ok(ChunkedArray {
         schema: leaf.schema.copy()?,
-        margins: overlaps_of(&leaf.schema),
+        margins: margins_of(&leaf.schema),
         chunks,
         broken: None,
     })

@@ -5,4 +5,4 @@ mod fault;
 mod leaf;
 
 pub use fault::ExecFault;
-pub use leaf::{overlaps_of, read_leaf};
+pub use leaf::read_leaf;

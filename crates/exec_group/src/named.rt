@@ -3,17 +3,7 @@ ghost use Rattle.std.specs.Prelude.{◌≡◌, ◌≤◌, pos, length, slice_ind
 ghost use Rattle.logical_plan.specs.BoxOps.{numbers_at};
 ghost use Rattle.group_parts.specs.Sets.{AreKeys};
 
-use cell_values::{Coord, List, Memory, Row};
-
-/// The number in a place of a coordinate, 0 where there is none.
-fn number_at(at: &Coord, place: u32) -> i64
-    ensures { result ≡ slice_index_or at.now.items place (pos 0) }
-{
-    match at.as_slice().get(place as usize) {
-        Some(number) => *number,
-        None => 0,
-    }
-}
+use cell_values::{Coord, List, Memory, Row, number_at};
 
 /// The numbers of a coordinate in these dimensions.
 fn named_key(dims: &[u32], at: &Coord) -> Coord
@@ -22,7 +12,7 @@ fn named_key(dims: &[u32], at: &Coord) -> Coord
 {
     let mut key = Coord::new();
     for place in dims {
-        key.push(number_at(at, *place));
+        key.push(number_at(at, *place as usize));
     }
     key
 }

@@ -1,5 +1,5 @@
 //! The cells of an array in other chunks.
-ghost use Rattle.std.specs.Prelude.{◌≡◌, ◌≤◌, length, IfOk};
+ghost use Rattle.std.specs.Prelude.{◌≡◌, IfOk};
 ghost use Rattle.cell_values.specs.Schemas.{IsValid};
 ghost use Rattle.array_rows.specs.Arrays.{Meant};
 ghost use Rattle.array_rows.specs.Boxes.{bounds_of};
@@ -8,33 +8,13 @@ ghost use Rattle.array_geom.specs.Link.{Is};
 ghost use Rattle.chunk_cells.specs.Whole.{IsArray};
 ghost use Rattle.exec_join.specs.Reparted.{reparted};
 
-use array_geom::ChunkedArray;
-use cell_values::{Dimension, Margins, Memory, Schema};
+use array_geom::{ChunkedArray, margins_of};
+use cell_values::{Memory, Schema};
 use chunk_cells::{assemble, broken_array, rows};
-
-fn overlaps_of(dims: &[Dimension]) -> Margins
-    requires { length dims.now ≤ 6 }
-    ensures { result.items ≡ overlaps dims.now }
-{
-    let mut overlaps = Margins::new();
-    for d in dims {
-        overlaps.push(d.overlap);
-    }
-    overlaps
-}
-
-/// The margins with which the chunks of a schema are stored.
-#[tactic(auto, using(crate::proofs::RepartLaws::few_dimensions))]
-fn margins_of(schema: &Schema) -> Margins
-    requires { IsValid schema.now }
-    ensures { result.items ≡ overlaps schema.now.dimensions }
-{
-    overlaps_of(schema.dimensions.as_slice())
-}
 
 /// The same cells in the chunks of a schema and with its overlaps. Its attributes and its bounds are those of the array; the names
 /// of its dimensions, its chunks and its overlaps may be others. What is broken stays broken.
-#[tactic(auto, using(crate::proofs::RepartLaws::overlap_each, crate::proofs::RepartLaws::overlap_places))]
+#[tactic(auto, using(array_geom::proofs::MarginLaws::overlap_each, array_geom::proofs::MarginLaws::overlap_places))]
 pub fn repart(array: &ChunkedArray, schema: &Schema) -> Result<ChunkedArray, Memory>
     requires array { IsArray array.now }
     requires valid { IsValid schema.now }

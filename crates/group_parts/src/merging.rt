@@ -1,7 +1,6 @@
 //! Groups of two parts, put together.
 ghost use Rattle.std.specs.Prelude.{◌≡◌, ◌+◌, ◌^◌, ◌<◌, ◌≤◌, ◌++◌, ◌∷◌, [], ◌↔◌, List as Items, length, take, drop, IsTrue, OnOk, IfOk};
 ghost use Rattle.logical_plan.specs.declared.parts.Aggregate.{Aggregate};
-ghost use Rattle.array_rows.specs.Rows.{row_major};
 ghost use Rattle.group_parts.specs.Counts.{cells_of, cells_in};
 ghost use Rattle.group_parts.specs.Grouped.{AreGroupsOf, AreInOrder};
 ghost use Rattle.group_parts.specs.Merged.{AreBothOf, AreMerged, IsMove, IsSamePlace};
@@ -9,7 +8,7 @@ ghost use Rattle.group_parts.specs.Sets.{Sets, both_sets, AreApartSets};
 
 use crate::groups::{Group, Groups};
 use agg_states::AggState;
-use cell_values::{Coord, List, Memory};
+use cell_values::{List, Memory, row_major};
 use std::cmp::Ordering;
 use std::collections::VecDeque;
 
@@ -45,12 +44,6 @@ fn merge_group(left: Group, right: Group) -> Result<Group, Memory>
         at: left.at,
         states,
     })
-}
-
-fn order_of(a: &Coord, b: &Coord) -> Ordering
-    ensures { result ≡ row_major a.now.items b.now.items }
-{
-    a.as_slice().cmp(b.as_slice())
 }
 
 /// Moves the first group to the end of the merged ones.
@@ -99,7 +92,7 @@ fn move_next(
     ensures fewer { OnOk result (length left.new.items + length right.new.items < length left.old.items + length right.old.items) }
     ensures cells { OnOk result (cells_in merged.new + (cells_in left.new.items + cells_in right.new.items) ≤ cells_in merged.old + (cells_in left.old.items + cells_in right.old.items)) }
 {
-    match order_of(&left[0].at, &right[0].at) {
+    match row_major(&left[0].at, &right[0].at) {
         Ordering::Less => move_first(merged, left),
         Ordering::Greater => move_first(merged, right),
         Ordering::Equal => move_both(merged, left, right),

@@ -10,7 +10,7 @@ ghost use Rattle.mem_chunks.specs.Found.{IsStoredArray, array_of, numbers_in, Is
 
 use crate::leaf_array::{LeafArray, is_of};
 use array_geom::Chunk;
-use cell_values::{ChunkAt, List, Memory, copy_numbers};
+use cell_values::{ChunkAt, List, Memory, compare_numbers, copy_numbers};
 use logical_plan::Leaf;
 use std::alloc::Global;
 use std::cmp::Ordering;
@@ -35,7 +35,7 @@ fn numbers_of(alloc: Global, chunks: &[Chunk]) -> Result<List<ChunkAt>, Memory>
 fn order_of(chunk: &Chunk, at: &ChunkAt) -> Ordering
     ensures { result ≡ number_order chunk.now.at.items at.now.items }
 {
-    chunk.at.as_slice().cmp(at.as_slice())
+    compare_numbers(&chunk.at, at)
 }
 
 /// The chunk of a number, among chunks by their rising numbers.

@@ -15,7 +15,7 @@ use logical_plan::Plan;
 use std::alloc::Global;
 
 /// What a plan gives: its array's first fault, or else its schema and its rows.
-#[derive(Debug, Drop)]
+#[derive(Drop)]
 pub enum PlanRows {
     Fault(Broken),
     Rows(Schema, List<Row>),

@@ -27,22 +27,6 @@ use Rattle.redimension_exec.proofs.LandedLaws.{made_of, carried_are_rows}
 pub few_dimensions : (schema : Schema) → IsValid schema → length schema.dimensions ≤ 6
 few_dimensions schema valid = (valid_placed schema valid).few
 
-each_of : (dims : List Dimension) → length (overlaps dims) ≡ length dims
-each_of [] = refl
-each_of (d ∷ dims) = ap suc (each_of dims)
-
-pub overlap_each : (schema : Schema) (margins : List ℕ) → margins ≡ overlaps schema.dimensions → length margins ≡ length schema.dimensions
-overlap_each schema margins same = ap length same ∙ each_of schema.dimensions
-
-pub overlap_places : (schema : Schema) (margins : List ℕ) → margins ≡ overlaps schema.dimensions → IsValid schema → volume (frame_lengths schema.dimensions margins) ≤ 2 ^ 48
-overlap_places schema margins same valid =
-    let dims = schema.dimensions in
-    let a = and_parts (has_attributes schema.attributes && has_dimensions dims && are_distinct (names_of schema) && list_all is_dimension dims) (frame_fits dims) valid in
-    let small : frame_size dims ≤ 281474976710656 = at_most (frame_size dims) 281474976710656 a.1 in
-    let size : frame_size dims ≡ volume (frame_lengths dims (overlaps dims)) = size_is_volume dims in
-    let few : volume (frame_lengths dims (overlaps dims)) ≤ 2 ^ 48 = omega arith in
-    subst (λ (ms : List ℕ). volume (frame_lengths dims ms) ≤ 2 ^ 48) (sym same) few
-
 abbrev pub meant_of : Schema → Result (List Row) Broken → Meant
 meant_of schema rows = record { schema = schema; rows = rows }
 

@@ -6,14 +6,13 @@ ghost use Rattle.array_geom.specs.Geometry.{overlaps};
 ghost use Rattle.array_geom.specs.Link.{Is};
 ghost use Rattle.logical_plan.specs.CellOps.{fit_rows};
 
-use array_geom::ChunkedArray;
+use array_geom::{ChunkedArray, margins_of};
 use cell_values::{Broken, List, Memory, Row, Schema};
 use chunk_cells::{assemble, broken_array};
 use chunk_fit::fit_rows;
-use exec_group::margins_of;
 
 /// The rows as an array of the target, with a fault for each null that is not to be there.
-#[tactic(auto, using(crate::proofs::MeantLaws::overlap_each, crate::proofs::MeantLaws::overlap_places))]
+#[tactic(auto, using(array_geom::proofs::MarginLaws::overlap_each, array_geom::proofs::MarginLaws::overlap_places))]
 pub(crate) fn fitted_array(target: &Schema, rows: List<Row>) -> Result<ChunkedArray, Memory>
     requires { AreRowsOf target.now rows }
     ensures array { IfOk result (λ made. Is made (record { schema = target.now; rows = Good (fit_rows target.now.attributes rows) })) }
@@ -24,7 +23,7 @@ pub(crate) fn fitted_array(target: &Schema, rows: List<Row>) -> Result<ChunkedAr
 }
 
 /// An array of the target that could not be computed.
-#[tactic(auto, using(crate::proofs::MeantLaws::overlap_each))]
+#[tactic(auto, using(array_geom::proofs::MarginLaws::overlap_each))]
 pub(crate) fn broken_target(target: &Schema, broken: &Broken) -> Result<ChunkedArray, Memory>
     requires { IsValid target.now }
     ensures array { IfOk result (λ made. Is made (record { schema = target.now; rows = Bad broken.now })) }

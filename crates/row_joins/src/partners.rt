@@ -7,25 +7,14 @@ ghost use Rattle.array_rows.specs.Rows.{row_major};
 ghost use Rattle.logical_plan.specs.BoxOps.{items_but, numbers_at};
 ghost use Rattle.row_joins.specs.Partners.{against, has_paired, paired_of, partner};
 
-use crate::rows::order_of;
-use cell_values::{Cell, Coord, List, Memory, Row};
+use cell_values::{Cell, Coord, List, Memory, Row, number_at, row_major};
 
 /// A right row, with its numbers in the paired dimensions apart from the others.
-#[derive(Debug, Drop)]
+#[derive(Drop)]
 pub(crate) struct Partner {
     pub(crate) paired: Coord,
     pub(crate) others: Coord,
     pub(crate) cell: Cell,
-}
-
-/// The number in a place of a coordinate, 0 where there is none.
-fn number_at(at: &Coord, place: u32) -> i64
-    ensures { result ≡ slice_index_or at.now.items place (pos 0) }
-{
-    match at.as_slice().get(place as usize) {
-        Some(number) => *number,
-        None => 0,
-    }
 }
 
 /// The numbers of a coordinate in these dimensions.
@@ -35,7 +24,7 @@ pub(crate) fn numbers_at(places: &[u32], at: &Coord) -> Coord
 {
     let mut numbers = Coord::new();
     for place in places {
-        numbers.push(number_at(at, *place));
+        numbers.push(number_at(at, *place as usize));
     }
     numbers
 }
@@ -103,7 +92,7 @@ fn put_in_order(partners: &mut Vec<Partner>) -> Result<(), Memory>
     ensures sorted { OnOk result (IsSortedByKey paired_of row_major partners.new.items) }
     ensures stable { IsStableByKey paired_of row_major partners.old.items partners.new.items }
 {
-    partners.sort_by(|a, b| order_of(&a.paired, &b.paired))?;
+    partners.sort_by(|a, b| row_major(&a.paired, &b.paired))?;
     Ok(())
 }
 
@@ -125,7 +114,7 @@ fn count_below(partners: &[Partner], key: &Coord) -> usize
     ensures bound { result ≤ length partners.now }
     ensures point { IsPartitionPoint (λ p. is_lt (against key.now.items p) ≡ true) (λ p. is_lt (against key.now.items p) ≡ false) partners.now result }
 {
-    partners.partition_point(|partner| order_of(&partner.paired, key).is_lt())
+    partners.partition_point(|partner| row_major(&partner.paired, key).is_lt())
 }
 
 /// How many come before a left row's numbers, or have them.
@@ -134,7 +123,7 @@ fn count_through(partners: &[Partner], key: &Coord) -> usize
     ensures bound { result ≤ length partners.now }
     ensures point { IsPartitionPoint (λ p. is_le (against key.now.items p) ≡ true) (λ p. is_le (against key.now.items p) ≡ false) partners.now result }
 {
-    partners.partition_point(|partner| order_of(&partner.paired, key).is_le())
+    partners.partition_point(|partner| row_major(&partner.paired, key).is_le())
 }
 
 /// The partners that have these paired numbers, which stand one after another.

@@ -1,19 +1,13 @@
 //! Rows where two arrays have a cell.
 ghost use Rattle.std.specs.Prelude.{◌≡◌, ◌+◌, ◌<◌, ◌↔◌, drop, length, IsTrue, OnOk, IfOk};
-ghost use Rattle.array_rows.specs.Rows.{IsRising, row_major};
+ghost use Rattle.array_rows.specs.Rows.{IsRising};
 ghost use Rattle.logical_plan.specs.Joins.{join_rows};
 ghost use Rattle.row_joins.specs.Beside.{IsMove, IsSamePlace};
 
 use crate::beside::beside;
-use cell_values::{Coord, List, Memory, Row};
+use cell_values::{List, Memory, Row, row_major};
 use std::cmp::Ordering;
 use std::collections::VecDeque;
-
-pub(crate) fn order_of(a: &Coord, b: &Coord) -> Ordering
-    ensures { result ≡ row_major a.now.items b.now.items }
-{
-    a.as_slice().cmp(b.as_slice())
-}
 
 fn drop_first(rows: &mut VecDeque<Row>)
     ensures { rows.new.items ≡ drop 1 rows.old.items }
@@ -55,7 +49,7 @@ fn move_next(
     ensures moved { OnOk result (IsMove made.old left.old.items right.old.items made.new left.new.items right.new.items) }
     ensures fewer { OnOk result (length left.new.items + length right.new.items < length left.old.items + length right.old.items) }
 {
-    match order_of(&left[0].at, &right[0].at) {
+    match row_major(&left[0].at, &right[0].at) {
         Ordering::Less => {
             drop_first(left);
             Ok(())

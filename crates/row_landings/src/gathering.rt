@@ -12,7 +12,7 @@ use row_places::{Place, bounds_of, first_numbers, places_of_dimensions};
 use std::collections::VecDeque;
 
 /// Rows, and for each of them its target.
-#[derive(Debug, Drop)]
+#[derive(Drop)]
 pub struct Landings {
     pub targets: List<Coord>,
     pub rows: List<Row>,

@@ -10,17 +10,7 @@ ghost use Rattle.row_places.specs.Landings.{BeginsAs};
 ghost use Rattle.row_places.specs.Places.{origin};
 
 use crate::places::Place;
-use cell_values::{Cell, Coord, Datum, FaultKind, List, Memory, Row};
-
-/// The number in a place of a coordinate, 0 where there is none.
-fn number_at(at: &Coord, place: usize) -> i64
-    ensures { result ≡ slice_index_or at.now.items place (pos 0) }
-{
-    match at.as_slice().get(place) {
-        Some(number) => *number,
-        None => 0,
-    }
-}
+use cell_values::{Cell, Coord, Datum, FaultKind, List, Memory, Row, number_at};
 
 /// The value in a place, null where there is none.
 fn value_at<'a>(values: &'a [Datum], place: usize, null: &'a Datum) -> &'a Datum

@@ -11,7 +11,7 @@ use crate::skips::{count_inside, count_outside};
 use cell_values::{Bounds, List, Memory, Row};
 
 /// Rows from one place on, from 0, up to another.
-#[derive(Debug, Drop)]
+#[derive(Drop)]
 pub struct Run {
     pub start: usize,
     pub end: usize,

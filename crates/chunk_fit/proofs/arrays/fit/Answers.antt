@@ -28,7 +28,7 @@ assemble-requires-clause-rows c =
     (fitted_rows c.args.array.now.schema c.args.schema.now rows c.requires.valid c.requires.bounds c.requires.kinds held.rows_of)
 
 pub assemble-requires-clause-places : goal.assemble-requires-clause-places
-assemble-requires-clause-places c = stored_places c.args.schema.now c.overlaps_of-margins.result.items c.requires.valid c.overlaps_of-margins.ensures
+assemble-requires-clause-places c = stored_places c.args.schema.now c.margins_of-margins.result.items c.requires.valid c.margins_of-margins.ensures
 
 pub returns-in_ok-fitted-in-None-clause-array : goal.returns-in_ok-fitted-in-None-clause-array
 returns-in_ok-fitted-in-None-clause-array c = λ meant is.

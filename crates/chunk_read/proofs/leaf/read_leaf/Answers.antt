@@ -21,20 +21,20 @@ read_chunks-requires-clause-listed g c =
 pub returns-clause-placed : goal.returns-clause-placed
 returns-clause-placed g c =
     let schema = c.args.leaf.now.schema in
-    let places = have_places schema c.overlaps_of.result.items c.as_slice.result.now c.in_ok-chunks.chunks c.overlaps_of.ensures c.requires.valid c.in_ok-chunks.ensures.stored in
-    subst (λ (z : Schema). HavePlaces z c.overlaps_of.result.items c.in_ok-chunks.chunks) (sym c.in_ok-copy.ensures) places
+    let places = have_places schema c.margins_of.result.items c.as_slice.result.now c.in_ok-chunks.chunks c.margins_of.ensures c.requires.valid c.in_ok-chunks.ensures.stored in
+    subst (λ (z : Schema). HavePlaces z c.margins_of.result.items c.in_ok-chunks.chunks) (sym c.in_ok-copy.ensures) places
 
 pub returns-clause-valid : goal.returns-clause-valid
 returns-clause-valid g c =
     let schema = c.args.leaf.now.schema in
-    let valid = are_valid schema c.overlaps_of.result.items c.as_slice.result.now c.in_ok-chunks.chunks c.overlaps_of.ensures c.in_ok-chunks.ensures.stored in
-    subst (λ (z : Schema). AllByRecursion (IsChunk z c.overlaps_of.result.items) c.in_ok-chunks.chunks) (sym c.in_ok-copy.ensures) valid
+    let valid = are_valid schema c.margins_of.result.items c.as_slice.result.now c.in_ok-chunks.chunks c.margins_of.ensures c.in_ok-chunks.ensures.stored in
+    subst (λ (z : Schema). AllByRecursion (IsChunk z c.margins_of.result.items) c.in_ok-chunks.chunks) (sym c.in_ok-copy.ensures) valid
 
 pub returns-clause-told : goal.returns-clause-told
 returns-clause-told g c =
     let leaf = c.args.leaf.now in
     let dims = leaf.schema.dimensions in
-    let array : ChunkedArray = record { schema = c.in_ok-copy.field-0; margins = c.overlaps_of.result; chunks = c.in_ok-chunks.chunks; broken = None } in
+    let array : ChunkedArray = record { schema = c.in_ok-copy.field-0; margins = c.margins_of.result; chunks = c.in_ok-chunks.chunks; broken = None } in
     let stored = subst (λ (z : List (ArrayVec ℕ)). AllZip (IsStored leaf.schema) z c.in_ok-chunks.chunks) c.as_slice.ensures c.in_ok-chunks.ensures.stored in
     let parts = subst (λ (z : Option Database). IfSome z (λ db. AllByRecursion (IsPart dims (overlaps dims) (version_rows db leaf.name leaf.version)) c.in_ok-chunks.chunks)) c.in_ok-listed.ensures.kept.told c.in_ok-chunks.ensures.told in
-    is_told (g.S.ChunkSource.state c.args.source.now).told leaf array c.in_ok-listed.listed c.in_ok-copy.ensures c.overlaps_of.ensures refl c.requires.valid c.in_ok-listed.ensures.rising stored c.in_ok-listed.ensures.told parts
+    is_told (g.S.ChunkSource.state c.args.source.now).told leaf array c.in_ok-listed.listed c.in_ok-copy.ensures c.margins_of.ensures refl c.requires.valid c.in_ok-listed.ensures.rising stored c.in_ok-listed.ensures.told parts
