@@ -14,7 +14,7 @@ use query_types::{TypeFault, query_plan};
 use std::alloc::Global;
 
 /// A typed statement.
-#[derive(Debug, Drop)]
+#[derive(Drop)]
 pub enum Typed {
     Query(Plan),
     Change(Change),

@@ -19,7 +19,7 @@ use logical_plan::AggFunction;
 use std::marker::Model;
 
 /// What is known of a set of cells, so that an aggregate of them can be told.
-#[derive(Debug, Drop)]
+#[derive(Drop)]
 pub struct AggState {
     function: AggFunction,
     /// The fault that comes first in row-major order.

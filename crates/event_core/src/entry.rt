@@ -13,7 +13,7 @@ pub struct Used {
     pub catalogue: List<u32>,
 }
 
-#[derive(Debug, Drop)]
+#[derive(Drop)]
 pub enum Entry {
     /// A session begins to see what can be named now.
     Pin {

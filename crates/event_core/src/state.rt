@@ -13,7 +13,7 @@ pub struct VersionPages {
 }
 
 /// An open pin, with what could be named when it began.
-#[derive(Debug, Drop)]
+#[derive(Drop)]
 pub struct CorePin {
     pub session: u32,
     /// The number of entries before it.
@@ -22,7 +22,7 @@ pub struct CorePin {
     pub pages: List<VersionPages>,
 }
 
-#[derive(Debug, Drop)]
+#[derive(Drop)]
 pub struct Core {
     pub names: Names,
     /// The pages of the versions that can be named, in the order in which they came.

@@ -20,7 +20,7 @@ use std::alloc::Global;
 use type_rules::{TypeFault, broken};
 
 /// The parts of an `aggregate` besides its source.
-#[derive(Debug, Drop)]
+#[derive(Drop)]
 pub struct Groups {
     pub aggregates: List<Aggregate>,
     /// The places of the dimensions that are named, from 0.

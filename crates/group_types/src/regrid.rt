@@ -15,7 +15,7 @@ use std::alloc::Global;
 use type_rules::{TypeFault, broken};
 
 /// The parts of a `regrid` besides its source.
-#[derive(Debug, Drop)]
+#[derive(Drop)]
 pub struct Blocks {
     /// The places of a block along each dimension.
     pub sizes: List<u64>,

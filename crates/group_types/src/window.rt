@@ -22,7 +22,7 @@ const MAX_WINDOW: u64 = 16777216;
 const MAX_REACHED: u64 = 281474976710656;
 
 /// The parts of a `window` besides its source.
-#[derive(Debug, Drop)]
+#[derive(Drop)]
 pub struct Windows {
     /// How far a window reaches along each dimension.
     pub reach: List<Reach>,

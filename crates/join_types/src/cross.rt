@@ -19,7 +19,7 @@ use std::alloc::Global;
 use type_rules::{TypeFault, broken};
 
 /// The parts of a `cross_join` besides its sources.
-#[derive(Debug, Drop)]
+#[derive(Drop)]
 pub struct Crossed {
     pub pairs: List<Pair>,
     /// The schema of the result.

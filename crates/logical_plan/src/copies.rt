@@ -7,6 +7,14 @@ use crate::{Aggregate, Applied, Fixed, Leaf, Pair, Plan, PlanNode, Reach};
 use cell_values::{Bounds, Copies, List, Memory, Row, Schema};
 use expr_nulls::TypedExpr;
 
+/// Copies of two parts of a plan.
+fn both_copies<A: Copies + Drop, B: Copies + Drop>(a: &A, b: &B) -> Result<(A, B), Memory>
+    ensures { IfOk result (λ both. (both.0 ≡ a.now) × (both.1 ≡ b.now)) }
+{
+    let a = a.copy()?;
+    Ok((a, b.copy()?))
+}
+
 fn copy_build(schema: &Schema, value: &TypedExpr) -> Result<PlanNode, Memory>
     ensures { IfOk result (λ node. query_of node ≡ built schema.now value.now) }
 {
@@ -28,43 +36,86 @@ fn copy_scan(leaf: &Leaf) -> Result<PlanNode, Memory>
 fn filter_of(source: Box<Plan>, test: &TypedExpr) -> Result<PlanNode, Memory>
     ensures { IfOk result (λ node. query_of node ≡ filtered source.value test.now) }
 {
-    Ok(PlanNode::Filter(source, test.copy()?))
+    match test.copy() {
+        Ok(test) => Ok(PlanNode::Filter(source, test)),
+        Err(Memory) => {
+            drop(source);
+            Err(Memory)
+        }
+    }
 }
 
 fn apply_of(source: Box<Plan>, values: &List<Applied>) -> Result<PlanNode, Memory>
     ensures { IfOk result (λ node. query_of node ≡ applied source.value values.now) }
 {
-    Ok(PlanNode::Apply(source, values.copy()?))
+    match values.copy() {
+        Ok(values) => Ok(PlanNode::Apply(source, values)),
+        Err(Memory) => {
+            drop(source);
+            Err(Memory)
+        }
+    }
 }
 
 fn project_of(source: Box<Plan>, places: &List<u32>) -> Result<PlanNode, Memory>
     ensures { IfOk result (λ node. query_of node ≡ projected source.value places.now) }
 {
-    Ok(PlanNode::Project(source, places.copy()?))
+    match places.copy() {
+        Ok(places) => Ok(PlanNode::Project(source, places)),
+        Err(Memory) => {
+            drop(source);
+            Err(Memory)
+        }
+    }
 }
 
 fn between_of(source: Box<Plan>, area: &Bounds) -> Result<PlanNode, Memory>
     ensures { IfOk result (λ node. query_of node ≡ between source.value area.now) }
 {
-    Ok(PlanNode::Between(source, area.copy()?))
+    match area.copy() {
+        Ok(area) => Ok(PlanNode::Between(source, area)),
+        Err(Memory) => {
+            drop(source);
+            Err(Memory)
+        }
+    }
 }
 
 fn subarray_of(source: Box<Plan>, area: &Bounds) -> Result<PlanNode, Memory>
     ensures { IfOk result (λ node. query_of node ≡ subarray source.value area.now) }
 {
-    Ok(PlanNode::Subarray(source, area.copy()?))
+    match area.copy() {
+        Ok(area) => Ok(PlanNode::Subarray(source, area)),
+        Err(Memory) => {
+            drop(source);
+            Err(Memory)
+        }
+    }
 }
 
 fn slice_of(source: Box<Plan>, fixed: &List<Fixed>) -> Result<PlanNode, Memory>
     ensures { IfOk result (λ node. query_of node ≡ sliced source.value fixed.now) }
 {
-    Ok(PlanNode::Slice(source, fixed.copy()?))
+    match fixed.copy() {
+        Ok(fixed) => Ok(PlanNode::Slice(source, fixed)),
+        Err(Memory) => {
+            drop(source);
+            Err(Memory)
+        }
+    }
 }
 
 fn join_of(left: Box<Plan>, right: Box<Plan>, schema: &Schema) -> Result<PlanNode, Memory>
     ensures { IfOk result (λ node. query_of node ≡ joined left.value right.value schema.now) }
 {
-    Ok(PlanNode::Join(left, right, schema.copy()?))
+    match schema.copy() {
+        Ok(schema) => Ok(PlanNode::Join(left, right, schema)),
+        Err(Memory) => {
+            drop(left);
+            drop(right);
+            Err(Memory)
+        }
+    }
 }
 
 fn cross_join_of(
@@ -75,7 +126,14 @@ fn cross_join_of(
 ) -> Result<PlanNode, Memory>
     ensures { IfOk result (λ node. query_of node ≡ crossed left.value right.value pairs.now schema.now) }
 {
-    Ok(PlanNode::CrossJoin(left, right, pairs.copy()?, schema.copy()?))
+    match both_copies(pairs, schema) {
+        Ok((pairs, schema)) => Ok(PlanNode::CrossJoin(left, right, pairs, schema)),
+        Err(Memory) => {
+            drop(left);
+            drop(right);
+            Err(Memory)
+        }
+    }
 }
 
 fn redimension_of(
@@ -85,7 +143,13 @@ fn redimension_of(
 ) -> Result<PlanNode, Memory>
     ensures { IfOk result (λ node. query_of node ≡ redimensioned source.value schema.now aggregates.now) }
 {
-    Ok(PlanNode::Redimension(source, schema.copy()?, aggregates.copy()?))
+    match both_copies(schema, aggregates) {
+        Ok((schema, aggregates)) => Ok(PlanNode::Redimension(source, schema, aggregates)),
+        Err(Memory) => {
+            drop(source);
+            Err(Memory)
+        }
+    }
 }
 
 fn regrid_of(
@@ -95,7 +159,13 @@ fn regrid_of(
 ) -> Result<PlanNode, Memory>
     ensures { IfOk result (λ node. query_of node ≡ regridded source.value sizes.now aggregates.now) }
 {
-    Ok(PlanNode::Regrid(source, sizes.copy()?, aggregates.copy()?))
+    match both_copies(sizes, aggregates) {
+        Ok((sizes, aggregates)) => Ok(PlanNode::Regrid(source, sizes, aggregates)),
+        Err(Memory) => {
+            drop(source);
+            Err(Memory)
+        }
+    }
 }
 
 fn window_of(
@@ -105,7 +175,13 @@ fn window_of(
 ) -> Result<PlanNode, Memory>
     ensures { IfOk result (λ node. query_of node ≡ windowed source.value reach.now aggregates.now) }
 {
-    Ok(PlanNode::Window(source, reach.copy()?, aggregates.copy()?))
+    match both_copies(reach, aggregates) {
+        Ok((reach, aggregates)) => Ok(PlanNode::Window(source, reach, aggregates)),
+        Err(Memory) => {
+            drop(source);
+            Err(Memory)
+        }
+    }
 }
 
 fn aggregate_of(
@@ -115,7 +191,13 @@ fn aggregate_of(
 ) -> Result<PlanNode, Memory>
     ensures { IfOk result (λ node. query_of node ≡ aggregated source.value aggregates.now dimensions.now) }
 {
-    Ok(PlanNode::Aggregate(source, aggregates.copy()?, dimensions.copy()?))
+    match both_copies(aggregates, dimensions) {
+        Ok((aggregates, dimensions)) => Ok(PlanNode::Aggregate(source, aggregates, dimensions)),
+        Err(Memory) => {
+            drop(source);
+            Err(Memory)
+        }
+    }
 }
 
 #[cycle(copy_plan)]

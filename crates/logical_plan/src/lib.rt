@@ -17,5 +17,5 @@ pub use laws::{plans_mean_arrays_of_their_schema, typed_plans_mean_arrays};
 pub use leaves::reads;
 pub use names::{NameEntry, Names};
 pub use parts::{AggFunction, Aggregate, Applied, Fixed, Leaf, Pair, Reach};
-pub use plan::{Plan, PlanNode};
+pub use plan::{Plan, PlanNode, let_go};
 pub use schema::schema_of;

@@ -4,7 +4,7 @@ ghost use Rattle.std.specs.Prelude.{◌≡◌, IfOk};
 use cell_values::{Copies, List, Memory, Name, Schema};
 
 /// A stored array.
-#[derive(Debug, Drop)]
+#[derive(Drop)]
 pub struct NameEntry {
     pub name: Name,
     pub schema: Schema,
@@ -15,7 +15,7 @@ pub struct NameEntry {
 }
 
 /// The stored arrays, rising by name.
-#[derive(Debug, Drop)]
+#[derive(Drop)]
 pub struct Names {
     pub arrays: List<NameEntry>,
 }

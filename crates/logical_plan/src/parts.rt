@@ -5,7 +5,7 @@ use cell_values::{Copies, Kind, Memory, Name, Schema};
 use expr_nulls::TypedExpr;
 
 /// What an aggregate tells of a list of cells.
-#[derive(Clone, Copy, Debug, PartialEq, Eq)]
+#[derive(Clone, Copy)]
 pub enum AggFunction {
     Sum,
     /// How many values are not null.
@@ -17,7 +17,7 @@ pub enum AggFunction {
 }
 
 /// An aggregate of an attribute, and the name of its result.
-#[derive(Debug, Drop)]
+#[derive(Drop)]
 pub struct Aggregate {
     pub function: AggFunction,
     /// The place of the attribute, from 0; `CountAll` does not look at it.
@@ -26,7 +26,7 @@ pub struct Aggregate {
 }
 
 /// A version of a stored array.
-#[derive(Debug, Drop)]
+#[derive(Drop)]
 pub struct Leaf {
     pub name: Name,
     /// From 1; 0 stands for an array without versions, which has no cells.
@@ -35,7 +35,7 @@ pub struct Leaf {
 }
 
 /// An attribute with the value of an expression.
-#[derive(Debug, Drop)]
+#[derive(Drop)]
 pub struct Applied {
     pub name: Name,
     pub kind: Kind,
@@ -43,7 +43,7 @@ pub struct Applied {
 }
 
 /// A dimension held at a number.
-#[derive(Clone, Copy, Debug, PartialEq, Eq)]
+#[derive(Clone, Copy)]
 pub struct Fixed {
     /// The place of the dimension, from 0.
     pub dimension: u32,
@@ -51,7 +51,7 @@ pub struct Fixed {
 }
 
 /// Two dimensions in which coordinates are to agree.
-#[derive(Clone, Copy, Debug, PartialEq, Eq)]
+#[derive(Clone, Copy)]
 pub struct Pair {
     /// The place of the left one's dimension, from 0.
     pub left: u32,
@@ -60,7 +60,7 @@ pub struct Pair {
 }
 
 /// How far a window reaches along a dimension.
-#[derive(Clone, Copy, Debug, PartialEq, Eq)]
+#[derive(Clone, Copy)]
 pub struct Reach {
     pub before: u64,
     pub after: u64,

@@ -11,13 +11,13 @@ use std::marker::Model;
 /// A plan. Contracts see it as a `Query`, without its boxes. Attributes and dimensions of a source are named by their
 /// places, from 0.
 #[cycle(plan)]
-#[derive(Debug, Drop)]
+#[derive(Drop)]
 pub struct Plan {
     pub node: PlanNode,
 }
 
 #[cycle(plan)]
-#[derive(Debug, Drop)]
+#[derive(Drop)]
 pub enum PlanNode {
     /// The value of an expression at each place of a schema.
     Build(Schema, TypedExpr),
@@ -66,6 +66,41 @@ impl Model for Plan {
     ghost size_decreases = { λ p h. depth_le-size p.node };
 }
 
+/// Lets a plan go. That its boxes can be let go is proved here once, and not again in each crate that calls this.
+pub fn let_go(plan: Plan) {
+    drop(plan)
+}
+
+/// Two plans in boxes.
+fn boxed_both(alloc: Global, left: Plan, right: Plan) -> Result<(Box<Plan>, Box<Plan>), Memory>
+    ensures { IfOk result (λ both. (both.0.value ≡ left) × (both.1.value ≡ right)) }
+{
+    match Box::new(alloc, left) {
+        Ok(left) => boxed_beside(alloc, left, right),
+        Err(_) => {
+            drop(right);
+            Err(Memory)
+        }
+    }
+}
+
+/// A box, and a second plan in a box.
+fn boxed_beside(
+    alloc: Global,
+    left: Box<Plan>,
+    right: Plan,
+) -> Result<(Box<Plan>, Box<Plan>), Memory>
+    ensures { IfOk result (λ both. (both.0.value ≡ left.value) × (both.1.value ≡ right)) }
+{
+    match Box::new(alloc, right) {
+        Ok(right) => Ok((left, right)),
+        Err(_) => {
+            drop(left);
+            Err(Memory)
+        }
+    }
+}
+
 impl Plan {
     pub fn build(schema: Schema, value: TypedExpr) -> Plan
         ensures { result ≡ built schema value }
@@ -94,15 +129,29 @@ impl Plan {
     pub fn filter(alloc: Global, source: Plan, test: TypedExpr) -> Result<Plan, Memory>
         ensures { IfOk result (λ p. p ≡ filtered source test) }
     {
-        let node = PlanNode::Filter(Box::new(alloc, source)?, test);
-        Ok(Plan { node })
+        match Box::new(alloc, source) {
+            Ok(source) => Ok(Plan {
+                node: PlanNode::Filter(source, test),
+            }),
+            Err(_) => {
+                drop(test);
+                Err(Memory)
+            }
+        }
     }
 
     pub fn apply(alloc: Global, source: Plan, values: List<Applied>) -> Result<Plan, Memory>
         ensures { IfOk result (λ p. p ≡ applied source values) }
     {
-        let node = PlanNode::Apply(Box::new(alloc, source)?, values);
-        Ok(Plan { node })
+        match Box::new(alloc, source) {
+            Ok(source) => Ok(Plan {
+                node: PlanNode::Apply(source, values),
+            }),
+            Err(_) => {
+                drop(values);
+                Err(Memory)
+            }
+        }
     }
 
     pub fn project(alloc: Global, source: Plan, places: List<u32>) -> Result<Plan, Memory>
@@ -136,8 +185,10 @@ impl Plan {
     pub fn join(alloc: Global, left: Plan, right: Plan, schema: Schema) -> Result<Plan, Memory>
         ensures { IfOk result (λ p. p ≡ joined left right schema) }
     {
-        let node = PlanNode::Join(Box::new(alloc, left)?, Box::new(alloc, right)?, schema);
-        Ok(Plan { node })
+        let (left, right) = boxed_both(alloc, left, right)?;
+        Ok(Plan {
+            node: PlanNode::Join(left, right, schema),
+        })
     }
 
     pub fn cross_join(
@@ -149,10 +200,10 @@ impl Plan {
     ) -> Result<Plan, Memory>
         ensures { IfOk result (λ p. p ≡ crossed left right pairs schema) }
     {
-        let left = Box::new(alloc, left)?;
-        let right = Box::new(alloc, right)?;
-        let node = PlanNode::CrossJoin(left, right, pairs, schema);
-        Ok(Plan { node })
+        let (left, right) = boxed_both(alloc, left, right)?;
+        Ok(Plan {
+            node: PlanNode::CrossJoin(left, right, pairs, schema),
+        })
     }
 
     pub fn redimension(

@@ -6,7 +6,7 @@ use array_geom::ChunkedArray;
 use logical_plan::Leaf;
 
 /// A version of a stored array, and its chunks.
-#[derive(Debug, Drop)]
+#[derive(Drop)]
 pub struct LeafArray {
     pub leaf: Leaf,
     pub array: ChunkedArray,

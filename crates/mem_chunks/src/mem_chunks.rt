@@ -18,7 +18,7 @@ use logical_plan::Leaf;
 use std::marker::Model;
 
 /// A source over arrays in memory, which it tells, and some of whose calls fail.
-#[derive(Debug, Drop)]
+#[derive(Drop)]
 pub struct MemChunks {
     sure: SureChunks,
     turns: FailingCalls,

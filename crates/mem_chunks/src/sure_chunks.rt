@@ -13,7 +13,7 @@ use logical_plan::Leaf;
 use std::marker::Model;
 
 /// A source over arrays in memory, which it tells.
-#[derive(Debug, Drop)]
+#[derive(Drop)]
 pub struct SureChunks {
     arrays: List<LeafArray>,
     asked: List<Asked>,

@@ -18,7 +18,7 @@ use std::alloc::Global;
 use type_rules::{TypeFault, broken};
 
 /// The parts of a `redimension` besides its source.
-#[derive(Debug, Drop)]
+#[derive(Drop)]
 pub struct Redimensioned {
     /// The schema of the result.
     pub schema: Schema,

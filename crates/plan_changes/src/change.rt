@@ -5,7 +5,7 @@ ghost use Rattle.plan_changes.specs.Changes.{name_of};
 use cell_values::{Copies, Memory, Name, Schema};
 use logical_plan::Plan;
 
-#[derive(Debug, Drop)]
+#[derive(Drop)]
 pub enum Change {
     /// One more array, without versions.
     Create {
