@@ -218,6 +218,3 @@ impl Splitter {
         }
     }
 }
-
-#[cfg(test)]
-mod tests;

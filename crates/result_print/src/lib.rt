@@ -6,8 +6,6 @@ mod kinds;
 mod lines;
 mod refusal;
 mod spelling;
-#[cfg(test)]
-mod tests;
 
 pub use array::dcsv;
 pub use lines::refusal_line;
