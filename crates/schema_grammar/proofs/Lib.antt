@@ -1,8 +1,8 @@
 mod Joined
 mod Numbers
-mod RuleLemmas
+pub mod RuleLemmas
 mod RulesHold
-mod RulesValid
+pub mod RulesValid
 mod SchemaAgain
 pub mod SchemaPrinted
 pub mod ShapeComplete

@@ -22,7 +22,7 @@ const MAX_BOUND: u64 = 4611686018427387903;
 const MAX_FRAME: u64 = 281474976710656;
 
 /// A rule, with the fault where it doesn't hold.
-#[derive(Clone, Copy, Debug, PartialEq, Eq)]
+#[derive(Clone, Copy)]
 pub struct Rule {
     pub holds: bool,
     pub span: Span,

@@ -4,28 +4,28 @@ use crate::{AttrText, DimText, SchemaText};
 use cell_values::{List, Name, Span};
 
 /// A name and its place.
-#[derive(Debug, Drop)]
+#[derive(Drop)]
 pub struct Label {
     pub name: Name,
     pub span: Span,
 }
 
 /// A bound of a dimension and its place, which includes the sign.
-#[derive(Clone, Copy, Debug, PartialEq, Eq)]
+#[derive(Clone, Copy)]
 pub struct Bound {
     pub value: i64,
     pub span: Span,
 }
 
 /// A chunk's length or an overlap, and its place.
-#[derive(Clone, Copy, Debug, PartialEq, Eq)]
+#[derive(Clone, Copy)]
 pub struct Count {
     pub value: u64,
     pub span: Span,
 }
 
 /// Where a reader stands among the attributes.
-#[derive(Debug, Drop)]
+#[derive(Drop)]
 pub enum AttrPlace {
     /// Before an attribute.
     First,
@@ -42,7 +42,7 @@ pub enum AttrPlace {
 }
 
 /// Where a reader stands among the dimensions.
-#[derive(Debug, Drop)]
+#[derive(Drop)]
 pub enum DimPlace {
     /// Before a dimension.
     First,
@@ -57,7 +57,7 @@ pub enum DimPlace {
 }
 
 /// Where a reader stands between a dimension's `=` and its high bound.
-#[derive(Clone, Copy, Debug, PartialEq, Eq)]
+#[derive(Clone, Copy)]
 pub enum BoundPlace {
     /// Before the low bound.
     Low,
@@ -72,7 +72,7 @@ pub enum BoundPlace {
 }
 
 /// Where a reader stands behind a dimension's bounds.
-#[derive(Clone, Copy, Debug, PartialEq, Eq)]
+#[derive(Clone, Copy)]
 pub enum NumberPlace {
     /// Before the comma.
     Bounded,
@@ -85,7 +85,7 @@ pub enum NumberPlace {
 }
 
 /// What a token does in one of the attributes or dimensions.
-#[derive(Debug, Drop)]
+#[derive(Drop)]
 pub enum PartStep<P, T> {
     /// It leads to another place.
     On(P),
@@ -97,7 +97,7 @@ pub enum PartStep<P, T> {
 }
 
 /// What stands before the dimensions: the place of `<`, the attributes, and the place of `[`.
-#[derive(Debug, Drop)]
+#[derive(Drop)]
 pub struct Head {
     pub start: Span,
     pub attributes: List<AttrText>,
@@ -105,7 +105,7 @@ pub struct Head {
 }
 
 /// Where a reader stands in a schema. `start` is the place of `<`.
-#[derive(Debug, Drop)]
+#[derive(Drop)]
 pub enum ShapeState {
     /// Before `<`.
     Start,
@@ -127,7 +127,7 @@ pub enum ShapeState {
 }
 
 /// What a token does in a schema.
-#[derive(Debug, Drop)]
+#[derive(Drop)]
 pub enum ShapeStep {
     On(ShapeState),
     /// The token ends the schema, whose whole place is given.
