@@ -53,6 +53,36 @@ impl Model for Arguments {
     ghost invariant = { λ g. g.depth ≡ heights (to_terms g.trees) };
 }
 
+/// Two trees in boxes.
+fn boxed_both(alloc: Global, left: Tree, right: Tree) -> Result<(Box<Tree>, Box<Tree>), Memory>
+    ensures { IfOk result (λ both. (both.0.value ≡ left) × (both.1.value ≡ right)) }
+{
+    match Box::new(alloc, left) {
+        Ok(left) => boxed_beside(alloc, left, right),
+        Err(_) => {
+            drop(right);
+            Err(Memory)
+        }
+    }
+}
+
+/// A box, and a second tree in a box.
+fn boxed_beside(
+    alloc: Global,
+    left: Box<Tree>,
+    right: Tree,
+) -> Result<(Box<Tree>, Box<Tree>), Memory>
+    ensures { IfOk result (λ both. (both.0.value ≡ left.value) × (both.1.value ≡ right)) }
+{
+    match Box::new(alloc, right) {
+        Ok(right) => Ok((left, right)),
+        Err(_) => {
+            drop(left);
+            Err(Memory)
+        }
+    }
+}
+
 impl Grown {
     /// A tree without parts.
     pub(crate) fn leaf(tree: Tree) -> Grown
@@ -132,8 +162,7 @@ impl Grown {
         ensures { IfOk result (λ t. t ≡ binary span op a b) }
     {
         let depth = a.depth.max(b.depth) + 1;
-        let left = Box::new(alloc, a.into_tree())?;
-        let right = Box::new(alloc, b.into_tree())?;
+        let (left, right) = boxed_both(alloc, a.into_tree(), b.into_tree())?;
         let node = Node::Binary(op, left, right);
         Ok(Grown {
             tree: Tree { span, node },
@@ -190,7 +219,12 @@ impl Arguments {
     {
         let Arguments { mut trees, depth } = self;
         let depth = depth.max(argument.depth);
-        trees.push(argument.into_tree())?;
-        Ok(Arguments { trees, depth })
+        match trees.push(argument.into_tree()) {
+            Ok(()) => Ok(Arguments { trees, depth }),
+            Err(Memory) => {
+                drop(trees);
+                Err(Memory)
+            }
+        }
     }
 }

@@ -5,7 +5,7 @@ ghost use Rattle.afl_parser.specs.Statement.{syntactic, lexical};
 use afl_lexer::LexKind;
 
 /// Why a token cannot stand where it stands.
-#[derive(Clone, Copy, Debug, PartialEq, Eq)]
+#[derive(Clone, Copy)]
 pub enum StopKind {
     /// No statement goes on so.
     Unexpected,
@@ -14,7 +14,7 @@ pub enum StopKind {
 }
 
 /// Why a text is no statement.
-#[derive(Clone, Copy, Debug, PartialEq, Eq)]
+#[derive(Clone, Copy, Debug)]
 pub enum ParseKind {
     UnknownCharacter,
     OpenText,
@@ -29,7 +29,7 @@ pub enum ParseKind {
 }
 
 /// Why there is no tree.
-#[derive(Clone, Copy, Debug, PartialEq, Eq)]
+#[derive(Clone, Copy)]
 pub enum ParseFault {
     /// The text stops to be the front of a statement at this place, in bytes from its first one.
     At { at: u32, kind: ParseKind },

@@ -15,4 +15,4 @@ pub use kind::{ParseFault, ParseKind, StopKind};
 pub use laws::texts_have_tree_or_stop;
 pub use parser::parse;
 pub use printer::{print, printed_trees_are_read_again};
-pub use tree::{BinaryOp, Node, Tree};
+pub use tree::{BinaryOp, Node, Tree, let_go_tree};

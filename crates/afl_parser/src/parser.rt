@@ -15,7 +15,7 @@ use afl_lexer::{LexFault, Token, tokens};
 use std::alloc::Global;
 
 /// Why tokens have no tree.
-#[derive(Clone, Copy, Debug, PartialEq, Eq)]
+#[derive(Clone, Copy)]
 pub(crate) enum TokenFault {
     /// The place of the token among the tokens, or their number.
     At { index: usize, kind: StopKind },

@@ -1,10 +1,12 @@
 //! The reader: one turn a token.
-ghost use Rattle.std.specs.Prelude.{◌≡◌, ℕ, ◌+◌, ◌≤◌, List, [], ◌∷◌, length, nat_lt, IfOk};
+ghost use Rattle.std.specs.Prelude.{◌≡◌, ℕ, ◌+◌, ◌<◌, ◌≤◌, ◌^◌, List, [], ◌∷◌, length, nat_lt, IfOk};
+ghost use Rattle.afl_parser.specs.Term.{renamed};
+ghost use Rattle.afl_parser.specs.Grammar.{height};
 ghost use Rattle.afl_lexer.specs.Lexemes.{what_of, lexeme_of};
 ghost use Rattle.afl_lexer.specs.Tokens.{IsTokenOf};
 ghost use Rattle.schema_grammar.specs.Reading.{shape_turn};
 ghost use Rattle.afl_parser.specs.Grammar.{op_of};
-ghost use Rattle.afl_parser.specs.Machine.{Go, shaped, shallow, settle, leaf_of, opening, begin, start, array_word, title, made, first, operated, named, opened, dated, date, closed, separated, joined, extend, name_it, turn, whole, finished, FitsBelow, Fits};
+ghost use Rattle.afl_parser.specs.Machine.{Turn, Go, Stop, shaped, shallow, settle, leaf_of, opening, begin, start, array_word, title, made, first, operated, named, opened, dated, date, closed, separated, joined, extend, name_it, turn, whole, finished, FitsBelow, Fits};
 ghost use Rattle.afl_parser.specs.Reply.{Gives, GivesWhole};
 
 use crate::frame::{Focus, Frame, Stack};
@@ -27,7 +29,7 @@ pub(crate) struct Reader {
 }
 
 /// Why a token was not read.
-#[derive(Clone, Copy, Debug, PartialEq, Eq)]
+#[derive(Clone, Copy)]
 pub(crate) enum Fault {
     Stop(StopKind),
     Memory,
@@ -42,6 +44,30 @@ impl From<Memory> for Fault {
     fn from(_: Memory) -> Fault {
         Fault::Memory
     }
+}
+
+/// The reader's end, where what is open is let go.
+fn stop(stack: Stack, kind: StopKind) -> Result<Reader, Fault>
+    ensures { Gives result (Stop kind) }
+{
+    drop(stack);
+    Err(Fault::Stop(kind))
+}
+
+/// The reader's end behind a tree.
+fn stop_behind(stack: Stack, tree: Grown, kind: StopKind) -> Result<Reader, Fault>
+    ensures { Gives result (Stop kind) }
+{
+    drop(tree);
+    stop(stack, kind)
+}
+
+/// The reader's end for want of memory.
+fn give_up(stack: Stack) -> Result<Reader, Fault>
+    ensures { (turn : Turn) → Gives result turn }
+{
+    drop(stack);
+    Err(Fault::Memory)
 }
 
 /// The tree that one token is.
@@ -75,7 +101,8 @@ fn enter(stack: Stack, focus: Focus) -> Result<Reader, Fault>
     if stack.len() < DEPTH {
         Ok(Reader { stack, focus })
     } else {
-        Err(Fault::Stop(StopKind::TooDeep))
+        drop(focus);
+        stop(stack, StopKind::TooDeep)
     }
 }
 
@@ -86,13 +113,16 @@ fn open(stack: Stack, frame: Frame) -> Result<Reader, Fault>
 {
     let mut stack = stack;
     if stack.len() + 1 < DEPTH {
-        stack.push(frame)?;
-        Ok(Reader {
-            stack,
-            focus: Focus::Want,
-        })
+        match stack.push(frame) {
+            Ok(()) => Ok(Reader {
+                stack,
+                focus: Focus::Want,
+            }),
+            Err(Memory) => give_up(stack),
+        }
     } else {
-        Err(Fault::Stop(StopKind::TooDeep))
+        drop(frame);
+        stop(stack, StopKind::TooDeep)
     }
 }
 
@@ -112,7 +142,7 @@ fn continue_shape(stack: Stack, step: ShapeStep) -> Result<Reader, Fault>
                 focus: Focus::Have(Grown::leaf(Tree { span, node })),
             })
         }
-        ShapeStep::Unexpected => Err(Fault::Stop(StopKind::Unexpected)),
+        ShapeStep::Unexpected => stop(stack, StopKind::Unexpected),
     }
 }
 
@@ -122,10 +152,12 @@ fn start_shape(alloc: Global, stack: Stack, text: &[u8], token: Token) -> Result
     ensures { Gives result (shallow (nat_lt (length stack) 128) (shaped stack (shape_turn ShapeState.Start (lexeme_of text.now token)))) }
 {
     if stack.len() < DEPTH {
-        let step = read_shape(alloc, text, ShapeState::Start, token)?;
-        continue_shape(stack, step)
+        match read_shape(alloc, text, ShapeState::Start, token) {
+            Ok(step) => continue_shape(stack, step),
+            Err(Memory) => give_up(stack),
+        }
     } else {
-        Err(Fault::Stop(StopKind::TooDeep))
+        stop(stack, StopKind::TooDeep)
     }
 }
 
@@ -140,7 +172,7 @@ fn open_operand(alloc: Global, stack: Stack, text: &[u8], token: Token) -> Resul
             if stack.want() <= 3 {
                 open(stack, Frame::Not(token.span))
             } else {
-                Err(Fault::Stop(StopKind::Unexpected))
+                stop(stack, StopKind::Unexpected)
             }
         }
         TokenKind::Symbol(Symbol::Minus) => open(stack, Frame::Minus(token.span)),
@@ -152,18 +184,18 @@ fn open_operand(alloc: Global, stack: Stack, text: &[u8], token: Token) -> Resul
                 };
                 enter(stack, Focus::Have(Grown::leaf(star)))
             } else {
-                Err(Fault::Stop(StopKind::Unexpected))
+                stop(stack, StopKind::Unexpected)
             }
         }
         TokenKind::Symbol(Symbol::Less) => {
             if stack.want() <= 0 {
                 start_shape(alloc, stack, text, token)
             } else {
-                Err(Fault::Stop(StopKind::Unexpected))
+                stop(stack, StopKind::Unexpected)
             }
         }
         TokenKind::Symbol(Symbol::LeftParen) => open(stack, Frame::Group(token.span)),
-        _ => Err(Fault::Stop(StopKind::Unexpected)),
+        _ => stop(stack, StopKind::Unexpected),
     }
 }
 
@@ -173,9 +205,10 @@ fn begin(alloc: Global, stack: Stack, text: &[u8], token: Token) -> Result<Reade
     requires token { IsTokenOf text.now token }
     ensures { Gives result (begin 128 stack token.span (lexeme_of text.now token).what) }
 {
-    match leaf_at(alloc, text, token)? {
-        Some(tree) => enter(stack, Focus::Have(Grown::leaf(tree))),
-        None => open_operand(alloc, stack, text, token),
+    match leaf_at(alloc, text, token) {
+        Ok(Some(tree)) => enter(stack, Focus::Have(Grown::leaf(tree))),
+        Ok(None) => open_operand(alloc, stack, text, token),
+        Err(Memory) => give_up(stack),
     }
 }
 
@@ -203,7 +236,7 @@ fn expect_array(stack: Stack, start: Span, kind: TokenKind) -> Result<Reader, Fa
             stack,
             focus: Focus::Title(start),
         }),
-        _ => Err(Fault::Stop(StopKind::Unexpected)),
+        _ => stop(stack, StopKind::Unexpected),
     }
 }
 
@@ -219,14 +252,14 @@ fn title(
     ensures { Gives result (title stack start (lexeme_of text.now token).what) }
 {
     match token.kind {
-        TokenKind::Name => {
-            let name = name_value(alloc, text, &token)?;
-            Ok(Reader {
+        TokenKind::Name => match name_value(alloc, text, &token) {
+            Ok(name) => Ok(Reader {
                 stack,
                 focus: Focus::NewShape(start, name, ShapeState::Start),
-            })
-        }
-        _ => Err(Fault::Stop(StopKind::Unexpected)),
+            }),
+            Err(Memory) => give_up(stack),
+        },
+        _ => stop(stack, StopKind::Unexpected),
     }
 }
 
@@ -252,7 +285,7 @@ fn continue_new_shape(
                 focus: Focus::Made(Tree { span, node }),
             })
         }
-        ShapeStep::Unexpected => Err(Fault::Stop(StopKind::Unexpected)),
+        ShapeStep::Unexpected => stop(stack, StopKind::Unexpected),
     }
 }
 
@@ -275,10 +308,10 @@ fn first(
             stack,
             focus: Focus::Have(Grown::empty_call(alloc, across(start, token.span), name)),
         }),
-        _ => {
-            stack.push(Frame::Call(name, start, Arguments::none(alloc)))?;
-            begin(alloc, stack, text, token)
-        }
+        _ => match stack.push(Frame::Call(name, start, Arguments::none(alloc))) {
+            Ok(()) => begin(alloc, stack, text, token),
+            Err(Memory) => give_up(stack),
+        },
     }
 }
 
@@ -293,10 +326,22 @@ fn settle(alloc: Global, line: u8, stack: Stack, tree: Grown) -> Result<(Stack, 
     let mut tree = tree;
     while let Some(frame) = stack.pop() {
         if !frame.ends(line) {
-            stack.push(frame)?;
-            return Ok((stack, tree));
+            match stack.push(frame) {
+                Ok(()) => return Ok((stack, tree)),
+                Err(Memory) => {
+                    drop(stack);
+                    drop(tree);
+                    return Err(Memory);
+                }
+            }
         }
-        tree = frame.close(alloc, tree)?;
+        match frame.close(alloc, tree) {
+            Ok(closed) => tree = closed,
+            Err(Memory) => {
+                drop(stack);
+                return Err(Memory);
+            }
+        }
     }
     Ok((stack, tree))
 }
@@ -309,16 +354,18 @@ fn operate(op: BinaryOp, stack: Stack, tree: Grown) -> Result<Reader, Fault>
     let mut stack = stack;
     if stack.want() <= op.line() && op.left_line() <= tree.tree().line() {
         if stack.len() + 1 + tree.height() <= DEPTH {
-            stack.push(Frame::Left(op, tree))?;
-            Ok(Reader {
-                stack,
-                focus: Focus::Want,
-            })
+            match stack.push(Frame::Left(op, tree)) {
+                Ok(()) => Ok(Reader {
+                    stack,
+                    focus: Focus::Want,
+                }),
+                Err(Memory) => give_up(stack),
+            }
         } else {
-            Err(Fault::Stop(StopKind::TooDeep))
+            stop_behind(stack, tree, StopKind::TooDeep)
         }
     } else {
-        Err(Fault::Stop(StopKind::Unexpected))
+        stop_behind(stack, tree, StopKind::Unexpected)
     }
 }
 
@@ -334,10 +381,10 @@ fn start_name(stack: Stack, tree: Grown) -> Result<Reader, Fault>
                 focus: Focus::Naming(tree),
             })
         } else {
-            Err(Fault::Stop(StopKind::TooDeep))
+            stop_behind(stack, tree, StopKind::TooDeep)
         }
     } else {
-        Err(Fault::Stop(StopKind::Unexpected))
+        stop_behind(stack, tree, StopKind::Unexpected)
     }
 }
 
@@ -351,7 +398,7 @@ fn open_call(stack: Stack, tree: Grown) -> Result<Reader, Fault>
             stack,
             focus: Focus::First(name, span),
         }),
-        None => Err(Fault::Stop(StopKind::Unexpected)),
+        None => stop(stack, StopKind::Unexpected),
     }
 }
 
@@ -365,7 +412,7 @@ fn start_version(stack: Stack, tree: Grown) -> Result<Reader, Fault>
             stack,
             focus: Focus::At(name, span),
         }),
-        None => Err(Fault::Stop(StopKind::Unexpected)),
+        None => stop(stack, StopKind::Unexpected),
     }
 }
 
@@ -384,7 +431,7 @@ fn end_version(stack: Stack, name: Name, start: Span, token: Token) -> Result<Re
                 focus: Focus::Have(Grown::leaf(version)),
             })
         }
-        _ => Err(Fault::Stop(StopKind::Unexpected)),
+        _ => stop(stack, StopKind::Unexpected),
     }
 }
 
@@ -402,22 +449,30 @@ fn end_node(
 {
     match frame {
         Frame::Group(start) => {
-            let group = Grown::group(alloc, across(start, end), tree)?;
-            Ok(Reader {
-                stack,
-                focus: Focus::Have(group),
-            })
+            match Grown::group(alloc, across(start, end), tree) {
+                Ok(group) => Ok(Reader {
+                    stack,
+                    focus: Focus::Have(group),
+                }),
+                Err(Memory) => give_up(stack),
+            }
         }
         Frame::Call(name, start, arguments) => {
-            let arguments = arguments.with(tree)?;
-            let call = Grown::call(across(start, end), name, arguments);
-            Ok(Reader {
-                stack,
-                focus: Focus::Have(call),
-            })
+            match arguments.with(tree) {
+                Ok(arguments) => {
+                    let call = Grown::call(across(start, end), name, arguments);
+                    Ok(Reader {
+                        stack,
+                        focus: Focus::Have(call),
+                    })
+                }
+                Err(Memory) => give_up(stack),
+            }
         }
-        Frame::Not(_) | Frame::Minus(_) | Frame::Left(_, _) => {
-            Err(Fault::Stop(StopKind::Unexpected))
+        Frame::Not(_) | Frame::Minus(_) => stop_behind(stack, tree, StopKind::Unexpected),
+        Frame::Left(_, left) => {
+            drop(left);
+            stop_behind(stack, tree, StopKind::Unexpected)
         }
     }
 }
@@ -430,7 +485,21 @@ fn close_bracket(alloc: Global, stack: Stack, tree: Grown, end: Span) -> Result<
     let mut stack = stack;
     match stack.pop() {
         Some(frame) => end_node(alloc, stack, frame, tree, end),
-        None => Err(Fault::Stop(StopKind::Unexpected)),
+        None => stop_behind(stack, tree, StopKind::Unexpected),
+    }
+}
+
+/// Opens a node again for its next child.
+fn open_next(stack: Stack, frame: Frame) -> Result<Reader, Fault>
+    ensures { Gives result (Go (frame ∷ stack) Focus.Want) }
+{
+    let mut stack = stack;
+    match stack.push(frame) {
+        Ok(()) => Ok(Reader {
+            stack,
+            focus: Focus::Want,
+        }),
+        Err(Memory) => give_up(stack),
     }
 }
 
@@ -441,14 +510,16 @@ fn next_argument(stack: Stack, tree: Grown) -> Result<Reader, Fault>
     let mut stack = stack;
     match stack.pop() {
         Some(Frame::Call(name, start, arguments)) => {
-            let arguments = arguments.with(tree)?;
-            stack.push(Frame::Call(name, start, arguments))?;
-            Ok(Reader {
-                stack,
-                focus: Focus::Want,
-            })
+            match arguments.with(tree) {
+                Ok(arguments) => open_next(stack, Frame::Call(name, start, arguments)),
+                Err(Memory) => give_up(stack),
+            }
         }
-        _ => Err(Fault::Stop(StopKind::Unexpected)),
+        Some(other) => {
+            drop(other);
+            stop_behind(stack, tree, StopKind::Unexpected)
+        }
+        None => stop_behind(stack, tree, StopKind::Unexpected),
     }
 }
 
@@ -472,7 +543,7 @@ fn join(alloc: Global, stack: Stack, tree: Grown, token: Token) -> Result<Reader
             let (stack, tree) = settle(alloc, 0, stack, tree)?;
             next_argument(stack, tree)
         }
-        _ => Err(Fault::Stop(StopKind::Unexpected)),
+        _ => stop_behind(stack, tree, StopKind::Unexpected),
     }
 }
 
@@ -512,6 +583,20 @@ fn extend(alloc: Global, stack: Stack, tree: Grown, token: Token) -> Result<Read
     }
 }
 
+/// A tree under a name.
+fn rename(alloc: Global, stack: Stack, span: Span, tree: Grown, name: Name) -> Result<Reader, Fault>
+    requires { height tree + 1 < 2 ^ 64 }
+    ensures { Gives result (Go stack (Focus.Have (renamed span tree name))) }
+{
+    match Grown::renamed(alloc, span, tree, name) {
+        Ok(renamed) => Ok(Reader {
+            stack,
+            focus: Focus::Have(renamed),
+        }),
+        Err(Memory) => give_up(stack),
+    }
+}
+
 /// Behind `as`.
 fn name_it(
     alloc: Global,
@@ -526,15 +611,16 @@ fn name_it(
 {
     match token.kind {
         TokenKind::Name => {
-            let name = name_value(alloc, text, &token)?;
             let whole = across(tree.tree().span(), token.span);
-            let renamed = Grown::renamed(alloc, whole, tree, name)?;
-            Ok(Reader {
-                stack,
-                focus: Focus::Have(renamed),
-            })
+            match name_value(alloc, text, &token) {
+                Ok(name) => rename(alloc, stack, whole, tree, name),
+                Err(Memory) => {
+                    drop(tree);
+                    give_up(stack)
+                }
+            }
         }
-        _ => Err(Fault::Stop(StopKind::Unexpected)),
+        _ => stop_behind(stack, tree, StopKind::Unexpected),
     }
 }
 
@@ -562,20 +648,23 @@ impl Reader {
             Focus::Start => start(alloc, stack, text, token),
             Focus::Array(start) => expect_array(stack, start, token.kind),
             Focus::Title(start) => title(alloc, stack, start, text, token),
-            Focus::NewShape(start, name, state) => {
-                let step = read_shape(alloc, text, state, token)?;
-                continue_new_shape(stack, start, name, step)
+            Focus::NewShape(start, name, state) => match read_shape(alloc, text, state, token) {
+                Ok(step) => continue_new_shape(stack, start, name, step),
+                Err(Memory) => give_up(stack),
+            },
+            Focus::Made(made) => {
+                drop(made);
+                stop(stack, StopKind::Unexpected)
             }
-            Focus::Made(_) => Err(Fault::Stop(StopKind::Unexpected)),
             Focus::Want => begin(alloc, stack, text, token),
             Focus::First(name, start) => first(alloc, stack, name, start, text, token),
             Focus::Have(tree) => extend(alloc, stack, tree, token),
             Focus::At(name, start) => end_version(stack, name, start, token),
             Focus::Naming(tree) => name_it(alloc, stack, tree, text, token),
-            Focus::Shape(state) => {
-                let step = read_shape(alloc, text, state, token)?;
-                continue_shape(stack, step)
-            }
+            Focus::Shape(state) => match read_shape(alloc, text, state, token) {
+                Ok(step) => continue_shape(stack, step),
+                Err(Memory) => give_up(stack),
+            },
         }
     }
 

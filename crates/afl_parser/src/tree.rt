@@ -10,7 +10,7 @@ use std::marker::Model;
 
 /// A tree. Contracts see it as a `Term`, without its boxes.
 #[cycle(tree)]
-#[derive(Debug, Drop)]
+#[derive(Drop)]
 pub struct Tree {
     /// From the start of the first token to the end of the last.
     pub span: Span,
@@ -18,7 +18,7 @@ pub struct Tree {
 }
 
 #[cycle(tree)]
-#[derive(Debug, Drop)]
+#[derive(Drop)]
 pub enum Node {
     /// `create array` with a name and a schema.
     Create(Name, SchemaText),
@@ -43,7 +43,7 @@ pub enum Node {
 }
 
 /// An operator between two operands.
-#[derive(Clone, Copy, Debug, PartialEq, Eq)]
+#[derive(Clone, Copy, Debug)]
 pub enum BinaryOp {
     Or,
     And,
@@ -78,6 +78,11 @@ impl Model for Tree {
     ghost use Rattle.afl_parser.specs.TreeFalls.{depth_le-size};
 
     ghost size_decreases = { λ a h. depth_le-size a.span a.node };
+}
+
+/// Lets a tree go. That its parts can be let go is proved here once, and not again in each crate that calls this.
+pub fn let_go_tree(tree: Tree) {
+    drop(tree)
 }
 
 /// From the start of the first to the end of the second.

@@ -18,7 +18,7 @@ use result_print::{Refusal, dcsv, refusal_line};
 use std::alloc::Global;
 
 /// What a statement is answered.
-#[derive(Debug, Drop, PartialEq, Eq)]
+#[derive(Debug, Drop)]
 pub(crate) struct Reply {
     pub text: Bytes,
     pub refusal: Option<Refusal>,

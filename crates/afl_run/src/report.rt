@@ -10,7 +10,7 @@ use result_print::Refusal;
 use std::alloc::Global;
 
 /// What became of a statement.
-#[derive(Debug, Drop, PartialEq, Eq)]
+#[derive(Debug, Drop)]
 pub struct Mark {
     /// Its first byte's place in the script.
     pub start: u64,
