@@ -1,5 +1,4 @@
 pub mod InnerFaults
 pub mod KindLemmas
 pub mod Operands
-pub mod Steps
 mod WorkedExpressions

@@ -8,10 +8,10 @@ ghost use Rattle.expr_types.specs.Expressions.{operand, attribute_place, dimensi
 ghost use Rattle.type_rules.specs.declared.operator.Form.{Form};
 
 use crate::Operand;
-use crate::operand::{applied, chosen, combined, denied, negated};
+use crate::operand::{applied, chosen, combined, denied, let_go_both, negated};
 use afl_parser::{BinaryOp, Node, Tree};
 use cell_values::{Attribute, Datum, Dimension, Kind, Span};
-use expr_nulls::TypedExpr;
+use expr_nulls::{TypedExpr, let_go_expr};
 use schema_grammar::TypeKind;
 use std::alloc::Global;
 use type_rules::{
@@ -118,7 +118,7 @@ pub fn typed(
 }
 
 #[cycle(expression)]
-#[tactic(auto, using(crate::proofs::Steps::ok_then, crate::proofs::Steps::err_then))]
+#[tactic(auto, using(type_rules::proofs::Steps::ok_then, type_rules::proofs::Steps::err_then))]
 fn typed_minus(
     alloc: Global,
     attributes: &[Attribute],
@@ -135,7 +135,7 @@ fn typed_minus(
 }
 
 #[cycle(expression)]
-#[tactic(auto, using(crate::proofs::Steps::ok_then, crate::proofs::Steps::err_then))]
+#[tactic(auto, using(type_rules::proofs::Steps::ok_then, type_rules::proofs::Steps::err_then))]
 fn typed_not(
     alloc: Global,
     attributes: &[Attribute],
@@ -152,7 +152,7 @@ fn typed_not(
 }
 
 #[cycle(expression)]
-#[tactic(auto, using(crate::proofs::Steps::ok_then, crate::proofs::Steps::err_then))]
+#[tactic(auto, using(type_rules::proofs::Steps::ok_then, type_rules::proofs::Steps::err_then))]
 fn typed_binary(
     alloc: Global,
     attributes: &[Attribute],
@@ -167,12 +167,17 @@ fn typed_binary(
     ensures { Answers result (then (typed attributes.now dimensions.now a.now) (λ x. then (typed attributes.now dimensions.now b.now) (combined span op x))) }
 {
     let a = typed(alloc, attributes, dimensions, a)?;
-    let b = typed(alloc, attributes, dimensions, b)?;
-    combined(alloc, span, op, a, b)
+    match typed(alloc, attributes, dimensions, b) {
+        Ok(b) => combined(alloc, span, op, a, b),
+        Err(fault) => {
+            let_go_expr(a.expr);
+            Err(fault)
+        }
+    }
 }
 
 #[cycle(expression)]
-#[tactic(auto, using(crate::proofs::Steps::ok_then, crate::proofs::Steps::err_then))]
+#[tactic(auto, using(type_rules::proofs::Steps::ok_then, type_rules::proofs::Steps::err_then))]
 fn typed_group(
     alloc: Global,
     attributes: &[Attribute],
@@ -216,7 +221,7 @@ fn typed_call(
 
 /// A choice of three operands.
 #[cycle(expression)]
-#[tactic(auto, using(crate::proofs::Steps::ok_then, crate::proofs::Steps::err_then))]
+#[tactic(auto, using(type_rules::proofs::Steps::ok_then, type_rules::proofs::Steps::err_then))]
 fn typed_choice(
     alloc: Global,
     attributes: &[Attribute],
@@ -231,14 +236,24 @@ fn typed_choice(
     ensures { Answers result (then (typed attributes.now dimensions.now test.now) (λ x. then (typed attributes.now dimensions.now a.now) (λ y. then (typed attributes.now dimensions.now b.now) (chosen span x y)))) }
 {
     let test = typed(alloc, attributes, dimensions, test)?;
-    let a = typed(alloc, attributes, dimensions, a)?;
-    let b = typed(alloc, attributes, dimensions, b)?;
-    chosen(alloc, span, test, a, b)
+    match typed(alloc, attributes, dimensions, a) {
+        Ok(a) => match typed(alloc, attributes, dimensions, b) {
+            Ok(b) => chosen(alloc, span, test, a, b),
+            Err(fault) => {
+                let_go_both(test, a);
+                Err(fault)
+            }
+        },
+        Err(fault) => {
+            let_go_expr(test.expr);
+            Err(fault)
+        }
+    }
 }
 
 /// A function on its operand.
 #[cycle(expression)]
-#[tactic(auto, using(crate::proofs::Steps::ok_then, crate::proofs::Steps::err_then))]
+#[tactic(auto, using(type_rules::proofs::Steps::ok_then, type_rules::proofs::Steps::err_then))]
 fn typed_operand(
     alloc: Global,
     attributes: &[Attribute],

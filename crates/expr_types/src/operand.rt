@@ -9,13 +9,13 @@ ghost use Rattle.expr_types.specs.Expressions.{fits, fits_beside, is_ordered, is
 
 use afl_parser::BinaryOp;
 use cell_values::{CompareOp, Kind, Span};
-use expr_nulls::{ArithOp, TypedExpr};
+use expr_nulls::{ArithOp, TypedExpr, let_go_expr};
 use schema_grammar::TypeKind;
 use std::alloc::Global;
 use type_rules::{OneForm, TypeFault, broken};
 
 /// A typed expression, and the place that it was read from.
-#[derive(Debug, Drop)]
+#[derive(Drop)]
 pub struct Operand {
     pub span: Span,
     pub expr: TypedExpr,
@@ -92,12 +92,20 @@ fn wrong_type(a: &Operand) -> TypeFault
     broken(a.span, TypeKind::WrongType)
 }
 
+/// Lets two operands go.
+pub(crate) fn let_go_both(a: Operand, b: Operand) {
+    let_go_expr(a.expr);
+    let_go_expr(b.expr);
+}
+
 /// Prefix `-`.
 pub(crate) fn negated(alloc: Global, span: Span, a: Operand) -> Result<Operand, TypeFault>
     ensures { Answers result (negated span a) }
 {
     if !fits(Kind::Int64, a.kind) {
-        return Err(wrong_type(&a));
+        let fault = wrong_type(&a);
+        let_go_expr(a.expr);
+        return Err(fault);
     }
     let expr = TypedExpr::neg(alloc, a.expr)?;
     Ok(Operand {
@@ -112,7 +120,9 @@ pub(crate) fn denied(alloc: Global, span: Span, a: Operand) -> Result<Operand, T
     ensures { Answers result (denied span a) }
 {
     if !fits(Kind::Bool, a.kind) {
-        return Err(wrong_type(&a));
+        let fault = wrong_type(&a);
+        let_go_expr(a.expr);
+        return Err(fault);
     }
     let expr = TypedExpr::not(alloc, a.expr)?;
     Ok(Operand {
@@ -134,10 +144,14 @@ fn calculated(
     ensures { Answers result (calculated span op kind a b) }
 {
     if !fits(kind, a.kind) {
-        return Err(wrong_type(&a));
+        let fault = wrong_type(&a);
+        let_go_both(a, b);
+        return Err(fault);
     }
     if !fits(kind, b.kind) {
-        return Err(wrong_type(&b));
+        let fault = wrong_type(&b);
+        let_go_both(a, b);
+        return Err(fault);
     }
     let expr = TypedExpr::arith(alloc, op, a.expr, b.expr)?;
     Ok(Operand {
@@ -158,7 +172,9 @@ fn equated(
     ensures { Answers result (equated span op a b) }
 {
     if !fits_beside(a.kind, b.kind) {
-        return Err(wrong_type(&b));
+        let fault = wrong_type(&b);
+        let_go_both(a, b);
+        return Err(fault);
     }
     let expr = TypedExpr::compare(alloc, op, a.expr, b.expr)?;
     Ok(Operand {
@@ -179,10 +195,14 @@ fn ranked(
     ensures { Answers result (ranked span op a b) }
 {
     if !is_ordered(a.kind) {
-        return Err(wrong_type(&a));
+        let fault = wrong_type(&a);
+        let_go_both(a, b);
+        return Err(fault);
     }
     if !is_ordered(b.kind) || !fits_beside(a.kind, b.kind) {
-        return Err(wrong_type(&b));
+        let fault = wrong_type(&b);
+        let_go_both(a, b);
+        return Err(fault);
     }
     let expr = TypedExpr::compare(alloc, op, a.expr, b.expr)?;
     Ok(Operand {
@@ -197,10 +217,14 @@ fn conjoined(alloc: Global, span: Span, a: Operand, b: Operand) -> Result<Operan
     ensures { Answers result (conjoined span a b) }
 {
     if !fits(Kind::Bool, a.kind) {
-        return Err(wrong_type(&a));
+        let fault = wrong_type(&a);
+        let_go_both(a, b);
+        return Err(fault);
     }
     if !fits(Kind::Bool, b.kind) {
-        return Err(wrong_type(&b));
+        let fault = wrong_type(&b);
+        let_go_both(a, b);
+        return Err(fault);
     }
     let expr = TypedExpr::and(alloc, a.expr, b.expr)?;
     Ok(Operand {
@@ -215,10 +239,14 @@ fn disjoined(alloc: Global, span: Span, a: Operand, b: Operand) -> Result<Operan
     ensures { Answers result (disjoined span a b) }
 {
     if !fits(Kind::Bool, a.kind) {
-        return Err(wrong_type(&a));
+        let fault = wrong_type(&a);
+        let_go_both(a, b);
+        return Err(fault);
     }
     if !fits(Kind::Bool, b.kind) {
-        return Err(wrong_type(&b));
+        let fault = wrong_type(&b);
+        let_go_both(a, b);
+        return Err(fault);
     }
     let expr = TypedExpr::or(alloc, a.expr, b.expr)?;
     Ok(Operand {
@@ -269,10 +297,16 @@ pub(crate) fn chosen(
     ensures { Answers result (chosen span test a b) }
 {
     if !fits(Kind::Bool, test.kind) {
-        return Err(wrong_type(&test));
+        let fault = wrong_type(&test);
+        let_go_expr(test.expr);
+        let_go_both(a, b);
+        return Err(fault);
     }
     if !fits_beside(a.kind, b.kind) {
-        return Err(wrong_type(&b));
+        let fault = wrong_type(&b);
+        let_go_expr(test.expr);
+        let_go_both(a, b);
+        return Err(fault);
     }
     let kind = common_kind(a.kind, b.kind);
     let expr = TypedExpr::iif(alloc, test.expr, a.expr, b.expr)?;
@@ -284,7 +318,9 @@ fn measured(alloc: Global, span: Span, a: Operand) -> Result<Operand, TypeFault>
     ensures { Answers result (applied span OneForm.StrLen a) }
 {
     if !fits(Kind::Str, a.kind) {
-        return Err(wrong_type(&a));
+        let fault = wrong_type(&a);
+        let_go_expr(a.expr);
+        return Err(fault);
     }
     let expr = TypedExpr::str_len(alloc, a.expr)?;
     Ok(Operand {
@@ -299,7 +335,9 @@ fn spelled_out(alloc: Global, span: Span, a: Operand) -> Result<Operand, TypeFau
     ensures { Answers result (applied span OneForm.ToText a) }
 {
     if !fits(Kind::Int64, a.kind) {
-        return Err(wrong_type(&a));
+        let fault = wrong_type(&a);
+        let_go_expr(a.expr);
+        return Err(fault);
     }
     let expr = TypedExpr::to_text(alloc, a.expr)?;
     Ok(Operand {
@@ -314,7 +352,9 @@ fn made_null(alloc: Global, span: Span, a: Operand) -> Result<Operand, TypeFault
     ensures { Answers result (applied span OneForm.Missing a) }
 {
     if !fits(Kind::Int64, a.kind) {
-        return Err(wrong_type(&a));
+        let fault = wrong_type(&a);
+        let_go_expr(a.expr);
+        return Err(fault);
     }
     let expr = TypedExpr::missing(alloc, a.expr)?;
     Ok(Operand {

@@ -15,7 +15,7 @@ use std::alloc::Global;
 const MAX_TEXT: usize = 65535;
 
 /// What a token is in a literal.
-#[derive(Debug, Drop)]
+#[derive(Drop)]
 pub(crate) enum Mark {
     Value(Datum),
     Symbol(Symbol),
@@ -24,7 +24,7 @@ pub(crate) enum Mark {
 }
 
 /// Where a reader stands in a literal.
-#[derive(Debug, Drop)]
+#[derive(Drop)]
 pub(crate) enum Place {
     /// Before `[`.
     Start,
@@ -49,7 +49,7 @@ pub(crate) enum Place {
 }
 
 /// What is read of a literal: the values of each whole element, and the place behind them.
-#[derive(Debug, Drop)]
+#[derive(Drop)]
 pub(crate) struct Begun {
     pub(crate) elements: List<List<Datum>>,
     pub(crate) place: Place,

@@ -6,7 +6,7 @@ use cell_values::{Memory, Span};
 use schema_grammar::{SchemaFault, TypeKind};
 
 /// Why a statement is not typed.
-#[derive(Clone, Copy, Debug, PartialEq, Eq)]
+#[derive(Clone, Copy)]
 pub enum TypeFault {
     /// The first rule that the statement breaks, and the place of what breaks it.
     Rule { span: Span, kind: TypeKind },

@@ -6,7 +6,7 @@ ghost use Rattle.type_rules.specs.Operators.{query_named, change_named, operator
 use cell_values::{Name, Span};
 
 /// An operator: what a call gives an array, changes arrays, or lists something.
-#[derive(Clone, Copy, Debug, PartialEq, Eq)]
+#[derive(Clone, Copy)]
 pub enum Operator {
     Build,
     Scan,
@@ -32,7 +32,7 @@ pub enum Operator {
 }
 
 /// A function of an expression.
-#[derive(Clone, Copy, Debug, PartialEq, Eq)]
+#[derive(Clone, Copy)]
 pub enum Form {
     /// `iif`, of three operands.
     Iif,
@@ -41,7 +41,7 @@ pub enum Form {
 }
 
 /// A function of one operand.
-#[derive(Clone, Copy, Debug, PartialEq, Eq)]
+#[derive(Clone, Copy)]
 pub enum OneForm {
     IsNull,
     StrLen,
