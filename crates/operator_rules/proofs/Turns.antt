@@ -1,8 +1,8 @@
 -- Arguments in turn: one step, and what holds of all that is done.
-use Rattle.std.proofs.Common.{◌≡◌, ℕ, suc, ◌+◌, ◌<◌, IfOk, Ok, subst, List, [], ◌∷◌, ◌++◌, length, drop, slice_index_or, ap, ◌∙◌, arith}
+use Rattle.std.proofs.Common.{◌≡◌, ℕ, suc, ◌+◌, ◌-◌, ◌<◌, ◌≤◌, IfOk, Ok, sym, subst, List, [], ◌∷◌, ◌++◌, length, take, drop, get_or, slice_index_or, ap, ◌∙◌, arith}
 use Rattle.std.specs.List.{AllByRecursion}
 use Rattle.std.proofs.Math.Seq.{drop-cons}
-use Rattle.std.proofs.lemmas.List.{length-append}
+use Rattle.std.proofs.lemmas.List.{length-append, take_all}
 use Rattle.type_rules.specs.Checked.{Checked, then}
 use Rattle.type_rules.proofs.Holding.{thens, of_answer}
 use Rattle.operator_rules.specs.InTurn.{in_turn, pairs_in_turn}
@@ -13,6 +13,23 @@ turn step done xs i d h =
     let more : suc i ≡ i + 1 = omega arith in
     ap (in_turn step done) (drop-cons xs i d h)
     ∙ ap (λ (k : ℕ). then (step done (slice_index_or xs i d)) (λ y. in_turn step (done ++ y ∷ []) (drop k xs))) more
+
+-- one argument more
+pub turn_on : {A B : Type 0} (step : List B → A → Checked B) (done : List B) (xs : List A) (i : ℕ) (x : A) (y : B) → i < length xs → x ≡ slice_index_or xs i x → step done x ≡ Ok y
+    → in_turn step (done ++ y ∷ []) (drop (i + 1) xs) ≡ in_turn step done (drop i xs)
+turn_on {A} {B} step done xs i x y below is e =
+    let checked : step done (slice_index_or xs i x) ≡ Ok y = ap (λ (t : A). step done t) (sym is) ∙ e in
+    sym (turn step done xs i x below ∙ ap (λ (r : Checked B). then r (λ w. in_turn step (done ++ w ∷ []) (drop (i + 1) xs))) checked)
+
+-- one pair of arguments more
+pub pairs_turn : {A B : Type 0} (step : List B → A → A → Checked B) (done : List B) (xs : List A) (x y : A) (z : B) → 2 ≤ length xs → x ≡ get_or xs 0 x → y ≡ get_or xs 1 y → step done x y ≡ Ok z
+    → pairs_in_turn step (done ++ z ∷ []) (take (length xs - 2) (drop 2 xs)) ≡ pairs_in_turn step done xs
+pairs_turn step done [] x y z some e f g = absurd (omega (arith, some))
+pairs_turn step done (a ∷ []) x y z some e f g = absurd (omega (arith, some))
+pairs_turn {A} {B} step done (a ∷ b ∷ xs) x y z some e f g =
+    let rest : take (length (a ∷ b ∷ xs) - 2) xs ≡ xs = take_all (length (a ∷ b ∷ xs) - 2) xs (omega arith) in
+    let first : step done a b ≡ Ok z = ap (λ (t : A). step done t b) (sym e) ∙ ap (λ (t : A). step done x t) (sym f) ∙ g in
+    ap (pairs_in_turn step (done ++ z ∷ [])) rest ∙ sym (ap (λ (r : Checked B). then r (λ w. pairs_in_turn step (done ++ w ∷ []) xs)) first)
 
 -- what each step keeps, for arguments of which something holds
 module _ {A B : Type 0} (L : A → Type 0) (Kept : List B → Type 0) where

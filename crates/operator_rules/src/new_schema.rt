@@ -6,7 +6,7 @@ ghost use Rattle.type_rules.specs.Checked.{Answers};
 ghost use Rattle.operator_rules.specs.NewSchema.{by_new_schema, of_new_schema};
 
 use cell_values::{Attribute, Dimension, Memory, Schema, Span};
-use logical_plan::{Plan, schema_of};
+use logical_plan::{Plan, let_go, schema_of};
 use schema_grammar::TypeKind;
 use std::alloc::Global;
 use type_rules::{TypeFault, broken};
@@ -61,15 +61,15 @@ fn by_new_schema(span: Span, schema: &Schema, plan: Plan) -> Result<Plan, TypeFa
     ensures { Answers result (by_new_schema span schema.now (Ok plan)) }
 {
     if !are_few_dimensions(schema.dimensions.as_slice()) {
-        drop(plan);
+        let_go(plan);
         return Err(broken(span, TypeKind::TooManyDimensions));
     }
     if !are_few_attributes(schema.attributes.as_slice()) {
-        drop(plan);
+        let_go(plan);
         return Err(broken(span, TypeKind::TooManyAttributes));
     }
     if !frame_fits(schema.dimensions.as_slice()) {
-        drop(plan);
+        let_go(plan);
         return Err(broken(span, TypeKind::ChunkTooLarge));
     }
     Ok(plan)
@@ -89,7 +89,7 @@ pub fn of_new_schema(alloc: Global, span: Span, plan: Plan) -> Result<Plan, Type
     match shape_of(alloc, &plan) {
         Ok(schema) => by_new_schema(span, &schema, plan),
         Err(Memory) => {
-            drop(plan);
+            let_go(plan);
             Err(TypeFault::Memory)
         }
     }
