@@ -219,7 +219,12 @@ impl Arguments {
     {
         let Arguments { mut trees, depth } = self;
         let depth = depth.max(argument.depth);
-        trees.push(argument.into_tree())?;
-        Ok(Arguments { trees, depth })
+        match trees.push(argument.into_tree()) {
+            Ok(()) => Ok(Arguments { trees, depth }),
+            Err(Memory) => {
+                drop(trees);
+                Err(Memory)
+            }
+        }
     }
 }

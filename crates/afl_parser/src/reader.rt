@@ -326,10 +326,22 @@ fn settle(alloc: Global, line: u8, stack: Stack, tree: Grown) -> Result<(Stack, 
     let mut tree = tree;
     while let Some(frame) = stack.pop() {
         if !frame.ends(line) {
-            stack.push(frame)?;
-            return Ok((stack, tree));
+            match stack.push(frame) {
+                Ok(()) => return Ok((stack, tree)),
+                Err(Memory) => {
+                    drop(stack);
+                    drop(tree);
+                    return Err(Memory);
+                }
+            }
         }
-        tree = frame.close(alloc, tree)?;
+        match frame.close(alloc, tree) {
+            Ok(closed) => tree = closed,
+            Err(Memory) => {
+                drop(stack);
+                return Err(Memory);
+            }
+        }
     }
     Ok((stack, tree))
 }
