@@ -7,7 +7,7 @@ ghost use Rattle.cellwise_types.specs.Filter.{filter_by, filter_call, filter_of}
 
 use crate::source::typed_over;
 use afl_parser::Tree;
-use cell_values::{Kind, Memory, Schema, Span};
+use cell_values::{Kind, Schema, Span};
 use expr_nulls::let_go_expr;
 use expr_types::{Operand, fits};
 use logical_plan::{Plan, let_go};
@@ -69,13 +69,8 @@ fn filter_over(alloc: Global, source: Plan, test: &Tree) -> Result<Plan, TypeFau
     requires dimensions { length (schema_of source).dimensions ≤ 6 }
     ensures { Answers result (filter_of source (schema_of source) test.now) }
 {
-    match shape_of(alloc, &source) {
-        Ok(schema) => filter_of(alloc, source, &schema, test),
-        Err(Memory) => {
-            let_go(source);
-            Err(TypeFault::Memory)
-        }
-    }
+    let schema = shape_of(alloc, &source)?;
+    filter_of(alloc, source, &schema, test)
 }
 
 /// `filter` of a source, with what stands behind it.
