@@ -6,7 +6,7 @@ use Rattle.std.specs.List.{fold, list_all, range_with_len}
 use Rattle.afl_lexer.specs.declared.splitter.Place.{Place}
 use Rattle.afl_lexer.specs.declared.splitter.Place.TheVariants.{Outside, AfterDash, InText, AfterBackslash, InComment}
 use Rattle.afl_lexer.specs.Split.{next_place, is_white, is_passed_over, is_blank}
-use Rattle.afl_lexer.specs.Standing.{stays_blank}
+use Rattle.afl_lexer.specs.Inner.Standing.{stays_blank}
 
 -- `is_passed_over_at`, where the bytes begin at some place
 abbrev passed_from : Place → List ℕ → ℕ → Bool

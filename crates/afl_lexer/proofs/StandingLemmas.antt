@@ -9,7 +9,7 @@ use Rattle.afl_lexer.specs.declared.splitter.Place.{Place}
 use Rattle.afl_lexer.specs.declared.splitter.Place.TheVariants.{Outside, AfterDash, InText, AfterBackslash, InComment}
 use Rattle.afl_lexer.specs.declared.splitter.SplitStep.TheVariants as step
 use Rattle.afl_lexer.specs.Split.{Piece, place_after, next_place, is_outside, ends_piece, closed_pieces, last_piece, is_blank, is_too_long, statement_of, statements, closed_statements}
-use Rattle.afl_lexer.specs.Standing.{Splitting, Reads, Shows, reading, longer, ended, kept_bytes, keeps_blank, stays_blank, step_there, step_of, step_at, told}
+use Rattle.afl_lexer.specs.Inner.Standing.{Splitting, Reads, Shows, reading, longer, ended, kept_bytes, keeps_blank, stays_blank, step_there, step_of, step_at, told}
 use Rattle.afl_lexer.proofs.PieceLemmas.{closed_same, closed_more, last_longer, last_new, pieces_are}
 use Rattle.afl_lexer.proofs.BlankLemmas.{blank_by_bytes}
 

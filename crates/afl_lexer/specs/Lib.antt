@@ -1,8 +1,8 @@
+pub mod Inner
 pub mod Lexemes
 pub mod Outcome
 pub mod Quoted
 pub mod Scan
 pub mod Spelling
 pub mod Split
-pub mod Standing
 pub mod Tokens

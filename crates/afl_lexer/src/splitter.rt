@@ -1,8 +1,8 @@
 //! Cutting a script into statements, byte by byte.
 ghost use Rattle.std.specs.Prelude.{◌≡◌, ◌≢◌, ℕ, ◌<◌, ◌≤◌, ◌^◌, ◌==◌, ◌&&◌, false, List, [], ◌∷◌, ◌++◌, length, IfOk};
 ghost use Rattle.afl_lexer.specs.Split.{next_place, is_outside, is_white, last_piece, statements, closed_statements};
-ghost use Rattle.afl_lexer.specs.Standing.{StandsAfter, Shows, bytes_read, step_of, step_at, told};
-ghost use Rattle.afl_lexer.specs.Standing.{keeps_blank, may_end_blank, reading, longer, ended, step_there};
+ghost use Rattle.afl_lexer.specs.Inner.Standing.{StandsAfter, Shows, bytes_read, step_of, step_at, told};
+ghost use Rattle.afl_lexer.specs.Inner.Standing.{keeps_blank, may_end_blank, reading, longer, ended, step_there};
 
 use cell_values::Memory;
 use std::alloc::Global;
@@ -92,7 +92,7 @@ pub struct Splitter {
 impl Model for Splitter {
     ghost use Rattle.std.specs.Prelude.{◌≤◌, ◌-◌, ◌+◌, ◌^◌, if◌then◌else◌};
     ghost use Rattle.std.specs.Vec.{vec_len, vec_capacity};
-    ghost use Rattle.afl_lexer.specs.Standing.{Splitting, IsWithin};
+    ghost use Rattle.afl_lexer.specs.Inner.Standing.{Splitting, IsWithin};
 
     ghost Value = { Splitting };
 

@@ -6,7 +6,7 @@ use Rattle.std.proofs.lemmas.List.Sums.{suffix_len-le-length}
 use Rattle.std.specs.List.{suffix_len, prefix_len}
 use Rattle.afl_outside.specs.Disk.{written}
 use Rattle.afl_outside.specs.Images.{next_content, NextImages, content_after, ImagesAfter, Leaves, is_pending, synced_count, left_bytes, with_writes, stopped_image}
-use Rattle.afl_outside.specs.ImageLaws.{content_is_left, torn_over}
+use Rattle.afl_outside.specs.Lemmas.ImageLaws.{content_is_left, torn_over}
 use Rattle.afl_outside.specs.declared.device_call.DeviceCall.{DeviceCall}
 use Rattle.afl_outside.specs.declared.device_call.DeviceCall.TheVariants.{Length, Read, Write, Sync}
 

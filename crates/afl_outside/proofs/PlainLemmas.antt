@@ -2,7 +2,7 @@
 use Rattle.std.proofs.Common.{◌≡◌, ◌≤◌, ◌⊎◌, inr, ℕ, List, length, refl, sym, ◌∙◌, ap, subst, arith, Result, Ok, Err, OnOk, OnErr, Some}
 use Rattle.afl_outside.specs.Counts.{Rose}
 use Rattle.afl_outside.specs.Disk.{Torn, Elapses, Follows, Only, Writes, DiskGoesOn}
-use Rattle.afl_outside.specs.ImageLaws.{Torn-written, Torn-same}
+use Rattle.afl_outside.specs.Lemmas.ImageLaws.{Torn-written, Torn-same}
 use Rattle.afl_outside.specs.Plain.{PlainBytes, plain_state, plain_images, plain_since, PlainWrites}
 use Rattle.afl_outside.specs.declared.source.Failed.{Failed}
 

@@ -3,8 +3,8 @@ use Rattle.std.proofs.Common.{◌≡◌, ◌≤◌, ◌⊎◌, inl, inr, ℕ, Li
 use Rattle.afl_outside.specs.Counts.{risen, Rose}
 use Rattle.afl_outside.specs.Disk.{written, Torn, Elapses, Follows, Only, Writes, DiskGoesOn}
 use Rattle.afl_outside.specs.Images.{next_content, NextImages, content_after, IsNote}
-use Rattle.afl_outside.specs.ImageLaws.{content_after_push, images-push, elapses_push, elapses_same, content_is_left, Torn-written, Torn-same}
-use Rattle.afl_outside.specs.Records.{Recorded, with_call, content_of, images_of, images_since, MemoryDisk, MemoryCalls, SureBytes, SureCalls, memory_disk_state, sure_disk_state}
+use Rattle.afl_outside.specs.Lemmas.ImageLaws.{content_after_push, images-push, elapses_push, elapses_same, content_is_left, Torn-written, Torn-same}
+use Rattle.afl_outside.specs.Inner.Records.{Recorded, with_call, content_of, images_of, images_since, MemoryDisk, MemoryCalls, SureBytes, SureCalls, memory_disk_state, sure_disk_state}
 use Rattle.afl_outside.specs.declared.source.Failed.{Failed}
 use Rattle.afl_outside.specs.declared.device_call.DeviceCall.{DeviceCall}
 use Rattle.afl_outside.specs.declared.device_call.DeviceCall.TheVariants.{Length, Read, Write, Sync}

@@ -2,8 +2,8 @@
 ghost use Rattle.std.specs.Prelude.{◌≡◌, OnOk, OnErr};
 ghost use Rattle.afl_outside.specs.Disk.{written, ReadsAt};
 ghost use Rattle.afl_outside.specs.Images.{IsNote};
-ghost use Rattle.afl_outside.specs.Overlay.{laid_over};
-ghost use Rattle.afl_outside.specs.Records.{fresh, with_call, content_of};
+ghost use Rattle.afl_outside.specs.Inner.Overlay.{laid_over};
+ghost use Rattle.afl_outside.specs.Inner.Records.{fresh, with_call, content_of};
 
 use crate::device_call::DeviceCall;
 use crate::pieces::{copy_front, lay};
@@ -21,8 +21,8 @@ pub(crate) struct DiskRecord {
 impl Model for DiskRecord {
     ghost use Rattle.std.specs.Prelude.{◌≡◌};
     ghost use Rattle.afl_outside.specs.Images.{content_after};
-    ghost use Rattle.afl_outside.specs.Overlay.{laid_over};
-    ghost use Rattle.afl_outside.specs.Records.{Recorded};
+    ghost use Rattle.afl_outside.specs.Inner.Overlay.{laid_over};
+    ghost use Rattle.afl_outside.specs.Inner.Records.{Recorded};
 
     ghost Value = { Recorded };
 

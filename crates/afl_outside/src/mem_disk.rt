@@ -3,8 +3,8 @@ ghost use Rattle.std.specs.Prelude.{◌≡◌, ◌≤◌, ◌↔◌, [], length,
 ghost use Rattle.std.specs.Io.{ReadsAtMost};
 ghost use Rattle.afl_outside.specs.Disk.{ReadsAt};
 ghost use Rattle.afl_outside.specs.Images.{IsNote, Leaves, stopped_image};
-ghost use Rattle.afl_outside.specs.ImageLaws.{now_counts, only_images_now, content_is_left};
-ghost use Rattle.afl_outside.specs.Records.{new_disk, content_of, memory_disk_moment, FailsNext, MemoryCalls};
+ghost use Rattle.afl_outside.specs.Lemmas.ImageLaws.{now_counts, only_images_now, content_is_left};
+ghost use Rattle.afl_outside.specs.Inner.Records.{new_disk, content_of, memory_disk_moment, FailsNext, MemoryCalls};
 
 use crate::device_call::DeviceCall;
 use crate::disk_record::DiskRecord;
@@ -25,7 +25,7 @@ pub struct MemDisk {
 }
 
 impl Model for MemDisk {
-    ghost use Rattle.afl_outside.specs.Records.{MemoryDisk};
+    ghost use Rattle.afl_outside.specs.Inner.Records.{MemoryDisk};
 
     ghost Value = { MemoryDisk };
 

@@ -2,7 +2,7 @@
 ghost use Rattle.std.specs.Prelude.{◌≡◌, ◌≤◌};
 ghost use Rattle.afl_outside.specs.Counts.{risen};
 ghost use Rattle.afl_outside.specs.InMemory.{new_source};
-ghost use Rattle.afl_outside.specs.Records.{new_disk};
+ghost use Rattle.afl_outside.specs.Inner.Records.{new_disk};
 ghost use Rattle.afl_outside.specs.Files.{new_shelf, memory_shelf_state, OpensFile, OpensReply};
 
 use crate::files::take_file;

@@ -2,7 +2,7 @@
 ghost use Rattle.std.specs.Prelude.{◌≡◌, ◌≤◌, length, IsOk, IfOk};
 ghost use Rattle.std.specs.Io.{ReadsAtMost};
 ghost use Rattle.afl_outside.specs.Disk.{ReadsAt};
-ghost use Rattle.afl_outside.specs.Overlay.{laid_over};
+ghost use Rattle.afl_outside.specs.Inner.Overlay.{laid_over};
 ghost use Rattle.afl_outside.specs.Plain.{plain_disk, plain_moment, plain_now, plain_only, plain_read, PlainWrites};
 
 use crate::disk_record::lay_over;
@@ -20,7 +20,7 @@ pub struct PlainDisk {
 }
 
 impl Model for PlainDisk {
-    ghost use Rattle.afl_outside.specs.Overlay.{laid_over};
+    ghost use Rattle.afl_outside.specs.Inner.Overlay.{laid_over};
     ghost use Rattle.afl_outside.specs.Plain.{PlainBytes};
 
     ghost Value = { PlainBytes };

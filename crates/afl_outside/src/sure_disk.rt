@@ -2,8 +2,8 @@
 ghost use Rattle.std.specs.Prelude.{◌≡◌, ◌≤◌, length, IsOk, IfOk, true};
 ghost use Rattle.std.specs.Io.{ReadsAtMost};
 ghost use Rattle.afl_outside.specs.Disk.{ReadsAt};
-ghost use Rattle.afl_outside.specs.ImageLaws.{now_counts, only_images_now, content_is_left};
-ghost use Rattle.afl_outside.specs.Records.{unwritten_disk, content_of, sure_disk_moment, SureCalls};
+ghost use Rattle.afl_outside.specs.Lemmas.ImageLaws.{now_counts, only_images_now, content_is_left};
+ghost use Rattle.afl_outside.specs.Inner.Records.{unwritten_disk, content_of, sure_disk_moment, SureCalls};
 
 use crate::device_call::DeviceCall;
 use crate::disk_record::DiskRecord;
@@ -20,7 +20,7 @@ pub struct SureDisk {
 }
 
 impl Model for SureDisk {
-    ghost use Rattle.afl_outside.specs.Records.{SureBytes};
+    ghost use Rattle.afl_outside.specs.Inner.Records.{SureBytes};
 
     ghost Value = { SureBytes };
 

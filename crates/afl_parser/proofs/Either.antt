@@ -5,7 +5,7 @@ use Rattle.std.proofs.Math.Seq.{take-append_seam, drop-append_seam}
 use Rattle.afl_lexer.specs.Lexemes.{Placed}
 use Rattle.afl_parser.specs.Term.{Term}
 use Rattle.afl_parser.specs.Grammar.{IsStatement, Stops}
-use Rattle.afl_parser.specs.Machine.{Turn, Go, Stop, turn, run, go_on, finished}
+use Rattle.afl_parser.specs.Inner.Machine.{Turn, Go, Stop, turn, run, go_on, finished}
 use Rattle.afl_parser.specs.declared.kind.StopKind.{StopKind}
 use Rattle.afl_parser.specs.declared.kind.StopKind.TheVariants.{Unexpected}
 use Rattle.afl_parser.specs.declared.frame.Frame.{Frame}

@@ -7,8 +7,8 @@ use Rattle.afl_lexer.specs.Lexemes.{lexeme_of, Placed}
 use Rattle.afl_parser.specs.Term.{Term}
 use Rattle.afl_parser.specs.Grammar.{IsStatement, Stops}
 use Rattle.afl_parser.specs.Statement.{lexemes}
-use Rattle.afl_parser.specs.Machine.{Go, turn, run, go_on, finish, finished, Fits}
-use Rattle.afl_parser.specs.Reply.{Gives, GivesWhole, placed, IsTokenStop}
+use Rattle.afl_parser.specs.Inner.Machine.{Go, turn, run, go_on, finish, finished, Fits}
+use Rattle.afl_parser.specs.Inner.Reply.{Gives, GivesWhole, placed, IsTokenStop}
 use Rattle.afl_parser.specs.declared.frame.Frame.{Frame}
 use Rattle.afl_parser.specs.declared.frame.Focus.{Focus}
 use Rattle.afl_parser.specs.declared.frame.Focus.TheVariants.{Start}

@@ -12,7 +12,7 @@ use Rattle.schema_grammar.specs.declared.shape_text.SchemaText.{SchemaText}
 use Rattle.schema_grammar.specs.declared.shape_text.AttrText.{AttrText}
 use Rattle.schema_grammar.specs.declared.shape_text.DimText.{DimText}
 use Rattle.schema_grammar.specs.Spelling.{placed, across, SpellsAttrs, SpellsDims, SpellsSchema}
-use Rattle.schema_grammar.specs.SchemaMarks.{nowhere, bare_shape, shape_marks}
+use Rattle.schema_grammar.specs.Inner.SchemaMarks.{nowhere, bare_shape, shape_marks}
 use Rattle.schema_grammar.proofs.SchemaPrinted.{whats, shape_again}
 use Rattle.afl_parser.specs.Term.{Term, create, number, text, truth, null, missing, reference, version, call, schema, star, renamed, opposite, negative, binary, group, Terms, no_terms, and_term}
 use Rattle.afl_parser.specs.Grammar.{left_line, right_line, op_of, line, span_of, truth_word, height, heights, Spells, SpellsArguments, SpellsMore, SpellsCreate, Derives}

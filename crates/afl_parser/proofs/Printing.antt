@@ -21,7 +21,7 @@ use Rattle.schema_grammar.specs.declared.shape_text.AttrText.{AttrText}
 use Rattle.schema_grammar.specs.declared.shape_text.DimText.{DimText}
 use Rattle.schema_grammar.specs.Spelling.{unbounded, SpellsNull, SpellsAttr, SpellsAttrs, SpellsBound, SpellsHigh, SpellsDim, SpellsDims, SpellsSchema}
 use Rattle.schema_grammar.specs.SchemaBytes.{shape_bytes}
-use Rattle.schema_grammar.specs.SchemaMarks.{shape_marks, IsAttrPrintable, IsDimPrintable, IsPrintable}
+use Rattle.schema_grammar.specs.Inner.SchemaMarks.{shape_marks, IsAttrPrintable, IsDimPrintable, IsPrintable}
 use Rattle.schema_grammar.proofs.SchemaPrinted.{shape_spelled, shape_apart}
 use Rattle.afl_parser.specs.Term.{Term, create, number, text, truth, null, missing, reference, version, call, schema, star, renamed, opposite, negative, binary, group, Terms, no_terms, and_term}
 use Rattle.afl_parser.specs.Grammar.{truth_word, Spells, SpellsArguments, SpellsMore, SpellsCreate, Derives}

@@ -10,7 +10,7 @@ use Rattle.afl_lexer.specs.Outcome.{IsStop, AnswersTokens}
 use Rattle.afl_parser.specs.Term.{Term}
 use Rattle.afl_parser.specs.Grammar.{IsStatement, Stops}
 use Rattle.afl_parser.specs.Statement.{lexemes, DerivesText, StopsText, start_of, lexical, syntactic}
-use Rattle.afl_parser.specs.Reply.{IsTokenStop, at_token, in_token}
+use Rattle.afl_parser.specs.Inner.Reply.{IsTokenStop, at_token, in_token}
 use Rattle.afl_parser.specs.Outcome.{IsTextStop, AnswersTree, AnswersStop}
 use Rattle.afl_parser.specs.declared.kind.StopKind.{StopKind}
 use Rattle.afl_parser.specs.declared.parser.TokenFault.{TokenFault}

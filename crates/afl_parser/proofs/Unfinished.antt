@@ -1,7 +1,7 @@
 -- Only behind a tree may a statement end.
 use Rattle.std.proofs.Common.{◌≡◌, None, List, refl}
 use Rattle.afl_parser.specs.Term.{Term}
-use Rattle.afl_parser.specs.Machine.{finished}
+use Rattle.afl_parser.specs.Inner.Machine.{finished}
 use Rattle.afl_parser.specs.declared.frame.Frame.{Frame}
 use Rattle.afl_parser.specs.declared.frame.Focus.{Focus}
 use Rattle.afl_parser.specs.declared.frame.Focus.TheVariants.{Made, Have}

@@ -1,10 +1,7 @@
 pub mod Grammar
-pub mod Machine
+pub mod Inner
+pub mod Lemmas
 pub mod Outcome
 pub mod Print
-pub mod Reply
 pub mod Statement
 pub mod Term
-pub mod TermCode
-pub mod TreeFalls
-pub mod View

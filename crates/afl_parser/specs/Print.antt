@@ -4,7 +4,7 @@ use Rattle.std.specs.Fmt.{decimal, signed_decimal}
 use Rattle.std.specs.List.{join_with_byte}
 use Rattle.afl_lexer.specs.Spelling.{quoted_text}
 use Rattle.schema_grammar.specs.SchemaBytes.{shape_bytes}
-use Rattle.schema_grammar.specs.SchemaMarks.{nowhere, bare_shape}
+use Rattle.schema_grammar.specs.Inner.SchemaMarks.{nowhere, bare_shape}
 use Rattle.afl_parser.specs.Term.{Term, create, number, text, truth, null, missing, reference, version, call, schema, star, renamed, opposite, negative, binary, group, Terms, no_terms, and_term}
 use Rattle.afl_parser.specs.Statement.{DerivesText}
 use Rattle.afl_parser.specs.declared.tree.BinaryOp.{BinaryOp}

@@ -1,7 +1,7 @@
 //! Copies of trees.
 ghost use Rattle.std.specs.Prelude.{◌≡◌, IfOk};
 ghost use Rattle.cell_values.specs.declared.name.Span.{Span};
-ghost use Rattle.afl_parser.specs.View.{term_of};
+ghost use Rattle.afl_parser.specs.Inner.View.{term_of};
 
 use crate::{Node, Tree};
 use cell_values::{Copies, Memory};

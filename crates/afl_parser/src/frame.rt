@@ -1,7 +1,7 @@
 //! The stack of open nodes.
 ghost use Rattle.std.specs.Prelude.{◌≡◌, [], ◌∷◌, ◌+◌, ◌<◌, ◌^◌, OnOk, IfOk, MatchOption, length};
 ghost use Rattle.afl_parser.specs.Grammar.{height};
-ghost use Rattle.afl_parser.specs.Machine.{wanted, want, ends, close, frame_height};
+ghost use Rattle.afl_parser.specs.Inner.Machine.{wanted, want, ends, close, frame_height};
 
 use crate::grown::{Arguments, Grown};
 use crate::tree::across;

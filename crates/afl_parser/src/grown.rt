@@ -18,7 +18,7 @@ pub(crate) struct Grown {
 impl Model for Grown {
     ghost use Rattle.std.specs.Prelude.{◌≡◌};
     ghost use Rattle.afl_parser.specs.Term.{Term};
-    ghost use Rattle.afl_parser.specs.TermCode.{term_code};
+    ghost use Rattle.afl_parser.specs.Lemmas.TermCode.{term_code};
     ghost use Rattle.afl_parser.specs.Grammar.{height};
 
     ghost Value = { Term };
@@ -41,7 +41,7 @@ impl Model for Arguments {
     ghost use Rattle.std.specs.Prelude.{◌≡◌, List};
     ghost use Rattle.std.specs.Coded.{coded_list};
     ghost use Rattle.afl_parser.specs.Term.{Term, to_terms};
-    ghost use Rattle.afl_parser.specs.TermCode.{term_code};
+    ghost use Rattle.afl_parser.specs.Lemmas.TermCode.{term_code};
     ghost use Rattle.afl_parser.specs.Grammar.{heights};
 
     ghost Value = { List Term };

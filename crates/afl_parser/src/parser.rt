@@ -4,7 +4,7 @@ ghost use Rattle.afl_lexer.specs.Tokens.{IsTokenOf};
 ghost use Rattle.afl_parser.specs.Term.{Term};
 ghost use Rattle.afl_parser.specs.Grammar.{IsStatement};
 ghost use Rattle.afl_parser.specs.Statement.{lexemes, DerivesText, StopsText, start_of};
-ghost use Rattle.afl_parser.specs.Reply.{placed, IsTokenStop, at_token, in_token};
+ghost use Rattle.afl_parser.specs.Inner.Reply.{placed, IsTokenStop, at_token, in_token};
 ghost use Rattle.afl_parser.specs.Outcome.{IsTextStop, AnswersTree, AnswersStop};
 ghost use Rattle.afl_parser.specs.declared.kind.ParseKind.{ParseKind};
 

@@ -2,7 +2,7 @@
 ghost use Rattle.std.specs.Prelude.{◌≡◌};
 ghost use Rattle.schema_grammar.specs.Spelling.{across};
 ghost use Rattle.afl_parser.specs.Grammar.{line_of, left_line, right_line, line, span_of};
-ghost use Rattle.afl_parser.specs.Machine.{reference_of};
+ghost use Rattle.afl_parser.specs.Inner.Machine.{reference_of};
 
 use cell_values::{Bytes, Code, Name, Span};
 use schema_grammar::SchemaText;
@@ -63,19 +63,19 @@ pub enum BinaryOp {
 
 impl Model for Tree {
     ghost use Rattle.afl_parser.specs.Term.{Term, term_size};
-    ghost use Rattle.afl_parser.specs.TermCode.{term_code};
+    ghost use Rattle.afl_parser.specs.Lemmas.TermCode.{term_code};
 
     ghost Value = { Term };
 
     ghost coded = { term_code };
 
-    ghost use Rattle.afl_parser.specs.View.{term_of};
+    ghost use Rattle.afl_parser.specs.Inner.View.{term_of};
 
     ghost view = { λ a. term_of a.span a.node };
 
     ghost size = { term_size };
 
-    ghost use Rattle.afl_parser.specs.TreeFalls.{depth_le-size};
+    ghost use Rattle.afl_parser.specs.Lemmas.TreeFalls.{depth_le-size};
 
     ghost size_decreases = { λ a h. depth_le-size a.span a.node };
 }

@@ -5,11 +5,11 @@ use Rattle.cell_values.specs.declared.name.Span.{Span}
 use Rattle.schema_grammar.specs.declared.kinds.TypeKind.{TypeKind}
 use Rattle.afl_parser.specs.Term.{Term}
 use Rattle.logical_plan.specs.Query.{Query}
-use Rattle.type_rules.specs.Checked.{Answers, Checked}
-use Rattle.type_rules.specs.Checked.{refused as broken}
-use Rattle.type_rules.specs.declared.fault.TypeFault.{TypeFault}
-use Rattle.type_rules.specs.declared.fault.TypeFault.TheVariants.{Rule}
-use Rattle.query_types.specs.Queries.{query_of}
+use Rattle.check_rules.specs.Checked.{Answers, Checked}
+use Rattle.check_rules.specs.Checked.{refused as broken}
+use Rattle.check_rules.specs.declared.rules.fault.TypeFault.{TypeFault}
+use Rattle.check_rules.specs.declared.rules.fault.TypeFault.TheVariants.{Rule}
+use Rattle.afl_types.specs.Queries.{query_of}
 use Rattle.result_print.specs.declared.refusal.Refusal.TheVariants.{Typing}
 use Rattle.afl_types.specs.Checking.{check_of}
 use Rattle.afl_types.specs.Statements.{queried}

@@ -2,13 +2,13 @@
 use Rattle.std.proofs.Common.{◌≡◌, ℕ, ◌+◌, ◌<◌, List, [], ◌∷◌, ◌++◌, length, take, get_or, true, false, refl, sym, ◌∙◌, ap, subst, append_assoc}
 use Rattle.std.proofs.lemmas.List.{take_more}
 use Rattle.afl_lexer.specs.Split.{Statement, statements, closed_statements}
-use Rattle.afl_lexer.specs.Standing.{Splitting}
+use Rattle.afl_lexer.specs.Inner.Standing.{Splitting}
 use Rattle.std.specs.Io.KnownBytes.{IsAtEnd}
 use Rattle.afl_outside.specs.Counts.{Rose}
 use Rattle.afl_outside.specs.Source.{SourceState, Gives}
 use Rattle.afl_outside.specs.Sink.{SinkState}
 use Rattle.afl_run.specs.Session.{Replies, Serves}
-use Rattle.afl_run.specs.Serving.{HasAnswered, HasStopped, IsServing, StopsWithin, EndsServing, end_of}
+use Rattle.afl_run.specs.Inner.Serving.{HasAnswered, HasStopped, IsServing, StopsWithin, EndsServing, end_of}
 use Rattle.afl_run.specs.declared.report.SessionEnd.{SessionEnd}
 use Rattle.afl_run.specs.declared.report.Mark.{Mark}
 use Rattle.afl_run.specs.declared.report.SessionEnd.TheVariants.{Whole, Source}

@@ -6,7 +6,7 @@ use Rattle.cell_values.specs.declared.schema.Schema.{Schema}
 use Rattle.logical_plan.specs.Faults.{fault_of}
 use Rattle.logical_plan.specs.Meaning.{Meant, meaning, whole}
 use Rattle.logical_plan.specs.Query.{Query}
-use Rattle.plan_rows.specs.declared.rows.PlanRows.TheVariants.{Fault, Rows}
+use Rattle.plan_rows.specs.declared.answers.rows.PlanRows.TheVariants.{Fault, Rows}
 use Rattle.plan_rows.specs.Found.{IsFound, nothing}
 use Rattle.result_print.specs.declared.refusal.Refusal.TheVariants.{Cell}
 use Rattle.result_print.specs.Texts.{array_text}

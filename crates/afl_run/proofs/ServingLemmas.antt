@@ -9,7 +9,7 @@ use Rattle.afl_outside.specs.Sink.{SinkState, Takes}
 use Rattle.afl_outside.proofs.Streams.{Takes-more}
 use Rattle.afl_run.specs.Reply.{memory_line}
 use Rattle.afl_run.specs.Session.{AreAnswered, IsAnswered, IsReplyToStatement}
-use Rattle.afl_run.specs.Serving.{HasAnswered, HasStopped, mark_at, statement_at}
+use Rattle.afl_run.specs.Inner.Serving.{HasAnswered, HasStopped, mark_at, statement_at}
 use Rattle.result_print.specs.declared.refusal.Refusal.TheVariants as refusals
 use Rattle.afl_run.specs.declared.reply.Reply.{Reply}
 use Rattle.afl_run.specs.declared.report.Mark.{Mark}

@@ -1,7 +1,7 @@
+pub mod Inner
 pub mod Notice
 pub mod Reply
 pub mod Run
-pub mod Serving
 pub mod Session
 pub mod Unbuilt
 pub mod Words

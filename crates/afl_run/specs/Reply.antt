@@ -15,10 +15,10 @@ use Rattle.logical_plan.specs.declared.names.Names.{Names}
 use Rattle.logical_plan.specs.Query.{Query as AQuery}
 use Rattle.logical_plan.specs.Faults.{first_fault}
 use Rattle.logical_plan.specs.Meaning.{Meant, meaning}
-use Rattle.type_rules.specs.Checked.{Checked}
+use Rattle.check_rules.specs.Checked.{Checked}
 use Rattle.afl_types.specs.Checking.{check_of}
-use Rattle.afl_types.specs.declared.checking.Typed.{Typed}
-use Rattle.afl_types.specs.declared.checking.Typed.TheVariants.{Query, Change, Versions, Show, ListArrays}
+use Rattle.afl_types.specs.declared.statements.checking.Typed.{Typed}
+use Rattle.afl_types.specs.declared.statements.checking.Typed.TheVariants.{Query, Change, Versions, Show, ListArrays}
 use Rattle.plan_rows.specs.Found.{nothing}
 use Rattle.result_print.specs.Texts.{array_text}
 use Rattle.result_print.specs.Lines.{line_of_refusal}

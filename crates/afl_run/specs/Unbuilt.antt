@@ -2,9 +2,9 @@
 -- something: `store`, `insert`, `remove`, `remove_versions`, `versions`, `show` or `list`.
 use Rattle.std.specs.Prelude.{Bool, true, false, ◌||◌, Option, Some}
 use Rattle.afl_parser.specs.Term.{Term, create, number, text, truth, null, missing, reference, version, call, schema, star, renamed, opposite, negative, binary, group, Terms, no_terms, and_term}
-use Rattle.type_rules.specs.declared.operator.Operator.{Operator}
-use Rattle.type_rules.specs.declared.operator.Operator.TheVariants.{Store, Insert, Remove, RemoveVersions, Versions, Show, ListNames}
-use Rattle.type_rules.specs.Operators.{operator_named}
+use Rattle.check_rules.specs.declared.rules.operator.Operator.{Operator}
+use Rattle.check_rules.specs.declared.rules.operator.Operator.TheVariants.{Store, Insert, Remove, RemoveVersions, Versions, Show, ListNames}
+use Rattle.check_rules.specs.Operators.{operator_named}
 
 -- an operator, if any, that is not built
 abbrev pub is_to_come : Option Operator → Bool

@@ -1,19 +1,19 @@
 //! The reply to a statement.
 ghost use Rattle.std.specs.Prelude.{◌≡◌, ◌≤◌, [], false, length, IfOk, IsTrue};
-ghost use Rattle.expr_types.specs.Laws.{leaves_fit};
+ghost use Rattle.check_exprs.specs.Laws.{leaves_fit};
 ghost use Rattle.plan_rows.specs.Found.{CanAnswer};
-ghost use Rattle.type_rules.specs.Checked.{Answers};
-ghost use Rattle.query_types.specs.Queries.{query_of};
+ghost use Rattle.check_rules.specs.Checked.{Answers};
+ghost use Rattle.afl_types.specs.Queries.{query_of};
 ghost use Rattle.afl_types.specs.Checking.{check_of};
 ghost use Rattle.afl_run.specs.Reply.{IsReplyTo, checked_reply, no_names, plan_reply, refused, reply_to_tree};
 ghost use Rattle.afl_run.specs.Unbuilt.{is_unbuilt};
 
 use crate::unbuilt::is_unbuilt;
 use afl_parser::{ParseFault, Tree, parse};
+use afl_types::{TypeFault, query_plan};
 use cell_values::{Broken, Bytes, List, Memory};
 use logical_plan::{Names, Plan};
 use plan_rows::{PlanRows, rows_of};
-use query_types::{TypeFault, query_plan};
 use result_print::{Refusal, dcsv, refusal_line};
 use std::alloc::Global;
 

@@ -1,9 +1,9 @@
 //! A session, from the bytes of its script to the texts of its replies.
 ghost use Rattle.std.specs.Prelude.{◌≡◌, ℕ, List, [], ◌∷◌, ◌++◌, ◌+◌, ◌-◌, ◌<◌, ◌≤◌, ◌^◌, length, option_map, vec_capacity, vec_len, IfErr, IfOk, IfSome, OnOk};
 ghost use Rattle.afl_lexer.specs.Split.{Statement};
-ghost use Rattle.afl_lexer.specs.Standing.{StandsAfter, told};
+ghost use Rattle.afl_lexer.specs.Inner.Standing.{StandsAfter, told};
 ghost use Rattle.afl_outside.specs.Sink.{SinkState};
-ghost use Rattle.afl_run.specs.Serving.{EndsServing, HasAnswered, HasStopped, IsServing, StopsWithin, end_of, mark_at, statement_at};
+ghost use Rattle.afl_run.specs.Inner.Serving.{EndsServing, HasAnswered, HasStopped, IsServing, StopsWithin, end_of, mark_at, statement_at};
 ghost use Rattle.afl_run.specs.Session.{IsReplyToStatement, Serves};
 
 use crate::reply::{Reply, refuse, reply_to};

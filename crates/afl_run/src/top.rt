@@ -1,6 +1,6 @@
 //! The top call.
 ghost use Rattle.std.specs.Prelude.{◌≡◌, ◌≢◌, ◌↔◌, ◌⊎◌, ◌≤◌, ◌+◌, ◌^◌, length, ℕ, Some, None, All, Any, IsSome, IsTrue, IfOk, [], ◌∷◌, ◌<◌, vec_capacity};
-ghost use Rattle.afl_lexer.specs.Standing.{StandsAfter};
+ghost use Rattle.afl_lexer.specs.Inner.Standing.{StandsAfter};
 ghost use Rattle.std.specs.List.{list_any};
 ghost use Rattle.afl_outside.specs.Counts.{Rose};
 ghost use Rattle.afl_outside.specs.Sink.{IsNewSink};

@@ -1,8 +1,8 @@
 -- What a statement is by the part that makes it.
 use Rattle.std.proofs.Common.{◌≡◌, ◌∙◌, Ok, Err, ap}
-use Rattle.type_rules.specs.Checked.{Checked, Answers, then}
-use Rattle.type_rules.specs.declared.fault.TypeFault.{TypeFault}
-use Rattle.type_rules.specs.declared.fault.TypeFault.TheVariants.{Rule, Memory}
+use Rattle.check_rules.specs.Checked.{Checked, Answers, then}
+use Rattle.check_rules.specs.declared.rules.fault.TypeFault.{TypeFault}
+use Rattle.check_rules.specs.declared.rules.fault.TypeFault.TheVariants.{Rule, Memory}
 
 module _ {A B : Type 0} (next : A → Checked B) (part : Checked A) where
   pub ok_part : (a : A) (b : B) → next a ≡ Ok b → Answers (Ok a) part → Answers (Ok b) (then part next)

@@ -4,7 +4,7 @@ use Rattle.cell_values.specs.declared.name.Span.{Span}
 use Rattle.schema_grammar.specs.declared.kinds.TypeKind.TheVariants.{WrongCount}
 use Rattle.afl_parser.specs.Term.{Term, to_terms}
 use Rattle.logical_plan.specs.declared.names.NameEntry.{NameEntry}
-use Rattle.type_rules.specs.Checked.{refused}
+use Rattle.check_rules.specs.Checked.{refused}
 use Rattle.afl_types.specs.Statements.{insert_of, store_of}
 
 module _ (arrays : List NameEntry) (s : Span) where

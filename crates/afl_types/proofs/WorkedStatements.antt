@@ -8,11 +8,11 @@ use Rattle.schema_grammar.specs.Rules.{schema_of}
 use Rattle.afl_parser.specs.Term.{Term, create, number, text, truth, reference, version, call, group, negative, no_terms, and_term}
 use Rattle.logical_plan.specs.declared.names.NameEntry.{NameEntry}
 use Rattle.plan_changes.specs.declared.change.Change.TheVariants.{Create, Store, Insert, Remove, RemoveVersions}
-use Rattle.type_rules.specs.Checked.{refused}
-use Rattle.type_rules.specs.Operators.{query_named, change_named}
-use Rattle.source_types.specs.Stored.{leaf_of}
+use Rattle.check_rules.specs.Checked.{refused}
+use Rattle.check_rules.specs.Operators.{query_named, change_named}
+use Rattle.check_sources.specs.Stored.{leaf_of}
 use Rattle.afl_types.specs.Statements.{statement_of}
-use Rattle.afl_types.specs.declared.checking.Typed.TheVariants.{Query as AQuery, Change as AChange, Versions, Show, ListArrays}
+use Rattle.afl_types.specs.declared.statements.checking.Typed.TheVariants.{Query as AQuery, Change as AChange, Versions, Show, ListArrays}
 
 abbrev at : ℕ → ℕ → Span
 at a b = record { start = a; end = b }

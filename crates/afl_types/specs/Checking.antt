@@ -2,10 +2,10 @@
 use Rattle.std.specs.Prelude.{ℕ, List}
 use Rattle.afl_parser.specs.Term.{Term}
 use Rattle.logical_plan.specs.declared.names.Names.{Names}
-use Rattle.type_rules.specs.Checked.{Checked}
-pub use Rattle.query_types.specs.Arrays.{AreValid}
+use Rattle.check_rules.specs.Checked.{Checked}
+pub use Rattle.afl_types.specs.Arrays.{AreValid}
 use Rattle.afl_types.specs.Statements.{statement_of}
-use Rattle.afl_types.specs.declared.checking.Typed.{Typed}
+use Rattle.afl_types.specs.declared.statements.checking.Typed.{Typed}
 
 -- a tree of a text
 abbrev pub check_of : Term → List ℕ → Names → Checked Typed

@@ -11,15 +11,15 @@ use Rattle.logical_plan.specs.Query.{Query}
 use Rattle.logical_plan.specs.declared.names.NameEntry.{NameEntry}
 use Rattle.plan_changes.specs.declared.change.Change.{Change}
 use Rattle.plan_changes.specs.declared.change.Change.TheVariants as change
-use Rattle.type_rules.specs.Checked.{Checked, refused, then}
-use Rattle.type_rules.specs.Operators.{operator_named}
-use Rattle.type_rules.specs.declared.operator.Operator.{Operator}
-use Rattle.type_rules.specs.declared.operator.Operator.TheVariants as operator
-use Rattle.change_types.specs.Changes.{created, store_call, insert_call, array_call, cut_call, list_call}
-use Rattle.change_types.specs.Place.{created_place}
-use Rattle.query_types.specs.Queries.{query_of}
-use Rattle.afl_types.specs.declared.checking.Typed.{Typed}
-use Rattle.afl_types.specs.declared.checking.Typed.TheVariants.{Query as AQuery, Change as AChange, Versions, Show, ListArrays}
+use Rattle.check_rules.specs.Checked.{Checked, refused, then}
+use Rattle.check_rules.specs.Operators.{operator_named}
+use Rattle.check_rules.specs.declared.rules.operator.Operator.{Operator}
+use Rattle.check_rules.specs.declared.rules.operator.Operator.TheVariants as operator
+use Rattle.afl_types.specs.Changes.{created, store_call, insert_call, array_call, cut_call, list_call}
+use Rattle.afl_types.specs.Place.{created_place}
+use Rattle.afl_types.specs.Queries.{query_of}
+use Rattle.afl_types.specs.declared.statements.checking.Typed.{Typed}
+use Rattle.afl_types.specs.declared.statements.checking.Typed.TheVariants.{Query as AQuery, Change as AChange, Versions, Show, ListArrays}
 
 abbrev pub queried : Checked Query → Checked Typed
 queried checked = then checked (λ plan. Ok (AQuery plan))

@@ -1,8 +1,12 @@
 //! Checking: from the tree of a statement to what it is, typed, or to the first rule that it breaks.
 #![tactic(auto)]
 
-mod checking;
-mod statement;
+mod changes;
+mod queries;
+mod statements;
 
-pub use checking::{Typed, check, let_go_typed};
-pub use query_types::{Form, OneForm, Operator, TypeFault, operator_named};
+pub use changes::{Target, array_call, create_array, cut_call, insert_call, list_call, store_call};
+pub use queries::{
+    Call, Form, OneForm, Operator, OverSource, OverTwo, TypeFault, operator_named, query_plan,
+};
+pub use statements::{Typed, check, let_go_typed};

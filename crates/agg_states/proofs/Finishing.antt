@@ -32,7 +32,7 @@ use Rattle.logical_plan.specs.Typing.{takes, is_aggregate_of}
 use Rattle.agg_states.specs.Best.{value_order, IsOneOf, IsBestFor}
 use Rattle.agg_states.specs.Merged.{keeps_one, total_or_null, outcome, finished}
 use Rattle.agg_states.specs.Stands.{fault_at, values_in, StandsFor}
-use Rattle.agg_states.specs.Summary.{Summary}
+use Rattle.agg_states.specs.Inner.Summary.{Summary}
 use Rattle.agg_states.proofs.FaultLaws.{fault_kind}
 use Rattle.agg_states.proofs.Reorderings.{all-one}
 

@@ -12,7 +12,7 @@ use Rattle.logical_plan.specs.Groups.{attribute_of, number_of, sum_of}
 use Rattle.agg_states.specs.Best.{IsBestFor}
 use Rattle.agg_states.specs.Merged.{earlier, count_of, best_with, better}
 use Rattle.agg_states.specs.Stands.{fault_at, values_in, StandsFor, AreApart}
-use Rattle.agg_states.specs.Summary.{Summary}
+use Rattle.agg_states.specs.Inner.Summary.{Summary}
 use Rattle.agg_states.proofs.BestLaws.{best-reordered, best_with_stands, better_stands}
 use Rattle.agg_states.proofs.FaultLaws.{fault-put_row, fault-put_all}
 use Rattle.agg_states.proofs.Reorderings.{length-reordered, sum-reordered, sum-append}

@@ -9,7 +9,7 @@ use Rattle.logical_plan.specs.declared.parts.Aggregate.{Aggregate}
 use Rattle.logical_plan.specs.declared.parts.AggFunction.TheVariants.{Sum, Min}
 use Rattle.logical_plan.specs.Groups.{cells_of, aggregate_of}
 use Rattle.agg_states.specs.Stands.{StandsFor}
-use Rattle.agg_states.specs.Summary.{Summary}
+use Rattle.agg_states.specs.Inner.Summary.{Summary}
 
 abbrev sum : Aggregate
 sum = record { function = Sum; attribute = 0; name = codes "v_sum" }

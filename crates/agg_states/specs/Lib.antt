@@ -1,5 +1,5 @@
 pub mod Best
+pub mod Inner
 pub mod Laws
 pub mod Merged
 pub mod Stands
-pub mod Summary

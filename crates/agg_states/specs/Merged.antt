@@ -12,7 +12,7 @@ use Rattle.logical_plan.specs.declared.parts.AggFunction.{AggFunction}
 use Rattle.logical_plan.specs.declared.parts.AggFunction.TheVariants.{Sum, Count, CountAll, Min, Max}
 use Rattle.logical_plan.specs.Groups.{unless}
 use Rattle.agg_states.specs.Best.{beats}
-use Rattle.agg_states.specs.Summary.{Summary}
+use Rattle.agg_states.specs.Inner.Summary.{Summary}
 
 -- of two faults the one that comes first in row-major order
 abbrev pub earlier : Option Broken → Option Broken → Option Broken

@@ -9,7 +9,7 @@ use Rattle.array_rows.specs.Rows.{IsRising, cell_at}
 use Rattle.logical_plan.specs.declared.parts.Aggregate.{Aggregate}
 use Rattle.logical_plan.specs.Groups.{fault_for, first_some, values_of, sum_of, cells_of}
 use Rattle.agg_states.specs.Best.{IsBestFor}
-use Rattle.agg_states.specs.Summary.{Summary}
+use Rattle.agg_states.specs.Inner.Summary.{Summary}
 
 -- the fault of a row for an aggregate, with its coordinate
 abbrev pub fault_at : Aggregate → Row → Option Broken

@@ -33,7 +33,7 @@ pub struct AggState {
 }
 
 impl Model for AggState {
-    ghost use Rattle.agg_states.specs.Summary.{Summary, IsInRange};
+    ghost use Rattle.agg_states.specs.Inner.Summary.{Summary, IsInRange};
 
     ghost Value = { Summary };
 

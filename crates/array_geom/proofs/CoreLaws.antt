@@ -8,7 +8,7 @@ use Rattle.cell_values.specs.declared.schema.Dimension.{Dimension}
 use Rattle.array_rows.specs.Rows.{Coordinate}
 use Rattle.array_rows.specs.Boxes.{is_inside, bounds_of}
 use Rattle.array_geom.specs.Geometry.{ChunkNumber, chunk_of, first_in, last_in, core, frame, has_core}
-use Rattle.array_geom.specs.Ranges.{AreNear}
+use Rattle.array_geom.specs.Inner.Ranges.{AreNear}
 use Rattle.array_geom.proofs.TestLaws.{and_parts, and_both, le_test, le_from_test}
 use Rattle.array_geom.proofs.PlaceLaws.{above, quotient_of}
 

@@ -5,7 +5,7 @@ use Rattle.cell_values.specs.Schemas.{IsValid}
 use Rattle.array_rows.specs.Rows.{Coordinate}
 use Rattle.array_rows.specs.Boxes.{corners, bounds_of, is_inside}
 use Rattle.array_geom.specs.Areas.{is_in_range, shifted}
-use Rattle.array_geom.specs.Example.{example}
+use Rattle.array_geom.specs.Inner.Example.{example}
 use Rattle.array_geom.specs.Geometry.{ChunkNumber, HasFrame, frame, has_core}
 
 pub valid_example : (s : Schema) → s ≡ example → IsValid s

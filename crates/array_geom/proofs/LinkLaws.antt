@@ -17,7 +17,7 @@ use Rattle.array_geom.specs.declared.chunk.Chunk.{Chunk}
 use Rattle.array_geom.specs.Geometry.{ChunkNumber, chunk_of, core, frame}
 use Rattle.array_geom.specs.Laws.{ChunksHaveTheirRows, ChunksHaveOneMeaning}
 use Rattle.array_geom.specs.Link.{core_rows, IsPart, number_order, numbers, is_listed, is_not_empty, AreChunksOf}
-use Rattle.array_geom.specs.Ranges.{AreNear}
+use Rattle.array_geom.specs.Inner.Ranges.{AreNear}
 use Rattle.array_geom.proofs.CoreLaws.{core_has, core_in_frame, length-chunk_of}
 use Rattle.array_geom.proofs.NearLemmas.{valid_placed}
 use Rattle.array_geom.proofs.NumberLaws.{same_number, is_equal}

@@ -15,7 +15,7 @@ use Rattle.array_geom.specs.declared.chunk.Chunk.{Chunk}
 use Rattle.array_geom.specs.declared.chunk.ChunkedArray.{ChunkedArray}
 use Rattle.array_geom.specs.Geometry.{ChunkNumber, chunk_of, core}
 use Rattle.array_geom.specs.Link.{number_order, numbers, is_listed, is_not_empty, has_cell, AreChunksOf, Is}
-use Rattle.array_geom.specs.Ranges.{AreNear}
+use Rattle.array_geom.specs.Inner.Ranges.{AreNear}
 use Rattle.array_geom.proofs.CoreLaws.{core_of}
 use Rattle.array_geom.proofs.NearLemmas.{valid_placed}
 use Rattle.array_geom.proofs.NumberLaws.{same_number, is_equal}

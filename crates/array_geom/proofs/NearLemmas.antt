@@ -10,7 +10,7 @@ use Rattle.array_rows.specs.Rows.{Coordinate}
 use Rattle.array_rows.specs.Boxes.{is_inside}
 use Rattle.array_geom.specs.declared.grid.Grid.{Grid}
 use Rattle.array_geom.specs.Geometry.{ChunkNumber, first_in, has_core, frame, frame_low, frame_lengths, volume, overlaps, HasFrame}
-use Rattle.array_geom.specs.Ranges.{IsNear, AreNear, AreMargins, IsLow, AreLow, AreLengths, IsGrid, is_in_grid}
+use Rattle.array_geom.specs.Inner.Ranges.{IsNear, AreNear, AreMargins, IsLow, AreLow, AreLengths, IsGrid, is_in_grid}
 use Rattle.array_geom.proofs.TestLaws.{and_parts, at_most, le_from_test}
 use Rattle.array_geom.proofs.PlaceLaws.{frame_is_grid}
 

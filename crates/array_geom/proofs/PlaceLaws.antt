@@ -7,7 +7,7 @@ use Rattle.cell_values.specs.declared.schema.Dimension.{Dimension}
 use Rattle.array_rows.specs.Rows.{Coordinate}
 use Rattle.array_rows.specs.Boxes.{is_inside}
 use Rattle.array_geom.specs.Geometry.{ChunkNumber, first_in, has_core, frame, frame_low, frame_lengths, volume, coordinate_in, position_in}
-use Rattle.array_geom.specs.Ranges.{AreNear, AreLengths, is_in_grid}
+use Rattle.array_geom.specs.Inner.Ranges.{AreNear, AreLengths, is_in_grid}
 use Rattle.array_geom.proofs.TestLaws.{and_parts, and_both, le_test, le_from_test, lt_test, lt_from_test}
 
 -- how far x lies above l

@@ -7,7 +7,7 @@ use Rattle.array_rows.specs.Boxes.{corners}
 use Rattle.array_geom.specs.declared.chunk.Chunk.{Chunk}
 use Rattle.array_geom.specs.Geometry.{chunk_of, core, core_meets, frame, frame_lengths, has_core, coordinate_at, position_of, HasFrame}
 use Rattle.array_geom.specs.Chunks.{IsChunk}
-use Rattle.array_geom.specs.Example.{dimension, example, schema_of}
+use Rattle.array_geom.specs.Inner.Example.{dimension, example, schema_of}
 
 abbrev dims : List Dimension
 dims = example.dimensions

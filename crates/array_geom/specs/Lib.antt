@@ -1,7 +1,6 @@
 pub mod Areas
 pub mod Chunks
-pub mod Example
 pub mod Geometry
+pub mod Inner
 pub mod Laws
 pub mod Link
-pub mod Ranges

@@ -6,7 +6,7 @@ ghost use Rattle.cell_values.specs.Schemas.{IsValid};
 ghost use Rattle.array_rows.specs.Boxes.{bounds_of, by_pairs, is_inside, is_between};
 ghost use Rattle.array_geom.specs.Areas.{are_ordered};
 ghost use Rattle.array_geom.specs.Geometry.{chunk_of, core, core_meets, first_in, has_core, last_in};
-ghost use Rattle.array_geom.specs.Ranges.{IsNear, AreNear};
+ghost use Rattle.array_geom.specs.Inner.Ranges.{IsNear, AreNear};
 
 use cell_values::{Bounds, ChunkAt, Coord, Dimension, List, Memory, Schema, copy_numbers};
 use std::alloc::Global;

@@ -2,7 +2,7 @@
 ghost use Rattle.std.specs.Prelude.{◌≡◌, ◌+◌, ◌≤◌, ◌<◌, ◌^◌, pos, ◌≤ℤ◌, ◌+ℤ◌, ◌-ℤ◌, ◌++◌, length, IsTrue};
 ghost use Rattle.array_rows.specs.Boxes.{is_inside};
 ghost use Rattle.array_geom.specs.Geometry.{HasFrame, first_in, frame, frame_lengths, frame_low, has_core, last_in, coordinate_at, position_of, volume};
-ghost use Rattle.array_geom.specs.Ranges.{IsNear, AreNear, IsGrid, AreMargins};
+ghost use Rattle.array_geom.specs.Inner.Ranges.{IsNear, AreNear, IsGrid, AreMargins};
 
 use crate::cores::{first_of, last_of};
 use crate::{Grid, Lengths};

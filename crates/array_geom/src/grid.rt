@@ -1,7 +1,7 @@
 //! Boxes whose coordinates are numbered in row-major order.
 ghost use Rattle.std.specs.Prelude.{◌≡◌, ℤ, ◌+◌, ◌*◌, ◌%◌, ◌<◌, ◌≤◌, ◌^◌, pos, ◌≤ℤ◌, ◌<ℤ◌, ◌+ℤ◌, ◌-ℤ◌, ◌++◌, length, unsigned_abs, IsTrue};
 ghost use Rattle.array_geom.specs.Geometry.{coordinate_in, position_in, volume};
-ghost use Rattle.array_geom.specs.Ranges.{IsGrid, AreLow, AreLengths, is_in_grid};
+ghost use Rattle.array_geom.specs.Inner.Ranges.{IsGrid, AreLow, AreLengths, is_in_grid};
 
 use arrayvec::ArrayVec;
 use cell_values::Coord;

@@ -14,7 +14,7 @@ use Rattle.array_rows.specs.Rows.{placed}
 use Rattle.array_geom.specs.declared.chunk.Chunk.{Chunk}
 use Rattle.array_geom.specs.Geometry.{HasFrame, coordinate_in, core, frame_low, frame_lengths}
 use Rattle.array_geom.specs.Link.{rows_in, is_not_empty, AreChunksOf}
-use Rattle.chunk_change.specs.Made.{IsMadeBy}
+use Rattle.array_parts.specs.Made.{IsMadeBy}
 use Rattle.array_parts.specs.Parts.{AreParts, holds_cell}
 use Rattle.array_parts.specs.Placed.{HasPlaces, HavePlaces}
 use Rattle.array_parts.proofs.PartLemmas.{all_kept, held_are_chunks}

@@ -14,10 +14,10 @@ use Rattle.array_geom.specs.declared.chunk.Chunk.{Chunk}
 use Rattle.array_geom.specs.declared.chunk.ChunkedArray.{ChunkedArray}
 use Rattle.array_geom.specs.Geometry.{ChunkNumber, core, has_core, frame_lengths, volume}
 use Rattle.array_geom.specs.Link.{IsPart, numbers, is_listed, is_not_empty, has_cell, HoldsRows, HoldsResult}
-use Rattle.array_geom.specs.Ranges.{AreNear}
+use Rattle.array_geom.specs.Inner.Ranges.{AreNear}
 use Rattle.array_geom.proofs.CoreLaws.{core_of, chunk_has_core}
 use Rattle.array_geom.proofs.NearLemmas.{valid_placed}
-use Rattle.array_parts.specs.Laws.{ArraysAreSound}
+use Rattle.array_parts.specs.PartsLaws.{ArraysAreSound}
 use Rattle.array_parts.specs.Placed.{HasPlaces, HavePlaces}
 use Rattle.array_parts.proofs.PartLemmas.{each_listed}
 

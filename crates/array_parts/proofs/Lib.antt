@@ -1,3 +1,7 @@
+pub mod CoreLaws
 pub mod HeldLemmas
 pub mod LawProofs
+pub mod Lists
 pub mod PartLemmas
+pub mod PlaceRows
+pub mod Steps

@@ -15,8 +15,8 @@ use Rattle.array_geom.specs.Link.{IsPart, number_order, NumbersRise, numbers, is
 use Rattle.array_geom.proofs.CoreLaws.{core_in_frame}
 use Rattle.array_geom.proofs.LinkLaws.{within-within}
 use Rattle.array_geom.proofs.NumberLaws.{is_equal, same_number}
-use Rattle.chunk_change.specs.Made.{IsMadeBy}
-use Rattle.array_parts.specs.Laws.{MadePartsAreParts, ChangesAreLocal, CutsAreLocal}
+use Rattle.array_parts.specs.Made.{IsMadeBy}
+use Rattle.array_parts.specs.PartsLaws.{MadePartsAreParts, ChangesAreLocal, CutsAreLocal}
 use Rattle.array_parts.specs.Parts.{AreParts, holds_cell, IsLocal}
 
 -- ---- numbers

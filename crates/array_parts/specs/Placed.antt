@@ -6,7 +6,7 @@ use Rattle.cell_values.specs.Schemas.{IsValid}
 use Rattle.array_geom.specs.declared.chunk.Chunk.{Chunk}
 use Rattle.array_geom.specs.declared.chunk.ChunkedArray.{ChunkedArray}
 use Rattle.array_geom.specs.Geometry.{HasFrame, frame_lengths, volume}
-use Rattle.chunk_change.specs.Made.{IsPlaced}
+use Rattle.array_parts.specs.Made.{IsPlaced}
 
 -- a chunk of an array, whose cells have places in its frame
 pub record HasPlaces (schema : Schema) (margins : List ℕ) (chunk : Chunk) : Type 0 where

@@ -1,3 +1,3 @@
-pub mod RowsLemmas
 pub mod RowSets
+pub mod RowsLemmas
 pub mod Witness

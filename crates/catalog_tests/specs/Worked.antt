@@ -5,8 +5,8 @@ use Rattle.cell_values.specs.declared.schema.Schema.{Schema}
 use Rattle.logical_plan.specs.Query.{listed}
 use Rattle.plan_changes.specs.declared.change.Change.{Change}
 use Rattle.plan_changes.specs.declared.change.Change.TheVariants.{Create, Store, Insert, Remove, RemoveVersions}
-use Rattle.catalog_rules.specs.declared.catalog.BlobAt.{BlobAt}
-use Rattle.catalog_rules.specs.declared.catalog.Catalog.{Catalog}
+use Rattle.version_catalog.specs.declared.rules.catalog.BlobAt.{BlobAt}
+use Rattle.version_catalog.specs.declared.rules.catalog.Catalog.{Catalog}
 
 -- <v:int64>[i=0:3,2,0]
 abbrev pub worked_schema : Schema

@@ -1,8 +1,7 @@
-use catalog_rules::Catalog;
 use cell_values::{Bytes, Memory};
 use std::alloc::Global;
 use std::test::*;
-use version_catalog::*;
+use version_catalog::{Catalog, *};
 
 /// Array A of `<v:int64>[i=0:3,2,0]`, whose version 2 stands, with a directory of 44 bytes in page 7.
 pub(crate) const ONE: [u8; 74] = [

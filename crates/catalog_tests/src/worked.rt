@@ -2,11 +2,11 @@
 ghost use Rattle.std.specs.Prelude.{◌≡◌, [], ◌∷◌, IfOk};
 ghost use Rattle.catalog_tests.specs.Worked.{worked_schema, blob_in, worked_catalog, stored_in, worked_insert, worked_create, worked_remove, worked_cut};
 
-use catalog_rules::{BlobAt, Catalog, CatalogArray};
 use cell_values::{Attribute, Dimension, Kind, List, Memory, Name, Schema};
 use logical_plan::{NameEntry, Plan};
 use plan_changes::Change;
 use std::alloc::Global;
+use version_catalog::{BlobAt, Catalog, CatalogArray};
 
 /// The name of one letter. A byte that is no letter counts as want of memory.
 fn name(alloc: Global, letter: u8) -> Result<Name, Memory>

@@ -19,7 +19,7 @@ use Rattle.schema_grammar.specs.declared.shape_text.SchemaText.{SchemaText}
 use Rattle.afl_parser.specs.Grammar.{Derives}
 use Rattle.afl_parser.specs.Statement.{lexemes}
 use Rattle.afl_parser.specs.Term.{create}
-use Rattle.change_types.specs.Place.{behind_gap, created_place, third_token}
+use Rattle.afl_types.specs.Place.{behind_gap, created_place, third_token}
 use Rattle.check_laws.specs.Laws.{CreatedPlaceIsTheName}
 
 -- ---- one token

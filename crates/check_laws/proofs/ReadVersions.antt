@@ -14,29 +14,29 @@ use Rattle.logical_plan.specs.declared.parts.Leaf.{Leaf}
 use Rattle.logical_plan.specs.declared.names.NameEntry.{NameEntry}
 use Rattle.plan_changes.specs.Changes.{entry_named, is_named}
 use Rattle.plan_changes.specs.Typed.{IsVersionOf}
-use Rattle.type_rules.specs.Operators.{operator_named}
-use Rattle.type_rules.proofs.Holding.{demanded, thens, of_answer}
-use Rattle.operator_rules.specs.Sorts.{to_list}
-use Rattle.source_types.specs.Stored.{newest, is_version, leaf_of, newest_of, at_version, version_of, referred, scan_call}
-use Rattle.source_types.proofs.Holding.{build_holds}
-use Rattle.cellwise_types.proofs.Holding.{filter_holds, apply_holds, project_holds}
-use Rattle.box_types.proofs.Holding.{between_holds, subarray_holds, slice_holds}
-use Rattle.query_types.specs.Calls.{call_of, fits_count, fits_two, ruled, ruled_two}
-use Rattle.query_types.specs.Queries.{called, over, over_two, query_of}
-use Rattle.query_types.specs.declared.call.Call.{Call}
-use Rattle.query_types.specs.declared.call.Call.TheVariants.{Build, Scan, Over, Two}
-use Rattle.query_types.specs.declared.call.OverSource.{OverSource}
-use Rattle.query_types.specs.declared.call.OverSource.TheVariants.{Filter, Apply, Project, Between, Subarray, Slice, Redimension, Regrid, Window, Aggregate}
-use Rattle.query_types.specs.declared.call.OverTwo.{OverTwo}
-use Rattle.query_types.specs.declared.call.OverTwo.TheVariants.{Join, CrossJoin}
-use Rattle.group_types.specs.Blocks.{regrid_parts}
-use Rattle.group_types.specs.Groups.{aggregate_parts}
-use Rattle.group_types.specs.Windows.{window_parts}
-use Rattle.join_types.specs.Crosses.{cross_parts}
-use Rattle.join_types.specs.JoinSchemas.{joined_schema}
-use Rattle.moved_types.specs.Redimension.{redimension_parts}
-use Rattle.operator_rules.proofs.Holding.{new_holds}
-use Rattle.query_types.proofs.NoQuery.{nested_holds}
+use Rattle.check_rules.specs.Operators.{operator_named}
+use Rattle.check_rules.proofs.RulesHolding.{demanded, thens, of_answer}
+use Rattle.check_rules.specs.Sorts.{to_list}
+use Rattle.check_sources.specs.Stored.{newest, is_version, leaf_of, newest_of, at_version, version_of, referred, scan_call}
+use Rattle.check_sources.proofs.Holding.{build_holds}
+use Rattle.check_cellwise.proofs.CellsHolding.{filter_holds, apply_holds, project_holds}
+use Rattle.check_cellwise.proofs.BoxesHolding.{between_holds, subarray_holds, slice_holds}
+use Rattle.afl_types.specs.Calls.{call_of, fits_count, fits_two, ruled, ruled_two}
+use Rattle.afl_types.specs.Queries.{called, over, over_two, query_of}
+use Rattle.afl_types.specs.declared.queries.call.Call.{Call}
+use Rattle.afl_types.specs.declared.queries.call.Call.TheVariants.{Build, Scan, Over, Two}
+use Rattle.afl_types.specs.declared.queries.call.OverSource.{OverSource}
+use Rattle.afl_types.specs.declared.queries.call.OverSource.TheVariants.{Filter, Apply, Project, Between, Subarray, Slice, Redimension, Regrid, Window, Aggregate}
+use Rattle.afl_types.specs.declared.queries.call.OverTwo.{OverTwo}
+use Rattle.afl_types.specs.declared.queries.call.OverTwo.TheVariants.{Join, CrossJoin}
+use Rattle.check_groups.specs.Blocks.{regrid_parts}
+use Rattle.check_groups.specs.Groups.{aggregate_parts}
+use Rattle.check_groups.specs.Windows.{window_parts}
+use Rattle.check_joins.specs.Crosses.{cross_parts}
+use Rattle.check_joins.specs.JoinSchemas.{joined_schema}
+use Rattle.check_redimension.specs.Redimension.{redimension_parts}
+use Rattle.check_rules.proofs.OperatorsHolding.{new_holds}
+use Rattle.afl_types.proofs.NoQuery.{nested_holds}
 
 -- ---- what is found in a list
 

@@ -21,25 +21,25 @@ use Rattle.plan_changes.specs.Stored.{AreStored}
 use Rattle.plan_changes.specs.Typed.{are_alike, FitsInto, IsTypedFor, IsTypedOver}
 use Rattle.plan_changes.specs.declared.change.Change.{Change}
 use Rattle.plan_changes.specs.declared.change.Change.TheVariants.{Remove}
-use Rattle.type_rules.specs.Checked.{Checked, then}
-use Rattle.type_rules.specs.Operators.{operator_named}
-use Rattle.type_rules.specs.declared.operator.Operator.{Operator}
-use Rattle.type_rules.specs.declared.operator.Operator.TheVariants as operator
-use Rattle.type_rules.proofs.Holding.{demanded, thens, of_answer}
-use Rattle.expr_types.specs.Laws.{leaves_fit, all_leaves_fit}
-use Rattle.operator_rules.specs.Sorts.{number_in}
-use Rattle.source_types.specs.Build.{meant}
-use Rattle.source_types.proofs.Holding.{meant_valid}
-use Rattle.change_types.specs.Changes.{array_call, below_of, created, created_as, cut_at, cut_by, cut_call, cut_from, cut_of, insert_call, insert_target, inserted_schema, known, list_call, store_call, store_target, stored_name, stored_schema}
-use Rattle.change_types.specs.Place.{created_place}
-use Rattle.change_types.specs.declared.put.Target.{Target}
-use Rattle.query_types.specs.Arrays.{AreValid}
+use Rattle.check_rules.specs.Checked.{Checked, then}
+use Rattle.check_rules.specs.Operators.{operator_named}
+use Rattle.check_rules.specs.declared.rules.operator.Operator.{Operator}
+use Rattle.check_rules.specs.declared.rules.operator.Operator.TheVariants as operator
+use Rattle.check_rules.proofs.RulesHolding.{demanded, thens, of_answer}
+use Rattle.check_exprs.specs.Laws.{leaves_fit, all_leaves_fit}
+use Rattle.check_rules.specs.Sorts.{number_in}
+use Rattle.check_sources.specs.Build.{meant}
+use Rattle.check_sources.proofs.Holding.{meant_valid}
+use Rattle.afl_types.specs.Changes.{array_call, below_of, created, created_as, cut_at, cut_by, cut_call, cut_from, cut_of, insert_call, insert_target, inserted_schema, known, list_call, store_call, store_target, stored_name, stored_schema}
+use Rattle.afl_types.specs.Place.{created_place}
+use Rattle.afl_types.specs.declared.changes.put.Target.{Target}
+use Rattle.afl_types.specs.Arrays.{AreValid}
 use Rattle.afl_types.specs.Checking.{check_of}
-use Rattle.query_types.specs.Queries.{query_of}
+use Rattle.afl_types.specs.Queries.{query_of}
 use Rattle.afl_types.specs.Statements.{changed, insert_of, queried, said, statement_of, store_of}
-use Rattle.afl_types.specs.declared.checking.Typed.{Typed}
-use Rattle.afl_types.specs.declared.checking.Typed.TheVariants.{Query as AQuery, Change as AChange, Versions, Show, ListArrays}
-use Rattle.query_types.proofs.Small.{entry_valid}
+use Rattle.afl_types.specs.declared.statements.checking.Typed.{Typed}
+use Rattle.afl_types.specs.declared.statements.checking.Typed.TheVariants.{Query as AQuery, Change as AChange, Versions, Show, ListArrays}
+use Rattle.afl_types.proofs.Small.{entry_valid}
 use Rattle.check_laws.proofs.ReadVersions.{plan_reads}
 use Rattle.check_laws.proofs.StoredNames.{found_numbered, has_found, none_numbered, schemas_valid}
 use Rattle.check_laws.proofs.TypedQueries.{checked_typed}

@@ -8,13 +8,13 @@ use Rattle.logical_plan.proofs.SchemaLaws.{typed_valid}
 use Rattle.logical_plan.specs.PlanSchema.{schema_of}
 use Rattle.logical_plan.specs.Query.{Query, regridded, windowed, aggregated}
 use Rattle.logical_plan.specs.Typing.{IsTyped}
-use Rattle.type_rules.proofs.Holding.{thens, of_answer}
-use Rattle.operator_rules.proofs.Holding.{new_holds}
-use Rattle.group_types.specs.Blocks.{regrid_parts}
-use Rattle.group_types.specs.Groups.{aggregate_parts}
-use Rattle.group_types.specs.Windows.{window_parts}
-use Rattle.group_types.proofs.PartsFit.{BlocksFit, WindowsFit, GroupsFit, regrid_fits, window_fits, aggregate_fits}
-use Rattle.query_types.specs.GroupCalls.{regrid_call, window_call, aggregate_call}
+use Rattle.check_rules.proofs.RulesHolding.{thens, of_answer}
+use Rattle.check_rules.proofs.OperatorsHolding.{new_holds}
+use Rattle.check_groups.specs.Blocks.{regrid_parts}
+use Rattle.check_groups.specs.Groups.{aggregate_parts}
+use Rattle.check_groups.specs.Windows.{window_parts}
+use Rattle.check_groups.proofs.PartsFit.{BlocksFit, WindowsFit, GroupsFit, regrid_fits, window_fits, aggregate_fits}
+use Rattle.afl_types.specs.GroupCalls.{regrid_call, window_call, aggregate_call}
 
 module _ (s : Span) (source : Query) (typed_source : IsTyped source) where
   abbrev shape : Schema

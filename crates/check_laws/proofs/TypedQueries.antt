@@ -22,45 +22,45 @@ use Rattle.logical_plan.specs.Typing.{IsTyped, is_bounded, places_in, fits_one, 
 use Rattle.logical_plan.specs.declared.names.NameEntry.{NameEntry}
 use Rattle.logical_plan.specs.declared.parts.Applied.{Applied}
 use Rattle.logical_plan.specs.declared.parts.Fixed.{Fixed}
-use Rattle.type_rules.specs.Checked.{demand, then}
-use Rattle.type_rules.specs.Operators.{operator_named}
-use Rattle.type_rules.proofs.Holding.{demanded, thens, of_answer}
-use Rattle.expr_types.specs.Expressions.{fits, typed}
-use Rattle.expr_types.specs.Laws.{leaves_fit, all_leaves_fit}
-use Rattle.expr_types.specs.declared.operand.Operand.{Operand}
-use Rattle.expr_types.proofs.KindLemmas.{typed_have_kinds}
-use Rattle.literal_types.specs.LiteralRows.{literal_rows}
-use Rattle.operator_rules.specs.InTurn.{in_turn, pairs_in_turn}
-use Rattle.operator_rules.specs.Sorts.{to_list}
-use Rattle.operator_rules.proofs.Names.{distinct_front}
-use Rattle.operator_rules.proofs.Turns.{turns_keep, turns_count, pairs_keep}
-use Rattle.operator_rules.proofs.ValidSchemas.{ValidParts, valid_parts, valid_of_parts, has_some}
-use Rattle.source_types.proofs.Holding.{build_holds, referred_holds, scan_holds}
-use Rattle.cellwise_types.specs.Apply.{applied_one}
-use Rattle.cellwise_types.specs.Project.{projected_one}
-use Rattle.cellwise_types.proofs.AppliedValues.{Added, adds}
-use Rattle.cellwise_types.proofs.Holding.{filter_holds, apply_holds, project_holds}
-use Rattle.cellwise_types.proofs.Projected.{Chosen, chooses}
-use Rattle.box_types.specs.Boxes.{low_bound, high_bound, box_of}
-use Rattle.box_types.specs.Slice.{fixed_one}
-use Rattle.box_types.proofs.FixedPlaces.{Held, holds_one}
-use Rattle.box_types.proofs.Holding.{between_holds, subarray_holds, slice_holds}
-use Rattle.box_types.proofs.Parts.{length_pairs, slice_valid, part_valid}
-use Rattle.query_types.specs.Calls.{call_of, fits_count, fits_two, ruled, ruled_two}
-use Rattle.query_types.specs.Arrays.{AreValid}
-use Rattle.query_types.specs.Queries.{called, query_of}
-use Rattle.query_types.specs.declared.call.Call.{Call}
-use Rattle.query_types.specs.declared.call.Call.TheVariants.{Build, Scan, Over, Two}
-use Rattle.query_types.specs.declared.call.OverSource.{OverSource}
-use Rattle.query_types.specs.declared.call.OverSource.TheVariants.{Filter, Apply, Project, Between, Subarray, Slice, Redimension, Regrid, Window, Aggregate}
-use Rattle.query_types.specs.declared.call.OverTwo.{OverTwo}
-use Rattle.query_types.specs.declared.call.OverTwo.TheVariants.{Join, CrossJoin}
+use Rattle.check_rules.specs.Checked.{demand, then}
+use Rattle.check_rules.specs.Operators.{operator_named}
+use Rattle.check_rules.proofs.RulesHolding.{demanded, thens, of_answer}
+use Rattle.check_exprs.specs.Expressions.{fits, typed}
+use Rattle.check_exprs.specs.Laws.{leaves_fit, all_leaves_fit}
+use Rattle.check_exprs.specs.declared.operand.Operand.{Operand}
+use Rattle.check_exprs.proofs.KindLemmas.{typed_have_kinds}
+use Rattle.check_literals.specs.LiteralRows.{literal_rows}
+use Rattle.check_rules.specs.InTurn.{in_turn, pairs_in_turn}
+use Rattle.check_rules.specs.Sorts.{to_list}
+use Rattle.check_rules.proofs.Names.{distinct_front}
+use Rattle.check_rules.proofs.Turns.{turns_keep, turns_count, pairs_keep}
+use Rattle.check_rules.proofs.ValidSchemas.{ValidParts, valid_parts, valid_of_parts, has_some}
+use Rattle.check_sources.proofs.Holding.{build_holds, referred_holds, scan_holds}
+use Rattle.check_cellwise.specs.Apply.{applied_one}
+use Rattle.check_cellwise.specs.Project.{projected_one}
+use Rattle.check_cellwise.proofs.AppliedValues.{Added, adds}
+use Rattle.check_cellwise.proofs.CellsHolding.{filter_holds, apply_holds, project_holds}
+use Rattle.check_cellwise.proofs.Projected.{Chosen, chooses}
+use Rattle.check_cellwise.specs.Boxes.{low_bound, high_bound, box_of}
+use Rattle.check_cellwise.specs.Slice.{fixed_one}
+use Rattle.check_cellwise.proofs.FixedPlaces.{Held, holds_one}
+use Rattle.check_cellwise.proofs.BoxesHolding.{between_holds, subarray_holds, slice_holds}
+use Rattle.check_cellwise.proofs.Parts.{length_pairs, slice_valid, part_valid}
+use Rattle.afl_types.specs.Calls.{call_of, fits_count, fits_two, ruled, ruled_two}
+use Rattle.afl_types.specs.Arrays.{AreValid}
+use Rattle.afl_types.specs.Queries.{called, query_of}
+use Rattle.afl_types.specs.declared.queries.call.Call.{Call}
+use Rattle.afl_types.specs.declared.queries.call.Call.TheVariants.{Build, Scan, Over, Two}
+use Rattle.afl_types.specs.declared.queries.call.OverSource.{OverSource}
+use Rattle.afl_types.specs.declared.queries.call.OverSource.TheVariants.{Filter, Apply, Project, Between, Subarray, Slice, Redimension, Regrid, Window, Aggregate}
+use Rattle.afl_types.specs.declared.queries.call.OverTwo.{OverTwo}
+use Rattle.afl_types.specs.declared.queries.call.OverTwo.TheVariants.{Join, CrossJoin}
 use Rattle.check_laws.proofs.TypedGroups.{regrid_typed, window_typed, aggregate_typed}
 use Rattle.check_laws.proofs.TypedJoins.{join_typed, cross_typed}
 use Rattle.check_laws.proofs.TypedMoves.{redimension_typed}
-use Rattle.query_types.proofs.NoQuery.{nested_holds}
-use Rattle.query_types.proofs.Small.{entry_valid}
-use Rattle.literal_types.proofs.Limits.{are_bytes}
+use Rattle.afl_types.proofs.NoQuery.{nested_holds}
+use Rattle.afl_types.proofs.Small.{entry_valid}
+use Rattle.check_literals.proofs.Limits.{are_bytes}
 use Rattle.check_laws.proofs.RowsFit.{literal_fits}
 use Rattle.check_laws.specs.Laws.{CheckedPlansAreTyped}
 

@@ -12,12 +12,12 @@ use Rattle.logical_plan.specs.declared.names.Names.{Names}
 use Rattle.plan_changes.specs.Stored.{AreStored}
 use Rattle.plan_changes.specs.Typed.{IsTypedFor}
 use Rattle.plan_changes.specs.declared.change.Change.{Change}
-use Rattle.expr_types.specs.Laws.{leaves_fit}
-use Rattle.change_types.specs.Place.{created_place}
-use Rattle.query_types.specs.Arrays.{AreValid}
+use Rattle.check_exprs.specs.Laws.{leaves_fit}
+use Rattle.afl_types.specs.Place.{created_place}
+use Rattle.afl_types.specs.Arrays.{AreValid}
 use Rattle.afl_types.specs.Checking.{check_of}
-use Rattle.query_types.specs.Queries.{query_of}
-use Rattle.afl_types.specs.declared.checking.Typed.TheVariants.{Change as AChange}
+use Rattle.afl_types.specs.Queries.{query_of}
+use Rattle.afl_types.specs.declared.statements.checking.Typed.TheVariants.{Change as AChange}
 
 -- over stored arrays of valid schemas, and for a tree whose numbers, texts and codes are within the limits of values
 abbrev pub CheckedPlansAreTyped : Type 0

@@ -1,3 +1,16 @@
+pub mod CellLaws
+pub mod ChunkLaws
 pub mod CoreSteps
+pub mod FitLaws
+pub mod FrameLaws
 pub mod MergeLaws
+pub mod NearLaws
+pub mod NextLaws
+pub mod NumberLaws
+pub mod OrderLaws
+pub mod OverLaws
+pub mod PartLaws
+pub mod RestLaws
+pub mod SortedLaws
+pub mod ValueLaws
 pub mod WholeLaws

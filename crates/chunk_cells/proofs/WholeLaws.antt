@@ -17,9 +17,9 @@ use Rattle.array_geom.specs.declared.chunk.Chunk.{Chunk}
 use Rattle.array_geom.specs.declared.chunk.ChunkedArray.{ChunkedArray}
 use Rattle.array_geom.proofs.LinkLaws.{chunks_have_their_rows, chunks_have_one_meaning}
 use Rattle.array_geom.proofs.NearLemmas.{valid_placed}
-use Rattle.chunk_build.specs.Frames.{AreFramed}
-use Rattle.chunk_build.specs.Numbers.{AreCoresOf, numbers_in}
-use Rattle.chunk_build.proofs.ChunkLaws.{cores_framed}
+use Rattle.chunk_cells.specs.Frames.{AreFramed}
+use Rattle.chunk_cells.specs.Inner.Numbers.{AreCoresOf, numbers_in}
+use Rattle.chunk_cells.proofs.ChunkLaws.{cores_framed}
 use Rattle.chunk_cells.specs.Whole.{CoresRise, IsArray}
 use Rattle.array_parts.specs.Placed.{HasPlaces, HavePlaces}
 

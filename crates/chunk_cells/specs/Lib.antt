@@ -1,2 +1,4 @@
-pub mod Merging
+pub mod Fitted
+pub mod Frames
+pub mod Inner
 pub mod Whole

@@ -1,11 +1,12 @@
-//! The rows of an array in chunks, and arrays cut into chunks anew.
+//! Arrays in chunks: rows put into chunks, the rows taken out again, and arrays cut or laid over one another.
 #![tactic(auto)]
 
-mod cores;
-mod halos;
-mod merging;
-mod whole;
+mod assembly;
+mod fitting;
+mod overlay;
+mod reading;
 
-pub use chunk_build::assemble;
-pub use halos::{broken_array, with_halo};
-pub use whole::{into_core_rows, into_rows, rows};
+pub use assembly::assemble;
+pub use fitting::{fit, fit_rows};
+pub use overlay::put_over;
+pub use reading::{broken_array, into_core_rows, into_rows, rows, with_halo};

@@ -11,8 +11,8 @@ use Rattle.array_geom.specs.declared.chunk.ChunkedArray.{ChunkedArray}
 use Rattle.array_geom.specs.Chunks.{IsChunk}
 use Rattle.array_geom.specs.Link.{Is}
 use Rattle.array_parts.specs.Placed.{HavePlaces, IsSound}
-use Rattle.array_cores.proofs.CoreLaws.{arrays_have_cells}
-use Rattle.array_cores.proofs.PlaceRows.{valid_chunks_have_cells}
+use Rattle.array_parts.proofs.CoreLaws.{arrays_have_cells}
+use Rattle.array_parts.proofs.PlaceRows.{valid_chunks_have_cells}
 use Rattle.expr_nulls.specs.Expr.{Expr}
 use Rattle.logical_plan.specs.declared.parts.Leaf.{Leaf}
 use Rattle.logical_plan.specs.Leaves.{leaves}
@@ -20,14 +20,14 @@ use Rattle.logical_plan.specs.Meaning.{Database, meaning, version_rows, whole, b
 use Rattle.logical_plan.specs.Query.{Query, built, scanned}
 use Rattle.logical_plan.specs.Typing.{IsTyped}
 use Rattle.logical_plan.proofs.ArrayLaws.{typed_arrays}
-use Rattle.chunk_source.specs.declared.asked.Asked.{Asked}
+use Rattle.chunk_source.specs.declared.sources.asked.Asked.{Asked}
 use Rattle.chunk_source.specs.Source.{SourceState, Keeps, Reads, asks}
 use Rattle.chunk_source.specs.Source.{listed as chunks_listed}
-use Rattle.chunk_read.specs.declared.fault.ExecFault.{ExecFault}
-use Rattle.chunk_read.specs.Reading.{asked_of}
-use Rattle.chunk_read.proofs.ReadLemmas.{listed_still, reads_still}
+use Rattle.chunk_source.specs.declared.reading.fault.ExecFault.{ExecFault}
+use Rattle.chunk_source.specs.Reading.{asked_of}
+use Rattle.chunk_source.proofs.ReadLemmas.{listed_still, reads_still}
 use Rattle.chunk_exec.specs.Computed.{CanCompute, IsComputed, IsGiven}
-use Rattle.chunk_exec.specs.Operated.{sources, AreMeant, IsResultOf}
+use Rattle.chunk_exec.specs.Inner.Operated.{sources, AreMeant, IsResultOf}
 use Rattle.chunk_exec.proofs.SourceLaws.{leaves_of_one, leaves_of_two, typed_sources}
 
 -- ---- one call after another

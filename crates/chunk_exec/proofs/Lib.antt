@@ -1,3 +1,3 @@
-mod SourceLaws
-mod OperatorLaws
 mod ComputedLaws
+mod OperatorLaws
+mod SourceLaws

@@ -12,12 +12,12 @@ use Rattle.array_rows.specs.Boxes.{within}
 use Rattle.array_geom.specs.declared.chunk.ChunkedArray.{ChunkedArray}
 use Rattle.array_geom.specs.Geometry.{frame_lengths, volume}
 use Rattle.array_geom.specs.Link.{AreChunksOf, HoldsRows, HoldsResult, Is}
-use Rattle.array_cores.specs.Cores.{meant_by_cores}
-use Rattle.array_cores.proofs.CoreLaws.{arrays_are_their_cores, arrays_have_cells}
-use Rattle.array_groups.specs.Meant.{aggregate_meant, regrid_meant}
-use Rattle.array_joins.specs.Meant.{cross_meant, join_meant}
-use Rattle.array_windows.specs.Meant.{window_meant}
-use Rattle.array_ops.specs.Made.{GivesRows, IsMadeOf}
+use Rattle.array_parts.specs.Cores.{meant_by_cores}
+use Rattle.array_parts.proofs.CoreLaws.{arrays_are_their_cores, arrays_have_cells}
+use Rattle.exec_group.specs.Meant.{aggregate_meant, regrid_meant}
+use Rattle.exec_join.specs.Meant.{cross_meant, join_meant}
+use Rattle.window_overlap.specs.Meant.{window_meant}
+use Rattle.exec_box.specs.Made.{GivesRows, IsMadeOf}
 use Rattle.expr_nulls.specs.Expr.{Expr}
 use Rattle.logical_plan.specs.declared.parts.Aggregate.{Aggregate}
 use Rattle.logical_plan.specs.declared.parts.Applied.{Applied}
@@ -33,8 +33,8 @@ use Rattle.logical_plan.specs.Query.{Query, scanned, filtered, applied, projecte
 use Rattle.logical_plan.specs.Typing.{IsTyped}
 use Rattle.logical_plan.proofs.ArrayLaws.{typed_arrays}
 use Rattle.logical_plan.proofs.SchemaLaws.{meaning_schema, typed_valid}
-use Rattle.exec_parts.specs.Parts.{part_meant, slice_meant}
-use Rattle.chunk_exec.specs.Operated.{sources, AreMeant, CanOperate, IsResultOf}
+use Rattle.exec_box.specs.Parts.{part_meant, slice_meant}
+use Rattle.chunk_exec.specs.Inner.Operated.{sources, AreMeant, CanOperate, IsResultOf}
 
 -- ---- rows of the schemas of plans
 

@@ -4,7 +4,7 @@ use Rattle.std.specs.List.{AllByRecursion}
 use Rattle.logical_plan.specs.Leaves.{leaves}
 use Rattle.logical_plan.specs.Query.{Query, query_size, built, filtered, applied, projected, between, subarray, sliced, joined, crossed, redimensioned, regridded, windowed, aggregated}
 use Rattle.logical_plan.specs.Typing.{IsTyped}
-use Rattle.chunk_exec.specs.Operated.{sources}
+use Rattle.chunk_exec.specs.Inner.Operated.{sources}
 
 pub typed_sources : (query : Query) → IsTyped query → AllByRecursion IsTyped (sources query)
 typed_sources (filtered source test) t = (t.0, tt)

@@ -3,7 +3,7 @@ use Rattle.std.specs.Prelude.{◌≡◌, ℕ, ◌++◌, List, IfSome}
 use Rattle.std.specs.List.{AllByRecursion}
 use Rattle.cell_values.specs.declared.datum.Row.{Row}
 use Rattle.cell_values.specs.declared.schema.Schema.{Schema}
-use Rattle.array_cores.specs.Cores.{HasCells}
+use Rattle.array_parts.specs.Cores.{HasCells}
 use Rattle.array_geom.specs.declared.chunk.ChunkedArray.{ChunkedArray}
 use Rattle.array_geom.specs.Link.{Is}
 use Rattle.logical_plan.specs.Leaves.{leaves}
@@ -12,7 +12,7 @@ use Rattle.logical_plan.specs.PlanSchema.{schema_of}
 use Rattle.logical_plan.specs.Query.{Query}
 use Rattle.logical_plan.specs.Typing.{IsTyped}
 use Rattle.chunk_source.specs.Source.{SourceState, Reads}
-use Rattle.chunk_read.specs.Reading.{asked_of}
+use Rattle.chunk_source.specs.Reading.{asked_of}
 
 -- a typed plan over leaves that the source has
 pub record CanCompute (source : SourceState) (query : Query) : Type 0 where

@@ -1,7 +1,7 @@
 //! The arrays of plans, operator by operator.
 ghost use Rattle.std.specs.Prelude.{◌≡◌, ◌+◌, length, IfOk, OnOk};
 ghost use Rattle.chunk_source.specs.Source.{Keeps};
-ghost use Rattle.chunk_read.specs.Faults.{Answers};
+ghost use Rattle.chunk_source.specs.Faults.{Answers};
 ghost use Rattle.logical_plan.specs.Leaves.{leaves};
 ghost use Rattle.chunk_exec.specs.Computed.{CanCompute, IsComputed};
 

@@ -2,17 +2,16 @@
 ghost use Rattle.std.specs.Prelude.{◌≡◌, ◌+◌, [], length, IfOk, OnOk};
 ghost use Rattle.cell_values.specs.Schemas.{IsValid};
 ghost use Rattle.chunk_source.specs.Source.{Keeps, Reads};
-ghost use Rattle.chunk_read.specs.Faults.{Answers};
+ghost use Rattle.chunk_source.specs.Faults.{Answers};
 ghost use Rattle.logical_plan.specs.Leaves.{leaves};
 ghost use Rattle.logical_plan.specs.Query.{scanned};
 ghost use Rattle.chunk_exec.specs.Computed.{CanCompute, IsComputed};
-ghost use Rattle.chunk_exec.specs.Operated.{sources};
+ghost use Rattle.chunk_exec.specs.Inner.Operated.{sources};
 
 use crate::ExecFault;
 use crate::given::{build, literal};
 use array_geom::ChunkedArray;
-use chunk_read::read_leaf;
-use chunk_source::ChunkSource;
+use chunk_source::{ChunkSource, read_leaf};
 use logical_plan::{Leaf, Plan, PlanNode};
 use std::alloc::Global;
 

@@ -9,5 +9,5 @@ mod running;
 mod sources;
 mod steps;
 
-pub use chunk_read::ExecFault;
+pub use chunk_source::ExecFault;
 pub use running::execute;

@@ -1,12 +1,12 @@
 //! What the last operator of a plan makes of the arrays of its sources.
 ghost use Rattle.std.specs.Prelude.{[], ◌∷◌, IfOk};
-ghost use Rattle.chunk_exec.specs.Operated.{CanOperate, IsResultOf};
+ghost use Rattle.chunk_exec.specs.Inner.Operated.{CanOperate, IsResultOf};
 
 use crate::steps::{aggregate, apply, between, filter, project, regrid, window};
 use array_geom::ChunkedArray;
-use array_joins::{cross_join, join};
 use cell_values::Memory;
-use exec_parts::{slice_owned, subarray_owned};
+use exec_box::{slice_owned, subarray_owned};
+use exec_join::{cross_join, join};
 use logical_plan::{Plan, PlanNode};
 use redimension_exec::redimension;
 use std::alloc::Global;

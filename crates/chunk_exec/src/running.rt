@@ -1,14 +1,14 @@
 //! The array of a plan.
 ghost use Rattle.std.specs.Prelude.{◌≡◌, ◌≤◌, ◌++◌, None, IfOk, OnOk, IfSome};
 ghost use Rattle.array_geom.specs.Link.{Is};
-ghost use Rattle.array_cores.specs.Cores.{HasCells};
+ghost use Rattle.array_parts.specs.Cores.{HasCells};
 ghost use Rattle.array_parts.specs.Placed.{IsSound};
 ghost use Rattle.logical_plan.specs.Leaves.{leaves};
 ghost use Rattle.logical_plan.specs.Meaning.{meaning};
 ghost use Rattle.logical_plan.specs.PlanSchema.{schema_of};
 ghost use Rattle.chunk_source.specs.Source.{Keeps};
-ghost use Rattle.chunk_read.specs.Faults.{Answers};
-ghost use Rattle.chunk_read.specs.Reading.{asked_of};
+ghost use Rattle.chunk_source.specs.Faults.{Answers};
+ghost use Rattle.chunk_source.specs.Reading.{asked_of};
 ghost use Rattle.chunk_exec.specs.Computed.{CanCompute, IsComputed};
 
 use crate::ExecFault;

@@ -1,7 +1,7 @@
 //! The plans that a plan's last operator works on.
 ghost use Rattle.std.specs.Prelude.{◌≡◌};
-ghost use Rattle.chunk_exec.specs.Operated.{sources};
-ghost use Rattle.chunk_exec.specs.Parts.{plans_in};
+ghost use Rattle.chunk_exec.specs.Inner.Operated.{sources};
+ghost use Rattle.chunk_exec.specs.Inner.Parts.{plans_in};
 
 use logical_plan::{Plan, PlanNode};
 

@@ -3,12 +3,12 @@ use Rattle.std.proofs.Common.{◌≡◌, ℕ, suc, ◌^◌, ◌<◌, true, nat_l
 use Rattle.std.specs.Prelude.{◌==◌}
 use Rattle.std.specs.Int.{w64, to_le_bytes}
 use Rattle.std.specs.List.{flat_map}
-use Rattle.byte_items.specs.Items.{number_at, item, repeat, counted, spell_counted, Are, AreCounted}
-use Rattle.byte_items.proofs.Laws.{AreBytes, Reads, exact64, number_reads, item_reads, then_reads, seen_reads, repeat_reads, counted_reads, whole_takes, whole_again}
+use Rattle.file_items.specs.Items.{number_at, item, repeat, counted, spell_counted, Are, AreCounted}
+use Rattle.file_items.proofs.BytesLaws.{AreBytes, Reads, exact64, number_reads, item_reads, then_reads, seen_reads, repeat_reads, counted_reads, whole_takes, whole_again}
 use Rattle.chunk_map.specs.declared.directory.DirEntry.{DirEntry}
 use Rattle.chunk_map.specs.declared.directory.Directory.{Directory}
-use Rattle.page_items.specs.Pages.{positive_at, pages_at, spell_pages}
-use Rattle.page_items.proofs.Laws.{IsPositive, ArePages, positive_reads, pages_reads}
+use Rattle.file_items.specs.Pages.{positive_at, pages_at, spell_pages}
+use Rattle.file_items.proofs.PagesLaws.{IsPositive, ArePages, positive_reads, pages_reads}
 use Rattle.chunk_map.specs.Spelling.{spell_entry, spelling}
 use Rattle.chunk_map.specs.Table.{is_number, next_number, number_of, Written, Payload, written_at, payload_at, entry_after, next_entry, number_in, entries_at, directory_in}
 

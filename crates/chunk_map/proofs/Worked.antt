@@ -1,7 +1,7 @@
 -- Worked directories: a chunk of one dimension, and two chunks of two dimensions.
 use Rattle.std.proofs.Common.{◌≡◌, ℕ, List, [], ◌∷◌, ◌++◌, length, take, Option, Some, None, Ok, refl}
-use Rattle.byte_items.specs.Items.{wrong_at, repeat}
-use Rattle.page_items.specs.Pages.{pages_at}
+use Rattle.file_items.specs.Items.{wrong_at, repeat}
+use Rattle.file_items.specs.Pages.{pages_at}
 use Rattle.chunk_map.specs.declared.directory.DirEntry.{DirEntry}
 use Rattle.chunk_map.specs.declared.directory.Directory.{Directory}
 use Rattle.chunk_map.specs.Spelling.{spell_entry, spelling}

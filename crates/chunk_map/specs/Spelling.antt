@@ -2,8 +2,8 @@
 use Rattle.std.specs.Prelude.{◌≡◌, ℕ, ◌+◌, ◌/◌, ◌<◌, ◌≤◌, ◌^◌, List, ◌++◌, length}
 use Rattle.std.specs.List.{flat_map, AllByRecursion}
 use Rattle.std.specs.Int.{w64, to_le_bytes}
-use Rattle.byte_items.specs.Items.{spell_counted}
-use Rattle.page_items.specs.Pages.{spell_pages, LieIn}
+use Rattle.file_items.specs.Items.{spell_counted}
+use Rattle.file_items.specs.Pages.{spell_pages, LieIn}
 use Rattle.chunk_map.specs.declared.directory.DirEntry.{DirEntry}
 use Rattle.chunk_map.specs.declared.directory.Directory.{Directory}
 use Rattle.chunk_map.specs.Entries.{AreRising}

@@ -7,7 +7,7 @@ ghost use Rattle.chunk_map.specs.declared.directory.Directory.{Directory as ADir
 
 use crate::Directory;
 use crate::reading::directory;
-use byte_items::Stop;
+use file_items::Stop;
 use std::alloc::Global;
 
 /// Why a directory could not be decoded.

@@ -1,13 +1,12 @@
 //! Reading a directory, item by item.
 ghost use Rattle.std.specs.Prelude.{◌≡◌, ◌≤◌, ◌==◌, None, nat_lt};
 ghost use Rattle.std.specs.Option.{option_copied};
-ghost use Rattle.byte_items.specs.Items.{IsRead, repeat};
+ghost use Rattle.file_items.specs.Items.{IsRead, repeat};
 ghost use Rattle.chunk_map.specs.Table.{is_number, next_number, number_of, entry_after, next_entry, number_in, last_number, directory_in};
 
 use crate::{DirEntry, Directory};
-use byte_items::{Stop, u64_at};
 use cell_values::{ChunkAt, List};
-use page_items::{pages, positive};
+use file_items::{Stop, pages, positive, u64_at};
 use std::alloc::Global;
 
 fn is_number(before: Option<&[u64]>, last: bool, n: u64) -> bool

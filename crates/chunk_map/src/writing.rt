@@ -2,13 +2,12 @@
 ghost use Rattle.std.specs.Prelude.{◌≡◌, ◌++◌, OnOk, IfOk};
 ghost use Rattle.std.specs.List.{flat_map};
 ghost use Rattle.std.specs.Int.{w64, to_le_bytes};
-ghost use Rattle.byte_items.specs.Items.{spell_counted};
+ghost use Rattle.file_items.specs.Items.{spell_counted};
 ghost use Rattle.chunk_map.specs.Spelling.{spell_entry, spelling};
 
 use crate::{DirEntry, Directory};
-use byte_items::put_u64;
 use cell_values::{Bytes, Memory};
-use page_items::put_pages;
+use file_items::{put_pages, put_u64};
 use std::alloc::Global;
 
 fn put_numbers(out: &mut Bytes, numbers: &[u64]) -> Result<(), Memory>

@@ -6,10 +6,10 @@ use Rattle.std.proofs.lemmas.List.Sums.{sum_by-cons}
 use Rattle.std.specs.List.{AllByRecursion}
 use Rattle.std.proofs.lemmas.List.Elements.{All-from_recursion}
 use Rattle.arrayvec.specs.ArrayVec.{ArrayVec}
-use Rattle.byte_items.specs.Items.{Are, Stopped}
-use Rattle.byte_items.specs.declared.stop.Stop.{Stop}
-use Rattle.byte_items.specs.declared.stop.Stop.TheVariants as stops
-use Rattle.byte_items.proofs.Laws.{AreBytes, bind_ok, ok_is}
+use Rattle.file_items.specs.Items.{Are, Stopped}
+use Rattle.file_items.specs.declared.bytes.stop.Stop.{Stop}
+use Rattle.file_items.specs.declared.bytes.stop.Stop.TheVariants as stops
+use Rattle.file_items.proofs.BytesLaws.{AreBytes, bind_ok, ok_is}
 use Rattle.cell_values.specs.declared.datum.Datum.{Datum}
 use Rattle.cell_values.specs.declared.datum.Datum.TheVariants.{Null}
 use Rattle.cell_values.specs.declared.datum.Cell.{Cell}

@@ -3,7 +3,7 @@ use Rattle.std.proofs.Common.{◌≡◌, ℕ, true, List, [], ◌∷◌, refl, s
 use Rattle.cell_values.specs.declared.schema.Schema.{Schema}
 use Rattle.cell_values.specs.Schemas.{IsValid}
 use Rattle.array_geom.specs.Geometry.{has_core}
-use Rattle.chunk_rle.specs.Example.{example}
+use Rattle.chunk_rle.specs.Inner.Example.{example}
 
 pub valid_example : (s : Schema) → s ≡ example → IsValid s
 valid_example s e = subst IsValid (sym e) refl

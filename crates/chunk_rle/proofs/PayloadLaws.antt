@@ -6,8 +6,8 @@ use Rattle.std.specs.List.{flat_map, list_all}
 use Rattle.array_geom.proofs.TestLaws.{and_parts}
 use Rattle.std.proofs.lemmas.Int.{of_z-to_z, to_z-of_z, ints}
 use Rattle.std.proofs.Math.Facts.{sfits_to_z}
-use Rattle.byte_items.specs.Items.{◌>>=◌, number_at, bytes_at, item, counted, spell_counted, Are, AreCounted}
-use Rattle.byte_items.proofs.Laws.{AreBytes, Begins, two_begin, Reads, bind_ok, test_ok, ok_is, exact16, exact64, number_reads, bytes_reads, item_reads, one_item_reads, then_reads, seen_reads, repeat_reads, counted_reads, whole_takes, whole_again}
+use Rattle.file_items.specs.Items.{◌>>=◌, number_at, bytes_at, item, counted, spell_counted, Are, AreCounted}
+use Rattle.file_items.proofs.BytesLaws.{AreBytes, Begins, two_begin, Reads, bind_ok, test_ok, ok_is, exact16, exact64, number_reads, bytes_reads, item_reads, one_item_reads, then_reads, seen_reads, repeat_reads, counted_reads, whole_takes, whole_again}
 use Rattle.cell_values.specs.declared.datum.Datum.{Datum}
 use Rattle.cell_values.specs.declared.datum.Datum.TheVariants.{Null, Missing, Int, Text, Truth, Bad}
 use Rattle.cell_values.specs.declared.schema.Attribute.{Attribute}

@@ -1,8 +1,8 @@
 -- What the runs so far leave, one run later.
 use Rattle.std.proofs.Common.{◌≡◌, ℕ, zero, suc, ◌+◌, ◌-◌, ◌≤◌, ◌<◌, List, [], ◌∷◌, ◌++◌, length, get_or, drop, Some, Result, Ok, refl, sym, ap, subst, ◌∙◌, arith, add-one, drop-cons}
-use Rattle.byte_items.specs.Items.{repeat, Stopped}
-use Rattle.byte_items.specs.declared.stop.Stop.{Stop}
-use Rattle.byte_items.proofs.Loop.{behind, one_more, stops_here}
+use Rattle.file_items.specs.Items.{repeat, Stopped}
+use Rattle.file_items.specs.declared.bytes.stop.Stop.{Stop}
+use Rattle.file_items.proofs.Loop.{behind, one_more, stops_here}
 use Rattle.cell_values.specs.declared.schema.Attribute.{Attribute}
 use Rattle.chunk_rle.specs.declared.runs.Run.{Run}
 use Rattle.chunk_rle.specs.declared.runs.Column.{Column}

@@ -5,9 +5,9 @@ use Rattle.std.specs.Int.{w64}
 use Rattle.std.specs.List.{AllByRecursion, AllZip, list_all, list_any}
 use Rattle.std.proofs.lemmas.Int.{ints}
 use Rattle.arrayvec.specs.ArrayVec.{ArrayVec}
-use Rattle.byte_items.specs.Items.{Stopped}
-use Rattle.byte_items.specs.declared.stop.Stop.{Stop}
-use Rattle.byte_items.proofs.Laws.{AreBytes, ok_is}
+use Rattle.file_items.specs.Items.{Stopped}
+use Rattle.file_items.specs.declared.bytes.stop.Stop.{Stop}
+use Rattle.file_items.proofs.BytesLaws.{AreBytes, ok_is}
 use Rattle.cell_values.specs.declared.datum.Datum.{Datum}
 use Rattle.cell_values.specs.declared.datum.Datum.TheVariants.{Null, Missing, Int, Text, Truth, Bad}
 use Rattle.cell_values.specs.declared.datum.Cell.{Cell}

@@ -4,7 +4,7 @@ use Rattle.std.specs.Prelude.{◌==◌}
 use Rattle.std.proofs.lemmas.Bool.Decides.{Decides-eqb, Decides-int_eq}
 use Rattle.std.proofs.lemmas.Slice.Eq.{bytes_eq-Decides}
 use Rattle.std.proofs.lemmas.List.{length-replicate}
-use Rattle.byte_items.specs.Items.{Are}
+use Rattle.file_items.specs.Items.{Are}
 use Rattle.cell_values.specs.declared.datum.Datum.{Datum}
 use Rattle.cell_values.specs.declared.datum.Datum.TheVariants.{Null, Missing, Int, Text, Truth, Bad}
 use Rattle.cell_values.specs.declared.schema.Attribute.{Attribute}

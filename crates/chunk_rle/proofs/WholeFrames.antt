@@ -7,12 +7,12 @@ use Rattle.cell_values.specs.declared.schema.Dimension.{Dimension}
 use Rattle.cell_values.specs.declared.schema.Schema.{Schema}
 use Rattle.array_rows.specs.Boxes.{is_between, is_inside, bounds_of}
 use Rattle.array_geom.specs.Geometry.{ChunkNumber, HasFrame, frame, frame_low, frame_lengths, overlaps, volume, coordinate_in}
-use Rattle.array_geom.specs.Ranges.{IsGrid}
+use Rattle.array_geom.specs.Inner.Ranges.{IsGrid}
 use Rattle.array_geom.proofs.TestLaws.{and_parts, and_both, le_test, le_from_test}
 use Rattle.array_geom.proofs.LawProofs.{coordinate_at_place}
 use Rattle.chunk_rle.specs.declared.places.Places.{Places}
 use Rattle.chunk_rle.specs.Frames.{all_from, is_held}
-use Rattle.chunk_rle.specs.Ready.{IsReady, LiesWithin}
+use Rattle.chunk_rle.specs.Inner.Ready.{IsReady, LiesWithin}
 
 outer : (lo hi a b c : List ℤ) → is_between lo hi a ≡ true → is_between lo hi b ≡ true → is_between a b c ≡ true → is_between lo hi c ≡ true
 outer [] [] [] [] c e f g = g

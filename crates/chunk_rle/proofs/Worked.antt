@@ -1,7 +1,7 @@
 -- Worked payloads: a chunk of two places, one attribute of numbers.
 use Rattle.std.proofs.Common.{◌≡◌, ℕ, List, [], ◌∷◌, ◌++◌, length, take, Option, Some, Ok, pos, refl, arith}
 use Rattle.arrayvec.specs.ArrayVec.{ArrayVec}
-use Rattle.byte_items.specs.Items.{wrong_at, repeat}
+use Rattle.file_items.specs.Items.{wrong_at, repeat}
 use Rattle.cell_values.specs.declared.schema.Schema.{Schema}
 use Rattle.cell_values.specs.declared.datum.Datum.{Datum}
 use Rattle.cell_values.specs.declared.datum.Datum.TheVariants.{Int, Missing}
@@ -9,7 +9,7 @@ use Rattle.cell_values.specs.declared.datum.Cell.TheVariants.{Full}
 use Rattle.cell_values.specs.declared.schema.Attribute.{Attribute}
 use Rattle.array_geom.specs.declared.chunk.Chunk.{Chunk}
 use Rattle.chunk_rle.specs.Frames.{all_from, any_from, frame_of, is_held, Frame}
-use Rattle.chunk_rle.specs.Example.{example}
+use Rattle.chunk_rle.specs.Inner.Example.{example}
 use Rattle.chunk_rle.specs.Stored.{IsStored}
 use Rattle.chunk_rle.specs.Spelling.{spell_value, spell_runs}
 use Rattle.chunk_rle.specs.Table.{position_run_at, position_runs_at, value_fields, is_same, is_allowed, run_at, column_at, columns_at, runs_at}

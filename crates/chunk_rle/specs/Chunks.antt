@@ -1,7 +1,7 @@
 -- The one spelling of a chunk, and the chunk that runs are of.
 use Rattle.std.specs.Prelude.{ℕ, zero, suc, List, [], ◌∷◌, length, map, slice_index_or, Result, Ok}
 use Rattle.arrayvec.specs.ArrayVec.{ArrayVec}
-use Rattle.byte_items.specs.Items.{◌>>=◌}
+use Rattle.file_items.specs.Items.{◌>>=◌}
 use Rattle.cell_values.specs.declared.datum.Datum.{Datum}
 use Rattle.cell_values.specs.declared.datum.Datum.TheVariants.{Null, Bad}
 use Rattle.cell_values.specs.declared.datum.Cell.{Cell}

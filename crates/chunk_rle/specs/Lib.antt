@@ -1,9 +1,8 @@
 pub mod Chunks
 pub mod Decoding
-pub mod Example
 pub mod Frames
+pub mod Inner
 pub mod Longest
-pub mod Ready
 pub mod Spelling
 pub mod Stored
 pub mod Table

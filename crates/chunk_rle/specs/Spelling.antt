@@ -2,7 +2,7 @@
 use Rattle.std.specs.Prelude.{ℕ, ◌<◌, ◌≤◌, ◌^◌, true, false, List, [], ◌∷◌, ◌++◌, length, FitsSigned, nat_lt, IsTrue}
 use Rattle.std.specs.List.{flat_map, list_all}
 use Rattle.std.specs.Int.{w16, w64, to_le_bytes, cast_unsigned}
-use Rattle.byte_items.specs.Items.{spell_counted}
+use Rattle.file_items.specs.Items.{spell_counted}
 use Rattle.cell_values.specs.declared.datum.Datum.{Datum}
 use Rattle.cell_values.specs.declared.datum.Datum.TheVariants.{Null, Missing, Int, Text, Truth, Bad}
 use Rattle.chunk_rle.specs.declared.runs.PosRun.{PosRun}

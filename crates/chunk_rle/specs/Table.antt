@@ -3,7 +3,7 @@ use Rattle.std.specs.Prelude.{ℕ, ◌+◌, zero, suc, Bool, true, false, not, �
 use Rattle.std.specs.Int.{w16, w64, cast_signed}
 use Rattle.std.specs.Ordering.{int_eq}
 use Rattle.std.specs.Str.{bytes_eq}
-use Rattle.byte_items.specs.Items.{◌>>=◌, Reading, number_at, bytes_at, item, one_item, repeat, counted, whole}
+use Rattle.file_items.specs.Items.{◌>>=◌, Reading, number_at, bytes_at, item, one_item, repeat, counted, whole}
 use Rattle.cell_values.specs.declared.datum.Datum.{Datum}
 use Rattle.cell_values.specs.declared.datum.Datum.TheVariants.{Null, Missing, Int, Text, Truth}
 use Rattle.cell_values.specs.declared.schema.Attribute.{Attribute}

@@ -1,6 +1,6 @@
 -- Which runs have a spelling: those whose items pass the table's tests.
 use Rattle.std.specs.Prelude.{◌≡◌, ℕ, ◌<◌, ◌^◌, ◌==◌, ◌&&◌, Bool, true, List, [], ◌∷◌, length, nat_lt, nat_le}
-use Rattle.byte_items.specs.Items.{Are, AreCounted}
+use Rattle.file_items.specs.Items.{Are, AreCounted}
 use Rattle.cell_values.specs.declared.schema.Attribute.{Attribute}
 use Rattle.chunk_rle.specs.Frames.{Frame}
 use Rattle.chunk_rle.specs.declared.runs.Seen.{Seen}

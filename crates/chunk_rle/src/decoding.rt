@@ -1,6 +1,6 @@
 //! Decoding payloads.
 ghost use Rattle.std.specs.Prelude.{◌≡◌, ◌+◌, ◌<◌, ◌^◌, All, IfOk, IsTrue, Ok};
-ghost use Rattle.byte_items.specs.Items.{IsRead};
+ghost use Rattle.file_items.specs.Items.{IsRead};
 ghost use Rattle.cell_values.specs.Schemas.{IsValid};
 ghost use Rattle.cell_values.specs.declared.schema.Schema.{Schema as ASchema};
 ghost use Rattle.array_geom.specs.Geometry.{has_core};
@@ -8,7 +8,7 @@ ghost use Rattle.array_geom.specs.declared.chunk.Chunk.{Chunk as AChunk};
 ghost use Rattle.chunk_rle.specs.Chunks.{spelling, chunk_of, chunk_payload};
 ghost use Rattle.chunk_rle.specs.Decoding.{Answers, Told};
 ghost use Rattle.chunk_rle.specs.Frames.{frame_in, frame_of};
-ghost use Rattle.chunk_rle.specs.Ready.{IsReady};
+ghost use Rattle.chunk_rle.specs.Inner.Ready.{IsReady};
 ghost use Rattle.chunk_rle.specs.Stored.{IsStored};
 
 use crate::expanding::{all_values, cells, positions};
@@ -16,9 +16,9 @@ use crate::places::{Places, places_of};
 use crate::reading::payload;
 use crate::runs::ChunkRuns;
 use array_geom::Chunk;
-use byte_items::Stop;
 use cell_columns::Cells;
 use cell_values::{Attribute, ChunkAt, Memory, Schema, copy_numbers};
+use file_items::Stop;
 use std::alloc::Global;
 
 /// Why a payload could not be decoded.

@@ -3,9 +3,9 @@ ghost use Rattle.std.specs.Prelude.{◌≡◌, ◌+◌, ◌<◌, ◌≤◌, ◌&
 ghost use Rattle.cell_values.specs.Schemas.{IsValid};
 ghost use Rattle.array_rows.specs.Boxes.{bounds_of, is_inside};
 ghost use Rattle.array_geom.specs.Geometry.{core, frame_lengths, frame_low, has_core, overlaps, volume};
-ghost use Rattle.array_geom.specs.Ranges.{IsGrid};
+ghost use Rattle.array_geom.specs.Inner.Ranges.{IsGrid};
 ghost use Rattle.chunk_rle.specs.Frames.{all_from, any_from, frame_in, frame_of};
-ghost use Rattle.chunk_rle.specs.Ready.{IsReady, LiesWithin};
+ghost use Rattle.chunk_rle.specs.Inner.Ready.{IsReady, LiesWithin};
 
 use array_geom::{Boxes, Grid, core_box, frame, grid_of, margins_of};
 use cell_values::{Bounds, ChunkAt, Coord, Dimension, Schema};

@@ -1,14 +1,14 @@
 //! Reading a payload, item by item.
 ghost use Rattle.std.specs.Prelude.{◌≡◌, ◌+◌, ◌<◌, ◌≤◌, ◌^◌, IsTrue, IfOk, MatchOption, Some, None};
-ghost use Rattle.byte_items.specs.Items.{IsRead, repeat};
+ghost use Rattle.file_items.specs.Items.{IsRead, repeat};
 ghost use Rattle.chunk_rle.specs.Frames.{frame_in};
-ghost use Rattle.chunk_rle.specs.Ready.{IsReady};
+ghost use Rattle.chunk_rle.specs.Inner.Ready.{IsReady};
 ghost use Rattle.chunk_rle.specs.Table.{with_run, no_positions, count_positions, position_runs_at, last_value, is_new, is_run_length, with_values, no_values, column_at, columns_at, payload, is_length, position_run_at, value_fields, value_at, is_same, is_allowed, run_at};
 
 use crate::places::Places;
 use crate::runs::{ChunkRuns, Column, PosRun, Run, Seen};
-use byte_items::{Stop, bytes_at, u16_at, u64_at};
 use cell_values::{Attribute, Code, Datum, Kind, List};
+use file_items::{Stop, bytes_at, u16_at, u64_at};
 use std::alloc::Global;
 
 /// The next run of positions, with so many after it.

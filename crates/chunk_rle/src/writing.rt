@@ -2,12 +2,12 @@
 ghost use Rattle.std.specs.Prelude.{◌≡◌, ◌<◌, ◌^◌, ◌++◌, length, OnOk, IfOk};
 ghost use Rattle.std.specs.List.{flat_map};
 ghost use Rattle.std.specs.Int.{w64};
-ghost use Rattle.byte_items.specs.Items.{spell_counted};
+ghost use Rattle.file_items.specs.Items.{spell_counted};
 ghost use Rattle.chunk_rle.specs.Spelling.{spell_value, spell_position_run, spell_run, spell_column, spell_runs};
 
 use crate::runs::{Column, PosRun, Run};
-use byte_items::put_u64;
 use cell_values::{Bytes, Datum, Memory};
+use file_items::put_u64;
 use std::alloc::Global;
 
 /// A tag and what it announces.

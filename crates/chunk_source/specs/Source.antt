@@ -13,9 +13,9 @@ use Rattle.array_geom.specs.Link.{is_listed, has_cell}
 use Rattle.logical_plan.specs.declared.parts.Leaf.{Leaf}
 use Rattle.logical_plan.specs.Meaning.{Database}
 use Rattle.logical_plan.specs.Typing.{is_sound, AreSound}
-use Rattle.chunk_source.specs.declared.asked.Asked.{Asked}
-use Rattle.chunk_source.specs.declared.fault.SourceFault.{SourceFault}
-use Rattle.chunk_source.specs.declared.fault.SourceFault.TheVariants.{Failed, Damaged, Memory}
+use Rattle.chunk_source.specs.declared.sources.asked.Asked.{Asked}
+use Rattle.chunk_source.specs.declared.sources.fault.SourceFault.{SourceFault}
+use Rattle.chunk_source.specs.declared.sources.fault.SourceFault.TheVariants.{Failed, Damaged, Memory}
 
 -- A source of chunks, seen from outside.
 pub record SourceState : Type 0 where

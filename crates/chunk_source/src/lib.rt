@@ -1,10 +1,12 @@
-//! Where plans read the chunks of stored arrays.
+//! Sources of stored chunks: what one promises, arrays in memory as one, and the array of a leaf.
 #![tactic(auto)]
 
-mod asked;
-mod fault;
-mod source;
+mod memory;
+mod reading;
+mod sources;
+mod validity;
 
-pub use asked::Asked;
-pub use fault::SourceFault;
-pub use source::ChunkSource;
+pub use memory::{LeafArray, MemChunks, SureChunks};
+pub use reading::{ExecFault, read_leaf};
+pub use sources::{Asked, ChunkSource, SourceFault};
+pub use validity::{chunks_are_valid, sound_rows_have_sound_chunks};

@@ -5,7 +5,7 @@ use Rattle.chunk_rle.specs.Spelling.{spell_runs, spell_value}
 use Rattle.chunk_rle.specs.Table.{is_same}
 use Rattle.chunk_map.specs.Spelling.{spelling as directory_spelling, spell_entry}
 use Rattle.version_catalog.specs.Spelling.{spelling, spell_array, spell_version, spell_blob, spell_record}
-use Rattle.schema_items.specs.Spelling.{spell_name, spell_attribute, spell_signed, spell_dimension, spell_schema}
+use Rattle.file_items.specs.Spelling.{spell_name, spell_attribute, spell_signed, spell_dimension, spell_schema}
 use Rattle.page_chain.specs.Pages.{page_size}
 use Rattle.plan_changes.specs.Stored.{HasItsNames}
 use Rattle.plan_changes.specs.Typed.{HasTypedPlan}
@@ -14,7 +14,7 @@ use Rattle.event_core.specs.Legal.{BeginsAt, IsLegal}
 use Rattle.event_core.specs.Worked.{worked_base, worked_store, worked}
 use Rattle.event_core.proofs.WorkedList.{base_is}
 use Rattle.commit_costs.specs.Costs.{cost_from}
-use Rattle.commit_costs.specs.Examples.{WorkedIsLegal}
+use Rattle.commit_costs.specs.Inner.Examples.{WorkedIsLegal}
 
 store_typed : HasTypedPlan worked_base.names worked_store
 store_typed = (record { typed = (refl, refl); reads = tt }, refl)

@@ -6,11 +6,11 @@ use Rattle.chunk_rle.specs.Spelling.{spell_runs, spell_value}
 use Rattle.chunk_rle.specs.Table.{is_same}
 use Rattle.chunk_map.specs.Spelling.{spelling as directory_spelling, spell_entry}
 use Rattle.version_catalog.specs.Spelling.{spelling, spell_array, spell_version, spell_blob, spell_record}
-use Rattle.schema_items.specs.Spelling.{spell_name, spell_attribute, spell_signed, spell_dimension, spell_schema}
+use Rattle.file_items.specs.Spelling.{spell_name, spell_attribute, spell_signed, spell_dimension, spell_schema}
 use Rattle.page_chain.specs.Pages.{page_size}
 use Rattle.plan_changes.specs.declared.change.Change.TheVariants.{Create, Remove, RemoveVersions}
 use Rattle.commit_costs.specs.Costs.{cost_from}
-use Rattle.commit_costs.specs.Examples.{CommitsCostTheirPages, schema, store, insert_at, stored}
+use Rattle.commit_costs.specs.Inner.Examples.{CommitsCostTheirPages, schema, store, insert_at, stored}
 
 stored_first_is : cost_from (Some 0) [] [] (store 0) ≡ 4
 unfolding payload_spelling spell_runs spell_value directory_spelling spell_entry spelling spell_array spell_version spell_blob spell_record spell_schema spell_dimension spell_signed spell_attribute spell_name page_size is_same

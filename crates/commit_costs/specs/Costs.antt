@@ -8,7 +8,7 @@ use Rattle.cell_values.specs.declared.schema.Schema.{Schema}
 use Rattle.array_rows.specs.Boxes.{within}
 use Rattle.array_geom.specs.Geometry.{ChunkNumber, chunk_of, frame, overlaps}
 use Rattle.array_geom.specs.Link.{is_listed, is_not_empty}
-use Rattle.page_items.specs.Pages.{pages_needed}
+use Rattle.file_items.specs.Pages.{pages_needed}
 use Rattle.chunk_rle.specs.Chunks.{spelling as payload_spelling}
 use Rattle.chunk_map.specs.declared.directory.DirEntry.{DirEntry}
 use Rattle.chunk_map.specs.Spelling.{spelling as directory_spelling}
@@ -17,10 +17,10 @@ use Rattle.page_chain.specs.Pages.{page_size, pages_for}
 use Rattle.plan_changes.specs.declared.change.Change.{Change}
 use Rattle.plan_changes.specs.declared.change.Change.TheVariants.{Create, Store, Insert, Remove, RemoveVersions}
 use Rattle.plan_changes.specs.Databases.{Database, after, entry_of, fitted, new_rows, rows_if_whole}
-use Rattle.catalog_rules.specs.declared.catalog.BlobAt.{BlobAt}
-use Rattle.catalog_rules.specs.declared.catalog.Catalog.{Catalog}
-use Rattle.catalog_rules.specs.declared.catalog_record.CatalogRecord.{CatalogRecord}
-use Rattle.catalog_changes.specs.Changed.{record_for}
+use Rattle.version_catalog.specs.declared.rules.catalog.BlobAt.{BlobAt}
+use Rattle.version_catalog.specs.declared.rules.catalog.Catalog.{Catalog}
+use Rattle.version_catalog.specs.declared.rules.catalog_record.CatalogRecord.{CatalogRecord}
+use Rattle.version_catalog.specs.Changed.{record_for}
 use Rattle.version_catalog.specs.Spelling.{spell_record, spelling}
 use Rattle.file_meaning.specs.Standing.{stored_chunk}
 use Rattle.event_core.specs.declared.entry.Entry.TheVariants.{Pin, Unpin, Commit, Reap}

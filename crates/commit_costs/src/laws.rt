@@ -1,5 +1,5 @@
 //! Worked costs of commits, and how long a log gets.
-ghost use Rattle.commit_costs.specs.Examples.{CommitsCostTheirPages, WorkedIsLegal, LogsComeRound};
+ghost use Rattle.commit_costs.specs.Inner.Examples.{CommitsCostTheirPages, WorkedIsLegal, LogsComeRound};
 
 /// What some changes of a small array cost, with a log that has room, with a full one and without one.
 pub fn commits_cost_their_pages()

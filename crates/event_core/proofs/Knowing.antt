@@ -12,7 +12,7 @@ use Rattle.event_core.specs.declared.entry.Used.{Used}
 use Rattle.event_core.specs.declared.state.VersionPages.{VersionPages}
 use Rattle.event_core.specs.History.{is_pages_of}
 use Rattle.event_core.specs.Pages.{is_newest, fresh_of}
-use Rattle.event_core.specs.Known.{pages_if, known_of}
+use Rattle.event_core.specs.Inner.Known.{pages_if, known_of}
 use Rattle.event_core.proofs.Tests.{filter_agrees}
 
 held_if : (b : Bool) (pages : List ℕ) (page : ℕ) → holds (if b then pages else []) page ≡ (b && holds pages page)

@@ -2,7 +2,7 @@ pub mod Agree
 pub mod Allowed
 pub mod Cells
 pub mod History
-pub mod Known
+pub mod Inner
 pub mod Legal
 pub mod Pages
 pub mod Promises

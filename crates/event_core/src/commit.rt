@@ -5,7 +5,7 @@ ghost use Rattle.plan_changes.specs.Changes.{next_of};
 ghost use Rattle.version_reaper.specs.PageSets.{holds};
 ghost use Rattle.event_core.specs.History.{is_pages_of, pages_after};
 ghost use Rattle.event_core.specs.Pages.{fresh_of};
-ghost use Rattle.event_core.specs.Known.{pages_if, known_of};
+ghost use Rattle.event_core.specs.Inner.Known.{pages_if, known_of};
 
 use crate::marks::Marks;
 use crate::{Core, Used, VersionPages};

@@ -1,6 +1,12 @@
-//! Arrays cut to boxes.
+//! `between`, `subarray` and `slice`: cells in a box, chunk by chunk and of whole arrays.
 #![tactic(auto)]
 
-mod between;
+mod arrays;
+mod chunks;
+mod operators;
+mod rows;
 
-pub use between::{between_chunk, between_owned};
+pub use arrays::{slice, slice_owned, subarray, subarray_owned};
+pub use chunks::{between_chunk, between_owned};
+pub use operators::{between, over_array};
+pub use rows::{moved_rows_are_arrays, part_of_rows, slice_of_rows};

@@ -14,8 +14,8 @@ use Rattle.array_geom.specs.Chunks.{AreRising}
 use Rattle.array_geom.specs.Geometry.{coordinate_in, frame_low, frame_lengths, volume}
 use Rattle.array_geom.specs.Link.{rows_in, IsPart}
 use Rattle.logical_plan.specs.CellOps.{project_cell, project_rows}
-use Rattle.chunk_change.specs.Made.{IsPlaced, IsMadeBy}
-use Rattle.chunk_change.proofs.Steps.{part_made}
+use Rattle.array_parts.specs.Made.{IsPlaced, IsMadeBy}
+use Rattle.array_parts.proofs.Steps.{part_made}
 use Rattle.exec_cellwise.specs.Picked.{picked}
 
 stays : (places : List ℕ) (c : Coordinate) (x : Cell) → project_cell places c x ≡ Some (picked places x)

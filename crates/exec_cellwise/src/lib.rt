@@ -1,10 +1,10 @@
-//! Chunks through the operators that go cell by cell: filter, apply and project.
+//! `filter`, `apply` and `project`: a cell at a time, chunk by chunk and of whole arrays.
 #![tactic(auto)]
 
-mod applying;
-mod filtering;
-mod projecting;
+mod arrays;
+mod chunks;
+mod columns;
 
-pub use applying::{apply_chunk, apply_owned};
-pub use filtering::{filter_chunk, filter_owned};
-pub use projecting::project_chunk;
+pub use arrays::{apply, filter, project};
+pub use chunks::{apply_chunk, apply_owned, filter_chunk, filter_owned, project_chunk};
+pub use columns::walk;

@@ -8,16 +8,16 @@ use Rattle.arrayvec.specs.ArrayVec.{ArrayVec}
 use Rattle.cell_values.specs.declared.datum.Row.{Row}
 use Rattle.cell_values.specs.declared.schema.Dimension.{Dimension}
 use Rattle.array_rows.specs.Rows.{Coordinate}
-use Rattle.array_geom.specs.Ranges.{IsNear}
+use Rattle.array_geom.specs.Inner.Ranges.{IsNear}
 use Rattle.logical_plan.specs.Groups.{block}
-use Rattle.exec_group.specs.Keys.{block_at}
+use Rattle.exec_group.specs.Inner.Keys.{block_at}
 use Rattle.std.proofs.Common.{Result}
 use Rattle.std.specs.Prelude.{IfOk}
 use Rattle.cell_values.specs.declared.memory.Memory.{Memory}
 use Rattle.logical_plan.specs.declared.parts.Aggregate.{Aggregate}
-use Rattle.group_parts.specs.declared.groups.Groups.{Groups}
-use Rattle.group_parts.specs.Grouped.{AreGroupsOf}
-use Rattle.group_parts.specs.Sets.{AreKeys, sets_by}
+use Rattle.exec_group.specs.declared.rows.groups.Groups.{Groups}
+use Rattle.exec_group.specs.Grouped.{AreGroupsOf}
+use Rattle.exec_group.specs.Sets.{AreKeys, sets_by}
 
 in_limits : (z : ℤ) → negsuc (2 ^ 63 - 1) ≤ℤ z → z ≤ℤ pos (2 ^ 63 - 1) → saturate_signed w64 z ≡ z
 in_limits (pos n) low high = let few : n ≤ 2 ^ 63 - 1 = omega (arith, ints) in let same : min n (2 ^ 63 - 1) ≡ n = omega arith in ap pos same

@@ -1,4 +1,16 @@
+pub mod BlockLaws
+mod CoreSets
+pub mod FormLaws
+pub mod GroupLaws
+pub mod InsideLaws
 pub mod KeyLaws
 pub mod KindLaws
+pub mod MergeLaws
+pub mod PartsPartLaws
+mod PiecesPartLaws
+mod RisingLaws
+pub mod RowLemmas
+pub mod RowsPartLaws
+pub mod StateLaws
 pub mod ToldLaws
-pub mod PartLaws
+pub mod WholeLaws

@@ -23,13 +23,13 @@ use Rattle.logical_plan.specs.declared.parts.Aggregate.{Aggregate}
 use Rattle.logical_plan.specs.Groups.{cells_of, aggregate_of, aggregates_of}
 use Rattle.logical_plan.specs.PlanSchema.{aggregate_kind}
 use Rattle.logical_plan.specs.Typing.{is_aggregate_of, are_aggregates_of, kinds_of}
-use Rattle.agg_states.specs.Summary.{Summary}
-use Rattle.group_parts.specs.declared.groups.Group.{Group}
-use Rattle.group_parts.specs.Counts.{cells_of as counted, cells_in}
-use Rattle.group_parts.specs.Grouped.{AreStatesOf, ComesBefore, AreInOrder, states_at, IsGroupOf, AreGroupsOf}
-use Rattle.group_parts.specs.declared.groups.Groups.{Groups}
-use Rattle.group_parts.specs.Sets.{Sets, all_sets}
-use Rattle.exec_group.specs.Merging.{IsSetFor, CanBeTold, CanBeMerged}
+use Rattle.agg_states.specs.Inner.Summary.{Summary}
+use Rattle.exec_group.specs.declared.rows.groups.Group.{Group}
+use Rattle.exec_group.specs.Counts.{cells_of as counted, cells_in}
+use Rattle.exec_group.specs.Grouped.{AreStatesOf, ComesBefore, AreInOrder, states_at, IsGroupOf, AreGroupsOf}
+use Rattle.exec_group.specs.declared.rows.groups.Groups.{Groups}
+use Rattle.exec_group.specs.Sets.{Sets, all_sets}
+use Rattle.exec_group.specs.Inner.Merging.{IsSetFor, CanBeTold, CanBeMerged}
 use Rattle.exec_group.specs.Told.{IsTold, AreTold, IsRowOf, AreRowsOfSets}
 use Rattle.exec_group.proofs.KindLaws.{aggregate_has_kind, kinds_for}
 

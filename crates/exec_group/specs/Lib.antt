@@ -1,3 +1,6 @@
-pub mod Keys
-pub mod Merging
+pub mod Counts
+pub mod Grouped
+pub mod Inner
+pub mod Meant
+pub mod Sets
 pub mod Told

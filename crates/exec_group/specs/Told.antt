@@ -13,9 +13,9 @@ use Rattle.logical_plan.specs.declared.parts.Aggregate.{Aggregate}
 use Rattle.logical_plan.specs.Groups.{cells_of, aggregate_of, aggregates_of}
 use Rattle.logical_plan.specs.Typing.{is_aggregate_of}
 use Rattle.agg_states.specs.Stands.{StandsFor}
-use Rattle.agg_states.specs.Summary.{Summary}
-use Rattle.group_parts.specs.declared.groups.Group.{Group}
-use Rattle.group_parts.specs.Sets.{Sets}
+use Rattle.agg_states.specs.Inner.Summary.{Summary}
+use Rattle.exec_group.specs.declared.rows.groups.Group.{Group}
+use Rattle.exec_group.specs.Sets.{Sets}
 
 -- the aggregate of the cells for which a state stands
 abbrev pub IsTold : Summary → Datum → Type 0

@@ -1,14 +1,14 @@
-//! Aggregates of groups of cells, chunk by chunk.
+//! `aggregate` and `regrid`: groups of rows, of chunks, and of whole arrays chunk by chunk.
 #![tactic(auto)]
 
-mod blocks;
-mod cores;
-mod merged;
-mod named;
+mod arrays;
 mod parts;
-mod results;
+mod pieces;
+mod rows;
 
-pub use cores::rows_of_cores;
-pub use merged::{merge_parts, told_array};
-pub use parts::{aggregate_groups, aggregate_part, regrid_groups, regrid_part};
-pub use results::rows_told;
+pub use parts::{
+    aggregate_groups, aggregate_part, merge_parts, regrid_groups, regrid_part, rows_of_cores,
+    rows_told, told_array,
+};
+pub use pieces::{aggregate, regrid};
+pub use rows::{Group, Groups, groups_of, merge_all, merge_two, one_group};

@@ -18,11 +18,11 @@ use Rattle.array_geom.specs.declared.chunk.Chunk.{Chunk}
 use Rattle.array_geom.specs.Geometry.{HasFrame, coordinate_in, frame, frame_low, frame_lengths, volume}
 use Rattle.array_geom.specs.Link.{IsPart, rows_in}
 use Rattle.array_geom.proofs.NearLemmas.{as_many, some_places, valid_placed}
-use Rattle.chunk_change.specs.Made.{IsPlaced}
-use Rattle.chunk_over.specs.Over.{ArePlaces, rows_from}
-use Rattle.chunk_over.proofs.OrderLaws.{coordinate_rises}
+use Rattle.array_parts.specs.Made.{IsPlaced}
+use Rattle.chunk_cells.specs.Inner.Over.{ArePlaces, rows_from}
+use Rattle.chunk_cells.proofs.OrderLaws.{coordinate_rises}
 use Rattle.logical_plan.specs.Joins.{cell_beside, join_rows}
-use Rattle.exec_join.specs.Joining.{HasBoth, AreJoinedOn, Joins}
+use Rattle.exec_join.specs.Inner.Joining.{HasBoth, AreJoinedOn, Joins}
 use Rattle.exec_join.proofs.JoinLaws.{join_left_first, join_right_first, join_both_first, join_none, within_join}
 
 rows_in-append : (low : List ℤ) (lengths : List ℕ) (ps qs : List ℕ) (cs ds : List Cell) → length cs ≡ length ps → rows_in low lengths (ps ++ qs) (cs ++ ds) ≡ rows_in low lengths ps cs ++ rows_in low lengths qs ds

@@ -1,2 +1,3 @@
-pub mod Joining
+pub mod Inner
+pub mod Meant
 pub mod Reparted

@@ -1,9 +1,10 @@
-//! Joins of chunks, and arrays in the chunks of others.
+//! `join` and `cross_join`: of rows, of chunks and of whole arrays.
 #![tactic(auto)]
 
 mod arrays;
-mod beside;
-mod join;
+mod chunks;
+mod rows;
 
-pub use arrays::repart;
-pub use join::join_chunks;
+pub use arrays::{cross_join, join};
+pub use chunks::{join_chunks, repart};
+pub use rows::{cross_of_rows, join_of_rows};

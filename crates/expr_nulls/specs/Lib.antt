@@ -1,7 +1,5 @@
 pub mod Expr
-pub mod ExprCode
-pub mod ExprFalls
 pub mod ExprValue
-pub mod ExprView
-pub mod Seen
+pub mod Inner
+pub mod Lemmas
 pub mod Typing

@@ -1,6 +1,6 @@
 //! Copies of expressions.
 ghost use Rattle.std.specs.Prelude.{◌≡◌, IfOk};
-ghost use Rattle.expr_nulls.specs.ExprView.{expr_of};
+ghost use Rattle.expr_nulls.specs.Inner.ExprView.{expr_of};
 
 use crate::{ExprNode, TypedExpr};
 use cell_values::{Copies, Memory};

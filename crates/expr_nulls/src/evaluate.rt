@@ -3,7 +3,7 @@ ghost use Rattle.std.specs.Prelude.{◌≡◌, IsTrue, IfOk, slice_index_or};
 ghost use Rattle.expr_nulls.specs.Expr.{calculation, relation, conjunction, disjunction, conditional};
 ghost use Rattle.expr_nulls.specs.ExprValue.{value_of, calculated, number_at};
 ghost use Rattle.expr_nulls.specs.Typing.{TypedValuesFit};
-ghost use Rattle.expr_nulls.specs.Seen.{datum_of, DecidesBoth, DecidesEither};
+ghost use Rattle.expr_nulls.specs.Inner.Seen.{datum_of, DecidesBoth, DecidesEither};
 
 use crate::functions::{make_null, measure_text, spell_number, tell_reason, test_null};
 use crate::{ArithOp, ExprNode, TypedExpr};

@@ -53,19 +53,19 @@ pub enum ExprNode {
 
 impl Model for TypedExpr {
     ghost use Rattle.expr_nulls.specs.Expr.{Expr, expr_size};
-    ghost use Rattle.expr_nulls.specs.ExprCode.{expr_code};
+    ghost use Rattle.expr_nulls.specs.Lemmas.ExprCode.{expr_code};
 
     ghost Value = { Expr };
 
     ghost coded = { expr_code };
 
-    ghost use Rattle.expr_nulls.specs.ExprView.{expr_of};
+    ghost use Rattle.expr_nulls.specs.Inner.ExprView.{expr_of};
 
     ghost view = { λ e. expr_of e.node };
 
     ghost size = { expr_size };
 
-    ghost use Rattle.expr_nulls.specs.ExprFalls.{depth_le-size};
+    ghost use Rattle.expr_nulls.specs.Lemmas.ExprFalls.{depth_le-size};
 
     ghost size_decreases = { λ e h. depth_le-size e.node };
 }

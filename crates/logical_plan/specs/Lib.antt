@@ -2,14 +2,14 @@ pub mod BoxOps
 pub mod CellOps
 pub mod Faults
 pub mod Groups
+pub mod Inner
 pub mod Joins
 pub mod Laws
 pub mod Leaves
+pub mod Lemmas
 pub mod Meaning
 pub mod PlanSchema
 pub mod Query
-pub mod QueryCode
-pub mod QueryFalls
-pub mod QueryView
+pub mod Reads
 pub mod Redimension
 pub mod Typing

@@ -49,19 +49,19 @@ pub enum PlanNode {
 
 impl Model for Plan {
     ghost use Rattle.logical_plan.specs.Query.{Query, query_size};
-    ghost use Rattle.logical_plan.specs.QueryCode.{query_code};
+    ghost use Rattle.logical_plan.specs.Lemmas.QueryCode.{query_code};
 
     ghost Value = { Query };
 
     ghost coded = { query_code };
 
-    ghost use Rattle.logical_plan.specs.QueryView.{query_of};
+    ghost use Rattle.logical_plan.specs.Inner.QueryView.{query_of};
 
     ghost view = { λ p. query_of p.node };
 
     ghost size = { query_size };
 
-    ghost use Rattle.logical_plan.specs.QueryFalls.{depth_le-size};
+    ghost use Rattle.logical_plan.specs.Lemmas.QueryFalls.{depth_le-size};
 
     ghost size_decreases = { λ p h. depth_le-size p.node };
 }

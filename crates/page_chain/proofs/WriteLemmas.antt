@@ -6,12 +6,12 @@ use Rattle.std.specs.Int.{w32, to_le_bytes}
 use Rattle.std.specs.Prelude.{OnOk, Some, Result, Ok, Err}
 use Rattle.afl_outside.proofs.Moments.{moment_at}
 use Rattle.afl_outside.specs.Disk.{DiskState, DiskGoesOn, Elapses, Follows, written, Torn, Writes}
-use Rattle.afl_outside.specs.ImageLaws.{Torn-written}
+use Rattle.afl_outside.specs.Lemmas.ImageLaws.{Torn-written}
 use Rattle.afl_outside.specs.declared.source.Failed.{Failed}
 use Rattle.page_layout.specs.Places.{IsNone, KeepsPages}
 use Rattle.page_chain.specs.Pages.{page_size, page_at, padded, piece_of, AreDistinct}
 use Rattle.page_chain.specs.Chains.{content_size, chain_piece}
-use Rattle.page_chain.specs.Runs.{OnlyWrites, Sees}
+use Rattle.page_chain.specs.Inner.Runs.{OnlyWrites, Sees}
 use Rattle.page_chain.proofs.Kept.{size_is, keeps_self, keeps_on, keeps_more, one_of, torn_keeps, page_written, page_kept}
 use Rattle.page_chain.proofs.RunLemmas.{map_some, writes_once}
 

@@ -1,3 +1,4 @@
 pub mod Chains
+pub mod Inner
+pub mod Links
 pub mod Pages
-pub mod Runs

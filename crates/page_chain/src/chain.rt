@@ -7,7 +7,7 @@ ghost use Rattle.afl_outside.specs.Counts.{Rose};
 ghost use Rattle.page_chain.specs.Pages.{page_size, pages_for, padded, AreDistinct};
 ghost use Rattle.page_layout.specs.Places.{KeepsPages};
 ghost use Rattle.page_chain.specs.Chains.{content_size, IsChainRead, IsFollowed, HoldsChain};
-ghost use Rattle.page_chain.specs.Runs.{OnlyReads, OnlyWrites, Sees};
+ghost use Rattle.page_chain.specs.Inner.Runs.{OnlyReads, OnlyWrites, Sees};
 
 use crate::fault::{OpenCause, Stopped};
 use crate::page::{PAGE, put_front, read_page, write_page};

@@ -5,7 +5,7 @@ ghost use Rattle.std.specs.Bool.{OnTrue};
 ghost use Rattle.afl_outside.specs.Counts.{Rose};
 ghost use Rattle.page_chain.specs.Pages.{page_size, page_at, has_page, padded};
 ghost use Rattle.page_layout.specs.Places.{KeepsPages};
-ghost use Rattle.page_chain.specs.Runs.{OnlyReads, OnlyWrites, Sees};
+ghost use Rattle.page_chain.specs.Inner.Runs.{OnlyReads, OnlyWrites, Sees};
 
 use crate::fault::Stopped;
 use afl_outside::{Disk, Failed, has_risen};

@@ -14,7 +14,7 @@ use Rattle.page_slots.specs.declared.slots.NextEntry.{NextEntry}
 use Rattle.page_slots.specs.declared.slots.NextEntry.TheVariants as entries
 use Rattle.page_slots.specs.declared.slots.Target.{Target}
 use Rattle.page_slots.specs.declared.slots.Target.TheVariants as targets
-use Rattle.page_writes.proofs.Emptied.{other_emptied, log_emptied, still_root, still_entry, root_unfilled, entry_unfilled}
+use Rattle.page_file.proofs.Emptied.{other_emptied, log_emptied, still_root, still_entry, root_unfilled, entry_unfilled}
 
 pub aimed_sound : (target : Target) (slots : Slots) (seen : List ℕ) (may_leave : List ℕ → Type 0) → slots.doubtful ≡ false → IsSound slots seen may_leave → IsSound (aimed target slots) seen may_leave
 aimed_sound target slots seen may_leave sure sound = record {

@@ -1,2 +1,13 @@
 pub mod AimLemmas
+pub mod Emptied
+pub mod First
+pub mod Fresh
+pub mod Fronts
+pub mod Kept
 pub mod OnlyRead
+pub mod Opened
+pub mod PageReads
+pub mod Stays
+pub mod Steps
+pub mod Told
+pub mod Zeros

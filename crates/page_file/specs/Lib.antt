@@ -1,2 +1,5 @@
-pub mod Aims
-pub mod Opened
+pub mod FilesOpened
+pub mod Inner
+pub mod OpeningOpened
+pub mod Start
+pub mod Written

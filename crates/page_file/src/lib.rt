@@ -1,8 +1,14 @@
-//! A database's file: its current root, its log, and the slot that a commit is to open.
+//! A database's file: it is made, opened, read and written, slot by slot.
 #![tactic(auto)]
 
-mod blobs;
-mod file;
+mod files;
+mod making;
+mod opening;
+mod sealing;
+mod writing;
 
-pub use file::PageFile;
-pub use page_chain::{BlobFault, OpenCause};
+pub use files::{BlobFault, OpenCause, PageFile};
+pub use making::{InitFault, init};
+pub use opening::open_slots;
+pub use sealing::{record_opened, record_written};
+pub use writing::{write_blob, write_chain};

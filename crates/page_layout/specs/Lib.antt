@@ -1,4 +1,4 @@
-pub mod Places
-pub mod Roots
 pub mod Logs
 pub mod Opens
+pub mod Places
+pub mod Roots

@@ -1,7 +1,7 @@
 //! A commit of each kind.
 ghost use Rattle.std.specs.Prelude.{◌≡◌, ◌≢◌, ◌<◌, false, nat_eq, length, IsTrue, OnOk, OnErr, MatchBool};
 ghost use Rattle.std.specs.List.{list_all};
-ghost use Rattle.page_open.specs.Opened.{AreFresh};
+ghost use Rattle.page_file.specs.OpeningOpened.{AreFresh};
 ghost use Rattle.page_slots.specs.Standing.{IsClosed, IsReady, IsTarget};
 ghost use Rattle.page_slots.specs.declared.slots.Target.TheVariants as targets;
 ghost use Rattle.page_table.specs.Committing.{IsLaid};

@@ -1,6 +1,6 @@
 //! Commits in which a call of the disk fails, and what a crash leaves of them.
 ghost use Rattle.std.specs.Prelude.{OnErr};
-ghost use Rattle.page_open.specs.Opened.{AreFresh};
+ghost use Rattle.page_file.specs.OpeningOpened.{AreFresh};
 ghost use Rattle.page_slots.specs.Standing.{IsTarget};
 
 use crate::commits::{commit_base, commit_record};

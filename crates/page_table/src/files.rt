@@ -1,13 +1,12 @@
 //! Files of a few pages, as disks in memory.
 ghost use Rattle.std.specs.Prelude.{IfOk};
-ghost use Rattle.page_open.specs.Opened.{AreFresh};
+ghost use Rattle.page_file.specs.OpeningOpened.{AreFresh};
 
 use afl_outside::{Disk, Failed, MemDisk};
 use anyhow::Result;
 use cell_values::{Bytes, List, Memory};
 use page_chain::OpenCause;
-use page_file::PageFile;
-use page_init::{InitFault, init};
+use page_file::{InitFault, PageFile, init};
 use std::alloc::Global;
 
 /// A disk with these bytes, whose call of this number fails.

@@ -6,6 +6,7 @@ mod change;
 mod laws;
 mod lookups;
 mod names;
+mod others;
 
 pub use alike::are_alike;
 pub use change::{Change, changed_name, let_go_change};
@@ -16,3 +17,4 @@ pub use lookups::{
     entry_named, has_array, has_room, is_before, is_same, last_of, newest_of, next_of,
 };
 pub use names::{changed_names, from_number};
+pub use others::{has_its_names, other_arrays_stay};

@@ -8,12 +8,12 @@ use Rattle.logical_plan.specs.declared.parts.Leaf.{Leaf}
 use Rattle.logical_plan.specs.Meaning.{meaning}
 use Rattle.logical_plan.specs.Query.{Query}
 use Rattle.chunk_source.specs.Source.{SourceState, Reads}
-use Rattle.chunk_read.specs.declared.fault.ExecFault.TheVariants.{Source, Damaged}
-use Rattle.chunk_read.specs.Faults.{Answers}
+use Rattle.chunk_source.specs.declared.reading.fault.ExecFault.TheVariants.{Source, Damaged}
+use Rattle.chunk_source.specs.Faults.{Answers}
 use Rattle.chunk_exec.specs.Computed.{CanCompute}
-use Rattle.mem_chunks.specs.declared.leaf_array.LeafArray.{LeafArray}
-use Rattle.mem_chunks.specs.Found.{database_of}
-use Rattle.mem_chunks.specs.InMemory.{StoredArrays, sure_state}
+use Rattle.chunk_source.specs.declared.memory.leaf_array.LeafArray.{LeafArray}
+use Rattle.chunk_source.specs.Found.{database_of}
+use Rattle.chunk_source.specs.InMemory.{StoredArrays, sure_state}
 use Rattle.plan_rows.specs.Found.{CanAnswer, nothing}
 
 pub can_compute : (source : SourceState) (query : Query) → CanAnswer query → CanCompute source query

@@ -1,2 +1,4 @@
 pub mod Executed
+pub mod FaultLaws
+pub mod Steps
 pub mod WholeRows

@@ -8,7 +8,7 @@ use Rattle.array_geom.specs.Link.{HoldsResult, HoldsRows, Is}
 use Rattle.array_parts.specs.Placed.{HavePlaces, IsSound}
 use Rattle.logical_plan.specs.Faults.{fault_of}
 use Rattle.logical_plan.specs.Meaning.{Meant}
-use Rattle.plan_rows.specs.declared.rows.PlanRows.TheVariants.{Rows}
+use Rattle.plan_rows.specs.declared.answers.rows.PlanRows.TheVariants.{Rows}
 use Rattle.plan_rows.specs.Found.{IsFound}
 
 unbroken : (schema : Schema) (array : ChunkedArray) (rows : Result (List Row) Broken) → HoldsResult schema array rows → fault_of rows ≡ None → array.broken ≡ None

@@ -5,8 +5,8 @@ use Rattle.logical_plan.specs.Leaves.{leaves}
 use Rattle.logical_plan.specs.Meaning.{Database, Meant, whole}
 use Rattle.logical_plan.specs.Query.{Query}
 use Rattle.logical_plan.specs.Typing.{IsTyped}
-use Rattle.plan_rows.specs.declared.rows.PlanRows.{PlanRows}
-use Rattle.plan_rows.specs.declared.rows.PlanRows.TheVariants.{Fault, Rows}
+use Rattle.plan_rows.specs.declared.answers.rows.PlanRows.{PlanRows}
+use Rattle.plan_rows.specs.declared.answers.rows.PlanRows.TheVariants.{Fault, Rows}
 
 -- a database without arrays
 abbrev pub nothing : Database

@@ -1,7 +1,8 @@
-//! The rows of plans that read no stored array.
+//! What a plan that reads no stored array gives: its rows, or its first fault.
 #![tactic(auto)]
 
-mod array;
-mod rows;
+mod answers;
+mod faults;
 
-pub use rows::{PlanRows, rows_of};
+pub use answers::{PlanRows, rows_of};
+pub use faults::first_fault;

@@ -13,12 +13,12 @@ use Rattle.array_rows.proofs.RowsLemmas.{same_coordinate}
 use Rattle.logical_plan.specs.declared.parts.Aggregate.{Aggregate}
 use Rattle.logical_plan.specs.Groups.{group_at}
 use Rattle.logical_plan.specs.Redimension.{Origin, Landing, Landed, lands, drops, breaks, landing_of, after_landing, landed, landed_at}
-use Rattle.group_parts.specs.declared.groups.Group.{Group}
-use Rattle.group_parts.specs.Grouped.{AreGroupsOf, IsGroupOf, states_at}
-use Rattle.group_parts.specs.Sets.{AreKeys, sets_by, unless_empty}
-use Rattle.row_landings.specs.declared.gathering.Landings.{Landings}
-use Rattle.row_landings.specs.Gathering.{AreLandings, pairs}
-use Rattle.redimension_exec.specs.Grouping.{landed_sets}
+use Rattle.exec_group.specs.declared.rows.groups.Group.{Group}
+use Rattle.exec_group.specs.Grouped.{AreGroupsOf, IsGroupOf, states_at}
+use Rattle.exec_group.specs.Sets.{AreKeys, sets_by, unless_empty}
+use Rattle.redimension_exec.specs.declared.landings.gathering.Landings.{Landings}
+use Rattle.redimension_exec.specs.Inner.Gathering.{AreLandings, pairs}
+use Rattle.redimension_exec.specs.Inner.Grouping.{landed_sets}
 use Rattle.redimension_exec.proofs.LandedLaws.{all_landed, whole_of}
 
 abbrev rows_in : List Landed → List Row

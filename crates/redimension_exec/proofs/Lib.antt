@@ -1,6 +1,13 @@
-pub mod GatherLaws
+pub mod ArraysGatherLaws
+pub mod CountLaws
 pub mod GroupLaws
 pub mod LandedLaws
+pub mod LandingLaws
+pub mod LandingsGatherLaws
 pub mod MeantLaws
 pub mod OrderLaws
+pub mod SortLaws
+pub mod StepLaws
+pub mod TakenLaws
 pub mod ValueLaws
+mod WorkedTargets

@@ -14,8 +14,8 @@ use Rattle.array_geom.specs.Geometry.{overlaps, frame_lengths, volume}
 use Rattle.array_geom.specs.Link.{Is}
 use Rattle.array_geom.proofs.NearLemmas.{valid_placed, size_is_volume}
 use Rattle.array_geom.proofs.TestLaws.{and_parts, at_most}
-use Rattle.array_cores.specs.Cores.{HaveCells, cores_of, meant_by_cores, unless_broken}
-use Rattle.array_cores.proofs.CoreLaws.{cores_are_rows}
+use Rattle.array_parts.specs.Cores.{HaveCells, cores_of, meant_by_cores, unless_broken}
+use Rattle.array_parts.proofs.CoreLaws.{cores_are_rows}
 use Rattle.logical_plan.specs.declared.parts.Aggregate.{Aggregate}
 use Rattle.logical_plan.specs.CellOps.{fit_rows}
 use Rattle.logical_plan.specs.Faults.{if_whole, and_then}

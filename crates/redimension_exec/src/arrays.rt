@@ -1,63 +1,12 @@
-//! Redimensions, with aggregates or without.
-ghost use Rattle.std.specs.Prelude.{◌≡◌, ◌≤◌, None, length, IsTrue, IfOk};
-ghost use Rattle.cell_values.specs.Schemas.{IsValid};
-ghost use Rattle.array_cores.specs.Cores.{HasCells, HaveCells, meant_by_cores};
-ghost use Rattle.array_geom.specs.Geometry.{overlaps};
-ghost use Rattle.array_geom.specs.Link.{Is};
-ghost use Rattle.logical_plan.specs.Meaning.{redimensioned_from};
-ghost use Rattle.logical_plan.specs.Typing.{redimensions};
+//! Arrays whose cells are moved to coordinates that their values give.
 
-use crate::building::{broken_target, fitted_array};
-use crate::cells::redimension_cells;
-use crate::gathering::gathered_rows;
-use array_geom::ChunkedArray;
-use cell_values::{Memory, Schema};
-use exec_group::rows_of_cores;
-use logical_plan::Aggregate;
+mod arrays;
+mod building;
+mod cells;
+mod gathering;
+mod groups;
+mod ordering;
 
-/// The redimension with aggregates of an array that is not broken.
-fn of_whole(
-    array: ChunkedArray,
-    target: &Schema,
-    aggs: &[Aggregate],
-) -> Result<ChunkedArray, Memory>
-    requires whole { array.broken ≡ None }
-    requires cells { HaveCells array.schema array.margins.items array.chunks }
-    requires valid { IsValid target.now }
-    requires typed { IsTrue (redimensions array.schema target.now aggs.now) }
-    requires some { 1 ≤ length aggs.now }
-    ensures array { IfOk result (λ made. Is made (redimensioned_from target.now aggs.now (meant_by_cores array))) }
-    ensures margins { IfOk result (λ made. made.margins.items ≡ overlaps target.now.dimensions) }
-{
-    let source = array.schema.copy()?;
-    let rows = rows_of_cores(array)?;
-    match gathered_rows(&source, target, aggs, rows)? {
-        Ok(rows) => fitted_array(target, rows),
-        Err(broken) => broken_target(target, &broken),
-    }
-}
-
-/// The cells of an array at the coordinates that their values and their own coordinates give the target's dimensions. Without
-/// aggregates each has the values of the target's attributes, and no two may land at one coordinate. With aggregates the cells that
-/// land at one coordinate become one, with the values of the aggregates that have the names of the target's attributes. The first
-/// cell in row-major order that has a doubt, a fault among its new numbers, a place out of the target's bounds or, without
-/// aggregates, one that is taken breaks the result. What the array's margins hold doesn't matter.
-pub fn redimension(
-    array: ChunkedArray,
-    target: &Schema,
-    aggs: &[Aggregate],
-) -> Result<ChunkedArray, Memory>
-    requires cells { HasCells array }
-    requires valid { IsValid target.now }
-    requires typed { IsTrue (redimensions array.schema target.now aggs.now) }
-    ensures array { IfOk result (λ made. Is made (redimensioned_from target.now aggs.now (meant_by_cores array))) }
-    ensures margins { IfOk result (λ made. made.margins.items ≡ overlaps target.now.dimensions) }
-{
-    if aggs.is_empty() {
-        return redimension_cells(array, target);
-    }
-    match &array.broken {
-        Some(broken) => broken_target(target, broken),
-        None => of_whole(array, target, aggs),
-    }
-}
+pub use arrays::redimension;
+pub use cells::redimension_cells;
+pub use groups::groups_landed;

@@ -1,13 +1,12 @@
-//! Arrays whose cells are moved to coordinates that their values give.
+//! `redimension`: where each row goes, which rows land together, and the array of them.
 #![tactic(auto)]
 
 mod arrays;
-mod building;
-mod cells;
-mod gathering;
-mod groups;
-mod ordering;
+mod landings;
+mod places;
 
-pub use arrays::redimension;
-pub use cells::redimension_cells;
-pub use groups::groups_landed;
+pub use arrays::{groups_landed, redimension, redimension_cells};
+pub use landings::{Landings, landed_rows};
+pub use places::{
+    Place, bounds_of, carried_rows, first_numbers, places_of_attributes, places_of_dimensions,
+};

@@ -5,8 +5,8 @@ mod RulesHold
 pub mod RulesValid
 mod SchemaAgain
 pub mod SchemaPrinted
+mod ShapeAt
 pub mod ShapeComplete
 pub mod ShapeEnds
 pub mod ShapeRuns
 pub mod ShapeSound
-mod ShapeAt

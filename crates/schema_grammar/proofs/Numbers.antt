@@ -16,8 +16,8 @@ use Rattle.schema_grammar.specs.declared.state.BoundPlace.TheVariants.{Low, LowM
 use Rattle.schema_grammar.specs.declared.state.NumberPlace.TheVariants.{Bounded, Chunk, Chunked, Overlap}
 use Rattle.schema_grammar.specs.declared.state.PartStep.TheVariants as part
 use Rattle.schema_grammar.specs.Spelling.{across}
-use Rattle.schema_grammar.specs.Reading.{bound, count, dimension, bound_step, number_step}
-use Rattle.schema_grammar.specs.Unsigned.{IsUnsigned}
+use Rattle.schema_grammar.specs.Inner.Reading.{bound, count, dimension, bound_step, number_step}
+use Rattle.schema_grammar.specs.Inner.Unsigned.{IsUnsigned}
 
 pub low_read : (n : Label) (s : Span) (z : ℤ) → pos 0 ≤ℤ z → bound_step n Low s (a_number z) ≡ part.On (dim.Bounds n (Lowered (bound z s)))
 low_read n s (pos v) h = refl

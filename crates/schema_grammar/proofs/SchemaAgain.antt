@@ -25,7 +25,7 @@ use Rattle.schema_grammar.specs.Spelling.{SpellsSchema}
 use Rattle.schema_grammar.specs.Outcome.{lexemes}
 use Rattle.schema_grammar.specs.Rules.{kind_named, attribute_of, dimension_of, schema_of}
 use Rattle.schema_grammar.specs.SchemaBytes.{kind_bytes, attribute_bytes, dimension_bytes, attr_text_bytes, dim_text_bytes, parts_bytes, schema_bytes, shape_bytes}
-use Rattle.schema_grammar.specs.SchemaMarks.{nowhere, bare_attr, bare_dim, bare_shape, shape_marks, IsAttrPrintable, IsDimPrintable, IsPrintable}
+use Rattle.schema_grammar.specs.Inner.SchemaMarks.{nowhere, bare_attr, bare_dim, bare_shape, shape_marks, IsAttrPrintable, IsDimPrintable, IsPrintable}
 use Rattle.schema_grammar.specs.ReadAs.{IsReadAs}
 use Rattle.schema_grammar.proofs.SchemaPrinted.{whats, shape_spelled, shape_apart, shape_again}
 use Rattle.schema_grammar.proofs.RuleLemmas.{at_least}

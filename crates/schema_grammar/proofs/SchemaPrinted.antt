@@ -19,7 +19,7 @@ use Rattle.schema_grammar.specs.declared.shape_text.AttrText.{AttrText}
 use Rattle.schema_grammar.specs.declared.shape_text.DimText.{DimText}
 use Rattle.schema_grammar.specs.Spelling.{placed, across, SpellsNull, SpellsAttr, SpellsAttrs, SpellsBound, SpellsHigh, SpellsDim, SpellsDims, SpellsSchema}
 use Rattle.schema_grammar.specs.SchemaBytes.{null_bytes, high_bytes, bounds_bytes, lengths_bytes, attr_text_bytes, dim_text_bytes, shape_bytes}
-use Rattle.schema_grammar.specs.SchemaMarks.{nowhere, bare_attr, bare_dim, bare_shape, null_marks, attr_marks, bound_marks, high_marks, lengths_marks, dim_marks, attrs_marks, dims_marks, shape_marks, IsAttrPrintable, IsDimPrintable, IsPrintable}
+use Rattle.schema_grammar.specs.Inner.SchemaMarks.{nowhere, bare_attr, bare_dim, bare_shape, null_marks, attr_marks, bound_marks, high_marks, lengths_marks, dim_marks, attrs_marks, dims_marks, shape_marks, IsAttrPrintable, IsDimPrintable, IsPrintable}
 
 -- The bytes.
 

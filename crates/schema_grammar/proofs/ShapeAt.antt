@@ -13,7 +13,7 @@ use Rattle.schema_grammar.specs.declared.state.ShapeState.{ShapeState}
 use Rattle.schema_grammar.specs.declared.state.ShapeState.TheVariants.{Start}
 use Rattle.schema_grammar.specs.declared.state.ShapeStep.TheVariants.{On, Whole, Unexpected}
 use Rattle.schema_grammar.specs.Spelling.{SpellsSchema}
-use Rattle.schema_grammar.specs.Reading.{shape_turn, Open, Read, shape_go, shape_run}
+use Rattle.schema_grammar.specs.Inner.Reading.{shape_turn, Open, Read, shape_go, shape_run}
 use Rattle.schema_grammar.specs.Outcome.{lexemes, IsSchemaAt, IsFront, StopsAt}
 use Rattle.schema_grammar.proofs.ShapeRuns.{run_append, run_on, one_more, read_sound, StopsIn, stops_here, stops_at_end, one_read, read_no_stop, one_stop}
 

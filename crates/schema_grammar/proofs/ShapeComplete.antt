@@ -16,7 +16,7 @@ use Rattle.schema_grammar.specs.declared.state.NumberPlace.TheVariants.{Bounded}
 use Rattle.schema_grammar.specs.declared.state.ShapeState.{ShapeState}
 use Rattle.schema_grammar.specs.declared.state.ShapeState.TheVariants.{Start, Attributes, Between, Dimensions}
 use Rattle.schema_grammar.specs.Spelling.{placed, across, SpellsNull, SpellsAttr, SpellsAttrs, SpellsBound, SpellsHigh, SpellsDim, SpellsDims, SpellsSchema}
-use Rattle.schema_grammar.specs.Reading.{label, bound, whole_schema, head, attr_end, attr_word, attr_goes, Read, shape_go, shape_run}
+use Rattle.schema_grammar.specs.Inner.Reading.{label, bound, whole_schema, head, attr_end, attr_word, attr_goes, Read, shape_go, shape_run}
 
 -- what ends an attribute
 abbrev EndsAttr : Lexeme → Type 0

@@ -17,7 +17,7 @@ use Rattle.schema_grammar.specs.declared.state.NumberPlace.TheVariants.{Bounded,
 use Rattle.schema_grammar.specs.declared.state.ShapeState.{ShapeState}
 use Rattle.schema_grammar.specs.declared.state.ShapeState.TheVariants.{Start, Attributes, Between, Dimensions}
 use Rattle.schema_grammar.specs.Spelling.{placed}
-use Rattle.schema_grammar.specs.Reading.{Read, shape_run}
+use Rattle.schema_grammar.specs.Inner.Reading.{Read, shape_run}
 
 abbrev nowhere : Span
 nowhere = record { start = 0; end = 0 }

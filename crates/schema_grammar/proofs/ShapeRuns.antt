@@ -11,7 +11,7 @@ use Rattle.schema_grammar.specs.declared.state.ShapeState.TheVariants.{Start}
 use Rattle.schema_grammar.specs.declared.state.ShapeStep.{ShapeStep}
 use Rattle.schema_grammar.specs.declared.state.ShapeStep.TheVariants.{On, Whole, Unexpected}
 use Rattle.schema_grammar.specs.Spelling.{placed, SpellsSchema}
-use Rattle.schema_grammar.specs.Reading.{shape_turn, ShapeRun, Read, Open, Stuck, shape_go, shape_run}
+use Rattle.schema_grammar.specs.Inner.Reading.{shape_turn, ShapeRun, Read, Open, Stuck, shape_go, shape_run}
 use Rattle.schema_grammar.specs.Outcome.{IsFront}
 use Rattle.schema_grammar.proofs.ShapeComplete.{shape_read}
 use Rattle.schema_grammar.proofs.ShapeSound.{HoldsShape, HoldsStep, holds_turn}

@@ -20,7 +20,7 @@ use Rattle.schema_grammar.specs.declared.state.ShapeState.TheVariants.{Start, At
 use Rattle.schema_grammar.specs.declared.state.ShapeStep.{ShapeStep}
 use Rattle.schema_grammar.specs.declared.state.ShapeStep.TheVariants.{On, Whole, Unexpected}
 use Rattle.schema_grammar.specs.Spelling.{placed, SpellsNull, SpellsAttr, SpellsAttrs, SpellsBound, SpellsHigh, SpellsDim, SpellsDims, SpellsSchema}
-use Rattle.schema_grammar.specs.Reading.{attr_end, attr_word, attr_step, dim_step, attr_goes, dim_goes, start_turn, between_turn, shape_turn}
+use Rattle.schema_grammar.specs.Inner.Reading.{attr_end, attr_word, attr_step, dim_step, attr_goes, dim_goes, start_turn, between_turn, shape_turn}
 
 -- these attributes, each with a comma behind it
 abbrev pub PassedAttrs : List AttrText → List Placed → List Placed → Type 0

@@ -1,7 +1,7 @@
 //! The stored arrays that statements may speak of.
 ghost use Rattle.std.specs.Prelude.{◌≤◌, length, IfSome, OnSome};
 ghost use Rattle.cell_values.specs.Schemas.{IsValid};
-ghost use Rattle.query_types.specs.Arrays.{AreValid};
+ghost use Rattle.afl_types.specs.Arrays.{AreValid};
 
 use afl_parser::{Node, parse};
 use cell_values::List;

@@ -1,6 +1,6 @@
 //! Payloads of chunks of two places.
 ghost use Rattle.std.specs.Prelude.{◌≡◌, [], ◌∷◌, IfOk};
-ghost use Rattle.chunk_rle.specs.Example.{example};
+ghost use Rattle.chunk_rle.specs.Inner.Example.{example};
 
 use crate::show::push_chunk;
 use anyhow::Result;

@@ -1,7 +1,7 @@
 //! Where the cells of an array of four times five places are.
 ghost use Rattle.std.specs.Prelude.{◌≡◌, [], ◌∷◌, IfOk};
 ghost use Rattle.array_rows.specs.Boxes.{corners};
-ghost use Rattle.array_geom.specs.Example.{dimension, example};
+ghost use Rattle.array_geom.specs.Inner.Example.{dimension, example};
 
 use crate::show::{push_box, push_chunk};
 use anyhow::Result;

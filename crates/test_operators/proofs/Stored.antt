@@ -13,8 +13,8 @@ use Rattle.array_geom.specs.Link.{HoldsRows, Is}
 use Rattle.array_geom.proofs.LinkLaws.{chunks_have_their_rows}
 use Rattle.logical_plan.specs.declared.parts.Leaf.{Leaf}
 use Rattle.logical_plan.specs.Typing.{AreSound}
-use Rattle.mem_chunks.specs.declared.leaf_array.LeafArray.{LeafArray}
-use Rattle.mem_chunks.specs.Found.{IsRead, IsStoredArray, rows_of}
+use Rattle.chunk_source.specs.declared.memory.leaf_array.LeafArray.{LeafArray}
+use Rattle.chunk_source.specs.Found.{IsRead, IsStoredArray, rows_of}
 use Rattle.test_operators.specs.Example.{dimensions, schema, leaf, rows, meant}
 use Rattle.test_operators.specs.declared.layout.Layout.{Layout}
 use Rattle.test_operators.specs.declared.layout.Layout.TheVariants.{Singles, Pairs, Whole}

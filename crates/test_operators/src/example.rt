@@ -7,8 +7,8 @@ ghost use Rattle.array_rows.specs.Rows.{placed};
 ghost use Rattle.array_geom.specs.Geometry.{overlaps};
 ghost use Rattle.array_geom.specs.Link.{Is};
 ghost use Rattle.chunk_source.specs.Source.{Reads};
-ghost use Rattle.mem_chunks.specs.Found.{IsRead, IsStoredArray};
-ghost use Rattle.mem_chunks.specs.InMemory.{memory_state, sure_state};
+ghost use Rattle.chunk_source.specs.Found.{IsRead, IsStoredArray};
+ghost use Rattle.chunk_source.specs.InMemory.{memory_state, sure_state};
 ghost use Rattle.test_operators.specs.Example.{attributes, dimensions, schema, leaf, rows, meant};
 
 use crate::layout::Layout;
@@ -16,9 +16,9 @@ use array_geom::{ChunkedArray, margins_of};
 use cell_values::{
     Attribute, Cell, Datum, Dimension, Kind, List, Memory, Name, Row, Schema, coord_of,
 };
-use chunk_build::assemble;
+use chunk_cells::assemble;
+use chunk_source::{LeafArray, MemChunks, SureChunks};
 use logical_plan::Leaf;
-use mem_chunks::{LeafArray, MemChunks, SureChunks};
 use std::alloc::Global;
 
 /// A text that is no name counts as want of memory: the texts here are names.

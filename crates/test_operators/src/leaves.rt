@@ -6,8 +6,7 @@ use crate::example::{example_leaf, failing_source, sure_source};
 use crate::layout::Layout;
 use crate::show::{push_array, push_asked, push_cause, push_faults};
 use anyhow::Result;
-use chunk_read::read_leaf;
-use chunk_source::ChunkSource;
+use chunk_source::{ChunkSource, read_leaf};
 use logical_plan::Leaf;
 
 /// The number of a leaf in a plan.

@@ -5,8 +5,7 @@ use anyhow::Result;
 use array_geom::{Chunk, ChunkedArray};
 use cell_values::{Broken, Datum, List, Row};
 use chunk_cells::rows;
-use chunk_read::ExecFault;
-use chunk_source::{Asked, ChunkSource};
+use chunk_source::{Asked, ChunkSource, ExecFault};
 use test_kit::{push_cell, push_coord, push_datum, push_number};
 
 /// Adds a chunk's number, and what it holds at each of its positions.

@@ -11,8 +11,8 @@ use Rattle.turn_lock.specs.declared.view.Claim.{Claim}
 use Rattle.turn_lock.specs.declared.view.SeatView.{SeatView}
 use Rattle.turn_lock.specs.declared.view.Stage.TheVariants.{Idle, Holding}
 use Rattle.turn_lock.specs.Owners.{ExtendsByOthers}
-use Rattle.turn_lock.specs.Views.{tickets_at, claim, new_claims, first_of, later_of, first_view, spent_view, first_share, later_share, both_shares, ticket_count, number_count, HasNumber}
-use Rattle.turn_lock.specs.Steps.{Arrives}
+use Rattle.turn_lock.specs.Inner.Views.{tickets_at, claim, new_claims, first_of, later_of, first_view, spent_view, first_share, later_share, both_shares, ticket_count, number_count, HasNumber}
+use Rattle.turn_lock.specs.Inner.Steps.{Arrives}
 use Rattle.turn_lock.specs.Rule.{total, Fits, IsOneHistory}
 use Rattle.turn_lock.proofs.Basics.{idle_not_holding, same_value, none_not_some}
 use Rattle.turn_lock.proofs.Standing.{has_before, has_after, has_later, new_claims_have, stand_set}

@@ -3,7 +3,7 @@ use Rattle.std.proofs.Common.{◌≡◌, ℕ, zero, suc, ◌+◌, ◌-◌, ◌<�
 use mathlib.Core.Option.{some}
 use lib.ListN.{get_elem?}
 use Rattle.std.proofs.lemmas.List.{map-append}
-use Rattle.turn_lock.specs.Views.{new_claims}
+use Rattle.turn_lock.specs.Inner.Views.{new_claims}
 
 pub one_less : (number seats : ℕ) → number < seats → seats - number ≡ suc (seats - (number + 1))
 one_less number seats lt = omega arith

@@ -1,7 +1,7 @@
 pub mod Basics
-pub mod Lists
-pub mod Standing
-pub mod Steps
-pub mod OneClaim
 pub mod Ends
 pub mod Gathering
+pub mod Lists
+pub mod OneClaim
+pub mod Standing
+pub mod Steps

@@ -4,7 +4,7 @@ use mathlib.Core.Option.{some, some-injective, some-ne-none}
 use lib.ListN.{get_elem?}
 use Rattle.turn_lock.specs.Owners.{is_owned_by, is_open_to, none_of, only_of, ExtendsByOthers, ExtendsByOwn}
 use Rattle.turn_lock.specs.declared.view.Claim.{Claim}
-use Rattle.turn_lock.specs.Views.{claim, new_claims}
+use Rattle.turn_lock.specs.Inner.Views.{claim, new_claims}
 use Rattle.turn_lock.specs.Rule.{total}
 
 module _ {A : Type 0} where

@@ -7,8 +7,8 @@ use Rattle.turn_lock.specs.declared.view.Claim.{Claim}
 use Rattle.turn_lock.specs.declared.view.SeatView.{SeatView}
 use Rattle.turn_lock.specs.declared.view.Stage.TheVariants.{Holding}
 use Rattle.turn_lock.specs.Owners.{ExtendsByOthers, ExtendsByOwn}
-use Rattle.turn_lock.specs.Views.{claim, first_number, first_seen, claims_seeing}
-use Rattle.turn_lock.specs.Steps.{Draws, Begins}
+use Rattle.turn_lock.specs.Inner.Views.{claim, first_number, first_seen, claims_seeing}
+use Rattle.turn_lock.specs.Inner.Steps.{Draws, Begins}
 
 module _ {E : Type 0} where
   pub one_claim : (cs : List (Claim E)) → length cs ≡ 1 → cs ≡ claim (first_number cs) (first_seen cs) ∷ []

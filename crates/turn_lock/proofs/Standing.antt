@@ -7,7 +7,7 @@ use lib.ListN.{get_elem?}
 use Rattle.atomic_table.proofs.Lists.{at_longer, at_map, set_else}
 use Rattle.turn_lock.specs.declared.view.Claim.{Claim}
 use Rattle.turn_lock.specs.declared.view.SeatView.{SeatView}
-use Rattle.turn_lock.specs.Views.{claim, new_claims, claims_seeing, HasNumber}
+use Rattle.turn_lock.specs.Inner.Views.{claim, new_claims, claims_seeing, HasNumber}
 use Rattle.turn_lock.specs.Rule.{Stands}
 use Rattle.turn_lock.proofs.Lists.{set_at}
 

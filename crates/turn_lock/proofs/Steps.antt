@@ -13,8 +13,8 @@ use Rattle.turn_lock.specs.declared.view.SeatView.{SeatView}
 use Rattle.turn_lock.specs.declared.view.Stage.{Stage}
 use Rattle.turn_lock.specs.declared.view.Stage.TheVariants.{Idle, Waiting, Holding}
 use Rattle.turn_lock.specs.Owners.{ExtendsByOthers, ExtendsByOwn}
-use Rattle.turn_lock.specs.Views.{tickets_at, claim, claims_seeing, AllHaveSeen, seat_view, ticket_count, number_count}
-use Rattle.turn_lock.specs.Steps.{Draws, Serves, Looks, Counts}
+use Rattle.turn_lock.specs.Inner.Views.{tickets_at, claim, claims_seeing, AllHaveSeen, seat_view, ticket_count, number_count}
+use Rattle.turn_lock.specs.Inner.Steps.{Draws, Serves, Looks, Counts}
 use Rattle.turn_lock.specs.Rule.{total, InStage, Fits, IsOut, IsOneHistory}
 use Rattle.turn_lock.proofs.Basics.{idle_not_holding, waiting_not_holding, same_value}
 use Rattle.turn_lock.proofs.Standing.{has_renewed, stand_set}

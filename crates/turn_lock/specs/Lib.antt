@@ -1,7 +1,5 @@
+pub mod Closings
+pub mod Inner
 pub mod Owners
-pub mod Views
-pub mod Steps
 pub mod Rule
 pub mod Seats
-pub mod Lent
-pub mod Closings

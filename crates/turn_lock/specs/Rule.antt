@@ -10,7 +10,7 @@ use Rattle.turn_lock.specs.declared.view.SeatView.{SeatView}
 use Rattle.turn_lock.specs.declared.view.Stage.{Stage}
 use Rattle.turn_lock.specs.declared.view.Stage.TheVariants.{Idle, Waiting, Holding}
 use Rattle.turn_lock.specs.Owners.{ExtendsByOthers}
-use Rattle.turn_lock.specs.Views.{HasNumber, AllHaveSeen, ticket_count, number_count}
+use Rattle.turn_lock.specs.Inner.Views.{HasNumber, AllHaveSeen, ticket_count, number_count}
 
 -- f of each, added up
 abbrev pub total : {A : Type 0} → (A → ℕ) → List A → ℕ

@@ -5,9 +5,9 @@ use Rattle.turn_lock.specs.declared.seat.LockSeat.{LockSeat}
 use Rattle.turn_lock.specs.declared.seat.Turn.{Turn}
 use Rattle.turn_lock.specs.declared.view.Claim.{Claim}
 use Rattle.turn_lock.specs.declared.view.Stage.TheVariants.{Idle, Holding}
-use Rattle.turn_lock.specs.Lent.{count_before}
+use Rattle.turn_lock.specs.Inner.Lent.{count_before}
 use Rattle.turn_lock.specs.Owners.{ExtendsByOthers}
-use Rattle.turn_lock.specs.Views.{claim, first_number, first_seen}
+use Rattle.turn_lock.specs.Inner.Views.{claim, first_number, first_seen}
 
 module _ {V E : Type 0} where
   abbrev pub seat_number : LockSeat V E → ℕ

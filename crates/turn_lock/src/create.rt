@@ -2,7 +2,7 @@
 ghost use Rattle.std.specs.Prelude.{◌≡◌, ◌≤◌, [], length, IfOk, IfErr, vec_capacity, Some};
 ghost use Rattle.turn_lock.specs.declared.view.Stage.TheVariants.{Idle};
 ghost use Rattle.turn_lock.specs.Seats.{first_value, seat_count, AreNewSeats};
-ghost use Rattle.turn_lock.specs.Views.{new_claims};
+ghost use Rattle.turn_lock.specs.Inner.Views.{new_claims};
 
 use crate::history::History;
 use crate::lock::TurnLock;

@@ -1,8 +1,8 @@
 //! The rule of the lock's table, and the steps that keep it.
 ghost use Rattle.std.specs.Prelude.{List, []};
 ghost use Rattle.turn_lock.specs.Rule.{IsOneHistory};
-ghost use Rattle.turn_lock.specs.Steps.{Draws, Looks, Counts, Serves, Arrives};
-ghost use Rattle.turn_lock.specs.Views.{first_view, later_share, first_share, both_shares, spent_view};
+ghost use Rattle.turn_lock.specs.Inner.Steps.{Draws, Looks, Counts, Serves, Arrives};
+ghost use Rattle.turn_lock.specs.Inner.Views.{first_view, later_share, first_share, both_shares, spent_view};
 
 use crate::history::History;
 use crate::view::{Key, SeatView};

@@ -1,6 +1,6 @@
 //! A seat at a lock, and the turn that it takes.
 ghost use Rattle.std.specs.Prelude.{◌≡◌, length};
-ghost use Rattle.turn_lock.specs.Views.{first_number};
+ghost use Rattle.turn_lock.specs.Inner.Views.{first_number};
 
 use crate::history::History;
 use crate::view::SeatView;
@@ -52,7 +52,7 @@ pub struct Turn<V> {
 impl<V> Turn<V> {
     ghost use Rattle.std.specs.Borrow.{sem, follows};
     ghost use Rattle.turn_lock.specs.contracts.seat.Turn.{the_row};
-    ghost use Rattle.turn_lock.specs.Lent.{turn_with, value_of};
+    ghost use Rattle.turn_lock.specs.Inner.Lent.{turn_with, value_of};
 
     /// The value. When the borrow ends, the turn has what was written through it.
     pub fn value(&mut self) -> &mut V

@@ -1,10 +1,10 @@
 //! How a seat takes its turn and ends it.
 ghost use Rattle.std.specs.Prelude.{◌≡◌, ◌%◌, ◌^◌};
 ghost use Rattle.turn_lock.specs.declared.view.Stage.TheVariants.{Waiting};
-ghost use Rattle.turn_lock.specs.Lent.{value_of};
+ghost use Rattle.turn_lock.specs.Inner.Lent.{value_of};
 ghost use Rattle.turn_lock.specs.Owners.{ExtendsByOthers, ExtendsByOwn};
 ghost use Rattle.turn_lock.specs.Seats.{seat_number, seen_by, first_value, IsSeatOf, IsIdle, HasSlot, HasTurn};
-ghost use Rattle.turn_lock.specs.Steps.{Begins};
+ghost use Rattle.turn_lock.specs.Inner.Steps.{Begins};
 
 use crate::history::History;
 use crate::lock::{COUNT, NEXT, SERVED, SLOT, TurnLock};

@@ -1,9 +1,9 @@
 -- An array is read where its parts are.
 use Rattle.std.proofs.Common.{◌≡◌, ℕ, true, List, length, Option, Result, Ok, ap}
 use Rattle.cell_values.specs.declared.schema.Schema.{Schema}
-use Rattle.schema_items.specs.Table.{name_at, schema_at}
-use Rattle.catalog_rules.specs.declared.catalog.BlobAt.{BlobAt}
-use Rattle.catalog_rules.specs.declared.catalog.CatalogArray.{CatalogArray}
+use Rattle.file_items.specs.Table.{name_at, schema_at}
+use Rattle.version_catalog.specs.declared.rules.catalog.BlobAt.{BlobAt}
+use Rattle.version_catalog.specs.declared.rules.catalog.CatalogArray.{CatalogArray}
 use Rattle.version_catalog.specs.Spelling.{versions_at}
 use Rattle.version_catalog.specs.Table.{Numbered, numbered_at, content_at, is_next_name, items_at, array_at}
 use Rattle.version_catalog.proofs.Pairs.{array_is}

@@ -1,9 +1,9 @@
 -- The name of the last array.
 use Rattle.std.proofs.Common.{◌≡◌, ℕ, zero, suc, ◌+◌, ◌-◌, ◌≤◌, ◌<◌, List, [], ◌∷◌, ◌++◌, length, get_or, Option, Some, Result, Ok, refl, sym, ap, subst, ◌∙◌, arith}
-use Rattle.catalog_rules.specs.declared.catalog.CatalogArray.{CatalogArray}
-use Rattle.byte_items.specs.Items.{repeat, Stopped}
-use Rattle.byte_items.specs.declared.stop.Stop.{Stop}
-use Rattle.byte_items.proofs.Loop.{behind, one_more, stops_here}
+use Rattle.version_catalog.specs.declared.rules.catalog.CatalogArray.{CatalogArray}
+use Rattle.file_items.specs.Items.{repeat, Stopped}
+use Rattle.file_items.specs.declared.bytes.stop.Stop.{Stop}
+use Rattle.file_items.proofs.Loop.{behind, one_more, stops_here}
 use Rattle.version_catalog.specs.Table.{array_at, next_array, name_in, last_name}
 
 last_name_at : (arrays : List CatalogArray) (d : CatalogArray) (i : ℕ) → length arrays ≡ suc i → last_name arrays ≡ Some (get_or arrays i d).entry.name

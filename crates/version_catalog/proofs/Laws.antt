@@ -1,18 +1,18 @@
 -- A catalogue or a record that is read is spelled so, and what is spelled so is read.
 use Rattle.std.proofs.Common.{◌≡◌, ℕ, zero, suc, ◌^◌, ◌<◌, Bool, true, ◌&&◌, nat_le, List, [], ◌∷◌, ◌++◌, length, Option, None, Result, Ok, refl, ap, subst}
 use Rattle.std.specs.Int.{w32, w64, to_le_bytes}
-use Rattle.byte_items.specs.Items.{number_at, item, counted, spell_counted, AreCounted}
-use Rattle.byte_items.proofs.Laws.{AreBytes, Begins, Reads, bind_ok, ok_is, exact32, number_reads, item_reads, then_reads, seen_reads, counted_reads}
-use Rattle.page_items.specs.Pages.{positive_at, pages_at, spell_pages}
-use Rattle.page_items.proofs.Laws.{IsPositive, ArePages, positive_reads, pages_reads}
-use Rattle.schema_items.specs.Spelling.{spell_name, spell_schema}
-use Rattle.schema_items.specs.Table.{name_at, schema_at}
-use Rattle.schema_items.proofs.Laws.{IsSpelledName, ArePassed, fit_reads, name_reads, passed_reads}
-use Rattle.catalog_rules.specs.declared.catalog.BlobAt.{BlobAt}
-use Rattle.catalog_rules.specs.declared.catalog.CatalogArray.{CatalogArray}
-use Rattle.catalog_rules.specs.declared.catalog.Catalog.{Catalog}
-use Rattle.catalog_rules.specs.declared.catalog_record.CatalogRecord.{CatalogRecord}
-use Rattle.catalog_rules.specs.declared.catalog_record.CatalogRecord.TheVariants.{Create, First, Next, Remove, RemoveVersions}
+use Rattle.file_items.specs.Items.{number_at, item, counted, spell_counted, AreCounted}
+use Rattle.file_items.proofs.BytesLaws.{AreBytes, Begins, Reads, bind_ok, ok_is, exact32, number_reads, item_reads, then_reads, seen_reads, counted_reads}
+use Rattle.file_items.specs.Pages.{positive_at, pages_at, spell_pages}
+use Rattle.file_items.proofs.PagesLaws.{IsPositive, ArePages, positive_reads, pages_reads}
+use Rattle.file_items.specs.Spelling.{spell_name, spell_schema}
+use Rattle.file_items.specs.Table.{name_at, schema_at}
+use Rattle.file_items.proofs.SchemasLaws.{IsSpelledName, ArePassed, fit_reads, name_reads, passed_reads}
+use Rattle.version_catalog.specs.declared.rules.catalog.BlobAt.{BlobAt}
+use Rattle.version_catalog.specs.declared.rules.catalog.CatalogArray.{CatalogArray}
+use Rattle.version_catalog.specs.declared.rules.catalog.Catalog.{Catalog}
+use Rattle.version_catalog.specs.declared.rules.catalog_record.CatalogRecord.{CatalogRecord}
+use Rattle.version_catalog.specs.declared.rules.catalog_record.CatalogRecord.TheVariants.{Create, First, Next, Remove, RemoveVersions}
 use Rattle.version_catalog.specs.Spelling.{spell_blob, VersionAt, versions_at, spell_version, spell_array, spelling, spell_record}
 use Rattle.version_catalog.specs.Table.{blob_at, is_version, version_at, next_version, number_in, Numbered, numbered_at, Content, content_at, Items, is_next_name, items_at, array_of, array_at, next_array, name_in, arrays_at, NamedSchema, named_schema_at, FirstVersion, first_version_at, NamedBlob, named_blob_at, NamedNumber, named_number_at, record_at}
 use Rattle.version_catalog.proofs.Pairs.{joined_again, one_each, array_is}

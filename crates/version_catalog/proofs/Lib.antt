@@ -1,9 +1,13 @@
 pub mod Arrays
+pub mod Kept
 pub mod Last
 pub mod Laws
 pub mod Loops
+pub mod Maps
 pub mod Pairs
 pub mod Putting
+pub mod Recorded
 pub mod Rules
+pub mod Spelled
 pub mod Telling
 mod Worked

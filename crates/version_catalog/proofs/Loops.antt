@@ -1,9 +1,9 @@
 -- The loop over the versions of an array.
 use Rattle.std.proofs.Common.{◌≡◌, ℕ, ◌+◌, ◌-◌, ◌<◌, List, [], ◌∷◌, ◌++◌, length, Result, Ok, refl, sym, ap, subst, ◌∙◌}
 use Rattle.std.proofs.lemmas.List.{length-append}
-use Rattle.byte_items.specs.Items.{repeat}
-use Rattle.byte_items.proofs.Loop.{behind, one_more}
-use Rattle.catalog_rules.specs.declared.catalog.BlobAt.{BlobAt}
+use Rattle.file_items.specs.Items.{repeat}
+use Rattle.file_items.proofs.Loop.{behind, one_more}
+use Rattle.version_catalog.specs.declared.rules.catalog.BlobAt.{BlobAt}
 use Rattle.version_catalog.specs.Spelling.{VersionAt, versions_at}
 use Rattle.version_catalog.specs.Table.{version_at, next_version, number_in}
 use Rattle.version_catalog.proofs.Pairs.{one_more_pair}

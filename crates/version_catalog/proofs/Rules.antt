@@ -2,18 +2,18 @@
 use Rattle.std.proofs.Common.{◌≡◌, ℕ, zero, suc, ◌+◌, ◌<◌, ◌≤◌, true, nat_lt, nat_le, List, [], ◌∷◌, map, length, Option, Some, None, Ok, refl, ap, ◌∙◌, arith}
 use Rattle.std.specs.List.{AllByRecursion}
 use Rattle.std.proofs.lemmas.Bool.{and_parts, and_from, ltb-true, lt-ltb, leb-true, le-leb}
-use Rattle.byte_items.specs.Items.{Are}
-use Rattle.byte_items.proofs.Laws.{AreBytes, whole_takes, whole_again}
+use Rattle.file_items.specs.Items.{Are}
+use Rattle.file_items.proofs.BytesLaws.{AreBytes, whole_takes, whole_again}
 use Rattle.logical_plan.specs.declared.names.NameEntry.{NameEntry}
-use Rattle.page_items.proofs.Laws.{lie_in, has_bytes, has_pages}
+use Rattle.file_items.proofs.PagesLaws.{lie_in, has_bytes, has_pages}
 use Rattle.plan_changes.specs.Stored.{NamesRise, RiseBetween, IsStored}
-use Rattle.schema_items.proofs.Rules.{spelled_name, is_spelled, are_passed}
-use Rattle.catalog_rules.specs.declared.catalog.BlobAt.{BlobAt}
-use Rattle.catalog_rules.specs.declared.catalog.CatalogArray.{CatalogArray}
-use Rattle.catalog_rules.specs.declared.catalog.Catalog.{Catalog}
-use Rattle.catalog_rules.specs.declared.catalog_record.CatalogRecord.{CatalogRecord}
-use Rattle.catalog_rules.specs.declared.catalog_record.CatalogRecord.TheVariants.{Create, First, Next, Remove, RemoveVersions}
-use Rattle.catalog_rules.specs.Catalogs.{IsBlob, HasDirectories, IsCatalog, IsRecord}
+use Rattle.file_items.proofs.Rules.{spelled_name, is_spelled, are_passed}
+use Rattle.version_catalog.specs.declared.rules.catalog.BlobAt.{BlobAt}
+use Rattle.version_catalog.specs.declared.rules.catalog.CatalogArray.{CatalogArray}
+use Rattle.version_catalog.specs.declared.rules.catalog.Catalog.{Catalog}
+use Rattle.version_catalog.specs.declared.rules.catalog_record.CatalogRecord.{CatalogRecord}
+use Rattle.version_catalog.specs.declared.rules.catalog_record.CatalogRecord.TheVariants.{Create, First, Next, Remove, RemoveVersions}
+use Rattle.version_catalog.specs.Catalogs.{IsBlob, HasDirectories, IsCatalog, IsRecord}
 use Rattle.version_catalog.specs.Spelling.{VersionAt, versions_at, spelling, spell_record}
 use Rattle.version_catalog.specs.Table.{is_version, number_in, is_next_name, name_in, arrays_at, catalog_in, record_at, record_in}
 use Rattle.version_catalog.proofs.Laws.{IsBlobItem, IsNextVersion, IsNextArray, AreArrays, arrays_reads, IsRecordItem, record_reads}

@@ -1,9 +1,9 @@
 -- How a failure is told, and what decoding answers.
 use Rattle.std.proofs.Common.{◌≡◌, ℕ, List, length, Result, Ok, Err, sym, ap, subst, ◌∙◌}
-use Rattle.byte_items.specs.Items.{Stopped, wrong_at}
-use Rattle.byte_items.specs.declared.stop.Stop.{Stop}
-use Rattle.byte_items.specs.declared.stop.Stop.TheVariants as stops
-use Rattle.version_catalog.specs.declared.decoding.BadCatalog.{BadCatalog}
+use Rattle.file_items.specs.Items.{Stopped, wrong_at}
+use Rattle.file_items.specs.declared.bytes.stop.Stop.{Stop}
+use Rattle.file_items.specs.declared.bytes.stop.Stop.TheVariants as stops
+use Rattle.version_catalog.specs.declared.catalogs.decoding.BadCatalog.{BadCatalog}
 use Rattle.version_catalog.specs.Decoding.{Answers, Told}
 
 pub told_is : {X : Type 0} (bad : BadCatalog) (bytes : List ℕ) (stop : Stop) (reading : Result X ℕ) → Told bad bytes stop → Stopped stop reading → Answers (Err bad) bytes reading

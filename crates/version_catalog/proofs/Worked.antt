@@ -1,13 +1,13 @@
 -- A worked catalogue: array A with the schema `<v:int64>[i=0:3,2,0]`, whose version 2 stands, with a directory of 44 bytes in page 7.
 use Rattle.std.proofs.Common.{◌≡◌, ℕ, pos, true, List, [], ◌∷◌, ◌++◌, length, take, Option, Some, Ok, refl}
-use Rattle.byte_items.specs.Items.{wrong_at, repeat}
+use Rattle.file_items.specs.Items.{wrong_at, repeat}
 use Rattle.cell_values.specs.declared.schema.Kind.TheVariants.{Int64}
 use Rattle.cell_values.specs.declared.schema.Schema.{Schema}
-use Rattle.page_items.specs.Pages.{pages_at}
-use Rattle.schema_items.specs.Spelling.{spell_name, spell_attribute, spell_signed, spell_dimension, spell_schema}
-use Rattle.schema_items.specs.Table.{name_fields, name_at, kind_at, flag_at, typed_at, attribute_at, attributes_at, signed_at, range_at, cut_at, extent_at, dimension_at, dimensions_at, schema_at}
-use Rattle.catalog_rules.specs.declared.catalog.Catalog.{Catalog}
-use Rattle.catalog_rules.specs.declared.catalog_record.CatalogRecord.TheVariants.{Next, RemoveVersions}
+use Rattle.file_items.specs.Pages.{pages_at}
+use Rattle.file_items.specs.Spelling.{spell_name, spell_attribute, spell_signed, spell_dimension, spell_schema}
+use Rattle.file_items.specs.Table.{name_fields, name_at, kind_at, flag_at, typed_at, attribute_at, attributes_at, signed_at, range_at, cut_at, extent_at, dimension_at, dimensions_at, schema_at}
+use Rattle.version_catalog.specs.declared.rules.catalog.Catalog.{Catalog}
+use Rattle.version_catalog.specs.declared.rules.catalog_record.CatalogRecord.TheVariants.{Next, RemoveVersions}
 use Rattle.version_catalog.specs.Spelling.{spell_blob, spell_version, spell_array, spelling, spell_record}
 use Rattle.version_catalog.specs.Table.{blob_at, version_at, numbered_at, content_at, items_at, array_at, arrays_at, catalog_in, named_blob_at, named_number_at, record_at, record_in}
 

@@ -1,10 +1,10 @@
 -- What decoding answers.
 use Rattle.std.specs.Prelude.{◌≡◌, ℕ, ◌-◌, List, length, Result, Ok, Err, Some}
-use Rattle.byte_items.specs.Items.{wrong_at}
-use Rattle.byte_items.specs.declared.stop.Stop.{Stop}
-use Rattle.byte_items.specs.declared.stop.Stop.TheVariants as stops
-use Rattle.version_catalog.specs.declared.decoding.BadCatalog.{BadCatalog}
-use Rattle.version_catalog.specs.declared.decoding.BadCatalog.TheVariants.{At, Memory}
+use Rattle.file_items.specs.Items.{wrong_at}
+use Rattle.file_items.specs.declared.bytes.stop.Stop.{Stop}
+use Rattle.file_items.specs.declared.bytes.stop.Stop.TheVariants as stops
+use Rattle.version_catalog.specs.declared.catalogs.decoding.BadCatalog.{BadCatalog}
+use Rattle.version_catalog.specs.declared.catalogs.decoding.BadCatalog.TheVariants.{At, Memory}
 
 abbrev pub Told : BadCatalog → List ℕ → Stop → Type 0
 Told bad bytes stops.Memory = bad ≡ Memory

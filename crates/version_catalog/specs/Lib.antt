@@ -1,3 +1,6 @@
+pub mod Catalogs
+pub mod Changed
 pub mod Decoding
+pub mod Records
 pub mod Spelling
 pub mod Table

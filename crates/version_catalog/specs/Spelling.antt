@@ -1,14 +1,14 @@
 -- The bytes of catalogues and records.
 use Rattle.std.specs.Prelude.{ℕ, List, [], ◌∷◌, ◌++◌}
 use Rattle.std.specs.Int.{w32, w64, to_le_bytes}
-use Rattle.byte_items.specs.Items.{spell_counted}
-use Rattle.page_items.specs.Pages.{spell_pages}
-use Rattle.schema_items.specs.Spelling.{spell_name, spell_schema}
-use Rattle.catalog_rules.specs.declared.catalog.BlobAt.{BlobAt}
-use Rattle.catalog_rules.specs.declared.catalog.CatalogArray.{CatalogArray}
-use Rattle.catalog_rules.specs.declared.catalog.Catalog.{Catalog}
-use Rattle.catalog_rules.specs.declared.catalog_record.CatalogRecord.{CatalogRecord}
-use Rattle.catalog_rules.specs.declared.catalog_record.CatalogRecord.TheVariants.{Create, First, Next, Remove, RemoveVersions}
+use Rattle.file_items.specs.Items.{spell_counted}
+use Rattle.file_items.specs.Pages.{spell_pages}
+use Rattle.file_items.specs.Spelling.{spell_name, spell_schema}
+use Rattle.version_catalog.specs.declared.rules.catalog.BlobAt.{BlobAt}
+use Rattle.version_catalog.specs.declared.rules.catalog.CatalogArray.{CatalogArray}
+use Rattle.version_catalog.specs.declared.rules.catalog.Catalog.{Catalog}
+use Rattle.version_catalog.specs.declared.rules.catalog_record.CatalogRecord.{CatalogRecord}
+use Rattle.version_catalog.specs.declared.rules.catalog_record.CatalogRecord.TheVariants.{Create, First, Next, Remove, RemoveVersions}
 
 -- the length and the pages
 unfoldable pub spell_blob : BlobAt → List ℕ

@@ -1,16 +1,16 @@
 -- The items of catalogues and records in their order, each with its test over the items before it.
 use Rattle.std.specs.Prelude.{ℕ, zero, suc, Bool, true, ◌&&◌, nat_lt, nat_le, List, [], ◌∷◌, map, length, Option, Some, None, Result, Ok, Err}
 use Rattle.std.specs.Int.{w32}
-use Rattle.byte_items.specs.Items.{◌>>=◌, Reading, number_at, item, counted, whole}
+use Rattle.file_items.specs.Items.{◌>>=◌, Reading, number_at, item, counted, whole}
 use Rattle.cell_values.specs.declared.schema.Schema.{Schema}
-use Rattle.page_items.specs.Pages.{positive_at, pages_at}
+use Rattle.file_items.specs.Pages.{positive_at, pages_at}
 use Rattle.plan_changes.specs.Stored.{is_before}
-use Rattle.schema_items.specs.Table.{name_at, schema_at}
-use Rattle.catalog_rules.specs.declared.catalog.BlobAt.{BlobAt}
-use Rattle.catalog_rules.specs.declared.catalog.CatalogArray.{CatalogArray}
-use Rattle.catalog_rules.specs.declared.catalog.Catalog.{Catalog}
-use Rattle.catalog_rules.specs.declared.catalog_record.CatalogRecord.{CatalogRecord}
-use Rattle.catalog_rules.specs.declared.catalog_record.CatalogRecord.TheVariants.{Create, First, Next, Remove, RemoveVersions}
+use Rattle.file_items.specs.Table.{name_at, schema_at}
+use Rattle.version_catalog.specs.declared.rules.catalog.BlobAt.{BlobAt}
+use Rattle.version_catalog.specs.declared.rules.catalog.CatalogArray.{CatalogArray}
+use Rattle.version_catalog.specs.declared.rules.catalog.Catalog.{Catalog}
+use Rattle.version_catalog.specs.declared.rules.catalog_record.CatalogRecord.{CatalogRecord}
+use Rattle.version_catalog.specs.declared.rules.catalog_record.CatalogRecord.TheVariants.{Create, First, Next, Remove, RemoveVersions}
 use Rattle.version_catalog.specs.Spelling.{VersionAt}
 
 -- ---- versions

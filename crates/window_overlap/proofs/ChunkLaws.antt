@@ -9,9 +9,9 @@ use Rattle.array_rows.specs.Rows.{Coordinate, placed}
 use Rattle.array_geom.specs.declared.chunk.Chunk.{Chunk}
 use Rattle.array_geom.specs.Geometry.{coordinate_in}
 use Rattle.array_geom.specs.Link.{rows_in}
-use Rattle.chunk_change.specs.Made.{with_cell, with_next}
-use Rattle.chunk_change.proofs.Lists.{rows_in-more}
-use Rattle.chunk_change.proofs.Steps.{IsOngoing, next}
+use Rattle.array_parts.specs.Made.{with_cell, with_next}
+use Rattle.array_parts.proofs.Lists.{rows_in-more}
+use Rattle.array_parts.proofs.Steps.{IsOngoing, next}
 
 -- ---- the rows of all cells
 

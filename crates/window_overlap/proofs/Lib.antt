@@ -1,6 +1,7 @@
+pub mod ArraysWindowLaws
 pub mod ChunkLaws
+pub mod ChunksWindowLaws
 pub mod FollowLaws
 pub mod PartLaws
 pub mod RunLaws
 pub mod StateLaws
-pub mod WindowLaws

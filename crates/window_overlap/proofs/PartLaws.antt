@@ -16,10 +16,10 @@ use Rattle.array_rows.proofs.RowsLemmas.{within-cell_wise}
 use Rattle.array_geom.specs.declared.chunk.Chunk.{Chunk}
 use Rattle.array_geom.specs.Link.{chunk_rows, IsPart}
 use Rattle.array_geom.specs.Geometry.{ChunkNumber, first_in, last_in, core, frame}
-use Rattle.array_geom.specs.Ranges.{IsNear, AreNear, IsLow, AreLow, AreMargins}
+use Rattle.array_geom.specs.Inner.Ranges.{IsNear, AreNear, IsLow, AreLow, AreMargins}
 use Rattle.array_geom.proofs.CoreLaws.{core_in_frame}
 use Rattle.array_geom.proofs.TestLaws.{and_parts, and_both, le_test, le_from_test}
-use Rattle.chunk_change.specs.Made.{IsMadeBy}
+use Rattle.array_parts.specs.Made.{IsMadeBy}
 use Rattle.logical_plan.specs.declared.parts.Aggregate.{Aggregate}
 use Rattle.logical_plan.specs.declared.parts.Reach.{Reach}
 use Rattle.logical_plan.specs.Groups.{aggregates_of, window, window_cell, window_rows}

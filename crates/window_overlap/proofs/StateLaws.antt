@@ -12,11 +12,11 @@ use Rattle.logical_plan.specs.declared.parts.Aggregate.{Aggregate}
 use Rattle.logical_plan.specs.Groups.{aggregate_of, cells_of}
 use Rattle.logical_plan.specs.Typing.{is_aggregate_of}
 use Rattle.agg_states.specs.Stands.{StandsFor}
-use Rattle.agg_states.specs.Summary.{Summary}
-use Rattle.group_parts.proofs.RowLemmas.{put_last, free_last, rising_left}
-use Rattle.window_overlap.specs.declared.runs.Run.{Run}
+use Rattle.agg_states.specs.Inner.Summary.{Summary}
+use Rattle.exec_group.proofs.RowLemmas.{put_last, free_last, rising_left}
+use Rattle.window_overlap.specs.declared.chunks.runs.Run.{Run}
 use Rattle.window_overlap.specs.Reaches.{CanAggregate}
-use Rattle.window_overlap.specs.Runs.{rows_of}
+use Rattle.window_overlap.specs.Inner.Runs.{rows_of}
 
 -- ---- a state that takes one row after the other
 

@@ -1,4 +1,4 @@
 pub mod Cores
+pub mod Inner
+pub mod Meant
 pub mod Reaches
-pub mod Runs
-pub mod Skips

@@ -1,12 +1,8 @@
-//! Aggregates of the cells around each cell.
+//! `window`: the windows of a chunk's core cells, and of a whole array.
 #![tactic(auto)]
 
+mod arrays;
 mod chunks;
-mod corners;
-mod runs;
-mod skips;
-mod states;
-mod windows;
 
-pub use chunks::window_chunk;
-pub use windows::windows_of_rows;
+pub use arrays::window;
+pub use chunks::{window_chunk, windows_of_rows};

@@ -1,7 +1,7 @@
 use Rattle.std.proofs.Common.{◌≡◌, ◌+◌, ◌*◌, take}
-use Rattle.schema_grammar.specs.SchemaMarks.{nowhere}
+use Rattle.schema_grammar.specs.Inner.SchemaMarks.{nowhere}
 use Rattle.afl_parser.specs.Term.{to_terms, term_size, terms_size}
-use Rattle.afl_parser.specs.View.{term_of}
+use Rattle.afl_parser.specs.Inner.View.{term_of}
 use Rattle.afl_parser.proofs.copies.+copy_tree.Given as goal
 
 abbrev pub decreases-copy_tree : goal.decreases-copy_tree

@@ -1,5 +1,5 @@
 use Rattle.std.proofs.Common.{◌≡◌, [], take}
-use Rattle.afl_parser.specs.Machine.{Go, run}
+use Rattle.afl_parser.specs.Inner.Machine.{Go, run}
 use Rattle.afl_parser.specs.Statement.{lexemes}
 use Rattle.afl_parser.specs.declared.frame.Focus.TheVariants.{Start}
 use Rattle.afl_parser.proofs.parser.read_tokens.Given as goal

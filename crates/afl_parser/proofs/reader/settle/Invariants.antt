@@ -1,5 +1,5 @@
 use Rattle.std.proofs.Common.{◌≡◌, length}
-use Rattle.afl_parser.specs.Machine.{settle, FitsBelow}
+use Rattle.afl_parser.specs.Inner.Machine.{settle, FitsBelow}
 use Rattle.afl_parser.proofs.reader.settle.Given as goal
 
 abbrev pub invariant-loop-frame : goal.invariant-loop-frame

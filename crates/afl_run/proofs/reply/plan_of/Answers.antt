@@ -1,7 +1,7 @@
 use Rattle.std.proofs.Common.{List, subst}
 use Rattle.logical_plan.specs.declared.names.NameEntry.{NameEntry}
-use Rattle.type_rules.specs.Checked.{Answers}
-use Rattle.query_types.specs.Queries.{query_of}
+use Rattle.check_rules.specs.Checked.{Answers}
+use Rattle.afl_types.specs.Queries.{query_of}
 use Rattle.afl_run.proofs.reply.plan_of.Goals as goal
 
 pub returns : goal.returns

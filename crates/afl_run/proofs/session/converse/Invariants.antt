@@ -1,6 +1,6 @@
 use Rattle.std.proofs.Common.{◌-◌, ◌^◌, ℕ, List}
 use Rattle.afl_outside.specs.Source.{Gives}
-use Rattle.afl_run.specs.Serving.{IsServing}
+use Rattle.afl_run.specs.Inner.Serving.{IsServing}
 use Rattle.afl_run.proofs.session.converse.Given as goal
 
 -- what was read so far is answered so far

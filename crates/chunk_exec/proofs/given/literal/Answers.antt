@@ -1,6 +1,6 @@
 use Rattle.std.proofs.Common.{ℕ, List, ◌≤◌, ◌^◌, length, sym, ap, ◌∙◌, subst}
 use Rattle.array_geom.specs.Geometry.{frame_lengths, volume}
-use Rattle.chunk_read.proofs.LeafLaws.{each_overlap, few_places}
+use Rattle.chunk_source.proofs.ReadingLeafLaws.{each_overlap, few_places}
 use Rattle.chunk_exec.proofs.ComputedLaws.{is_given}
 use Rattle.chunk_exec.proofs.given.literal.Goals as goal
 

@@ -1,20 +1,20 @@
 use Rattle.std.proofs.Common.{◌≡◌, List, [], ◌∷◌, sym, subst, rules, arith}
 use Rattle.std.proofs.lemmas.Grind.{common_steps}
 use Rattle.std.specs.Prelude.{IfOk}
-use Rattle.array_cores.specs.Cores.{meant_by_cores}
+use Rattle.array_parts.specs.Cores.{meant_by_cores}
 use Rattle.array_geom.specs.Link.{Is}
-use Rattle.array_groups.specs.Meant.{aggregate_meant, regrid_meant}
-use Rattle.array_windows.specs.Meant.{window_meant}
-use Rattle.array_ops.specs.Made.{IsMadeOf}
+use Rattle.exec_group.specs.Meant.{aggregate_meant, regrid_meant}
+use Rattle.window_overlap.specs.Meant.{window_meant}
+use Rattle.exec_box.specs.Made.{IsMadeOf}
 use Rattle.array_rows.specs.Boxes.{within}
-use Rattle.exec_parts.specs.Parts.{part_meant, slice_meant}
+use Rattle.exec_box.specs.Parts.{part_meant, slice_meant}
 use Rattle.logical_plan.specs.declared.parts.Fixed.{Fixed}
 use Rattle.logical_plan.specs.declared.parts.Aggregate.{Aggregate}
 use Rattle.logical_plan.specs.CellOps.{filter_rows, apply_rows, project_rows}
 use Rattle.logical_plan.specs.Meaning.{redimensioned_from}
 use Rattle.logical_plan.specs.PlanSchema.{schema_of}
 use Rattle.logical_plan.specs.Query.{Query, filtered, applied, projected, between, subarray, sliced, redimensioned, regridded, windowed, aggregated}
-use Rattle.chunk_exec.specs.Operated.{CanOperate, IsResultOf}
+use Rattle.chunk_exec.specs.Inner.Operated.{CanOperate, IsResultOf}
 use Rattle.chunk_exec.proofs.OperatorLaws.{if_ok, filter_result, apply_result, project_result, between_result, subarray_result, slice_result, redimension_result, regrid_result, window_result, aggregate_result}
 use Rattle.logical_plan.proofs.SchemaLaws.{typed_valid}
 use Rattle.chunk_exec.proofs.operators.of_one.Goals as goal

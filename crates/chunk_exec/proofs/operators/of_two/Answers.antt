@@ -1,12 +1,12 @@
 use Rattle.std.proofs.Common.{◌≡◌, List, [], ◌∷◌, sym, subst, rules, arith}
 use Rattle.std.proofs.lemmas.Grind.{common_steps}
 use Rattle.std.specs.Prelude.{IfOk}
-use Rattle.array_cores.specs.Cores.{meant_by_cores}
+use Rattle.array_parts.specs.Cores.{meant_by_cores}
 use Rattle.array_geom.specs.Link.{Is}
-use Rattle.array_joins.specs.Meant.{cross_meant, join_meant}
+use Rattle.exec_join.specs.Meant.{cross_meant, join_meant}
 use Rattle.logical_plan.specs.declared.parts.Pair.{Pair}
 use Rattle.logical_plan.specs.Query.{Query, joined, crossed}
-use Rattle.chunk_exec.specs.Operated.{IsResultOf}
+use Rattle.chunk_exec.specs.Inner.Operated.{IsResultOf}
 use Rattle.chunk_exec.proofs.OperatorLaws.{if_ok, join_result, cross_result}
 use Rattle.chunk_exec.proofs.operators.of_two.Goals as goal
 

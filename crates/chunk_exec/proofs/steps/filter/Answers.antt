@@ -1,7 +1,7 @@
 use Rattle.std.proofs.Common.{subst}
 use Rattle.std.specs.Prelude.{IfOk}
 use Rattle.cell_values.specs.declared.schema.Schema.{Schema}
-use Rattle.array_ops.specs.Made.{IsMadeOf}
+use Rattle.exec_box.specs.Made.{IsMadeOf}
 use Rattle.logical_plan.specs.CellOps.{filter_rows}
 use Rattle.chunk_exec.proofs.steps.filter.Goals as goal
 

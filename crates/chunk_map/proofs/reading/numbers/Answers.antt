@@ -2,8 +2,8 @@ use Rattle.std.proofs.Common.{◌-◌, List, [], ◌∷◌, refl, arith}
 use Rattle.std.proofs.lemmas.List.{length-append}
 use Rattle.std.proofs.lemmas.Result.{err_from_is_err_and}
 use Rattle.std.specs.Option.{option_copied}
-use Rattle.byte_items.specs.Items.{repeat}
-use Rattle.byte_items.proofs.Loop.{one_more, stops_here, all_read}
+use Rattle.file_items.specs.Items.{repeat}
+use Rattle.file_items.proofs.Loop.{one_more, stops_here, all_read}
 use Rattle.chunk_map.specs.Table.{number_of, next_number}
 use Rattle.chunk_map.proofs.reading.numbers.Goals as goal
 

@@ -1,7 +1,7 @@
 use Rattle.std.proofs.Common.{length, drop}
 use Rattle.std.proofs.lemmas.Result.{err_from_is_err_and}
-use Rattle.byte_items.specs.Items.{repeat}
-use Rattle.byte_items.proofs.Loop.{all_read}
+use Rattle.file_items.specs.Items.{repeat}
+use Rattle.file_items.proofs.Loop.{all_read}
 use Rattle.chunk_rle.specs.Table.{next_column_at, others, columns_at}
 use Rattle.chunk_rle.proofs.RunLemmas.{column_more, column_stops}
 use Rattle.chunk_rle.proofs.reading.columns.Goals as goal

@@ -1,8 +1,8 @@
 use Rattle.std.proofs.Common.{◌-◌, arith}
 use Rattle.std.proofs.lemmas.Grind.{common_steps}
 use Rattle.std.proofs.lemmas.Result.{err_from_is_err_and}
-use Rattle.byte_items.specs.Items.{repeat}
-use Rattle.byte_items.proofs.Loop.{one_more, stops_here, all_read}
+use Rattle.file_items.specs.Items.{repeat}
+use Rattle.file_items.proofs.Loop.{one_more, stops_here, all_read}
 use Rattle.chunk_rle.specs.Frames.{frame_in}
 use Rattle.chunk_rle.specs.Table.{with_run, no_positions, position_run_at}
 use Rattle.chunk_rle.proofs.reading.position_runs_from.Goals as goal

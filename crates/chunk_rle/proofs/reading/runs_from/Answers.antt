@@ -1,7 +1,7 @@
 use Rattle.std.proofs.Common.{◌-◌, arith}
 use Rattle.std.proofs.lemmas.Result.{err_from_is_err_and}
-use Rattle.byte_items.specs.Items.{repeat}
-use Rattle.byte_items.proofs.Loop.{one_more, stops_here, all_read}
+use Rattle.file_items.specs.Items.{repeat}
+use Rattle.file_items.proofs.Loop.{one_more, stops_here, all_read}
 use Rattle.chunk_rle.specs.Table.{with_values, no_values, last_value, run_at}
 use Rattle.chunk_rle.proofs.RunLemmas.{last_value_push}
 use Rattle.chunk_rle.proofs.reading.runs_from.Goals as goal

@@ -1,7 +1,7 @@
 use Rattle.std.proofs.Common.{◌∙◌, ◌++◌, ap, not}
 use Rattle.std.specs.List.{filter}
 use Rattle.version_reaper.specs.PageSets.{holds}
-use Rattle.event_core.specs.Known.{known_of}
+use Rattle.event_core.specs.Inner.Known.{known_of}
 use Rattle.event_core.proofs.Knowing.{unknown_is}
 use Rattle.event_core.proofs.Reaping.{ok_goes_on}
 use Rattle.event_core.proofs.commit.fresh_pages.Goals as goal

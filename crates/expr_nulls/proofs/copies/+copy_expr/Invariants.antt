@@ -1,6 +1,6 @@
 use Rattle.std.proofs.Common.{◌+◌, ◌*◌}
 use Rattle.expr_nulls.specs.Expr.{expr_size}
-use Rattle.expr_nulls.specs.ExprView.{expr_of}
+use Rattle.expr_nulls.specs.Inner.ExprView.{expr_of}
 use Rattle.expr_nulls.proofs.copies.+copy_expr.Given as goal
 
 abbrev pub decreases-copy_expr : goal.decreases-copy_expr

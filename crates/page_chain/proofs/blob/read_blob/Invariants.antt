@@ -1,7 +1,7 @@
 use Rattle.std.proofs.Common.{◌≡◌, ◌*◌, length, take}
 use Rattle.std.specs.Prelude.{IfSome}
 use Rattle.page_chain.specs.Pages.{page_size}
-use Rattle.page_chain.specs.Runs.{OnlyReads}
+use Rattle.page_chain.specs.Inner.Runs.{OnlyReads}
 use Rattle.page_chain.proofs.BlobLemmas.{BlobSoFar}
 use Rattle.page_chain.proofs.blob.read_blob.Given as goal
 

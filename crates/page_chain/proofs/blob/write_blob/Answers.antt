@@ -4,7 +4,7 @@ use Rattle.std.specs.Prelude.{Result, OnOk}
 use Rattle.afl_outside.specs.declared.source.Failed.{Failed}
 use Rattle.page_layout.specs.Places.{KeepsPages}
 use Rattle.page_chain.specs.Pages.{page_size, page_at, piece_of, HoldsBlob}
-use Rattle.page_chain.specs.Runs.{Sees}
+use Rattle.page_chain.specs.Inner.Runs.{Sees}
 use Rattle.page_chain.proofs.Kept.{size_is, one_of}
 use Rattle.page_chain.proofs.RunLemmas.{writes_on, writes_more, sees_on}
 use Rattle.page_chain.proofs.WriteLemmas.{WroteSoFar, wrote_more, wrote_torn, next_rest, blob_piece, length-piece}

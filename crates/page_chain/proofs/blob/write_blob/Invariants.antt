@@ -1,6 +1,6 @@
 use Rattle.std.proofs.Common.{◌≡◌, ◌*◌, drop}
 use Rattle.page_chain.specs.Pages.{page_size, piece_of}
-use Rattle.page_chain.specs.Runs.{OnlyWrites, Sees}
+use Rattle.page_chain.specs.Inner.Runs.{OnlyWrites, Sees}
 use Rattle.page_chain.proofs.WriteLemmas.{WroteSoFar}
 use Rattle.page_chain.proofs.blob.write_blob.Given as goal
 

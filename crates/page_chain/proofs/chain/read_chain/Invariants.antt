@@ -2,7 +2,7 @@ use Rattle.std.proofs.Common.{◌≡◌, ◌*◌, ◌+◌, length}
 use Rattle.std.specs.Prelude.{IfSome}
 use Rattle.page_chain.specs.Pages.{page_size, pages_for}
 use Rattle.page_chain.specs.Chains.{content_size}
-use Rattle.page_chain.specs.Runs.{OnlyReads}
+use Rattle.page_chain.specs.Inner.Runs.{OnlyReads}
 use Rattle.page_chain.proofs.ChainLemmas.{ChainSoFar}
 use Rattle.page_chain.proofs.chain.read_chain.Given as goal
 

@@ -5,7 +5,7 @@ use Rattle.afl_outside.specs.declared.source.Failed.{Failed}
 use Rattle.page_layout.specs.Places.{KeepsPages}
 use Rattle.page_chain.specs.Pages.{page_size, page_at}
 use Rattle.page_chain.specs.Chains.{content_size, chain_piece, HoldsChain}
-use Rattle.page_chain.specs.Runs.{Sees}
+use Rattle.page_chain.specs.Inner.Runs.{Sees}
 use Rattle.page_chain.proofs.Kept.{size_is, one_of}
 use Rattle.page_chain.proofs.RunLemmas.{writes_on, writes_more, sees_on}
 use Rattle.page_chain.proofs.WriteLemmas.{WroteSoFar, wrote_more, wrote_torn, next_rest, chain_piece_is, length-chain_piece}

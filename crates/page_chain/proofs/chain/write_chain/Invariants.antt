@@ -1,7 +1,7 @@
 use Rattle.std.proofs.Common.{◌≡◌, ◌*◌, drop}
 use Rattle.page_chain.specs.Pages.{page_size}
 use Rattle.page_chain.specs.Chains.{content_size, chain_piece}
-use Rattle.page_chain.specs.Runs.{OnlyWrites, Sees}
+use Rattle.page_chain.specs.Inner.Runs.{OnlyWrites, Sees}
 use Rattle.page_chain.proofs.WriteLemmas.{WroteSoFar}
 use Rattle.page_chain.proofs.chain.write_chain.Given as goal
 

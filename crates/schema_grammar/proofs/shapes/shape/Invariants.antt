@@ -1,6 +1,6 @@
 use Rattle.std.proofs.Common.{◌≡◌, take}
 use Rattle.schema_grammar.specs.Outcome.{lexemes}
-use Rattle.schema_grammar.specs.Reading.{shape_run, Open}
+use Rattle.schema_grammar.specs.Inner.Reading.{shape_run, Open}
 use Rattle.schema_grammar.specs.declared.state.ShapeState.TheVariants.{Start}
 use Rattle.schema_grammar.proofs.shapes.shape.Given as goal
 

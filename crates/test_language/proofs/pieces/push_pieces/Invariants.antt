@@ -1,6 +1,6 @@
 -- The splitter stands after the bytes so far.
 use Rattle.std.proofs.Common.{take}
-use Rattle.afl_lexer.specs.Standing.{StandsAfter}
+use Rattle.afl_lexer.specs.Inner.Standing.{StandsAfter}
 use Rattle.test_language.proofs.pieces.push_pieces.Given as goal
 
 abbrev pub invariant-loop-byte : goal.invariant-loop-byte

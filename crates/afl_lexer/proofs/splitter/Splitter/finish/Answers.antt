@@ -1,4 +1,4 @@
-use Rattle.afl_lexer.specs.Standing.{reading}
+use Rattle.afl_lexer.specs.Inner.Standing.{reading}
 use Rattle.afl_lexer.proofs.StandingLemmas.{step_is, rest_told}
 use Rattle.afl_lexer.proofs.splitter.Splitter.finish.Goals as goal
 

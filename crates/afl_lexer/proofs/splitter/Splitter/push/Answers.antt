@@ -1,6 +1,6 @@
 -- The piece is the one that `begin` leaves, and the byte ends it or makes it longer.
 use Rattle.std.proofs.Common.{sym, ◌∙◌}
-use Rattle.afl_lexer.specs.Standing.{reading}
+use Rattle.afl_lexer.specs.Inner.Standing.{reading}
 use Rattle.afl_lexer.proofs.StandingLemmas.{end_stands, end_step, end_told, more_stands, more_told}
 use Rattle.afl_lexer.proofs.splitter.Splitter.push.Goals as goal
 

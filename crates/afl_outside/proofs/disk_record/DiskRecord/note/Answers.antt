@@ -1,6 +1,6 @@
 use Rattle.std.proofs.Common.{sym, ◌∙◌, ap}
 use Rattle.afl_outside.specs.Images.{content_after}
-use Rattle.afl_outside.specs.Records.{content_of}
+use Rattle.afl_outside.specs.Inner.Records.{content_of}
 use Rattle.afl_outside.proofs.RecordLemmas.{content_of-note, content_after-note}
 use Rattle.afl_outside.proofs.disk_record.DiskRecord.note.Goals as goal
 

@@ -1,7 +1,7 @@
 use Rattle.std.proofs.Common.{ℕ, List, sym, ◌∙◌, ap}
 use Rattle.afl_outside.specs.Disk.{written}
 use Rattle.afl_outside.specs.Images.{content_after}
-use Rattle.afl_outside.specs.ImageLaws.{content_after_push}
+use Rattle.afl_outside.specs.Lemmas.ImageLaws.{content_after_push}
 use Rattle.afl_outside.specs.declared.device_call.DeviceCall.TheVariants.{Write}
 use Rattle.afl_outside.proofs.disk_record.DiskRecord.write.Goals as goal
 

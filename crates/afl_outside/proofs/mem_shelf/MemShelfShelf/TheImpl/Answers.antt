@@ -3,7 +3,7 @@ use Rattle.afl_outside.specs.Counts.{risen}
 use Rattle.afl_outside.specs.Source.{IsNewSource}
 use Rattle.afl_outside.specs.Disk.{IsNewDisk}
 use Rattle.afl_outside.specs.InMemory.{new_source, memory_source_state}
-use Rattle.afl_outside.specs.Records.{new_disk, memory_disk_state}
+use Rattle.afl_outside.specs.Inner.Records.{new_disk, memory_disk_state}
 use Rattle.afl_outside.specs.declared.mem_file.MemFile.{MemFile}
 use Rattle.afl_outside.proofs.FileLemmas.{opened_handed, opened_told, opened_others, opened_replies, opened_cause, reply_handed, reply_told, reply_others, reply_cause, script_counted, device_counted, reply_counted}
 use Rattle.afl_outside.proofs.mem_shelf.MemShelfShelf.TheImpl.Goals as goal

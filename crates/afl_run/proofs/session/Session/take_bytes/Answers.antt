@@ -2,8 +2,8 @@ use Rattle.std.proofs.Common.{◌≡◌, sym, subst, ℕ, ◌+◌, List, ◌++�
 use Rattle.std.proofs.lemmas.List.{take_all, take-append-drop}
 use Rattle.std.proofs.lemmas.Result.{err_from_is_err_and}
 use Rattle.afl_lexer.specs.Split.{Statement, closed_statements}
-use Rattle.afl_lexer.specs.Standing.{Splitting, StandsAfter}
-use Rattle.afl_run.specs.Serving.{HasAnswered, HasStopped}
+use Rattle.afl_lexer.specs.Inner.Standing.{Splitting, StandsAfter}
+use Rattle.afl_run.specs.Inner.Serving.{HasAnswered, HasStopped}
 use Rattle.afl_run.proofs.Ending.{read_more, closed_more}
 use Rattle.afl_run.proofs.session.Session.take_bytes.Goals as goal
 

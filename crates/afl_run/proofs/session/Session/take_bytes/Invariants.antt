@@ -1,8 +1,8 @@
 use Rattle.std.proofs.Common.{ℕ, List, ◌++◌, take}
 use Rattle.afl_lexer.specs.Split.{closed_statements}
-use Rattle.afl_lexer.specs.Standing.{StandsAfter}
+use Rattle.afl_lexer.specs.Inner.Standing.{StandsAfter}
 use Rattle.afl_outside.specs.Sink.{SinkState}
-use Rattle.afl_run.specs.Serving.{HasAnswered}
+use Rattle.afl_run.specs.Inner.Serving.{HasAnswered}
 use Rattle.afl_run.proofs.session.Session.take_bytes.Given as goal
 
 -- the bytes so far were pushed, and the statements that they ended are answered

@@ -1,6 +1,6 @@
 use Rattle.std.proofs.Common.{sym, subst}
 use Rattle.afl_lexer.specs.Split.{closed_statements}
-use Rattle.afl_run.specs.Serving.{EndsServing}
+use Rattle.afl_run.specs.Inner.Serving.{EndsServing}
 use Rattle.afl_run.specs.declared.report.SessionEnd.{SessionEnd}
 use Rattle.afl_run.proofs.Ending.{ends_whole, ends_stopped}
 use Rattle.afl_run.proofs.session.Session.take_end.Goals as goal

@@ -1,5 +1,5 @@
 use Rattle.std.proofs.Common.{rules, []}
-use Rattle.turn_lock.specs.Views.{spent_view}
+use Rattle.turn_lock.specs.Inner.Views.{spent_view}
 use Rattle.turn_lock.proofs.Ends.{sits}
 use Rattle.turn_lock.proofs.lock.TurnLock.closing.Goals as goal
 

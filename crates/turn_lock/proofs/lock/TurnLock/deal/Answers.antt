@@ -1,6 +1,6 @@
 use Rattle.std.proofs.Common.{rules, ◌∙◌, ap, sym, subst, length}
 use Rattle.turn_lock.specs.Seats.{IsNewSeat, AreNewSeats}
-use Rattle.turn_lock.specs.Views.{new_claims, first_number, first_seen, first_of, later_of}
+use Rattle.turn_lock.specs.Inner.Views.{new_claims, first_number, first_seen, first_of, later_of}
 use Rattle.turn_lock.proofs.Ends.{splits}
 use Rattle.turn_lock.proofs.Gathering.{one_less, next_claims, longer_by_one, places_more}
 use Rattle.turn_lock.proofs.lock.TurnLock.deal.Goals as goal

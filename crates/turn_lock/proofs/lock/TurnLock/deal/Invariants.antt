@@ -1,7 +1,7 @@
 use Rattle.std.proofs.Common.{◌≡◌, ◌≤◌, ◌-◌, [], length, vec_capacity, Some}
 use Rattle.turn_lock.specs.declared.view.Stage.TheVariants.{Idle}
 use Rattle.turn_lock.specs.Seats.{first_value, AreNewSeats}
-use Rattle.turn_lock.specs.Views.{new_claims}
+use Rattle.turn_lock.specs.Inner.Views.{new_claims}
 use Rattle.turn_lock.proofs.lock.TurnLock.deal.Given as goal
 
 abbrev pub invariant-loop-number : goal.invariant-loop-number

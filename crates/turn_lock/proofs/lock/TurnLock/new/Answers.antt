@@ -1,6 +1,6 @@
 use Rattle.std.proofs.Common.{◌∙◌, ◌∷◌, ◌++◌, [], ap, sym, subst, Some}
 use Rattle.atomic_table.specs.Table.{opening}
-use Rattle.turn_lock.specs.Views.{first_view}
+use Rattle.turn_lock.specs.Inner.Views.{first_view}
 use Rattle.turn_lock.specs.Rule.{IsOneHistory}
 use Rattle.turn_lock.proofs.Ends.{begins}
 use Rattle.turn_lock.proofs.lock.TurnLock.new.Goals as goal

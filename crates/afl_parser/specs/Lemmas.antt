@@ -1,0 +1,2 @@
+pub mod TermCode
+pub mod TreeFalls

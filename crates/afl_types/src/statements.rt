@@ -1,0 +1,7 @@
+//! Checking: from the tree of a statement to what it is, typed, or to the first rule that it breaks.
+
+mod checking;
+mod statement;
+
+pub use crate::queries::{Form, OneForm, Operator, TypeFault, operator_named};
+pub use checking::{Typed, check, let_go_typed};

@@ -1,4 +1,0 @@
-pub mod Among
-pub mod Kept
-pub mod Sole
-mod WorkedAggregates

@@ -1,2 +1,0 @@
-pub mod AggregateSort
-pub mod Aggregates

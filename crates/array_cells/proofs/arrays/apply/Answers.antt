@@ -1,6 +1,0 @@
-use Rattle.logical_plan.specs.CellOps.{apply_cell}
-use Rattle.array_parts.proofs.PartLemmas.{changes_are_local}
-use Rattle.array_cells.proofs.arrays.apply.Goals as goal
-
-pub over_array-requires-clause-local : goal.over_array-requires-clause-local
-over_array-requires-clause-local c = changes_are_local (apply_cell c.args.values.now)

@@ -1,4 +1,0 @@
-pub mod BlockLaws
-pub mod GroupLaws
-pub mod InsideLaws
-pub mod WholeLaws

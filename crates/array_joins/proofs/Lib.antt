@@ -1,3 +1,0 @@
-pub mod CrossLaws
-pub mod MadeLaws
-pub mod SideLaws

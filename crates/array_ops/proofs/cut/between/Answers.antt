@@ -1,5 +1,0 @@
-use Rattle.array_parts.proofs.PartLemmas.{cuts_are_local}
-use Rattle.array_ops.proofs.cut.between.Goals as goal
-
-pub over_array-requires-clause-local : goal.over_array-requires-clause-local
-over_array-requires-clause-local c = cuts_are_local c.args.area.now

@@ -1,6 +1,0 @@
-//! Aggregates of the cells around each cell of an array.
-#![tactic(auto)]
-
-mod windows;
-
-pub use windows::window;

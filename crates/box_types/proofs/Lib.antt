@@ -1,4 +1,0 @@
-pub mod FixedPlaces
-pub mod Held
-pub mod Holding
-pub mod Parts

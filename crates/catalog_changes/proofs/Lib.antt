@@ -1,4 +1,0 @@
-pub mod Kept
-pub mod Maps
-pub mod Recorded
-pub mod Spelled

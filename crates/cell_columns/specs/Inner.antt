@@ -1,0 +1,3 @@
+pub mod CellsIn
+pub mod Held
+pub mod RowsIn

@@ -1,3 +1,0 @@
-pub mod Apply
-pub mod Filter
-pub mod Project

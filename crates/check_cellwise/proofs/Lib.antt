@@ -1,0 +1,9 @@
+pub mod AppliedValues
+pub mod Arguments
+pub mod BoxesHolding
+pub mod CellsHolding
+pub mod FixedPlaces
+pub mod Held
+pub mod NullAlone
+pub mod Parts
+pub mod Projected

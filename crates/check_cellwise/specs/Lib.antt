@@ -1,0 +1,5 @@
+pub mod Apply
+pub mod Boxes
+pub mod Filter
+pub mod Project
+pub mod Slice

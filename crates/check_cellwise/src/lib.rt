@@ -1,0 +1,8 @@
+//! Checking `filter`, `apply`, `project`, `between`, `subarray` and `slice` of a plan.
+#![tactic(auto)]
+
+mod boxes;
+mod cells;
+
+pub use boxes::{between_call, slice_call, subarray_call};
+pub use cells::{apply_call, filter_call, project_call};

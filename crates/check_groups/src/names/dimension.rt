@@ -1,0 +1,35 @@
+//! Dimensions that are named.
+ghost use Rattle.std.specs.Prelude.{◌≡◌, ◌≤◌, length};
+ghost use Rattle.check_exprs.specs.Expressions.{dimension_place};
+ghost use Rattle.check_rules.specs.InTurn.{new_place};
+ghost use Rattle.check_rules.specs.Checked.{Answers};
+ghost use Rattle.check_groups.specs.Names.{dimension_one};
+
+use afl_parser::{Node, Tree};
+use cell_values::{Dimension, Span};
+use check_exprs::dimension_place;
+use check_rules::{TypeFault, new_place, wrong_type};
+
+/// The place of the dimension of a name, written at a place.
+fn place_named(
+    dimensions: &[Dimension],
+    done: &[u32],
+    span: Span,
+    name: &[u8],
+) -> Result<u32, TypeFault>
+    requires { length dimensions.now ≤ 6 }
+    ensures { Answers result (new_place span done.now (dimension_place dimensions.now name.now)) }
+{
+    new_place(span, done, dimension_place(dimensions, name))
+}
+
+/// The place of the dimension that an argument names, which is not among those before.
+pub fn dimension_one(dimensions: &[Dimension], done: &[u32], name: &Tree) -> Result<u32, TypeFault>
+    requires { length dimensions.now ≤ 6 }
+    ensures { Answers result (dimension_one dimensions.now done.now name.now) }
+{
+    match &name.node {
+        Node::Ref(known) => place_named(dimensions, done, name.span, known.as_slice()),
+        _ => Err(wrong_type(name)),
+    }
+}

@@ -1,0 +1,13 @@
+//! Rules of checking: the first rule that is broken is the answer; operators by name, and the rules of their arguments and schemas.
+#![tactic(auto)]
+
+mod operators;
+mod rules;
+
+pub use operators::{
+    first_but_bounds, first_but_names, first_but_places, first_but_values, is_expression,
+    new_place, number_in, of_new_schema, shape_of, wrong_type,
+};
+pub use rules::{
+    Form, OneForm, Operator, TypeFault, broken, form_named, name_span, operator_named, same_name,
+};

@@ -1,4 +1,0 @@
-pub mod Near
-pub mod Numbers
-pub mod Frames
-pub mod Reach

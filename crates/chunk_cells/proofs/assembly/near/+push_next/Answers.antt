@@ -1,0 +1,10 @@
+use Rattle.std.proofs.Common.{arith, ◌<◌, slice_index_or, sym, ◌∙◌}
+use Rattle.chunk_cells.proofs.NextLaws.{lower_first}
+use Rattle.chunk_cells.proofs.assembly.near.+push_next.Goals as goal
+
+pub overflow_add-k : goal.overflow_add-k
+overflow_add-k t c =
+    let below : slice_index_or c.args.chunk.now 0 0 < slice_index_or c.args.high.now 0 0 =
+    lower_first c.args.high.now c.args.chunk.now (omega arith) (omega arith) c.requires.not_after (sym c.is_past.ensures ∙ c.if-is_past.true) in
+    let fits = c.type_inv.high 0 in
+    omega arith

@@ -1,6 +1,0 @@
-//! Laws of the chunks of whole arrays.
-#![tactic(auto)]
-
-mod laws;
-
-pub use laws::{chunks_are_valid, sound_rows_have_sound_chunks};

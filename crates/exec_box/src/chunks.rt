@@ -1,0 +1,5 @@
+//! Arrays cut to boxes.
+
+mod between;
+
+pub use between::{between_chunk, between_owned};

@@ -1,0 +1,36 @@
+//! Arrays cut to a box.
+ghost use Rattle.std.specs.Prelude.{◌≡◌, IfOk};
+ghost use Rattle.cell_values.specs.Schemas.{IsValid};
+ghost use Rattle.array_rows.specs.Boxes.{within};
+ghost use Rattle.array_parts.specs.Cores.{HasCells};
+ghost use Rattle.exec_box.specs.Made.{IsMadeOf};
+
+use crate::chunks::between_owned;
+use crate::operators::made::over_array;
+use array_geom::{Chunk, ChunkedArray};
+use array_parts::ChunkOperator;
+use cell_values::{Bounds, Margins, Memory, Schema};
+
+/// A box to which arrays are cut.
+#[derive(Drop)]
+struct Cut<'a> {
+    area: &'a Bounds,
+}
+
+impl ChunkOperator for Cut<'_> {
+    ghost operator = { λ cut. within cut.area.now };
+
+    fn apply(&self, schema: &Schema, margins: &Margins, chunk: Chunk) -> Result<Chunk, Memory> {
+        between_owned(schema, margins, chunk, self.area)
+    }
+}
+
+/// The cells in a box.
+pub fn between(array: ChunkedArray, schema: Schema, area: &Bounds) -> Result<ChunkedArray, Memory>
+    requires cells { HasCells array }
+    requires valid { IsValid schema }
+    requires dimensions { schema.dimensions ≡ array.schema.dimensions }
+    ensures { IfOk result (IsMadeOf (within area.now) schema array) }
+{
+    over_array(array, schema, &Cut { area })
+}

@@ -1,0 +1,48 @@
+//! Arrays through an operator.
+ghost use Rattle.std.specs.Prelude.{◌≡◌, IfOk};
+ghost use Rattle.cell_values.specs.Schemas.{IsValid};
+ghost use Rattle.array_parts.specs.Cores.{HasCells};
+ghost use Rattle.array_parts.specs.Parts.{IsLocal};
+ghost use Rattle.exec_box.specs.Made.{IsMadeOf};
+
+use crate::operators::chunks::over_chunks;
+use array_geom::ChunkedArray;
+use array_parts::ChunkOperator;
+use cell_values::{Memory, Schema};
+
+/// What an operator makes of an array: an array of this schema, which has the same dimensions. A broken array stays broken.
+pub fn over_array<O: ChunkOperator>(
+    array: ChunkedArray,
+    schema: Schema,
+    operator: &O,
+) -> Result<ChunkedArray, Memory>
+    requires cells { HasCells array }
+    requires valid { IsValid schema }
+    requires dimensions { schema.dimensions ≡ array.schema.dimensions }
+    requires local { IsLocal (O.operator operator.now) }
+    ensures { IfOk result (IsMadeOf (O.operator operator.now) schema array) }
+{
+    let ChunkedArray {
+        schema: old,
+        margins,
+        chunks,
+        broken,
+    } = array;
+    match broken {
+        Some(broken) => Ok(ChunkedArray {
+            schema,
+            margins,
+            chunks: chunks.another(),
+            broken: Some(broken),
+        }),
+        None => {
+            let chunks = over_chunks(&old, &margins, chunks, operator)?;
+            Ok(ChunkedArray {
+                schema,
+                margins,
+                chunks,
+                broken: None,
+            })
+        }
+    }
+}

@@ -1,0 +1,9 @@
+//! Rows at other coordinates: parts of arrays that begin at 0, and slices without their fixed dimensions.
+
+mod laws;
+mod parts;
+mod slices;
+
+pub use laws::moved_rows_are_arrays;
+pub use parts::part_of_rows;
+pub use slices::slice_of_rows;

@@ -1,0 +1,6 @@
+pub mod BuiltRows
+pub mod ChunkLaws
+pub mod CoreCells
+pub mod CutLaws
+pub mod NumberLists
+pub mod RowLaws

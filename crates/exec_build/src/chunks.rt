@@ -1,0 +1,7 @@
+//! A `build` straight into chunks: each chunk's cells by walking its frame within the bounds.
+
+mod cells;
+mod chunks;
+mod numbers;
+
+pub use chunks::built_array;

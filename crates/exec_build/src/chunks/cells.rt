@@ -1,0 +1,151 @@
+//! The cells of a box in a chunk's frame.
+ghost use Rattle.std.specs.Prelude.{◌≡◌, ◌+◌, ◌≤◌, ◌<◌, ◌^◌, ◌+ℤ◌, pos, true, [], ◌∷◌, ◌++◌, length, IsTrue, IfOk, OnOk};
+ghost use Rattle.cell_values.specs.declared.datum.Cell.TheVariants.{Full};
+ghost use Rattle.array_rows.specs.Boxes.{is_between};
+ghost use Rattle.array_rows.specs.Rows.{Coordinate};
+ghost use Rattle.array_geom.specs.Inner.Ranges.{IsGrid, is_in_grid};
+ghost use Rattle.expr_nulls.specs.ExprValue.{value_of};
+ghost use Rattle.logical_plan.specs.CellOps.{fit_value, fit_values};
+ghost use Rattle.logical_plan.specs.Meaning.{how_many};
+ghost use Rattle.exec_build.specs.Inner.Rows.{built_row};
+ghost use Rattle.exec_build.specs.Inner.Walks.{TakesRows, rows_between};
+
+use array_geom::{Chunk, Grid};
+use cell_values::{Attribute, Cell, Coord, Datum, FaultKind, List, Memory, copy_coord};
+use expr_nulls::{TypedExpr, eval};
+use std::alloc::Global;
+
+/// How many numbers there are from `lo` to `hi`. No memory holds a cell for each of 2^63 and more.
+fn count_of(lo: i64, hi: i64) -> Result<u64, Memory>
+    ensures value { IfOk result (λ count. count ≡ how_many lo hi) }
+    ensures few { IfOk result (λ count. count ≤ 2 ^ 63) }
+{
+    if hi < lo {
+        return Ok(0);
+    }
+    match hi.checked_sub(lo) {
+        Some(last) => Ok(last as u64 + 1),
+        None => Err(Memory),
+    }
+}
+
+/// The number that so many others from `lo` on come before.
+fn number_at(lo: i64, hi: i64, offset: u64) -> i64
+    requires within { offset < how_many lo hi }
+    requires few { how_many lo hi ≤ 2 ^ 63 }
+    ensures { result ≡ lo +ℤ pos offset }
+{
+    lo + offset as i64
+}
+
+/// The value, or a fault in place of a null in an attribute that has none.
+fn fit_value(attribute: &Attribute, value: Datum) -> Datum
+    ensures { result ≡ fit_value attribute.now value }
+{
+    if value.is_null() && !attribute.nullable {
+        Datum::Bad(FaultKind::NullInNotNull)
+    } else {
+        value
+    }
+}
+
+/// The value, or a fault in place of a null in a first attribute that has none.
+fn fitted(attributes: &[Attribute], value: Datum) -> Datum
+    ensures { result ∷ [] ≡ fit_values attributes.now (value ∷ []) }
+{
+    match attributes {
+        [] => value,
+        [first, ..] => fit_value(first, value),
+    }
+}
+
+/// The cell of a `build` at a coordinate.
+fn cell_at(
+    alloc: Global,
+    attributes: &[Attribute],
+    value: &TypedExpr,
+    at: &Coord,
+) -> Result<Cell, Memory>
+    ensures { IfOk result (λ cell. cell ≡ Full (fit_values attributes.now (value_of value.now at.now.items [] ∷ []))) }
+{
+    let mut values = List::with_capacity(alloc, 1)?;
+    values.push(fitted(attributes, eval(alloc, value, at, &[])?))?;
+    Ok(Cell::Full(values))
+}
+
+/// Adds the cell at a coordinate.
+fn add_cell(
+    alloc: Global,
+    attributes: &[Attribute],
+    value: &TypedExpr,
+    grid: &Grid,
+    at: &Coord,
+    chunk: &mut Chunk,
+) -> Result<(), Memory>
+    requires grid { IsGrid grid.now }
+    requires inside { IsTrue (is_in_grid grid.now.low.items grid.now.lengths.items at.now.items) }
+    ensures { OnOk result (TakesRows grid.now.low.items grid.now.lengths.items (built_row attributes.now value.now at.now.items ∷ []) chunk.old chunk.new) }
+{
+    let place = grid.position(at);
+    chunk.positions.push(place)?;
+    chunk.cells.push(cell_at(alloc, attributes, value, at)?)?;
+    Ok(())
+}
+
+/// Adds the cells at the coordinates that begin so and go on between these corners.
+#[cycle(add_cells)]
+pub(crate) fn add_cells(
+    alloc: Global,
+    attributes: &[Attribute],
+    value: &TypedExpr,
+    grid: &Grid,
+    at: &Coord,
+    lo: &[i64],
+    hi: &[i64],
+    chunk: &mut Chunk,
+) -> Result<(), Memory>
+    requires room { length at.now.items + length lo.now ≤ 6 }
+    requires grid { IsGrid grid.now }
+    requires inside { (c : Coordinate) → is_between lo.now hi.now c ≡ true → is_in_grid grid.now.low.items grid.now.lengths.items (at.now.items ++ c) ≡ true }
+    ensures { OnOk result (TakesRows grid.now.low.items grid.now.lengths.items (rows_between (built_row attributes.now value.now) at.now.items lo.now hi.now) chunk.old chunk.new) }
+{
+    match lo {
+        [] => match hi {
+            [] => add_cell(alloc, attributes, value, grid, at, chunk),
+            _ => Ok(()),
+        },
+        [low, lo @ ..] => match hi {
+            [] => Ok(()),
+            [high, hi @ ..] => {
+                add_along(alloc, attributes, value, grid, at, low, high, lo, hi, chunk)
+            }
+        },
+    }
+}
+
+/// Adds the cells along a first dimension, and then along the rest.
+#[cycle(add_cells)]
+fn add_along(
+    alloc: Global,
+    attributes: &[Attribute],
+    value: &TypedExpr,
+    grid: &Grid,
+    at: &Coord,
+    low: &i64,
+    high: &i64,
+    lo: &[i64],
+    hi: &[i64],
+    chunk: &mut Chunk,
+) -> Result<(), Memory>
+    requires room { length at.now.items + length lo.now < 6 }
+    requires grid { IsGrid grid.now }
+    requires inside { (c : Coordinate) → is_between (low.now ∷ lo.now) (high.now ∷ hi.now) c ≡ true → is_in_grid grid.now.low.items grid.now.lengths.items (at.now.items ++ c) ≡ true }
+    ensures { OnOk result (TakesRows grid.now.low.items grid.now.lengths.items (rows_between (built_row attributes.now value.now) at.now.items (low.now ∷ lo.now) (high.now ∷ hi.now)) chunk.old chunk.new) }
+{
+    for offset in 0..count_of(*low, *high)? {
+        let mut next = copy_coord(at);
+        next.push(number_at(*low, *high, offset));
+        add_cells(alloc, attributes, value, grid, &next, lo, hi, chunk)?;
+    }
+    Ok(())
+}

@@ -1,0 +1,67 @@
+-- What is found of an expression is its value.
+use Rattle.std.proofs.Common.{◌≡◌, ℕ, ℤ, Bool, true, false, List, ◌∷◌, [], Option, Some, None, refl, sym, ap, ◌∙◌, subst, OnOk, Result}
+use Rattle.cell_values.specs.declared.datum.Datum.{Datum}
+use Rattle.cell_values.specs.declared.datum.Datum.TheVariants.{Null, Missing, Int, Text, Truth as TruthValue, Bad}
+use Rattle.cell_values.specs.Table.{comparison, both_of, either_of}
+use Rattle.expr_nulls.specs.Expr.{Expr, literal, attribute_value, dimension_value, minus, denial, calculation, relation, conjunction, disjunction, conditional, null_test, byte_length, decimal_text, coded_null, null_code}
+use Rattle.expr_nulls.specs.ExprValue.{value_of, calculated}
+use Rattle.cell_columns.specs.declared.small.Small.{Small}
+use Rattle.cell_columns.specs.declared.small.Small.TheVariants.{Number, Truth, Other}
+use Rattle.cell_columns.specs.Seen.{seen}
+use Rattle.exec_cellwise.specs.Inner.Smalls.{on_smalls, small_both, small_either, small_of, IsSeen}
+
+seen_is : (v : Datum) → IsSeen (seen v) v
+seen_is (Int n) = refl
+seen_is (TruthValue b) = refl
+seen_is Null = tt
+seen_is (Missing code) = tt
+seen_is (Text s) = tt
+seen_is (Bad kind) = tt
+
+numbers_seen : (f : Datum → Datum → Datum) (s t : Small) (v w : Datum) → IsSeen s v → IsSeen t w → IsSeen (on_smalls (λ x y. seen (f (Int x) (Int y))) s t) (f v w)
+numbers_seen f (Number a) (Number b) v w p q = subst (IsSeen (seen (f (Int a) (Int b)))) (ap (f (Int a)) (sym q) ∙ ap (λ x. f x w) (sym p)) (seen_is (f (Int a) (Int b)))
+numbers_seen f (Number a) (Truth b) v w p q = tt
+numbers_seen f (Number a) Other v w p q = tt
+numbers_seen f (Truth a) t v w p q = tt
+numbers_seen f Other t v w p q = tt
+
+both_seen : (s t : Small) (v w : Datum) → IsSeen s v → IsSeen t w → IsSeen (small_both s t) (both_of v w)
+both_seen (Truth true) (Truth true) v w p q = ap (λ x. both_of x w) p ∙ ap (both_of (TruthValue true)) q
+both_seen (Truth true) (Truth false) v w p q = ap (λ x. both_of x w) p ∙ ap (both_of (TruthValue true)) q
+both_seen (Truth false) (Truth true) v w p q = ap (λ x. both_of x w) p ∙ ap (both_of (TruthValue false)) q
+both_seen (Truth false) (Truth false) v w p q = ap (λ x. both_of x w) p ∙ ap (both_of (TruthValue false)) q
+both_seen (Truth a) (Number b) v w p q = tt
+both_seen (Truth a) Other v w p q = tt
+both_seen (Number a) t v w p q = tt
+both_seen Other t v w p q = tt
+
+either_seen : (s t : Small) (v w : Datum) → IsSeen s v → IsSeen t w → IsSeen (small_either s t) (either_of v w)
+either_seen (Truth true) (Truth true) v w p q = ap (λ x. either_of x w) p ∙ ap (either_of (TruthValue true)) q
+either_seen (Truth true) (Truth false) v w p q = ap (λ x. either_of x w) p ∙ ap (either_of (TruthValue true)) q
+either_seen (Truth false) (Truth true) v w p q = ap (λ x. either_of x w) p ∙ ap (either_of (TruthValue false)) q
+either_seen (Truth false) (Truth false) v w p q = ap (λ x. either_of x w) p ∙ ap (either_of (TruthValue false)) q
+either_seen (Truth a) (Number b) v w p q = tt
+either_seen (Truth a) Other v w p q = tt
+either_seen (Number a) t v w p q = tt
+either_seen Other t v w p q = tt
+
+-- at each coordinate
+pub small_is_value : (e : Expr) (at : List ℤ) (values : List Datum) → IsSeen (small_of e values) (value_of e at values)
+small_is_value (literal v) at values = seen_is v
+small_is_value (attribute_value place) at values = seen_is _
+small_is_value (dimension_value place) at values = tt
+small_is_value (minus a) at values = tt
+small_is_value (denial a) at values = tt
+small_is_value (calculation op a b) at values = numbers_seen (calculated op) _ _ _ _ (small_is_value a at values) (small_is_value b at values)
+small_is_value (relation op a b) at values = numbers_seen (comparison op) _ _ _ _ (small_is_value a at values) (small_is_value b at values)
+small_is_value (conjunction a b) at values = both_seen _ _ _ _ (small_is_value a at values) (small_is_value b at values)
+small_is_value (disjunction a b) at values = either_seen _ _ _ _ (small_is_value a at values) (small_is_value b at values)
+small_is_value (conditional test a b) at values = tt
+small_is_value (null_test a) at values = tt
+small_is_value (byte_length a) at values = tt
+small_is_value (decimal_text a) at values = tt
+small_is_value (coded_null a) at values = tt
+small_is_value (null_code a) at values = tt
+
+pub truth_told : (e : Expr) (at : List ℤ) (values : List Datum) (s : Small) (b t : Bool) → s ≡ small_of e values → s ≡ Truth b → b ≡ t → value_of e at values ≡ TruthValue t
+truth_told e at values s b t p q r = subst (λ x. IsSeen x (value_of e at values)) (sym p ∙ q ∙ ap Truth r) (small_is_value e at values)

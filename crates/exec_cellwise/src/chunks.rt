@@ -1,0 +1,9 @@
+//! Chunks through the operators that go cell by cell: filter, apply and project.
+
+mod applying;
+mod filtering;
+mod projecting;
+
+pub use applying::{apply_chunk, apply_owned};
+pub use filtering::{filter_chunk, filter_owned};
+pub use projecting::project_chunk;

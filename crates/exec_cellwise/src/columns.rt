@@ -1,0 +1,6 @@
+//! What a walk over columns finds of an expression.
+
+mod smalls;
+mod walking;
+
+pub use walking::walk;

@@ -1,0 +1,4 @@
+pub mod Keys
+pub mod Merged
+pub mod Merging
+pub mod Parts

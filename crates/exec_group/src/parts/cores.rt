@@ -1,0 +1,65 @@
+//! The cells of cores.
+ghost use Rattle.std.specs.Prelude.{◌≡◌, ◌∷◌, [], ◌^◌, ◌<◌, length, IsTrue, IfOk};
+ghost use Rattle.std.specs.List.{All};
+ghost use Rattle.array_rows.specs.Boxes.{is_inside, bounds_of};
+ghost use Rattle.array_rows.specs.Rows.{IsRising};
+ghost use Rattle.array_parts.specs.Cores.{HaveCells, cores_of};
+ghost use Rattle.exec_group.specs.Inner.Keys.{core_of};
+
+use array_geom::{Chunk, ChunkedArray};
+use cell_values::{List, Margins, Memory, Row, Schema, copy_numbers};
+use chunk_cells::into_core_rows;
+
+/// More rows than can be counted are as good as no memory.
+fn counted(rows: List<Row>) -> Result<List<Row>, Memory>
+    ensures same { IfOk result (λ same. same ≡ rows) }
+    ensures few { IfOk result (λ same. length same < 2 ^ 63) }
+{
+    if rows.len() < 1 << 63 {
+        Ok(rows)
+    } else {
+        Err(Memory)
+    }
+}
+
+/// The rows of an array's cores, whose cells are moved.
+pub fn rows_of_cores(array: ChunkedArray) -> Result<List<Row>, Memory>
+    requires { HaveCells array.schema array.margins.items array.chunks }
+    ensures rows { IfOk result (λ rows. rows ≡ cores_of array) }
+    ensures few { IfOk result (λ rows. length rows < 2 ^ 63) }
+{
+    let rows = into_core_rows(array)?;
+    counted(rows)
+}
+
+/// The array of one chunk.
+fn alone(schema: &Schema, margins: &Margins, chunk: &Chunk) -> Result<ChunkedArray, Memory>
+    ensures schema { IfOk result (λ array. array.schema ≡ schema.now) }
+    ensures margins { IfOk result (λ array. array.margins ≡ margins.now) }
+    ensures chunks { IfOk result (λ array. array.chunks ≡ chunk.now ∷ []) }
+{
+    let mut chunks = chunk.positions.another();
+    chunks.push(chunk.copy()?)?;
+    Ok(ChunkedArray {
+        schema: schema.copy()?,
+        margins: copy_numbers(margins),
+        chunks,
+        broken: None,
+    })
+}
+
+/// The rows of a chunk's core, without those of its margins.
+pub(crate) fn rows_of_core(
+    schema: &Schema,
+    margins: &Margins,
+    chunk: &Chunk,
+) -> Result<List<Row>, Memory>
+    requires { HaveCells schema.now margins.now.items (chunk.now ∷ []) }
+    ensures rows { IfOk result (λ rows. rows ≡ core_of schema.now.dimensions margins.now.items chunk.now) }
+    ensures few { IfOk result (λ rows. length rows < 2 ^ 63) }
+    ensures rising { IfOk result IsRising }
+    ensures inside { IfOk result (All (λ row. IsTrue (is_inside (bounds_of schema.now.dimensions) row.at.items))) }
+{
+    let array = alone(schema, margins, chunk)?;
+    rows_of_cores(array)
+}

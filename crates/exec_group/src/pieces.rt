@@ -1,0 +1,9 @@
+//! Aggregates of an array's cells, chunk by chunk: the groups of each chunk, put together.
+
+mod aggregates;
+mod blocks;
+mod parts;
+mod rising;
+
+pub use aggregates::aggregate;
+pub use blocks::regrid;

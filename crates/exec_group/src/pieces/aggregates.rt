@@ -1,0 +1,86 @@
+//! Aggregates of an array's cells by dimensions.
+ghost use Rattle.std.specs.Prelude.{◌≡◌, None, length, IsTrue, IfOk};
+ghost use Rattle.std.specs.List.{AllByRecursion};
+ghost use Rattle.cell_values.specs.Schemas.{IsValid};
+ghost use Rattle.array_parts.specs.Cores.{HasCells, HaveCells, meant_by_cores};
+ghost use Rattle.array_geom.specs.Geometry.{overlaps};
+ghost use Rattle.array_geom.specs.Link.{Is, NumbersRise, numbers};
+ghost use Rattle.logical_plan.specs.PlanSchema.{aggregate_schema};
+ghost use Rattle.logical_plan.specs.Typing.{are_aggregates_of, are_below};
+ghost use Rattle.exec_group.specs.Meant.{aggregate_meant};
+ghost use Rattle.exec_group.specs.Inner.Parts.{has_parts};
+
+use crate::parts::told_array;
+use crate::pieces::parts::groups_by_parts;
+use crate::pieces::rising::are_rising;
+use array_geom::{Chunk, ChunkedArray};
+use cell_values::{Memory, Schema};
+use logical_plan::Aggregate;
+
+/// The aggregates of an array that is not broken, found chunk by chunk.
+fn by_parts(
+    array: ChunkedArray,
+    aggs: &[Aggregate],
+    dims: &[u32],
+    target: &Schema,
+) -> Result<ChunkedArray, Memory>
+    requires whole { array.broken ≡ None }
+    requires cells { HaveCells array.schema array.margins.items array.chunks }
+    requires target { target.now ≡ aggregate_schema aggs.now dims.now array.schema }
+    requires valid { IsValid target.now }
+    requires typed { IsTrue (are_aggregates_of array.schema.attributes aggs.now) }
+    requires names { IsTrue (are_below (length array.schema.dimensions) dims.now) }
+    requires some { IsTrue (has_parts dims.now array.chunks) }
+    requires rise { NumbersRise (numbers array.chunks) }
+    requires sized { AllByRecursion (λ k. length k ≡ length array.schema.dimensions) (numbers array.chunks) }
+    ensures array { IfOk result (λ made. Is made (aggregate_meant aggs.now dims.now (meant_by_cores array))) }
+    ensures margins { IfOk result (λ made. made.margins.items ≡ overlaps target.now.dimensions) }
+{
+    let ChunkedArray {
+        schema,
+        margins,
+        chunks,
+        broken: _,
+    } = array;
+    let groups = groups_by_parts(&schema, &margins, chunks, aggs, dims)?;
+    told_array(groups, target)
+}
+
+/// Whether there are dimensions by which to group, or chunks.
+fn has_parts(dims: &[u32], chunks: &[Chunk]) -> bool
+    ensures { result ≡ has_parts dims.now chunks.now }
+{
+    match dims {
+        [] => match chunks {
+            [] => false,
+            [_, ..] => true,
+        },
+        [_, ..] => true,
+    }
+}
+
+/// The aggregates of the cells that agree in the named dimensions, of all cells without names: chunk by chunk where the numbers
+/// of the chunks rise, as those of an array do.
+pub fn aggregate(
+    array: ChunkedArray,
+    aggs: &[Aggregate],
+    dims: &[u32],
+    target: &Schema,
+) -> Result<ChunkedArray, Memory>
+    requires cells { HasCells array }
+    requires target { target.now ≡ aggregate_schema aggs.now dims.now array.schema }
+    requires valid { IsValid target.now }
+    requires typed { IsTrue (are_aggregates_of array.schema.attributes aggs.now) }
+    requires names { IsTrue (are_below (length array.schema.dimensions) dims.now) }
+    ensures array { IfOk result (λ made. Is made (aggregate_meant aggs.now dims.now (meant_by_cores array))) }
+    ensures margins { IfOk result (λ made. made.margins.items ≡ overlaps target.now.dimensions) }
+{
+    let parts = array.broken.is_none()
+        && has_parts(dims, array.chunks.as_slice())
+        && are_rising(array.chunks.as_slice(), array.schema.dimensions.len());
+    if parts {
+        by_parts(array, aggs, dims, target)
+    } else {
+        crate::arrays::aggregate(array, aggs, dims, target)
+    }
+}

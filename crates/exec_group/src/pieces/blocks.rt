@@ -1,0 +1,126 @@
+//! The aggregates of an array's blocks, chunk by chunk.
+ghost use Rattle.std.specs.Prelude.{◌≡◌, ◌≤◌, ◌<◌, ◌^◌, ◌∷◌, [], None, length, IsTrue, IfOk};
+ghost use Rattle.std.specs.List.{AllByRecursion, AllZip};
+ghost use Rattle.cell_values.specs.Schemas.{IsValid};
+ghost use Rattle.array_parts.specs.Cores.{HasCells, HaveCells, meant_by_cores};
+ghost use Rattle.array_geom.specs.Geometry.{overlaps};
+ghost use Rattle.array_geom.specs.Link.{Is, NumbersRise, numbers, core_rows};
+ghost use Rattle.exec_group.specs.Meant.{regrid_meant};
+ghost use Rattle.exec_group.specs.Inner.Keys.{regrid_sets};
+ghost use Rattle.exec_group.specs.Counts.{cells_in};
+ghost use Rattle.exec_group.specs.Grouped.{AreGroupsOf};
+ghost use Rattle.logical_plan.specs.PlanSchema.{regrid_schema};
+ghost use Rattle.logical_plan.specs.Typing.{are_aggregates_of};
+ghost use Rattle.exec_group.specs.Inner.Parts.{IsBlockPartOf};
+
+use crate::parts::{regrid_groups, told_array};
+use crate::pieces::parts::{are_few, rows_of_core};
+use crate::pieces::rising::are_rising;
+use crate::rows::{Groups, merge_all};
+use array_geom::{Chunk, ChunkedArray};
+use cell_values::{List, Margins, Memory, Schema};
+use logical_plan::Aggregate;
+
+/// The groups of a chunk's core by blocks.
+fn block_part(
+    schema: &Schema,
+    margins: &Margins,
+    chunk: Chunk,
+    blocks: &[u64],
+    aggs: &[Aggregate],
+) -> Result<Groups, Memory>
+    requires valid { IsValid schema.now }
+    requires cells { HaveCells schema.now margins.now.items (chunk ∷ []) }
+    ensures { IfOk result (IsBlockPartOf aggs.now blocks.now schema.now.dimensions margins.now.items chunk) }
+{
+    let rows = rows_of_core(schema, margins, chunk)?;
+    regrid_groups(schema, &rows, blocks, aggs)
+}
+
+/// The groups of each chunk's core by blocks.
+fn each_block_part(
+    schema: &Schema,
+    margins: &Margins,
+    chunks: List<Chunk>,
+    blocks: &[u64],
+    aggs: &[Aggregate],
+) -> Result<List<Groups>, Memory>
+    requires cells { HaveCells schema.now margins.now.items chunks }
+    ensures { IfOk result (AllZip (IsBlockPartOf aggs.now blocks.now schema.now.dimensions margins.now.items) chunks) }
+{
+    let mut parts = chunks.another();
+    for chunk in chunks.into_vec() {
+        parts.push(block_part(schema, margins, chunk, blocks, aggs)?)?;
+    }
+    Ok(parts)
+}
+
+/// The groups of all chunks' cores by blocks.
+fn blocks_by_parts(
+    schema: &Schema,
+    margins: &Margins,
+    chunks: List<Chunk>,
+    blocks: &[u64],
+    aggs: &[Aggregate],
+) -> Result<Groups, Memory>
+    requires cells { HaveCells schema.now margins.now.items chunks }
+    ensures whole { NumbersRise (numbers chunks) → AllByRecursion (λ k. length k ≡ length schema.now.dimensions) (numbers chunks)
+        → IfOk result (λ all. AreGroupsOf aggs.now (regrid_sets schema.now.dimensions blocks.now (core_rows schema.now.dimensions margins.now.items chunks)) all.groups) }
+    ensures cells { IfOk result (λ all. cells_in all.groups < 2 ^ 63) }
+{
+    if !are_few(chunks.as_slice()) {
+        return Err(Memory);
+    }
+    let parts = each_block_part(schema, margins, chunks, blocks, aggs)?;
+    merge_all(parts)
+}
+
+/// The aggregates by blocks of an array that is not broken, found chunk by chunk.
+fn by_blocks(
+    array: ChunkedArray,
+    blocks: &[u64],
+    aggs: &[Aggregate],
+    target: &Schema,
+) -> Result<ChunkedArray, Memory>
+    requires whole { array.broken ≡ None }
+    requires cells { HaveCells array.schema array.margins.items array.chunks }
+    requires target { target.now ≡ regrid_schema blocks.now aggs.now array.schema }
+    requires valid { IsValid target.now }
+    requires typed { IsTrue (are_aggregates_of array.schema.attributes aggs.now) }
+    requires rise { NumbersRise (numbers array.chunks) }
+    requires sized { AllByRecursion (λ k. length k ≡ length array.schema.dimensions) (numbers array.chunks) }
+    ensures array { IfOk result (λ made. Is made (regrid_meant blocks.now aggs.now (meant_by_cores array))) }
+    ensures margins { IfOk result (λ made. made.margins.items ≡ overlaps target.now.dimensions) }
+{
+    let ChunkedArray {
+        schema,
+        margins,
+        chunks,
+        broken: _,
+    } = array;
+    let groups = blocks_by_parts(&schema, &margins, chunks, blocks, aggs)?;
+    told_array(groups, target)
+}
+
+/// The aggregates of the cells of each block: chunk by chunk where the numbers of the chunks rise, as those of an array do.
+pub fn regrid(
+    array: ChunkedArray,
+    blocks: &[u64],
+    aggs: &[Aggregate],
+    target: &Schema,
+) -> Result<ChunkedArray, Memory>
+    requires cells { HasCells array }
+    requires target { target.now ≡ regrid_schema blocks.now aggs.now array.schema }
+    requires valid { IsValid target.now }
+    requires typed { IsTrue (are_aggregates_of array.schema.attributes aggs.now) }
+    ensures array { IfOk result (λ made. Is made (regrid_meant blocks.now aggs.now (meant_by_cores array))) }
+    ensures margins { IfOk result (λ made. made.margins.items ≡ overlaps target.now.dimensions) }
+{
+    let parts = array.broken.is_none()
+        && are_rising(array.chunks.as_slice(), array.schema.dimensions.len());
+    if parts {
+        by_blocks(array, blocks, aggs, target)
+    } else {
+        crate::arrays::regrid(array, blocks, aggs, target)
+    }
+}

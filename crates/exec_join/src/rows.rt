@@ -1,0 +1,9 @@
+//! Joins of the rows of two arrays.
+
+mod beside;
+mod cross;
+mod partners;
+mod rows;
+
+pub use cross::cross_of_rows;
+pub use rows::join_of_rows;

@@ -1,0 +1,4 @@
+pub mod Commits
+pub mod Computed
+pub mod Counts
+pub mod Laws

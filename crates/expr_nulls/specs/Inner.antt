@@ -1,0 +1,2 @@
+pub mod ExprView
+pub mod Seen

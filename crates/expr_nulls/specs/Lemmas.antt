@@ -1,0 +1,2 @@
+pub mod ExprCode
+pub mod ExprFalls

@@ -1,0 +1,4 @@
+pub mod Items
+pub mod Pages
+pub mod Spelling
+pub mod Table

@@ -1,4 +1,0 @@
-pub mod Counts
-pub mod Grouped
-pub mod Merged
-pub mod Sets

@@ -1,4 +1,0 @@
-pub mod Blocks
-pub mod Groups
-pub mod Numbers
-pub mod Windows

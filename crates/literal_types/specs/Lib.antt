@@ -1,4 +1,0 @@
-pub mod Laws
-pub mod Lexed
-pub mod LiteralRows
-pub mod Literals

@@ -1,7 +1,0 @@
-//! Laws of literals.
-ghost use Rattle.literal_types.specs.Laws.{LiteralsAreRead};
-
-/// What is read as a literal is what spells one.
-pub fn literals_are_read()
-    ensures { LiteralsAreRead }
-{}

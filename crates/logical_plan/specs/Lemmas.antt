@@ -1,0 +1,2 @@
+pub mod QueryCode
+pub mod QueryFalls

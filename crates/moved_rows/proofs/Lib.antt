@@ -1,4 +1,0 @@
-pub mod FreeLaws
-pub mod MovedLaws
-pub mod PartLaws
-pub mod SliceLaws

@@ -1,6 +1,0 @@
-pub mod Capped
-pub mod Frames
-pub mod Holding
-pub mod Names
-pub mod Turns
-pub mod ValidSchemas

@@ -1,3 +1,0 @@
-pub mod InTurn
-pub mod NewSchema
-pub mod Sorts

@@ -1,8 +1,0 @@
-//! Makes an empty file a database.
-#![tactic(auto)]
-
-mod fault;
-mod making;
-
-pub use fault::InitFault;
-pub use making::init;

@@ -1,4 +1,0 @@
-pub mod PageReads
-pub mod Fronts
-pub mod Fresh
-pub mod Told

@@ -1,5 +1,0 @@
-use Rattle.page_open.proofs.Told.{opened_failed}
-use Rattle.page_open.proofs.opening.open_parts.Goals as goal
-
-pub returns-in-Err-clause-opened : goal.returns-in-Err-clause-opened
-returns-in-Err-clause-opened g c = opened_failed c.in-Err.fault (g.D.Disk.moment c.args.disk.now).state (g.D.Disk.moment c.settle.new.disk).state _ c.in-Err.ensures.cause

@@ -1,3 +1,0 @@
-pub mod Emptied
-pub mod Zeros
-pub mod Stays

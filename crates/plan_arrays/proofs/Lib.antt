@@ -1,7 +1,0 @@
-pub mod ChangedDatabases
-pub mod DatabasePlans
-pub mod GroupedRows
-pub mod KeptPlaces
-pub mod LegalDatabases
-pub mod PlanArrays
-pub mod RedimensionedRows

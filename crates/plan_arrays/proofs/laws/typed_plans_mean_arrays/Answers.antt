@@ -1,5 +1,0 @@
-use Rattle.plan_arrays.proofs.DatabasePlans.{typed_plans_mean_arrays}
-use Rattle.plan_arrays.proofs.laws.typed_plans_mean_arrays.Goals as goal
-
-pub returns : goal.returns
-returns c = typed_plans_mean_arrays

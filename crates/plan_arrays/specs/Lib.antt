@@ -1,3 +1,0 @@
-pub mod Commits
-pub mod Counts
-pub mod Laws

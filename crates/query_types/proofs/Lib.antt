@@ -1,4 +1,0 @@
-pub mod NoQuery
-pub mod Small
-pub mod Sources
-mod WorkedQueries

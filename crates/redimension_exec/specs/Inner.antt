@@ -1,0 +1,6 @@
+pub mod Counting
+pub mod Gathering
+pub mod Grouping
+pub mod Places
+pub mod Sorting
+pub mod Steps

@@ -1,0 +1,20 @@
+-- Groups of the cells that land at one coordinate.
+use Rattle.std.specs.Prelude.{◌≡◌, false, List, [], Result, Ok, Err}
+use Rattle.cell_values.specs.declared.datum.Broken.{Broken}
+use Rattle.cell_values.specs.declared.datum.Row.{Row}
+use Rattle.cell_values.specs.declared.schema.Bounds.{Bounds}
+use Rattle.logical_plan.specs.declared.parts.Aggregate.{Aggregate}
+use Rattle.logical_plan.specs.Redimension.{Origin, Landed, landed, landed_at}
+use Rattle.exec_group.specs.declared.rows.groups.Groups.{Groups}
+use Rattle.exec_group.specs.Grouped.{AreGroupsOf}
+use Rattle.exec_group.specs.Sets.{Sets, unless_empty}
+
+-- the cells that land at each coordinate
+abbrev pub landed_sets : List Landed → Sets
+landed_sets all c = unless_empty (landed_at all c)
+
+-- the groups of the cells that landed at each coordinate, or the row that breaks the array
+abbrev pub AreGroupsLanded : List Aggregate → List Origin → Bounds → List Row → Result Groups Broken → Type 0
+AreGroupsLanded gs origins bounds rows (Ok groups) =
+    (all : List Landed) × (landed origins bounds false rows [] ≡ Ok all) × AreGroupsOf gs (landed_sets all) groups.groups
+AreGroupsLanded gs origins bounds rows (Err broken) = landed origins bounds false rows [] ≡ Err broken

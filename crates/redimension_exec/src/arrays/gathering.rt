@@ -1,0 +1,40 @@
+//! Rows whose values are aggregates of the cells that land at one coordinate.
+ghost use Rattle.std.specs.Prelude.{◌≡◌, ◌≤◌, ◌<◌, ◌^◌, length, map, IsTrue, IfOk};
+ghost use Rattle.cell_values.specs.Schemas.{IsValid};
+ghost use Rattle.array_rows.specs.Arrays.{AreRowsOf};
+ghost use Rattle.array_rows.specs.Boxes.{bounds_of};
+ghost use Rattle.logical_plan.specs.Redimension.{gathered_rows, origin_of};
+ghost use Rattle.logical_plan.specs.Typing.{redimensions};
+
+use crate::arrays::groups::groups_landed;
+use crate::arrays::ordering::aggregates_named;
+use cell_values::{Broken, List, Memory, Row, Schema};
+use exec_group::rows_told;
+use logical_plan::Aggregate;
+
+/// For each coordinate of the target at which cells land, a row with the aggregates that the target's attributes name; or the first
+/// row that breaks the array, and why.
+#[tactic(auto, using(crate::proofs::MeantLaws::few_dimensions))]
+pub(crate) fn gathered_rows(
+    source: &Schema,
+    target: &Schema,
+    aggregates: &[Aggregate],
+    rows: List<Row>,
+) -> Result<Result<List<Row>, Broken>, Memory>
+    requires rows { AreRowsOf source.now rows }
+    requires counted { length rows < 2 ^ 63 }
+    requires valid { IsValid target.now }
+    requires typed { IsTrue (redimensions source.now target.now aggregates.now) }
+    requires some { 1 ≤ length aggregates.now }
+    ensures values { IfOk result (λ made. made ≡ gathered_rows (map (origin_of source.now) target.now.dimensions) (bounds_of target.now.dimensions) target.now.attributes aggregates.now rows) }
+    ensures rows { IfOk result (λ made. IfOk made (AreRowsOf target.now)) }
+{
+    let ordered = aggregates_named(&target.attributes, aggregates)?;
+    match groups_landed(source, target, ordered.as_slice(), rows)? {
+        Err(broken) => Ok(Err(broken)),
+        Ok(groups) => {
+            let told = rows_told(groups)?;
+            Ok(Ok(told))
+        }
+    }
+}

@@ -1,0 +1,12 @@
+//! Rows moved to coordinates that their values give.
+
+mod carrying;
+mod counting;
+mod landing;
+mod numbers;
+mod ordering;
+mod places;
+
+pub use carrying::{bounds_of, carried_rows};
+pub use numbers::first_numbers;
+pub use places::{Place, places_of_attributes, places_of_dimensions};

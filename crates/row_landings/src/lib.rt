@@ -1,6 +1,0 @@
-//! Rows that land where several may land at one coordinate.
-#![tactic(auto)]
-
-mod gathering;
-
-pub use gathering::{Landings, landed_rows};

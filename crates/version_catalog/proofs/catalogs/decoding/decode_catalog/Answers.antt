@@ -1,0 +1,20 @@
+use Rattle.std.proofs.Common.{arith}
+use Rattle.version_catalog.specs.Table.{catalog_in}
+use Rattle.version_catalog.proofs.Rules.{catalog_keeps_rules, catalog_is_spelled, catalog_again}
+use Rattle.version_catalog.proofs.Telling.{told_is, only_found, only_stopped}
+use Rattle.version_catalog.proofs.catalogs.decoding.decode_catalog.Goals as goal
+
+pub returns-in-Ok-clause-rules : goal.returns-in-Ok-clause-rules
+returns-in-Ok-clause-rules c = catalog_keeps_rules c.args.bytes.now c.in-Ok.catalog (λ i. omega (arith, c.type_inv.bytes i)) c.in-Ok.ensures
+
+pub returns-in-Ok-clause-spelled : goal.returns-in-Ok-clause-spelled
+returns-in-Ok-clause-spelled c = catalog_is_spelled c.args.bytes.now c.in-Ok.catalog (λ i. omega (arith, c.type_inv.bytes i)) c.in-Ok.ensures
+
+pub returns-in-Ok-clause-only : goal.returns-in-Ok-clause-only
+returns-in-Ok-clause-only c = λ x is e. only_found c.args.bytes.now (catalog_in c.args.bytes.now) c.in-Ok.catalog x (catalog_again c.args.bytes.now x is e) c.in-Ok.ensures
+
+pub returns-in-Err-clause-only : goal.returns-in-Err-clause-only
+returns-in-Err-clause-only c = λ x is e. only_stopped c.args.bytes.now (catalog_in c.args.bytes.now) c.told.result c.in-Err.stop x (catalog_again c.args.bytes.now x is e) c.told.ensures c.in-Err.ensures
+
+pub returns-in-Err-clause-exact : goal.returns-in-Err-clause-exact
+returns-in-Err-clause-exact c = told_is c.told.result c.args.bytes.now c.in-Err.stop (catalog_in c.args.bytes.now) c.told.ensures c.in-Err.ensures

@@ -1,0 +1,5 @@
+//! Aggregates of the cells around each cell of an array.
+
+mod windows;
+
+pub use windows::window;

@@ -1,0 +1,62 @@
+//! Aggregates of windows.
+ghost use Rattle.std.specs.Prelude.{◌≡◌, None, IsTrue, IfOk};
+ghost use Rattle.cell_values.specs.Schemas.{IsValid};
+ghost use Rattle.array_parts.specs.Cores.{HasCells, HaveCells, meant_by_cores};
+ghost use Rattle.array_geom.specs.Geometry.{overlaps};
+ghost use Rattle.array_geom.specs.Link.{Is};
+ghost use Rattle.logical_plan.specs.PlanSchema.{window_schema};
+ghost use Rattle.logical_plan.specs.Typing.{are_aggregates_of, are_windows_of};
+ghost use Rattle.window_overlap.specs.Meant.{window_meant};
+
+use crate::chunks::windows_of_rows;
+use array_geom::{ChunkedArray, margins_of};
+use cell_values::{Memory, Schema};
+use chunk_cells::{assemble, broken_array};
+use exec_group::rows_of_cores;
+use logical_plan::{Aggregate, Reach};
+
+/// The windows of an array that is not broken.
+#[tactic(auto, using(array_geom::proofs::MarginLaws::overlap_each, array_geom::proofs::MarginLaws::overlap_places))]
+fn of_whole(
+    array: ChunkedArray,
+    reach: &[Reach],
+    aggs: &[Aggregate],
+    target: &Schema,
+) -> Result<ChunkedArray, Memory>
+    requires whole { array.broken ≡ None }
+    requires cells { HaveCells array.schema array.margins.items array.chunks }
+    requires target { target.now ≡ window_schema aggs.now array.schema }
+    requires valid { IsValid target.now }
+    requires reach { IsTrue (are_windows_of array.schema reach.now) }
+    requires typed { IsTrue (are_aggregates_of array.schema.attributes aggs.now) }
+    ensures array { IfOk result (λ made. Is made (window_meant reach.now aggs.now (meant_by_cores array))) }
+    ensures margins { IfOk result (λ made. made.margins.items ≡ overlaps target.now.dimensions) }
+{
+    let rows = rows_of_cores(array)?;
+    let windows = windows_of_rows(&rows, reach, aggs)?;
+    let margins = margins_of(target);
+    assemble(target, &margins, windows.as_slice())
+}
+
+/// The aggregates of the cells in the window around each cell: an array of the target. A cell in doubt stays one. What the array's
+/// margins hold doesn't matter.
+#[tactic(auto, using(array_geom::proofs::MarginLaws::overlap_each))]
+pub fn window(
+    array: ChunkedArray,
+    reach: &[Reach],
+    aggs: &[Aggregate],
+    target: &Schema,
+) -> Result<ChunkedArray, Memory>
+    requires cells { HasCells array }
+    requires target { target.now ≡ window_schema aggs.now array.schema }
+    requires valid { IsValid target.now }
+    requires reach { IsTrue (are_windows_of array.schema reach.now) }
+    requires typed { IsTrue (are_aggregates_of array.schema.attributes aggs.now) }
+    ensures array { IfOk result (λ made. Is made (window_meant reach.now aggs.now (meant_by_cores array))) }
+    ensures margins { IfOk result (λ made. made.margins.items ≡ overlaps target.now.dimensions) }
+{
+    match &array.broken {
+        Some(broken) => broken_array(target, &margins_of(target), broken),
+        None => of_whole(array, reach, aggs, target),
+    }
+}
