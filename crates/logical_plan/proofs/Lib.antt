@@ -1,7 +1,7 @@
 pub mod ArrayLaws
 pub mod BuiltRows
 pub mod Items
-pub mod Leaves
+pub mod LeafMeanings
 mod Samples
 pub mod SchemaLaws
 mod Worked

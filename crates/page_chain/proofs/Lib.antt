@@ -6,6 +6,6 @@ pub mod PageLaws
 pub mod ReadLemmas
 pub mod RunLemmas
 pub mod SetLemmas
-pub mod Taken
+pub mod TakenPages
 mod Worked
 pub mod WriteLemmas

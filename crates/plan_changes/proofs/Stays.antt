@@ -15,7 +15,7 @@ use Rattle.plan_changes.specs.declared.change.Change.{Change}
 use Rattle.plan_changes.specs.declared.change.Change.TheVariants.{Create, Store, Insert, Remove, RemoveVersions}
 use Rattle.plan_changes.specs.Changes.{is_named, has_array, place_of, new_entry, with_array, with_absent, with_version, without_below, arrays_after}
 use Rattle.plan_changes.specs.Databases.{Stored, Database, entry_of, is_array, rows_in, rows_of, new_rows, has_stored, with_stored, with_absent_stored, with_rows, from_version, after}
-use Rattle.logical_plan.proofs.Leaves.{same_meaning}
+use Rattle.logical_plan.proofs.LeafMeanings.{same_meaning}
 use Rattle.plan_changes.specs.Others.{IsOther, OtherEntriesStay, OtherArraysStay, PlansOfOthersStay}
 use Rattle.plan_changes.proofs.Found.{find_inserted, find_changed, find_kept, find_image}
 

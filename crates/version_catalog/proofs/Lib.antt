@@ -7,7 +7,7 @@ pub mod Maps
 pub mod Pairs
 pub mod Putting
 pub mod Recorded
-pub mod Rules
+pub mod RuleLaws
 pub mod Spelled
 pub mod Telling
 mod Worked

@@ -1,6 +1,6 @@
 use Rattle.std.proofs.Common.{arith}
 use Rattle.version_catalog.specs.Table.{catalog_in}
-use Rattle.version_catalog.proofs.Rules.{catalog_keeps_rules, catalog_is_spelled, catalog_again}
+use Rattle.version_catalog.proofs.RuleLaws.{catalog_keeps_rules, catalog_is_spelled, catalog_again}
 use Rattle.version_catalog.proofs.Telling.{told_is, only_found, only_stopped}
 use Rattle.version_catalog.proofs.catalogs.decoding.decode_catalog.Goals as goal
 

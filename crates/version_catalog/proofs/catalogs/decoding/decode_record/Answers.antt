@@ -1,6 +1,6 @@
 use Rattle.std.proofs.Common.{arith}
 use Rattle.version_catalog.specs.Table.{record_in}
-use Rattle.version_catalog.proofs.Rules.{record_keeps_rules, record_is_spelled, record_again}
+use Rattle.version_catalog.proofs.RuleLaws.{record_keeps_rules, record_is_spelled, record_again}
 use Rattle.version_catalog.proofs.Telling.{told_is, only_found, only_stopped}
 use Rattle.version_catalog.proofs.catalogs.decoding.decode_record.Goals as goal
 
