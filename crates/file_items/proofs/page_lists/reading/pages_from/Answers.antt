@@ -3,7 +3,7 @@ use Rattle.std.proofs.lemmas.Result.{err_from_is_err_and}
 use Rattle.file_items.specs.Items.{repeat}
 use Rattle.file_items.proofs.Loop.{behind, one_more, stops_here, all_read}
 use Rattle.file_items.specs.Pages.{page_of, seen_nothing}
-use Rattle.file_items.proofs.pages.reading.pages_from.Goals as goal
+use Rattle.file_items.proofs.page_lists.reading.pages_from.Goals as goal
 
 pub returns-in_err-page : goal.returns-in_err-page
 returns-in_err-page c =
