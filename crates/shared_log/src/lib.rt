@@ -3,8 +3,6 @@
 
 mod appending;
 mod log;
-#[cfg(test)]
-mod tests;
 
 pub use appending::append;
 pub use log::{Entry, Log};

@@ -7,8 +7,6 @@ mod history;
 mod lock;
 mod rule;
 mod seat;
-#[cfg(test)]
-mod tests;
 mod turns;
 mod view;
 

@@ -1,10 +1,10 @@
 //! Threads that append side by side.
 ghost use Rattle.turn_lock.specs.Seats.{IsSeatOf, IsIdle, AreIdleSeats};
 
-use crate::{Log, append};
+use anyhow::Result;
 use cell_values::List;
+use shared_log::{Log, append};
 use std::sync::Wait;
-use std::test::*;
 use std::thread;
 use std::thread::Threads;
 use turn_lock::{TurnLock, TurnSeat};
@@ -48,19 +48,22 @@ fn append_all<R: Threads + Wait + Sync>(
     thread::for_each_mut(rt, seats, 4, &each);
 }
 
-#[test]
-fn four_threads_append_each_in_its_order(rt: HostRuntime) -> Result<(), Fail> {
+/// What four threads that append 1,000 entries each leave: an entry is missing where an append found no memory.
+pub(crate) fn tell_entries(rt: &(impl Print + AllocGlobal + Threads + Wait + Sync)) -> Result<()> {
     let Ok((lock, seats)) = TurnLock::new(rt.alloc(), Log::new(rt.alloc(), 7), 4) else {
-        panic!(rt; "no memory")
+        println!(rt; "no memory")?;
+        return Ok(());
     };
     let mut seats = seats.into_vec();
-    append_all(&rt, &lock, seats.as_mut_slice(), 1_000);
+    append_all(rt, &lock, seats.as_mut_slice(), 1_000);
     let log = lock.close(List::from_vec(seats));
-    assert!(rt; log.number == 7);
-    // An entry is missing where an append found no memory.
-    assert!(rt; log.entries.len() == 4_000);
+    println!(rt; "log {}, entries {}", log.number, log.entries.len())?;
     for by in 0..4 {
-        assert!(rt; has_thousand(&log, by), "at seat {by}");
+        if has_thousand(&log, by) {
+            println!(rt; "seat {by}: 0 to 999, in order")?;
+        } else {
+            println!(rt; "seat {by}: an entry is missing")?;
+        }
     }
     Ok(())
 }

@@ -3,12 +3,12 @@ ghost use Rattle.std.specs.Prelude.{◌≡◌};
 ghost use Rattle.turn_lock.specs.Owners.{ExtendsByOwn};
 ghost use Rattle.turn_lock.specs.Seats.{IsSeatOf, IsIdle, AreIdleSeats};
 
-use crate::{History, TurnLock, TurnSeat};
+use anyhow::Result;
 use cell_values::List;
 use std::sync::Wait;
-use std::test::*;
 use std::thread;
 use std::thread::Threads;
+use turn_lock::{History, TurnLock, TurnSeat};
 
 #[derive(Clone, Copy)]
 struct Mark {
@@ -96,23 +96,26 @@ fn all_turns<R: Threads + Wait + Sync>(
     thread::for_each_mut(rt, seats, 4, &each);
 }
 
-#[test]
-fn each_of_four_threads_finds_its_own_marks_in_order(rt: HostRuntime) -> Result<(), Fail> {
+/// What four threads of 10,000 turns each leave: a mark is missing where a seat did not find its own last one.
+pub(crate) fn tell_turns(rt: &(impl Print + AllocGlobal + Threads + Wait + Sync)) -> Result<()> {
     let tally = Tally {
         start: 7,
         marks: List::new(rt.alloc()),
     };
     let Ok((lock, seats)) = TurnLock::new(rt.alloc(), tally, 4) else {
-        panic!(rt; "no memory")
+        println!(rt; "no memory")?;
+        return Ok(());
     };
     let mut seats = seats.into_vec();
-    all_turns(&rt, &lock, seats.as_mut_slice(), 10_000);
+    all_turns(rt, &lock, seats.as_mut_slice(), 10_000);
     let tally = lock.close(List::from_vec(seats));
-    assert!(rt; tally.start == 7);
-    // A mark is missing where a seat did not find its own last one.
-    assert_eq!(rt; tally.count(), 40_000);
+    println!(rt; "start {}, marks {}", tally.start, tally.count())?;
     for by in 0..4 {
-        assert!(rt; tally.last_turn(by) == Some(9_999), "at seat {by}");
+        if tally.last_turn(by) == Some(9_999) {
+            println!(rt; "seat {by}: each turn, in order")?;
+        } else {
+            println!(rt; "seat {by}: a turn is missing")?;
+        }
     }
     Ok(())
 }
