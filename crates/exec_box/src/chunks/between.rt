@@ -8,8 +8,9 @@ ghost use Rattle.array_parts.specs.Made.{IsPlaced, IsMadeBy};
 ghost use Rattle.exec_box.specs.Cut.{cut_cell};
 
 use array_geom::Chunk;
-use array_parts::{CellChange, change_chunk};
+use array_parts::{CellChange, Quick, change_chunk};
 use array_rows::is_in_box;
+use cell_columns::Rows;
 use cell_values::{Bounds, Cell, Coord, Margins, Memory, Schema};
 
 /// A cut with its box.
@@ -27,6 +28,10 @@ impl CellChange for Cut<'_> {
         } else {
             Ok(None)
         }
+    }
+
+    fn quick(&self, _rows: &Rows, _k: usize) -> Quick {
+        Quick::Unknown
     }
 }
 

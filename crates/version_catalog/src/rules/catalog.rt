@@ -5,7 +5,7 @@ use cell_values::{Copies, List, Memory};
 use logical_plan::NameEntry;
 
 /// Some bytes of the file.
-#[derive(Debug, Drop)]
+#[derive(Drop)]
 pub struct BlobAt {
     /// How many bytes there are.
     pub length: u64,
@@ -14,7 +14,7 @@ pub struct BlobAt {
 }
 
 /// A stored array, and where the directory of each of its versions lies.
-#[derive(Debug, Drop)]
+#[derive(Drop)]
 pub struct CatalogArray {
     pub entry: NameEntry,
     /// One for each version, in the same order.
@@ -22,7 +22,7 @@ pub struct CatalogArray {
 }
 
 /// The stored arrays, rising by name.
-#[derive(Debug, Drop)]
+#[derive(Drop)]
 pub struct Catalog {
     pub arrays: List<CatalogArray>,
 }

@@ -5,7 +5,7 @@ use crate::rules::BlobAt;
 use cell_values::{Copies, Memory, Name, Schema};
 
 /// What a commit changes in the catalogue.
-#[derive(Debug, Drop)]
+#[derive(Drop)]
 pub enum CatalogRecord {
     /// One more array, without versions.
     Create {
