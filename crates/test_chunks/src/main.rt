@@ -10,11 +10,12 @@ mod places;
 mod show;
 
 use anyhow::Result;
+use cell_values::Memory;
 use payloads::{push_read, push_spelled};
 use places::{push_boxes, push_chunks, push_copies, push_frame, push_place};
 
 /// Adds the answer to the words of a line.
-fn push_answer(out: &mut String, words: &[&str]) -> Result<()> {
+fn push_answer(out: &mut String, words: &[&str]) -> Result<(), Memory> {
     match words {
         ["spell", cells @ ..] => push_spelled(out, cells),
         ["read"] => push_read(out, ""),

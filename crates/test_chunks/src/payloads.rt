@@ -3,7 +3,6 @@ ghost use Rattle.std.specs.Prelude.{◌≡◌, [], ◌∷◌, IfOk};
 ghost use Rattle.chunk_rle.specs.Inner.Example.{example};
 
 use crate::show::push_chunk;
-use anyhow::Result;
 use array_geom::Chunk;
 use cell_columns::Cells;
 use cell_values::{Attribute, Bytes, ChunkAt, Dimension, Kind, List, Memory, Name, Schema};
@@ -68,7 +67,7 @@ fn chunk_of(alloc: Global, words: &[&str]) -> Result<Chunk, Memory> {
 }
 
 /// Adds the payload of a chunk with these cells.
-pub(crate) fn push_spelled(out: &mut String, words: &[&str]) -> Result<()> {
+pub(crate) fn push_spelled(out: &mut String, words: &[&str]) -> Result<(), Memory> {
     let alloc = *out.allocator();
     let chunk = chunk_of(alloc, words)?;
     for byte in encode(alloc, &schema(alloc)?, &chunk)?.as_slice() {
@@ -99,7 +98,7 @@ fn bytes_in(alloc: Global, digits: &str) -> Result<Bytes, Memory> {
 }
 
 /// Adds the chunk of a payload, or the place of its first wrong item.
-pub(crate) fn push_read(out: &mut String, digits: &str) -> Result<()> {
+pub(crate) fn push_read(out: &mut String, digits: &str) -> Result<(), Memory> {
     let alloc = *out.allocator();
     let bytes = bytes_in(alloc, digits)?;
     match decoded(alloc, bytes.as_slice()) {

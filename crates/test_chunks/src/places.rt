@@ -4,7 +4,6 @@ ghost use Rattle.array_rows.specs.Boxes.{corners};
 ghost use Rattle.array_geom.specs.Inner.Example.{dimension, example};
 
 use crate::show::{push_box, push_chunk};
-use anyhow::Result;
 use array_geom::{
     Boxes, Changed, Chunk, ChunkedArray, chunk_of, chunks_meeting, core_box, frame, place, position,
 };
@@ -71,7 +70,7 @@ fn at(x: i64, y: i64) -> Coord
 }
 
 /// Adds the chunk of a coordinate, its place in the frame, and the coordinate of that place.
-pub(crate) fn push_place(out: &mut String) -> Result<()> {
+pub(crate) fn push_place(out: &mut String) -> Result<(), Memory> {
     let schema = schema(*out.allocator())?;
     let cell = at(1, 4);
     let chunk = numbers(1, 1);
@@ -87,7 +86,7 @@ pub(crate) fn push_place(out: &mut String) -> Result<()> {
 }
 
 /// Adds the core of the last chunk, which the bounds cut, and its frame.
-pub(crate) fn push_frame(out: &mut String) -> Result<()> {
+pub(crate) fn push_frame(out: &mut String) -> Result<(), Memory> {
     let schema = schema(*out.allocator())?;
     let chunk = numbers(1, 1);
     let margins = numbers(1, 1);
@@ -98,7 +97,7 @@ pub(crate) fn push_frame(out: &mut String) -> Result<()> {
 }
 
 /// Adds those of four chunks whose cores meet a box.
-pub(crate) fn push_chunks(out: &mut String) -> Result<()> {
+pub(crate) fn push_chunks(out: &mut String) -> Result<(), Memory> {
     let schema = schema(*out.allocator())?;
     let area = Bounds {
         lo: at(-1, 3),
@@ -114,7 +113,7 @@ pub(crate) fn push_chunks(out: &mut String) -> Result<()> {
 }
 
 /// Adds whether a box holds a coordinate, the box moved, and what it shares with another.
-pub(crate) fn push_boxes(out: &mut String) -> Result<()> {
+pub(crate) fn push_boxes(out: &mut String) -> Result<(), Memory> {
     let lo = at(2, 0);
     let hi = at(3, 2);
     let by = at(-2, 5);
@@ -152,7 +151,7 @@ fn array(alloc: Global) -> Result<ChunkedArray, Memory> {
 }
 
 /// Adds the chunks of copies of an array and of a change.
-pub(crate) fn push_copies(out: &mut String) -> Result<()> {
+pub(crate) fn push_copies(out: &mut String) -> Result<(), Memory> {
     let copy = array(*out.allocator())?.copy()?;
     for chunk in copy.chunks.as_slice() {
         push_chunk(out, chunk)?;

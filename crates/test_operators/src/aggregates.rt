@@ -2,7 +2,6 @@
 ghost use Rattle.std.specs.Prelude.{◌+◌, ◌≤◌, length, IfOk};
 
 use agg_states::AggState;
-use anyhow::Result;
 use cell_values::{Memory, coord_of};
 use logical_plan::AggFunction;
 use std::alloc::Global;
@@ -51,7 +50,11 @@ fn taken(alloc: Global, function: AggFunction, words: &[&str]) -> Result<AggStat
 }
 
 /// Adds the aggregate of two parts, the first of which is taken first.
-pub(crate) fn push_aggregate(out: &mut String, function: &str, words: &[&str]) -> Result<()> {
+pub(crate) fn push_aggregate(
+    out: &mut String,
+    function: &str,
+    words: &[&str],
+) -> Result<(), Memory> {
     let alloc = *out.allocator();
     let (first, second) = parts_of(words);
     if first.len() <= LIMIT && second.len() <= LIMIT {

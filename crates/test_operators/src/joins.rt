@@ -3,7 +3,6 @@ ghost use Rattle.std.specs.Prelude.{◌≡◌, ◌∷◌, [], length, IfOk};
 
 use crate::aggregates::parts_of;
 use crate::show::push_chunk;
-use anyhow::Result;
 use array_geom::Chunk;
 use cell_columns::Cells;
 use cell_values::{ChunkAt, List, Memory};
@@ -38,7 +37,7 @@ fn chunk(alloc: Global, words: &[&str]) -> Result<Chunk, Memory>
 }
 
 /// Adds the cells of two chunks at the places that both have.
-pub(crate) fn push_join(out: &mut String, words: &[&str]) -> Result<()> {
+pub(crate) fn push_join(out: &mut String, words: &[&str]) -> Result<(), Memory> {
     let alloc = *out.allocator();
     let (left, right) = parts_of(words);
     let left = chunk(alloc, left)?;

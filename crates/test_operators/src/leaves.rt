@@ -5,7 +5,7 @@ ghost use Rattle.chunk_source.specs.Source.{Reads};
 use crate::example::{example_leaf, failing_source, sure_source};
 use crate::layout::Layout;
 use crate::show::{push_array, push_asked, push_cause, push_faults};
-use anyhow::Result;
+use cell_values::Memory;
 use chunk_source::{ChunkSource, read_leaf};
 use logical_plan::Leaf;
 
@@ -13,7 +13,7 @@ use logical_plan::Leaf;
 const NUMBER: u32 = 3;
 
 /// Reads a leaf, and adds its chunks or why it could not be read, and how often the source has failed.
-fn push_leaf<S: ChunkSource>(out: &mut String, source: &mut S, leaf: &Leaf) -> Result<()>
+fn push_leaf<S: ChunkSource>(out: &mut String, source: &mut S, leaf: &Leaf) -> Result<(), Memory>
     requires reads { Reads (S.state source.old) leaf.now }
     requires valid { IsValid leaf.now.schema }
 {
@@ -26,7 +26,7 @@ fn push_leaf<S: ChunkSource>(out: &mut String, source: &mut S, leaf: &Leaf) -> R
 
 /// The array from a source, some of whose calls fail.
 #[tactic(auto, using(crate::proofs::Stored::pairs_valid))]
-pub(crate) fn push_failing(out: &mut String, fails: &[u64]) -> Result<()> {
+pub(crate) fn push_failing(out: &mut String, fails: &[u64]) -> Result<(), Memory> {
     let leaf = example_leaf(*out.allocator(), Layout::Pairs)?;
     let mut source = failing_source(*out.allocator(), Layout::Pairs, fails)?;
     push_leaf(out, &mut source, &leaf)?;
@@ -35,7 +35,7 @@ pub(crate) fn push_failing(out: &mut String, fails: &[u64]) -> Result<()> {
 
 /// The array from a source that never fails.
 #[tactic(auto, using(crate::proofs::Stored::pairs_valid))]
-pub(crate) fn push_sure(out: &mut String) -> Result<()> {
+pub(crate) fn push_sure(out: &mut String) -> Result<(), Memory> {
     let leaf = example_leaf(*out.allocator(), Layout::Pairs)?;
     let mut source = sure_source(*out.allocator(), Layout::Pairs)?;
     push_leaf(out, &mut source, &leaf)?;

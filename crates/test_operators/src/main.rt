@@ -16,13 +16,14 @@ mod show;
 
 use aggregates::push_aggregate;
 use anyhow::Result;
+use cell_values::Memory;
 use joins::push_join;
 use layout::layout_of;
 use leaves::{push_failing, push_sure};
 use plans::{push_failing_filter, push_sure_filter};
 
 /// The numbers of the calls that are to fail.
-fn numbers_in(out: &String, words: &[&str]) -> Result<Vec<u64>> {
+fn numbers_in(out: &String, words: &[&str]) -> Result<Vec<u64>, Memory> {
     let mut numbers = Vec::new(*out.allocator());
     for word in words {
         numbers.push(word.parse::<u64>().unwrap_or(0))?;
@@ -31,7 +32,7 @@ fn numbers_in(out: &String, words: &[&str]) -> Result<Vec<u64>> {
 }
 
 /// Adds the answer to the words of a line.
-fn push_answer(out: &mut String, words: &[&str]) -> Result<()> {
+fn push_answer(out: &mut String, words: &[&str]) -> Result<(), Memory> {
     match words {
         ["aggregate", function, places @ ..] => push_aggregate(out, function, places),
         ["join", places @ ..] => push_join(out, places),

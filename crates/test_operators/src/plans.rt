@@ -8,7 +8,6 @@ use crate::example::{example_leaf, failing_source, sure_source};
 use crate::layout::Layout;
 use crate::show::{push_array, push_asked, push_cause, push_cells, push_faults};
 use afl_outside::OpenGate;
-use anyhow::Result;
 use cell_values::{CompareOp, Datum, Memory};
 use chunk_exec::execute;
 use chunk_source::ChunkSource;
@@ -26,7 +25,7 @@ fn above_five(alloc: Global, layout: Layout) -> Result<Plan, Memory>
 }
 
 /// Executes a plan, and adds its chunks or why there are none, and how often the source has failed.
-fn push_plan<S: ChunkSource>(out: &mut String, source: &mut S, plan: &Plan) -> Result<()>
+fn push_plan<S: ChunkSource>(out: &mut String, source: &mut S, plan: &Plan) -> Result<(), Memory>
     requires undamaged { (S.state source.old).damaged ≡ None }
     requires can { CanCompute (S.state source.old) plan.now }
 {
@@ -42,7 +41,11 @@ fn push_plan<S: ChunkSource>(out: &mut String, source: &mut S, plan: &Plan) -> R
 
 /// Executes the filter over a source that has the array.
 #[tactic(auto, using(crate::proofs::Executed::can_compute))]
-fn push_filter<S: ChunkSource>(out: &mut String, source: &mut S, layout: Layout) -> Result<()>
+fn push_filter<S: ChunkSource>(
+    out: &mut String,
+    source: &mut S,
+    layout: Layout,
+) -> Result<(), Memory>
     requires undamaged { (S.state source.old).damaged ≡ None }
     requires reads { Reads (S.state source.old) (leaf layout) }
 {
@@ -51,14 +54,18 @@ fn push_filter<S: ChunkSource>(out: &mut String, source: &mut S, layout: Layout)
 }
 
 /// The filter over a source, some of whose calls fail.
-pub(crate) fn push_failing_filter(out: &mut String, layout: Layout, fails: &[u64]) -> Result<()> {
+pub(crate) fn push_failing_filter(
+    out: &mut String,
+    layout: Layout,
+    fails: &[u64],
+) -> Result<(), Memory> {
     let mut source = failing_source(*out.allocator(), layout, fails)?;
     push_filter(out, &mut source, layout)?;
     push_asked(out, source.asked())
 }
 
 /// The filter over a source that never fails.
-pub(crate) fn push_sure_filter(out: &mut String, layout: Layout) -> Result<()> {
+pub(crate) fn push_sure_filter(out: &mut String, layout: Layout) -> Result<(), Memory> {
     let mut source = sure_source(*out.allocator(), layout)?;
     push_filter(out, &mut source, layout)?;
     push_asked(out, source.asked())

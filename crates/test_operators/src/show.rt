@@ -1,15 +1,14 @@
 //! What is told of arrays, and of the sources that gave them.
 ghost use Rattle.array_parts.specs.Placed.{IsSound};
 
-use anyhow::Result;
 use array_geom::{Chunk, ChunkedArray};
-use cell_values::{Broken, Datum, List, Row};
+use cell_values::{Broken, Datum, List, Memory, Row};
 use chunk_cells::rows;
 use chunk_source::{Asked, ChunkSource, ExecFault};
 use test_kit::{push_cell, push_coord, push_datum, push_number};
 
 /// Adds a chunk's number, and what it holds at each of its positions.
-pub(crate) fn push_chunk(out: &mut String, chunk: &Chunk) -> Result<()> {
+pub(crate) fn push_chunk(out: &mut String, chunk: &Chunk) -> Result<(), Memory> {
     out.push_str("chunk ")?;
     push_number(out, &chunk.at)?;
     let cells = chunk.cells.copy()?.into_list()?;
@@ -22,14 +21,14 @@ pub(crate) fn push_chunk(out: &mut String, chunk: &Chunk) -> Result<()> {
 }
 
 /// Adds the chunks of an array.
-pub(crate) fn push_array(out: &mut String, array: &ChunkedArray) -> Result<()> {
+pub(crate) fn push_array(out: &mut String, array: &ChunkedArray) -> Result<(), Memory> {
     for chunk in array.chunks.as_slice() {
         push_chunk(out, chunk)?;
     }
     Ok(())
 }
 
-fn push_rows(out: &mut String, rows: &List<Row>) -> Result<()> {
+fn push_rows(out: &mut String, rows: &List<Row>) -> Result<(), Memory> {
     for row in rows.as_slice() {
         out.push_str("cell ")?;
         push_coord(out, &row.at)?;
@@ -39,7 +38,7 @@ fn push_rows(out: &mut String, rows: &List<Row>) -> Result<()> {
     Ok(())
 }
 
-fn push_broken(out: &mut String, broken: &Broken) -> Result<()> {
+fn push_broken(out: &mut String, broken: &Broken) -> Result<(), Memory> {
     out.push_str("broken at ")?;
     push_coord(out, &broken.at)?;
     out.push_str(": ")?;
@@ -49,7 +48,7 @@ fn push_broken(out: &mut String, broken: &Broken) -> Result<()> {
 }
 
 /// Adds the cells of an array, by their coordinates.
-pub(crate) fn push_cells(out: &mut String, array: &ChunkedArray) -> Result<()>
+pub(crate) fn push_cells(out: &mut String, array: &ChunkedArray) -> Result<(), Memory>
     requires { IsSound array.now }
 {
     match &array.broken {
@@ -59,7 +58,7 @@ pub(crate) fn push_cells(out: &mut String, array: &ChunkedArray) -> Result<()>
 }
 
 /// Adds why there is no array.
-pub(crate) fn push_cause(out: &mut String, cause: ExecFault) -> Result<()> {
+pub(crate) fn push_cause(out: &mut String, cause: ExecFault) -> Result<(), Memory> {
     match cause {
         ExecFault::Source => out.push_str("the source failed\n")?,
         ExecFault::Damaged { page } => writeln!(out, "page {page} is damaged")?,
@@ -69,7 +68,7 @@ pub(crate) fn push_cause(out: &mut String, cause: ExecFault) -> Result<()> {
 }
 
 /// Adds how often a source has failed, and the page that it found damaged.
-pub(crate) fn push_faults<S: ChunkSource>(out: &mut String, source: &S) -> Result<()> {
+pub(crate) fn push_faults<S: ChunkSource>(out: &mut String, source: &S) -> Result<(), Memory> {
     write!(out, "{} failed", source.faults())?;
     if let Some(page) = source.damaged() {
         write!(out, ", page {page} is damaged")?;
@@ -79,7 +78,7 @@ pub(crate) fn push_faults<S: ChunkSource>(out: &mut String, source: &S) -> Resul
 }
 
 /// Adds the chunks that were asked for.
-pub(crate) fn push_asked(out: &mut String, asked: &[Asked]) -> Result<()> {
+pub(crate) fn push_asked(out: &mut String, asked: &[Asked]) -> Result<(), Memory> {
     out.push_str("asked for")?;
     for one in asked {
         write!(out, " leaf {} ", one.leaf)?;

@@ -1,6 +1,5 @@
 //! A list, its calls, and what was taken from it.
 
-use anyhow::Result;
 use cell_values::{Bytes, Memory};
 use std::alloc::Global;
 use std::cmp::Ordering;
@@ -56,7 +55,7 @@ impl Lists {
     }
 
     /// Does a call, and adds the item that it gives, if it gives one.
-    fn call(&mut self, out: &mut String, words: &[&str]) -> Result<()> {
+    fn call(&mut self, out: &mut String, words: &[&str]) -> Result<(), Memory> {
         match words {
             ["begin", room] => self.begin(place_in(room))?,
             ["extend", text] => self.list.extend(text.as_bytes())?,
@@ -77,7 +76,7 @@ impl Lists {
     }
 
     /// Adds the list, how many bytes it has and the largest, and how it stands to what was taken.
-    fn push_state(&self, out: &mut String) -> Result<()> {
+    fn push_state(&self, out: &mut String) -> Result<(), Memory> {
         out.push('\'')?;
         push_text(out, self.list.as_slice())?;
         write!(out, "' of {}", self.list.len())?;
@@ -96,14 +95,14 @@ impl Lists {
     }
 
     /// Does a call, and adds what it gives and leaves.
-    pub(crate) fn push_call(&mut self, out: &mut String, words: &[&str]) -> Result<()> {
+    pub(crate) fn push_call(&mut self, out: &mut String, words: &[&str]) -> Result<(), Memory> {
         self.call(out, words)?;
         self.push_state(out)
     }
 }
 
 /// Adds an item of a list.
-fn push_item(out: &mut String, item: Option<u8>) -> Result<()> {
+fn push_item(out: &mut String, item: Option<u8>) -> Result<(), Memory> {
     match item {
         Some(byte) => push_text(out, &[byte])?,
         None => out.push_str("nothing")?,

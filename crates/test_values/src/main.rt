@@ -10,7 +10,7 @@ mod places;
 mod table;
 
 use anyhow::Result;
-use cell_values::{Bytes, Code, Name};
+use cell_values::{Bytes, Code, Memory, Name};
 use lists::Lists;
 use places::{push_bounds, push_box, push_broken, push_order, push_row, push_same};
 use std::str::from_utf8;
@@ -18,7 +18,7 @@ use table::{push_one, push_two};
 use test_kit::{push_text, text_of};
 
 /// Adds the name that a text is.
-fn push_name(out: &mut String, text: &str) -> Result<()> {
+fn push_name(out: &mut String, text: &str) -> Result<(), Memory> {
     match Name::new(Bytes::from_slice(*out.allocator(), text.as_bytes())?) {
         Some(name) => push_text(out, name.as_slice())?,
         None => out.push_str("no name")?,
@@ -27,7 +27,7 @@ fn push_name(out: &mut String, text: &str) -> Result<()> {
 }
 
 /// Adds the code of a number.
-fn push_code(out: &mut String, digits: &str) -> Result<()> {
+fn push_code(out: &mut String, digits: &str) -> Result<(), Memory> {
     match Code::new(digits.parse::<u8>().unwrap_or(0)) {
         Some(code) => write!(out, "code {}", code.number())?,
         None => out.push_str("no code")?,
@@ -36,7 +36,7 @@ fn push_code(out: &mut String, digits: &str) -> Result<()> {
 }
 
 /// Adds the answer to the words of a line.
-fn push_answer(out: &mut String, lists: &mut Lists, words: &[&str]) -> Result<()> {
+fn push_answer(out: &mut String, lists: &mut Lists, words: &[&str]) -> Result<(), Memory> {
     match words {
         ["list", call @ ..] => lists.push_call(out, call),
         ["name"] => push_name(out, ""),

@@ -1,8 +1,7 @@
 //! Coordinates, boxes and rows.
 
-use anyhow::Result;
 use array_rows::is_in_box;
-use cell_values::{Bounds, Broken, Cell, FaultKind, List, Row, row_major, same_place};
+use cell_values::{Bounds, Broken, Cell, FaultKind, List, Memory, Row, row_major, same_place};
 use std::cmp::Ordering;
 use test_kit::{coord_in, datum_of, fault_of, push_coord, push_datum};
 
@@ -14,7 +13,7 @@ fn bounds_of(lo: &str, hi: &str) -> Bounds {
 }
 
 /// Adds a copy of a box.
-pub(crate) fn push_bounds(out: &mut String, lo: &str, hi: &str) -> Result<()> {
+pub(crate) fn push_bounds(out: &mut String, lo: &str, hi: &str) -> Result<(), Memory> {
     let copy = bounds_of(lo, hi).copy()?;
     push_coord(out, &copy.lo)?;
     out.push_str(" to ")?;
@@ -23,7 +22,7 @@ pub(crate) fn push_bounds(out: &mut String, lo: &str, hi: &str) -> Result<()> {
 }
 
 /// Adds a copy of what breaks an array.
-pub(crate) fn push_broken(out: &mut String, at: &str, kind: &str) -> Result<()> {
+pub(crate) fn push_broken(out: &mut String, at: &str, kind: &str) -> Result<(), Memory> {
     let broken = Broken {
         at: coord_in(at),
         kind: fault_of(kind).unwrap_or(FaultKind::Overflow),
@@ -35,7 +34,7 @@ pub(crate) fn push_broken(out: &mut String, at: &str, kind: &str) -> Result<()> 
     Ok(())
 }
 
-fn push_copied(out: &mut String, row: &Row) -> Result<()> {
+fn push_copied(out: &mut String, row: &Row) -> Result<(), Memory> {
     let copy = row.copy()?;
     push_coord(out, &copy.at)?;
     if let Cell::Full(values) = &copy.cell {
@@ -48,7 +47,7 @@ fn push_copied(out: &mut String, row: &Row) -> Result<()> {
 }
 
 /// Adds a copy of a row.
-pub(crate) fn push_row(out: &mut String, at: &str, words: &[&str]) -> Result<()> {
+pub(crate) fn push_row(out: &mut String, at: &str, words: &[&str]) -> Result<(), Memory> {
     let alloc = *out.allocator();
     let mut values = List::new(alloc);
     for word in words {
@@ -62,7 +61,7 @@ pub(crate) fn push_row(out: &mut String, at: &str, words: &[&str]) -> Result<()>
 }
 
 /// Adds how two coordinates stand to each other in an array.
-pub(crate) fn push_order(out: &mut String, one: &str, other: &str) -> Result<()> {
+pub(crate) fn push_order(out: &mut String, one: &str, other: &str) -> Result<(), Memory> {
     let one = coord_in(one);
     let other = coord_in(other);
     if one.len() != other.len() {
@@ -78,14 +77,14 @@ pub(crate) fn push_order(out: &mut String, one: &str, other: &str) -> Result<()>
 }
 
 /// Adds whether two coordinates are the same.
-pub(crate) fn push_same(out: &mut String, one: &str, other: &str) -> Result<()> {
+pub(crate) fn push_same(out: &mut String, one: &str, other: &str) -> Result<(), Memory> {
     let is_same = same_place(&coord_in(one), &coord_in(other));
     out.push_str(if is_same { "the same" } else { "another" })?;
     Ok(())
 }
 
 /// Adds whether a coordinate lies in a box.
-pub(crate) fn push_box(out: &mut String, lo: &str, hi: &str, at: &str) -> Result<()> {
+pub(crate) fn push_box(out: &mut String, lo: &str, hi: &str, at: &str) -> Result<(), Memory> {
     let is_inside = is_in_box(&bounds_of(lo, hi), &coord_in(at));
     out.push_str(if is_inside { "inside" } else { "outside" })?;
     Ok(())

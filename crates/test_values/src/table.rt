@@ -1,6 +1,5 @@
 //! Calls of the value table.
 
-use anyhow::Result;
 use cell_values::{
     CompareOp, Datum, Memory, add, and3, compare, div, mul, neg, not3, or3, rem, sub,
 };
@@ -39,14 +38,14 @@ fn of_one(op: &str, a: &Datum) -> Datum {
 }
 
 /// Adds what a call with one operand gives.
-pub(crate) fn push_one(out: &mut String, op: &str, a: &str) -> Result<()> {
+pub(crate) fn push_one(out: &mut String, op: &str, a: &str) -> Result<(), Memory> {
     let a = datum_of(*out.allocator(), a)?;
     push_datum(out, &of_one(op, &a))?;
     Ok(())
 }
 
 /// Adds what a call with two operands gives.
-pub(crate) fn push_two(out: &mut String, a: &str, op: &str, b: &str) -> Result<()> {
+pub(crate) fn push_two(out: &mut String, a: &str, op: &str, b: &str) -> Result<(), Memory> {
     let alloc = *out.allocator();
     let a = datum_of(alloc, a)?;
     let b = datum_of(alloc, b)?;
