@@ -11,7 +11,7 @@ mod stored;
 mod told;
 
 use afl_parser::{Tree, parse};
-use afl_types::{TypeFault, check};
+use afl_types::{TypeFault, check, let_go_typed};
 use anyhow::Result;
 use cell_values::Span;
 use logical_plan::Names;
@@ -43,7 +43,11 @@ fn tell_tree(rt: &(impl Print + AllocGlobal), text: &[u8], tree: &Tree, names: &
     requires { AreValid names.now.arrays }
 {
     match check(rt.alloc(), tree, text, names) {
-        Ok(typed) => tell_typed(rt, &typed),
+        Ok(typed) => {
+            let told = tell_typed(rt, &typed);
+            let_go_typed(typed);
+            told
+        }
         Err(TypeFault::Rule { span, kind }) => tell_fault(rt, span, kind),
         Err(TypeFault::Memory) => tell_word(rt, "no memory"),
     }
