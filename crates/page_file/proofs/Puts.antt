@@ -1,5 +1,5 @@
 -- A put within a page is a write of that page.
-use Rattle.std.proofs.Common.{◌≡◌, ◌≤◌, inl, inr, ⊎_elim, ℕ, ◌+◌, ◌*◌, List, [], ◌∷◌, length, IsTrue, Option, Some, None, IfSome}
+use Rattle.std.proofs.Common.{◌≡◌, ◌≤◌, ℕ, ◌+◌, ◌*◌, List, [], ◌∷◌, length, Some, IfSome}
 use Rattle.afl_outside.proofs.Moments.{moment_at}
 use Rattle.afl_outside.specs.Disk.{DiskState, Torn}
 use Rattle.page_layout.specs.Places.{KeepsPages}

@@ -1,4 +1,4 @@
-use Rattle.std.proofs.Common.{◌≡◌, ◌⊎◌, ℕ, ◌+◌, List, [], ◌∷◌, ◌++◌, sym, subst, arith}
+use Rattle.std.proofs.Common.{◌⊎◌, [], ◌∷◌, ◌++◌, subst, arith}
 use Rattle.afl_outside.specs.Disk.{Torn}
 use Rattle.page_layout.specs.Opens.{OpensAs}
 use Rattle.page_slots.specs.Standing.{gate_place, entry_gate}

@@ -1,4 +1,4 @@
-use Rattle.std.proofs.Common.{◌<◌, ℕ, ◌+◌, arith, List, [], ◌∷◌, length, sym, ◌∙◌, ap, subst}
+use Rattle.std.proofs.Common.{◌<◌, ◌+◌, arith, List, [], ◌∷◌, length, sym, ◌∙◌, ap, subst}
 use Rattle.page_layout.specs.declared.logs.RecordAt.{RecordAt}
 use Rattle.page_slots.specs.Standing.{entry_gate}
 use Rattle.page_slots.specs.declared.slots.Slots.{Slots}

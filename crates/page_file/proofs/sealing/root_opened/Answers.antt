@@ -1,4 +1,4 @@
-use Rattle.std.proofs.Common.{◌≡◌, ◌⊎◌, ℕ, ◌+◌, ◌≤◌, List, [], sym, subst, arith}
+use Rattle.std.proofs.Common.{◌⊎◌, [], subst}
 use Rattle.afl_outside.specs.Disk.{Torn}
 use Rattle.page_layout.specs.Places.{other, gate_of}
 use Rattle.page_layout.specs.Opens.{OpensAs}

@@ -1,11 +1,5 @@
-use Rattle.std.proofs.Common.{◌≡◌, ◌<◌, ℕ, sym, ◌∙◌, ap, subst}
 use Rattle.page_layout.specs.Places.{other, body_of}
-use Rattle.page_layout.specs.declared.roots.OpenRoot.{OpenRoot}
-use Rattle.page_slots.specs.Standing.{IsShutRoot}
-use Rattle.page_slots.specs.Steps.{emptied_root}
-use Rattle.page_slots.specs.declared.slots.Slots.{Slots}
-use Rattle.page_slots.specs.declared.slots.RootSlot.{RootSlot}
-use Rattle.page_file.proofs.Kept.{seals, chain_stays_front, body_within, shut_emptied}
+use Rattle.page_file.proofs.Kept.{seals, chain_stays_front, body_within}
 use Rattle.page_file.proofs.sealing.root_written.Goals as goal
 
 pub returns-in-Ok-write_root : goal.returns-in-Ok-write_root
