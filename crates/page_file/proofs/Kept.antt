@@ -113,3 +113,15 @@ seals old mid new before between now slots later at n pages bytes same read soun
         → IfSome o (λ seen. IsSound slots seen before → (x : List ℕ) × (new.seen ≡ Some x) × HoldsChain page_size x pages bytes × Only x now)
     go None a b = tt
     go (Some seen) a b = λ sound_then. let kept = a sound_then in finish kept.0 b.0 kept.1 b.1 kept.2 b.2.1
+
+-- one call, and then another
+pub sound_on : (a b c : Slots) (old mid new : DiskState) (before between now : List ℕ → Type 0) → DiskGoesOn old mid → KeepsSound a b (seeing old before) (seeing mid between) → KeepsSound b c (seeing mid between) (seeing new now)
+    → KeepsSound a c (seeing old before) (seeing new now)
+sound_on a b c old mid new before between now same first then_ honest = go old.seen (first honest)
+  where
+    still : IsTrue mid.honest
+    still = subst (λ (x : Bool). IsTrue x) (sym same.honest) honest
+
+    go : (o : Option (List ℕ)) → IfSome o (λ seen. IsSound a seen before → (s : List ℕ) × (mid.seen ≡ Some s) × IsSound b s between) → IfSome o (λ seen. IsSound a seen before → (s : List ℕ) × (new.seen ≡ Some s) × IsSound c s now)
+    go None h = tt
+    go (Some seen) h = λ sound. let m = h sound in at_some mid.seen m.0 (λ x. IsSound b x between → (s : List ℕ) × (new.seen ≡ Some s) × IsSound c s now) m.1 (then_ still) m.2

@@ -10,9 +10,9 @@ ghost use Rattle.afl_outside.specs.Disk.{Only};
 ghost use Rattle.page_chain.specs.Pages.{page_size, pages_for};
 ghost use Rattle.page_chain.specs.Chains.{content_size, HoldsChain};
 ghost use Rattle.page_chain.specs.Inner.Runs.{OnlyWrites, Sees};
-ghost use Rattle.page_file.specs.Written.{MayWrite};
+ghost use Rattle.page_file.specs.Written.{MayWrite, pages_written};
 ghost use Rattle.page_slots.specs.Puts.{OnlyPuts};
-ghost use Rattle.page_slots.specs.Standing.{root_in, IsClosed, IsSound, IsTarget, OpensAsRoot};
+ghost use Rattle.page_slots.specs.Standing.{root_in, IsClosed, IsSound, IsTarget, KeepsSound, OpensAsRoot};
 ghost use Rattle.page_slots.specs.declared.slots.Target.TheVariants as targets;
 
 use crate::files::PageFile;
@@ -37,7 +37,9 @@ pub fn record_written<D: Disk>(
     requires one { pages_for (content_size page_size) (length bytes.now) ≡ 1 }
     requires target { file.old.slots.target ≡ targets.Record }
     requires there { IsTarget file.old.slots }
-    ensures { IsTrue (D.moment file.old.disk).state.honest → IfSome (D.moment file.old.disk).state.seen (λ seen. IsSound file.old.slots seen (D.moment file.old.disk).may_leave
+    ensures slots { OnOk result (file.new.slots ≡ record (pages_written (page ∷ []) file.old.slots) { next = entries.Written at }) }
+    ensures sound { KeepsSound file.old.slots file.new.slots (D.moment file.old.disk) (D.moment file.new.disk) }
+    ensures holds { IsTrue (D.moment file.old.disk).state.honest → IfSome (D.moment file.old.disk).state.seen (λ seen. IsSound file.old.slots seen (D.moment file.old.disk).may_leave
         → OnOk result ((now : List ℕ) × ((D.moment file.new.disk).state.seen ≡ Some now) × HoldsChain page_size now (page ∷ []) bytes.now × Only now (D.moment file.new.disk).may_leave)) }
 {
     match file.write_chain(&[page], bytes) {
@@ -83,7 +85,9 @@ pub fn root_written<D: Disk>(
     requires pages { length pages.now ≡ pages_for (content_size page_size) (length bytes.now) }
     requires target { file.old.slots.target ≡ targets.Root }
     requires newer { file.old.slots.current.root.sequence < root.sequence }
-    ensures { IsTrue (D.moment file.old.disk).state.honest → IfSome (D.moment file.old.disk).state.seen (λ seen. IsSound file.old.slots seen (D.moment file.old.disk).may_leave
+    ensures slots { OnOk result (file.new.slots ≡ record (pages_written pages.now file.old.slots) { other = roots.Written root }) }
+    ensures sound { KeepsSound file.old.slots file.new.slots (D.moment file.old.disk) (D.moment file.new.disk) }
+    ensures holds { IsTrue (D.moment file.old.disk).state.honest → IfSome (D.moment file.old.disk).state.seen (λ seen. IsSound file.old.slots seen (D.moment file.old.disk).may_leave
         → OnOk result ((now : List ℕ) × ((D.moment file.new.disk).state.seen ≡ Some now) × HoldsChain page_size now pages.now bytes.now × Only now (D.moment file.new.disk).may_leave)) }
 {
     match file.write_chain(pages, bytes) {

@@ -2,11 +2,11 @@ use Rattle.std.proofs.Common.{◌<◌, ◌+◌, arith, List, [], ◌∷◌, leng
 use Rattle.page_layout.specs.declared.logs.RecordAt.{RecordAt}
 use Rattle.page_slots.specs.Standing.{entry_gate}
 use Rattle.page_slots.specs.declared.slots.Slots.{Slots}
-use Rattle.page_file.proofs.Kept.{seals, record_stays}
+use Rattle.page_file.proofs.Kept.{sound_on, seals, record_stays}
 use Rattle.page_file.proofs.sealing.record_written.Goals as goal
 
-pub returns-in-Ok-write_record : goal.returns-in-Ok-write_record
-returns-in-Ok-write_record g c =
+pub returns-in-Ok-write_record-clause-holds : goal.returns-in-Ok-write_record-clause-holds
+returns-in-Ok-write_record-clause-holds g c =
     let old = c.args.file.now in
     let mid = c.write_chain.new.self in
     let new = c.write_record.new.self in
@@ -18,3 +18,19 @@ returns-in-Ok-write_record g c =
     (subst (λ (rs : List RecordAt). length rs < 64) (sym (ap (λ (s : Slots). s.records) is)) there.1) holds
     (λ same. c.requires.free.log 0 (omega arith) (sym same ∙ ap (λ (s : Slots). s.current.root.log) is)) chain torn)
     c.in-Ok-write_record.ensures.writes.seen c.in-Ok-write_record.ensures.durable
+
+pub returns-in-Ok-write_record-clause-sound : goal.returns-in-Ok-write_record-clause-sound
+returns-in-Ok-write_record-clause-sound g c =
+    let old = c.args.file.now in
+    let mid = c.write_chain.new.self in
+    let new = c.write_record.new.self in
+    sound_on old.slots mid.slots new.slots (g.D.Disk.moment old.disk).state (g.D.Disk.moment mid.disk).state (g.D.Disk.moment new.disk).state (g.D.Disk.moment old.disk).may_leave (g.D.Disk.moment mid.disk).may_leave (g.D.Disk.moment new.disk).may_leave
+    c.in-Ok.ensures.writes.same c.in-Ok.ensures.sound c.in-Ok-write_record.ensures.sound
+
+pub returns-in-Err-write_record-clause-sound : goal.returns-in-Err-write_record-clause-sound
+returns-in-Err-write_record-clause-sound g c =
+    let old = c.args.file.now in
+    let mid = c.write_chain.new.self in
+    let new = c.write_record.new.self in
+    sound_on old.slots mid.slots new.slots (g.D.Disk.moment old.disk).state (g.D.Disk.moment mid.disk).state (g.D.Disk.moment new.disk).state (g.D.Disk.moment old.disk).may_leave (g.D.Disk.moment mid.disk).may_leave (g.D.Disk.moment new.disk).may_leave
+    c.in-Ok.ensures.writes.same c.in-Ok.ensures.sound c.in-Err-write_record.ensures.sound
