@@ -1,5 +1,6 @@
 -- How runs of calls of a disk go on.
-use Rattle.std.proofs.Common.{◌≡◌, inl, inr, ⊎_elim, ℕ, List, refl, sym, ◌∙◌, subst, arith}
+use Rattle.std.proofs.Common.{◌≡◌, inl, inr, ⊎_elim, ℕ, List, ◌+◌, ◌++◌, length, refl, sym, ◌∙◌, subst, arith, length-append}
+use Rattle.std.proofs.lemmas.List.{get_or_append_left, get_or-append-add}
 use Rattle.std.specs.Prelude.{IsTrue, IfSome, Some, None}
 use Rattle.std.specs.declared.option.Option.{Option}
 use Rattle.afl_outside.specs.Disk.{DiskState, DiskGoesOn, Elapses, LeavesOnly, Follows}
@@ -94,6 +95,22 @@ writes_on pages a b c past mid since before between now p q = record {
   where
     lower : (x : List ℕ) → Over pages between x → Over pages before x
     lower x over = let under = p.crash over.0 over.1 in (under.0, under.1, keeps_on pages under.0 over.0 x under.2 over.2)
+
+-- pages that are none of both are none of either
+fewer_first : (first second : List ℕ) (number : ℕ) → IsNone (first ++ second) number → IsNone first number
+fewer_first first second number none k low is =
+    none k (omega (arith, length-append first second, low)) (get_or_append_left first second 0 k low ∙ is)
+
+fewer_second : (first second : List ℕ) (number : ℕ) → IsNone (first ++ second) number → IsNone second number
+fewer_second first second number none k low is =
+    none (length first + k) (omega (arith, length-append first second, low)) (get_or-append-add first second k 0 ∙ is)
+
+-- these pages were written, and then those
+pub writes_follow : (first second : List ℕ) (a b c : DiskState) (past mid since : ℕ → List ℕ → Type 0) (before between now : List ℕ → Type 0)
+    → OnlyWrites first (moment_at a past before) (moment_at b mid between) → OnlyWrites second (moment_at b mid between) (moment_at c since now) → OnlyWrites (first ++ second) (moment_at a past before) (moment_at c since now)
+writes_follow first second a b c past mid since before between now p q =
+    writes_on (first ++ second) a b c past mid since before between now (writes_more first (first ++ second) a b past mid before between (fewer_first first second) p)
+    (writes_more second (first ++ second) b c mid since between now (fewer_second first second) q)
 
 pub map_some : (o : Option (List ℕ)) (P Q : List ℕ → Type 0) → ((x : List ℕ) → P x → Q x) → IfSome o P → IfSome o Q
 map_some None P Q f h = tt

@@ -1,12 +1,11 @@
 -- Links beside other pages that are taken.
-use Rattle.std.proofs.Common.{◌≡◌, ◌≢◌, ◌<◌, ℕ, zero, suc, ◌+◌, Bool, true, false, List, [], ◌∷◌, length, slice_index, refl, sym, ◌∙◌, ap, subst, arith}
+use Rattle.std.proofs.Common.{◌≡◌, ◌≢◌, ◌<◌, ℕ, zero, suc, Bool, true, false, List, [], ◌∷◌, slice_index, refl, ◌∙◌, ap, arith}
 use Rattle.std.specs.Prelude.{◌&&◌, ◌||◌, not, nat_eq, nat_lt, Ok}
 use Rattle.std.specs.List.{list_any}
 use Rattle.std.proofs.lemmas.Bool.Decides.{nat_tests}
 use Rattle.page_layout.specs.Places.{IsNone}
 use Rattle.page_chain.specs.Pages.{page_size, has_page}
 use Rattle.page_chain.specs.Chains.{names_page, chain}
-use Rattle.page_chain.specs.Links.{AreLinked}
 use Rattle.page_chain.proofs.LinkLaws.{unequal, chain_linked, linked_chain}
 
 names_more : (file taken : List ℕ) (p q : ℕ) → p ≢ q → names_page page_size file taken q ≡ true → names_page page_size file (p ∷ taken) q ≡ true

@@ -1,17 +1,9 @@
 -- Another target keeps the slots sound.
-use Rattle.std.proofs.Common.{◌≡◌, ℕ, ◌+◌, ◌*◌, List, length, false, None, IfSome, refl}
+use Rattle.std.proofs.Common.{◌≡◌, ℕ, List, false, None, IfSome}
 use Rattle.page_layout.specs.Places.{other, SameBut}
-use Rattle.page_layout.specs.declared.sides.Side.{Side}
-use Rattle.page_layout.specs.declared.sides.Format.{Format}
-use Rattle.page_layout.specs.declared.sides.Format.TheVariants.{One, Two}
-use Rattle.page_layout.specs.declared.logs.RecordAt.{RecordAt}
-use Rattle.page_slots.specs.Standing.{OtherHolds, NextHolds, LogHolds, ZeroHolds, IsAlone, IsStillRoot, IsStillEntry, IsSound, filled_root, filled_entry, filled_gate, entry_gate}
-use Rattle.page_slots.specs.Steps.{emptied_root, emptied_entry, aimed}
+use Rattle.page_slots.specs.Standing.{ZeroHolds, IsAlone, IsSound, filled_gate, entry_gate}
+use Rattle.page_slots.specs.Steps.{aimed}
 use Rattle.page_slots.specs.declared.slots.Slots.{Slots}
-use Rattle.page_slots.specs.declared.slots.RootSlot.{RootSlot}
-use Rattle.page_slots.specs.declared.slots.RootSlot.TheVariants as roots
-use Rattle.page_slots.specs.declared.slots.NextEntry.{NextEntry}
-use Rattle.page_slots.specs.declared.slots.NextEntry.TheVariants as entries
 use Rattle.page_slots.specs.declared.slots.Target.{Target}
 use Rattle.page_slots.specs.declared.slots.Target.TheVariants as targets
 use Rattle.page_file.proofs.Emptied.{other_emptied, log_emptied, still_root, still_entry, root_unfilled, entry_unfilled}

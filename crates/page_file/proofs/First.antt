@@ -1,5 +1,5 @@
 -- The file that was made is an empty database.
-use Rattle.std.proofs.Common.{◌≡◌, ◌<◌, ◌≤◌, ◌⊎◌, inl, inr, ⊎_elim, ℕ, zero, suc, ◌+◌, ◌-◌, ◌*◌, Bool, true, false, List, [], ◌∷◌, ◌++◌, length, take, drop, replicate, slice_index, Some, None, refl, sym, ◌∙◌, ap, subst, arith, length-append, length-drop}
+use Rattle.std.proofs.Common.{◌≡◌, ◌<◌, ◌≤◌, inl, inr, ⊎_elim, ℕ, zero, suc, ◌+◌, ◌-◌, ◌*◌, Bool, true, List, [], ◌∷◌, ◌++◌, length, take, drop, replicate, slice_index, Some, refl, sym, ◌∙◌, ap, subst, arith, length-append, length-drop}
 use Rattle.std.specs.Prelude.{nat_lt, nat_le, nat_eq, not, ◌&&◌, ◌==◌, if◌then◌else◌, Result, Ok, Err}
 use Rattle.std.specs.Int.{w32, from_le_bytes}
 use Rattle.std.specs.List.{list_any}
@@ -7,17 +7,16 @@ use Rattle.std.proofs.lemmas.List.{get_or_append_left, get_or-append_right, get_
 use Rattle.std.proofs.lemmas.Grind.{same_number_lists}
 use Rattle.std.proofs.lemmas.Bool.{cases_lt}
 use Rattle.std.proofs.lemmas.Bool.Decides.{nat_tests}
-use Rattle.afl_outside.specs.Disk.{Torn, written}
+use Rattle.afl_outside.specs.Disk.{written}
 use Rattle.afl_outside.specs.Lemmas.ImageLaws.{Torn-written}
-use Rattle.page_layout.specs.Places.{number_at, SameBut, IsPage}
+use Rattle.page_layout.specs.Places.{number_at, SameBut}
 use Rattle.page_layout.specs.Roots.{has_front, text_number, root_at, slot_in, current}
-use Rattle.page_layout.specs.Opens.{OpensAs}
 use Rattle.page_layout.specs.declared.sides.Side.TheVariants.{A, B}
 use Rattle.page_layout.specs.declared.sides.Format.TheVariants.{Two}
 use Rattle.page_layout.specs.declared.roots.Root.{Root}
 use Rattle.page_layout.proofs.Kept.{number_kept, root_moved}
-use Rattle.page_chain.specs.Pages.{page_size, page_at, has_page}
-use Rattle.page_chain.specs.Chains.{chain, chain_bytes, after, next_of, content_of}
+use Rattle.page_chain.specs.Pages.{page_at, has_page}
+use Rattle.page_chain.specs.Chains.{chain, chain_bytes, after, next_of}
 use Rattle.page_chain.proofs.Kept.{size_is}
 use Rattle.page_slots.specs.Standing.{IsZeroed, PageHolds, root_in}
 use Rattle.page_slots.specs.declared.slots.NextEntry.TheVariants as entries

@@ -7,6 +7,7 @@ pub mod Kept
 pub mod OnlyRead
 pub mod Opened
 pub mod PageReads
+pub mod Puts
 pub mod Stays
 pub mod Steps
 pub mod Told

@@ -1,22 +1,25 @@
--- A record whose entry was opened.
-use Rattle.std.proofs.Common.{◌≡◌, ◌≢◌, ◌<◌, ℕ, false, List, [], ◌∷◌, ◌++◌, length, IsTrue, Option, Some, None, IfSome, ◌∙◌, ap, subst, arith}
+-- A slot that was opened, or may be open.
+use Rattle.std.proofs.Common.{◌≡◌, ◌⊎◌, inl, inr, ⊎_elim, ℕ, true, false, List, [], ◌∷◌, ◌++◌, IsTrue, Option, Some, None, IfSome, ◌∙◌, ap, subst}
 use Rattle.afl_outside.proofs.Moments.{seeing}
 use Rattle.afl_outside.specs.Disk.{DiskState, Follows, Torn}
+use Rattle.page_layout.specs.Places.{other}
 use Rattle.page_layout.specs.Opens.{OpensAs}
 use Rattle.page_layout.specs.declared.sides.Format.TheVariants.{Two}
+use Rattle.page_layout.specs.declared.roots.Root.{Root}
 use Rattle.page_layout.specs.declared.logs.RecordAt.{RecordAt}
 use Rattle.page_chain.specs.Pages.{page_size}
 use Rattle.page_chain.specs.Chains.{HoldsChain}
-use Rattle.page_slots.specs.Standing.{entry_gate, gate_place, IsSound, KeepsSound}
-use Rattle.page_slots.specs.Steps.{with_target, with_next, with_record}
+use Rattle.page_slots.specs.Standing.{root_in, Holds, IsSound, KeepsSound, MayOpen, OpensAsRoot}
+use Rattle.page_slots.specs.Steps.{ajar, ajar_root, ajar_entry, doubted, with_target, with_other, with_next, with_root, with_record}
 use Rattle.page_slots.specs.declared.slots.Slots.{Slots}
+use Rattle.page_slots.specs.declared.slots.RootSlot.{RootSlot}
+use Rattle.page_slots.specs.declared.slots.RootSlot.TheVariants as roots
 use Rattle.page_slots.specs.declared.slots.NextEntry.{NextEntry}
 use Rattle.page_slots.specs.declared.slots.NextEntry.TheVariants as entries
 use Rattle.page_slots.specs.declared.slots.Target.{Target}
 use Rattle.page_slots.specs.declared.slots.Target.TheVariants as targets
 use Rattle.page_slots.proofs.Opening.{may_open}
-use Rattle.page_slots.proofs.Settling.{settled}
-use Rattle.page_file.proofs.Kept.{chain_stays_put}
+use Rattle.page_slots.proofs.Settling.{no_root, no_record, settled}
 
 entered : (slots later : Slots) (at : RecordAt) → slots.target ≡ targets.Record → slots.next ≡ entries.Written at → later ≡ with_target slots.target slots → later ≡ with_record at slots
 entered slots later at target next is = is ∙ ap (λ (t : Target). with_target t slots) target ∙ ap (λ (n : NextEntry). with_next n slots) next
@@ -24,27 +27,54 @@ entered slots later at target next is = is ∙ ap (λ (t : Target). with_target 
 opens : (later : Slots) (now c : List ℕ) (may : List ℕ → Type 0) → later.doubtful ≡ false → IsSound later now may → may c → OpensAs later.current later.records c
 opens later now c may sure sound left = settled later c (sound.sure sure).0 (sound.sure sure).1 (may_open later c (sound.images c left))
 
-pub unseals : (old new : DiskState) (before now : List ℕ → Type 0) (slots later : Slots) (page : ℕ) (at : RecordAt) → slots.next ≡ entries.Written at → slots.doubtful ≡ false → slots.target ≡ targets.Record → slots.current.format ≡ Two → length slots.records < 64
-    → slots.current.root.log ≢ page → later ≡ with_target slots.target slots → KeepsSound slots later (seeing old before) (seeing new now) → Follows (Torn (gate_place slots.target slots) 1) before now
-    → IsTrue old.honest → IfSome old.seen (λ seen. IsSound slots seen before → (bytes : List ℕ) → ((d : List ℕ) → before d → HoldsChain page_size d (page ∷ []) bytes)
-    → (c : List ℕ) → now c → OpensAs slots.current (slots.records ++ at ∷ []) c × HoldsChain page_size c (page ∷ []) bytes)
-unseals old new before now slots later page at next sure target format room apart is sound crash honest = go old.seen (sound honest)
-  where
-    record_in : later ≡ with_record at slots
-    record_in = entered slots later at target next is
+not_entered : (slots later : Slots) (at : RecordAt) → slots.target ≡ targets.Record → slots.next ≡ entries.Written at → later ≡ doubted (ajar slots.target slots) → later ≡ record slots { next = entries.Opening at; doubtful = true }
+not_entered slots later at target next is = is ∙ ap (λ (t : Target). doubted (ajar t slots)) target ∙ ap (λ (n : NextEntry). record slots { next = ajar_entry n; doubtful = true }) next
 
-    each : (seen s : List ℕ) → IsSound slots seen before → IsSound later s now → (bytes : List ℕ) → ((d : List ℕ) → before d → HoldsChain page_size d (page ∷ []) bytes) → (c : List ℕ) → now c
-        → OpensAs slots.current (slots.records ++ at ∷ []) c × HoldsChain page_size c (page ∷ []) bytes
-    each seen s was sound_now bytes held c left =
-        let there = crash c left in
-        let torn : Torn (entry_gate slots) 1 there.0 c = subst (λ (t : Target). Torn (gate_place t slots) 1 there.0 c) target there.2 in
-        let whole : OpensAs later.current later.records c = opens later s c now (ap (λ (x : Slots). x.doubtful) record_in ∙ sure) sound_now left in (
-          subst (λ (x : Slots). OpensAs x.current x.records c) record_in whole,
-          chain_stays_put slots (entry_gate slots) 1 page bytes there.0 c format room (was.images there.0 there.1) apart (omega arith) (omega arith) (held there.0 there.1) torn,
-        )
+rooted : (slots later : Slots) (root : Root) → slots.target ≡ targets.Root → slots.other ≡ roots.Written root → later ≡ with_target slots.target slots → later ≡ with_root root slots
+rooted slots later root target other_ is = is ∙ ap (λ (t : Target). with_target t slots) target ∙ ap (λ (k : RootSlot). with_other k slots) other_
+
+not_rooted : (slots later : Slots) (root : Root) → slots.target ≡ targets.Root → slots.other ≡ roots.Written root → later ≡ doubted (ajar slots.target slots) → later ≡ record slots { other = roots.Opening root; doubtful = true }
+not_rooted slots later root target other_ is = is ∙ ap (λ (t : Target). doubted (ajar t slots)) target ∙ ap (λ (k : RootSlot). record slots { other = ajar_root k; doubtful = true }) other_
+
+-- What a call leaves that puts some bytes: each image has what the slots say then, and the chain that each had before.
+pub unseals : (old new : DiskState) (before now : List ℕ → Type 0) (slots later : Slots) (at n : ℕ) (pages : List ℕ) (P : List ℕ → Type 0) → KeepsSound slots later (seeing old before) (seeing new now) → Follows (Torn at n) before now
+    → ((bytes x y : List ℕ) → Holds slots x → HoldsChain page_size x pages bytes → Torn at n x y → HoldsChain page_size y pages bytes)
+    → ((seen s : List ℕ) → IsSound slots seen before → IsSound later s now → (c : List ℕ) → now c → P c)
+    → IsTrue old.honest → IfSome old.seen (λ seen. IsSound slots seen before → (bytes : List ℕ) → ((d : List ℕ) → before d → HoldsChain page_size d pages bytes) → (c : List ℕ) → now c → P c × HoldsChain page_size c pages bytes)
+unseals old new before now slots later at n pages P sound crash stays opens_ honest = go old.seen (sound honest)
+  where
+    chain_of : (seen : List ℕ) → IsSound slots seen before → (bytes : List ℕ) → ((d : List ℕ) → before d → HoldsChain page_size d pages bytes) → (c : List ℕ) → now c → HoldsChain page_size c pages bytes
+    chain_of seen was bytes held c left = let there = crash c left in stays bytes there.0 c (was.images there.0 there.1) (held there.0 there.1) there.2
 
     go : (o : Option (List ℕ)) → IfSome o (λ seen. IsSound slots seen before → (s : List ℕ) × (new.seen ≡ Some s) × IsSound later s now)
-        → IfSome o (λ seen. IsSound slots seen before → (bytes : List ℕ) → ((d : List ℕ) → before d → HoldsChain page_size d (page ∷ []) bytes)
-        → (c : List ℕ) → now c → OpensAs slots.current (slots.records ++ at ∷ []) c × HoldsChain page_size c (page ∷ []) bytes)
+        → IfSome o (λ seen. IsSound slots seen before → (bytes : List ℕ) → ((d : List ℕ) → before d → HoldsChain page_size d pages bytes) → (c : List ℕ) → now c → P c × HoldsChain page_size c pages bytes)
     go None a = tt
-    go (Some seen) a = λ was bytes held c left. let kept = a was in each seen kept.0 was kept.2 bytes held c left
+    go (Some seen) a = λ was bytes held c left. let kept = a was in (opens_ seen kept.0 was kept.2 c left, chain_of seen was bytes held c left)
+
+-- the entry was opened
+pub record_open : (slots later : Slots) (at : RecordAt) (seen s : List ℕ) (before now : List ℕ → Type 0) → slots.next ≡ entries.Written at → slots.doubtful ≡ false → slots.target ≡ targets.Record → later ≡ with_target slots.target slots
+    → IsSound slots seen before → IsSound later s now → (c : List ℕ) → now c → OpensAs slots.current (slots.records ++ at ∷ []) c
+record_open slots later at seen s before now next sure target is was sound c left =
+    let record_in : later ≡ with_record at slots = entered slots later at target next is in
+    subst (λ (x : Slots). OpensAs x.current x.records c) record_in (opens later s c now (ap (λ (x : Slots). x.doubtful) record_in ∙ sure) sound left)
+
+-- the entry may be open
+pub record_ajar : (slots later : Slots) (at : RecordAt) (seen s : List ℕ) (before now : List ℕ → Type 0) → slots.next ≡ entries.Written at → slots.doubtful ≡ false → slots.target ≡ targets.Record → later ≡ doubted (ajar slots.target slots)
+    → IsSound slots seen before → IsSound later s now → (c : List ℕ) → now c → OpensAs slots.current slots.records c ⊎ OpensAs slots.current (slots.records ++ at ∷ []) c
+record_ajar slots later at seen s before now next sure target is was sound c left =
+    let may : MayOpen (record slots { next = entries.Opening at; doubtful = true }) c = subst (λ (x : Slots). MayOpen x c) (not_entered slots later at target next is) (may_open later c (sound.images c left)) in
+    ⊎_elim inl (λ new. inr (⊎_elim (λ root. absurd (no_root slots.other (other slots.current.side) c (was.sure sure).0 root)) (λ more. more) new)) may
+
+-- the root was opened
+pub root_open : (slots later : Slots) (root : Root) (seen s : List ℕ) (before now : List ℕ → Type 0) → slots.other ≡ roots.Written root → slots.target ≡ targets.Root → later ≡ with_target slots.target slots
+    → IsSound slots seen before → IsSound later s now → (c : List ℕ) → now c → OpensAs (root_in Two (other slots.current.side) root) [] c
+root_open slots later root seen s before now other_ target is was sound c left =
+    let root_in_ : later ≡ with_root root slots = rooted slots later root target other_ is in
+    subst (λ (x : Slots). OpensAs x.current x.records c) root_in_ (opens later s c now (ap (λ (x : Slots). x.doubtful) root_in_) sound left)
+
+-- the root may be open
+pub root_ajar : (slots later : Slots) (root : Root) (seen s : List ℕ) (before now : List ℕ → Type 0) → slots.other ≡ roots.Written root → slots.doubtful ≡ false → slots.target ≡ targets.Root → later ≡ doubted (ajar slots.target slots)
+    → IsSound slots seen before → IsSound later s now → (c : List ℕ) → now c → OpensAs slots.current slots.records c ⊎ OpensAsRoot (roots.Opening root) (other slots.current.side) c
+root_ajar slots later root seen s before now other_ sure target is was sound c left =
+    let may : MayOpen (record slots { other = roots.Opening root; doubtful = true }) c = subst (λ (x : Slots). MayOpen x c) (not_rooted slots later root target other_ is) (may_open later c (sound.images c left)) in
+    ⊎_elim inl (λ new. inr (⊎_elim (λ root. root) (λ more. absurd (no_record slots.next slots.current slots.records c (was.sure sure).1 more)) new)) may

@@ -1,5 +1,6 @@
 pub mod Bytes
 pub mod EntryCommits
+pub mod Lies
 pub mod Lifts
 pub mod LogImages
 pub mod OneRoot

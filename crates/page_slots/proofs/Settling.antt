@@ -12,13 +12,13 @@ use Rattle.page_slots.specs.declared.slots.RootSlot.TheVariants as roots
 use Rattle.page_slots.specs.declared.slots.NextEntry.{NextEntry}
 use Rattle.page_slots.specs.declared.slots.NextEntry.TheVariants as entries
 
-no_root : (known : RootSlot) (side : Side) (file : List ℕ) → IsStillRoot known → OpensAsRoot known side file → ⊥
+pub no_root : (known : RootSlot) (side : Side) (file : List ℕ) → IsStillRoot known → OpensAsRoot known side file → ⊥
 no_root roots.Closed side file still opens = opens
 no_root roots.Older side file still opens = opens
 no_root (roots.Written root) side file still opens = opens
 no_root (roots.Opening root) side file still opens = still
 
-no_record : (known : NextEntry) (current : OpenRoot) (records : List RecordAt) (file : List ℕ) → IsStillEntry known → OpensWith known current records file → ⊥
+pub no_record : (known : NextEntry) (current : OpenRoot) (records : List RecordAt) (file : List ℕ) → IsStillEntry known → OpensWith known current records file → ⊥
 no_record entries.Closed current records file still opens = opens
 no_record (entries.Written entry) current records file still opens = opens
 no_record (entries.Opening entry) current records file still opens = still

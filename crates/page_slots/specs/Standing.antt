@@ -28,6 +28,17 @@ abbrev pub gate_place : Target → Slots → ℕ
 gate_place targets.Root slots = gate_of (other slots.current.side)
 gate_place targets.Record slots = entry_gate slots
 
+-- the page in which the target lies
+abbrev pub target_page : Target → Slots → ℕ
+target_page targets.Root slots = 0
+target_page targets.Record slots = slots.current.root.log
+
+-- the target's gate and its body lie in one page, which the file has
+pub record HasTarget (slots : Slots) (file : List ℕ) : Type 0 where
+  pub from : 4096 * target_page slots.target slots ≤ gate_place slots.target slots
+  pub to : gate_place slots.target slots + 32 ≤ 4096 * (target_page slots.target slots + 1)
+  pub whole : 4096 * (target_page slots.target slots + 1) ≤ length file
+
 -- all bytes of a page are zeros, and the file has them
 pub record IsZeroed (page : ℕ) (file : List ℕ) : Type 0 where
   pub is_page : IsPage page (length file)

@@ -4,7 +4,7 @@ ghost use Rattle.std.specs.Prelude.{◌≡◌, List, ℕ, false};
 ghost use Rattle.page_layout.specs.Opens.{OpensAs};
 ghost use Rattle.page_layout.specs.declared.roots.OpenRoot.{OpenRoot};
 ghost use Rattle.page_layout.specs.declared.logs.RecordAt.{RecordAt};
-ghost use Rattle.page_slots.specs.Standing.{IsSound, MayOpen};
+ghost use Rattle.page_slots.specs.Standing.{IsSound, IsTarget, HasTarget, MayOpen};
 
 use crate::Slots;
 use afl_outside::Disk;
@@ -23,4 +23,10 @@ pub fn images_open<D: Disk>(slots: &Slots, disk: &D)
 pub fn images_open_as_current<D: Disk>(slots: &Slots, disk: &D)
     requires { slots.now.doubtful ≡ false }
     ensures { (seen image : List ℕ) → IsSound slots.now seen (D.moment disk.now).may_leave → (D.moment disk.now).may_leave image → OpensAs slots.now.current slots.now.records image }
+{}
+
+/// The gate and the body of the target lie in page 0 or in the log page, which each image has.
+pub fn slots_lie_in_pages<D: Disk>(slots: &Slots, disk: &D)
+    requires { IsTarget slots.now }
+    ensures { (seen image : List ℕ) → IsSound slots.now seen (D.moment disk.now).may_leave → (D.moment disk.now).may_leave image → HasTarget slots.now image }
 {}

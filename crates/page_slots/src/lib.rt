@@ -9,6 +9,6 @@ mod steps;
 mod torn;
 
 pub use commits::{close_slot, open_slot, write_record, write_root};
-pub use images::{images_open, images_open_as_current, opens_as_one_root};
+pub use images::{images_open, images_open_as_current, opens_as_one_root, slots_lie_in_pages};
 pub use slots::{NextEntry, RootSlot, Slots, Target};
 pub use torn::puts_keep_pages;
