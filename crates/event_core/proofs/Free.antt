@@ -17,11 +17,11 @@ use Rattle.event_core.specs.declared.state.Core.{Core}
 use Rattle.event_core.specs.History.{History, names_at, pages_at, catalogue_at, open_pins, pages_after, is_pages_of}
 use Rattle.event_core.specs.Pages.{has_page, pin_names, is_live, is_newest, fresh_at, free_at}
 use Rattle.event_core.specs.Allowed.{is_pinned, is_allowed, allows, are_different}
-use Rattle.event_core.specs.Promises.{NoFreePageIsLive, NoFreshPageWasLive, ReapFreesTheRest, FreePagesAreWithin}
+use Rattle.event_core.specs.Promises.{NoFreePageIsLive, NoFreshPageWasLive, ReapFreesTheRest, FreePagesAreWithin, ReapKeepsFreePages}
 use Rattle.event_core.proofs.Tests.{both_not, none_weaker, none_filtered, holds_filter, all_held}
 
 -- a change adds no pages but those that it uses
-none_added : (names : Names) (change : Change) (used : List ℕ) (versions : List VersionPages) (page : ℕ) → holds used page ≡ false → has_page versions page ≡ false → has_page (pages_after names change used versions) page ≡ false
+pub none_added : (names : Names) (change : Change) (used : List ℕ) (versions : List VersionPages) (page : ℕ) → holds used page ≡ false → has_page versions page ≡ false → has_page (pages_after names change used versions) page ≡ false
 none_added names (Create name schema) used versions page u h = h
 none_added names (Store name schema plan) used versions page u h = list_any-append (λ v. holds v.pages page) versions _ ∙ or_from _ _ h (or_from _ _ u refl)
 none_added names (Insert name schema plan) used versions page u h = list_any-append (λ v. holds v.pages page) versions _ ∙ or_from _ _ h (or_from _ _ u refl)
@@ -29,7 +29,7 @@ none_added names (Remove name) used versions page u h = none_filtered (λ v. hol
 none_added names (RemoveVersions name below) used versions page u h = none_filtered (λ v. holds v.pages page) _ versions h
 
 -- a page of the newest version is one of a version
-not_newest : (names : Names) (versions : List VersionPages) (name : List ℕ) (page : ℕ) → has_page versions page ≡ false → is_newest names versions name page ≡ false
+pub not_newest : (names : Names) (versions : List VersionPages) (name : List ℕ) (page : ℕ) → has_page versions page ≡ false → is_newest names versions name page ≡ false
 not_newest names versions name page h = none_weaker (λ v. is_pages_of name v && nat_eq v.version (newest_of names.arrays name) && holds v.pages page) (λ v. holds v.pages page) (λ v e. (and_parts _ _ e).1) versions h
 
 neither : (n c u : Bool) → n ≡ false → c ≡ false → (not (n || c) && u) ≡ u
@@ -42,13 +42,13 @@ not_used base h change used page v c f =
     ∙ neither _ _ _ (not_newest (names_at base h) (pages_at base h) (name_of change) page v) c)
     ∙ f
 
-record Dead (base : Core) (h : History) (page : ℕ) : Type 0 where
-  zeroth : nat_eq page 0 ≡ false
-  catalogue : holds (catalogue_at base h) page ≡ false
-  versions : has_page (pages_at base h) page ≡ false
-  pins : list_any (pin_names base page) (open_pins h) ≡ false
+pub record Dead (base : Core) (h : History) (page : ℕ) : Type 0 where
+  pub zeroth : nat_eq page 0 ≡ false
+  pub catalogue : holds (catalogue_at base h) page ≡ false
+  pub versions : has_page (pages_at base h) page ≡ false
+  pub pins : list_any (pin_names base page) (open_pins h) ≡ false
 
-dead : (base : Core) (h : History) (page : ℕ) → is_live base h page ≡ false → Dead base h page
+pub dead : (base : Core) (h : History) (page : ℕ) → is_live base h page ≡ false → Dead base h page
 dead base h page e =
     let z : Bool = nat_eq page 0 in
     let c : Bool = holds (catalogue_at base h) page in
@@ -158,3 +158,8 @@ free_pages_are_within base (Pin session ∷ h) b page e = free_pages_are_within 
 free_pages_are_within base (Unpin session ∷ h) b page e = free_pages_are_within base h b page e
 free_pages_are_within base (Commit session change used ∷ h) b page e = free_pages_are_within base h b page (passed (holds (fresh_at base h change used)) (free_at base h) page e).1
 free_pages_are_within base (Reap ∷ h) b page e = below base.limit page (passed (is_live base h) (pages_below base.limit) page e).1
+
+pub reap_keeps_free_pages : ReapKeepsFreePages
+reap_keeps_free_pages base h b ok page e =
+    let r : (1 ≤ page) × (page < base.limit) = free_pages_are_within base h b page e in
+    (reap_frees_the_rest base h page).1 (r.0, r.1, no_free_page_is_live base h b ok page e)

@@ -1,4 +1,5 @@
 pub mod Agree
+pub mod Apart
 pub mod Cells
 pub mod Conserved
 pub mod Free

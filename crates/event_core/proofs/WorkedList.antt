@@ -13,7 +13,9 @@ use Rattle.event_core.specs.Pages.{free_at}
 use Rattle.event_core.specs.Allowed.{IsBase, is_allowed}
 use Rattle.event_core.specs.Legal.{BeginsAt, IsLegal, AllStoreArrays}
 use Rattle.event_core.specs.Promises.{is_awaiting}
-use Rattle.event_core.specs.Worked.{worked_base, worked_schema, worked_store, worked, worked_on, worked_cost}
+use Rattle.event_core.specs.Apart.{AllShareOwn, AreApart}
+use Rattle.event_core.specs.Worked.{worked_base, worked_schema, worked_store, worked, worked_on, worked_cost, page_used_twice}
+use Rattle.event_core.proofs.Tests.{both_not}
 
 pub base_is : IsBase worked_base
 base_is = record { pins = refl; entries = refl; free = refl }
@@ -62,3 +64,17 @@ places_are = refl
 -- a commit by an unpinned session is not allowed
 pub not_allowed : is_allowed worked_base (Unpin 1 ∷ []) ≡ false
 not_allowed = refl
+
+-- the catalogue of the base is apart, and each commit shares no pages but its own
+pub apart_is : AreApart worked_base []
+apart_is = record { now = λ page e. refl; pinned = λ page e. refl; first = (refl, refl) }
+
+pub own_is : AllShareOwn worked_base worked_on
+own_is = ((tt, record { version = refl; catalogue = refl; none = λ e. absurd (both_not true e refl) }), record { version = refl; catalogue = refl; none = λ e. refl })
+
+-- a legal history with one page for both
+pub twice_legal : IsLegal worked_cost [] worked_base page_used_twice
+twice_legal = ((begins_at, refl, tt, tt), refl, (refl, store_names, store_typed), (refl, refl))
+
+pub twice_refused : AllShareOwn worked_base page_used_twice → ⊥
+twice_refused all = both_not false refl all.1.version

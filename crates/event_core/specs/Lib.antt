@@ -1,5 +1,6 @@
 pub mod Agree
 pub mod Allowed
+pub mod Apart
 pub mod Cells
 pub mod History
 pub mod Inner

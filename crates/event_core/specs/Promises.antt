@@ -1,5 +1,5 @@
 -- What holds of each allowed history.
-use Rattle.std.specs.Prelude.{◌≡◌, ℕ, ◌+◌, ◌-◌, ◌<◌, ◌≤◌, ◌&&◌, length, ◌↔◌, Bool, true, false, not, nat_eq, ◌∷◌, ◌++◌, IsTrue}
+use Rattle.std.specs.Prelude.{◌≡◌, ℕ, ◌+◌, ◌-◌, ◌<◌, ◌≤◌, ◌&&◌, length, ◌↔◌, Bool, true, false, not, nat_eq, [], ◌∷◌, ◌++◌, IsTrue}
 use Rattle.std.specs.List.{filter, list_all}
 use Rattle.plan_changes.specs.declared.change.Change.{Change}
 use Rattle.version_reaper.specs.PageSets.{holds, pages_below}
@@ -9,7 +9,8 @@ use Rattle.event_core.specs.declared.entry.Entry.TheVariants.{Pin, Unpin, Commit
 use Rattle.event_core.specs.declared.state.Core.{Core}
 use Rattle.event_core.specs.History.{History, pages_at}
 use Rattle.event_core.specs.Pages.{has_page, is_live, fresh_at, free_at}
-use Rattle.event_core.specs.Allowed.{IsBase, is_allowed}
+use Rattle.event_core.specs.Allowed.{IsBase, allows, is_allowed}
+use Rattle.event_core.specs.Replay.{core_at, core_after, core_allows}
 
 -- no free page is live
 abbrev pub NoFreePageIsLive : Type 0
@@ -41,6 +42,10 @@ ReapFreesTheRest = (base : Core) (h : History) (page : ℕ) →
 abbrev pub FreePagesAreWithin : Type 0
 FreePagesAreWithin = (base : Core) (h : History) → IsBase base → (page : ℕ) → IsTrue (holds (free_at base h) page) → (1 ≤ page) × (page < base.limit)
 
+-- a reap takes no page from the free ones
+abbrev pub ReapKeepsFreePages : Type 0
+ReapKeepsFreePages = (base : Core) (h : History) → IsBase base → IsTrue (is_allowed base h) → (page : ℕ) → IsTrue (holds (free_at base h) page) → IsTrue (holds (free_at base (Reap ∷ h)) page)
+
 -- whether a page is neither free nor live: it waits for a reap
 abbrev pub is_awaiting : Core → History → ℕ → Bool
 is_awaiting base h page = not (holds (free_at base h) page) && not (is_live base h page)
@@ -49,3 +54,15 @@ is_awaiting base h page = not (holds (free_at base h) page) && not (is_live base
 abbrev pub PagesAreConserved : Type 0
 PagesAreConserved = (base : Core) (h : History) → IsBase base → IsTrue (is_allowed base h) →
     length (free_at base h) + (length (filter (is_live base h) (pages_below base.limit)) + length (filter (is_awaiting base h) (pages_below base.limit))) ≡ base.limit - 1
+
+-- one more entry: the core after it is what the entry makes of the core before it
+abbrev pub CoreFollowsEntries : Type 0
+CoreFollowsEntries = (base : Core) (h : History) (entry : Entry) → core_at base (entry ∷ h) ≡ core_after (core_at base h) entry
+
+-- the core alone tells which entries are allowed after the history
+abbrev pub CoreTellsAllowed : Type 0
+CoreTellsAllowed = (base : Core) (h : History) (entry : Entry) → core_allows (core_at base h) entry ≡ allows base h entry
+
+-- a base is the core of no entries
+abbrev pub BaseIsFirstCore : Type 0
+BaseIsFirstCore = (base : Core) → IsBase base → base ≡ core_at base []

@@ -50,6 +50,10 @@ worked =
 abbrev pub worked_on : History
 worked_on = Reap ∷ Unpin 0 ∷ Unpin 1 ∷ worked
 
+-- a store of A that lays its version and the catalogue on page 1, the catalogue's before
+abbrev pub page_used_twice : History
+page_used_twice = Commit 0 worked_store (record { version = 2 ∷ 3 ∷ 1 ∷ []; catalogue = 4 ∷ 1 ∷ [] }) ∷ Pin 0 ∷ []
+
 -- a store takes three pages, another change one
 abbrev pub worked_cost : Database → History → Change → ℕ
 worked_cost db h (Create name schema) = 1

@@ -1,13 +1,15 @@
 //! What holds of each allowed history, whatever the code does.
-ghost use Rattle.std.specs.Prelude.{◌≡◌, [], ◌∷◌, map, length};
-ghost use Rattle.event_core.specs.History.{open_pins};
-ghost use Rattle.event_core.specs.Pages.{free_at};
+ghost use Rattle.std.specs.Prelude.{◌≡◌, true, ◌&&◌, [], ◌∷◌, map, length};
+ghost use Rattle.version_reaper.specs.PageSets.{holds};
+ghost use Rattle.event_core.specs.History.{open_pins, catalogue_at, pages_at};
+ghost use Rattle.event_core.specs.Pages.{free_at, has_page};
 ghost use Rattle.event_core.specs.Allowed.{IsBase};
 ghost use Rattle.event_core.specs.Agree.{NamedVersionsHavePages};
+ghost use Rattle.event_core.specs.Apart.{AllShareOwn, AreApart, CataloguesStayApart};
 ghost use Rattle.event_core.specs.Cells.{NamesAreOfTheDatabase};
 ghost use Rattle.event_core.specs.Legal.{IsLegal, LegalIsOrdered, OrderedIsAllowed, OrderedNamesAreStored, OrderedVersionsHavePages, AllStoreArrays, LegalDatabases};
-ghost use Rattle.event_core.specs.Promises.{NoFreePageIsLive, NoFreshPageWasLive, PinnedPagesStayLive, ReapFreesTheRest, FreePagesAreWithin, PagesAreConserved};
-ghost use Rattle.event_core.specs.Worked.{worked_base, worked, worked_on, worked_cost};
+ghost use Rattle.event_core.specs.Promises.{NoFreePageIsLive, NoFreshPageWasLive, PinnedPagesStayLive, ReapFreesTheRest, FreePagesAreWithin, ReapKeepsFreePages, PagesAreConserved, CoreFollowsEntries, CoreTellsAllowed, BaseIsFirstCore};
+ghost use Rattle.event_core.specs.Worked.{worked_base, worked, worked_on, worked_cost, page_used_twice};
 
 use plan_changes::names_depend_on_no_row;
 
@@ -36,9 +38,35 @@ pub fn free_pages_are_within()
     ensures { FreePagesAreWithin }
 {}
 
+/// A reap takes no page from the free ones.
+pub fn reap_keeps_free_pages()
+    ensures { ReapKeepsFreePages }
+{}
+
 /// Each page from 1 below the limit is free, live or awaiting a reap, and is so once.
 pub fn pages_are_conserved()
     ensures { PagesAreConserved }
+{}
+
+/// After each allowed history whose commits share no pages but their own, no page of the catalogue is one of a version that
+/// can be named, now or at an open pin.
+pub fn catalogues_stay_apart()
+    ensures { CataloguesStayApart }
+{}
+
+/// The core after one more entry is what the entry makes of the core before it.
+pub fn core_follows_entries()
+    ensures { CoreFollowsEntries }
+{}
+
+/// The core alone tells which entries are allowed after the history.
+pub fn core_tells_allowed()
+    ensures { CoreTellsAllowed }
+{}
+
+/// A base is the core of no entries.
+pub fn base_is_first_core()
+    ensures { BaseIsFirstCore }
 {}
 
 /// The versions that can be named are those that have pages.
@@ -83,7 +111,16 @@ pub fn a_history_is_legal()
     ensures base { IsBase worked_base }
     ensures legal { IsLegal worked_cost [] worked_base worked_on }
     ensures stores { AllStoreArrays [] worked_on }
+    ensures apart { AreApart worked_base [] }
+    ensures own { AllShareOwn worked_base worked_on }
     ensures places { map (λ pin. length pin.before) (open_pins worked) ≡ 3 ∷ 4 ∷ [] }
     ensures free { free_at worked_base worked ≡ 1 ∷ 4 ∷ 6 ∷ 7 ∷ 8 ∷ 9 ∷ 10 ∷ 11 ∷ 12 ∷ 13 ∷ 14 ∷ 15 ∷ [] }
     ensures free_later { free_at worked_base worked_on ≡ 1 ∷ 2 ∷ 3 ∷ 4 ∷ 6 ∷ 7 ∷ 8 ∷ 9 ∷ 10 ∷ 11 ∷ 12 ∷ 13 ∷ 14 ∷ 15 ∷ [] }
+{}
+
+/// A legal history may use one page for a version and for the catalogue. Its commit shares a page that is not its own.
+pub fn a_page_used_twice_is_refused()
+    ensures legal { IsLegal worked_cost [] worked_base page_used_twice }
+    ensures twice { (holds (catalogue_at worked_base page_used_twice) 1 && has_page (pages_at worked_base page_used_twice) 1) ≡ true }
+    ensures refused { AllShareOwn worked_base page_used_twice → ⊥ }
 {}
