@@ -5,6 +5,7 @@ pub mod Conserved
 pub mod Free
 pub mod Knowing
 pub mod Legal
+pub mod Marking
 pub mod Pinned
 pub mod Reaping
 pub mod Runs

@@ -1,5 +1,5 @@
 //! Pages of a list that are looked up at once.
-ghost use Rattle.std.specs.Prelude.{◌≡◌, IfOk};
+ghost use Rattle.std.specs.Prelude.{◌≡◌, ◌<◌, ℕ, false, length, slice_index_or, IfOk};
 ghost use Rattle.version_reaper.specs.PageSets.{holds};
 
 use cell_values::{List, Memory};
@@ -24,14 +24,27 @@ impl Model for Marks {
     ghost invariant = { λ marks. (p : ℕ) → p < length marks.set → slice_index_or marks.set p false ≡ holds marks.pages p };
 }
 
+/// Which pages below a limit are those of a list.
+fn set_of(pages: &List<u32>, limit: u32) -> Result<PageSet, Memory>
+    ensures { IfOk result (λ set. (p : ℕ) → p < length set → slice_index_or set p false ≡ holds pages.now p) }
+{
+    let mut set = PageSet::new(pages.allocator(), limit)?;
+    set.add_all(pages);
+    Ok(set)
+}
+
 impl Marks {
     /// The pages of a list.
     pub fn new(pages: List<u32>, limit: u32) -> Result<Marks, Memory>
         ensures { IfOk result (λ marks. marks ≡ pages) }
     {
-        let mut set = PageSet::new(pages.allocator(), limit)?;
-        set.add_all(&pages);
-        Ok(Marks { pages, set })
+        match set_of(&pages, limit) {
+            Ok(set) => Ok(Marks { pages, set }),
+            Err(want) => {
+                drop(pages);
+                Err(want)
+            }
+        }
     }
 
     /// Whether a page is one of them.

@@ -40,3 +40,16 @@ pub fn reaped(core: &Core) -> Result<List<u32>, Memory>
     add_pins(&mut set, &core.pins);
     set.others(alloc)
 }
+
+impl Core {
+    /// Adds the pages that somebody can name to a set. This takes no memory.
+    pub fn mark_live(&self, set: &mut PageSet)
+        ensures limit { length set.new ≡ length set.old }
+        ensures pages { (p : ℕ) → p < length set.old → slice_index_or set.new p false ≡ (slice_index_or set.old p false || is_core_live self.now p) }
+    {
+        set.add(0);
+        set.add_all(&self.catalogue);
+        add_versions(set, &self.pages);
+        add_pins(set, &self.pins);
+    }
+}
