@@ -25,7 +25,8 @@ pub fn puts_are_writes<D: Disk>()
         → OnlyWrites (page ∷ []) (D.moment old) (D.moment new) × Sees (D.moment old).state (D.moment new).state (KeepsPages (page ∷ [])) }
 {}
 
-/// Writes a record in one page and says in the log where it lies: then whatever a crash leaves has its bytes in that page.
+/// Writes a record in one page and says in the log where it lies: then whatever a crash leaves has its bytes in that page. Where that
+/// fails, it opens as it did.
 pub fn record_written<D: Disk>(
     file: &mut PageFile<D>,
     page: u32,
@@ -41,6 +42,8 @@ pub fn record_written<D: Disk>(
     ensures sound { KeepsSound file.old.slots file.new.slots (D.moment file.old.disk) (D.moment file.new.disk) }
     ensures holds { IsTrue (D.moment file.old.disk).state.honest → IfSome (D.moment file.old.disk).state.seen (λ seen. IsSound file.old.slots seen (D.moment file.old.disk).may_leave
         → OnOk result ((now : List ℕ) × ((D.moment file.new.disk).state.seen ≡ Some now) × HoldsChain page_size now (page ∷ []) bytes.now × Only now (D.moment file.new.disk).may_leave)) }
+    ensures failed { IsTrue (D.moment file.old.disk).state.honest → IfSome (D.moment file.old.disk).state.seen (λ seen. IsSound file.old.slots seen (D.moment file.old.disk).may_leave
+        → OnErr result ((c : List ℕ) → (D.moment file.new.disk).may_leave c → OpensAs file.old.slots.current file.old.slots.records c)) }
 {
     match file.write_chain(&[page], bytes) {
         Ok(()) => match file.write_record(at) {
@@ -73,7 +76,8 @@ pub fn record_opened<D: Disk>(file: &mut PageFile<D>, page: u32, at: RecordAt) -
     }
 }
 
-/// Writes a catalogue and the root that names it: then whatever a crash leaves has its bytes in its pages.
+/// Writes a catalogue and the root that names it: then whatever a crash leaves has its bytes in its pages. Where that fails, it opens as
+/// it did.
 pub fn root_written<D: Disk>(
     file: &mut PageFile<D>,
     pages: &[u32],
@@ -89,6 +93,8 @@ pub fn root_written<D: Disk>(
     ensures sound { KeepsSound file.old.slots file.new.slots (D.moment file.old.disk) (D.moment file.new.disk) }
     ensures holds { IsTrue (D.moment file.old.disk).state.honest → IfSome (D.moment file.old.disk).state.seen (λ seen. IsSound file.old.slots seen (D.moment file.old.disk).may_leave
         → OnOk result ((now : List ℕ) × ((D.moment file.new.disk).state.seen ≡ Some now) × HoldsChain page_size now pages.now bytes.now × Only now (D.moment file.new.disk).may_leave)) }
+    ensures failed { IsTrue (D.moment file.old.disk).state.honest → IfSome (D.moment file.old.disk).state.seen (λ seen. IsSound file.old.slots seen (D.moment file.old.disk).may_leave
+        → OnErr result ((c : List ℕ) → (D.moment file.new.disk).may_leave c → OpensAs file.old.slots.current file.old.slots.records c)) }
 {
     match file.write_chain(pages, bytes) {
         Ok(()) => match file.write_root(root) {
