@@ -6,7 +6,7 @@ ghost use Rattle.page_layout.specs.Places.{other, IsNone, KeepsPages};
 ghost use Rattle.page_layout.specs.declared.sides.Format.TheVariants.{Two};
 ghost use Rattle.page_slots.specs.declared.slots.RootSlot.TheVariants as roots;
 ghost use Rattle.page_slots.specs.declared.slots.NextEntry.TheVariants as entries;
-ghost use Rattle.afl_outside.specs.Disk.{Only};
+ghost use Rattle.afl_outside.specs.Disk.{DiskGoesOn, Only};
 ghost use Rattle.page_chain.specs.Pages.{page_size, pages_for};
 ghost use Rattle.page_chain.specs.Chains.{content_size, HoldsChain};
 ghost use Rattle.page_chain.specs.Inner.Runs.{OnlyWrites, Sees};
@@ -39,6 +39,7 @@ pub fn record_written<D: Disk>(
     requires target { file.old.slots.target ≡ targets.Record }
     requires there { IsTarget file.old.slots }
     ensures slots { OnOk result (file.new.slots ≡ record (pages_written (page ∷ []) file.old.slots) { next = entries.Written at }) }
+    ensures same { DiskGoesOn (D.moment file.old.disk).state (D.moment file.new.disk).state }
     ensures sound { KeepsSound file.old.slots file.new.slots (D.moment file.old.disk) (D.moment file.new.disk) }
     ensures holds { IsTrue (D.moment file.old.disk).state.honest → IfSome (D.moment file.old.disk).state.seen (λ seen. IsSound file.old.slots seen (D.moment file.old.disk).may_leave
         → OnOk result ((now : List ℕ) × ((D.moment file.new.disk).state.seen ≡ Some now) × HoldsChain page_size now (page ∷ []) bytes.now × Only now (D.moment file.new.disk).may_leave)) }
@@ -76,6 +77,33 @@ pub fn record_opened<D: Disk>(file: &mut PageFile<D>, page: u32, at: RecordAt) -
     }
 }
 
+/// Commits a record in one page: then whatever a crash leaves opens with the record, and has its bytes. Where that fails, it opens as it
+/// did or with the record.
+pub fn record_sealed<D: Disk>(
+    file: &mut PageFile<D>,
+    page: u32,
+    bytes: &[u8],
+    at: RecordAt,
+) -> Result<(), Failed>
+    requires closed { IsClosed file.old.slots }
+    requires free { MayWrite (page ∷ []) file.old.slots }
+    requires one { pages_for (content_size page_size) (length bytes.now) ≡ 1 }
+    requires target { file.old.slots.target ≡ targets.Record }
+    requires there { IsTarget file.old.slots }
+    ensures done { IsTrue (D.moment file.old.disk).state.honest → IfSome (D.moment file.old.disk).state.seen (λ seen. IsSound file.old.slots seen (D.moment file.old.disk).may_leave
+        → OnOk result ((c : List ℕ) → (D.moment file.new.disk).may_leave c → OpensAs file.old.slots.current (file.old.slots.records ++ at ∷ []) c × HoldsChain page_size c (page ∷ []) bytes.now)) }
+    ensures failed { IsTrue (D.moment file.old.disk).state.honest → IfSome (D.moment file.old.disk).state.seen (λ seen. IsSound file.old.slots seen (D.moment file.old.disk).may_leave
+        → OnErr result ((c : List ℕ) → (D.moment file.new.disk).may_leave c → OpensAs file.old.slots.current file.old.slots.records c ⊎ OpensAs file.old.slots.current (file.old.slots.records ++ at ∷ []) c)) }
+{
+    match record_written(file, page, bytes, at) {
+        Ok(()) => match record_opened(file, page, at) {
+            Ok(()) => Ok(()),
+            Err(Failed) => Err(Failed),
+        },
+        Err(Failed) => Err(Failed),
+    }
+}
+
 /// Writes a catalogue and the root that names it: then whatever a crash leaves has its bytes in its pages. Where that fails, it opens as
 /// it did.
 pub fn root_written<D: Disk>(
@@ -90,6 +118,7 @@ pub fn root_written<D: Disk>(
     requires target { file.old.slots.target ≡ targets.Root }
     requires newer { file.old.slots.current.root.sequence < root.sequence }
     ensures slots { OnOk result (file.new.slots ≡ record (pages_written pages.now file.old.slots) { other = roots.Written root }) }
+    ensures same { DiskGoesOn (D.moment file.old.disk).state (D.moment file.new.disk).state }
     ensures sound { KeepsSound file.old.slots file.new.slots (D.moment file.old.disk) (D.moment file.new.disk) }
     ensures holds { IsTrue (D.moment file.old.disk).state.honest → IfSome (D.moment file.old.disk).state.seen (λ seen. IsSound file.old.slots seen (D.moment file.old.disk).may_leave
         → OnOk result ((now : List ℕ) × ((D.moment file.new.disk).state.seen ≡ Some now) × HoldsChain page_size now pages.now bytes.now × Only now (D.moment file.new.disk).may_leave)) }
