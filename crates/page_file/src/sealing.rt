@@ -10,7 +10,7 @@ ghost use Rattle.afl_outside.specs.Disk.{DiskGoesOn, Only};
 ghost use Rattle.page_chain.specs.Pages.{page_size, pages_for};
 ghost use Rattle.page_chain.specs.Chains.{content_size, HoldsChain};
 ghost use Rattle.page_chain.specs.Inner.Runs.{OnlyWrites, Sees};
-ghost use Rattle.page_file.specs.Written.{MayWrite, pages_written};
+ghost use Rattle.page_file.specs.Written.{MayWrite, pages_written, unwritten};
 ghost use Rattle.page_slots.specs.Puts.{OnlyPuts};
 ghost use Rattle.page_slots.specs.Standing.{root_in, IsClosed, IsSound, IsTarget, KeepsSound, OpensAsRoot};
 ghost use Rattle.page_slots.specs.declared.slots.Target.TheVariants as targets;
@@ -152,6 +152,34 @@ pub fn root_opened<D: Disk>(file: &mut PageFile<D>, pages: &[u32], root: Root) -
 {
     match file.open_slot() {
         Ok(()) => Ok(()),
+        Err(Failed) => Err(Failed),
+    }
+}
+
+/// Commits a catalogue under a new root, whose log page was written as zeros: then whatever a crash leaves opens as that root, and has
+/// the catalogue. Where that fails, it opens as it did or as that root.
+pub fn root_sealed<D: Disk>(
+    file: &mut PageFile<D>,
+    pages: &[u32],
+    bytes: &[u8],
+    root: Root,
+) -> Result<(), Failed>
+    requires closed { IsClosed file.old.slots }
+    requires free { MayWrite pages.now file.old.slots }
+    requires pages { length pages.now ≡ pages_for (content_size page_size) (length bytes.now) }
+    requires target { file.old.slots.target ≡ targets.Root }
+    requires newer { file.old.slots.current.root.sequence < root.sequence }
+    requires zeroed { unwritten pages.now file.old.slots.zeroed ≡ Some root.log }
+    ensures done { IsTrue (D.moment file.old.disk).state.honest → IfSome (D.moment file.old.disk).state.seen (λ seen. IsSound file.old.slots seen (D.moment file.old.disk).may_leave
+        → OnOk result ((c : List ℕ) → (D.moment file.new.disk).may_leave c → OpensAs (root_in Two (other file.old.slots.current.side) root) [] c × HoldsChain page_size c pages.now bytes.now)) }
+    ensures failed { IsTrue (D.moment file.old.disk).state.honest → IfSome (D.moment file.old.disk).state.seen (λ seen. IsSound file.old.slots seen (D.moment file.old.disk).may_leave
+        → OnErr result ((c : List ℕ) → (D.moment file.new.disk).may_leave c → OpensAs file.old.slots.current file.old.slots.records c ⊎ OpensAsRoot (roots.Opening root) (other file.old.slots.current.side) c)) }
+{
+    match root_written(file, pages, bytes, root) {
+        Ok(()) => match root_opened(file, pages, root) {
+            Ok(()) => Ok(()),
+            Err(Failed) => Err(Failed),
+        },
         Err(Failed) => Err(Failed),
     }
 }
