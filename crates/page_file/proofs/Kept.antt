@@ -23,7 +23,7 @@ use Rattle.page_slots.specs.declared.slots.Slots.{Slots}
 use Rattle.page_slots.proofs.Lies.{long_front, has_log}
 use Rattle.page_slots.proofs.Within.{torn_within}
 
-at_some : (o : Option (List ℕ)) (x : List ℕ) (P : List ℕ → Type 0) → o ≡ Some x → IfSome o P → P x
+pub at_some : (o : Option (List ℕ)) (x : List ℕ) (P : List ℕ → Type 0) → o ≡ Some x → IfSome o P → P x
 at_some None x P is h = absurd (cc is)
 at_some (Some y) x P is h = let same : y ≡ x = cc is in subst P same h
 

@@ -8,6 +8,7 @@ pub mod OnlyRead
 pub mod Opened
 pub mod PageReads
 pub mod Puts
+pub mod Sealed
 pub mod Stays
 pub mod Steps
 pub mod Told

@@ -6,10 +6,11 @@ use Rattle.page_layout.specs.Places.{other}
 use Rattle.page_layout.specs.Opens.{OpensAs}
 use Rattle.page_layout.specs.declared.sides.Format.TheVariants.{Two}
 use Rattle.page_layout.specs.declared.roots.Root.{Root}
+use Rattle.page_layout.specs.declared.roots.OpenRoot.{OpenRoot}
 use Rattle.page_layout.specs.declared.logs.RecordAt.{RecordAt}
 use Rattle.page_chain.specs.Pages.{page_size}
 use Rattle.page_chain.specs.Chains.{HoldsChain}
-use Rattle.page_slots.specs.Standing.{root_in, Holds, IsSound, KeepsSound, MayOpen, OpensAsRoot}
+use Rattle.page_slots.specs.Standing.{root_in, Holds, IsSound, IsStillRoot, IsStillEntry, KeepsSound, MayOpen, OpensAsRoot}
 use Rattle.page_slots.specs.Steps.{ajar, ajar_root, ajar_entry, doubted, with_target, with_other, with_next, with_root, with_record}
 use Rattle.page_slots.specs.declared.slots.Slots.{Slots}
 use Rattle.page_slots.specs.declared.slots.RootSlot.{RootSlot}
@@ -78,3 +79,18 @@ pub root_ajar : (slots later : Slots) (root : Root) (seen s : List ℕ) (before 
 root_ajar slots later root seen s before now other_ sure target is was sound c left =
     let may : MayOpen (record slots { other = roots.Opening root; doubtful = true }) c = subst (λ (x : Slots). MayOpen x c) (not_rooted slots later root target other_ is) (may_open later c (sound.images c left)) in
     ⊎_elim inl (λ new. inr (⊎_elim (λ root. root) (λ more. absurd (no_record slots.next slots.current slots.records c (was.sure sure).1 more)) new)) may
+
+-- nothing is being opened
+pub as_before : (slots later : Slots) (old new : DiskState) (before now : List ℕ → Type 0) → KeepsSound slots later (seeing old before) (seeing new now) → later.current ≡ slots.current → later.records ≡ slots.records
+    → ((s : List ℕ) → IsSound later s now → IsStillRoot later.other × IsStillEntry later.next)
+    → IsTrue old.honest → IfSome old.seen (λ seen. IsSound slots seen before → (c : List ℕ) → now c → OpensAs slots.current slots.records c)
+as_before slots later old new before now sound root records still honest = go old.seen (sound honest)
+  where
+    each : (s c : List ℕ) → IsSound later s now → now c → OpensAs slots.current slots.records c
+    each s c sound_now left =
+        let none = still s sound_now in
+        subst (λ (r : OpenRoot). OpensAs r slots.records c) root (subst (λ (rs : List RecordAt). OpensAs later.current rs c) records (settled later c none.0 none.1 (may_open later c (sound_now.images c left))))
+
+    go : (o : Option (List ℕ)) → IfSome o (λ seen. IsSound slots seen before → (s : List ℕ) × (new.seen ≡ Some s) × IsSound later s now) → IfSome o (λ seen. IsSound slots seen before → (c : List ℕ) → now c → OpensAs slots.current slots.records c)
+    go None a = tt
+    go (Some seen) a = λ was c left. let kept = a was in each kept.0 c kept.2 left

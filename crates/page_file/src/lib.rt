@@ -10,5 +10,8 @@ mod writing;
 pub use files::{BlobFault, OpenCause, PageFile};
 pub use making::{InitFault, init};
 pub use opening::open_slots;
-pub use sealing::{puts_are_writes, record_opened, record_written, root_opened, root_written};
+pub use sealing::{
+    puts_are_writes, record_opened, record_sealed, record_written, root_opened, root_sealed,
+    root_written,
+};
 pub use writing::{write_blob, write_chain};

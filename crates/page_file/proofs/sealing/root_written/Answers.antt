@@ -1,5 +1,10 @@
+use Rattle.std.proofs.Common.{sym, ◌∙◌, ap, subst}
 use Rattle.page_layout.specs.Places.{other, body_of}
+use Rattle.page_slots.specs.Standing.{IsAlone, IsStillRoot, IsStillEntry}
+use Rattle.page_slots.specs.declared.slots.Slots.{Slots}
+use Rattle.page_slots.specs.declared.slots.Target.{Target}
 use Rattle.page_file.proofs.Kept.{sound_on, seals, chain_stays_front, body_within}
+use Rattle.page_file.proofs.Opened.{as_before}
 use Rattle.page_file.proofs.sealing.root_written.Goals as goal
 
 pub returns-in-Ok-write_root-clause-holds : goal.returns-in-Ok-write_root-clause-holds
@@ -28,3 +33,24 @@ returns-in-Err-write_root-clause-sound g c =
     let new = c.write_root.new.self in
     sound_on old.slots mid.slots new.slots (g.D.Disk.moment old.disk).state (g.D.Disk.moment mid.disk).state (g.D.Disk.moment new.disk).state (g.D.Disk.moment old.disk).may_leave (g.D.Disk.moment mid.disk).may_leave (g.D.Disk.moment new.disk).may_leave
     c.in-Ok.ensures.writes.same c.in-Ok.ensures.sound c.in-Err-write_root.ensures.sound
+
+pub returns-in-Err-clause-failed : goal.returns-in-Err-clause-failed
+returns-in-Err-clause-failed g c =
+    let old = c.args.file.now in
+    let new = c.write_chain.new.self in
+    let is = c.in-Err.ensures.slots in
+    as_before old.slots new.slots (g.D.Disk.moment old.disk).state (g.D.Disk.moment new.disk).state (g.D.Disk.moment old.disk).may_leave (g.D.Disk.moment new.disk).may_leave c.in-Err.ensures.sound (ap (λ (x : Slots). x.current) is) (ap (λ (x : Slots). x.records) is)
+    (λ s sound. sound.sure (ap (λ (x : Slots). x.doubtful) is ∙ c.requires.closed.sure))
+
+pub returns-in-Err-write_root-clause-failed : goal.returns-in-Err-write_root-clause-failed
+returns-in-Err-write_root-clause-failed g c =
+    let old = c.args.file.now in
+    let mid = c.write_chain.new.self in
+    let new = c.write_root.new.self in
+    let is = c.in-Ok.ensures.slots in
+    let then_ = c.in-Err-write_root.ensures.slots in
+    as_before old.slots new.slots (g.D.Disk.moment old.disk).state (g.D.Disk.moment new.disk).state (g.D.Disk.moment old.disk).may_leave (g.D.Disk.moment new.disk).may_leave
+    (sound_on old.slots mid.slots new.slots (g.D.Disk.moment old.disk).state (g.D.Disk.moment mid.disk).state (g.D.Disk.moment new.disk).state (g.D.Disk.moment old.disk).may_leave (g.D.Disk.moment mid.disk).may_leave (g.D.Disk.moment new.disk).may_leave
+    c.in-Ok.ensures.writes.same c.in-Ok.ensures.sound c.in-Err-write_root.ensures.sound)
+    (ap (λ (x : Slots). x.current) then_ ∙ ap (λ (x : Slots). x.current) is) (ap (λ (x : Slots). x.records) then_ ∙ ap (λ (x : Slots). x.records) is)
+    (λ s sound. let alone : IsStillEntry new.slots.next = subst (λ (t : Target). IsAlone t new.slots) (ap (λ (x : Slots). x.target) then_ ∙ ap (λ (x : Slots). x.target) is ∙ c.requires.target) sound.alone in (subst IsStillRoot (sym (ap (λ (x : Slots). x.other) then_)) tt, alone))
