@@ -185,7 +185,10 @@ impl Tree {
     {
         match self.node {
             Node::Ref(name) => Some(name),
-            _ => None,
+            other => {
+                drop(other);
+                None
+            }
         }
     }
 }

@@ -3,8 +3,8 @@ use Rattle.afl_parser.specs.Term.{to_terms, term_size, terms_size}
 use Rattle.afl_parser.proofs.PrintedParts.{part_size}
 use Rattle.afl_parser.proofs.copies.+copy_tree.Goals as goal
 
-pub copy_trees-copy_tree-requires : goal.copy_trees-copy_tree-requires
-copy_trees-copy_tree-requires t c =
+pub push_copies-copy_tree-requires : goal.push_copies-copy_tree-requires
+push_copies-copy_tree-requires t c =
     let items = c.as_slice-tree-items.result.now in
     let part : term_size c.tree-item.result ≤ terms_size (to_terms items)
     = subst (λ x. term_size x ≤ terms_size (to_terms items)) (sym c.tree-item.is) (part_size items c.loop-tree.tree-index c.tree-item.result c.loop-tree-test.true) in
