@@ -1,6 +1,8 @@
 pub mod Agree
+pub mod Capped
 pub mod Cells
 pub mod Conserved
+pub mod Frames
 pub mod Free
 pub mod Knowing
 pub mod Legal

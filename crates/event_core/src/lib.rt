@@ -2,14 +2,18 @@
 #![tactic(auto)]
 
 mod advance;
+mod allowed;
 mod commit;
 mod entry;
 mod laws;
 mod marks;
+mod names;
 mod reap;
 mod run;
+mod schemas;
 mod state;
 
+pub use allowed::is_allowed;
 pub use commit::fresh_pages;
 pub use entry::{Entry, Used};
 pub use laws::{

@@ -116,20 +116,40 @@ fn tell_moments(
     Ok(())
 }
 
-/// Makes the commit, and prints what comes of it. Where it wasn't done it is tried again, with the target closed at the end.
-fn tell_attempt(rt: &(impl Print + AllocGlobal), case: &Case, fails: Option<u64>) -> Result<()> {
-    let (outcome, disk) = attempt(rt.alloc(), case, fails, false)?;
-    match outcome {
-        Outcome::NotOpened => print!(rt; "not opened:")?,
-        Outcome::NotDone => print!(rt; "not done:")?,
-        Outcome::Done => print!(rt; "done:")?,
-    }
-    tell_moments(rt, &disk, 0, case.sequence)?;
+fn tell_outcome(rt: &impl Print, outcome: Outcome) -> Result<()> {
+    print!(rt;
+        "{}",
+        match outcome {
+            Outcome::NotOpened => "not opened:",
+            Outcome::NotDone => "not done:",
+            Outcome::Done => "done:",
+        }
+    )?;
+    Ok(())
+}
+
+/// Prints what came of a commit. Where it wasn't done it is tried again, with the target closed at the end.
+fn tell_made(
+    rt: &(impl Print + AllocGlobal),
+    case: &Case,
+    fails: Option<u64>,
+    outcome: Outcome,
+    disk: &MemDisk,
+) -> Result<()> {
+    tell_outcome(rt, outcome)?;
+    tell_moments(rt, disk, 0, case.sequence)?;
     if outcome == Outcome::NotDone {
+        print!(rt; ", then closed:")?;
         tell_closed(rt, case, fails, disk.calls().len().saturating_add(1))?;
     }
     println!(rt; "")?;
     Ok(())
+}
+
+/// Makes the commit, and prints what comes of it.
+fn tell_attempt(rt: &(impl Print + AllocGlobal), case: &Case, fails: Option<u64>) -> Result<()> {
+    let (outcome, disk) = attempt(rt.alloc(), case, fails, false)?;
+    tell_made(rt, case, fails, outcome, &disk)
 }
 
 /// The same where the target is closed behind a commit that wasn't done, from so many calls on.
@@ -140,7 +160,6 @@ fn tell_closed(
     from: usize,
 ) -> Result<()> {
     let (_, disk) = attempt(rt.alloc(), case, fails, true)?;
-    print!(rt; ", then closed:")?;
     tell_moments(rt, &disk, from, case.sequence)
 }
 
@@ -181,13 +200,35 @@ fn base_on(alloc: Global, file: Bytes, sequence: u64, page: u32, log: u32) -> Re
     })
 }
 
+fn tell_record(rt: &(impl Print + AllocGlobal)) -> Result<()> {
+    let record = record_on(rt.alloc(), made(rt.alloc())?)?;
+    tell_commit(rt, "a record", &record, 9)
+}
+
+fn first_base(alloc: Global) -> Result<Case> {
+    Ok(base_on(alloc, made(alloc)?, 1, 3, 4)?)
+}
+
+fn tell_base(rt: &(impl Print + AllocGlobal)) -> Result<()> {
+    let base = first_base(rt.alloc())?;
+    tell_commit(rt, "a base", &base, 10)
+}
+
+/// The file behind the first base.
+fn behind_base(alloc: Global) -> Result<Bytes> {
+    let base = first_base(alloc)?;
+    Ok(committed(alloc, &base)?)
+}
+
+fn tell_next(rt: &(impl Print + AllocGlobal)) -> Result<()> {
+    let next = base_on(rt.alloc(), behind_base(rt.alloc())?, 2, 5, 6)?;
+    tell_commit(rt, "a base over an open slot", &next, 11)
+}
+
 /// Prints for each commit and each call that fails what the images open as, after each number of calls: o as before the commit, n with the
 /// slot that was committed, f with its root in format 1, x anything else.
 pub(crate) fn tell_crashes(rt: &(impl Print + AllocGlobal)) -> Result<()> {
-    let record = record_on(rt.alloc(), made(rt.alloc())?)?;
-    tell_commit(rt, "a record", &record, 9)?;
-    let base = base_on(rt.alloc(), made(rt.alloc())?, 1, 3, 4)?;
-    tell_commit(rt, "a base", &base, 10)?;
-    let next = base_on(rt.alloc(), committed(rt.alloc(), &base)?, 2, 5, 6)?;
-    tell_commit(rt, "a base over an open slot", &next, 11)
+    tell_record(rt)?;
+    tell_base(rt)?;
+    tell_next(rt)
 }

@@ -41,15 +41,23 @@ fn write<D: Disk>(disk: &mut D, at: u64, bytes: &[u8]) -> Result<(), Failed> {
 /// An empty file that was made a database.
 pub(crate) fn made(alloc: Global) -> Result<Bytes> {
     let mut disk = disk_of(alloc, List::new(alloc), None)?;
-    make(&mut disk)?;
-    Ok(bytes_of(&disk)?)
+    made_on(&mut disk)
+}
+
+fn made_on(disk: &mut MemDisk) -> Result<Bytes> {
+    make(disk)?;
+    Ok(bytes_of(disk)?)
 }
 
 /// The file with these bytes over it at a place.
 pub(crate) fn changed(alloc: Global, file: &Bytes, at: u64, bytes: &[u8]) -> Result<Bytes> {
     let mut disk = disk_of(alloc, file.copy()?, None)?;
-    write(&mut disk, at, bytes)?;
-    Ok(bytes_of(&disk)?)
+    changed_on(&mut disk, at, bytes)
+}
+
+fn changed_on(disk: &mut MemDisk, at: u64, bytes: &[u8]) -> Result<Bytes> {
+    write(disk, at, bytes)?;
+    Ok(bytes_of(disk)?)
 }
 
 /// Sequence 1, and a catalogue of 4 bytes in page 1.

@@ -38,7 +38,10 @@ fn read_on<D: Disk + Drop>(alloc: Global, disk: D) -> Option<D> {
 fn is_left_as_it_is(alloc: Global, bytes: &Bytes) -> Result<bool, Memory> {
     match read_on(alloc, disk_of(alloc, bytes.copy()?, None)?) {
         None => Ok(false),
-        Some(disk) => Ok(bytes_of(&disk)? == *bytes),
+        Some(disk) => match bytes_of(&disk) {
+            Ok(left) => Ok(left == *bytes),
+            Err(Memory) => Err(Memory),
+        },
     }
 }
 
@@ -61,16 +64,25 @@ fn with_base(alloc: Global, bytes: Bytes) -> Result<Bytes, Memory> {
     }
 }
 
-/// A file of format 1 is opened, and stays as it is until a base is committed, which is of format 2.
-fn tell_migration(rt: &(impl Print + AllocGlobal)) -> Result<()> {
-    let old = of_format_one(rt.alloc())?;
-    tell_bytes(rt, "format 1", &old)?;
+/// A file of format 1 is opened, and stays as it is.
+fn tell_old(rt: &(impl Print + AllocGlobal), old: &Bytes) -> Result<()> {
+    tell_bytes(rt, "format 1", old)?;
     tell_open(rt, "format 1 opened", old.copy()?)?;
-    let same = is_left_as_it_is(rt.alloc(), &old)?;
+    let same = is_left_as_it_is(rt.alloc(), old)?;
     println!(rt; "its bytes are the same: {same}")?;
-    let new = with_base(rt.alloc(), old)?;
-    tell_bytes(rt, "with a new base", &new)?;
-    tell_open(rt, "with a new base, opened", new)
+    Ok(())
+}
+
+fn tell_new(rt: &(impl Print + AllocGlobal), new: &Bytes) -> Result<()> {
+    tell_bytes(rt, "with a new base", new)?;
+    tell_open(rt, "with a new base, opened", new.copy()?)
+}
+
+/// A base that is committed to it is of format 2.
+fn tell_migration(rt: &(impl Print + AllocGlobal), old: &Bytes) -> Result<()> {
+    tell_old(rt, old)?;
+    let new = with_base(rt.alloc(), old.copy()?)?;
+    tell_new(rt, &new)
 }
 
 /// Opens the file with these bytes over it at a place.
@@ -95,23 +107,27 @@ fn tell_wrong_fronts(rt: &(impl Print + AllocGlobal), file: &Bytes) -> Result<()
     tell_changed(rt, "an open entry behind a closed one", file, 8256, &[1])
 }
 
-/// Prints what files open as, and where they are no database.
-pub(crate) fn tell_rows(rt: &(impl Print + AllocGlobal)) -> Result<()> {
-    let file = made(rt.alloc())?;
-    tell_bytes(rt, "a database that was made", &file)?;
+fn tell_new_file(rt: &(impl Print + AllocGlobal), file: &Bytes) -> Result<()> {
+    tell_bytes(rt, "a database that was made", file)?;
     tell_open(rt, "opened", file.copy()?)?;
-    tell_wrong_fronts(rt, &file)?;
-    tell_migration(rt)?;
-    let old = of_format_one(rt.alloc())?;
-    tell_open(rt, "format 1 without page 1", cut(rt.alloc(), &old, 4096)?)?;
+    tell_wrong_fronts(rt, file)
+}
+
+fn tell_old_file(rt: &(impl Print + AllocGlobal), old: &Bytes) -> Result<()> {
+    tell_migration(rt, old)?;
+    tell_open(rt, "format 1 without page 1", cut(rt.alloc(), old, 4096)?)?;
     tell_changed(
         rt,
         "format 1 with a link behind the last page",
-        &old,
+        old,
         4096,
         &[1],
     )?;
-    let both = changed(rt.alloc(), &old, 1024, &[1])?;
+    tell_two_slots(rt, old)
+}
+
+fn tell_two_slots(rt: &(impl Print + AllocGlobal), old: &Bytes) -> Result<()> {
+    let both = changed(rt.alloc(), old, 1024, &[1])?;
     tell_changed(
         rt,
         "format 1 with two slots of sequence 1",
@@ -119,4 +135,16 @@ pub(crate) fn tell_rows(rt: &(impl Print + AllocGlobal)) -> Result<()> {
         1032,
         &[1],
     )
+}
+
+fn tell_made(rt: &(impl Print + AllocGlobal)) -> Result<()> {
+    let file = made(rt.alloc())?;
+    tell_new_file(rt, &file)
+}
+
+/// Prints what files open as, and where they are no database.
+pub(crate) fn tell_rows(rt: &(impl Print + AllocGlobal)) -> Result<()> {
+    tell_made(rt)?;
+    let old = of_format_one(rt.alloc())?;
+    tell_old_file(rt, &old)
 }
