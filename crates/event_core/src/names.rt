@@ -1,5 +1,5 @@
 //! Which changes the names of the stored arrays allow.
-ghost use Rattle.std.specs.Prelude.{◌≡◌, ◌++◌};
+ghost use Rattle.std.specs.Prelude.{◌≡◌};
 ghost use Rattle.std.specs.List.{list_all};
 ghost use Rattle.plan_changes.specs.Allowed.{has_number, names_allow};
 
