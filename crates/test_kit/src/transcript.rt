@@ -1,0 +1,21 @@
+//! The lines that a program is given, and the transcript of its answers.
+
+use std::alloc::AllocError;
+use std::io;
+
+/// All of standard input.
+pub fn input(rt: &(impl Input + AllocGlobal)) -> io::Result<String> {
+    io::read_to_string(rt.alloc(), rt.reader())
+}
+
+/// Adds a line behind `> `, and tells that its answer follows; a title, which begins with `##`, is added as it is, and has
+/// no answer.
+pub fn begin_answer(out: &mut String, line: &str) -> Result<bool, AllocError> {
+    if line.starts_with("##") {
+        writeln!(out, "{line}")?;
+        Ok(false)
+    } else {
+        writeln!(out, "> {line}")?;
+        Ok(true)
+    }
+}
