@@ -10,13 +10,13 @@ mod pieces;
 mod schemas;
 mod tokens;
 
-use anyhow::Result;
 use cell_values::{Bytes, Memory};
 use pieces::push_pieces;
 use schemas::{push_schema, push_tree};
 use std::alloc::Global;
+use std::io;
 use std::str::from_utf8;
-use test_kit::{bytes_of, text_of};
+use test_kit::{begin_answer, bytes_of, input, text_of};
 use tokens::push_tokens;
 
 /// How many bytes a statement may have.
@@ -29,7 +29,7 @@ fn script_of(alloc: Global, line: &str) -> Result<Bytes, Memory> {
 }
 
 /// Adds the tokens or the schema of a text.
-fn push_read(out: &mut String, word: &str, text: &[u8]) -> Result<()> {
+fn push_read(out: &mut String, word: &str, text: &[u8]) -> Result<(), Memory> {
     if text.len() > LIMIT {
         out.push_str("too long")?;
         return Ok(());
@@ -42,7 +42,7 @@ fn push_read(out: &mut String, word: &str, text: &[u8]) -> Result<()> {
 }
 
 /// Adds the answer to a line.
-fn push_answer(out: &mut String, line: &str) -> Result<()> {
+fn push_answer(out: &mut String, line: &str) -> Result<(), Memory> {
     let alloc = *out.allocator();
     match line.split_once(' ') {
         Some(("split", script)) => push_pieces(out, script_of(alloc, script)?.as_slice()),
@@ -55,21 +55,27 @@ fn push_answer(out: &mut String, line: &str) -> Result<()> {
     }
 }
 
-/// Prints a title, or a line and its answer.
-fn tell(rt: &(impl Print + AllocGlobal), line: &str) -> Result<()> {
-    if line.starts_with("##") {
-        println!(rt; "{line}")?;
-        return Ok(());
+/// Adds a title, or a line and its answer.
+fn push_line(out: &mut String, line: &str) -> Result<(), Memory> {
+    if begin_answer(out, line)? {
+        push_answer(out, line)?;
+        out.push('\n')?;
     }
-    let mut answer = String::new(rt.alloc());
-    push_answer(&mut answer, line)?;
-    println!(rt; "> {line}\n{answer}")?;
     Ok(())
 }
 
-fn main(rt: HostRuntime) -> Result<()> {
-    for line in rt.lines(rt.alloc()) {
-        tell(&rt, line?.as_str())?;
+fn push_lines(out: &mut String, lines: &str) -> Result<(), Memory> {
+    for line in lines.lines() {
+        push_line(out, line)?;
     }
     Ok(())
+}
+
+fn main(rt: HostRuntime) -> io::Result<()> {
+    let lines = input(&rt)?;
+    let mut out = String::new(rt.alloc());
+    match push_lines(&mut out, lines.as_str()) {
+        Ok(()) => print!(rt; "{out}"),
+        Err(Memory) => println!(rt; "no memory"),
+    }
 }

@@ -2,8 +2,7 @@
 ghost use Rattle.std.specs.Prelude.{◌≤◌, length};
 
 use afl_lexer::tokens;
-use anyhow::Result;
-use cell_values::Schema;
+use cell_values::{Memory, Schema};
 use schema_grammar::{
     SchemaFault, SchemaText, ShapeFault, TypeKind, meaning, print_shape, schema_text, shape,
 };
@@ -36,7 +35,7 @@ fn rule_text(kind: TypeKind) -> &'static str {
     }
 }
 
-fn push_stop(out: &mut String, fault: ShapeFault) -> Result<()> {
+fn push_stop(out: &mut String, fault: ShapeFault) -> Result<(), Memory> {
     match fault {
         ShapeFault::Unexpected { token } => write!(out, "stop at token {token}")?,
         ShapeFault::Memory => out.push_str("no tokens")?,
@@ -44,15 +43,19 @@ fn push_stop(out: &mut String, fault: ShapeFault) -> Result<()> {
     Ok(())
 }
 
-/// Adds a copy of a schema.
-fn push_copied(out: &mut String, schema: &Schema) -> Result<()> {
-    let copy = schema.copy()?;
-    push_text(out, schema_text(*out.allocator(), &copy)?.as_slice())?;
+fn push_spelled(out: &mut String, schema: &Schema) -> Result<(), Memory> {
+    push_text(out, schema_text(*out.allocator(), schema)?.as_slice())?;
     Ok(())
 }
 
+/// Adds a copy of a schema.
+fn push_copied(out: &mut String, schema: &Schema) -> Result<(), Memory> {
+    let copy = schema.copy()?;
+    push_spelled(out, &copy)
+}
+
 /// Adds the schema that a syntax tree means, or the first rule that it breaks with the place.
-fn push_meaning(out: &mut String, text: &[u8], shape: &SchemaText) -> Result<()> {
+fn push_meaning(out: &mut String, text: &[u8], shape: &SchemaText) -> Result<(), Memory> {
     match meaning(*out.allocator(), text, shape) {
         Ok(schema) => push_copied(out, &schema),
         Err(SchemaFault::Rule { span, kind }) => {
@@ -66,29 +69,41 @@ fn push_meaning(out: &mut String, text: &[u8], shape: &SchemaText) -> Result<()>
     }
 }
 
+/// Adds what a syntax tree means, and the token behind it.
+fn push_front(
+    out: &mut String,
+    text: &[u8],
+    shape: &SchemaText,
+    next: usize,
+) -> Result<(), Memory> {
+    push_meaning(out, text, shape)?;
+    write!(out, " before token {next}")?;
+    Ok(())
+}
+
 /// Adds what the schema that begins at a token means, and the token behind it.
-pub(crate) fn push_schema(out: &mut String, text: &[u8], from: usize) -> Result<()>
+pub(crate) fn push_schema(out: &mut String, text: &[u8], from: usize) -> Result<(), Memory>
     requires { length text.now ≤ 1048576 }
 {
     match read(*out.allocator(), text, from) {
-        Ok((shape, next)) => {
-            push_meaning(out, text, &shape)?;
-            write!(out, " before token {next}")?;
-            Ok(())
-        }
+        Ok((shape, next)) => push_front(out, text, &shape, next),
         Err(fault) => push_stop(out, fault),
     }
 }
 
-/// Adds a copy of a syntax tree.
-fn push_shape(out: &mut String, shape: &SchemaText) -> Result<()> {
-    let copy = shape.copy()?;
-    push_text(out, print_shape(*out.allocator(), &copy)?.as_slice())?;
+fn push_printed(out: &mut String, shape: &SchemaText) -> Result<(), Memory> {
+    push_text(out, print_shape(*out.allocator(), shape)?.as_slice())?;
     Ok(())
 }
 
+/// Adds a copy of a syntax tree.
+fn push_shape(out: &mut String, shape: &SchemaText) -> Result<(), Memory> {
+    let copy = shape.copy()?;
+    push_printed(out, &copy)
+}
+
 /// Adds the schema as a text writes it.
-pub(crate) fn push_tree(out: &mut String, text: &[u8]) -> Result<()>
+pub(crate) fn push_tree(out: &mut String, text: &[u8]) -> Result<(), Memory>
     requires { length text.now ≤ 1048576 }
 {
     match read(*out.allocator(), text, 0) {

@@ -15,12 +15,13 @@ mod plans;
 mod show;
 
 use aggregates::push_aggregate;
-use anyhow::Result;
 use cell_values::Memory;
 use joins::push_join;
 use layout::layout_of;
 use leaves::{push_failing, push_sure};
 use plans::{push_failing_filter, push_sure_filter};
+use std::io;
+use test_kit::{begin_answer, input};
 
 /// The numbers of the calls that are to fail.
 fn numbers_in(out: &String, words: &[&str]) -> Result<Vec<u64>, Memory> {
@@ -46,22 +47,27 @@ fn push_answer(out: &mut String, words: &[&str]) -> Result<(), Memory> {
     }
 }
 
-/// Prints a title, or a line and its answer.
-fn tell(rt: &(impl Print + AllocGlobal), line: &str) -> Result<()> {
-    if line.starts_with("##") {
-        println!(rt; "{line}")?;
-        return Ok(());
+/// Adds a title, or a line and its answer.
+fn push_line(out: &mut String, line: &str) -> Result<(), Memory> {
+    if begin_answer(out, line)? {
+        let words: Vec<&str> = line.split_whitespace().collect(*out.allocator())?;
+        push_answer(out, words.as_slice())?;
     }
-    let words: Vec<&str> = line.split_whitespace().collect(rt.alloc())?;
-    let mut answer = String::new(rt.alloc());
-    push_answer(&mut answer, words.as_slice())?;
-    print!(rt; "> {line}\n{answer}")?;
     Ok(())
 }
 
-fn main(rt: HostRuntime) -> Result<()> {
-    for line in rt.lines(rt.alloc()) {
-        tell(&rt, line?.as_str())?;
+fn push_lines(out: &mut String, lines: &str) -> Result<(), Memory> {
+    for line in lines.lines() {
+        push_line(out, line)?;
     }
     Ok(())
+}
+
+fn main(rt: HostRuntime) -> io::Result<()> {
+    let lines = input(&rt)?;
+    let mut out = String::new(rt.alloc());
+    match push_lines(&mut out, lines.as_str()) {
+        Ok(()) => print!(rt; "{out}"),
+        Err(Memory) => println!(rt; "no memory"),
+    }
 }

@@ -2,15 +2,15 @@
 
 use crate::streams::push_call;
 use afl_outside::{DeviceCall, Disk, Failed, MemDisk, SureDisk};
-use anyhow::Result;
 use cell_values::{Bytes, List, Memory};
 use test_kit::push_text;
 
-fn number_in(word: &str) -> u64 {
+/// The number of a word; 0 where it is none.
+pub(crate) fn number_in(word: &str) -> u64 {
     word.parse::<u64>().unwrap_or(0)
 }
 
-fn push_done(out: &mut String, done: Result<(), Failed>) -> Result<()> {
+fn push_done(out: &mut String, done: Result<(), Failed>) -> Result<(), Memory> {
     match done {
         Ok(()) => out.push_str("done")?,
         Err(Failed) => out.push_str("failed")?,
@@ -18,7 +18,7 @@ fn push_done(out: &mut String, done: Result<(), Failed>) -> Result<()> {
     Ok(())
 }
 
-fn push_length<D: Disk>(out: &mut String, disk: &mut D) -> Result<()> {
+fn push_length<D: Disk>(out: &mut String, disk: &mut D) -> Result<(), Memory> {
     match disk.len() {
         Ok(length) => write!(out, "{length}")?,
         Err(Failed) => out.push_str("failed")?,
@@ -27,7 +27,7 @@ fn push_length<D: Disk>(out: &mut String, disk: &mut D) -> Result<()> {
 }
 
 /// Adds how many bytes a read gives, and the piece that it was read into, which has eight bytes at most.
-fn push_read<D: Disk>(out: &mut String, disk: &mut D, at: &str, count: &str) -> Result<()> {
+fn push_read<D: Disk>(out: &mut String, disk: &mut D, at: &str, count: &str) -> Result<(), Memory> {
     let mut piece = [0u8; 8];
     let count = (number_in(count) as usize).min(8);
     match disk.read_at(number_in(at), &mut piece[..count]) {
@@ -41,7 +41,11 @@ fn push_read<D: Disk>(out: &mut String, disk: &mut D, at: &str, count: &str) -> 
 }
 
 /// Adds what a disk answers to a call.
-pub(crate) fn push_answer<D: Disk>(out: &mut String, disk: &mut D, words: &[&str]) -> Result<()> {
+pub(crate) fn push_answer<D: Disk>(
+    out: &mut String,
+    disk: &mut D,
+    words: &[&str],
+) -> Result<(), Memory> {
     match words {
         ["write", at, bytes] => push_done(out, disk.write_at(number_in(at), bytes.as_bytes())),
         ["read", at, count] => push_read(out, disk, at, count),
@@ -52,7 +56,7 @@ pub(crate) fn push_answer<D: Disk>(out: &mut String, disk: &mut D, words: &[&str
 }
 
 /// Adds the image after so many calls, with the writes at a `+` kept and dots for those at a `-`.
-fn push_image(out: &mut String, disk: &MemDisk, calls: u64, signs: &str) -> Result<()> {
+fn push_image(out: &mut String, disk: &MemDisk, calls: u64, signs: &str) -> Result<(), Memory> {
     let mut kept = Vec::new(*out.allocator());
     for sign in signs.as_bytes() {
         kept.push(*sign == b'+')?;
@@ -63,7 +67,7 @@ fn push_image(out: &mut String, disk: &MemDisk, calls: u64, signs: &str) -> Resu
     Ok(())
 }
 
-fn push_recorded(out: &mut String, call: &DeviceCall) -> Result<()> {
+fn push_recorded(out: &mut String, call: &DeviceCall) -> Result<(), Memory> {
     match call {
         DeviceCall::Length => out.push_str("length")?,
         DeviceCall::Read { at, length } => write!(out, "read {at} {length}")?,
@@ -78,7 +82,7 @@ fn push_recorded(out: &mut String, call: &DeviceCall) -> Result<()> {
 }
 
 /// Adds copies of the calls that a disk has recorded.
-fn push_calls(out: &mut String, disk: &MemDisk) -> Result<()> {
+fn push_calls(out: &mut String, disk: &MemDisk) -> Result<(), Memory> {
     let mut comma = "";
     for call in disk.calls() {
         out.push_str(comma)?;
@@ -88,7 +92,7 @@ fn push_calls(out: &mut String, disk: &MemDisk) -> Result<()> {
     Ok(())
 }
 
-fn push_recording(out: &mut String, disk: &mut MemDisk, words: &[&str]) -> Result<()> {
+fn push_recording(out: &mut String, disk: &mut MemDisk, words: &[&str]) -> Result<(), Memory> {
     match words {
         ["calls"] => push_calls(out, disk),
         ["image", calls] => push_image(out, disk, number_in(calls), ""),
@@ -97,20 +101,17 @@ fn push_recording(out: &mut String, disk: &mut MemDisk, words: &[&str]) -> Resul
     }
 }
 
-/// Adds what a disk in memory answers to calls.
-pub(crate) fn push_disk(
-    out: &mut String,
-    content: &str,
-    fails: List<u64>,
-    calls: &[&str],
-) -> Result<()> {
-    let alloc = *out.allocator();
-    let mut disk = MemDisk::new(Bytes::from_slice(alloc, content.as_bytes())?, fails);
+fn push_line(out: &mut String, disk: &mut MemDisk, call: &str) -> Result<(), Memory> {
+    let words: Vec<&str> = call.split_whitespace().collect(*out.allocator())?;
+    push_call(out, call)?;
+    push_recording(out, disk, words.as_slice())?;
+    out.push('\n')?;
+    Ok(())
+}
+
+fn push_lines(out: &mut String, disk: &mut MemDisk, calls: &[&str]) -> Result<(), Memory> {
     for call in calls {
-        push_call(out, call)?;
-        let words: Vec<&str> = call.split_whitespace().collect(alloc)?;
-        push_recording(out, &mut disk, words.as_slice())?;
-        out.push('\n')?;
+        push_line(out, disk, call)?;
     }
     writeln!(
         out,
@@ -121,15 +122,34 @@ pub(crate) fn push_disk(
     Ok(())
 }
 
-/// Adds what an empty disk that never fails answers to calls.
-pub(crate) fn push_sure_disk(out: &mut String, calls: &[&str]) -> Result<()> {
-    let alloc = *out.allocator();
-    let mut disk = SureDisk::new(Bytes::new(alloc));
+/// Adds what a disk in memory answers to calls.
+pub(crate) fn push_disk(
+    out: &mut String,
+    content: &str,
+    fails: List<u64>,
+    calls: &[&str],
+) -> Result<(), Memory> {
+    let content = Bytes::from_slice(*out.allocator(), content.as_bytes())?;
+    push_lines(out, &mut MemDisk::new(content, fails), calls)
+}
+
+fn push_sure_line(out: &mut String, disk: &mut SureDisk, call: &str) -> Result<(), Memory> {
+    let words: Vec<&str> = call.split_whitespace().collect(*out.allocator())?;
+    push_call(out, call)?;
+    push_answer(out, disk, words.as_slice())?;
+    out.push('\n')?;
+    Ok(())
+}
+
+fn push_sure_lines(out: &mut String, disk: &mut SureDisk, calls: &[&str]) -> Result<(), Memory> {
     for call in calls {
-        push_call(out, call)?;
-        let words: Vec<&str> = call.split_whitespace().collect(alloc)?;
-        push_answer(out, &mut disk, words.as_slice())?;
-        out.push('\n')?;
+        push_sure_line(out, disk, call)?;
     }
     Ok(())
+}
+
+/// Adds what an empty disk that never fails answers to calls.
+pub(crate) fn push_sure_disk(out: &mut String, calls: &[&str]) -> Result<(), Memory> {
+    let empty = Bytes::new(*out.allocator());
+    push_sure_lines(out, &mut SureDisk::new(empty), calls)
 }

@@ -10,26 +10,27 @@ mod shelves;
 mod streams;
 
 use afl_outside::{Gate, OpenGate, Point, has_risen};
-use anyhow::Result;
 use cell_values::{List, Memory};
-use disks::{push_disk, push_sure_disk};
+use disks::{number_in, push_disk, push_sure_disk};
 use shelves::push_shelf;
 use std::alloc::Global;
+use std::io;
 use streams::{push_sink, push_source, push_sure_sink, push_sure_source};
+use test_kit::{begin_answer, input};
 
 /// The numbers of the calls that are to fail.
 fn numbers_in(alloc: Global, words: &[&str]) -> Result<List<u64>, Memory> {
     let mut numbers = List::new(alloc);
     for word in words {
-        numbers.push(word.parse::<u64>().unwrap_or(0))?;
+        numbers.push(number_in(word))?;
     }
     Ok(numbers)
 }
 
 /// Adds whether a count of failed calls has risen.
-fn push_risen(out: &mut String, before: &str, now: &str) -> Result<()> {
-    let before = before.parse::<u64>().unwrap_or(0);
-    let now = now.parse::<u64>().unwrap_or(0);
+fn push_risen(out: &mut String, before: &str, now: &str) -> Result<(), Memory> {
+    let before = number_in(before);
+    let now = number_in(now);
     if before <= now && has_risen(before, now) {
         out.push_str("risen\n")?;
     } else {
@@ -39,7 +40,7 @@ fn push_risen(out: &mut String, before: &str, now: &str) -> Result<()> {
 }
 
 /// Adds what an object answers to calls.
-fn push_answers(out: &mut String, object: &[&str], calls: &[&str]) -> Result<()> {
+fn push_answers(out: &mut String, object: &[&str], calls: &[&str]) -> Result<(), Memory> {
     let alloc = *out.allocator();
     match object {
         ["source", content, fails @ ..] => {
@@ -56,26 +57,38 @@ fn push_answers(out: &mut String, object: &[&str], calls: &[&str]) -> Result<()>
     }
 }
 
-/// Prints a title, or a line and the answers to its calls.
-fn tell(rt: &(impl Print + AllocGlobal), line: &str) -> Result<()> {
-    if line.starts_with("##") {
-        println!(rt; "{line}")?;
-        return Ok(());
+fn push_object(out: &mut String, parts: &[&str]) -> Result<(), Memory> {
+    match parts {
+        [object, calls @ ..] => {
+            let words: Vec<&str> = object.split_whitespace().collect(*out.allocator())?;
+            push_answers(out, words.as_slice(), calls)
+        }
+        [] => Ok(()),
     }
-    let parts: Vec<&str> = line.split('|').collect(rt.alloc())?;
-    let mut answers = String::new(rt.alloc());
-    if let [object, calls @ ..] = parts.as_slice() {
-        let words: Vec<&str> = object.split_whitespace().collect(rt.alloc())?;
-        push_answers(&mut answers, words.as_slice(), calls)?;
+}
+
+/// Adds a title, or a line and the answers to its calls.
+fn push_line(out: &mut String, line: &str) -> Result<(), Memory> {
+    if begin_answer(out, line)? {
+        let parts: Vec<&str> = line.split('|').collect(*out.allocator())?;
+        push_object(out, parts.as_slice())?;
     }
-    print!(rt; "> {line}\n{answers}")?;
     Ok(())
 }
 
-fn main(rt: HostRuntime) -> Result<()> {
-    for line in rt.lines(rt.alloc()) {
-        tell(&rt, line?.as_str())?;
+fn push_lines(out: &mut String, lines: &str) -> Result<(), Memory> {
+    for line in lines.lines() {
+        push_line(out, line)?;
     }
-    OpenGate.pass(0, Point::Statement(0));
     Ok(())
+}
+
+fn main(rt: HostRuntime) -> io::Result<()> {
+    OpenGate.pass(0, Point::Statement(0));
+    let lines = input(&rt)?;
+    let mut out = String::new(rt.alloc());
+    match push_lines(&mut out, lines.as_str()) {
+        Ok(()) => print!(rt; "{out}"),
+        Err(Memory) => println!(rt; "no memory"),
+    }
 }

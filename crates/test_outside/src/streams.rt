@@ -1,19 +1,22 @@
 //! Sources and sinks.
 
 use afl_outside::{Failed, MemSink, MemSource, Sink, Source, SureSink, SureSource};
-use anyhow::Result;
-use cell_values::{Bytes, List};
+use cell_values::{Bytes, List, Memory};
 use test_kit::push_text;
 
 /// Adds the call that an answer belongs to.
-pub(crate) fn push_call(out: &mut String, call: &str) -> Result<()> {
+pub(crate) fn push_call(out: &mut String, call: &str) -> Result<(), Memory> {
     out.push_str(call.trim())?;
     out.push_str(": ")?;
     Ok(())
 }
 
 /// Adds what a read of so many bytes gives, eight at most.
-pub(crate) fn push_read<S: Source>(out: &mut String, source: &mut S, count: &str) -> Result<()> {
+pub(crate) fn push_read<S: Source>(
+    out: &mut String,
+    source: &mut S,
+    count: &str,
+) -> Result<(), Memory> {
     let mut piece = [0u8; 8];
     let count = count.trim().parse::<usize>().unwrap_or(0).min(8);
     match source.read(&mut piece[..count]) {
@@ -24,7 +27,11 @@ pub(crate) fn push_read<S: Source>(out: &mut String, source: &mut S, count: &str
 }
 
 /// Adds how many bytes of a piece a sink takes.
-pub(crate) fn push_write<S: Sink>(out: &mut String, sink: &mut S, bytes: &str) -> Result<()> {
+pub(crate) fn push_write<S: Sink>(
+    out: &mut String,
+    sink: &mut S,
+    bytes: &str,
+) -> Result<(), Memory> {
     match sink.write(bytes.trim().as_bytes()) {
         Ok(taken) => write!(out, "{taken} taken")?,
         Err(Failed) => out.push_str("failed")?,
@@ -32,7 +39,7 @@ pub(crate) fn push_write<S: Sink>(out: &mut String, sink: &mut S, bytes: &str) -
     Ok(())
 }
 
-fn push_reads<S: Source>(out: &mut String, source: &mut S, calls: &[&str]) -> Result<()> {
+fn push_reads<S: Source>(out: &mut String, source: &mut S, calls: &[&str]) -> Result<(), Memory> {
     for call in calls {
         push_call(out, call)?;
         push_read(out, source, call.trim().strip_prefix("read").unwrap_or(""))?;
@@ -42,7 +49,7 @@ fn push_reads<S: Source>(out: &mut String, source: &mut S, calls: &[&str]) -> Re
     Ok(())
 }
 
-fn push_writes<S: Sink>(out: &mut String, sink: &mut S, calls: &[&str]) -> Result<()> {
+fn push_writes<S: Sink>(out: &mut String, sink: &mut S, calls: &[&str]) -> Result<(), Memory> {
     for call in calls {
         push_call(out, call)?;
         push_write(out, sink, call.trim().strip_prefix("write").unwrap_or(""))?;
@@ -58,10 +65,10 @@ fn push_writes<S: Sink>(out: &mut String, sink: &mut S, calls: &[&str]) -> Resul
 }
 
 /// Adds the bytes that a sink holds.
-pub(crate) fn push_held(out: &mut String, bytes: &[u8]) -> Result<()> {
+pub(crate) fn push_held(out: &mut String, bytes: &[u8]) -> Result<(), Memory> {
     out.push_str("holds '")?;
     push_text(out, bytes)?;
-    out.push_str("'\n")?;
+    out.push('\'')?;
     Ok(())
 }
 
@@ -71,13 +78,17 @@ pub(crate) fn push_source(
     content: &str,
     fails: List<u64>,
     calls: &[&str],
-) -> Result<()> {
+) -> Result<(), Memory> {
     let content = Bytes::from_slice(*out.allocator(), content.as_bytes())?;
     push_reads(out, &mut MemSource::new(content, fails), calls)
 }
 
 /// Adds what a source that never fails answers to calls.
-pub(crate) fn push_sure_source(out: &mut String, content: &str, calls: &[&str]) -> Result<()> {
+pub(crate) fn push_sure_source(
+    out: &mut String,
+    content: &str,
+    calls: &[&str],
+) -> Result<(), Memory> {
     let content = Bytes::from_slice(*out.allocator(), content.as_bytes())?;
     push_reads(out, &mut SureSource::new(content), calls)
 }
@@ -88,17 +99,25 @@ pub(crate) fn push_sink(
     content: &str,
     fails: List<u64>,
     calls: &[&str],
-) -> Result<()> {
+) -> Result<(), Memory> {
     let content = Bytes::from_slice(*out.allocator(), content.as_bytes())?;
     let mut sink = MemSink::new(content, fails);
     push_writes(out, &mut sink, calls)?;
-    push_held(out, sink.bytes())
+    push_held(out, sink.bytes())?;
+    out.push('\n')?;
+    Ok(())
 }
 
 /// Adds what a sink that never fails answers to calls, and what it holds.
-pub(crate) fn push_sure_sink(out: &mut String, content: &str, calls: &[&str]) -> Result<()> {
+pub(crate) fn push_sure_sink(
+    out: &mut String,
+    content: &str,
+    calls: &[&str],
+) -> Result<(), Memory> {
     let content = Bytes::from_slice(*out.allocator(), content.as_bytes())?;
     let mut sink = SureSink::new(content);
     push_writes(out, &mut sink, calls)?;
-    push_held(out, sink.bytes())
+    push_held(out, sink.bytes())?;
+    out.push('\n')?;
+    Ok(())
 }

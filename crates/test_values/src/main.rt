@@ -9,13 +9,13 @@ mod lists;
 mod places;
 mod table;
 
-use anyhow::Result;
 use cell_values::{Bytes, Code, Memory, Name};
 use lists::Lists;
 use places::{push_bounds, push_box, push_broken, push_order, push_row, push_same};
+use std::io;
 use std::str::from_utf8;
 use table::{push_one, push_two};
-use test_kit::{push_text, text_of};
+use test_kit::{begin_answer, input, push_text, text_of};
 
 /// Adds the name that a text is.
 fn push_name(out: &mut String, text: &str) -> Result<(), Memory> {
@@ -54,25 +54,32 @@ fn push_answer(out: &mut String, lists: &mut Lists, words: &[&str]) -> Result<()
     }
 }
 
-/// Prints a title, or a line and its answer.
-fn tell(rt: &(impl Print + AllocGlobal), lists: &mut Lists, line: &str) -> Result<()> {
-    if line.starts_with("##") {
-        println!(rt; "{line}")?;
-        return Ok(());
+/// Adds a title, or a line and its answer.
+fn push_line(out: &mut String, lists: &mut Lists, line: &str) -> Result<(), Memory> {
+    if begin_answer(out, line)? {
+        let alloc = *out.allocator();
+        let text = text_of(alloc, line.as_bytes())?;
+        let text = from_utf8(text.as_slice()).unwrap_or("");
+        let words: Vec<&str> = text.split_whitespace().collect(alloc)?;
+        push_answer(out, lists, words.as_slice())?;
+        out.push('\n')?;
     }
-    let text = text_of(rt.alloc(), line.as_bytes())?;
-    let text = from_utf8(text.as_slice()).unwrap_or("");
-    let words: Vec<&str> = text.split_whitespace().collect(rt.alloc())?;
-    let mut answer = String::new(rt.alloc());
-    push_answer(&mut answer, lists, words.as_slice())?;
-    println!(rt; "> {line}\n{answer}")?;
     Ok(())
 }
 
-fn main(rt: HostRuntime) -> Result<()> {
-    let mut lists = Lists::new(rt.alloc());
-    for line in rt.lines(rt.alloc()) {
-        tell(&rt, &mut lists, line?.as_str())?;
+fn push_lines(out: &mut String, lists: &mut Lists, lines: &str) -> Result<(), Memory> {
+    for line in lines.lines() {
+        push_line(out, lists, line)?;
     }
     Ok(())
+}
+
+fn main(rt: HostRuntime) -> io::Result<()> {
+    let lines = input(&rt)?;
+    let mut lists = Lists::new(rt.alloc());
+    let mut out = String::new(rt.alloc());
+    match push_lines(&mut out, &mut lists, lines.as_str()) {
+        Ok(()) => print!(rt; "{out}"),
+        Err(Memory) => println!(rt; "no memory"),
+    }
 }

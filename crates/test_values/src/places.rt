@@ -1,7 +1,10 @@
 //! Coordinates, boxes and rows.
 
 use array_rows::is_in_box;
-use cell_values::{Bounds, Broken, Cell, FaultKind, List, Memory, Row, row_major, same_place};
+use cell_values::{
+    Bounds, Broken, Cell, Datum, FaultKind, List, Memory, Row, row_major, same_place,
+};
+use std::alloc::Global;
 use std::cmp::Ordering;
 use test_kit::{coord_in, datum_of, fault_of, push_coord, push_datum};
 
@@ -30,14 +33,13 @@ pub(crate) fn push_broken(out: &mut String, at: &str, kind: &str) -> Result<(), 
     let copy = broken.copy()?;
     push_coord(out, &copy.at)?;
     out.push(' ')?;
-    push_datum(out, &cell_values::Datum::Bad(copy.kind))?;
+    push_datum(out, &Datum::Bad(copy.kind))?;
     Ok(())
 }
 
-fn push_copied(out: &mut String, row: &Row) -> Result<(), Memory> {
-    let copy = row.copy()?;
-    push_coord(out, &copy.at)?;
-    if let Cell::Full(values) = &copy.cell {
+fn push_shown(out: &mut String, row: &Row) -> Result<(), Memory> {
+    push_coord(out, &row.at)?;
+    if let Cell::Full(values) = &row.cell {
         for value in values.as_slice() {
             out.push(' ')?;
             push_datum(out, value)?;
@@ -46,16 +48,29 @@ fn push_copied(out: &mut String, row: &Row) -> Result<(), Memory> {
     Ok(())
 }
 
-/// Adds a copy of a row.
-pub(crate) fn push_row(out: &mut String, at: &str, words: &[&str]) -> Result<(), Memory> {
-    let alloc = *out.allocator();
+fn push_copied(out: &mut String, row: &Row) -> Result<(), Memory> {
+    let copy = row.copy()?;
+    push_shown(out, &copy)
+}
+
+fn push_value(values: &mut List<Datum>, word: &str) -> Result<(), Memory> {
+    let value = datum_of(values.allocator(), word)?;
+    values.push(value)
+}
+
+fn values_of(alloc: Global, words: &[&str]) -> Result<List<Datum>, Memory> {
     let mut values = List::new(alloc);
     for word in words {
-        values.push(datum_of(alloc, word)?)?;
+        push_value(&mut values, word)?;
     }
+    Ok(values)
+}
+
+/// Adds a copy of a row.
+pub(crate) fn push_row(out: &mut String, at: &str, words: &[&str]) -> Result<(), Memory> {
     let row = Row {
         at: coord_in(at),
-        cell: Cell::Full(values),
+        cell: Cell::Full(values_of(*out.allocator(), words)?),
     };
     push_copied(out, &row)
 }
