@@ -1,5 +1,6 @@
 //! Copies of expressions.
 ghost use Rattle.std.specs.Prelude.{◌≡◌, IfOk};
+ghost use Rattle.expr_nulls.specs.Expr.{conditional};
 ghost use Rattle.expr_nulls.specs.Inner.ExprView.{expr_of};
 
 use crate::{ExprNode, TypedExpr};
@@ -13,6 +14,41 @@ fn copy_operand(operand: &Box<TypedExpr>) -> Result<Box<TypedExpr>, Memory>
 }
 
 #[cycle(copy_expr)]
+fn copy_two(
+    a: &Box<TypedExpr>,
+    b: &Box<TypedExpr>,
+) -> Result<(Box<TypedExpr>, Box<TypedExpr>), Memory>
+    ensures { IfOk result (λ copies. (copies.0.value ≡ a.now.value) × (copies.1.value ≡ b.now.value)) }
+{
+    let one = copy_operand(a)?;
+    match copy_operand(b) {
+        Ok(two) => Ok((one, two)),
+        Err(Memory) => {
+            drop(one);
+            Err(Memory)
+        }
+    }
+}
+
+#[cycle(copy_expr)]
+fn copy_iif(
+    test: &Box<TypedExpr>,
+    a: &Box<TypedExpr>,
+    b: &Box<TypedExpr>,
+) -> Result<ExprNode, Memory>
+    ensures { IfOk result (λ copy. expr_of copy ≡ conditional test.now.value a.now.value b.now.value) }
+{
+    let test = copy_operand(test)?;
+    match copy_two(a, b) {
+        Ok((a, b)) => Ok(ExprNode::Iif(test, a, b)),
+        Err(Memory) => {
+            drop(test);
+            Err(Memory)
+        }
+    }
+}
+
+#[cycle(copy_expr)]
 fn copy_node(node: &ExprNode) -> Result<ExprNode, Memory>
     ensures { IfOk result (λ copy. expr_of copy ≡ expr_of node.now) }
 {
@@ -23,18 +59,22 @@ fn copy_node(node: &ExprNode) -> Result<ExprNode, Memory>
         ExprNode::Neg(a) => Ok(ExprNode::Neg(copy_operand(a)?)),
         ExprNode::Not(a) => Ok(ExprNode::Not(copy_operand(a)?)),
         ExprNode::Arith(op, a, b) => {
-            Ok(ExprNode::Arith(*op, copy_operand(a)?, copy_operand(b)?))
+            let (a, b) = copy_two(a, b)?;
+            Ok(ExprNode::Arith(*op, a, b))
         }
         ExprNode::Compare(op, a, b) => {
-            Ok(ExprNode::Compare(*op, copy_operand(a)?, copy_operand(b)?))
+            let (a, b) = copy_two(a, b)?;
+            Ok(ExprNode::Compare(*op, a, b))
         }
-        ExprNode::And(a, b) => Ok(ExprNode::And(copy_operand(a)?, copy_operand(b)?)),
-        ExprNode::Or(a, b) => Ok(ExprNode::Or(copy_operand(a)?, copy_operand(b)?)),
-        ExprNode::Iif(test, a, b) => Ok(ExprNode::Iif(
-            copy_operand(test)?,
-            copy_operand(a)?,
-            copy_operand(b)?,
-        )),
+        ExprNode::And(a, b) => {
+            let (a, b) = copy_two(a, b)?;
+            Ok(ExprNode::And(a, b))
+        }
+        ExprNode::Or(a, b) => {
+            let (a, b) = copy_two(a, b)?;
+            Ok(ExprNode::Or(a, b))
+        }
+        ExprNode::Iif(test, a, b) => copy_iif(test, a, b),
         ExprNode::IsNull(a) => Ok(ExprNode::IsNull(copy_operand(a)?)),
         ExprNode::StrLen(a) => Ok(ExprNode::StrLen(copy_operand(a)?)),
         ExprNode::ToText(a) => Ok(ExprNode::ToText(copy_operand(a)?)),

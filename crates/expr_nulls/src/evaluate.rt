@@ -1,6 +1,6 @@
 //! The value of an expression at a cell.
 ghost use Rattle.std.specs.Prelude.{◌≡◌, IsTrue, IfOk, slice_index_or};
-ghost use Rattle.expr_nulls.specs.Expr.{calculation, relation, conjunction, disjunction, conditional};
+ghost use Rattle.expr_nulls.specs.Expr.{minus, denial, calculation, relation, conjunction, disjunction, conditional, null_test, byte_length, decimal_text, coded_null, null_code};
 ghost use Rattle.expr_nulls.specs.ExprValue.{value_of, calculated, number_at};
 ghost use Rattle.expr_nulls.specs.Typing.{TypedValuesFit};
 ghost use Rattle.expr_nulls.specs.Inner.Seen.{datum_of, DecidesBoth, DecidesEither};
@@ -63,22 +63,117 @@ fn see<'a>(
         ExprNode::Lit(value) => Ok(Seen::Held(value)),
         ExprNode::Attr(place) => Ok(attribute(values, *place)),
         ExprNode::Dim(place) => Ok(Seen::Made(dimension(at, *place))),
-        ExprNode::Neg(a) => Ok(Seen::Made(neg(see(alloc, a, at, values)?.get()))),
-        ExprNode::Not(a) => Ok(Seen::Made(not3(see(alloc, a, at, values)?.get()))),
+        ExprNode::Neg(a) => see_negation(alloc, a, at, values),
+        ExprNode::Not(a) => see_denial(alloc, a, at, values),
         ExprNode::Arith(op, a, b) => see_calculation(alloc, *op, a, b, at, values),
         ExprNode::Compare(op, a, b) => see_comparison(alloc, *op, a, b, at, values),
         ExprNode::And(a, b) => see_and(alloc, a, b, at, values),
         ExprNode::Or(a, b) => see_or(alloc, a, b, at, values),
         ExprNode::Iif(test, a, b) => see_iif(alloc, test, a, b, at, values),
-        ExprNode::IsNull(a) => Ok(Seen::Made(test_null(see(alloc, a, at, values)?.get()))),
-        ExprNode::StrLen(a) => Ok(Seen::Made(measure_text(see(alloc, a, at, values)?.get()))),
-        ExprNode::ToText(a) => {
-            let number = see(alloc, a, at, values)?;
-            Ok(Seen::Made(spell_number(alloc, number.get())?))
-        }
-        ExprNode::Missing(a) => Ok(Seen::Made(make_null(see(alloc, a, at, values)?.get()))),
-        ExprNode::Reason(a) => Ok(Seen::Made(tell_reason(see(alloc, a, at, values)?.get()))),
+        ExprNode::IsNull(a) => see_test(alloc, a, at, values),
+        ExprNode::StrLen(a) => see_length(alloc, a, at, values),
+        ExprNode::ToText(a) => see_text(alloc, a, at, values),
+        ExprNode::Missing(a) => see_missing(alloc, a, at, values),
+        ExprNode::Reason(a) => see_reason(alloc, a, at, values),
     }
+}
+
+/// The value of prefix `-`.
+#[cycle(see)]
+fn see_negation<'a>(
+    alloc: Global,
+    a: &'a TypedExpr,
+    at: &Coord,
+    values: &'a [Datum],
+) -> Result<Seen<'a>, Memory>
+    ensures { IfOk result (λ seen. datum_of seen ≡ value_of (minus a.now) at.now.items values.now) }
+{
+    let a = see(alloc, a, at, values)?;
+    Ok(Seen::Made(neg(a.get())))
+}
+
+/// The value of `not`.
+#[cycle(see)]
+fn see_denial<'a>(
+    alloc: Global,
+    a: &'a TypedExpr,
+    at: &Coord,
+    values: &'a [Datum],
+) -> Result<Seen<'a>, Memory>
+    ensures { IfOk result (λ seen. datum_of seen ≡ value_of (denial a.now) at.now.items values.now) }
+{
+    let a = see(alloc, a, at, values)?;
+    Ok(Seen::Made(not3(a.get())))
+}
+
+/// The value of `is_null`.
+#[cycle(see)]
+fn see_test<'a>(
+    alloc: Global,
+    a: &'a TypedExpr,
+    at: &Coord,
+    values: &'a [Datum],
+) -> Result<Seen<'a>, Memory>
+    ensures { IfOk result (λ seen. datum_of seen ≡ value_of (null_test a.now) at.now.items values.now) }
+{
+    let a = see(alloc, a, at, values)?;
+    Ok(Seen::Made(test_null(a.get())))
+}
+
+/// The value of `strlen`.
+#[cycle(see)]
+fn see_length<'a>(
+    alloc: Global,
+    a: &'a TypedExpr,
+    at: &Coord,
+    values: &'a [Datum],
+) -> Result<Seen<'a>, Memory>
+    ensures { IfOk result (λ seen. datum_of seen ≡ value_of (byte_length a.now) at.now.items values.now) }
+{
+    let a = see(alloc, a, at, values)?;
+    Ok(Seen::Made(measure_text(a.get())))
+}
+
+/// The value of `string`.
+#[cycle(see)]
+fn see_text<'a>(
+    alloc: Global,
+    a: &'a TypedExpr,
+    at: &Coord,
+    values: &'a [Datum],
+) -> Result<Seen<'a>, Memory>
+    ensures { IfOk result (λ seen. datum_of seen ≡ value_of (decimal_text a.now) at.now.items values.now) }
+{
+    let number = see(alloc, a, at, values)?;
+    Ok(Seen::Made(spell_number(alloc, number.get())?))
+}
+
+/// The value of `missing`.
+#[cycle(see)]
+fn see_missing<'a>(
+    alloc: Global,
+    a: &'a TypedExpr,
+    at: &Coord,
+    values: &'a [Datum],
+) -> Result<Seen<'a>, Memory>
+    ensures { IfOk result (λ seen. datum_of seen ≡ value_of (coded_null a.now) at.now.items values.now) }
+{
+    let a = see(alloc, a, at, values)?;
+    Ok(Seen::Made(make_null(a.get())))
+}
+
+/// The value of `missing_reason`.
+#[cycle(see)]
+fn see_reason<'a>(
+    alloc: Global,
+    a: &'a TypedExpr,
+    at: &Coord,
+    values: &'a [Datum],
+) -> Result<Seen<'a>, Memory>
+    ensures { IfOk result (λ seen. datum_of seen ≡ value_of (null_code a.now) at.now.items values.now) }
+{
+    let a = see(alloc, a, at, values)?;
+    Ok(Seen::Made(tell_reason(a.get())))
 }
 
 /// The value of an operator on two operands.

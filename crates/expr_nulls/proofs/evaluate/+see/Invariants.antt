@@ -19,3 +19,24 @@ decreases-see_or l = 2 * (expr_size l.a.now + expr_size l.b.now) + 1
 
 abbrev pub decreases-see_iif : goal.decreases-see_iif
 decreases-see_iif l = 2 * (expr_size l.test.now + expr_size l.a.now + expr_size l.b.now) + 1
+
+abbrev pub decreases-see_negation : goal.decreases-see_negation
+decreases-see_negation l = 2 * expr_size l.a.now + 1
+
+abbrev pub decreases-see_denial : goal.decreases-see_denial
+decreases-see_denial l = 2 * expr_size l.a.now + 1
+
+abbrev pub decreases-see_test : goal.decreases-see_test
+decreases-see_test l = 2 * expr_size l.a.now + 1
+
+abbrev pub decreases-see_length : goal.decreases-see_length
+decreases-see_length l = 2 * expr_size l.a.now + 1
+
+abbrev pub decreases-see_text : goal.decreases-see_text
+decreases-see_text l = 2 * expr_size l.a.now + 1
+
+abbrev pub decreases-see_missing : goal.decreases-see_missing
+decreases-see_missing l = 2 * expr_size l.a.now + 1
+
+abbrev pub decreases-see_reason : goal.decreases-see_reason
+decreases-see_reason l = 2 * expr_size l.a.now + 1
