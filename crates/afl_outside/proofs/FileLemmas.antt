@@ -1,7 +1,9 @@
 -- What files hold, by name.
 use Rattle.std.proofs.Common.{◌≡◌, ◌≢◌, ◌<◌, ◌≤◌, ◌⊎◌, inl, inr, ℕ, suc, ◌+◌, true, false, List, [], ◌∷◌, ◌++◌, length, get_or, take, drop, remove, cond, Some, None, unwrap_or, Result, Ok, Err, OnErr, IfOk, Contains, refl, sym, ◌∙◌, ap, subst, arith, drop-cons, append_assoc}
 use Rattle.std.proofs.lemmas.List.{get_or_default, take_more}
+use Rattle.std.proofs.lemmas.Option.{get_or_from_slice_get}
 use Rattle.std.proofs.lemmas.Slice.Eq.{bytes_eq-Decides}
+use Rattle.std.specs.List.{slice_get}
 use Rattle.std.specs.Str.{bytes_eq}
 use Rattle.std.specs.Option.{option_map}
 use Rattle.std.specs.declared.option.Option.{Option}
@@ -65,6 +67,13 @@ module _ (files : List MemFile) (i : ℕ) (name : List ℕ) (f : MemFile) (lt : 
       ∙ sym (append_assoc (take i files) (f ∷ []) rest)
       ∙ ap (λ (l : List MemFile). l ++ rest) (ap (λ (x : MemFile). take i files ++ x ∷ []) is ∙ sym (take_more files i f lt))
       ∙ ap (λ k. take (i + 1) files ++ without (drop k files) name) (let e : suc i ≡ i + 1 = omega arith in e)
+
+-- what is taken from the place where a name was found
+pub taken : (files : List MemFile) (i : ℕ) (name : List ℕ) (f : MemFile) → slice_get files i ≡ Some f → (i < length files) × ((d : MemFile) → ((get_or files i d).name ≡ name) × (file_of files name ≡ Some (get_or files i d)))
+    → (f.name ≡ name) × (Some f ≡ file_of files name)
+taken files i name f is here =
+    let item : get_or files i f ≡ f = get_or_from_slice_get files i f f is in
+    (sym (ap (λ (x : MemFile). x.name) item) ∙ (here.1 f).0, sym ((here.1 f).1 ∙ ap Some item))
 
 -- what a shelf leaves of other names, whichever name was asked
 record KeepsOthers (asked : List ℕ) (old new : MemoryShelf) : Type 0 where

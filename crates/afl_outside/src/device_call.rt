@@ -4,7 +4,7 @@ ghost use Rattle.std.specs.Prelude.{◌≡◌, IfOk};
 use cell_values::{Bytes, Copies, Memory};
 
 /// A call of a disk.
-#[derive(Debug, Drop, PartialEq, Eq)]
+#[derive(Drop)]
 pub enum DeviceCall {
     /// The length was asked.
     Length,

@@ -11,7 +11,7 @@ use cell_values::{Bytes, List, Memory};
 use std::marker::Model;
 
 /// `over` holds the bytes once a write was done: a disk is made without new memory.
-#[derive(Debug, Drop)]
+#[derive(Drop)]
 pub(crate) struct DiskRecord {
     first: Bytes,
     over: Option<Vec<u8>>,

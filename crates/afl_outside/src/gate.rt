@@ -1,7 +1,7 @@
 //! Where a session and a worker may be held.
 
 /// A place that a session or a worker passes.
-#[derive(Clone, Copy, Debug, PartialEq, Eq)]
+#[derive(Clone, Copy)]
 pub enum Point {
     /// Before the pin of the statement of this number, which counts from 0 in each script.
     Statement(u64),
@@ -20,7 +20,7 @@ pub trait Gate: Sync {
 }
 
 /// Holds nobody.
-#[derive(Clone, Copy, Debug)]
+#[derive(Clone, Copy)]
 pub struct OpenGate;
 
 impl Gate for OpenGate {

@@ -1,5 +1,5 @@
 //! A disk in memory whose calls fail where a list says so. It keeps a record of all its calls.
-ghost use Rattle.std.specs.Prelude.{◌≡◌, ◌≤◌, ◌↔◌, [], length, take, IsTrue, IfOk, true, false};
+ghost use Rattle.std.specs.Prelude.{◌≡◌, ◌≤◌, ◌↔◌, [], length, take, cond, IsTrue, IfOk, true, false};
 ghost use Rattle.std.specs.Io.{ReadsAtMost};
 ghost use Rattle.afl_outside.specs.Disk.{ReadsAt};
 ghost use Rattle.afl_outside.specs.Images.{IsNote, Leaves, stopped_image};
@@ -15,7 +15,7 @@ use std::marker::Model;
 
 /// A disk in memory, some of whose calls fail. It keeps a record of all its calls, failed ones included. A write that the
 /// list lets fail has written all its bytes. A call that finds no memory changes no byte and isn't recorded.
-#[derive(Debug, Drop)]
+#[derive(Drop)]
 pub struct MemDisk {
     name: Bytes,
     kept: DiskRecord,
@@ -91,8 +91,7 @@ impl MemDisk {
         ensures wants_later { self.old.wants ≤ self.new.wants }
     {
         let fails = self.fails_next();
-        let call = if fails { undone } else { done };
-        match self.kept.note(call) {
+        match self.kept.note(one_of(fails, undone, done)) {
             Ok(()) if fails => {
                 self.faults = self.faults.saturating_add(1);
                 Err(Failed)
@@ -103,6 +102,22 @@ impl MemDisk {
                 Err(Failed)
             }
         }
+    }
+}
+
+/// The first call where it is to be that one, else the second.
+fn one_of(is_first: bool, first: DeviceCall, second: DeviceCall) -> DeviceCall
+    requires first { IsNote first }
+    requires second { IsNote second }
+    ensures call { result ≡ cond is_first first second }
+    ensures note { IsNote result }
+{
+    if is_first {
+        drop(second);
+        first
+    } else {
+        drop(first);
+        second
     }
 }
 

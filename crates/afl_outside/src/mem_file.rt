@@ -4,7 +4,7 @@ ghost use Rattle.std.specs.Prelude.{◌≡◌, IfOk};
 use cell_values::{Bytes, Copies, List, Memory};
 
 /// A file in memory, and the numbers, from 0, of the calls on it that are to fail.
-#[derive(Debug, Drop, PartialEq, Eq)]
+#[derive(Drop)]
 pub struct MemFile {
     pub name: Bytes,
     pub content: Bytes,
@@ -16,11 +16,25 @@ impl MemFile {
     pub fn copy(&self) -> Result<MemFile, Memory>
         ensures { IfOk result (λ copy. copy ≡ self.now) }
     {
-        Ok(MemFile {
-            name: self.name.copy()?,
-            content: self.content.copy()?,
-            fails: self.fails.copy()?,
-        })
+        let fails = self.fails.copy()?;
+        match self.name.copy() {
+            Ok(name) => match self.content.copy() {
+                Ok(content) => Ok(MemFile {
+                    name,
+                    content,
+                    fails,
+                }),
+                Err(Memory) => {
+                    drop(name);
+                    drop(fails);
+                    Err(Memory)
+                }
+            },
+            Err(Memory) => {
+                drop(fails);
+                Err(Memory)
+            }
+        }
     }
 }
 

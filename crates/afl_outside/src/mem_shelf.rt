@@ -13,7 +13,7 @@ use cell_values::{Bytes, List};
 use std::marker::Model;
 
 /// Files in memory. A call that opens a script, a reply or a device takes its file out.
-#[derive(Debug, Drop)]
+#[derive(Drop)]
 pub struct MemShelf {
     files: List<MemFile>,
     replies: List<MemFile>,

@@ -8,7 +8,7 @@ use cell_values::{Bytes, List, Memory};
 use std::marker::Model;
 
 /// A sink in memory, some of whose writes fail.
-#[derive(Debug, Drop)]
+#[derive(Drop)]
 pub struct MemSink {
     name: Bytes,
     held: Bytes,

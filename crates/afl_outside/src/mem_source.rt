@@ -9,7 +9,7 @@ use cell_values::{Bytes, List};
 use std::marker::Model;
 
 /// A source in memory, some of whose reads fail.
-#[derive(Debug, Drop)]
+#[derive(Drop)]
 pub struct MemSource {
     name: Bytes,
     content: Bytes,

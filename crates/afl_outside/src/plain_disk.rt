@@ -12,7 +12,7 @@ use cell_values::{Bytes, Memory};
 use std::marker::Model;
 
 /// A disk in memory that is what was last written to it, and fails only where no memory is found.
-#[derive(Debug, Drop)]
+#[derive(Drop)]
 pub struct PlainDisk {
     first: Bytes,
     over: Option<Vec<u8>>,

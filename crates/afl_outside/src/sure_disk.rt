@@ -13,7 +13,7 @@ use std::marker::Model;
 
 /// A disk in memory that fails only where no memory is found; its reads never fail. It keeps a record of its writes and
 /// syncs, from which the images that a stop might have left are told, so its memory grows with each write.
-#[derive(Debug, Drop)]
+#[derive(Drop)]
 pub struct SureDisk {
     kept: DiskRecord,
     wants: u64,

@@ -7,7 +7,7 @@ use cell_values::{Bytes, Memory};
 use std::marker::Model;
 
 /// A sink in memory that fails only where no memory is found.
-#[derive(Debug, Drop)]
+#[derive(Drop)]
 pub struct SureSink {
     held: Bytes,
     begun: usize,

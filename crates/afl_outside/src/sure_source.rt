@@ -8,7 +8,7 @@ use cell_values::Bytes;
 use std::marker::Model;
 
 /// A source in memory that never fails.
-#[derive(Debug, Drop)]
+#[derive(Drop)]
 pub struct SureSource {
     content: Bytes,
     at: usize,

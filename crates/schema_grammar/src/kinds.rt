@@ -2,7 +2,7 @@
 use cell_values::{Memory, Span};
 
 /// What is wrong with a statement that is well formed.
-#[derive(Clone, Copy, Debug, PartialEq, Eq)]
+#[derive(Clone, Copy, Debug)]
 pub enum TypeKind {
     UnknownType,
     RepeatedName,
@@ -33,7 +33,7 @@ pub enum TypeKind {
 }
 
 /// Why a syntax tree of a schema means none.
-#[derive(Clone, Copy, Debug, PartialEq, Eq)]
+#[derive(Clone, Copy)]
 pub enum SchemaFault {
     /// The first rule that it breaks, with the place of what breaks it.
     Rule { span: Span, kind: TypeKind },

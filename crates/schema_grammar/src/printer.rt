@@ -5,7 +5,7 @@ ghost use Rattle.std.specs.List.{All, join_with_byte};
 ghost use Rattle.cell_values.specs.Naming.{IsName};
 ghost use Rattle.cell_values.specs.Schemas.{IsValid};
 ghost use Rattle.schema_grammar.specs.ReadAs.{IsReadAs};
-ghost use Rattle.schema_grammar.specs.SchemaBytes.{attr_bytes, bounds_bytes, high_bytes, kind_bytes, lengths_bytes, parts_bytes, schema_bytes, separator, shape_bytes};
+ghost use Rattle.schema_grammar.specs.SchemaBytes.{attr_bytes, bounds_bytes, dim_bytes, high_bytes, kind_bytes, lengths_bytes, parts_bytes, schema_bytes, separator, shape_bytes};
 
 use crate::shape_text::UNBOUNDED;
 use crate::{AttrText, DimText, SchemaText};
@@ -86,6 +86,24 @@ fn write_lengths(out: &mut Bytes, chunk: u64, overlap: u64) -> Result<(), Memory
     write_number(out, overlap)
 }
 
+fn write_dimension(
+    out: &mut Bytes,
+    name: &Name,
+    lo: i64,
+    hi: i64,
+    chunk: u64,
+    overlap: u64,
+) -> Result<(), Memory>
+    ensures text { OnOk result (out.new ≡ out.old ++ dim_bytes name.now lo hi chunk overlap) }
+    ensures name { IsName name.now }
+{
+    out.extend(name.as_slice())?;
+    out.push(b'=')?;
+    write_bounds(out, lo, hi)?;
+    out.push(b',')?;
+    write_lengths(out, chunk, overlap)
+}
+
 impl Written for Attribute {
     ghost use Rattle.schema_grammar.specs.SchemaBytes.{attribute_bytes};
 
@@ -118,11 +136,7 @@ impl Written for Dimension {
     ghost named = { λ part. part.name };
 
     fn write(&self, out: &mut Bytes) -> Result<(), Memory> {
-        out.extend(self.name.as_slice())?;
-        out.push(b'=')?;
-        write_bounds(out, self.lo, self.hi)?;
-        out.push(b',')?;
-        write_lengths(out, self.chunk, self.overlap)
+        write_dimension(out, &self.name, self.lo, self.hi, self.chunk, self.overlap)
     }
 }
 
@@ -134,11 +148,7 @@ impl Written for DimText {
     ghost named = { λ part. part.name };
 
     fn write(&self, out: &mut Bytes) -> Result<(), Memory> {
-        out.extend(self.name.as_slice())?;
-        out.push(b'=')?;
-        write_bounds(out, self.lo, self.hi)?;
-        out.push(b',')?;
-        write_lengths(out, self.chunk, self.overlap)
+        write_dimension(out, &self.name, self.lo, self.hi, self.chunk, self.overlap)
     }
 }
 
@@ -150,7 +160,6 @@ fn separate(out: &mut Bytes, at: usize) -> Result<(), Memory>
 }
 
 /// Adds the texts of parts, with commas between.
-
 fn write_all<T: Written>(out: &mut Bytes, parts: &[T]) -> Result<(), Memory>
     ensures text { OnOk result (out.new ≡ out.old ++ join_with_byte 44 (map T.bytes parts.now)) }
     ensures names { OnOk result (All (λ part. IsName (T.named part)) parts.now) }
@@ -160,6 +169,23 @@ fn write_all<T: Written>(out: &mut Bytes, parts: &[T]) -> Result<(), Memory>
         part.write(out)?;
     }
     Ok(())
+}
+
+/// Adds the text of these parts.
+fn write_schema<A: Written, D: Written>(
+    out: &mut Bytes,
+    attributes: &[A],
+    dimensions: &[D],
+) -> Result<(), Memory>
+    ensures text { OnOk result (out.new ≡ out.old ++ parts_bytes (map A.bytes attributes.now) (map D.bytes dimensions.now)) }
+    ensures attributes { OnOk result (All (λ part. IsName (A.named part)) attributes.now) }
+    ensures dimensions { OnOk result (All (λ part. IsName (D.named part)) dimensions.now) }
+{
+    out.push(b'<')?;
+    write_all(out, attributes)?;
+    out.extend(b">[")?;
+    write_all(out, dimensions)?;
+    out.push(b']')
 }
 
 fn write_parts<A: Written, D: Written>(
@@ -172,12 +198,13 @@ fn write_parts<A: Written, D: Written>(
     ensures dimensions { OnOk result (All (λ part. IsName (D.named part)) dimensions.now) }
 {
     let mut text = List::new(alloc);
-    text.push(b'<')?;
-    write_all(&mut text, attributes)?;
-    text.extend(b">[")?;
-    write_all(&mut text, dimensions)?;
-    text.push(b']')?;
-    Ok(text)
+    match write_schema(&mut text, attributes, dimensions) {
+        Ok(()) => Ok(text),
+        Err(Memory) => {
+            drop(text);
+            Err(Memory)
+        }
+    }
 }
 
 /// The one text of a schema, as `<v:int64 not null>[x=0:*,100,2]`. Read again, it means the schema.

@@ -79,7 +79,10 @@ fn end_attribute(attribute: AttrText, symbol: Symbol) -> PartStep<AttrPlace, Att
     match symbol {
         Symbol::Comma => PartStep::Next(attribute),
         Symbol::More => PartStep::Last(attribute),
-        _ => PartStep::Unexpected,
+        _ => {
+            drop(attribute);
+            PartStep::Unexpected
+        }
     }
 }
 
@@ -97,7 +100,95 @@ fn read_null(attribute: AttrText, kind: TokenKind) -> PartStep<AttrPlace, AttrTe
         }
         TokenKind::Word(Word::Null) => PartStep::On(AttrPlace::Ended(attribute)),
         TokenKind::Symbol(symbol) => end_attribute(attribute, symbol),
-        _ => PartStep::Unexpected,
+        _ => {
+            drop(attribute);
+            PartStep::Unexpected
+        }
+    }
+}
+
+/// Before an attribute.
+fn read_attribute_name(
+    alloc: Global,
+    text: &[u8],
+    token: Token,
+) -> Result<PartStep<AttrPlace, AttrText>, Memory>
+    requires { IsTokenOf text.now token }
+    ensures { IfOk result (λ step. step ≡ attr_step AttrPlace.First token.span (lexeme_of text.now token).what) }
+{
+    match token.kind {
+        TokenKind::Name => {
+            let label = label_at(alloc, text, token)?;
+            Ok(PartStep::On(AttrPlace::Named(label)))
+        }
+        _ => Ok(PartStep::Unexpected),
+    }
+}
+
+/// Behind an attribute's name.
+fn read_colon(label: Label, token: Token) -> PartStep<AttrPlace, AttrText>
+    ensures { (bytes : List ℕ) → result ≡ attr_step (AttrPlace.Named label) token.span (what_of token.kind bytes) }
+{
+    match token.kind {
+        TokenKind::Symbol(Symbol::Colon) => PartStep::On(AttrPlace::Typed(label)),
+        _ => {
+            drop(label);
+            PartStep::Unexpected
+        }
+    }
+}
+
+/// Behind an attribute's colon.
+fn read_type(
+    alloc: Global,
+    text: &[u8],
+    label: Label,
+    token: Token,
+) -> Result<PartStep<AttrPlace, AttrText>, Memory>
+    requires { IsTokenOf text.now token }
+    ensures { IfOk result (λ step. step ≡ attr_step (AttrPlace.Typed label) token.span (lexeme_of text.now token).what) }
+{
+    match token.kind {
+        TokenKind::Name => match name_value(alloc, text, &token) {
+            Ok(word) => {
+                let attribute = label.with_word(word, token.span);
+                Ok(PartStep::On(AttrPlace::Worded(attribute)))
+            }
+            Err(Memory) => {
+                drop(label);
+                Err(Memory)
+            }
+        },
+        _ => {
+            drop(label);
+            Ok(PartStep::Unexpected)
+        }
+    }
+}
+
+/// Behind an attribute's `not`.
+fn read_negated(attribute: AttrText, token: Token) -> PartStep<AttrPlace, AttrText>
+    ensures { (bytes : List ℕ) → result ≡ attr_step (AttrPlace.Negated attribute) token.span (what_of token.kind bytes) }
+{
+    match token.kind {
+        TokenKind::Word(Word::Null) => PartStep::On(AttrPlace::Ended(attribute)),
+        _ => {
+            drop(attribute);
+            PartStep::Unexpected
+        }
+    }
+}
+
+/// Behind an attribute's `null`.
+fn read_ended(attribute: AttrText, token: Token) -> PartStep<AttrPlace, AttrText>
+    ensures { (bytes : List ℕ) → result ≡ attr_step (AttrPlace.Ended attribute) token.span (what_of token.kind bytes) }
+{
+    match token.kind {
+        TokenKind::Symbol(symbol) => end_attribute(attribute, symbol),
+        _ => {
+            drop(attribute);
+            PartStep::Unexpected
+        }
     }
 }
 
@@ -112,34 +203,12 @@ fn read_attribute(
     ensures { IfOk result (λ step. step ≡ attr_step place token.span (lexeme_of text.now token).what) }
 {
     match place {
-        AttrPlace::First => match token.kind {
-            TokenKind::Name => {
-                let label = label_at(alloc, text, token)?;
-                Ok(PartStep::On(AttrPlace::Named(label)))
-            }
-            _ => Ok(PartStep::Unexpected),
-        },
-        AttrPlace::Named(label) => match token.kind {
-            TokenKind::Symbol(Symbol::Colon) => Ok(PartStep::On(AttrPlace::Typed(label))),
-            _ => Ok(PartStep::Unexpected),
-        },
-        AttrPlace::Typed(label) => match token.kind {
-            TokenKind::Name => {
-                let word = name_value(alloc, text, &token)?;
-                let attribute = label.with_word(word, token.span);
-                Ok(PartStep::On(AttrPlace::Worded(attribute)))
-            }
-            _ => Ok(PartStep::Unexpected),
-        },
+        AttrPlace::First => read_attribute_name(alloc, text, token),
+        AttrPlace::Named(label) => Ok(read_colon(label, token)),
+        AttrPlace::Typed(label) => read_type(alloc, text, label, token),
         AttrPlace::Worded(attribute) => Ok(read_null(attribute, token.kind)),
-        AttrPlace::Negated(attribute) => match token.kind {
-            TokenKind::Word(Word::Null) => Ok(PartStep::On(AttrPlace::Ended(attribute))),
-            _ => Ok(PartStep::Unexpected),
-        },
-        AttrPlace::Ended(attribute) => match token.kind {
-            TokenKind::Symbol(symbol) => Ok(end_attribute(attribute, symbol)),
-            _ => Ok(PartStep::Unexpected),
-        },
+        AttrPlace::Negated(attribute) => Ok(read_negated(attribute, token)),
+        AttrPlace::Ended(attribute) => Ok(read_ended(attribute, token)),
     }
 }
 
@@ -169,7 +238,10 @@ fn read_low(label: Label, token: Token) -> PartStep<DimPlace, DimText>
             let lo = Bound { value, span };
             PartStep::On(DimPlace::Bounds(label, BoundPlace::Lowered(lo)))
         }
-        _ => PartStep::Unexpected,
+        _ => {
+            drop(label);
+            PartStep::Unexpected
+        }
     }
 }
 
@@ -193,7 +265,10 @@ fn read_high(label: Label, lo: Bound, token: Token) -> PartStep<DimPlace, DimTex
             let hi = Bound { value, span };
             PartStep::On(DimPlace::Numbers(label, lo, hi, NumberPlace::Bounded))
         }
-        _ => PartStep::Unexpected,
+        _ => {
+            drop(label);
+            PartStep::Unexpected
+        }
     }
 }
 
@@ -210,13 +285,19 @@ fn read_bound(label: Label, place: BoundPlace, token: Token) -> PartStep<DimPlac
                 let lo = negated(value, minus, token.span);
                 PartStep::On(DimPlace::Bounds(label, BoundPlace::Lowered(lo)))
             }
-            _ => PartStep::Unexpected,
+            _ => {
+                drop(label);
+                PartStep::Unexpected
+            }
         },
         BoundPlace::Lowered(lo) => match token.kind {
             TokenKind::Symbol(Symbol::Colon) => {
                 PartStep::On(DimPlace::Bounds(label, BoundPlace::High(lo)))
             }
-            _ => PartStep::Unexpected,
+            _ => {
+                drop(label);
+                PartStep::Unexpected
+            }
         },
         BoundPlace::High(lo) => read_high(label, lo, token),
         BoundPlace::HighMinus(lo, minus) => match token.kind {
@@ -224,7 +305,10 @@ fn read_bound(label: Label, place: BoundPlace, token: Token) -> PartStep<DimPlac
                 let hi = negated(value, minus, token.span);
                 PartStep::On(DimPlace::Numbers(label, lo, hi, NumberPlace::Bounded))
             }
-            _ => PartStep::Unexpected,
+            _ => {
+                drop(label);
+                PartStep::Unexpected
+            }
         },
     }
 }
@@ -256,28 +340,85 @@ fn read_number(
             TokenKind::Symbol(Symbol::Comma) => {
                 PartStep::On(DimPlace::Numbers(label, lo, hi, NumberPlace::Chunk))
             }
-            _ => PartStep::Unexpected,
+            _ => {
+                drop(label);
+                PartStep::Unexpected
+            }
         },
         NumberPlace::Chunk => match token.kind {
             TokenKind::Int(value) => {
                 let chunk = count_of(value, token.span);
                 PartStep::On(DimPlace::Numbers(label, lo, hi, NumberPlace::Chunked(chunk)))
             }
-            _ => PartStep::Unexpected,
+            _ => {
+                drop(label);
+                PartStep::Unexpected
+            }
         },
         NumberPlace::Chunked(chunk) => match token.kind {
             TokenKind::Symbol(Symbol::Comma) => {
                 PartStep::On(DimPlace::Numbers(label, lo, hi, NumberPlace::Overlap(chunk)))
             }
-            _ => PartStep::Unexpected,
+            _ => {
+                drop(label);
+                PartStep::Unexpected
+            }
         },
         NumberPlace::Overlap(chunk) => match token.kind {
             TokenKind::Int(value) => {
                 let overlap = count_of(value, token.span);
                 PartStep::On(DimPlace::Ended(label.with_numbers(lo, hi, chunk, overlap)))
             }
-            _ => PartStep::Unexpected,
+            _ => {
+                drop(label);
+                PartStep::Unexpected
+            }
         },
+    }
+}
+
+/// Before a dimension.
+fn read_dimension_name(
+    alloc: Global,
+    text: &[u8],
+    token: Token,
+) -> Result<PartStep<DimPlace, DimText>, Memory>
+    requires { IsTokenOf text.now token }
+    ensures { IfOk result (λ step. step ≡ dim_step DimPlace.First token.span (lexeme_of text.now token).what) }
+{
+    match token.kind {
+        TokenKind::Name => {
+            let label = label_at(alloc, text, token)?;
+            Ok(PartStep::On(DimPlace::Named(label)))
+        }
+        _ => Ok(PartStep::Unexpected),
+    }
+}
+
+/// Behind a dimension's name.
+fn read_equal(label: Label, token: Token) -> PartStep<DimPlace, DimText>
+    ensures { (bytes : List ℕ) → result ≡ dim_step (DimPlace.Named label) token.span (what_of token.kind bytes) }
+{
+    match token.kind {
+        TokenKind::Symbol(Symbol::Equal) => PartStep::On(DimPlace::Bounds(label, BoundPlace::Low)),
+        _ => {
+            drop(label);
+            PartStep::Unexpected
+        }
+    }
+}
+
+/// Behind a dimension's overlap.
+fn end_dimension(dimension: DimText, token: Token) -> PartStep<DimPlace, DimText>
+    ensures { (bytes : List ℕ) → result ≡ dim_step (DimPlace.Ended dimension) token.span (what_of token.kind bytes) }
+{
+    match token.kind {
+        TokenKind::Symbol(Symbol::Comma) => PartStep::Next(dimension),
+        TokenKind::Symbol(Symbol::RightBracket) => PartStep::Last(dimension),
+        _ => {
+            drop(dimension);
+            PartStep::Unexpected
+        }
     }
 }
 
@@ -293,26 +434,25 @@ fn read_dimension(
     ensures { IfOk result (λ step. step ≡ dim_step place token.span (lexeme_of text.now token).what) }
 {
     match place {
-        DimPlace::First => match token.kind {
-            TokenKind::Name => {
-                let label = label_at(alloc, text, token)?;
-                Ok(PartStep::On(DimPlace::Named(label)))
-            }
-            _ => Ok(PartStep::Unexpected),
-        },
-        DimPlace::Named(label) => match token.kind {
-            TokenKind::Symbol(Symbol::Equal) => {
-                Ok(PartStep::On(DimPlace::Bounds(label, BoundPlace::Low)))
-            }
-            _ => Ok(PartStep::Unexpected),
-        },
+        DimPlace::First => read_dimension_name(alloc, text, token),
+        DimPlace::Named(label) => Ok(read_equal(label, token)),
         DimPlace::Bounds(label, place) => Ok(read_bound(label, place, token)),
         DimPlace::Numbers(label, lo, hi, place) => Ok(read_number(label, lo, hi, place, token)),
-        DimPlace::Ended(dimension) => match token.kind {
-            TokenKind::Symbol(Symbol::Comma) => Ok(PartStep::Next(dimension)),
-            TokenKind::Symbol(Symbol::RightBracket) => Ok(PartStep::Last(dimension)),
-            _ => Ok(PartStep::Unexpected),
-        },
+        DimPlace::Ended(dimension) => Ok(end_dimension(dimension, token)),
+    }
+}
+
+/// The attributes and one more.
+fn with_attribute(attributes: List<AttrText>, attribute: AttrText) -> Result<List<AttrText>, Memory>
+    ensures { IfOk result (λ more. more ≡ attributes ++ attribute ∷ []) }
+{
+    let mut attributes = attributes;
+    match attributes.push(attribute) {
+        Ok(()) => Ok(attributes),
+        Err(Memory) => {
+            drop(attributes);
+            Err(Memory)
+        }
     }
 }
 
@@ -324,7 +464,6 @@ fn after_attribute(
 ) -> Result<ShapeStep, Memory>
     ensures { IfOk result (λ next. next ≡ attr_goes start attributes step) }
 {
-    let mut attributes = attributes;
     match step {
         PartStep::On(place) => Ok(ShapeStep::On(ShapeState::Attributes {
             start,
@@ -332,7 +471,7 @@ fn after_attribute(
             place,
         })),
         PartStep::Next(attribute) => {
-            attributes.push(attribute)?;
+            let attributes = with_attribute(attributes, attribute)?;
             let place = AttrPlace::First;
             Ok(ShapeStep::On(ShapeState::Attributes {
                 start,
@@ -341,10 +480,13 @@ fn after_attribute(
             }))
         }
         PartStep::Last(attribute) => {
-            attributes.push(attribute)?;
+            let attributes = with_attribute(attributes, attribute)?;
             Ok(ShapeStep::On(ShapeState::Between { start, attributes }))
         }
-        PartStep::Unexpected => Ok(ShapeStep::Unexpected),
+        PartStep::Unexpected => {
+            drop(attributes);
+            Ok(ShapeStep::Unexpected)
+        }
     }
 }
 
@@ -366,6 +508,20 @@ fn whole(head: Head, dimensions: List<DimText>, end: Span) -> ShapeStep
     ShapeStep::Whole(schema, across(start, end))
 }
 
+/// The dimensions and one more.
+fn with_dimension(dimensions: List<DimText>, dimension: DimText) -> Result<List<DimText>, Memory>
+    ensures { IfOk result (λ more. more ≡ dimensions ++ dimension ∷ []) }
+{
+    let mut dimensions = dimensions;
+    match dimensions.push(dimension) {
+        Ok(()) => Ok(dimensions),
+        Err(Memory) => {
+            drop(dimensions);
+            Err(Memory)
+        }
+    }
+}
+
 /// Where the dimensions stand after a step at a token of this place.
 fn after_dimension(
     head: Head,
@@ -375,27 +531,38 @@ fn after_dimension(
 ) -> Result<ShapeStep, Memory>
     ensures { IfOk result (λ next. next ≡ dim_goes head dimensions step span) }
 {
-    let mut dimensions = dimensions;
     match step {
         PartStep::On(place) => Ok(ShapeStep::On(ShapeState::Dimensions {
             head,
             dimensions,
             place,
         })),
-        PartStep::Next(dimension) => {
-            dimensions.push(dimension)?;
-            let place = DimPlace::First;
-            Ok(ShapeStep::On(ShapeState::Dimensions {
-                head,
-                dimensions,
-                place,
-            }))
+        PartStep::Next(dimension) => match with_dimension(dimensions, dimension) {
+            Ok(dimensions) => {
+                let place = DimPlace::First;
+                Ok(ShapeStep::On(ShapeState::Dimensions {
+                    head,
+                    dimensions,
+                    place,
+                }))
+            }
+            Err(Memory) => {
+                drop(head);
+                Err(Memory)
+            }
+        },
+        PartStep::Last(dimension) => match with_dimension(dimensions, dimension) {
+            Ok(dimensions) => Ok(whole(head, dimensions, span)),
+            Err(Memory) => {
+                drop(head);
+                Err(Memory)
+            }
+        },
+        PartStep::Unexpected => {
+            drop(dimensions);
+            drop(head);
+            Ok(ShapeStep::Unexpected)
         }
-        PartStep::Last(dimension) => {
-            dimensions.push(dimension)?;
-            Ok(whole(head, dimensions, span))
-        }
-        PartStep::Unexpected => Ok(ShapeStep::Unexpected),
     }
 }
 
@@ -432,7 +599,10 @@ fn open_dimensions(
             dimensions: List::new(alloc),
             place: DimPlace::First,
         }),
-        _ => ShapeStep::Unexpected,
+        _ => {
+            drop(attributes);
+            ShapeStep::Unexpected
+        }
     }
 }
 
@@ -453,8 +623,13 @@ pub fn read_shape(
             attributes,
             place,
         } => {
-            let step = read_attribute(alloc, text, place, token)?;
-            after_attribute(start, attributes, step)
+            match read_attribute(alloc, text, place, token) {
+                Ok(step) => after_attribute(start, attributes, step),
+                Err(Memory) => {
+                    drop(attributes);
+                    Err(Memory)
+                }
+            }
         }
         ShapeState::Between { start, attributes } => {
             Ok(open_dimensions(alloc, start, attributes, token))
@@ -464,8 +639,14 @@ pub fn read_shape(
             dimensions,
             place,
         } => {
-            let step = read_dimension(alloc, text, place, token)?;
-            after_dimension(head, dimensions, step, token.span)
+            match read_dimension(alloc, text, place, token) {
+                Ok(step) => after_dimension(head, dimensions, step, token.span),
+                Err(Memory) => {
+                    drop(dimensions);
+                    drop(head);
+                    Err(Memory)
+                }
+            }
         }
     }
 }

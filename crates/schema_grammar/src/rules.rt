@@ -266,6 +266,8 @@ pub fn meaning(alloc: Global, text: &[u8], shape: &SchemaText) -> Result<Schema,
     let dimensions = dimensions(alloc, attributes.as_slice(), shape.dimensions.as_slice())?;
     let rules = whole_rules(attributes.as_slice(), dimensions.as_slice(), shape.brackets);
     if let Some(fault) = first_broken(&rules) {
+        drop(attributes);
+        drop(dimensions);
         return Err(fault);
     }
     Ok(Schema {

@@ -7,7 +7,7 @@ use cell_values::{Copies, List, Memory, Name, Span};
 pub(crate) const UNBOUNDED: i64 = 4611686018427387903;
 
 /// A schema's syntax tree: each name, type's word and number with its place in the text.
-#[derive(Debug, Drop, PartialEq, Eq)]
+#[derive(Drop)]
 pub struct SchemaText {
     pub attributes: List<AttrText>,
     pub dimensions: List<DimText>,
@@ -16,7 +16,7 @@ pub struct SchemaText {
 }
 
 /// An attribute as it is written, as `v: int64 not null`. An absent `null` is kept as a written one.
-#[derive(Debug, Drop, PartialEq, Eq)]
+#[derive(Drop)]
 pub struct AttrText {
     pub name: Name,
     pub name_span: Span,
@@ -28,7 +28,7 @@ pub struct AttrText {
 
 /// A dimension as it is written, as `x=-5:*,100,2`. The high bound `*` is kept as its number, 4611686018427387903.
 /// A bound's span includes its sign.
-#[derive(Debug, Drop, PartialEq, Eq)]
+#[derive(Drop)]
 pub struct DimText {
     pub name: Name,
     pub name_span: Span,
@@ -46,13 +46,20 @@ impl AttrText {
     pub fn copy(&self) -> Result<AttrText, Memory>
         ensures { IfOk result (λ copy. copy ≡ self.now) }
     {
-        Ok(AttrText {
-            name: self.name.copy()?,
-            name_span: self.name_span,
-            word: self.word.copy()?,
-            word_span: self.word_span,
-            nullable: self.nullable,
-        })
+        let name = self.name.copy()?;
+        match self.word.copy() {
+            Ok(word) => Ok(AttrText {
+                name,
+                name_span: self.name_span,
+                word,
+                word_span: self.word_span,
+                nullable: self.nullable,
+            }),
+            Err(Memory) => {
+                drop(name);
+                Err(Memory)
+            }
+        }
     }
 }
 
@@ -91,11 +98,18 @@ impl SchemaText {
     pub fn copy(&self) -> Result<SchemaText, Memory>
         ensures { IfOk result (λ copy. copy ≡ self.now) }
     {
-        Ok(SchemaText {
-            attributes: self.attributes.copy()?,
-            dimensions: self.dimensions.copy()?,
-            brackets: self.brackets,
-        })
+        let attributes = self.attributes.copy()?;
+        match self.dimensions.copy() {
+            Ok(dimensions) => Ok(SchemaText {
+                attributes,
+                dimensions,
+                brackets: self.brackets,
+            }),
+            Err(Memory) => {
+                drop(attributes);
+                Err(Memory)
+            }
+        }
     }
 }
 

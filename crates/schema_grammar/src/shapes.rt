@@ -11,7 +11,7 @@ use cell_values::Memory;
 use std::alloc::Global;
 
 /// Why tokens have no schema's syntax tree.
-#[derive(Clone, Copy, Debug, PartialEq, Eq)]
+#[derive(Clone, Copy)]
 pub enum ShapeFault {
     /// The place of the first token that can't stand where it does, or the number of tokens where a schema isn't whole.
     Unexpected { token: usize },
