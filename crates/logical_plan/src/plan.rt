@@ -71,33 +71,46 @@ pub fn let_go(plan: Plan) {
     drop(plan)
 }
 
-/// Two plans in boxes.
-fn boxed_both(alloc: Global, left: Plan, right: Plan) -> Result<(Box<Plan>, Box<Plan>), Memory>
-    ensures { IfOk result (λ both. (both.0.value ≡ left) × (both.1.value ≡ right)) }
+/// A value in a box, and a part beside it.
+fn boxed_with<A: Drop, P: Drop>(alloc: Global, value: A, part: P) -> Result<(Box<A>, P), Memory>
+    ensures { IfOk result (λ both. (both.0.value ≡ value) × (both.1 ≡ part)) }
 {
-    match Box::new(alloc, left) {
-        Ok(left) => boxed_beside(alloc, left, right),
+    match Box::new(alloc, value) {
+        Ok(value) => Ok((value, part)),
         Err(_) => {
-            drop(right);
+            drop(part);
             Err(Memory)
         }
     }
 }
 
-/// A box, and a second plan in a box.
-fn boxed_beside(
+/// Two values in boxes, and a part beside them.
+fn both_boxed_with<A: Drop, P: Drop>(
     alloc: Global,
-    left: Box<Plan>,
-    right: Plan,
-) -> Result<(Box<Plan>, Box<Plan>), Memory>
-    ensures { IfOk result (λ both. (both.0.value ≡ left.value) × (both.1.value ≡ right)) }
+    left: A,
+    right: A,
+    part: P,
+) -> Result<(Box<A>, Box<A>, P), Memory>
+    ensures { IfOk result (λ all. (all.0.value ≡ left) × (all.1.value ≡ right) × (all.2 ≡ part)) }
 {
-    match Box::new(alloc, right) {
-        Ok(right) => Ok((left, right)),
-        Err(_) => {
-            drop(left);
-            Err(Memory)
-        }
+    match boxed_with(alloc, left, (right, part)) {
+        Ok((left, (right, part))) => boxed_beside(alloc, left, right, part),
+        Err(Memory) => Err(Memory),
+    }
+}
+
+/// A box, a second value in a box, and a part beside them.
+fn boxed_beside<A: Drop, P: Drop>(
+    alloc: Global,
+    left: Box<A>,
+    right: A,
+    part: P,
+) -> Result<(Box<A>, Box<A>, P), Memory>
+    ensures { IfOk result (λ all. (all.0.value ≡ left.value) × (all.1.value ≡ right) × (all.2 ≡ part)) }
+{
+    match boxed_with(alloc, right, (left, part)) {
+        Ok((right, (left, part))) => Ok((left, right, part)),
+        Err(Memory) => Err(Memory),
     }
 }
 
@@ -129,66 +142,78 @@ impl Plan {
     pub fn filter(alloc: Global, source: Plan, test: TypedExpr) -> Result<Plan, Memory>
         ensures { IfOk result (λ p. p ≡ filtered source test) }
     {
-        match Box::new(alloc, source) {
-            Ok(source) => Ok(Plan {
+        match boxed_with(alloc, source, test) {
+            Ok((source, test)) => Ok(Plan {
                 node: PlanNode::Filter(source, test),
             }),
-            Err(_) => {
-                drop(test);
-                Err(Memory)
-            }
+            Err(Memory) => Err(Memory),
         }
     }
 
     pub fn apply(alloc: Global, source: Plan, values: List<Applied>) -> Result<Plan, Memory>
         ensures { IfOk result (λ p. p ≡ applied source values) }
     {
-        match Box::new(alloc, source) {
-            Ok(source) => Ok(Plan {
+        match boxed_with(alloc, source, values) {
+            Ok((source, values)) => Ok(Plan {
                 node: PlanNode::Apply(source, values),
             }),
-            Err(_) => {
-                drop(values);
-                Err(Memory)
-            }
+            Err(Memory) => Err(Memory),
         }
     }
 
     pub fn project(alloc: Global, source: Plan, places: List<u32>) -> Result<Plan, Memory>
         ensures { IfOk result (λ p. p ≡ projected source places) }
     {
-        let node = PlanNode::Project(Box::new(alloc, source)?, places);
-        Ok(Plan { node })
+        match boxed_with(alloc, source, places) {
+            Ok((source, places)) => Ok(Plan {
+                node: PlanNode::Project(source, places),
+            }),
+            Err(Memory) => Err(Memory),
+        }
     }
 
     pub fn between(alloc: Global, source: Plan, area: Bounds) -> Result<Plan, Memory>
         ensures { IfOk result (λ p. p ≡ between source area) }
     {
-        let node = PlanNode::Between(Box::new(alloc, source)?, area);
-        Ok(Plan { node })
+        match boxed_with(alloc, source, area) {
+            Ok((source, area)) => Ok(Plan {
+                node: PlanNode::Between(source, area),
+            }),
+            Err(Memory) => Err(Memory),
+        }
     }
 
     pub fn subarray(alloc: Global, source: Plan, area: Bounds) -> Result<Plan, Memory>
         ensures { IfOk result (λ p. p ≡ subarray source area) }
     {
-        let node = PlanNode::Subarray(Box::new(alloc, source)?, area);
-        Ok(Plan { node })
+        match boxed_with(alloc, source, area) {
+            Ok((source, area)) => Ok(Plan {
+                node: PlanNode::Subarray(source, area),
+            }),
+            Err(Memory) => Err(Memory),
+        }
     }
 
     pub fn slice(alloc: Global, source: Plan, fixed: List<Fixed>) -> Result<Plan, Memory>
         ensures { IfOk result (λ p. p ≡ sliced source fixed) }
     {
-        let node = PlanNode::Slice(Box::new(alloc, source)?, fixed);
-        Ok(Plan { node })
+        match boxed_with(alloc, source, fixed) {
+            Ok((source, fixed)) => Ok(Plan {
+                node: PlanNode::Slice(source, fixed),
+            }),
+            Err(Memory) => Err(Memory),
+        }
     }
 
     pub fn join(alloc: Global, left: Plan, right: Plan, schema: Schema) -> Result<Plan, Memory>
         ensures { IfOk result (λ p. p ≡ joined left right schema) }
     {
-        let (left, right) = boxed_both(alloc, left, right)?;
-        Ok(Plan {
-            node: PlanNode::Join(left, right, schema),
-        })
+        match both_boxed_with(alloc, left, right, schema) {
+            Ok((left, right, schema)) => Ok(Plan {
+                node: PlanNode::Join(left, right, schema),
+            }),
+            Err(Memory) => Err(Memory),
+        }
     }
 
     pub fn cross_join(
@@ -200,10 +225,12 @@ impl Plan {
     ) -> Result<Plan, Memory>
         ensures { IfOk result (λ p. p ≡ crossed left right pairs schema) }
     {
-        let (left, right) = boxed_both(alloc, left, right)?;
-        Ok(Plan {
-            node: PlanNode::CrossJoin(left, right, pairs, schema),
-        })
+        match both_boxed_with(alloc, left, right, (pairs, schema)) {
+            Ok((left, right, (pairs, schema))) => Ok(Plan {
+                node: PlanNode::CrossJoin(left, right, pairs, schema),
+            }),
+            Err(Memory) => Err(Memory),
+        }
     }
 
     pub fn redimension(
@@ -214,8 +241,12 @@ impl Plan {
     ) -> Result<Plan, Memory>
         ensures { IfOk result (λ p. p ≡ redimensioned source schema aggregates) }
     {
-        let node = PlanNode::Redimension(Box::new(alloc, source)?, schema, aggregates);
-        Ok(Plan { node })
+        match boxed_with(alloc, source, (schema, aggregates)) {
+            Ok((source, (schema, aggregates))) => Ok(Plan {
+                node: PlanNode::Redimension(source, schema, aggregates),
+            }),
+            Err(Memory) => Err(Memory),
+        }
     }
 
     pub fn regrid(
@@ -226,8 +257,12 @@ impl Plan {
     ) -> Result<Plan, Memory>
         ensures { IfOk result (λ p. p ≡ regridded source sizes aggregates) }
     {
-        let node = PlanNode::Regrid(Box::new(alloc, source)?, sizes, aggregates);
-        Ok(Plan { node })
+        match boxed_with(alloc, source, (sizes, aggregates)) {
+            Ok((source, (sizes, aggregates))) => Ok(Plan {
+                node: PlanNode::Regrid(source, sizes, aggregates),
+            }),
+            Err(Memory) => Err(Memory),
+        }
     }
 
     pub fn window(
@@ -238,8 +273,12 @@ impl Plan {
     ) -> Result<Plan, Memory>
         ensures { IfOk result (λ p. p ≡ windowed source reach aggregates) }
     {
-        let node = PlanNode::Window(Box::new(alloc, source)?, reach, aggregates);
-        Ok(Plan { node })
+        match boxed_with(alloc, source, (reach, aggregates)) {
+            Ok((source, (reach, aggregates))) => Ok(Plan {
+                node: PlanNode::Window(source, reach, aggregates),
+            }),
+            Err(Memory) => Err(Memory),
+        }
     }
 
     pub fn aggregate(
@@ -250,7 +289,11 @@ impl Plan {
     ) -> Result<Plan, Memory>
         ensures { IfOk result (λ p. p ≡ aggregated source aggregates dimensions) }
     {
-        let node = PlanNode::Aggregate(Box::new(alloc, source)?, aggregates, dimensions);
-        Ok(Plan { node })
+        match boxed_with(alloc, source, (aggregates, dimensions)) {
+            Ok((source, (aggregates, dimensions))) => Ok(Plan {
+                node: PlanNode::Aggregate(source, aggregates, dimensions),
+            }),
+            Err(Memory) => Err(Memory),
+        }
     }
 }
