@@ -3,11 +3,13 @@
 
 mod decoding;
 mod directory;
+mod entry_laws;
 mod reading;
 mod replacing;
 mod writing;
 
 pub use decoding::{BadDirectory, decode_directory};
 pub use directory::{DirEntry, Directory};
+pub use entry_laws::replaced_are_directories;
 pub use replacing::replaced;
 pub use writing::encode_directory;
