@@ -6,8 +6,8 @@ ghost use Rattle.check_exprs.specs.Expressions.{typed};
 ghost use Rattle.check_cellwise.specs.Filter.{filter_by, filter_call, filter_of};
 
 use crate::cells::source::typed_over;
-use afl_parser::Tree;
-use cell_values::{Kind, Schema, Span};
+use afl_trees::Tree;
+use cell_values::{Kind, Memory, Schema, Span};
 use check_exprs::{Operand, fits};
 use check_rules::{TypeFault, broken, is_expression, shape_of, wrong_type};
 use expr_nulls::let_go_expr;
@@ -68,8 +68,13 @@ fn filter_over(alloc: Global, source: Plan, test: &Tree) -> Result<Plan, TypeFau
     requires dimensions { length (schema_of source).dimensions ≤ 6 }
     ensures { Answers result (filter_of source (schema_of source) test.now) }
 {
-    let schema = shape_of(alloc, &source)?;
-    filter_of(alloc, source, &schema, test)
+    match shape_of(alloc, &source) {
+        Ok(schema) => filter_of(alloc, source, &schema, test),
+        Err(Memory) => {
+            let_go(source);
+            Err(TypeFault::Memory)
+        }
+    }
 }
 
 /// `filter` of a source, with what stands behind it.
