@@ -1,1 +1,1 @@
-pub mod ImageLaws
+pub mod TornLaws

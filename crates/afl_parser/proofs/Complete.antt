@@ -14,8 +14,8 @@ use Rattle.schema_grammar.specs.declared.state.ShapeStep.TheVariants.{On, Whole,
 use Rattle.schema_grammar.specs.Spelling.{placed, across, SpellsSchema}
 use Rattle.schema_grammar.specs.Inner.Reading.{shape_turn, ShapeRun, Read, Open as OpenShape, Stuck, shape_go, shape_run}
 use Rattle.schema_grammar.proofs.ShapeComplete.{shape_read}
-use Rattle.afl_parser.specs.Term.{Term, create, number, text, truth, null, missing, reference, version, call, schema, star, renamed, opposite, negative, binary, group, Terms, no_terms, and_term, to_terms}
-use Rattle.afl_parser.specs.Grammar.{line_of, left_line, line, height, heights, truth_word, Spells, SpellsArguments, SpellsMore, SpellsCreate, IsStatement}
+use Rattle.afl_trees.specs.Term.{Term, create, number, text, truth, null, missing, reference, version, call, schema, star, renamed, opposite, negative, binary, group, Terms, no_terms, and_term, to_terms}
+use Rattle.afl_trees.specs.Grammar.{line_of, left_line, line, height, heights, truth_word, Spells, SpellsArguments, SpellsMore, SpellsCreate, IsStatement}
 use Rattle.afl_parser.specs.Inner.Machine.{Turn, Go, want, expected, shallow, leaf_of, leaf_or_open, shaped, made, operated, operated_or_joined, named, turn, begin, start, first, verdict, run, go_on, finish}
 use Rattle.afl_parser.specs.declared.frame.Frame.{Frame}
 use Rattle.afl_parser.specs.declared.frame.Frame.TheVariants.{Group, Not, Minus, Left, Call}

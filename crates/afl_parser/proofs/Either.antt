@@ -3,11 +3,11 @@ use Rattle.std.proofs.Common.{◌≡◌, ◌⊎◌, inl, inr, ℕ, Option, Some,
 use Rattle.std.proofs.lemmas.List.{append-nil, length-append}
 use Rattle.std.proofs.Math.Seq.{take-append_seam, drop-append_seam}
 use Rattle.afl_lexer.specs.Lexemes.{Placed}
-use Rattle.afl_parser.specs.Term.{Term}
-use Rattle.afl_parser.specs.Grammar.{IsStatement, Stops}
+use Rattle.afl_trees.specs.Term.{Term}
+use Rattle.afl_trees.specs.Grammar.{IsStatement, Stops}
 use Rattle.afl_parser.specs.Inner.Machine.{Turn, Go, Stop, turn, run, go_on, finished}
-use Rattle.afl_parser.specs.declared.kind.StopKind.{StopKind}
-use Rattle.afl_parser.specs.declared.kind.StopKind.TheVariants.{Unexpected}
+use Rattle.afl_trees.specs.declared.kind.StopKind.{StopKind}
+use Rattle.afl_trees.specs.declared.kind.StopKind.TheVariants.{Unexpected}
 use Rattle.afl_parser.specs.declared.frame.Frame.{Frame}
 use Rattle.afl_parser.specs.declared.frame.Focus.{Focus}
 use Rattle.afl_parser.specs.declared.frame.Focus.TheVariants.{Start}

@@ -11,10 +11,10 @@ use Rattle.schema_grammar.specs.declared.state.ShapeStep.{ShapeStep}
 use Rattle.schema_grammar.specs.declared.state.ShapeStep.TheVariants.{On, Whole, Unexpected as NoShape}
 use Rattle.schema_grammar.specs.Spelling.{placed}
 use Rattle.schema_grammar.specs.Inner.Reading.{shape_turn}
-use Rattle.afl_parser.specs.Term.{Term, reference, star}
-use Rattle.afl_parser.specs.Grammar.{line_of, line, op_of, height}
+use Rattle.afl_trees.specs.Term.{Term, reference, star}
+use Rattle.afl_trees.specs.Grammar.{line_of, line, op_of, height}
 use Rattle.afl_parser.specs.Inner.Machine.{Turn, Go, Stop, want, close, ends, settle, expected, shallow, leaf_of, shaped, opening, leaf_or_open, begin, start, array_word, title, made, first, opened, dated, date, operated, named, closed, separated, joined, operated_or_joined, name_it, turn, Fits, FitsStack, FitsBelow}
-use Rattle.afl_parser.specs.declared.tree.BinaryOp.{BinaryOp}
+use Rattle.afl_trees.specs.declared.tree.BinaryOp.{BinaryOp}
 use Rattle.afl_parser.specs.declared.frame.Frame.{Frame}
 use Rattle.afl_parser.specs.declared.frame.Frame.TheVariants.{Group, Not, Minus, Left, Call}
 use Rattle.afl_parser.specs.declared.frame.Focus.{Focus}

@@ -1,7 +1,7 @@
 -- Heights of trees and of argument lists.
 use Rattle.std.proofs.Common.{◌≡◌, max, ◌≤◌, List, [], ◌∷◌, ◌++◌, arith}
-use Rattle.afl_parser.specs.Term.{Term, create, to_terms}
-use Rattle.afl_parser.specs.Grammar.{height, heights}
+use Rattle.afl_trees.specs.Term.{Term, create, to_terms}
+use Rattle.afl_trees.specs.Grammar.{height, heights}
 
 pub heights_of_more : (ts : List Term) (t : Term) → heights (to_terms (ts ++ t ∷ [])) ≡ max (heights (to_terms ts)) (height t)
 heights_of_more [] t = omega arith

@@ -3,9 +3,6 @@ pub mod Either
 pub mod Fitting
 pub mod Heights
 pub mod Parsing
-pub mod PrintedAgain
-pub mod PrintedParts
-pub mod Printing
 pub mod Settling
 pub mod Sound
 pub mod Stopping

@@ -4,9 +4,9 @@ use Rattle.std.proofs.Math.Seq.{take-length, drop-cons}
 use Rattle.std.proofs.lemmas.List.{map_more, take-map, drop-map, length-map}
 use Rattle.afl_lexer.specs.declared.token.Token.{Token}
 use Rattle.afl_lexer.specs.Lexemes.{lexeme_of, Placed}
-use Rattle.afl_parser.specs.Term.{Term}
-use Rattle.afl_parser.specs.Grammar.{IsStatement, Stops}
-use Rattle.afl_parser.specs.Statement.{lexemes}
+use Rattle.afl_trees.specs.Term.{Term}
+use Rattle.afl_trees.specs.Grammar.{IsStatement, Stops}
+use Rattle.afl_trees.specs.Statement.{lexemes}
 use Rattle.afl_parser.specs.Inner.Machine.{Go, turn, run, go_on, finish, finished, Fits}
 use Rattle.afl_parser.specs.Inner.Reply.{Gives, GivesWhole, placed, IsTokenStop}
 use Rattle.afl_parser.specs.declared.frame.Frame.{Frame}

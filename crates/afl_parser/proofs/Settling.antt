@@ -6,11 +6,11 @@ use Rattle.cell_values.specs.declared.name.Span.{Span}
 use Rattle.afl_lexer.specs.declared.token.Word.TheVariants.{As}
 use Rattle.afl_lexer.specs.declared.token.Symbol.TheVariants.{RightParen, Comma}
 use Rattle.afl_lexer.specs.Lexemes.{Lexeme, a_word, a_symbol, Placed}
-use Rattle.afl_parser.specs.Term.{Term}
-use Rattle.afl_parser.specs.Grammar.{line_of, left_line, right_line, op_of}
+use Rattle.afl_trees.specs.Term.{Term}
+use Rattle.afl_trees.specs.Grammar.{line_of, left_line, right_line, op_of}
 use Rattle.afl_parser.specs.Inner.Machine.{wanted, want, close, ends, settle, operated, named, closed, separated, joined, operated_or_joined, verdict, run, go_on, finish, whole}
-use Rattle.afl_parser.specs.declared.tree.BinaryOp.{BinaryOp}
-use Rattle.afl_parser.specs.declared.tree.BinaryOp.TheVariants.{Or}
+use Rattle.afl_trees.specs.declared.tree.BinaryOp.{BinaryOp}
+use Rattle.afl_trees.specs.declared.tree.BinaryOp.TheVariants.{Or}
 use Rattle.afl_parser.specs.declared.frame.Frame.{Frame}
 use Rattle.afl_parser.specs.declared.frame.Frame.TheVariants.{Group, Not, Minus, Left, Call}
 use Rattle.afl_parser.specs.declared.frame.Focus.TheVariants.{Have}

@@ -13,11 +13,11 @@ use Rattle.schema_grammar.specs.declared.state.ShapeStep.TheVariants.{On, Whole,
 use Rattle.schema_grammar.specs.Spelling.{placed}
 use Rattle.schema_grammar.specs.Inner.Reading.{shape_turn}
 use Rattle.schema_grammar.proofs.ShapeSound.{HoldsShape, HoldsStep, holds_turn}
-use Rattle.afl_parser.specs.Term.{Term, reference, star, to_terms}
-use Rattle.afl_parser.specs.Grammar.{line_of, left_line, right_line, op_of, line, height, Spells, SpellsArguments, SpellsMore, SpellsCreate, IsStatement}
+use Rattle.afl_trees.specs.Term.{Term, reference, star, to_terms}
+use Rattle.afl_trees.specs.Grammar.{line_of, left_line, right_line, op_of, line, height, Spells, SpellsArguments, SpellsMore, SpellsCreate, IsStatement}
 use Rattle.afl_parser.specs.Inner.Machine.{Turn, Go, Stop, want, close, ends, settle, expected, shallow, leaf_of, shaped, opening, leaf_or_open, begin, start, array_word, title, made, first, opened, dated, date, operated, named, closed, separated, joined, operated_or_joined, turn, name_it, verdict, run, go_on, finish, finished, whole, Fits, FitsBelow}
-use Rattle.afl_parser.specs.declared.tree.BinaryOp.{BinaryOp}
-use Rattle.afl_parser.specs.declared.tree.BinaryOp.TheVariants.{Or}
+use Rattle.afl_trees.specs.declared.tree.BinaryOp.{BinaryOp}
+use Rattle.afl_trees.specs.declared.tree.BinaryOp.TheVariants.{Or}
 use Rattle.afl_parser.specs.declared.frame.Frame.{Frame}
 use Rattle.afl_parser.specs.declared.frame.Frame.TheVariants.{Group, Not, Minus, Left, Call}
 use Rattle.afl_parser.specs.declared.frame.Focus.{Focus}

@@ -15,12 +15,12 @@ use Rattle.schema_grammar.specs.declared.state.ShapeStep.TheVariants.{On, Whole,
 use Rattle.schema_grammar.specs.Spelling.{placed, across}
 use Rattle.schema_grammar.specs.Inner.Reading.{shape_turn}
 use Rattle.schema_grammar.proofs.ShapeEnds.{shape_enders, Ends, shape_ends}
-use Rattle.afl_parser.specs.Term.{Term, create, number, reference, version, call, schema, star, renamed, group, no_terms, to_terms}
-use Rattle.afl_parser.specs.Grammar.{line_of, left_line, op_of, line, span_of, height, IsStatement, IsFront, IsKind, StopsBefore, Stops}
+use Rattle.afl_trees.specs.Term.{Term, create, number, reference, version, call, schema, star, renamed, group, no_terms, to_terms}
+use Rattle.afl_trees.specs.Grammar.{line_of, left_line, op_of, line, span_of, height, IsStatement, IsFront, IsKind, StopsBefore, Stops}
 use Rattle.afl_parser.specs.Inner.Machine.{Turn, Go, Stop, want, close, ends, settle, expected, shallow, leaf_of, shaped, opening, leaf_or_open, begin, start, array_word, title, made, first, opened, dated, date, operated, named, closed, separated, joined, operated_or_joined, turn, name_it, verdict, run, go_on, finish, finished, Fits}
-use Rattle.afl_parser.specs.declared.tree.BinaryOp.{BinaryOp}
-use Rattle.afl_parser.specs.declared.kind.StopKind.{StopKind}
-use Rattle.afl_parser.specs.declared.kind.StopKind.TheVariants.{Unexpected, TooDeep}
+use Rattle.afl_trees.specs.declared.tree.BinaryOp.{BinaryOp}
+use Rattle.afl_trees.specs.declared.kind.StopKind.{StopKind}
+use Rattle.afl_trees.specs.declared.kind.StopKind.TheVariants.{Unexpected, TooDeep}
 use Rattle.afl_parser.specs.declared.frame.Frame.{Frame}
 use Rattle.afl_parser.specs.declared.frame.Frame.TheVariants.{Group, Not, Minus, Left, Call}
 use Rattle.afl_parser.specs.declared.frame.Focus.{Focus}

@@ -4,10 +4,10 @@ use Rattle.afl_lexer.specs.declared.token.Token.{Token}
 use Rattle.afl_lexer.specs.declared.token.LexKind.{LexKind}
 use Rattle.afl_lexer.specs.Tokens.{AreTokens, LexStops}
 use Rattle.afl_lexer.specs.Outcome as lexer
-use Rattle.afl_parser.specs.Term.{Term}
-use Rattle.afl_parser.specs.Statement.{lexemes, DerivesText, StopsText, start_of, lexical, syntactic}
+use Rattle.afl_trees.specs.Term.{Term}
+use Rattle.afl_trees.specs.Statement.{lexemes, DerivesText, StopsText, start_of, lexical, syntactic}
 use Rattle.afl_parser.specs.Outcome.{HasTreeOrStop, HasNotBoth, HasOneTree, HasOneStop}
-use Rattle.afl_parser.specs.declared.kind.ParseKind.{ParseKind}
+use Rattle.afl_trees.specs.declared.kind.ParseKind.{ParseKind}
 use Rattle.afl_parser.specs.declared.parser.TokenFault.TheVariants as token_fault
 use Rattle.afl_parser.proofs.Either.{TreeOrStop, tree_or_stop}
 use Rattle.afl_parser.proofs.Texts.{OnlyTokens, tree_only_tree, tree_no_stop, token_only_stop}

@@ -7,15 +7,15 @@ use Rattle.afl_lexer.specs.declared.token.LexFault.TheVariants as lex
 use Rattle.afl_lexer.specs.Tokens.{AreTokens, LexStops}
 use Rattle.afl_lexer.specs.Outcome as lexer
 use Rattle.afl_lexer.specs.Outcome.{IsStop, AnswersTokens}
-use Rattle.afl_parser.specs.Term.{Term}
-use Rattle.afl_parser.specs.Grammar.{IsStatement, Stops}
-use Rattle.afl_parser.specs.Statement.{lexemes, DerivesText, StopsText, start_of, lexical, syntactic}
+use Rattle.afl_trees.specs.Term.{Term}
+use Rattle.afl_trees.specs.Grammar.{IsStatement, Stops}
+use Rattle.afl_trees.specs.Statement.{lexemes, DerivesText, StopsText, start_of, lexical, syntactic}
 use Rattle.afl_parser.specs.Inner.Reply.{IsTokenStop, at_token, in_token}
 use Rattle.afl_parser.specs.Outcome.{IsTextStop, AnswersTree, AnswersStop}
-use Rattle.afl_parser.specs.declared.kind.StopKind.{StopKind}
+use Rattle.afl_trees.specs.declared.kind.StopKind.{StopKind}
 use Rattle.afl_parser.specs.declared.parser.TokenFault.{TokenFault}
 use Rattle.afl_parser.specs.declared.parser.TokenFault.TheVariants as token_fault
-use Rattle.afl_parser.specs.declared.kind.ParseKind.{ParseKind}
+use Rattle.afl_trees.specs.declared.kind.ParseKind.{ParseKind}
 use Rattle.afl_parser.proofs.Stopping.{one_tree, no_stop, one_stop}
 
 module _ (text : List ℕ) where

@@ -1,6 +1,6 @@
 -- Only behind a tree may a statement end.
 use Rattle.std.proofs.Common.{◌≡◌, None, List, refl}
-use Rattle.afl_parser.specs.Term.{Term}
+use Rattle.afl_trees.specs.Term.{Term}
 use Rattle.afl_parser.specs.Inner.Machine.{finished}
 use Rattle.afl_parser.specs.declared.frame.Frame.{Frame}
 use Rattle.afl_parser.specs.declared.frame.Focus.{Focus}

@@ -1,7 +1,2 @@
-pub mod Grammar
 pub mod Inner
-pub mod Lemmas
 pub mod Outcome
-pub mod Print
-pub mod Statement
-pub mod Term

@@ -1,10 +1,10 @@
 -- What a parser's answer is beside the tree, or the stop, that a text has.
 use Rattle.std.specs.Prelude.{◌≡◌, ◌⊎◌, ℕ, ⊤, Result, Ok, Err, List}
-use Rattle.afl_parser.specs.Term.{Term}
-use Rattle.afl_parser.specs.Statement.{DerivesText, StopsText}
-use Rattle.afl_parser.specs.declared.kind.ParseKind.{ParseKind}
-use Rattle.afl_parser.specs.declared.kind.ParseFault.{ParseFault}
-use Rattle.afl_parser.specs.declared.kind.ParseFault.TheVariants.{At, Memory}
+use Rattle.afl_trees.specs.Term.{Term}
+use Rattle.afl_trees.specs.Statement.{DerivesText, StopsText}
+use Rattle.afl_trees.specs.declared.kind.ParseKind.{ParseKind}
+use Rattle.afl_parser.specs.declared.fault.ParseFault.{ParseFault}
+use Rattle.afl_parser.specs.declared.fault.ParseFault.TheVariants.{At, Memory}
 
 -- the fault is where the text stops, or want of memory
 abbrev pub IsTextStop : List ℕ → ParseFault → Type 0

@@ -1,11 +1,11 @@
 //! The stack of open nodes.
 ghost use Rattle.std.specs.Prelude.{◌≡◌, [], ◌∷◌, ◌+◌, ◌<◌, ◌^◌, OnOk, IfOk, MatchOption, length};
-ghost use Rattle.afl_parser.specs.Grammar.{height};
+ghost use Rattle.afl_trees.specs.Grammar.{height};
 ghost use Rattle.afl_parser.specs.Inner.Machine.{wanted, want, ends, close, frame_height};
 
 use crate::grown::{Arguments, Grown};
-use crate::tree::across;
-use crate::{BinaryOp, Tree};
+use crate::lines::{across, right_line, span_of};
+use afl_trees::{BinaryOp, Tree};
 use cell_values::{Memory, Name, Span};
 use schema_grammar::ShapeState;
 use std::alloc::Global;
@@ -116,7 +116,7 @@ impl Frame {
             Frame::Group(_) => 1,
             Frame::Not(_) => 3,
             Frame::Minus(_) => 7,
-            Frame::Left(op, _) => op.right_line(),
+            Frame::Left(op, _) => right_line(*op),
             Frame::Call(_, _, _) => 0,
         }
     }
@@ -129,7 +129,7 @@ impl Frame {
             Frame::Group(_) => false,
             Frame::Not(_) => line < 3,
             Frame::Minus(_) => line < 7,
-            Frame::Left(op, _) => line < op.right_line(),
+            Frame::Left(op, _) => line < right_line(*op),
             Frame::Call(_, _, _) => false,
         }
     }
@@ -141,10 +141,14 @@ impl Frame {
         ensures { IfOk result (λ t. t ≡ close self tree) }
     {
         match self {
-            Frame::Not(start) => Grown::opposite(alloc, across(start, tree.tree().span()), tree),
-            Frame::Minus(start) => Grown::negative(alloc, across(start, tree.tree().span()), tree),
+            Frame::Not(start) => Grown::opposite(alloc, across(start, span_of(tree.tree())), tree),
+            Frame::Minus(start) => Grown::negative(
+                alloc,
+                across(start, span_of(tree.tree())),
+                tree,
+            ),
             Frame::Left(op, left) => {
-                let span = across(left.tree().span(), tree.tree().span());
+                let span = across(span_of(left.tree()), span_of(tree.tree()));
                 Grown::binary(alloc, span, op, left, tree)
             }
             Frame::Group(_) | Frame::Call(_, _, _) => Ok(tree),

@@ -1,9 +1,9 @@
 //! Trees and argument lists with their heights.
 ghost use Rattle.std.specs.Prelude.{◌≡◌, ◌+◌, ◌<◌, ◌≤◌, ◌^◌, [], ◌∷◌, ◌++◌, IfOk};
-ghost use Rattle.afl_parser.specs.Term.{call, renamed, opposite, negative, group, binary, to_terms, no_terms};
-ghost use Rattle.afl_parser.specs.Grammar.{height, heights};
+ghost use Rattle.afl_trees.specs.Term.{call, renamed, opposite, negative, group, binary, to_terms, no_terms};
+ghost use Rattle.afl_trees.specs.Grammar.{height, heights};
 
-use crate::{BinaryOp, Node, Tree};
+use afl_trees::{BinaryOp, Node, Tree};
 use cell_values::{List, Memory, Name, Span};
 use std::alloc::Global;
 use std::marker::Model;
@@ -17,9 +17,9 @@ pub(crate) struct Grown {
 
 impl Model for Grown {
     ghost use Rattle.std.specs.Prelude.{◌≡◌};
-    ghost use Rattle.afl_parser.specs.Term.{Term};
-    ghost use Rattle.afl_parser.specs.Lemmas.TermCode.{term_code};
-    ghost use Rattle.afl_parser.specs.Grammar.{height};
+    ghost use Rattle.afl_trees.specs.Term.{Term};
+    ghost use Rattle.afl_trees.specs.Lemmas.TermCode.{term_code};
+    ghost use Rattle.afl_trees.specs.Grammar.{height};
 
     ghost Value = { Term };
 
@@ -40,9 +40,9 @@ pub(crate) struct Arguments {
 impl Model for Arguments {
     ghost use Rattle.std.specs.Prelude.{◌≡◌, List};
     ghost use Rattle.std.specs.Coded.{coded_list};
-    ghost use Rattle.afl_parser.specs.Term.{Term, to_terms};
-    ghost use Rattle.afl_parser.specs.Lemmas.TermCode.{term_code};
-    ghost use Rattle.afl_parser.specs.Grammar.{heights};
+    ghost use Rattle.afl_trees.specs.Term.{Term, to_terms};
+    ghost use Rattle.afl_trees.specs.Lemmas.TermCode.{term_code};
+    ghost use Rattle.afl_trees.specs.Grammar.{heights};
 
     ghost Value = { List Term };
 
@@ -53,31 +53,48 @@ impl Model for Arguments {
     ghost invariant = { λ g. g.depth ≡ heights (to_terms g.trees) };
 }
 
-/// Two trees in boxes.
-fn boxed_both(alloc: Global, left: Tree, right: Tree) -> Result<(Box<Tree>, Box<Tree>), Memory>
-    ensures { IfOk result (λ both. (both.0.value ≡ left) × (both.1.value ≡ right)) }
+/// A value in a box, and a part beside it.
+fn boxed_with<A: Drop, P: Drop>(alloc: Global, value: A, part: P) -> Result<(Box<A>, P), Memory>
+    ensures { IfOk result (λ both. (both.0.value ≡ value) × (both.1 ≡ part)) }
 {
-    match Box::new(alloc, left) {
-        Ok(left) => boxed_beside(alloc, left, right),
+    match Box::new(alloc, value) {
+        Ok(value) => Ok((value, part)),
         Err(_) => {
-            drop(right);
+            drop(part);
             Err(Memory)
         }
     }
 }
 
-/// A box, and a second tree in a box.
-fn boxed_beside(
-    alloc: Global,
-    left: Box<Tree>,
-    right: Tree,
-) -> Result<(Box<Tree>, Box<Tree>), Memory>
+/// Two values in boxes.
+fn both_boxed<A: Drop>(alloc: Global, left: A, right: A) -> Result<(Box<A>, Box<A>), Memory>
+    ensures { IfOk result (λ both. (both.0.value ≡ left) × (both.1.value ≡ right)) }
+{
+    match boxed_with(alloc, left, right) {
+        Ok((left, right)) => boxed_beside(alloc, left, right),
+        Err(Memory) => Err(Memory),
+    }
+}
+
+/// A box, and a second value in a box.
+fn boxed_beside<A: Drop>(alloc: Global, left: Box<A>, right: A) -> Result<(Box<A>, Box<A>), Memory>
     ensures { IfOk result (λ both. (both.0.value ≡ left.value) × (both.1.value ≡ right)) }
 {
-    match Box::new(alloc, right) {
-        Ok(right) => Ok((left, right)),
-        Err(_) => {
-            drop(left);
+    match boxed_with(alloc, right, left) {
+        Ok((right, left)) => Ok((left, right)),
+        Err(Memory) => Err(Memory),
+    }
+}
+
+/// The list with one item more.
+fn with_item<T: Drop>(list: List<T>, item: T) -> Result<List<T>, Memory>
+    ensures { IfOk result (λ all. all ≡ list ++ item ∷ []) }
+{
+    let mut list = list;
+    match list.push(item) {
+        Ok(()) => Ok(list),
+        Err(Memory) => {
+            drop(list);
             Err(Memory)
         }
     }
@@ -107,11 +124,16 @@ impl Grown {
         ensures { IfOk result (λ t. t ≡ renamed span a name) }
     {
         let Grown { tree, depth } = a;
-        let node = Node::As(Box::new(alloc, tree)?, name);
-        Ok(Grown {
-            tree: Tree { span, node },
-            depth: depth + 1,
-        })
+        match boxed_with(alloc, tree, name) {
+            Ok((tree, name)) => {
+                let node = Node::As(tree, name);
+                Ok(Grown {
+                    tree: Tree { span, node },
+                    depth: depth + 1,
+                })
+            }
+            Err(Memory) => Err(Memory),
+        }
     }
 
     pub(crate) fn opposite(alloc: Global, span: Span, a: Grown) -> Result<Grown, Memory>
@@ -162,12 +184,16 @@ impl Grown {
         ensures { IfOk result (λ t. t ≡ binary span op a b) }
     {
         let depth = a.depth.max(b.depth) + 1;
-        let (left, right) = boxed_both(alloc, a.into_tree(), b.into_tree())?;
-        let node = Node::Binary(op, left, right);
-        Ok(Grown {
-            tree: Tree { span, node },
-            depth,
-        })
+        match both_boxed(alloc, a.into_tree(), b.into_tree()) {
+            Ok((left, right)) => {
+                let node = Node::Binary(op, left, right);
+                Ok(Grown {
+                    tree: Tree { span, node },
+                    depth,
+                })
+            }
+            Err(Memory) => Err(Memory),
+        }
     }
 
     pub(crate) fn call(span: Span, name: Name, arguments: Arguments) -> Grown
@@ -217,14 +243,11 @@ impl Arguments {
     pub(crate) fn with(self, argument: Grown) -> Result<Arguments, Memory>
         ensures { IfOk result (λ all. all ≡ self ++ argument ∷ []) }
     {
-        let Arguments { mut trees, depth } = self;
+        let Arguments { trees, depth } = self;
         let depth = depth.max(argument.depth);
-        match trees.push(argument.into_tree()) {
-            Ok(()) => Ok(Arguments { trees, depth }),
-            Err(Memory) => {
-                drop(trees);
-                Err(Memory)
-            }
+        match with_item(trees, argument.into_tree()) {
+            Ok(trees) => Ok(Arguments { trees, depth }),
+            Err(Memory) => Err(Memory),
         }
     }
 }

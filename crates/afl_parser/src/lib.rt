@@ -1,18 +1,14 @@
-//! Syntax trees of statements, the grammar, its parser and its printer.
+//! The parser of statements.
 #![tactic(auto)]
 
-mod copies;
+mod fault;
 mod frame;
 mod grown;
-mod kind;
 mod laws;
+mod lines;
 mod parser;
-mod printer;
 mod reader;
-mod tree;
 
-pub use kind::{ParseFault, ParseKind, StopKind};
+pub use fault::ParseFault;
 pub use laws::texts_have_tree_or_stop;
 pub use parser::parse;
-pub use printer::{print, printed_trees_are_read_again};
-pub use tree::{BinaryOp, Node, Tree, let_go_tree};

@@ -1,17 +1,18 @@
 //! The parser: from a text to its tree.
 ghost use Rattle.std.specs.Prelude.{◌≡◌, ◌≤◌, ℕ, All, drop, length, IfOk, IfErr};
 ghost use Rattle.afl_lexer.specs.Tokens.{IsTokenOf};
-ghost use Rattle.afl_parser.specs.Term.{Term};
-ghost use Rattle.afl_parser.specs.Grammar.{IsStatement};
-ghost use Rattle.afl_parser.specs.Statement.{lexemes, DerivesText, StopsText, start_of};
+ghost use Rattle.afl_trees.specs.Term.{Term};
+ghost use Rattle.afl_trees.specs.Grammar.{IsStatement};
+ghost use Rattle.afl_trees.specs.Statement.{lexemes, DerivesText, StopsText, start_of};
 ghost use Rattle.afl_parser.specs.Inner.Reply.{placed, IsTokenStop, at_token, in_token};
 ghost use Rattle.afl_parser.specs.Outcome.{IsTextStop, AnswersTree, AnswersStop};
-ghost use Rattle.afl_parser.specs.declared.kind.ParseKind.{ParseKind};
+ghost use Rattle.afl_trees.specs.declared.kind.ParseKind.{ParseKind};
 
+use crate::fault::{ParseFault, lexical, syntactic};
 use crate::frame::{Focus, Stack};
 use crate::reader::{Fault, Reader};
-use crate::{ParseFault, ParseKind, StopKind, Tree};
 use afl_lexer::{LexFault, Token, tokens};
+use afl_trees::{StopKind, Tree};
 use std::alloc::Global;
 
 /// Why tokens have no tree.
@@ -76,7 +77,7 @@ fn at_token(text: &[u8], tokens: &[Token], fault: TokenFault) -> ParseFault
     match fault {
         TokenFault::At { index, kind } => ParseFault::At {
             at: place_of(text, tokens, index),
-            kind: ParseKind::syntactic(kind),
+            kind: syntactic(kind),
         },
         TokenFault::Memory => ParseFault::Memory,
     }
@@ -89,7 +90,7 @@ fn in_token(fault: LexFault) -> ParseFault
     match fault {
         LexFault::At { at, kind } => ParseFault::At {
             at,
-            kind: ParseKind::lexical(kind),
+            kind: lexical(kind),
         },
         LexFault::Memory => ParseFault::Memory,
     }

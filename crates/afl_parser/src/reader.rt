@@ -1,19 +1,19 @@
 //! The reader: one turn a token.
-ghost use Rattle.std.specs.Prelude.{◌≡◌, ℕ, ◌+◌, ◌<◌, ◌≤◌, ◌^◌, List, [], ◌∷◌, length, nat_lt, IfOk};
-ghost use Rattle.afl_parser.specs.Term.{renamed};
-ghost use Rattle.afl_parser.specs.Grammar.{height};
+ghost use Rattle.std.specs.Prelude.{◌≡◌, ℕ, Some, None, ◌+◌, ◌<◌, ◌≤◌, ◌^◌, List, [], ◌∷◌, ◌++◌, length, nat_lt, IfOk};
+ghost use Rattle.afl_trees.specs.Term.{renamed, group, call, to_terms};
+ghost use Rattle.afl_trees.specs.Grammar.{height, heights};
 ghost use Rattle.afl_lexer.specs.Lexemes.{what_of, lexeme_of};
 ghost use Rattle.afl_lexer.specs.Tokens.{IsTokenOf};
 ghost use Rattle.schema_grammar.specs.Inner.Reading.{shape_turn};
-ghost use Rattle.afl_parser.specs.Grammar.{op_of};
+ghost use Rattle.afl_trees.specs.Grammar.{op_of};
 ghost use Rattle.afl_parser.specs.Inner.Machine.{Turn, Go, Stop, shaped, shallow, settle, leaf_of, opening, begin, start, array_word, title, made, first, operated, named, opened, dated, date, closed, separated, joined, extend, name_it, turn, whole, finished, FitsBelow, Fits};
 ghost use Rattle.afl_parser.specs.Inner.Reply.{Gives, GivesWhole};
 
 use crate::frame::{Focus, Frame, Stack};
 use crate::grown::{Arguments, Grown};
-use crate::tree::across;
-use crate::{BinaryOp, Node, StopKind, Tree};
+use crate::lines::{across, left_line, operator_line, reference_of, span_of, top_line};
 use afl_lexer::{Symbol, Token, TokenKind, Word, name_value, text_value};
+use afl_trees::{BinaryOp, Node, StopKind, Tree};
 use cell_values::{Code, Memory, Name, Span};
 use schema_grammar::{ShapeState, ShapeStep, read_shape};
 use std::alloc::Global;
@@ -352,7 +352,7 @@ fn operate(op: BinaryOp, stack: Stack, tree: Grown) -> Result<Reader, Fault>
     ensures { Gives result (operated 128 op (stack, tree)) }
 {
     let mut stack = stack;
-    if stack.want() <= op.line() && op.left_line() <= tree.tree().line() {
+    if stack.want() <= operator_line(op) && left_line(op) <= top_line(tree.tree()) {
         if stack.len() + 1 + tree.height() <= DEPTH {
             match stack.push(Frame::Left(op, tree)) {
                 Ok(()) => Ok(Reader {
@@ -374,7 +374,7 @@ fn start_name(stack: Stack, tree: Grown) -> Result<Reader, Fault>
     requires { FitsBelow 128 (stack, tree) }
     ensures { Gives result (named 128 (stack, tree)) }
 {
-    if stack.want() <= 0 && 1 <= tree.tree().line() {
+    if stack.want() <= 0 && 1 <= top_line(tree.tree()) {
         if stack.len() + 1 + tree.height() <= DEPTH {
             Ok(Reader {
                 stack,
@@ -392,8 +392,8 @@ fn start_name(stack: Stack, tree: Grown) -> Result<Reader, Fault>
 fn open_call(stack: Stack, tree: Grown) -> Result<Reader, Fault>
     ensures { Gives result (opened stack tree) }
 {
-    let span = tree.tree().span();
-    match tree.into_tree().into_reference() {
+    let span = span_of(tree.tree());
+    match reference_of(tree.into_tree()) {
         Some(name) => Ok(Reader {
             stack,
             focus: Focus::First(name, span),
@@ -406,8 +406,8 @@ fn open_call(stack: Stack, tree: Grown) -> Result<Reader, Fault>
 fn start_version(stack: Stack, tree: Grown) -> Result<Reader, Fault>
     ensures { Gives result (dated stack tree) }
 {
-    let span = tree.tree().span();
-    match tree.into_tree().into_reference() {
+    let span = span_of(tree.tree());
+    match reference_of(tree.into_tree()) {
         Some(name) => Ok(Reader {
             stack,
             focus: Focus::At(name, span),
@@ -435,8 +435,54 @@ fn end_version(stack: Stack, name: Name, start: Span, token: Token) -> Result<Re
     }
 }
 
-/// A right bracket behind the last child of an open node.
+/// A tree in brackets.
+fn end_group(alloc: Global, stack: Stack, span: Span, tree: Grown) -> Result<Reader, Fault>
+    requires { height tree + 1 < 2 ^ 64 }
+    ensures { Gives result (Go stack (Focus.Have (group span tree))) }
+{
+    match Grown::group(alloc, span, tree) {
+        Ok(group) => Ok(Reader {
+            stack,
+            focus: Focus::Have(group),
+        }),
+        Err(Memory) => give_up(stack),
+    }
+}
+
+/// A call with its arguments.
+fn end_call(stack: Stack, span: Span, name: Name, arguments: Arguments) -> Reader
+    requires { heights (to_terms arguments) + 1 < 2 ^ 64 }
+    ensures { (result.stack ≡ stack) × (result.focus ≡ Focus.Have (call span name (to_terms arguments))) }
+{
+    Reader {
+        stack,
+        focus: Focus::Have(Grown::call(span, name, arguments)),
+    }
+}
+
+/// A call with its last argument.
 #[tactic(auto, using(crate::proofs::Heights::heights_of_more))]
+fn end_arguments(
+    stack: Stack,
+    span: Span,
+    name: Name,
+    arguments: Arguments,
+    tree: Grown,
+) -> Result<Reader, Fault>
+    requires arguments { heights (to_terms arguments) + 1 < 2 ^ 64 }
+    requires tree { height tree + 1 < 2 ^ 64 }
+    ensures { Gives result (Go stack (Focus.Have (call span name (to_terms (arguments ++ tree ∷ []))))) }
+{
+    match arguments.with(tree) {
+        Ok(arguments) => Ok(end_call(stack, span, name, arguments)),
+        Err(Memory) => {
+            drop(name);
+            give_up(stack)
+        }
+    }
+}
+
+/// A right bracket behind the last child of an open node.
 fn end_node(
     alloc: Global,
     stack: Stack,
@@ -448,26 +494,9 @@ fn end_node(
     ensures { Gives result (closed (frame ∷ stack) tree end) }
 {
     match frame {
-        Frame::Group(start) => {
-            match Grown::group(alloc, across(start, end), tree) {
-                Ok(group) => Ok(Reader {
-                    stack,
-                    focus: Focus::Have(group),
-                }),
-                Err(Memory) => give_up(stack),
-            }
-        }
+        Frame::Group(start) => end_group(alloc, stack, across(start, end), tree),
         Frame::Call(name, start, arguments) => {
-            match arguments.with(tree) {
-                Ok(arguments) => {
-                    let call = Grown::call(across(start, end), name, arguments);
-                    Ok(Reader {
-                        stack,
-                        focus: Focus::Have(call),
-                    })
-                }
-                Err(Memory) => give_up(stack),
-            }
+            end_arguments(stack, across(start, end), name, arguments, tree)
         }
         Frame::Not(_) | Frame::Minus(_) => stop_behind(stack, tree, StopKind::Unexpected),
         Frame::Left(_, left) => {
@@ -503,6 +532,25 @@ fn open_next(stack: Stack, frame: Frame) -> Result<Reader, Fault>
     }
 }
 
+/// A call with one more argument, which wants its next.
+fn go_on_call(
+    stack: Stack,
+    name: Name,
+    start: Span,
+    arguments: Arguments,
+    tree: Grown,
+) -> Result<Reader, Fault>
+    ensures { Gives result (Go (Frame.Call name start (arguments ++ tree ∷ []) ∷ stack) Focus.Want) }
+{
+    match arguments.with(tree) {
+        Ok(arguments) => open_next(stack, Frame::Call(name, start, arguments)),
+        Err(Memory) => {
+            drop(name);
+            give_up(stack)
+        }
+    }
+}
+
 /// A comma, where the operators before it have ended.
 fn next_argument(stack: Stack, tree: Grown) -> Result<Reader, Fault>
     ensures { Gives result (separated stack tree) }
@@ -510,10 +558,7 @@ fn next_argument(stack: Stack, tree: Grown) -> Result<Reader, Fault>
     let mut stack = stack;
     match stack.pop() {
         Some(Frame::Call(name, start, arguments)) => {
-            match arguments.with(tree) {
-                Ok(arguments) => open_next(stack, Frame::Call(name, start, arguments)),
-                Err(Memory) => give_up(stack),
-            }
+            go_on_call(stack, name, start, arguments, tree)
         }
         Some(other) => {
             drop(other);
@@ -576,7 +621,7 @@ fn extend(alloc: Global, stack: Stack, tree: Grown, token: Token) -> Result<Read
 {
     match operator_of(token.kind) {
         Some(op) => {
-            let (stack, tree) = settle(alloc, op.line(), stack, tree)?;
+            let (stack, tree) = settle(alloc, operator_line(op), stack, tree)?;
             operate(op, stack, tree)
         }
         None => join(alloc, stack, tree, token),
@@ -611,7 +656,7 @@ fn name_it(
 {
     match token.kind {
         TokenKind::Name => {
-            let whole = across(tree.tree().span(), token.span);
+            let whole = across(span_of(tree.tree()), token.span);
             match name_value(alloc, text, &token) {
                 Ok(name) => rename(alloc, stack, whole, tree, name),
                 Err(Memory) => {
@@ -624,15 +669,43 @@ fn name_it(
     }
 }
 
+/// The tree, where no more is open.
+fn end_whole(stack: Stack, tree: Grown) -> Result<Tree, Fault>
+    ensures { GivesWhole result (Some tree) }
+{
+    drop(stack);
+    Ok(tree.into_tree())
+}
+
+/// No tree, where more is open.
+fn end_open(stack: Stack, frame: Frame, tree: Grown) -> Result<Tree, Fault>
+    ensures { GivesWhole result None }
+{
+    drop(stack);
+    drop(frame);
+    drop(tree);
+    Err(Fault::Stop(StopKind::Unexpected))
+}
+
+/// The whole tree of what has settled.
+fn whole_of(stack: Stack, tree: Grown) -> Result<Tree, Fault>
+    ensures { GivesWhole result (whole (stack, tree)) }
+{
+    let mut stack = stack;
+    match stack.pop() {
+        None => end_whole(stack, tree),
+        Some(frame) => end_open(stack, frame, tree),
+    }
+}
+
 /// The whole tree, where nothing is open.
 fn whole(alloc: Global, stack: Stack, tree: Grown) -> Result<Tree, Fault>
     requires { FitsBelow 128 (stack, tree) }
     ensures { GivesWhole result (whole (settle 0 stack tree)) }
 {
-    let (mut stack, tree) = settle(alloc, 0, stack, tree)?;
-    match stack.pop() {
-        None => Ok(tree.into_tree()),
-        Some(_) => Err(Fault::Stop(StopKind::Unexpected)),
+    match settle(alloc, 0, stack, tree) {
+        Ok((stack, tree)) => whole_of(stack, tree),
+        Err(Memory) => Err(Fault::Memory),
     }
 }
 
@@ -676,8 +749,15 @@ impl Reader {
         let Reader { stack, focus } = self;
         match focus {
             Focus::Have(tree) => whole(alloc, stack, tree),
-            Focus::Made(tree) => Ok(tree),
-            _ => Err(Fault::Stop(StopKind::Unexpected)),
+            Focus::Made(tree) => {
+                drop(stack);
+                Ok(tree)
+            }
+            other => {
+                drop(stack);
+                drop(other);
+                Err(Fault::Stop(StopKind::Unexpected))
+            }
         }
     }
 }

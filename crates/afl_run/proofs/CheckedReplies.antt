@@ -3,7 +3,7 @@ use Rattle.std.proofs.Common.{◌≡◌, ℕ, false, List, [], Result, Ok, Err, 
 use Rattle.cell_values.specs.declared.memory.Memory.{Memory}
 use Rattle.cell_values.specs.declared.name.Span.{Span}
 use Rattle.schema_grammar.specs.declared.kinds.TypeKind.{TypeKind}
-use Rattle.afl_parser.specs.Term.{Term}
+use Rattle.afl_trees.specs.Term.{Term}
 use Rattle.logical_plan.specs.Query.{Query}
 use Rattle.check_rules.specs.Checked.{Answers, Checked}
 use Rattle.check_rules.specs.Checked.{refused as broken}

@@ -1,7 +1,7 @@
 -- The statements that are not built yet: `create array`, and those that call, anywhere, an operator that changes arrays or lists
 -- something: `store`, `insert`, `remove`, `remove_versions`, `versions`, `show` or `list`.
 use Rattle.std.specs.Prelude.{Bool, true, false, ◌||◌, Option, Some}
-use Rattle.afl_parser.specs.Term.{Term, create, number, text, truth, null, missing, reference, version, call, schema, star, renamed, opposite, negative, binary, group, Terms, no_terms, and_term}
+use Rattle.afl_trees.specs.Term.{Term, create, number, text, truth, null, missing, reference, version, call, schema, star, renamed, opposite, negative, binary, group, Terms, no_terms, and_term}
 use Rattle.check_rules.specs.declared.rules.operator.Operator.{Operator}
 use Rattle.check_rules.specs.declared.rules.operator.Operator.TheVariants.{Store, Insert, Remove, RemoveVersions, Versions, Show, ListNames}
 use Rattle.check_rules.specs.Operators.{operator_named}

@@ -9,7 +9,8 @@ ghost use Rattle.afl_run.specs.Reply.{IsReplyTo, checked_reply, no_names, plan_r
 ghost use Rattle.afl_run.specs.Unbuilt.{is_unbuilt};
 
 use crate::unbuilt::is_unbuilt;
-use afl_parser::{ParseFault, Tree, parse};
+use afl_parser::{ParseFault, parse};
+use afl_trees::Tree;
 use afl_types::{TypeFault, query_plan};
 use cell_values::{Broken, Bytes, List, Memory};
 use logical_plan::{Names, Plan};

@@ -1,10 +1,10 @@
 //! The statements that are not built yet: those that change arrays or list something.
 ghost use Rattle.std.specs.Prelude.{◌≡◌};
-ghost use Rattle.afl_parser.specs.Term.{to_terms};
+ghost use Rattle.afl_trees.specs.Term.{to_terms};
 ghost use Rattle.check_rules.specs.Operators.{operator_named};
 ghost use Rattle.afl_run.specs.Unbuilt.{has_unbuilt, is_to_come, is_unbuilt};
 
-use afl_parser::{Node, Tree};
+use afl_trees::{Node, Tree};
 use check_rules::{Operator, operator_named};
 
 /// Whether a name is that of an operator which changes arrays or lists something.

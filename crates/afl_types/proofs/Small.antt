@@ -8,7 +8,7 @@ use Rattle.cell_values.specs.declared.name.Span.{Span}
 use Rattle.cell_values.specs.declared.schema.Schema.{Schema}
 use Rattle.cell_values.specs.Schemas.{IsValid, has_attributes, has_dimensions, are_distinct, names_of, is_dimension, frame_fits}
 use Rattle.schema_grammar.specs.declared.kinds.TypeKind.TheVariants.{WrongCount}
-use Rattle.afl_parser.specs.Term.{Term, call, group, Terms, no_terms, and_term}
+use Rattle.afl_trees.specs.Term.{Term, call, group, Terms, no_terms, and_term}
 use Rattle.logical_plan.specs.PlanSchema.{schema_of}
 use Rattle.logical_plan.specs.Query.{Query, applied, projected, subarray, sliced, joined, crossed, regridded, windowed, aggregated}
 use Rattle.logical_plan.specs.declared.names.NameEntry.{NameEntry}

@@ -3,7 +3,7 @@ use Rattle.std.proofs.Common.{◌≡◌, ◌<◌, ◌≤◌, ℕ, Some, Result, 
 use Rattle.std.proofs.lemmas.List.{take_all}
 use Rattle.cell_values.specs.declared.name.Span.{Span}
 use Rattle.schema_grammar.specs.declared.kinds.TypeKind.TheVariants.{WrongCount}
-use Rattle.afl_parser.specs.Term.{Term, to_terms}
+use Rattle.afl_trees.specs.Term.{Term, to_terms}
 use Rattle.logical_plan.specs.Query.{Query}
 use Rattle.logical_plan.specs.declared.names.NameEntry.{NameEntry}
 use Rattle.check_rules.specs.Checked.{Answers, refused}

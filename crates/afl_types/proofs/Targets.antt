@@ -2,7 +2,7 @@
 use Rattle.std.proofs.Common.{◌≡◌, ◌<◌, ◌≤◌, List, [], ◌∷◌, length, refl, arith}
 use Rattle.cell_values.specs.declared.name.Span.{Span}
 use Rattle.schema_grammar.specs.declared.kinds.TypeKind.TheVariants.{WrongCount}
-use Rattle.afl_parser.specs.Term.{Term, to_terms}
+use Rattle.afl_trees.specs.Term.{Term, to_terms}
 use Rattle.logical_plan.specs.declared.names.NameEntry.{NameEntry}
 use Rattle.check_rules.specs.Checked.{refused}
 use Rattle.afl_types.specs.Statements.{insert_of, store_of}

@@ -4,8 +4,8 @@ use Rattle.std.specs.Prelude.{codes}
 use Rattle.cell_values.specs.declared.name.Span.{Span}
 use Rattle.schema_grammar.specs.declared.kinds.TypeKind.TheVariants.{UnknownArray, UnknownVersion, UnknownName, RepeatedName, WrongType, WrongCount, BoundsOrder, EmptyBox}
 use Rattle.schema_grammar.specs.declared.shape_text.SchemaText.{SchemaText}
-use Rattle.afl_parser.specs.Term.{number, truth, null, reference, version, call, schema, star, binary, group, no_terms, and_term}
-use Rattle.afl_parser.specs.declared.tree.BinaryOp.TheVariants.{Mul}
+use Rattle.afl_trees.specs.Term.{number, truth, null, reference, version, call, schema, star, binary, group, no_terms, and_term}
+use Rattle.afl_trees.specs.declared.tree.BinaryOp.TheVariants.{Mul}
 use Rattle.expr_nulls.specs.Expr.{dimension_value, calculation}
 use Rattle.expr_nulls.specs.declared.expr.ArithOp.TheVariants as arith_op
 use Rattle.logical_plan.specs.Query.{built, redimensioned}

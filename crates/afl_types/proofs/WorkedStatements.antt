@@ -5,7 +5,7 @@ use Rattle.cell_values.specs.declared.name.Span.{Span}
 use Rattle.schema_grammar.specs.declared.kinds.TypeKind.TheVariants.{UnknownArray, UnknownVersion, UnknownName, WrongType, WrongCount, SchemaDiffers, TooManyVersions, ArrayExists}
 use Rattle.schema_grammar.specs.declared.shape_text.SchemaText.{SchemaText}
 use Rattle.schema_grammar.specs.Rules.{schema_of}
-use Rattle.afl_parser.specs.Term.{Term, create, number, text, truth, reference, version, call, group, negative, no_terms, and_term}
+use Rattle.afl_trees.specs.Term.{Term, create, number, text, truth, reference, version, call, group, negative, no_terms, and_term}
 use Rattle.logical_plan.specs.declared.names.NameEntry.{NameEntry}
 use Rattle.plan_changes.specs.declared.change.Change.TheVariants.{Create, Store, Insert, Remove, RemoveVersions}
 use Rattle.check_rules.specs.Checked.{refused}

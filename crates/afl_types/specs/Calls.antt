@@ -1,7 +1,7 @@
 -- The operators that are built: what a call is by its operator, and the rules of an operator on one source or two.
 use Rattle.std.specs.Prelude.{ℕ, ◌%◌, Bool, true, ◌&&◌, ◌==◌, nat_le, Option, Some, None, List}
 use Rattle.cell_values.specs.declared.name.Span.{Span}
-use Rattle.afl_parser.specs.Term.{Term}
+use Rattle.afl_trees.specs.Term.{Term}
 use Rattle.logical_plan.specs.Query.{Query}
 use Rattle.check_rules.specs.Checked.{Checked}
 use Rattle.check_rules.specs.declared.rules.operator.Operator.{Operator}

@@ -1,6 +1,6 @@
 -- Checking: what a statement's tree is, over the stored arrays, or the first rule that it breaks.
 use Rattle.std.specs.Prelude.{ℕ, List}
-use Rattle.afl_parser.specs.Term.{Term}
+use Rattle.afl_trees.specs.Term.{Term}
 use Rattle.logical_plan.specs.declared.names.Names.{Names}
 use Rattle.check_rules.specs.Checked.{Checked}
 pub use Rattle.afl_types.specs.Arrays.{AreValid}

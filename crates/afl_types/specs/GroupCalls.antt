@@ -1,7 +1,7 @@
 -- The plans of `regrid`, `window` and `aggregate` over a source: what stands behind it, and then the rules of the new schema.
 use Rattle.std.specs.Prelude.{List}
 use Rattle.cell_values.specs.declared.name.Span.{Span}
-use Rattle.afl_parser.specs.Term.{Term}
+use Rattle.afl_trees.specs.Term.{Term}
 use Rattle.logical_plan.specs.PlanSchema.{schema_of}
 use Rattle.logical_plan.specs.Query.{Query, regridded, windowed, aggregated}
 use Rattle.check_rules.specs.Checked.{Checked, then}

@@ -1,7 +1,7 @@
 -- The plans of `join` and `cross_join` over two sources: the schema with the names that it gives, and then its other rules.
 use Rattle.std.specs.Prelude.{List}
 use Rattle.cell_values.specs.declared.name.Span.{Span}
-use Rattle.afl_parser.specs.Term.{Term}
+use Rattle.afl_trees.specs.Term.{Term}
 use Rattle.logical_plan.specs.PlanSchema.{schema_of}
 use Rattle.logical_plan.specs.Query.{Query, joined, crossed}
 use Rattle.check_rules.specs.Checked.{Checked, then}

@@ -5,7 +5,7 @@
 use Rattle.std.specs.Prelude.{ℕ, length, Option, Some, None, List}
 use Rattle.cell_values.specs.declared.name.Span.{Span}
 use Rattle.schema_grammar.specs.declared.kinds.TypeKind.TheVariants.{WrongCount}
-use Rattle.afl_parser.specs.Term.{Term, call, group, Terms, no_terms, and_term}
+use Rattle.afl_trees.specs.Term.{Term, call, group, Terms, no_terms, and_term}
 use Rattle.logical_plan.specs.Query.{Query}
 use Rattle.logical_plan.specs.declared.names.NameEntry.{NameEntry}
 use Rattle.check_rules.specs.Checked.{Checked, refused, demand, then}

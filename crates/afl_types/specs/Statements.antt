@@ -6,7 +6,7 @@
 use Rattle.std.specs.Prelude.{ℕ, Option, Some, Ok, List}
 use Rattle.cell_values.specs.declared.name.Span.{Span}
 use Rattle.schema_grammar.specs.declared.kinds.TypeKind.TheVariants.{WrongCount}
-use Rattle.afl_parser.specs.Term.{Term, create, call, Terms, no_terms, and_term}
+use Rattle.afl_trees.specs.Term.{Term, create, call, Terms, no_terms, and_term}
 use Rattle.logical_plan.specs.Query.{Query}
 use Rattle.logical_plan.specs.declared.names.NameEntry.{NameEntry}
 use Rattle.plan_changes.specs.declared.change.Change.{Change}

@@ -3,7 +3,8 @@ ghost use Rattle.std.specs.Prelude.{◌≡◌, None};
 
 use crate::host_sink::HostSink;
 use crate::host_source::HostSource;
-use afl_outside::{Failed, Shelf, SureDisk};
+use afl_in_memory::SureDisk;
+use afl_outside::{Failed, Shelf};
 use std::fs;
 
 #[derive(Drop)]

@@ -12,7 +12,7 @@ use Rattle.cell_values.specs.declared.schema.Kind.{Kind}
 use Rattle.cell_values.specs.declared.schema.Schema.{Schema}
 use Rattle.cell_values.specs.Schemas.{attribute_names, dimension_names, names_of, is_among, are_distinct}
 use Rattle.schema_grammar.specs.declared.kinds.TypeKind.TheVariants.{RepeatedName}
-use Rattle.afl_parser.specs.Term.{Term, reference}
+use Rattle.afl_trees.specs.Term.{Term, reference}
 use Rattle.logical_plan.specs.PlanSchema.{derived, apply_schema}
 use Rattle.logical_plan.specs.Typing.{is_over, is_null_alone, fits_apply, kinds_of}
 use Rattle.logical_plan.specs.declared.parts.Applied.{Applied}

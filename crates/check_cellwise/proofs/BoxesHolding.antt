@@ -6,7 +6,7 @@ use Rattle.cell_values.specs.declared.name.Span.{Span}
 use Rattle.cell_values.specs.declared.schema.Dimension.{Dimension}
 use Rattle.cell_values.specs.Schemas.{bounds_in_order, bounds_in_range}
 use Rattle.schema_grammar.specs.declared.kinds.TypeKind.TheVariants.{WrongCount, EmptyBox, BoundsRange}
-use Rattle.afl_parser.specs.Term.{Term}
+use Rattle.afl_trees.specs.Term.{Term}
 use Rattle.logical_plan.specs.PlanSchema.{schema_of}
 use Rattle.logical_plan.specs.Query.{Query, between, subarray, sliced}
 use Rattle.logical_plan.specs.declared.parts.Fixed.{Fixed}

@@ -6,8 +6,8 @@ use Rattle.cell_values.specs.declared.name.Span.{Span}
 use Rattle.cell_values.specs.declared.schema.Kind.TheVariants.{Bool as Truths}
 use Rattle.cell_values.specs.declared.schema.Schema.{Schema}
 use Rattle.schema_grammar.specs.declared.kinds.TypeKind.TheVariants.{WrongType, WrongCount}
-use Rattle.afl_parser.specs.Term.{Term}
-use Rattle.afl_parser.specs.Grammar.{span_of}
+use Rattle.afl_trees.specs.Term.{Term}
+use Rattle.afl_trees.specs.Grammar.{span_of}
 use Rattle.logical_plan.specs.PlanSchema.{schema_of}
 use Rattle.logical_plan.specs.Query.{Query, filtered, applied, projected}
 use Rattle.logical_plan.specs.declared.parts.Applied.{Applied}

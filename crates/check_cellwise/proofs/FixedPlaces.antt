@@ -10,8 +10,8 @@ use Rattle.std.proofs.lemmas.List.Quantifiers.{position-Some}
 use Rattle.cell_values.specs.declared.name.Span.{Span}
 use Rattle.cell_values.specs.declared.schema.Dimension.{Dimension}
 use Rattle.schema_grammar.specs.declared.kinds.TypeKind.TheVariants.{RepeatedName}
-use Rattle.afl_parser.specs.Term.{Term, reference}
-use Rattle.afl_parser.specs.Grammar.{span_of}
+use Rattle.afl_trees.specs.Term.{Term, reference}
+use Rattle.afl_trees.specs.Grammar.{span_of}
 use Rattle.logical_plan.specs.BoxOps.{fixed_places}
 use Rattle.logical_plan.specs.Typing.{are_below, are_apart}
 use Rattle.logical_plan.specs.declared.parts.Fixed.{Fixed}

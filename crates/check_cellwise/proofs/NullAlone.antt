@@ -8,9 +8,9 @@ use Rattle.cell_values.specs.declared.schema.Dimension.{Dimension}
 use Rattle.cell_values.specs.declared.schema.Kind.{Kind}
 use Rattle.cell_values.specs.declared.schema.Kind.TheVariants.{Int64, Str, Bool as Truths}
 use Rattle.schema_grammar.specs.declared.kinds.TypeKind.TheVariants.{WrongType}
-use Rattle.afl_parser.specs.Term.{Term, create, number, text, truth, null, missing, reference, version, call, schema, star, renamed, opposite, negative, binary, group, Terms, no_terms, and_term}
-use Rattle.afl_parser.specs.declared.tree.BinaryOp.{BinaryOp}
-use Rattle.afl_parser.specs.declared.tree.BinaryOp.TheVariants.{Or, And, Equal, Differs, Less, AtMost, More, AtLeast, Add, Sub, Mul, Div, Rem}
+use Rattle.afl_trees.specs.Term.{Term, create, number, text, truth, null, missing, reference, version, call, schema, star, renamed, opposite, negative, binary, group, Terms, no_terms, and_term}
+use Rattle.afl_trees.specs.declared.tree.BinaryOp.{BinaryOp}
+use Rattle.afl_trees.specs.declared.tree.BinaryOp.TheVariants.{Or, And, Equal, Differs, Less, AtMost, More, AtLeast, Add, Sub, Mul, Div, Rem}
 use Rattle.expr_nulls.specs.declared.expr.ArithOp.{ArithOp}
 use Rattle.expr_nulls.specs.declared.expr.ArithOp.TheVariants as arith
 use Rattle.logical_plan.specs.Typing.{is_null_alone}

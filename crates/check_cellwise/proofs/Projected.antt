@@ -15,7 +15,7 @@ use Rattle.cell_values.specs.declared.schema.Attribute.{Attribute}
 use Rattle.cell_values.specs.declared.schema.Schema.{Schema}
 use Rattle.cell_values.specs.Schemas.{attribute_names, dimension_names, is_among, are_distinct}
 use Rattle.schema_grammar.specs.declared.kinds.TypeKind.TheVariants.{RepeatedName}
-use Rattle.afl_parser.specs.Term.{Term, reference}
+use Rattle.afl_trees.specs.Term.{Term, reference}
 use Rattle.logical_plan.specs.BoxOps.{items_at}
 use Rattle.logical_plan.specs.Typing.{are_below}
 use Rattle.check_rules.proofs.RulesHolding.{demanded}

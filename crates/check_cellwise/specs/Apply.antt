@@ -10,8 +10,8 @@ use Rattle.cell_values.specs.declared.schema.Dimension.{Dimension}
 use Rattle.cell_values.specs.declared.schema.Kind.{Kind}
 use Rattle.cell_values.specs.declared.schema.Schema.{Schema}
 use Rattle.schema_grammar.specs.declared.kinds.TypeKind.TheVariants.{RepeatedName, WrongType}
-use Rattle.afl_parser.specs.Term.{Term, reference}
-use Rattle.afl_parser.specs.Grammar.{span_of}
+use Rattle.afl_trees.specs.Term.{Term, reference}
+use Rattle.afl_trees.specs.Grammar.{span_of}
 use Rattle.logical_plan.specs.PlanSchema.{schema_of}
 use Rattle.logical_plan.specs.Query.{Query, applied}
 use Rattle.logical_plan.specs.declared.parts.Applied.{Applied}

@@ -3,8 +3,8 @@ use Rattle.std.specs.Prelude.{ℕ, nat_le, length, Ok, List, []}
 use Rattle.cell_values.specs.declared.name.Span.{Span}
 use Rattle.cell_values.specs.declared.schema.Attribute.{Attribute}
 use Rattle.schema_grammar.specs.declared.kinds.TypeKind.TheVariants.{WrongType, WrongCount}
-use Rattle.afl_parser.specs.Term.{Term, reference}
-use Rattle.afl_parser.specs.Grammar.{span_of}
+use Rattle.afl_trees.specs.Term.{Term, reference}
+use Rattle.afl_trees.specs.Grammar.{span_of}
 use Rattle.logical_plan.specs.PlanSchema.{schema_of}
 use Rattle.logical_plan.specs.Query.{Query, projected}
 use Rattle.check_rules.specs.Checked.{Checked, refused, demand, then}

@@ -3,8 +3,8 @@ use Rattle.std.specs.Prelude.{ℕ, ℤ, nat_le, length, Option, Some, None, Ok, 
 use Rattle.cell_values.specs.declared.name.Span.{Span}
 use Rattle.cell_values.specs.declared.schema.Dimension.{Dimension}
 use Rattle.schema_grammar.specs.declared.kinds.TypeKind.TheVariants.{WrongCount, WrongType}
-use Rattle.afl_parser.specs.Term.{Term, reference}
-use Rattle.afl_parser.specs.Grammar.{span_of}
+use Rattle.afl_trees.specs.Term.{Term, reference}
+use Rattle.afl_trees.specs.Grammar.{span_of}
 use Rattle.logical_plan.specs.BoxOps.{fixed_places}
 use Rattle.logical_plan.specs.PlanSchema.{schema_of}
 use Rattle.logical_plan.specs.Query.{Query, sliced}

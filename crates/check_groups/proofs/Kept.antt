@@ -10,8 +10,8 @@ use Rattle.cell_values.specs.declared.name.Span.{Span}
 use Rattle.cell_values.specs.declared.schema.Attribute.{Attribute}
 use Rattle.cell_values.specs.Schemas.{attribute_names, is_among, are_distinct}
 use Rattle.schema_grammar.specs.declared.kinds.TypeKind.TheVariants.{RepeatedName, WrongType}
-use Rattle.afl_parser.specs.Term.{Term, call, reference, star}
-use Rattle.afl_parser.specs.Grammar.{span_of}
+use Rattle.afl_trees.specs.Term.{Term, call, reference, star}
+use Rattle.afl_trees.specs.Grammar.{span_of}
 use Rattle.logical_plan.specs.PlanSchema.{aggregate_attributes}
 use Rattle.logical_plan.specs.Typing.{aggregate_names, are_aggregates_of, is_aggregate_of, takes}
 use Rattle.logical_plan.specs.declared.parts.AggFunction.{AggFunction}

@@ -14,7 +14,7 @@ use Rattle.cell_values.specs.declared.name.Span.{Span}
 use Rattle.cell_values.specs.declared.schema.Dimension.{Dimension}
 use Rattle.cell_values.specs.Schemas.{dimension_names, is_among, are_distinct, is_dimension, bounds_in_range, bounds_in_order, has_chunk, overlap_fits}
 use Rattle.schema_grammar.specs.declared.kinds.TypeKind.TheVariants.{RepeatedName}
-use Rattle.afl_parser.specs.Term.{Term, reference}
+use Rattle.afl_trees.specs.Term.{Term, reference}
 use Rattle.logical_plan.specs.BoxOps.{items_at}
 use Rattle.logical_plan.specs.PlanSchema.{without_overlap}
 use Rattle.logical_plan.specs.Typing.{are_below}

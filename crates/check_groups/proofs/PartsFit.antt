@@ -8,8 +8,8 @@ use Rattle.cell_values.specs.declared.name.Span.{Span}
 use Rattle.cell_values.specs.declared.schema.Schema.{Schema}
 use Rattle.cell_values.specs.Schemas.{IsValid, attribute_names, dimension_names, are_distinct, is_dimension}
 use Rattle.schema_grammar.specs.declared.kinds.TypeKind.TheVariants.{OutOfRange, WindowTooLarge, WrongCount}
-use Rattle.afl_parser.specs.Term.{Term}
-use Rattle.afl_parser.specs.Grammar.{span_of}
+use Rattle.afl_trees.specs.Term.{Term}
+use Rattle.afl_trees.specs.Grammar.{span_of}
 use Rattle.array_rows.specs.Boxes.{by_pairs}
 use Rattle.logical_plan.specs.PlanSchema.{aggregate_schema, group_dimensions, in_blocks, regrid_schema, window_schema}
 use Rattle.logical_plan.specs.Typing.{are_aggregates_of, are_below, are_blocks_of, are_windows_of, aggregate_names}

@@ -1,6 +1,6 @@
 -- Arguments that are too few or too many for a call of one.
 use Rattle.std.proofs.Common.{◌≡◌, ◌<◌, ◌≤◌, None, List, [], ◌∷◌, length, refl, arith}
-use Rattle.afl_parser.specs.Term.{Term, to_terms}
+use Rattle.afl_trees.specs.Term.{Term, to_terms}
 use Rattle.check_groups.specs.AggregateSort.{sole}
 
 pub too_few : (xs : List Term) → length xs < 1 → sole (to_terms xs) ≡ None

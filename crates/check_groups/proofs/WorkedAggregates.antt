@@ -5,7 +5,7 @@ use Rattle.cell_values.specs.declared.name.Span.{Span}
 use Rattle.cell_values.specs.declared.schema.Attribute.{Attribute}
 use Rattle.cell_values.specs.declared.schema.Kind.TheVariants.{Int64, Str, Bool as Truths}
 use Rattle.schema_grammar.specs.declared.kinds.TypeKind.TheVariants.{NameTooLong, RepeatedName, UnknownName, WrongType}
-use Rattle.afl_parser.specs.Term.{Term, call, group, reference, star, renamed, no_terms, and_term}
+use Rattle.afl_trees.specs.Term.{Term, call, group, reference, star, renamed, no_terms, and_term}
 use Rattle.logical_plan.specs.declared.parts.AggFunction.{AggFunction}
 use Rattle.logical_plan.specs.declared.parts.AggFunction.TheVariants.{Sum, Count, CountAll, Min, Max}
 use Rattle.logical_plan.specs.declared.parts.Aggregate.{Aggregate}

@@ -2,7 +2,7 @@
 use Rattle.std.specs.Prelude.{ℕ, Bool, is_some, if◌then◌else◌, codes, drop, take, Option, Some, None, List}
 use Rattle.std.specs.List.{prefix_len}
 use Rattle.std.specs.Str.{bytes_eq}
-use Rattle.afl_parser.specs.Term.{Term, call, reference, star, renamed, Terms, no_terms, and_term}
+use Rattle.afl_trees.specs.Term.{Term, call, reference, star, renamed, Terms, no_terms, and_term}
 use Rattle.logical_plan.specs.declared.parts.AggFunction.{AggFunction}
 use Rattle.logical_plan.specs.declared.parts.AggFunction.TheVariants.{Sum, Count, CountAll, Min, Max}
 

@@ -5,8 +5,8 @@ use Rattle.cell_values.specs.declared.name.Span.{Span}
 use Rattle.cell_values.specs.declared.schema.Attribute.{Attribute}
 use Rattle.cell_values.specs.Schemas.{is_among}
 use Rattle.schema_grammar.specs.declared.kinds.TypeKind.TheVariants.{RepeatedName, UnknownName, WrongType}
-use Rattle.afl_parser.specs.Term.{Term, reference, renamed}
-use Rattle.afl_parser.specs.Grammar.{span_of}
+use Rattle.afl_trees.specs.Term.{Term, reference, renamed}
+use Rattle.afl_trees.specs.Grammar.{span_of}
 use Rattle.logical_plan.specs.PlanSchema.{default_name}
 use Rattle.logical_plan.specs.Typing.{aggregate_names, takes}
 use Rattle.logical_plan.specs.declared.parts.AggFunction.{AggFunction}

@@ -4,7 +4,7 @@ use Rattle.cell_values.specs.declared.name.Span.{Span}
 use Rattle.cell_values.specs.declared.schema.Schema.{Schema}
 use Rattle.cell_values.specs.Schemas.{dimension_names}
 use Rattle.schema_grammar.specs.declared.kinds.TypeKind.TheVariants.{WrongCount}
-use Rattle.afl_parser.specs.Term.{Term}
+use Rattle.afl_trees.specs.Term.{Term}
 use Rattle.check_rules.specs.Checked.{Checked, demand, then}
 use Rattle.check_rules.specs.InTurn.{in_turn}
 use Rattle.check_rules.specs.Sorts.{is_number, first_but, unless_other}

@@ -5,8 +5,8 @@ use Rattle.cell_values.specs.Naming.{is_word_byte}
 use Rattle.cell_values.specs.declared.name.Span.{Span}
 use Rattle.cell_values.specs.declared.schema.Dimension.{Dimension}
 use Rattle.schema_grammar.specs.declared.kinds.TypeKind.TheVariants.{NameTooLong, WrongType}
-use Rattle.afl_parser.specs.Term.{Term, reference}
-use Rattle.afl_parser.specs.Grammar.{span_of}
+use Rattle.afl_trees.specs.Term.{Term, reference}
+use Rattle.afl_trees.specs.Grammar.{span_of}
 use Rattle.check_rules.specs.Checked.{Checked, refused, demand}
 use Rattle.check_exprs.specs.Expressions.{dimension_place}
 use Rattle.check_rules.specs.InTurn.{new_place}

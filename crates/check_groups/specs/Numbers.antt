@@ -1,8 +1,8 @@
 -- Numbers among the arguments that may not be too small.
 use Rattle.std.specs.Prelude.{ℕ, ℤ, unsigned_abs, int_le, Option, Some, None, Ok}
 use Rattle.schema_grammar.specs.declared.kinds.TypeKind.TheVariants.{OutOfRange, WrongType}
-use Rattle.afl_parser.specs.Term.{Term}
-use Rattle.afl_parser.specs.Grammar.{span_of}
+use Rattle.afl_trees.specs.Term.{Term}
+use Rattle.afl_trees.specs.Grammar.{span_of}
 use Rattle.check_rules.specs.Sorts.{number_in}
 use Rattle.check_rules.specs.Checked.{Checked, refused, demand}
 use Rattle.cell_values.specs.declared.name.Span.{Span}

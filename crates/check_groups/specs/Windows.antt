@@ -5,7 +5,7 @@ use Rattle.cell_values.specs.declared.name.Span.{Span}
 use Rattle.cell_values.specs.declared.schema.Schema.{Schema}
 use Rattle.cell_values.specs.Schemas.{dimension_names}
 use Rattle.schema_grammar.specs.declared.kinds.TypeKind.TheVariants.{WindowTooLarge, WrongCount}
-use Rattle.afl_parser.specs.Term.{Term}
+use Rattle.afl_trees.specs.Term.{Term}
 use Rattle.logical_plan.specs.Typing.{are_windows_of}
 use Rattle.logical_plan.specs.declared.parts.Reach.{Reach}
 use Rattle.check_rules.specs.Checked.{Checked, demand, then}

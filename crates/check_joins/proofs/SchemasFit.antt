@@ -13,7 +13,7 @@ use Rattle.cell_values.specs.declared.schema.Dimension.{Dimension}
 use Rattle.cell_values.specs.declared.schema.Schema.{Schema}
 use Rattle.cell_values.specs.Schemas.{IsValid, attribute_names, dimension_names, are_distinct, is_dimension}
 use Rattle.schema_grammar.specs.declared.kinds.TypeKind.TheVariants.{BoundsDiffer, RepeatedName}
-use Rattle.afl_parser.specs.Term.{Term, reference}
+use Rattle.afl_trees.specs.Term.{Term, reference}
 use Rattle.array_rows.specs.Boxes.{by_pairs}
 use Rattle.logical_plan.specs.BoxOps.{items_but}
 use Rattle.logical_plan.specs.Joins.{right_places}

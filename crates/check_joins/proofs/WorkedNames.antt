@@ -7,7 +7,7 @@ use Rattle.cell_values.specs.declared.schema.Dimension.{Dimension}
 use Rattle.cell_values.specs.declared.schema.Kind.TheVariants.{Int64}
 use Rattle.cell_values.specs.declared.schema.Schema.{Schema}
 use Rattle.schema_grammar.specs.declared.kinds.TypeKind.TheVariants.{BoundsDiffer, RepeatedName, UnknownName}
-use Rattle.afl_parser.specs.Term.{reference}
+use Rattle.afl_trees.specs.Term.{reference}
 use Rattle.logical_plan.specs.PlanSchema.{free_names, with_suffix}
 use Rattle.check_rules.specs.Checked.{refused}
 use Rattle.check_joins.specs.Crosses.{cross_parts}

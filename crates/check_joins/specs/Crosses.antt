@@ -3,7 +3,7 @@ use Rattle.std.specs.Prelude.{ℕ, Ok, List, [], ◌++◌}
 use Rattle.cell_values.specs.declared.name.Span.{Span}
 use Rattle.cell_values.specs.declared.schema.Dimension.{Dimension}
 use Rattle.cell_values.specs.declared.schema.Schema.{Schema}
-use Rattle.afl_parser.specs.Term.{Term}
+use Rattle.afl_trees.specs.Term.{Term}
 use Rattle.logical_plan.specs.BoxOps.{items_but}
 use Rattle.logical_plan.specs.Joins.{right_places}
 use Rattle.logical_plan.specs.Typing.{left_places}

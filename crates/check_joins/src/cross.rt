@@ -9,7 +9,7 @@ ghost use Rattle.check_rules.specs.InTurn.{pairs_in_turn};
 ghost use Rattle.check_joins.specs.Crosses.{crossed_by, crossed_schema, cross_parts, pair_beside, pair_one};
 
 use crate::beside::{attributes_of_both, beside};
-use afl_parser::Tree;
+use afl_trees::Tree;
 use cell_values::{Dimension, List, Memory, Schema, Span};
 use check_groups::dimension_one;
 use check_rules::{TypeFault, broken, first_but_names};

@@ -5,8 +5,8 @@ use Rattle.cell_values.specs.declared.name.Span.{Span}
 use Rattle.cell_values.specs.declared.schema.Schema.{Schema}
 use Rattle.schema_grammar.specs.declared.shape_text.SchemaText.{SchemaText}
 use Rattle.schema_grammar.specs.declared.kinds.TypeKind.TheVariants.{ArrayExists, TooManyArrays}
-use Rattle.afl_parser.specs.Grammar.{span_of}
-use Rattle.afl_parser.specs.Term.{Term, create, reference, version, call, group, Terms, no_terms, and_term}
+use Rattle.afl_trees.specs.Grammar.{span_of}
+use Rattle.afl_trees.specs.Term.{Term, create, reference, version, call, group, Terms, no_terms, and_term}
 use Rattle.logical_plan.specs.PlanSchema.{schema_of}
 use Rattle.logical_plan.specs.Query.{Query}
 use Rattle.logical_plan.specs.declared.names.NameEntry.{NameEntry}

@@ -16,9 +16,9 @@ use Rattle.afl_lexer.proofs.Fronts.{one_longest}
 use Rattle.afl_lexer.proofs.Places.{gap_at}
 use Rattle.schema_grammar.specs.Spelling.{placed, across}
 use Rattle.schema_grammar.specs.declared.shape_text.SchemaText.{SchemaText}
-use Rattle.afl_parser.specs.Grammar.{Derives}
-use Rattle.afl_parser.specs.Statement.{lexemes}
-use Rattle.afl_parser.specs.Term.{create}
+use Rattle.afl_trees.specs.Grammar.{Derives}
+use Rattle.afl_trees.specs.Statement.{lexemes}
+use Rattle.afl_trees.specs.Term.{create}
 use Rattle.afl_types.specs.Place.{behind_gap, created_place, third_token}
 use Rattle.check_laws.specs.Laws.{CreatedPlaceIsTheName}
 

@@ -11,8 +11,8 @@ use Rattle.schema_grammar.specs.Spelling.{placed, SpellsNull, SpellsAttr, Spells
 use Rattle.schema_grammar.specs.declared.shape_text.SchemaText.{SchemaText}
 use Rattle.schema_grammar.specs.declared.shape_text.AttrText.{AttrText}
 use Rattle.schema_grammar.specs.declared.shape_text.DimText.{DimText}
-use Rattle.afl_parser.specs.Grammar.{Spells, SpellsArguments, SpellsMore, SpellsCreate, Derives}
-use Rattle.afl_parser.specs.Term.{Term, create, number, text, truth, null, missing, reference, version, call, schema, star, renamed, opposite, negative, binary, group, Terms, no_terms, and_term}
+use Rattle.afl_trees.specs.Grammar.{Spells, SpellsArguments, SpellsMore, SpellsCreate, Derives}
+use Rattle.afl_trees.specs.Term.{Term, create, number, text, truth, null, missing, reference, version, call, schema, star, renamed, opposite, negative, binary, group, Terms, no_terms, and_term}
 use Rattle.check_exprs.specs.Laws.{leaves_fit, all_leaves_fit}
 use Rattle.check_laws.specs.Laws.{ParsedLeavesFit}
 use Rattle.check_literals.proofs.Limits.{is_lexeme_within, lexemes_within, are_bytes}

@@ -6,7 +6,7 @@ use Rattle.std.proofs.lemmas.Bool.{eq-eqb, or_left, or_right}
 use Rattle.cell_values.specs.declared.name.Span.{Span}
 use Rattle.schema_grammar.specs.declared.kinds.TypeKind.TheVariants.{WrongCount}
 use Rattle.afl_lexer.proofs.Words.{same_bytes}
-use Rattle.afl_parser.specs.Term.{Term, reference, version, call, group, Terms, no_terms, and_term}
+use Rattle.afl_trees.specs.Term.{Term, reference, version, call, group, Terms, no_terms, and_term}
 use Rattle.logical_plan.specs.Leaves.{leaves}
 use Rattle.logical_plan.specs.Query.{Query, joined, crossed, regridded, windowed, aggregated}
 use Rattle.logical_plan.specs.PlanSchema.{schema_of}

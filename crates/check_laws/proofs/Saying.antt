@@ -7,8 +7,8 @@ use Rattle.cell_values.specs.declared.schema.Schema.{Schema}
 use Rattle.schema_grammar.specs.declared.kinds.TypeKind.TheVariants.{WrongCount, ArrayExists, TooManyArrays}
 use Rattle.schema_grammar.specs.declared.shape_text.SchemaText.{SchemaText}
 use Rattle.afl_lexer.proofs.Words.{same_bytes}
-use Rattle.afl_parser.specs.Grammar.{span_of}
-use Rattle.afl_parser.specs.Term.{Term, create, reference, version, call, group, Terms, no_terms, and_term}
+use Rattle.afl_trees.specs.Grammar.{span_of}
+use Rattle.afl_trees.specs.Term.{Term, create, reference, version, call, group, Terms, no_terms, and_term}
 use Rattle.logical_plan.specs.Leaves.{leaves}
 use Rattle.logical_plan.specs.PlanSchema.{schema_of}
 use Rattle.logical_plan.specs.Query.{Query, joined, crossed, regridded, windowed, aggregated}

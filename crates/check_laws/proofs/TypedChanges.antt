@@ -8,8 +8,8 @@ use Rattle.cell_values.specs.declared.schema.Schema.{Schema}
 use Rattle.cell_values.specs.Schemas.{IsValid, is_valid}
 use Rattle.schema_grammar.specs.declared.kinds.TypeKind.TheVariants.{ArrayExists, SchemaDiffers, TooManyArrays, TooManyVersions}
 use Rattle.schema_grammar.specs.declared.shape_text.SchemaText.{SchemaText}
-use Rattle.afl_parser.specs.Grammar.{span_of}
-use Rattle.afl_parser.specs.Term.{Term, create, reference, call, Terms, no_terms, and_term}
+use Rattle.afl_trees.specs.Grammar.{span_of}
+use Rattle.afl_trees.specs.Term.{Term, create, reference, call, Terms, no_terms, and_term}
 use Rattle.logical_plan.proofs.SchemaLaws.{typed_valid}
 use Rattle.logical_plan.specs.PlanSchema.{schema_of}
 use Rattle.logical_plan.specs.Query.{Query}

@@ -3,7 +3,7 @@ use Rattle.std.proofs.Common.{IfOk, List}
 use Rattle.cell_values.specs.declared.name.Span.{Span}
 use Rattle.cell_values.specs.declared.schema.Schema.{Schema}
 use Rattle.cell_values.specs.Schemas.{IsValid}
-use Rattle.afl_parser.specs.Term.{Term}
+use Rattle.afl_trees.specs.Term.{Term}
 use Rattle.logical_plan.proofs.SchemaLaws.{typed_valid}
 use Rattle.logical_plan.specs.PlanSchema.{schema_of}
 use Rattle.logical_plan.specs.Query.{Query, joined, crossed}

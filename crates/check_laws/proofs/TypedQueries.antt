@@ -13,7 +13,7 @@ use Rattle.cell_values.specs.declared.schema.Kind.TheVariants.{Bool as Truths}
 use Rattle.cell_values.specs.declared.schema.Schema.{Schema}
 use Rattle.cell_values.specs.Schemas.{IsValid, attribute_names, dimension_names, are_distinct}
 use Rattle.schema_grammar.specs.declared.kinds.TypeKind.TheVariants.{WrongCount}
-use Rattle.afl_parser.specs.Term.{Term, text, call, group, Terms, no_terms, and_term}
+use Rattle.afl_trees.specs.Term.{Term, text, call, group, Terms, no_terms, and_term}
 use Rattle.logical_plan.proofs.SchemaLaws.{typed_valid}
 use Rattle.logical_plan.specs.BoxOps.{items_but, fixed_places}
 use Rattle.logical_plan.specs.PlanSchema.{derived, schema_of, apply_schema, project_schema}

@@ -5,7 +5,7 @@ use Rattle.cell_values.specs.declared.name.Span.{Span}
 use Rattle.cell_values.specs.declared.schema.Schema.{Schema}
 use Rattle.cell_values.specs.declared.schema.Kind.TheVariants.{Int64}
 use Rattle.schema_grammar.specs.declared.kinds.TypeKind.TheVariants.{UnknownVersion}
-use Rattle.afl_parser.specs.Term.{Term, reference, version, call, no_terms, and_term}
+use Rattle.afl_trees.specs.Term.{Term, reference, version, call, no_terms, and_term}
 use Rattle.logical_plan.specs.PlanSchema.{project_schema}
 use Rattle.logical_plan.specs.Query.{scanned, projected}
 use Rattle.logical_plan.specs.declared.names.NameEntry.{NameEntry}

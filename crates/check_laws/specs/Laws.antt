@@ -3,8 +3,8 @@ use Rattle.std.specs.Prelude.{◌≡◌, ◌<◌, ◌≤◌, ℕ, length, get_or
 use Rattle.std.specs.Option.{option_map}
 use Rattle.cell_values.specs.declared.name.Span.{Span}
 use Rattle.schema_grammar.specs.declared.shape_text.SchemaText.{SchemaText}
-use Rattle.afl_parser.specs.Statement.{DerivesText}
-use Rattle.afl_parser.specs.Term.{Term, create}
+use Rattle.afl_trees.specs.Statement.{DerivesText}
+use Rattle.afl_trees.specs.Term.{Term, create}
 use Rattle.logical_plan.specs.Query.{Query}
 use Rattle.logical_plan.specs.Typing.{IsTyped}
 use Rattle.logical_plan.specs.declared.names.NameEntry.{NameEntry}

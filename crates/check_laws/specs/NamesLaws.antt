@@ -1,7 +1,7 @@
 -- What checking reads of the names of the stored arrays.
 use Rattle.std.specs.Prelude.{◌≡◌, ℕ, List, [], ◌∷◌, ◌++◌, map, Ok}
 use Rattle.std.specs.List.{AllByRecursion}
-use Rattle.afl_parser.specs.Term.{Term}
+use Rattle.afl_trees.specs.Term.{Term}
 use Rattle.logical_plan.specs.Leaves.{leaves}
 use Rattle.logical_plan.specs.Query.{Query}
 use Rattle.logical_plan.specs.declared.names.Names.{Names}

@@ -1,6 +1,6 @@
 -- The names that a tree says of stored arrays: those that stand in an array's place.
 use Rattle.std.specs.Prelude.{ℕ, Option, Some, List, [], ◌∷◌, ◌++◌}
-use Rattle.afl_parser.specs.Term.{Term, create, reference, version, call, group, Terms, no_terms, and_term}
+use Rattle.afl_trees.specs.Term.{Term, create, reference, version, call, group, Terms, no_terms, and_term}
 use Rattle.check_rules.specs.Operators.{operator_named}
 use Rattle.check_rules.specs.declared.rules.operator.Operator.{Operator}
 use Rattle.check_rules.specs.declared.rules.operator.Operator.TheVariants as operator

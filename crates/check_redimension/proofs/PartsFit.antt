@@ -11,8 +11,8 @@ use Rattle.cell_values.specs.declared.schema.Schema.{Schema}
 use Rattle.cell_values.specs.Schemas.{IsValid, attribute_names, dimension_names, are_distinct, is_among}
 use Rattle.schema_grammar.specs.declared.kinds.TypeKind.{TypeKind}
 use Rattle.schema_grammar.specs.declared.kinds.TypeKind.TheVariants.{UnknownName, WrongType}
-use Rattle.afl_parser.specs.Term.{Term}
-use Rattle.afl_parser.specs.Grammar.{span_of}
+use Rattle.afl_trees.specs.Term.{Term}
+use Rattle.afl_trees.specs.Grammar.{span_of}
 use Rattle.logical_plan.specs.Groups.{first_some}
 use Rattle.logical_plan.specs.Redimension.{Origin, counted, from_attribute, from_dimension, named, value_origin}
 use Rattle.logical_plan.specs.Typing.{aggregate_names, are_aggregates_of, is_kind_of, is_origin, redimensions, synthetic_count}

@@ -8,7 +8,7 @@ use Rattle.cell_values.specs.declared.schema.Schema.{Schema}
 use Rattle.schema_grammar.specs.declared.kinds.TypeKind.TheVariants.{BoundsOrder, RepeatedName, UnknownName, UnknownType, WrongCount, WrongType, ZeroChunk}
 use Rattle.schema_grammar.specs.declared.shape_text.AttrText.{AttrText}
 use Rattle.schema_grammar.specs.declared.shape_text.DimText.{DimText}
-use Rattle.afl_parser.specs.Term.{Term, call, reference, renamed, schema, star, no_terms, and_term}
+use Rattle.afl_trees.specs.Term.{Term, call, reference, renamed, schema, star, no_terms, and_term}
 use Rattle.logical_plan.specs.declared.parts.AggFunction.TheVariants.{Sum}
 use Rattle.check_rules.specs.Checked.{Checked, refused}
 use Rattle.check_groups.specs.AggregateSort.{cells_function, function_named}

@@ -9,7 +9,7 @@ use Rattle.cell_values.specs.declared.schema.Schema.{Schema}
 use Rattle.cell_values.specs.Schemas.{attribute_names, is_among}
 use Rattle.schema_grammar.specs.declared.kinds.TypeKind.{TypeKind}
 use Rattle.schema_grammar.specs.declared.kinds.TypeKind.TheVariants.{UnknownName, WrongType}
-use Rattle.afl_parser.specs.Term.{Term}
+use Rattle.afl_trees.specs.Term.{Term}
 use Rattle.logical_plan.specs.Groups.{first_some}
 use Rattle.logical_plan.specs.Redimension.{Origin, counted, named, origin_of, value_origin}
 use Rattle.logical_plan.specs.Typing.{aggregate_names, is_kind_of, is_origin}

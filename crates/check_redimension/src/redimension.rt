@@ -6,7 +6,7 @@ ghost use Rattle.check_groups.specs.Aggregates.{aggregates_of};
 ghost use Rattle.check_redimension.specs.Redimension.{redimension_of, redimension_parts, with_aggregates, with_target};
 
 use crate::target::{attributes_fault, may_count};
-use afl_parser::{Node, Tree};
+use afl_trees::{Node, Tree};
 use cell_values::{Dimension, List, Memory, Name, Schema, Span};
 use check_groups::{aggregates_of, first_but_aggregates, push_dimension_names};
 use check_rules::{TypeFault, broken, wrong_type};

@@ -11,7 +11,7 @@ ghost use Rattle.logical_plan.specs.Redimension.{counted_places, from_attribute,
 ghost use Rattle.logical_plan.specs.Typing.{aggregate_names, synthetic_count};
 ghost use Rattle.check_redimension.specs.Targets.{attributes_fault, carried_fault, gathered_fault, is_synthetic, may_count, origin_fault, unnamed_fault};
 
-use afl_parser::Tree;
+use afl_trees::Tree;
 use cell_values::{Attribute, Dimension, Kind, Schema};
 use check_exprs::{attribute_place, dimension_place, fits};
 use check_rules::same_name;

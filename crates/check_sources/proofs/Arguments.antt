@@ -3,7 +3,7 @@ use Rattle.std.proofs.Common.{◌≡◌, ◌<◌, ◌≤◌, List, [], ◌∷◌
 use Rattle.cell_values.specs.declared.name.Span.{Span}
 use Rattle.schema_grammar.specs.declared.kinds.TypeKind.TheVariants.{WrongCount}
 use Rattle.logical_plan.specs.declared.names.NameEntry.{NameEntry}
-use Rattle.afl_parser.specs.Term.{Term, to_terms}
+use Rattle.afl_trees.specs.Term.{Term, to_terms}
 use Rattle.check_rules.specs.Checked.{refused}
 use Rattle.check_sources.specs.Build.{build_call}
 use Rattle.check_sources.specs.Stored.{scan_call}

@@ -12,8 +12,8 @@ use Rattle.schema_grammar.specs.declared.shape_text.SchemaText.{SchemaText}
 use Rattle.schema_grammar.specs.declared.kinds.SchemaFault.{SchemaFault}
 use Rattle.schema_grammar.specs.declared.kinds.SchemaFault.TheVariants as schema_fault
 use Rattle.schema_grammar.specs.declared.kinds.TypeKind.TheVariants.{WrongType, WrongCount, NotBounded, BadLiteral, TooManyCells}
-use Rattle.afl_parser.specs.Term.{Term, text, truth, Terms, no_terms, and_term}
-use Rattle.afl_parser.specs.Grammar.{span_of}
+use Rattle.afl_trees.specs.Term.{Term, text, truth, Terms, no_terms, and_term}
+use Rattle.afl_trees.specs.Grammar.{span_of}
 use Rattle.logical_plan.specs.Query.{Query, built, listed}
 use Rattle.logical_plan.specs.Typing.{is_bounded, places_in}
 use Rattle.check_rules.specs.Checked.{Checked, refused, demand, then}

@@ -4,8 +4,8 @@ use Rattle.std.specs.List.{find}
 use Rattle.std.specs.Str.{bytes_eq}
 use Rattle.cell_values.specs.declared.name.Span.{Span}
 use Rattle.schema_grammar.specs.declared.kinds.TypeKind.TheVariants.{UnknownArray, UnknownVersion, WrongType, WrongCount}
-use Rattle.afl_parser.specs.Term.{Term, reference, version, Terms, no_terms, and_term}
-use Rattle.afl_parser.specs.Grammar.{span_of}
+use Rattle.afl_trees.specs.Term.{Term, reference, version, Terms, no_terms, and_term}
+use Rattle.afl_trees.specs.Grammar.{span_of}
 use Rattle.logical_plan.specs.Query.{Query, scanned}
 use Rattle.logical_plan.specs.declared.names.NameEntry.{NameEntry}
 use Rattle.check_rules.specs.Checked.{Checked, refused}

@@ -3,13 +3,13 @@ ghost use Rattle.std.specs.Prelude.{◌≡◌, ◌≤◌, ◌^◌, ◌-◌, min,
 ghost use Rattle.std.specs.List.{list_all};
 ghost use Rattle.cell_values.specs.Schemas.{IsValid};
 ghost use Rattle.cell_values.specs.declared.name.Span.{Span};
-ghost use Rattle.afl_parser.specs.Term.{to_terms, no_terms, and_term};
+ghost use Rattle.afl_trees.specs.Term.{to_terms, no_terms, and_term};
 ghost use Rattle.logical_plan.specs.Typing.{is_bounded, places_along, places_in};
 ghost use Rattle.check_rules.specs.Checked.{Answers, then};
 ghost use Rattle.check_exprs.specs.Expressions.{typed};
 ghost use Rattle.check_sources.specs.Build.{meant, built_of, built_within, built_from, listed_from, built_by, build_call};
 
-use afl_parser::{Node, Tree};
+use afl_trees::{Node, Tree};
 use cell_values::{Dimension, Kind, List, Schema, Span};
 use check_exprs::{Operand, fits, typed};
 use check_literals::literal_rows;

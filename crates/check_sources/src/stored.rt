@@ -1,11 +1,11 @@
 //! Stored arrays and their versions.
 ghost use Rattle.std.specs.Prelude.{◌≡◌, Some, None, Ok, MatchOption};
 ghost use Rattle.std.specs.List.{find};
-ghost use Rattle.afl_parser.specs.Term.{to_terms};
+ghost use Rattle.afl_trees.specs.Term.{to_terms};
 ghost use Rattle.check_rules.specs.Checked.{Answers};
 ghost use Rattle.check_sources.specs.Stored.{entry_named, newest, is_version, leaf_of, newest_of, version_of, referred, scan_call};
 
-use afl_parser::{Node, Tree};
+use afl_trees::{Node, Tree};
 use cell_values::Span;
 use check_rules::{TypeFault, broken, same_name, wrong_type};
 use logical_plan::{Leaf, NameEntry, Plan};

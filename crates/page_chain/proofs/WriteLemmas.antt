@@ -6,7 +6,7 @@ use Rattle.std.specs.Int.{w32, to_le_bytes}
 use Rattle.std.specs.Prelude.{OnOk, Some, Result, Ok, Err}
 use Rattle.afl_outside.proofs.Moments.{moment_at}
 use Rattle.afl_outside.specs.Disk.{DiskState, DiskGoesOn, Elapses, Follows, written, Torn, Writes}
-use Rattle.afl_outside.specs.Lemmas.ImageLaws.{Torn-written}
+use Rattle.afl_outside.specs.Lemmas.TornLaws.{Torn-written}
 use Rattle.afl_outside.specs.declared.source.Failed.{Failed}
 use Rattle.page_layout.specs.Places.{IsNone, KeepsPages}
 use Rattle.page_chain.specs.Pages.{page_size, page_at, padded, piece_of, AreDistinct}

@@ -2,7 +2,7 @@
 use Rattle.std.proofs.Common.{◌≡◌, ◌<◌, ◌≤◌, inl, inr, ⊎_elim, ℕ, ◌+◌, ◌-◌, List, ◌++◌, length, take, drop, replicate, slice_index, refl, sym, ◌∙◌, ap, subst, arith, append_assoc, length-append}
 use Rattle.std.proofs.lemmas.List.{get_or-take, get_or-drop, take_at, drop_at, length-take, length-replicate}
 use Rattle.afl_outside.specs.Disk.{Torn, written}
-use Rattle.afl_outside.specs.Lemmas.ImageLaws.{Torn-written}
+use Rattle.afl_outside.specs.Lemmas.TornLaws.{Torn-written}
 use Rattle.page_layout.specs.Places.{SameBut}
 
 -- a torn write within the file leaves all other bytes

@@ -1,7 +1,7 @@
 -- How a write and its sync go on.
 use Rattle.std.proofs.Common.{◌≡◌, inl, inr, ⊎_elim, ℕ, List, length, IsTrue, Option, Some, None, IfSome, ◌∙◌, arith}
 use Rattle.afl_outside.specs.Disk.{DiskState, DiskGoesOn, Elapses, Follows, LeavesOnly, Torn, written}
-use Rattle.afl_outside.specs.Lemmas.ImageLaws.{Torn-same, Torn-written}
+use Rattle.afl_outside.specs.Lemmas.TornLaws.{Torn-same, Torn-written}
 use Rattle.afl_outside.proofs.Moments.{started, goes_on, moment_at}
 use Rattle.page_slots.specs.Puts.{Over, SeesTorn, OnlyPuts, OnlySyncs}
 

@@ -3,8 +3,8 @@ use Rattle.std.specs.Prelude.{ℕ, List, ◌++◌, codes}
 use Rattle.std.specs.Fmt.{decimal}
 use Rattle.cell_values.specs.declared.datum.FaultKind.{FaultKind}
 use Rattle.cell_values.specs.declared.datum.FaultKind.TheVariants as faults
-use Rattle.afl_parser.specs.declared.kind.ParseKind.{ParseKind}
-use Rattle.afl_parser.specs.declared.kind.ParseKind.TheVariants as stops
+use Rattle.afl_trees.specs.declared.kind.ParseKind.{ParseKind}
+use Rattle.afl_trees.specs.declared.kind.ParseKind.TheVariants as stops
 use Rattle.schema_grammar.specs.declared.kinds.TypeKind.{TypeKind}
 use Rattle.schema_grammar.specs.declared.kinds.TypeKind.TheVariants as types
 use Rattle.result_print.specs.declared.refusal.Refusal.{Refusal}

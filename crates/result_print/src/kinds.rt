@@ -2,7 +2,7 @@
 ghost use Rattle.std.specs.Prelude.{◌≡◌};
 ghost use Rattle.result_print.specs.Lines.{fault_text, stop_text, type_text};
 
-use afl_parser::ParseKind;
+use afl_trees::ParseKind;
 use cell_values::FaultKind;
 use schema_grammar::TypeKind;
 

@@ -7,7 +7,7 @@ ghost use Rattle.result_print.specs.Texts.{place_text};
 use crate::Refusal;
 use crate::kinds::{fault_words, stop_words, type_words};
 use crate::spelling::{write_count, write_place};
-use afl_parser::ParseKind;
+use afl_trees::ParseKind;
 use cell_values::{Bytes, Coord, FaultKind, Memory, Span};
 use schema_grammar::TypeKind;
 use std::alloc::Global;

@@ -1,6 +1,6 @@
 //! Why a statement was refused.
 
-use afl_parser::ParseKind;
+use afl_trees::ParseKind;
 use cell_values::{Coord, FaultKind, Span};
 use schema_grammar::TypeKind;
 

@@ -1,6 +1,6 @@
 //! Files of a few pages.
 
-use afl_outside::MemDisk;
+use afl_in_memory::MemDisk;
 use cell_values::{Bytes, List, Memory};
 use std::alloc::Global;
 

@@ -4,7 +4,7 @@
 mod files;
 mod writing;
 
-use afl_outside::MemDisk;
+use afl_in_memory::MemDisk;
 use anyhow::Result;
 use cell_values::Bytes;
 use files::{disk_of, number_at};

@@ -10,7 +10,8 @@ ghost use Rattle.afl_types.specs.Arrays.{AreValid};
 mod stored;
 mod told;
 
-use afl_parser::{Tree, parse};
+use afl_parser::parse;
+use afl_trees::Tree;
 use afl_types::{TypeFault, check, let_go_typed};
 use anyhow::Result;
 use cell_values::Span;

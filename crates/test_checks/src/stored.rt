@@ -3,7 +3,8 @@ ghost use Rattle.std.specs.Prelude.{◌≤◌, length, IfSome, OnSome};
 ghost use Rattle.cell_values.specs.Schemas.{IsValid};
 ghost use Rattle.afl_types.specs.Arrays.{AreValid};
 
-use afl_parser::{Node, parse};
+use afl_parser::parse;
+use afl_trees::Node;
 use cell_values::List;
 use logical_plan::{NameEntry, Names};
 use schema_grammar::meaning;

@@ -1,7 +1,8 @@
 //! Disks.
 
 use crate::streams::push_call;
-use afl_outside::{DeviceCall, Disk, Failed, MemDisk, SureDisk};
+use afl_in_memory::{DeviceCall, MemDisk, SureDisk};
+use afl_outside::{Disk, Failed};
 use cell_values::{Bytes, List, Memory};
 use test_kit::push_text;
 

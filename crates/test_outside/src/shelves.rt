@@ -2,7 +2,8 @@
 
 use crate::disks::push_answer;
 use crate::streams::{push_call, push_held, push_read, push_write};
-use afl_outside::{Disk, Failed, MemFile, MemShelf, MemSink, Shelf, Source};
+use afl_in_memory::{MemFile, MemShelf, MemSink};
+use afl_outside::{Disk, Failed, Shelf, Source};
 use cell_values::{List, Memory};
 use std::alloc::Global;
 

@@ -1,6 +1,7 @@
 //! Sources and sinks.
 
-use afl_outside::{Failed, MemSink, MemSource, Sink, Source, SureSink, SureSource};
+use afl_in_memory::{MemSink, MemSource, SureSink, SureSource};
+use afl_outside::{Failed, Sink, Source};
 use cell_values::{Bytes, List, Memory};
 use test_kit::push_text;
 

@@ -2,7 +2,8 @@
 ghost use Rattle.std.specs.Prelude.{IfOk};
 ghost use Rattle.page_file.specs.OpeningOpened.{AreFresh};
 
-use afl_outside::{Disk, Failed, MemDisk};
+use afl_in_memory::MemDisk;
+use afl_outside::{Disk, Failed};
 use anyhow::Result;
 use cell_values::{Bytes, List, Memory};
 use page_chain::OpenCause;

@@ -1,7 +1,8 @@
 //! What a crash may leave of a file, and what that opens as.
 
 use crate::files::{disk_of, open};
-use afl_outside::{DeviceCall, Disk, MemDisk};
+use afl_in_memory::{DeviceCall, MemDisk};
+use afl_outside::Disk;
 use cell_values::{Bytes, List, Memory};
 use page_file::PageFile;
 use std::alloc::Global;

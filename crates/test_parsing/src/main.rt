@@ -7,7 +7,8 @@
 
 mod outline;
 
-use afl_parser::{ParseFault, Tree, parse, print};
+use afl_parser::{ParseFault, parse};
+use afl_trees::{Tree, print};
 use anyhow::Result;
 use cell_values::Memory;
 use outline::write_outline;

@@ -1,6 +1,6 @@
 //! The outline of a tree: a bracket round each node that has parts, and each node's span behind it.
 
-use afl_parser::{Node, Tree};
+use afl_trees::{Node, Tree};
 use std::alloc::AllocError;
 
 fn write_bytes(bytes: &[u8], out: &mut String) -> Result<(), AllocError> {

@@ -8,7 +8,8 @@
 
 mod streams;
 
-use afl_outside::{MemShelf, OpenGate};
+use afl_in_memory::MemShelf;
+use afl_outside::OpenGate;
 use afl_run::{Arg, Report, SessionEnd, notice_line, run};
 use anyhow::Result;
 use std::io::BufRead;

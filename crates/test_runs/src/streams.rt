@@ -1,6 +1,6 @@
 //! The streams of a run, in memory.
 
-use afl_outside::{MemFile, MemShelf};
+use afl_in_memory::{MemFile, MemShelf};
 use cell_values::{Bytes, List, Memory};
 use std::alloc::Global;
 

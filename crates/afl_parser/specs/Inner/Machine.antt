@@ -9,11 +9,11 @@ use Rattle.schema_grammar.specs.declared.state.ShapeStep.{ShapeStep}
 use Rattle.schema_grammar.specs.declared.state.ShapeStep.TheVariants.{On, Whole, Unexpected as NoShape}
 use Rattle.schema_grammar.specs.Spelling.{placed, across}
 use Rattle.schema_grammar.specs.Inner.Reading.{shape_turn}
-use Rattle.afl_parser.specs.Term.{Term, create, number, text, truth, null, missing, reference, version, call, schema, star, renamed, opposite, negative, binary, group, no_terms, to_terms}
-use Rattle.afl_parser.specs.Grammar.{line_of, left_line, right_line, op_of, line, height, heights, span_of}
-use Rattle.afl_parser.specs.declared.tree.BinaryOp.{BinaryOp}
-use Rattle.afl_parser.specs.declared.kind.StopKind.{StopKind}
-use Rattle.afl_parser.specs.declared.kind.StopKind.TheVariants.{Unexpected, TooDeep}
+use Rattle.afl_trees.specs.Term.{Term, create, number, text, truth, null, missing, reference, version, call, schema, star, renamed, opposite, negative, binary, group, no_terms, to_terms}
+use Rattle.afl_trees.specs.Grammar.{line_of, left_line, right_line, op_of, line, height, heights, span_of}
+use Rattle.afl_trees.specs.declared.tree.BinaryOp.{BinaryOp}
+use Rattle.afl_trees.specs.declared.kind.StopKind.{StopKind}
+use Rattle.afl_trees.specs.declared.kind.StopKind.TheVariants.{Unexpected, TooDeep}
 use Rattle.afl_parser.specs.declared.frame.Frame.{Frame}
 use Rattle.afl_parser.specs.declared.frame.Frame.TheVariants.{Group, Not, Minus, Left, Call}
 use Rattle.afl_parser.specs.declared.frame.Focus.{Focus}

@@ -4,13 +4,13 @@ use Rattle.afl_lexer.specs.declared.token.Token.{Token}
 use Rattle.afl_lexer.specs.declared.token.LexFault.{LexFault}
 use Rattle.afl_lexer.specs.declared.token.LexFault.TheVariants as lex
 use Rattle.afl_lexer.specs.Lexemes.{Placed}
-use Rattle.afl_parser.specs.Term.{Term}
-use Rattle.afl_parser.specs.Grammar.{Stops}
-use Rattle.afl_parser.specs.Statement.{start_of, lexical, syntactic}
+use Rattle.afl_trees.specs.Term.{Term}
+use Rattle.afl_trees.specs.Grammar.{Stops}
+use Rattle.afl_trees.specs.Statement.{start_of, lexical, syntactic}
 use Rattle.afl_parser.specs.Inner.Machine.{Turn, Go, Stop}
-use Rattle.afl_parser.specs.declared.kind.StopKind.TheVariants.{Unexpected}
-use Rattle.afl_parser.specs.declared.kind.ParseFault.{ParseFault}
-use Rattle.afl_parser.specs.declared.kind.ParseFault.TheVariants.{At, Memory}
+use Rattle.afl_trees.specs.declared.kind.StopKind.TheVariants.{Unexpected}
+use Rattle.afl_parser.specs.declared.fault.ParseFault.{ParseFault}
+use Rattle.afl_parser.specs.declared.fault.ParseFault.TheVariants.{At, Memory}
 use Rattle.afl_parser.specs.declared.reader.Reader.{Reader}
 use Rattle.afl_parser.specs.declared.reader.Fault.{Fault}
 use Rattle.afl_parser.specs.declared.reader.Fault.TheVariants as fault

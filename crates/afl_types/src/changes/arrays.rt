@@ -1,13 +1,13 @@
 //! Statements about a stored array as it stands, and the list of all of them.
 ghost use Rattle.std.specs.Prelude.{◌≡◌};
-ghost use Rattle.afl_parser.specs.Grammar.{span_of};
-ghost use Rattle.afl_parser.specs.Term.{to_terms};
+ghost use Rattle.afl_trees.specs.Grammar.{span_of};
+ghost use Rattle.afl_trees.specs.Term.{to_terms};
 ghost use Rattle.check_rules.specs.Sorts.{number_in};
 ghost use Rattle.plan_changes.specs.Changes.{entry_named};
 ghost use Rattle.check_rules.specs.Checked.{Answers};
 ghost use Rattle.afl_types.specs.Changes.{below_of, stored_name, array_call, cut_of, cut_by, cut_from, cut_call, is_arrays, listed, list_call};
 
-use afl_parser::{Node, Tree};
+use afl_trees::{Node, Tree};
 use cell_values::{List, Name, Span};
 use check_rules::{TypeFault, broken, number_in, wrong_type};
 use logical_plan::NameEntry;

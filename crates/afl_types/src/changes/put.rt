@@ -4,7 +4,7 @@ ghost use Rattle.plan_changes.specs.Changes.{entry_named};
 ghost use Rattle.check_rules.specs.Checked.{Answers};
 ghost use Rattle.afl_types.specs.Changes.{fitting, stored_schema, inserted_schema, stored_in, inserted_in, store_target, insert_target, store_call, insert_call};
 
-use afl_parser::{Node, Tree};
+use afl_trees::{Node, Tree};
 use cell_values::{List, Name, Schema, Span};
 use check_rules::{TypeFault, broken, shape_of, wrong_type};
 use logical_plan::{NameEntry, Plan, let_go};

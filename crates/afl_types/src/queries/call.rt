@@ -7,7 +7,7 @@ ghost use Rattle.afl_types.specs.Calls.{are_pairs, call_of, fits_count, fits_two
 use crate::queries::group_calls::{aggregate_call, regrid_call, window_call};
 use crate::queries::join_calls::{cross_call, join_call};
 use crate::queries::moved_calls::redimension_call;
-use afl_parser::Tree;
+use afl_trees::Tree;
 use cell_values::Span;
 use check_cellwise::{
     apply_call, between_call, filter_call, project_call, slice_call, subarray_call,

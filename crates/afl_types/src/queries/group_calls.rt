@@ -7,7 +7,7 @@ ghost use Rattle.check_groups.specs.Groups.{aggregate_parts};
 ghost use Rattle.check_groups.specs.Windows.{window_parts};
 ghost use Rattle.afl_types.specs.GroupCalls.{aggregate_call, regrid_call, window_call};
 
-use afl_parser::Tree;
+use afl_trees::Tree;
 use cell_values::Span;
 use check_groups::{Blocks, Groups, Windows, aggregate_parts, regrid_parts, window_parts};
 use check_rules::{TypeFault, of_new_schema, shape_of};

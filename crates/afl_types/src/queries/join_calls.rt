@@ -6,7 +6,7 @@ ghost use Rattle.check_joins.specs.Crosses.{cross_parts};
 ghost use Rattle.check_joins.specs.JoinSchemas.{joined_schema};
 ghost use Rattle.afl_types.specs.JoinCalls.{cross_call, join_call};
 
-use afl_parser::Tree;
+use afl_trees::Tree;
 use cell_values::{Schema, Span};
 use check_joins::{Crossed, cross_parts, join_schema};
 use check_rules::{TypeFault, of_new_schema, shape_of};

@@ -5,7 +5,7 @@ ghost use Rattle.check_rules.specs.Checked.{Answers};
 ghost use Rattle.check_redimension.specs.Redimension.{redimension_parts};
 ghost use Rattle.afl_types.specs.MovedCalls.{redimension_call};
 
-use afl_parser::Tree;
+use afl_trees::Tree;
 use cell_values::Span;
 use check_redimension::{Redimensioned, redimension_parts};
 use check_rules::{TypeFault, shape_of};

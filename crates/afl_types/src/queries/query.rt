@@ -1,6 +1,6 @@
 //! Queries: from a tree to a plan over the stored arrays.
 ghost use Rattle.std.specs.Prelude.{Some};
-ghost use Rattle.afl_parser.specs.Term.{to_terms};
+ghost use Rattle.afl_trees.specs.Term.{to_terms};
 ghost use Rattle.check_rules.specs.Checked.{Answers};
 ghost use Rattle.check_rules.specs.Operators.{operator_named};
 ghost use Rattle.afl_types.specs.Calls.{call_of};
@@ -10,7 +10,7 @@ ghost use Rattle.afl_types.specs.declared.queries.call.Call.{Call};
 
 use crate::queries::call::{Call, OverSource, OverTwo, call_of};
 use crate::queries::nested::no_query;
-use afl_parser::{Node, Tree};
+use afl_trees::{Node, Tree};
 use cell_values::Span;
 use check_rules::{TypeFault, broken, operator_named};
 use check_sources::{build_call, referred, scan_call};

@@ -7,7 +7,7 @@ ghost use Rattle.afl_types.specs.Checking.{check_of};
 use crate::changes::create_array;
 use crate::queries::{TypeFault, query_plan};
 use crate::statements::statement::{of_change, of_query, said};
-use afl_parser::{Node, Tree};
+use afl_trees::{Node, Tree};
 use cell_values::{Copies, Memory, Name};
 use logical_plan::{Names, Plan};
 use plan_changes::Change;

@@ -1,6 +1,6 @@
 //! Statements: changes and listings beside queries.
 ghost use Rattle.std.specs.Prelude.{ℕ, List};
-ghost use Rattle.afl_parser.specs.Term.{to_terms, no_terms, and_term};
+ghost use Rattle.afl_trees.specs.Term.{to_terms, no_terms, and_term};
 ghost use Rattle.logical_plan.specs.Query.{Query};
 ghost use Rattle.plan_changes.specs.declared.change.Change.{Change};
 ghost use Rattle.check_rules.specs.Checked.{Answers, Checked};
@@ -12,7 +12,7 @@ ghost use Rattle.afl_types.specs.Statements.{changed, insert_of, listed, numbere
 use crate::changes::{array_call, cut_call, insert_call, list_call, store_call};
 use crate::queries::query_plan;
 use crate::statements::checking::Typed;
-use afl_parser::Tree;
+use afl_trees::Tree;
 use cell_values::{Name, Span};
 use check_rules::{Operator, TypeFault, broken, operator_named};
 use logical_plan::{Names, Plan};

@@ -3,7 +3,7 @@ ghost use Rattle.std.specs.Prelude.{◌≡◌, ◌+◌, ◌*◌, ◌≤◌, ◌+
 ghost use Rattle.array_rows.specs.Boxes.{by_pairs};
 ghost use Rattle.check_cellwise.specs.Boxes.{box_of, high_bound, low_bound};
 
-use afl_parser::Tree;
+use afl_trees::Tree;
 use cell_values::{Bounds, Coord, Dimension};
 use check_rules::number_in;
 

@@ -10,7 +10,7 @@ ghost use Rattle.check_rules.specs.NewSchema.{of_new_schema};
 ghost use Rattle.check_cellwise.specs.Boxes.{between_call, by_count, by_parts, of_parts, subarray_call};
 
 use crate::boxes::area::box_of;
-use afl_parser::Tree;
+use afl_trees::Tree;
 use cell_values::{Dimension, Memory, Span};
 use check_rules::{TypeFault, broken, first_but_bounds, of_new_schema, shape_of};
 use logical_plan::{Plan, let_go};

@@ -9,7 +9,7 @@ ghost use Rattle.check_rules.specs.InTurn.{new_place, pairs_in_turn};
 ghost use Rattle.check_rules.specs.NewSchema.{of_new_schema};
 ghost use Rattle.check_cellwise.specs.Slice.{fixed_at, fixed_named, fixed_one, of_rest, slice_call, slice_of};
 
-use afl_parser::{Node, Tree};
+use afl_trees::{Node, Tree};
 use cell_values::{Dimension, List, Memory, Span};
 use check_exprs::dimension_place;
 use check_rules::{

@@ -9,7 +9,7 @@ ghost use Rattle.check_rules.specs.NewSchema.{of_new_schema};
 ghost use Rattle.check_cellwise.specs.Apply.{applied_named, applied_one, apply_call, is_applied_name, is_attribute_name, is_dimension_name, is_given, named_value};
 
 use crate::cells::source::typed_over;
-use afl_parser::{Node, Tree};
+use afl_trees::{Node, Tree};
 use cell_values::{Attribute, Dimension, List, Memory, Name, Schema, Span};
 use check_exprs::Operand;
 use check_rules::{

@@ -6,7 +6,7 @@ ghost use Rattle.check_exprs.specs.Expressions.{typed};
 ghost use Rattle.check_cellwise.specs.Filter.{filter_by, filter_call, filter_of};
 
 use crate::cells::source::typed_over;
-use afl_parser::Tree;
+use afl_trees::Tree;
 use cell_values::{Kind, Memory, Schema, Span};
 use check_exprs::{Operand, fits};
 use check_rules::{TypeFault, broken, is_expression, shape_of, wrong_type};

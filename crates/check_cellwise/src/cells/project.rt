@@ -8,7 +8,7 @@ ghost use Rattle.check_rules.specs.InTurn.{in_turn, new_place};
 ghost use Rattle.check_rules.specs.NewSchema.{of_new_schema};
 ghost use Rattle.check_cellwise.specs.Project.{project_call, project_named, projected_one};
 
-use afl_parser::{Node, Tree};
+use afl_trees::{Node, Tree};
 use cell_values::{Attribute, List, Schema, Span};
 use check_exprs::attribute_place;
 use check_rules::{

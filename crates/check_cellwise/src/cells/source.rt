@@ -3,7 +3,7 @@ ghost use Rattle.std.specs.Prelude.{◌≤◌, length};
 ghost use Rattle.check_rules.specs.Checked.{Answers};
 ghost use Rattle.check_exprs.specs.Expressions.{typed};
 
-use afl_parser::Tree;
+use afl_trees::Tree;
 use cell_values::Schema;
 use check_exprs::{Operand, typed};
 use check_rules::TypeFault;

@@ -12,7 +12,7 @@ ghost use Rattle.check_groups.specs.Aggregates.{aggregate_one, aggregates_of, at
 
 use crate::aggregates::sort::{function_in, operand_in, unnamed};
 use crate::names::{is_given, with_ending};
-use afl_parser::{Node, Tree};
+use afl_trees::{Node, Tree};
 use cell_values::{Attribute, Kind, List, Memory, Name, Span};
 use check_exprs::attribute_place;
 use check_rules::{TypeFault, broken, wrong_type};

@@ -2,11 +2,11 @@
 ghost use Rattle.std.specs.Prelude.{◌≡◌, ◌≤◌, length};
 ghost use Rattle.std.specs.List.{prefix_len};
 ghost use Rattle.std.specs.Option.{option_copied};
-ghost use Rattle.afl_parser.specs.Term.{to_terms};
+ghost use Rattle.afl_trees.specs.Term.{to_terms};
 ghost use Rattle.check_rules.specs.Sorts.{first_but, is_number};
 ghost use Rattle.check_groups.specs.AggregateSort.{cells_function, function_in, function_named, function_over, is_aggregate, operand_in, sole, unnamed};
 
-use afl_parser::{Node, Tree};
+use afl_trees::{Node, Tree};
 use cell_values::Span;
 use check_rules::number_in;
 use logical_plan::AggFunction;

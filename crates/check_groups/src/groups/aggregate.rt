@@ -11,7 +11,7 @@ ghost use Rattle.check_groups.specs.Groups.{aggregate_parts, groups_of, with_pla
 
 use crate::aggregates::{aggregates_of, leading_aggregates};
 use crate::names::dimension_one;
-use afl_parser::Tree;
+use afl_trees::Tree;
 use cell_values::{Dimension, List, Memory, Name, Schema, Span};
 use check_rules::{TypeFault, broken, first_but_names};
 use logical_plan::Aggregate;

@@ -2,7 +2,7 @@
 ghost use Rattle.check_rules.specs.Checked.{Answers};
 ghost use Rattle.check_groups.specs.Numbers.{at_least, number_from};
 
-use afl_parser::Tree;
+use afl_trees::Tree;
 use cell_values::Span;
 use check_rules::{TypeFault, broken, number_in};
 use schema_grammar::TypeKind;

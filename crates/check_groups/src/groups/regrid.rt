@@ -7,7 +7,7 @@ ghost use Rattle.check_groups.specs.Blocks.{block_one, blocks_of, regrid_parts, 
 use crate::aggregates::{first_but_aggregates, leading_numbers};
 use crate::groups::number::number_from;
 use crate::groups::source::aggregates_over;
-use afl_parser::Tree;
+use afl_trees::Tree;
 use cell_values::{List, Schema, Span};
 use check_rules::{TypeFault, broken};
 use logical_plan::Aggregate;

@@ -6,7 +6,7 @@ ghost use Rattle.check_groups.specs.Aggregates.{aggregates_of};
 
 use crate::aggregates::aggregates_of;
 use crate::names::push_dimension_names;
-use afl_parser::Tree;
+use afl_trees::Tree;
 use cell_values::{Dimension, List, Memory, Name, Schema, Span};
 use check_rules::TypeFault;
 use logical_plan::Aggregate;

@@ -8,7 +8,7 @@ ghost use Rattle.check_groups.specs.Windows.{reach_one, window_parts, windows_of
 use crate::aggregates::{first_but_aggregates, leading_numbers};
 use crate::groups::number::number_from;
 use crate::groups::source::aggregates_over;
-use afl_parser::Tree;
+use afl_trees::Tree;
 use cell_values::{Dimension, List, Schema, Span};
 use check_rules::{TypeFault, broken};
 use logical_plan::{Aggregate, Reach};

@@ -5,7 +5,7 @@ ghost use Rattle.check_rules.specs.InTurn.{new_place};
 ghost use Rattle.check_rules.specs.Checked.{Answers};
 ghost use Rattle.check_groups.specs.Names.{dimension_one};
 
-use afl_parser::{Node, Tree};
+use afl_trees::{Node, Tree};
 use cell_values::{Dimension, Span};
 use check_exprs::dimension_place;
 use check_rules::{TypeFault, new_place, wrong_type};

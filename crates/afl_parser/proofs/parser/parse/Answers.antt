@@ -1,6 +1,6 @@
 use Rattle.std.proofs.Common.{subst, sym, ◌∙◌, Err}
 use Rattle.afl_parser.specs.Outcome.{AnswersTree, AnswersStop}
-use Rattle.afl_parser.specs.declared.kind.ParseFault.{ParseFault}
+use Rattle.afl_parser.specs.declared.fault.ParseFault.{ParseFault}
 use Rattle.afl_parser.proofs.Texts.{tree_only_tree, tree_no_stop, token_only_tree, token_only_stop, lex_only_tree, lex_only_stop}
 use Rattle.afl_parser.proofs.parser.parse.Goals as goal
 

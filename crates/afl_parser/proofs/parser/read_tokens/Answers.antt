@@ -1,5 +1,5 @@
 use Rattle.std.proofs.Common.{take, subst, sym}
-use Rattle.afl_parser.specs.Statement.{lexemes}
+use Rattle.afl_trees.specs.Statement.{lexemes}
 use Rattle.afl_parser.specs.Inner.Reply.{IsTokenStop}
 use Rattle.afl_parser.specs.declared.parser.TokenFault.{TokenFault}
 use Rattle.afl_parser.proofs.Parsing.{fits_reached, next_reached, stops_at, all_reached, stop_at_end, statement_reached}

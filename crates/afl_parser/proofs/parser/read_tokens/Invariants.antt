@@ -1,6 +1,6 @@
 use Rattle.std.proofs.Common.{◌≡◌, [], take}
 use Rattle.afl_parser.specs.Inner.Machine.{Go, run}
-use Rattle.afl_parser.specs.Statement.{lexemes}
+use Rattle.afl_trees.specs.Statement.{lexemes}
 use Rattle.afl_parser.specs.declared.frame.Focus.TheVariants.{Start}
 use Rattle.afl_parser.proofs.parser.read_tokens.Given as goal
 

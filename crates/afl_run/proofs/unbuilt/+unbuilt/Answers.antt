@@ -1,6 +1,6 @@
 use Rattle.std.proofs.Common.{rules, ◌≡◌, ◌≤◌, slice_index_or, sym, subst}
-use Rattle.afl_parser.specs.Term.{to_terms, term_size, terms_size}
-use Rattle.afl_parser.proofs.PrintedParts.{part_size}
+use Rattle.afl_trees.specs.Term.{to_terms, term_size, terms_size}
+use Rattle.afl_trees.proofs.PrintedParts.{part_size}
 use Rattle.afl_run.proofs.unbuilt.+unbuilt.Goals as goal
 
 pub has_unbuilt-is_unbuilt-requires : goal.has_unbuilt-is_unbuilt-requires

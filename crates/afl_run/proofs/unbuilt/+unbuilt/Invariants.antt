@@ -1,5 +1,5 @@
 use Rattle.std.proofs.Common.{◌≡◌, ◌+◌, drop}
-use Rattle.afl_parser.specs.Term.{to_terms, term_size, terms_size}
+use Rattle.afl_trees.specs.Term.{to_terms, term_size, terms_size}
 use Rattle.afl_run.specs.Unbuilt.{has_unbuilt}
 use Rattle.afl_run.proofs.unbuilt.+unbuilt.Given as goal
 

@@ -1,6 +1,6 @@
 use Rattle.std.proofs.Common.{ℤ, Option, subst}
 use Rattle.cell_values.specs.declared.name.Span.{Span}
-use Rattle.afl_parser.specs.Grammar.{span_of}
+use Rattle.afl_trees.specs.Grammar.{span_of}
 use Rattle.check_rules.specs.Checked.{Answers}
 use Rattle.afl_types.specs.Changes.{cut_by}
 use Rattle.afl_types.proofs.changes.arrays.cut_named.Goals as goal

@@ -1,6 +1,6 @@
 use Rattle.std.proofs.Common.{◌≡◌, ◌-◌, length, take, drop, Some, Err, sym, subst}
 use Rattle.schema_grammar.specs.declared.kinds.TypeKind.TheVariants.{WrongCount}
-use Rattle.afl_parser.specs.Term.{to_terms}
+use Rattle.afl_trees.specs.Term.{to_terms}
 use Rattle.logical_plan.specs.Query.{Query}
 use Rattle.check_rules.specs.Checked.{Answers, Checked, refused}
 use Rattle.check_rules.specs.declared.rules.fault.TypeFault.{TypeFault}

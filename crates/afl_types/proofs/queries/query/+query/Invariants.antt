@@ -1,5 +1,5 @@
 use Rattle.std.proofs.Common.{◌+◌, ◌*◌}
-use Rattle.afl_parser.specs.Term.{to_terms, term_size, terms_size}
+use Rattle.afl_trees.specs.Term.{to_terms, term_size, terms_size}
 use Rattle.afl_types.proofs.queries.query.+query.Given as goal
 
 abbrev pub decreases-query_of : goal.decreases-query_of

@@ -1,7 +1,7 @@
 use Rattle.std.proofs.Common.{◌≡◌, List, length, Err, inl, inr, sym, subst, arith}
 use Rattle.std.proofs.lemmas.Bool.{cases_lt}
 use Rattle.schema_grammar.specs.declared.kinds.TypeKind.TheVariants.{WrongCount}
-use Rattle.afl_parser.specs.Term.{Term, to_terms}
+use Rattle.afl_trees.specs.Term.{Term, to_terms}
 use Rattle.plan_changes.specs.declared.change.Change.{Change}
 use Rattle.check_rules.specs.Checked.{Answers, Checked, refused}
 use Rattle.check_rules.specs.declared.rules.fault.TypeFault.{TypeFault}

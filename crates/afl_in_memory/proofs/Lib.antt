@@ -1,0 +1,5 @@
+pub mod FileLemmas
+pub mod ImageLemmas
+pub mod Memory
+pub mod PlainLemmas
+pub mod RecordLemmas

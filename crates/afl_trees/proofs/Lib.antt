@@ -1,0 +1,3 @@
+pub mod PrintedAgain
+pub mod PrintedParts
+pub mod Printing
