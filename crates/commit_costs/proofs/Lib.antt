@@ -1,3 +1,4 @@
 pub mod Legal
 pub mod Logs
+pub mod Orders
 pub mod Worked

@@ -1,5 +1,6 @@
 //! Worked costs of commits, and how long a log gets.
 ghost use Rattle.commit_costs.specs.Inner.Examples.{CommitsCostTheirPages, WorkedIsLegal, LogsComeRound};
+ghost use Rattle.commit_costs.specs.Lengths.{StoredPagesAreTold, WrittenPagesAreTold};
 
 /// What some changes of a small array cost, with a log that has room, with a full one and without one.
 pub fn commits_cost_their_pages()
@@ -14,4 +15,10 @@ pub fn a_history_is_legal_at_its_costs()
 /// A log has at most 64 records, and each 65th commit begins a new one.
 pub fn logs_come_round()
     ensures { LogsComeRound }
+{}
+
+/// Payloads take as many pages in whichever order the chunks are listed.
+pub fn payloads_cost_the_same_in_any_order()
+    ensures stored { StoredPagesAreTold }
+    ensures written { WrittenPagesAreTold }
 {}

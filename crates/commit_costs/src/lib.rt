@@ -3,4 +3,7 @@
 
 mod laws;
 
-pub use laws::{a_history_is_legal_at_its_costs, commits_cost_their_pages, logs_come_round};
+pub use laws::{
+    a_history_is_legal_at_its_costs, commits_cost_their_pages, logs_come_round,
+    payloads_cost_the_same_in_any_order,
+};
