@@ -1,4 +1,6 @@
+pub mod Catalogs
 pub mod Legal
+pub mod Lengths
 pub mod Logs
 pub mod Orders
 pub mod Worked

@@ -46,7 +46,7 @@ NoneTwice (k ∷ ks) = (is_listed k ks ≡ false) × NoneTwice ks
 abbrev pub AreSized : ℕ → List ChunkNumber → Type 0
 AreSized n = AllByRecursion (λ k. length k ≡ n)
 
-pub total : (ChunkNumber → ℕ) → List ChunkNumber → ℕ
+unfoldable pub total : (ChunkNumber → ℕ) → List ChunkNumber → ℕ
 total f [] = 0
 total f (k ∷ ks) = f k + total f ks
 

@@ -1,6 +1,6 @@
 //! Worked costs of commits, and how long a log gets.
 ghost use Rattle.commit_costs.specs.Inner.Examples.{CommitsCostTheirPages, WorkedIsLegal, LogsComeRound};
-ghost use Rattle.commit_costs.specs.Lengths.{StoredPagesAreTold, WrittenPagesAreTold};
+ghost use Rattle.commit_costs.specs.Lengths.{StoredPagesAreTold, WrittenPagesAreTold, DirectoriesAreAlike, CatalogsReadNoPage, RecordsReadNoPage, ChangesKeepAlike, CatalogsOfDatabases, RecordPagesAreTold, CataloguePagesAreTold};
 
 /// What some changes of a small array cost, with a log that has room, with a full one and without one.
 pub fn commits_cost_their_pages()
@@ -21,4 +21,19 @@ pub fn logs_come_round()
 pub fn payloads_cost_the_same_in_any_order()
     ensures stored { StoredPagesAreTold }
     ensures written { WrittenPagesAreTold }
+{}
+
+/// Directories, catalogues and records have as many bytes whichever pages they name and whichever commits wrote them.
+pub fn lengths_hang_on_no_page()
+    ensures directories { DirectoriesAreAlike }
+    ensures catalogs { CatalogsReadNoPage }
+    ensures records { RecordsReadNoPage }
+    ensures changes { ChangesKeepAlike }
+{}
+
+/// What a record and the next catalogue cost is told by any catalogue and directory that are like those of the database.
+pub fn costs_follow_the_catalogue()
+    ensures next { CatalogsOfDatabases }
+    ensures records { RecordPagesAreTold }
+    ensures catalogs { CataloguePagesAreTold }
 {}
