@@ -3,4 +3,5 @@ pub mod Legal
 pub mod Lengths
 pub mod Logs
 pub mod Orders
+pub mod Sharing
 pub mod Worked

@@ -1,5 +1,6 @@
 //! Worked costs of commits, and how long a log gets.
 ghost use Rattle.commit_costs.specs.Inner.Examples.{CommitsCostTheirPages, WorkedIsLegal, LogsComeRound};
+ghost use Rattle.commit_costs.specs.Inner.Sharing.{SharingIsLegal};
 ghost use Rattle.commit_costs.specs.Lengths.{StoredPagesAreTold, WrittenPagesAreTold, DirectoriesAreAlike, CatalogsReadNoPage, RecordsReadNoPage, ChangesKeepAlike, CatalogsOfDatabases, RecordPagesAreTold, CataloguePagesAreTold};
 
 /// What some changes of a small array cost, with a log that has room, with a full one and without one.
@@ -36,4 +37,9 @@ pub fn costs_follow_the_catalogue()
     ensures next { CatalogsOfDatabases }
     ensures records { RecordPagesAreTold }
     ensures catalogs { CataloguePagesAreTold }
+{}
+
+/// There is a legal history whose versions share a page, of which one is removed under a pin; the second reap frees its other pages.
+pub fn versions_share_pages_legally()
+    ensures { SharingIsLegal }
 {}
