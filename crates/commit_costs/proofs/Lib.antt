@@ -1,3 +1,7 @@
+pub mod Catalogs
 pub mod Legal
+pub mod Lengths
 pub mod Logs
+pub mod Orders
+pub mod Sharing
 pub mod Worked

@@ -1,16 +1,17 @@
 ghost use Rattle.std.specs.Prelude.{◌≡◌, IsTrue, Some, None};
 ghost use Rattle.plan_changes.specs.Allowed.{names_allow};
 ghost use Rattle.version_catalog.specs.Catalogs.{names_in};
-ghost use Rattle.version_catalog.specs.Changed.{has_its_directory};
+ghost use Rattle.catalog_changes.specs.Changed.{has_its_directory};
 ghost use Rattle.version_catalog.specs.declared.rules.catalog.BlobAt.{BlobAt as ABlob};
 ghost use Rattle.test_catalogs.specs.Worked.{worked_catalog};
 
 use crate::vectors::*;
 use crate::worked::{blob, catalog, create, cut, insert, remove, store};
+use catalog_changes::*;
 use cell_values::{Bytes, Memory};
 use plan_changes::Change;
 use std::test::*;
-use version_catalog::{BlobAt, Catalog, *, *};
+use version_catalog::{BlobAt, Catalog, *};
 
 /// The bytes of a change's record.
 fn recorded(catalog: &Catalog, change: &Change, directory: Option<BlobAt>) -> Result<Bytes, Memory>

@@ -1,8 +1,9 @@
 use crate::catalogues::{ONE, catalog};
+use catalog_changes::allowed;
 use cell_values::{Bytes, List, Memory};
 use std::alloc::Global;
 use std::test::*;
-use version_catalog::{*, *, *};
+use version_catalog::*;
 
 const CREATE: u8 = 1;
 

@@ -1,5 +1,0 @@
-use Rattle.version_catalog.proofs.Spelled.{changes_keep_catalogs}
-use Rattle.version_catalog.proofs.changes.laws.changes_keep_catalogs.Goals as goal
-
-pub returns : goal.returns
-returns c = changes_keep_catalogs

@@ -1,5 +1,0 @@
-use Rattle.version_catalog.proofs.Kept.{names_are_kept}
-use Rattle.version_catalog.proofs.changes.laws.names_are_kept.Goals as goal
-
-pub returns : goal.returns
-returns c = names_are_kept

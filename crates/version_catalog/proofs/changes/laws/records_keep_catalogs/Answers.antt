@@ -1,5 +1,0 @@
-use Rattle.version_catalog.proofs.Kept.{records_keep_catalogs}
-use Rattle.version_catalog.proofs.changes.laws.records_keep_catalogs.Goals as goal
-
-pub returns : goal.returns
-returns c = records_keep_catalogs
