@@ -1,5 +1,5 @@
 -- No free page is live.
-use Rattle.std.proofs.Common.{◌≡◌, ◌∙◌, ℕ, zero, suc, ◌+◌, ◌-◌, ◌<◌, ◌≤◌, Bool, true, false, not, ◌&&◌, ◌||◌, nat_eq, List, [], ◌∷◌, ◌++◌, refl, ap, sym, arith, IsTrue, ◌⊎◌, inl, inr}
+use Rattle.std.proofs.Common.{◌≡◌, ◌∙◌, ℕ, zero, suc, ◌+◌, ◌-◌, ◌<◌, ◌≤◌, Bool, true, false, not, ◌&&◌, ◌||◌, nat_eq, List, [], ◌∷◌, ◌++◌, refl, ap, sym, arith, ◌⊎◌, inl, inr}
 use Rattle.std.specs.List.{filter, list_any, list_all}
 use Rattle.std.proofs.lemmas.List.Folds.{list_any-append}
 use Rattle.std.proofs.lemmas.Bool.{and_parts, and_from, or_parts, or_from, or_cases, not-true, not_from_false, eqb-true, eq-eqb, cases_eq, or_left, or_right}
@@ -10,13 +10,13 @@ use Rattle.plan_changes.specs.Allowed.{names_allow}
 use Rattle.plan_changes.specs.Changes.{newest_of, name_of}
 use Rattle.version_reaper.specs.PageSets.{holds, pages_from, pages_below}
 use Rattle.event_core.specs.declared.entry.Used.{Used}
-use Rattle.event_core.specs.declared.entry.Entry.{Entry}
 use Rattle.event_core.specs.declared.entry.Entry.TheVariants.{Pin, Unpin, Commit, Reap}
 use Rattle.event_core.specs.declared.state.VersionPages.{VersionPages}
 use Rattle.event_core.specs.declared.state.Core.{Core}
 use Rattle.event_core.specs.History.{History, names_at, pages_at, catalogue_at, open_pins, pages_after, is_pages_of}
 use Rattle.event_core.specs.Pages.{has_page, pin_names, is_live, is_newest, fresh_at, free_at}
-use Rattle.event_core.specs.Allowed.{is_pinned, is_allowed, allows, are_different}
+use Rattle.event_core.specs.Allowed.{is_pinned, are_different}
+use Rattle.event_core.proofs.Runs.{allowed_before, allowed_now}
 use Rattle.event_core.proofs.Tests.{both_not, none_weaker, none_filtered, holds_filter, all_held}
 use Rattle.event_laws.specs.Promises.{NoFreePageIsLive, NoFreshPageWasLive, ReapFreesTheRest, FreePagesAreWithin, ReapKeepsFreePages}
 

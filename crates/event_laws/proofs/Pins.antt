@@ -1,19 +1,18 @@
 -- Open pins, and what was before them.
-use Rattle.std.proofs.Common.{◌≡◌, ◌∙◌, ℕ, ◌+◌, ◌-◌, Bool, true, false, not, ◌&&◌, ◌||◌, if◌then◌else◌, nat_eq, List, [], ◌∷◌, ◌++◌, length, drop, map, Option, None, Some, refl, ap, sym, arith, append-nil, length-append}
+use Rattle.std.proofs.Common.{◌≡◌, ◌∙◌, ℕ, ◌-◌, Bool, true, false, not, ◌&&◌, if◌then◌else◌, nat_eq, List, [], ◌∷◌, ◌++◌, length, drop, map, Option, None, Some, refl, ap, sym, arith, append-nil, length-append}
 use Rattle.std.specs.List.{filter, list_all}
 use Rattle.std.proofs.Math.Seq.{drop-append_seam}
 use Rattle.std.proofs.lemmas.Bool.{and_parts, or_parts, not-true, eqb-true, eq-eqb}
 use Rattle.std.proofs.lemmas.List.Elements.{filter-append}
 use Rattle.event_core.specs.declared.entry.Entry.{Entry}
 use Rattle.event_core.specs.declared.entry.Entry.TheVariants.{Pin, Unpin, Commit, Reap}
-use Rattle.event_core.specs.declared.state.Core.{Core}
 use Rattle.event_core.specs.Allowed.{is_pinned}
 use Rattle.event_core.specs.Cells.{at}
 use Rattle.event_core.specs.History.{History, OpenPin, names_at, pages_at, open_pins, pin_before, leaves_pin, up_to}
 use Rattle.event_core.specs.Replay.{pin_at}
 use Rattle.event_core.proofs.Tests.{both_not, map_filter, filter_agrees, eq_sym}
 use Rattle.event_core.proofs.Runs.{allowed_before, allowed_now}
-use Rattle.event_laws.specs.Pins.{PinsStay, OpenPinsStay, pins_of, OpenPinsAreThese, CorePinsAreThese, BeginningsAreKept, AllEntriesAreTheHistory, PlaceTells, PlacesTellPins}
+use Rattle.event_laws.specs.Pins.{PinsStay, OpenPinsStay, pins_of, OpenPinsAreThese, CorePinsAreThese, BeginningsAreKept, AllEntriesAreTheHistory, PlacesTellPins}
 use Rattle.event_laws.proofs.Conserved.{filter_filter}
 
 otherwise : (b : Bool) (x y : Option History) → b ≡ false → (if b then x else y) ≡ y

@@ -1,8 +1,7 @@
 -- The worked list in which versions share a page: legal, and its pages, all computed.
-use Rattle.std.proofs.Common.{◌≡◌, true, false, [], ◌∷◌, refl, arith}
+use Rattle.std.proofs.Common.{true, [], refl, arith}
 use Rattle.plan_changes.specs.Stored.{HasItsNames}
 use Rattle.plan_changes.specs.Typed.{HasTypedPlan}
-use Rattle.event_core.specs.declared.entry.Entry.TheVariants.{Pin, Unpin, Commit}
 use Rattle.event_core.specs.History.{names_at, up_to}
 use Rattle.event_core.specs.Allowed.{IsBase}
 use Rattle.event_core.specs.Apart.{AllShareOwn, AreApart}
@@ -21,7 +20,7 @@ store_names : HasItsNames shared_store
 store_names = (refl, record { attributes = (refl, tt); dimensions = (refl, tt) })
 
 insert_names : HasItsNames shared_insert
-insert_names = (refl, record { attributes = (refl, tt); dimensions = (refl, tt) })
+insert_names = refl
 
 insert_typed : HasTypedPlan (names_at shared_base (up_to 5 shared)) shared_insert
 insert_typed = (record { typed = ((refl, refl), refl); reads = tt }, (refl, refl))

@@ -1,5 +1,5 @@
 -- What holds of the pages of each allowed history.
-use Rattle.std.specs.Prelude.{◌≡◌, ℕ, ◌+◌, ◌-◌, ◌<◌, ◌≤◌, ◌&&◌, length, ◌↔◌, Bool, true, false, not, nat_eq, [], ◌∷◌, ◌++◌, IsTrue}
+use Rattle.std.specs.Prelude.{◌≡◌, ℕ, ◌+◌, ◌-◌, ◌<◌, ◌≤◌, length, ◌↔◌, Bool, true, false, not, nat_eq, [], ◌∷◌, ◌++◌, IsTrue}
 use Rattle.std.specs.List.{filter, list_all, list_any}
 use Rattle.plan_changes.specs.declared.change.Change.{Change}
 use Rattle.version_reaper.specs.PageSets.{holds, pages_below}

@@ -89,7 +89,7 @@ pub fn ready_outlasts()
 /// What was before a session's open pin is left by all entries but its own pins and unpins.
 pub fn open_pins_stay()
     ensures begun { PinsStay }
-    ensures open { OpenPinsStay }
+    ensures kept { OpenPinsStay }
 {}
 
 /// What was before a session's open pin is what the open pins have of that session, and the core.
