@@ -8,9 +8,9 @@ use Rattle.plan_changes.specs.Typed.{HasTypedPlan}
 use Rattle.event_core.specs.declared.entry.Entry.{Entry}
 use Rattle.event_core.specs.declared.entry.Entry.TheVariants.{Pin, Unpin, Commit, Reap}
 use Rattle.event_core.specs.declared.state.Core.{Core}
-use Rattle.event_core.specs.History.{History, names_at, pages_at}
+use Rattle.event_core.specs.History.{History, names_at}
 use Rattle.event_core.specs.Pages.{fresh_at}
-use Rattle.event_core.specs.Allowed.{IsBase, allows, is_allowed}
+use Rattle.event_core.specs.Allowed.{IsBase, allows}
 use Rattle.event_core.specs.Agree.{HavePages}
 use Rattle.event_core.specs.Cells.{at}
 
