@@ -12,7 +12,7 @@ use Rattle.plan_changes.specs.Typed.{HasTypedPlan}
 use Rattle.event_core.specs.declared.entry.Entry.TheVariants.{Pin, Unpin, Commit}
 use Rattle.event_core.specs.Legal.{BeginsAt, IsLegal}
 use Rattle.event_core.specs.Worked.{worked_base, worked_store, worked}
-use Rattle.event_core.proofs.WorkedList.{base_is}
+use Rattle.event_core.proofs.Worked.{base_is}
 use Rattle.commit_costs.specs.Costs.{cost_from}
 use Rattle.commit_costs.specs.Inner.Examples.{WorkedIsLegal}
 

@@ -3,8 +3,8 @@ use Rattle.std.proofs.Common.{◌≡◌, ◌∙◌, ◌⊎◌, ◌+◌, ◌%◌,
 use Rattle.std.specs.Prelude.{◌==◌, ◌≢◌, if◌then◌else◌, Option}
 use Rattle.std.proofs.lemmas.Bool.Decides.{eqb_tells}
 use Rattle.event_core.specs.declared.entry.Entry.TheVariants.{Pin, Unpin, Commit, Reap}
-use Rattle.commit_costs.specs.Costs.{next_records}
-use Rattle.commit_costs.specs.Inner.Examples.{LogsComeRound, commits}
+use Rattle.event_core.specs.Bases.{next_records, commits}
+use Rattle.commit_costs.specs.Inner.Examples.{LogsComeRound}
 
 -- a new log, or one more record
 fresh_or_more : Bool → ℕ → Option ℕ

@@ -1,6 +1,6 @@
 -- How many pages a commit takes: those of the payloads that its change writes, of the new version's directory, and of the
 -- record; where the log is full or there is none, in the record's place those of the next catalogue and of a log page.
-use Rattle.std.specs.Prelude.{ℕ, ◌+◌, ◌==◌, nat_lt, Bool, false, if◌then◌else◌, List, [], ◌∷◌, length, map, replicate, Option, Some, None}
+use Rattle.std.specs.Prelude.{ℕ, ◌+◌, nat_lt, Bool, false, if◌then◌else◌, List, [], ◌∷◌, length, map, replicate, Option, Some, None}
 use Rattle.std.specs.List.{filter}
 use Rattle.cell_values.specs.declared.datum.Row.{Row}
 use Rattle.cell_values.specs.declared.schema.Dimension.{Dimension}
@@ -23,8 +23,7 @@ use Rattle.version_catalog.specs.declared.rules.catalog_record.CatalogRecord.{Ca
 use Rattle.catalog_changes.specs.Changed.{record_for}
 use Rattle.version_catalog.specs.Spelling.{spell_record, spelling}
 use Rattle.file_meaning.specs.Standing.{stored_chunk}
-use Rattle.event_core.specs.declared.entry.Entry.TheVariants.{Pin, Unpin, Commit, Reap}
-use Rattle.event_core.specs.History.{History}
+use Rattle.event_core.specs.Bases.{records_at}
 use Rattle.event_core.specs.Legal.{Cost}
 
 -- ---- payloads
@@ -109,18 +108,6 @@ catalogue_pages db change = chain_pages (length (spelling (catalog_of (after db 
 abbrev pub has_log_room : Option ℕ → Bool
 has_log_room None = false
 has_log_room (Some records) = nat_lt records 64
-
--- a commit adds a record, or begins a new log
-abbrev pub next_records : Option ℕ → Option ℕ
-next_records None = Some 0
-next_records (Some records) = if records == 64 then Some 0 else Some (records + 1)
-
-abbrev pub records_at : Option ℕ → History → Option ℕ
-records_at records [] = records
-records_at records (Commit session change used ∷ before) = next_records (records_at records before)
-records_at records (Pin session ∷ before) = records_at records before
-records_at records (Unpin session ∷ before) = records_at records before
-records_at records (Reap ∷ before) = records_at records before
 
 -- the cost of a change after a history, over a base whose log has so many records
 abbrev pub cost_from : Option ℕ → Cost

@@ -1,14 +1,7 @@
-pub mod Agree
-pub mod Apart
-pub mod Cells
-pub mod Conserved
-pub mod Free
 pub mod Knowing
-pub mod Legal
 pub mod Marking
-pub mod Pinned
 pub mod Reaping
 pub mod Runs
 pub mod Steps
 pub mod Tests
-pub mod WorkedList
+pub mod Worked

@@ -1,14 +1,12 @@
 -- The versions that can be named are those that have pages.
-use Rattle.std.specs.Prelude.{◌≡◌, ℕ, Bool, true, not, ◌&&◌, nat_eq, List, [], ◌∷◌, IsTrue}
+use Rattle.std.specs.Prelude.{◌≡◌, ℕ, Bool, true, not, ◌&&◌, nat_eq, List, [], ◌∷◌}
 use Rattle.std.specs.List.{list_any}
 use Rattle.logical_plan.specs.declared.names.NameEntry.{NameEntry}
 use Rattle.logical_plan.specs.declared.names.Names.{Names}
 use Rattle.plan_changes.specs.Changes.{is_named, has_array}
 use Rattle.version_reaper.specs.PageSets.{holds}
 use Rattle.event_core.specs.declared.state.VersionPages.{VersionPages}
-use Rattle.event_core.specs.declared.state.Core.{Core}
-use Rattle.event_core.specs.History.{History, names_at, pages_at, is_pages_of}
-use Rattle.event_core.specs.Allowed.{is_allowed}
+use Rattle.event_core.specs.History.{is_pages_of}
 
 -- whether a version can be named
 abbrev pub can_name : Names → List ℕ → ℕ → Bool
@@ -26,8 +24,3 @@ HavePages names versions = (name : List ℕ) (version : ℕ) → can_name names 
 abbrev pub are_unique : List NameEntry → Bool
 are_unique [] = true
 are_unique (entry ∷ entries) = not (has_array entries entry.name) && are_unique entries
-
--- after each allowed history the versions that can be named are those that have pages, if it is so at its base
-abbrev pub NamedVersionsHavePages : Type 0
-NamedVersionsHavePages = (base : Core) (h : History) → IsTrue (are_unique base.names.arrays) →
-    HavePages base.names base.pages → IsTrue (is_allowed base h) → HavePages (names_at base h) (pages_at base h)

@@ -10,7 +10,6 @@ use Rattle.event_core.specs.declared.entry.Entry.TheVariants.{Pin, Unpin, Commit
 use Rattle.event_core.specs.declared.state.Core.{Core}
 use Rattle.event_core.specs.History.{History, names_at, pages_at, catalogue_at, open_pins}
 use Rattle.event_core.specs.Pages.{has_page, pin_names, is_newest, fresh_at}
-use Rattle.event_core.specs.Allowed.{IsBase, is_allowed}
 
 -- whether a change makes a version
 abbrev pub makes_version : Change → Bool
@@ -41,7 +40,3 @@ pub record AreApart (base : Core) (h : History) : Type 0 where
   pub now : (page : ℕ) → IsTrue (holds (catalogue_at base h) page) → has_page (pages_at base h) page ≡ false
   pub pinned : (page : ℕ) → IsTrue (holds (catalogue_at base h) page) → list_any (pin_names base page) (open_pins h) ≡ false
   pub first : (holds (catalogue_at base h) 0 ≡ false) × (has_page (pages_at base h) 0 ≡ false)
-
--- after each allowed history whose commits share no pages but their own, the catalogue is apart, if it is so at the base
-abbrev pub CataloguesStayApart : Type 0
-CataloguesStayApart = (base : Core) (h : History) → IsBase base → AreApart base [] → AllShareOwn base h → IsTrue (is_allowed base h) → AreApart base h

@@ -1,6 +1,6 @@
 -- Histories, and what they make of a base. A history is a list of entries, the newest first: what stands behind an
 -- entry is what was before it.
-use Rattle.std.specs.Prelude.{ℕ, Bool, not, ◌&&◌, nat_eq, nat_lt, List, [], ◌∷◌, ◌++◌}
+use Rattle.std.specs.Prelude.{ℕ, ◌-◌, Bool, true, not, ◌&&◌, nat_eq, nat_lt, if◌then◌else◌, List, [], ◌∷◌, ◌++◌, length, drop, Option, None, Some}
 use Rattle.std.specs.List.{filter}
 use Rattle.std.specs.Str.{bytes_eq}
 use Rattle.plan_changes.specs.declared.change.Change.{Change}
@@ -64,3 +64,22 @@ open_pins (Pin session ∷ before) = open_pins before ++ record { session = sess
 open_pins (Unpin session ∷ before) = filter (λ pin. not (nat_eq pin.session session)) (open_pins before)
 open_pins (Commit session change used ∷ before) = open_pins before
 open_pins (Reap ∷ before) = open_pins before
+
+-- what was before the open pin of a session, told by its own entries alone: none where it has no open pin
+abbrev pub pin_before : ℕ → History → Option History
+pin_before s [] = None
+pin_before s (Pin t ∷ before) = if nat_eq t s then Some before else pin_before s before
+pin_before s (Unpin t ∷ before) = if nat_eq t s then None else pin_before s before
+pin_before s (Commit t change used ∷ before) = pin_before s before
+pin_before s (Reap ∷ before) = pin_before s before
+
+-- whether an entry is neither a pin nor an unpin of a session
+abbrev pub leaves_pin : ℕ → Entry → Bool
+leaves_pin s (Pin t) = not (nat_eq t s)
+leaves_pin s (Unpin t) = not (nat_eq t s)
+leaves_pin s (Commit t change used) = true
+leaves_pin s Reap = true
+
+-- the first so many entries of a history, the newest of them first: what was there when it had as many
+abbrev pub up_to : ℕ → History → History
+up_to place h = drop (length h - place) h

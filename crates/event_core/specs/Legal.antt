@@ -8,9 +8,9 @@ use Rattle.plan_changes.specs.Typed.{HasTypedPlan}
 use Rattle.event_core.specs.declared.entry.Entry.{Entry}
 use Rattle.event_core.specs.declared.entry.Entry.TheVariants.{Pin, Unpin, Commit, Reap}
 use Rattle.event_core.specs.declared.state.Core.{Core}
-use Rattle.event_core.specs.History.{History, names_at, pages_at}
+use Rattle.event_core.specs.History.{History, names_at}
 use Rattle.event_core.specs.Pages.{fresh_at}
-use Rattle.event_core.specs.Allowed.{IsBase, allows, is_allowed}
+use Rattle.event_core.specs.Allowed.{IsBase, allows}
 use Rattle.event_core.specs.Agree.{HavePages}
 use Rattle.event_core.specs.Cells.{at}
 
@@ -66,24 +66,6 @@ abbrev pub IsOrdered : Core → History → Type 0
 IsOrdered base [] = BeginsWithNames base
 IsOrdered base (entry ∷ before) = IsOrdered base before × IsTrue (allows base before entry) × IsOrderly base before entry
 
--- ---- laws
-
--- a legal history is an ordered one
-abbrev pub LegalIsOrdered : Type 0
-LegalIsOrdered = (cost : Cost) (db : Database) (base : Core) (h : History) → IsLegal cost db base h → IsOrdered base h
-
--- an ordered history is an allowed one over a base
-abbrev pub OrderedIsAllowed : Type 0
-OrderedIsAllowed = (base : Core) (h : History) → IsOrdered base h → IsBase base × IsTrue (is_allowed base h)
-
--- after an ordered history the names rise, their versions rise below the next number, and no more arrays stand than may
-abbrev pub OrderedNamesAreStored : Type 0
-OrderedNamesAreStored = (base : Core) (h : History) → IsOrdered base h → AreStored (names_at base h)
-
--- after an ordered history each version that can be named has pages, and no other
-abbrev pub OrderedVersionsHavePages : Type 0
-OrderedVersionsHavePages = (base : Core) (h : History) → IsOrdered base h → HavePages (names_at base h) (pages_at base h)
-
 -- the plan of each change of a history means an array of its schema over the database before it
 abbrev pub AllStoreArrays : Database → History → Type 0
 AllStoreArrays db [] = Unit {0}
@@ -91,7 +73,3 @@ AllStoreArrays db (Pin s ∷ before) = AllStoreArrays db before
 AllStoreArrays db (Unpin s ∷ before) = AllStoreArrays db before
 AllStoreArrays db (Commit s change used ∷ before) = AllStoreArrays db before × StoresArray (at db before) change
 AllStoreArrays db (Reap ∷ before) = AllStoreArrays db before
-
--- after a legal history of such plans there is a database
-abbrev pub LegalDatabases : Type 0
-LegalDatabases = (cost : Cost) (db : Database) (base : Core) (h : History) → IsLegal cost db base h → AllStoreArrays db h → IsDatabase (at db h)

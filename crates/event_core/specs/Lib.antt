@@ -1,11 +1,13 @@
 pub mod Agree
 pub mod Allowed
 pub mod Apart
+pub mod Bases
 pub mod Cells
 pub mod History
 pub mod Inner
 pub mod Legal
 pub mod Pages
-pub mod Promises
+pub mod Ready
 pub mod Replay
+pub mod Shared
 pub mod Worked

@@ -42,3 +42,7 @@ free_at base (Commit session change used ∷ before) = filter (λ page. not (hol
 free_at base (Reap ∷ before) = filter (λ page. not (is_live base before page)) (pages_below base.limit)
 free_at base (Pin session ∷ before) = free_at base before
 free_at base (Unpin session ∷ before) = free_at base before
+
+-- whether a page is neither free nor live: it waits for a reap
+abbrev pub is_awaiting : Core → History → ℕ → Bool
+is_awaiting base h page = not (holds (free_at base h) page) && not (is_live base h page)

@@ -36,6 +36,10 @@ pin_of core session = record { session = session; place = core.entries; names = 
 abbrev pub is_core_live : Core → ℕ → Bool
 is_core_live core page = nat_eq page 0 || (holds core.catalogue page || (has_page core.pages page || list_any (λ pin. has_page pin.pages page) core.pins))
 
+-- whether a page is neither free nor live
+abbrev pub is_core_awaiting : Core → ℕ → Bool
+is_core_awaiting core page = not (holds core.free page) && not (is_core_live core page)
+
 abbrev pub core_after : Core → Entry → Core
 core_after core (Pin session) = record core { pins = core.pins ++ pin_of core session ∷ []; entries = core.entries + 1 }
 core_after core (Unpin session) = record core { pins = filter (λ pin. not (nat_eq pin.session session)) core.pins; entries = core.entries + 1 }

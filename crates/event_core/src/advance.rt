@@ -5,12 +5,10 @@ ghost use Rattle.plan_changes.specs.Allowed.{names_allow};
 ghost use Rattle.event_core.specs.declared.entry.Entry.TheVariants.{Pin, Unpin, Commit, Reap};
 ghost use Rattle.event_core.specs.Replay.{core_after, core_allows};
 
-use crate::commit::{change_versions, fresh_pages, without_pages};
-use crate::marks::Marks;
 use crate::reap::reaped;
 use crate::{Core, CorePin, Entry, Used};
 use cell_values::{List, Memory};
-use plan_changes::{Change, changed_names};
+use plan_changes::Change;
 
 /// The pins without that of a session.
 fn without_session(pins: List<CorePin>, session: u32) -> List<CorePin>
@@ -56,15 +54,8 @@ impl Core {
         ensures ok { OnOk result (self.new ≡ core_after self.old (Commit session change.now used.now)) }
         ensures err { OnErr result (self.new ≡ self.old) }
     {
-        let fresh = Marks::new(fresh_pages(self, change, used)?, self.limit)?;
-        let catalogue = used.catalogue.copy()?;
-        let names = changed_names(self.names.copy()?, change)?;
-        change_versions(&mut self.pages, &self.names, change, &used.version)?;
-        let free = self.free.take();
-        self.names = names;
-        self.catalogue = catalogue;
-        self.free = without_pages(free, &fresh);
-        self.entries += 1;
+        let ready = self.ready(change, used)?;
+        self.put(session, ready);
         Ok(())
     }
 

@@ -1,17 +1,15 @@
-//! The pages of a commit.
-ghost use Rattle.std.specs.Prelude.{◌≡◌, ◌∷◌, [], ◌++◌, ◌&&◌, not, nat_lt, IfOk, OnOk, OnErr};
+//! The pages of a commit, and lists without some.
+ghost use Rattle.std.specs.Prelude.{◌≡◌, ◌++◌, ◌&&◌, not, nat_lt, IfOk, OnOk};
 ghost use Rattle.std.specs.List.{filter};
-ghost use Rattle.plan_changes.specs.Changes.{next_of};
 ghost use Rattle.version_reaper.specs.PageSets.{holds};
-ghost use Rattle.event_core.specs.History.{is_pages_of, pages_after};
+ghost use Rattle.event_core.specs.History.{is_pages_of};
 ghost use Rattle.event_core.specs.Pages.{fresh_of};
 ghost use Rattle.event_core.specs.Inner.Known.{pages_if, known_of};
 
 use crate::marks::Marks;
 use crate::{Core, Used, VersionPages};
 use cell_values::{List, Memory, Name};
-use logical_plan::Names;
-use plan_changes::{Change, changed_name, is_same, newest_of, next_of};
+use plan_changes::{Change, changed_name, is_same, newest_of};
 
 /// Adds the pages of a version, if it is this one.
 fn push_if(
@@ -81,7 +79,7 @@ pub fn without_pages(pages: List<u32>, taken: &Marks) -> List<u32>
 }
 
 /// The versions without those of an array.
-fn without_array(versions: List<VersionPages>, name: &Name) -> List<VersionPages>
+pub fn without_array(versions: List<VersionPages>, name: &Name) -> List<VersionPages>
     ensures { result ≡ filter (λ v. not (is_pages_of name.now v)) versions }
 {
     let mut items = versions.into_vec();
@@ -90,56 +88,10 @@ fn without_array(versions: List<VersionPages>, name: &Name) -> List<VersionPages
 }
 
 /// The versions without those of an array below a number.
-fn without_below(versions: List<VersionPages>, name: &Name, below: u32) -> List<VersionPages>
+pub fn without_below(versions: List<VersionPages>, name: &Name, below: u32) -> List<VersionPages>
     ensures { result ≡ filter (λ v. not (is_pages_of name.now v && nat_lt v.version below)) versions }
 {
     let mut items = versions.into_vec();
     items.retain(|version| !(is_same(&version.name, name) && version.version < below));
     List::from_vec(items)
-}
-
-/// One more version of an array, under its next number.
-fn push_next(
-    versions: &mut List<VersionPages>,
-    names: &Names,
-    name: &Name,
-    used: &List<u32>,
-) -> Result<(), Memory>
-    ensures ok { OnOk result (versions.new ≡ versions.old ++ record { name = name.now; version = next_of names.now.arrays name.now; pages = used.now } ∷ []) }
-    ensures err { OnErr result (versions.new ≡ versions.old) }
-{
-    let next = VersionPages {
-        name: name.copy()?,
-        version: next_of(&names.arrays, name),
-        pages: used.copy()?,
-    };
-    versions.push(next)?;
-    Ok(())
-}
-
-/// The pages of the versions after a change that uses these pages.
-pub fn change_versions(
-    versions: &mut List<VersionPages>,
-    names: &Names,
-    change: &Change,
-    used: &List<u32>,
-) -> Result<(), Memory>
-    ensures ok { OnOk result (versions.new ≡ pages_after names.now change.now used.now versions.old) }
-    ensures err { OnErr result (versions.new ≡ versions.old) }
-{
-    match change {
-        Change::Create { .. } => Ok(()),
-        Change::Store { name, .. } => push_next(versions, names, name, used),
-        Change::Insert { name, .. } => push_next(versions, names, name, used),
-        Change::Remove { name } => {
-            let all = versions.take();
-            *versions = without_array(all, name);
-            Ok(())
-        }
-        Change::RemoveVersions { name, below } => {
-            let all = versions.take();
-            *versions = without_below(all, name, *below);
-            Ok(())
-        }
-    }
 }

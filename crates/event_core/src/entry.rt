@@ -56,11 +56,14 @@ impl Entry {
                 session,
                 change,
                 used,
-            } => Ok(Entry::Commit {
-                session: *session,
-                change: change.copy()?,
-                used: used.copy()?,
-            }),
+            } => {
+                let used = used.copy()?;
+                Ok(Entry::Commit {
+                    session: *session,
+                    change: change.copy()?,
+                    used,
+                })
+            }
             Entry::Reap => Ok(Entry::Reap),
         }
     }

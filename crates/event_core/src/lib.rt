@@ -4,21 +4,15 @@
 mod advance;
 mod commit;
 mod entry;
-mod laws;
 mod marks;
+mod next;
+mod ready;
 mod reap;
 mod run;
 mod state;
 
 pub use commit::fresh_pages;
 pub use entry::{Entry, Used};
-pub use laws::{
-    a_history_is_legal, a_page_used_twice_is_refused, base_is_first_core, catalogues_stay_apart,
-    core_follows_entries, core_tells_allowed, free_pages_are_within, legal_databases,
-    legal_is_ordered, named_versions_have_pages, names_are_of_the_database, no_free_page_is_live,
-    no_fresh_page_was_live, ordered_is_allowed, ordered_names_are_stored,
-    ordered_versions_have_pages, pages_are_conserved, pinned_pages_stay_live, reap_frees_the_rest,
-    reap_keeps_free_pages,
-};
+pub use ready::Ready;
 pub use run::{run_events, step};
 pub use state::{Core, CorePin, VersionPages};

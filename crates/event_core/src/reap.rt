@@ -3,11 +3,11 @@ ghost use Rattle.std.specs.Prelude.{◌≡◌, ℕ, ◌<◌, ◌||◌, false, no
 ghost use Rattle.std.specs.List.{filter, list_any};
 ghost use Rattle.version_reaper.specs.PageSets.{pages_below};
 ghost use Rattle.event_core.specs.Pages.{has_page};
-ghost use Rattle.event_core.specs.Replay.{is_core_live};
+ghost use Rattle.event_core.specs.Replay.{is_core_live, is_core_awaiting};
 
 use crate::{Core, CorePin, VersionPages};
 use cell_values::{List, Memory};
-use version_reaper::PageSet;
+use version_reaper::{PageSet, free_of};
 
 /// Adds the pages of versions to a set.
 fn add_versions(set: &mut PageSet, versions: &List<VersionPages>)
@@ -35,9 +35,7 @@ pub fn reaped(core: &Core) -> Result<List<u32>, Memory>
 {
     let alloc = core.free.allocator();
     let mut set = PageSet::new(alloc, core.limit)?;
-    set.add_all(&core.catalogue);
-    add_versions(&mut set, &core.pages);
-    add_pins(&mut set, &core.pins);
+    core.mark_live(&mut set);
     set.others(alloc)
 }
 
@@ -51,5 +49,28 @@ impl Core {
         set.add_all(&self.catalogue);
         add_versions(set, &self.pages);
         add_pins(set, &self.pins);
+    }
+
+    /// How many pages from 1 below the limit nobody can name. A set is lent for it; this takes no memory.
+    pub fn count_unused(&self, set: &mut PageSet) -> u32
+        requires { length set.old ≡ self.now.limit }
+        ensures limit { length set.new ≡ length set.old }
+        ensures count { result ≡ length (filter (λ page. not (is_core_live self.now page)) (pages_below self.now.limit)) }
+    {
+        set.clear();
+        self.mark_live(set);
+        free_of(set)
+    }
+
+    /// Whether a reap would make a page free. A set is lent for it; this takes no memory.
+    pub fn would_free(&self, set: &mut PageSet) -> bool
+        requires { length set.old ≡ self.now.limit }
+        ensures limit { length set.new ≡ length set.old }
+        ensures some { result ≡ list_any (is_core_awaiting self.now) (pages_below self.now.limit) }
+    {
+        set.clear();
+        self.mark_live(set);
+        set.add_all(&self.free);
+        set.has_others()
     }
 }

@@ -6,7 +6,7 @@ use Rattle.event_core.specs.declared.state.Core.{Core}
 use Rattle.event_core.specs.Cells.{at}
 use Rattle.event_core.specs.History.{History}
 use Rattle.event_core.specs.Legal.{Cost, IsLegal, AllStoreArrays}
-use Rattle.event_core.proofs.Legal.{legal_databases, typed_now}
+use Rattle.event_laws.proofs.Legal.{legal_databases, typed_now}
 use Rattle.exec_laws.specs.Commits.{AllCountsFit}
 use Rattle.exec_laws.specs.Laws.{LegalHistoriesKeepDatabases}
 use Rattle.exec_laws.proofs.ChangedDatabases.{stores_array}

@@ -4,7 +4,7 @@ use Rattle.event_core.specs.declared.state.Core.{Core}
 use Rattle.event_core.specs.History.{History}
 use Rattle.event_core.specs.Allowed.{IsBase, is_allowed}
 use Rattle.event_core.specs.Worked.{worked_base, worked, worked_on}
-use Rattle.event_core.proofs.WorkedList.{base_is, allowed_is}
+use Rattle.event_core.proofs.Worked.{base_is, allowed_is}
 
 pub is_base : (base : Core) → base ≡ worked_base → IsBase base
 is_base base b = subst IsBase (sym b) base_is

@@ -1,6 +1,6 @@
 //! Sets of pages below a limit.
 ghost use Rattle.std.specs.Prelude.{◌≡◌, ◌<◌, ◌^◌, ◌||◌, ℕ, false, not, nat_eq, length, replicate, slice_index_or, IfOk};
-ghost use Rattle.std.specs.List.{filter};
+ghost use Rattle.std.specs.List.{filter, list_any};
 ghost use Rattle.version_reaper.specs.PageSets.{holds, is_held, pages_below};
 
 use cell_values::{List, Memory};
@@ -45,6 +45,15 @@ impl PageSet {
         Ok(PageSet {
             flags: self.flags.copy()?,
         })
+    }
+
+    /// Takes all pages out. The limit stays. This takes no memory.
+    pub fn clear(&mut self)
+        ensures { self.new ≡ replicate (length self.old) false }
+    {
+        let mut flags = self.flags.take().into_vec();
+        flags.as_mut_slice().fill(false);
+        self.flags = List::from_vec(flags);
     }
 
     /// The limit, below which all pages of the set are.
@@ -97,6 +106,13 @@ impl PageSet {
             }
         }
         Ok(pages)
+    }
+
+    /// Whether some page from 1 below the limit is not in the set. This takes no memory.
+    pub fn has_others(&self) -> bool
+        ensures { result ≡ list_any (λ page. not (slice_index_or self.now page false)) (pages_below (length self.now)) }
+    {
+        free_of(self) > 0
     }
 }
 

@@ -10,11 +10,11 @@ use Rattle.logical_plan.specs.Query.{Query, listed}
 use Rattle.plan_changes.specs.declared.change.Change.{Change}
 use Rattle.plan_changes.specs.declared.change.Change.TheVariants.{Create, Store, Insert, Remove, RemoveVersions}
 use Rattle.plan_changes.specs.Databases.{Database, after}
-use Rattle.event_core.specs.declared.entry.Entry.TheVariants.{Pin, Unpin, Commit, Reap}
+use Rattle.event_core.specs.Bases.{records_at, commits}
 use Rattle.event_core.specs.History.{History}
 use Rattle.event_core.specs.Legal.{IsLegal}
 use Rattle.event_core.specs.Worked.{worked_base, worked_on}
-use Rattle.commit_costs.specs.Costs.{cost_from, records_at}
+use Rattle.commit_costs.specs.Costs.{cost_from}
 
 -- <v:int64>[i=0:3,2,overlap]
 abbrev pub schema : ℕ → Schema
@@ -77,14 +77,6 @@ pub record CommitsCostTheirPages : Type 0 where
 -- a record, its removal a record
 abbrev pub WorkedIsLegal : Type 0
 WorkedIsLegal = IsLegal (cost_from (Some 0)) [] worked_base worked_on
-
--- how many commits a history has
-abbrev pub commits : History → ℕ
-commits [] = 0
-commits (Commit session change used ∷ before) = commits before + 1
-commits (Pin session ∷ before) = commits before
-commits (Unpin session ∷ before) = commits before
-commits (Reap ∷ before) = commits before
 
 -- each 65th commit begins a new log
 abbrev pub LogsComeRound : Type 0

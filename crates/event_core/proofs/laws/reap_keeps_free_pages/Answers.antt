@@ -1,5 +1,0 @@
-use Rattle.event_core.proofs.Free.{reap_keeps_free_pages}
-use Rattle.event_core.proofs.laws.reap_keeps_free_pages.Goals as goal
-
-pub returns : goal.returns
-returns c = reap_keeps_free_pages

@@ -1,0 +1,11 @@
+pub mod Agree
+pub mod Apart
+pub mod Cells
+pub mod Conserved
+pub mod Cores
+pub mod Free
+pub mod Legal
+pub mod Pinned
+pub mod Pins
+pub mod SharedList
+pub mod WorkedList

@@ -1,0 +1,5 @@
+pub mod Cores
+pub mod Legal
+pub mod Pins
+pub mod Promises
+pub mod Shared
