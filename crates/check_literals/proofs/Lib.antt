@@ -5,4 +5,5 @@ pub mod LiteralSound
 pub mod LiteralValues
 pub mod ReadLemmas
 pub mod RowLemmas
+pub mod TextLemmas
 mod WorkedLiterals

@@ -1,27 +1,26 @@
 -- The values of tokens are within the limits.
-use Rattle.std.proofs.Common.{◌≡◌, ℕ, zero, suc, ◌-◌, ◌^◌, ◌<◌, ◌≤◌, ◌==◌, ℤ, pos, Bool, true, false, ◌&&◌, IsTrue, Option, Some, None, List, [], ◌∷◌, ◌++◌, length, map, take, drop, refl, sym, ap, subst, ◌∙◌, arith}
+use Rattle.std.proofs.Common.{◌≡◌, ℕ, zero, suc, ◌-◌, ◌≤◌, ◌==◌, ℤ, Bool, true, false, ◌&&◌, List, [], ◌∷◌, length, map, take, drop, refl, ap, ◌∙◌, arith}
 use Rattle.std.specs.Prelude.{nat_le, nat_lt, slice_range, if◌then◌else◌, neg_ℤ, cond}
-use Rattle.std.specs.List.{list_all, AllByRecursion}
+use Rattle.std.specs.List.{list_all}
 use Rattle.std.specs.Str.Parse.{digits_value}
-use Rattle.std.proofs.lemmas.Bool.{and_parts, and_from, le-leb, leb-true, lt-ltb, eqb-false}
+use Rattle.std.proofs.lemmas.Bool.{and_parts, and_from, le-leb, leb-true, lt-ltb}
 use Rattle.std.proofs.lemmas.List.{length-map}
 use Rattle.cell_values.specs.Cells.{is_of_kind}
-use Rattle.cell_values.specs.Table.{exact, negation, fits_int64}
+use Rattle.cell_values.specs.Table.{negation, fits_int64, null_of_code}
 use Rattle.cell_values.specs.declared.datum.Datum.{Datum}
-use Rattle.cell_values.specs.declared.datum.Datum.TheVariants.{Null, Missing, Int, Text, Truth, Bad}
+use Rattle.cell_values.specs.declared.datum.Datum.TheVariants.{Missing, Int, Text, Bad}
 use Rattle.cell_values.specs.declared.datum.FaultKind.TheVariants as overflow
 use Rattle.cell_values.specs.declared.schema.Kind.TheVariants.{Str}
 use Rattle.afl_lexer.specs.Lexemes.{Lexeme, Placed, a_name, a_number, a_text, a_code, a_word, a_symbol, lexeme_of, bytes_of, what_of}
 use Rattle.afl_lexer.specs.Quoted.{items, byte_of, inside, items_of, content_of}
-use Rattle.afl_lexer.specs.Tokens.{IsSpelled, IsTokenOf, Reaches, AreTokens}
+use Rattle.afl_lexer.specs.Tokens.{IsSpelled, Reaches, AreTokens}
 use Rattle.afl_lexer.specs.declared.token.Token.{Token}
 use Rattle.afl_lexer.specs.declared.token.TokenKind.{TokenKind}
 use Rattle.afl_lexer.specs.declared.token.TokenKind.TheVariants as kind
 use Rattle.afl_lexer.specs.declared.token.Word.TheVariants as word
-use Rattle.check_literals.specs.Inner.Lexed.{whats}
-use Rattle.check_literals.specs.Literals.{mark_of, null_of}
+use Rattle.check_literals.specs.Literals.{mark_of, whats}
 use Rattle.check_literals.specs.declared.literal.Mark.{Mark}
-use Rattle.check_literals.specs.declared.literal.Mark.TheVariants.{Value, Symbol, Other}
+use Rattle.check_literals.specs.declared.literal.Mark.TheVariants.{Value}
 
 -- a number of 64 bits, a text within its limit, a code of a null
 abbrev pub is_within : Datum → Bool
@@ -62,11 +61,9 @@ bytes_items (b ∷ c ∷ rest) h =
     by_test true x y = x
     by_test false x y = y
 
-code_within : (n : ℕ) (t : Bool) → (n == 0) ≡ t → n ≤ 127 → is_within (if t then Null else Missing n) ≡ true
-code_within n true e few = refl
-code_within n false e few =
-    let some : n ≡ 0 → ⊥ = eqb-false n 0 e in
-    and_from (nat_le 1 n) (nat_le n 127) (le-leb 1 n (omega (arith, some))) (le-leb n 127 few)
+code_within : (n : ℕ) → n ≤ 127 → is_within (null_of_code n) ≡ true
+code_within zero few = refl
+code_within (suc n) few = and_from (nat_le 1 (suc n)) (nat_le (suc n) 127) (le-leb 1 (suc n) (omega arith)) (le-leb (suc n) 127 few)
 
 -- a number of 64 bits, a text within its limit, a code up to 127
 abbrev pub is_lexeme_within : Lexeme → Bool
@@ -99,7 +96,7 @@ mark_within : (x : Lexeme) → is_lexeme_within x ≡ true → is_mark_within (m
 mark_within (a_name s) h = refl
 mark_within (a_number n) h = h
 mark_within (a_text s) h = h
-mark_within (a_code n) h = code_within n (n == 0) refl (leb-true n 127 h)
+mark_within (a_code n) h = code_within n (leb-true n 127 h)
 mark_within (a_word word.And) h = refl
 mark_within (a_word word.Or) h = refl
 mark_within (a_word word.Not) h = refl

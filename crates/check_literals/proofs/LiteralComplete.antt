@@ -5,7 +5,8 @@ use Rattle.afl_lexer.specs.declared.token.Symbol.TheVariants.{RightParen, RightB
 use Rattle.check_literals.specs.declared.literal.Mark.{Mark}
 use Rattle.check_literals.specs.declared.literal.Mark.TheVariants.{Symbol}
 use Rattle.check_literals.specs.declared.literal.Place.TheVariants.{Start, First, Next, Opened, Further, Valued, Ended}
-use Rattle.check_literals.specs.Literals.{SpellsValue, SpellsValues, SpellsElement, SpellsElements, SpellsLiteral, begun, read_marks}
+use Rattle.check_literals.specs.Literals.{SpellsValue, SpellsValues, SpellsElement, SpellsElements, SpellsLiteral}
+use Rattle.check_literals.specs.Inner.Reader.{begun, read_marks}
 
 module _ (bare : Bool) (es : List (List Datum)) where
   read_value : (vs : List Datum) (v : Datum) (xs zs : List Mark) → SpellsValue v xs zs → read_marks bare xs (begun es (Further vs)) ≡ read_marks bare zs (begun es (Valued (vs ++ v ∷ [])))

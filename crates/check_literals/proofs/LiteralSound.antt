@@ -8,7 +8,8 @@ use Rattle.check_literals.specs.declared.literal.Mark.{Mark}
 use Rattle.check_literals.specs.declared.literal.Mark.TheVariants.{Value, Symbol}
 use Rattle.check_literals.specs.declared.literal.Place.{Place}
 use Rattle.check_literals.specs.declared.literal.Place.TheVariants.{Start, First, Next, Negative, Opened, Further, Signed, Valued, Ended, Closed}
-use Rattle.check_literals.specs.Literals.{SpellsValue, SpellsValues, SpellsElement, SpellsElements, SpellsLiteral, begun, read_marks}
+use Rattle.check_literals.specs.Literals.{SpellsValue, SpellsValues, SpellsElement, SpellsElements, SpellsLiteral}
+use Rattle.check_literals.specs.Inner.Reader.{begun, read_marks}
 
 -- the marks behind an element are those of further ones
 abbrev After : Bool → List (List Datum) → List Mark → Type 0

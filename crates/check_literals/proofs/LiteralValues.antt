@@ -1,20 +1,20 @@
 -- The values of a literal are within the limits.
-use Rattle.std.proofs.Common.{◌≡◌, ℕ, ◌≤◌, ℤ, Bool, true, false, ◌&&◌, Option, Some, None, IfSome, List, [], ◌∷◌, ◌++◌, length, map, refl, sym, ap, subst, ◌∙◌}
+use Rattle.std.proofs.Common.{◌≡◌, ℕ, Bool, true, false, ◌&&◌, Option, Some, None, IfSome, List, [], ◌∷◌, ◌++◌, length, map, refl, ap, ◌∙◌}
 use Rattle.std.specs.Prelude.{nat_le, if◌then◌else◌}
 use Rattle.std.specs.List.{list_all}
 use Rattle.std.proofs.lemmas.Bool.{and_parts, and_from}
 use Rattle.std.proofs.lemmas.List.Folds.{list_all-append}
 use Rattle.cell_values.specs.declared.datum.Datum.{Datum}
-use Rattle.cell_values.specs.declared.datum.Datum.TheVariants.{Null, Missing, Int, Text, Truth, Bad}
+use Rattle.cell_values.specs.declared.datum.Datum.TheVariants.{Int}
 use Rattle.cell_values.specs.Table.{negation}
 use Rattle.afl_lexer.specs.declared.token.Token.{Token}
-use Rattle.afl_lexer.specs.declared.token.Symbol.{Symbol as ASymbol}
 use Rattle.afl_lexer.specs.declared.token.Symbol.TheVariants.{LeftParen, RightParen, LeftBracket, RightBracket, Comma, Minus}
 use Rattle.afl_lexer.specs.Tokens.{AreTokens}
-use Rattle.check_literals.specs.Inner.Lexed.{whats, tokens_of}
-use Rattle.check_literals.specs.Literals.{mark_of, begun, with_element, with_bare, with_value, before_element, before_value, behind_value, behind_element, signed_value, negative_element, negative_value, turn_at, turn, finished, read_next, read_marks, spelled, spelled_by, elements_of}
+use Rattle.check_literals.specs.Literals.{mark_of, whats}
+use Rattle.check_literals.specs.Inner.Reader.{begun, with_element, with_bare, with_value, before_element, before_value, behind_value, behind_element, signed_value, negative_element, negative_value, turn_at, turn, finished, read_next, read_marks, spelled_by, elements_of}
+use Rattle.check_literals.specs.Inner.Lexed.{tokens_of}
 use Rattle.check_literals.specs.declared.literal.Mark.{Mark}
-use Rattle.check_literals.specs.declared.literal.Mark.TheVariants.{Value, Symbol, Other}
+use Rattle.check_literals.specs.declared.literal.Mark.TheVariants.{Value, Symbol}
 use Rattle.check_literals.specs.declared.literal.Place.{Place}
 use Rattle.check_literals.specs.declared.literal.Place.TheVariants.{Start, First, Next, Negative, Opened, Further, Signed, Valued, Ended, Closed}
 use Rattle.check_literals.specs.declared.literal.Begun.{Begun}

@@ -4,8 +4,8 @@ use Rattle.std.proofs.Math.Seq.{drop-cons}
 use Rattle.cell_values.specs.declared.datum.Datum.{Datum}
 use Rattle.afl_lexer.specs.declared.token.Token.{Token}
 use Rattle.afl_lexer.specs.Lexemes.{lexeme_of}
-use Rattle.check_literals.specs.Inner.Lexed.{whats}
-use Rattle.check_literals.specs.Literals.{mark_of, turn, read_next, read_marks}
+use Rattle.check_literals.specs.Literals.{mark_of, whats}
+use Rattle.check_literals.specs.Inner.Reader.{turn, read_next, read_marks}
 use Rattle.check_literals.specs.declared.literal.Begun.{Begun}
 
 -- the elements that the tokens from one place on spell, with what is read before

@@ -3,12 +3,18 @@ use Rattle.std.proofs.Common.{◌≡◌, pos, negsuc, true, false, Some, None, [
 use Rattle.std.specs.Prelude.{codes}
 use Rattle.cell_values.specs.declared.datum.Datum.TheVariants.{Null, Missing, Int, Text, Truth}
 use Rattle.afl_lexer.specs.Scan.{reading_of, word_reading, number_reading, code_reading, content_reading, text_reading, symbol_reading}
-use Rattle.check_literals.specs.Literals.{elements_of}
+use Rattle.check_literals.specs.Inner.Reader.{elements_of}
+use Rattle.check_literals.specs.Literals.{SpellsElementsOf}
+use Rattle.check_literals.proofs.TextLemmas.{texts_are_read}
 
 -- an element for each place, one of them without a value
 each_place : elements_of true (codes "[(1),(),(null),(5), 2]") ≡ Some ((Int (pos 1) ∷ []) ∷ [] ∷ (Null ∷ []) ∷ (Int (pos 5) ∷ []) ∷ (Int (pos 2) ∷ []) ∷ [])
 unfolding reading_of word_reading number_reading symbol_reading
 each_place = refl
+
+-- so the grammar spells them in the text
+each_spelled : SpellsElementsOf true (codes "[(1),(),(null),(5), 2]") ((Int (pos 1) ∷ []) ∷ [] ∷ (Null ∷ []) ∷ (Int (pos 5) ∷ []) ∷ (Int (pos 2) ∷ []) ∷ [])
+each_spelled = (texts_are_read true (codes "[(1),(),(null),(5), 2]") ((Int (pos 1) ∷ []) ∷ [] ∷ (Null ∷ []) ∷ (Int (pos 5) ∷ []) ∷ (Int (pos 2) ∷ []) ∷ [])).0 each_place
 
 several_values : elements_of false (codes "[(-1,true,?7), (?0 , false,'a')]") ≡ Some ((Int (negsuc 0) ∷ Truth true ∷ Missing 7 ∷ []) ∷ (Null ∷ Truth false ∷ Text (97 ∷ []) ∷ []) ∷ [])
 unfolding reading_of word_reading number_reading code_reading content_reading text_reading symbol_reading

@@ -2,7 +2,7 @@
 --
 -- An element without values leaves its place empty. Each other has one value for each attribute, of its kind, and a null only where the
 -- attribute may be null. No element lies behind the high bound.
-use Rattle.std.specs.Prelude.{ℕ, ℤ, pos, ◌+ℤ◌, int_le, Bool, true, false, ◌&&◌, ◌==◌, if◌then◌else◌, Option, Some, None, List, [], ◌∷◌, length}
+use Rattle.std.specs.Prelude.{◌≡◌, ◌↔◌, ℕ, ℤ, pos, ◌+ℤ◌, int_le, Bool, true, false, ◌&&◌, ◌==◌, if◌then◌else◌, Option, Some, None, List, [], ◌∷◌, length}
 use Rattle.cell_values.specs.Nulls.{is_null}
 use Rattle.cell_values.specs.declared.datum.Datum.{Datum}
 use Rattle.cell_values.specs.declared.datum.Datum.TheVariants.{Int, Text, Truth}
@@ -13,7 +13,8 @@ use Rattle.cell_values.specs.declared.schema.Kind.TheVariants.{Int64, Str, Bool 
 use Rattle.cell_values.specs.declared.schema.Attribute.{Attribute}
 use Rattle.cell_values.specs.declared.schema.Dimension.{Dimension}
 use Rattle.array_rows.specs.Rows.{placed}
-use Rattle.check_literals.specs.Literals.{elements_of}
+use Rattle.check_literals.specs.Inner.Reader.{elements_of}
+use Rattle.check_literals.specs.Literals.{SpellsElementsOf}
 
 -- a value that is not null is of the kind
 abbrev pub is_value_of : Kind → Datum → Bool
@@ -51,6 +52,16 @@ abbrev pub rows_of : List Attribute → Dimension → Option (List (List Datum))
 rows_of attributes d (Some elements) = rows_from attributes d.hi d.lo elements
 rows_of attributes d None = None
 
+-- a text spells rows where it spells elements that fit at their places. Only with one attribute may an element stand without brackets
+pub record SpellsRows (attributes : List Attribute) (d : Dimension) (text : List ℕ) (rows : List Row) : Type 0 where
+  pub elements : List (List Datum)
+  pub spelled : SpellsElementsOf (length attributes == 1) text elements
+  pub fit : rows_from attributes d.hi d.lo elements ≡ Some rows
+
 -- the rows that a text spells, or none where it is a bad literal
 abbrev pub literal_rows : List Attribute → Dimension → List ℕ → Option (List Row)
 literal_rows attributes d text = rows_of attributes d (elements_of (length attributes == 1) text)
+
+-- what is read is the rows that the text spells, and none where it spells none
+abbrev pub AreSpelled : List Attribute → Dimension → List ℕ → Option (List Row) → Type 0
+AreSpelled attributes d text read = (rows : List Row) → (read ≡ Some rows) ↔ SpellsRows attributes d text rows

@@ -1,6 +1,6 @@
 //! The rows of a literal.
 ghost use Rattle.std.specs.Prelude.{◌≡◌, ◌≤ℤ◌, pos, IfOk};
-ghost use Rattle.check_literals.specs.LiteralRows.{is_value_of, fits_attribute, fit_attributes, fits_element, rows_from, literal_rows};
+ghost use Rattle.check_literals.specs.LiteralRows.{is_value_of, fits_attribute, fit_attributes, fits_element, rows_from, literal_rows, AreSpelled};
 
 use crate::literal::elements_of;
 use cell_values::{Attribute, Cell, Datum, Dimension, Kind, List, Memory, Row, coord_of};
@@ -84,7 +84,8 @@ pub fn literal_rows(
     text: &[u8],
 ) -> Result<Option<List<Row>>, Memory>
     requires { dimension.now.hi ≤ℤ pos 4611686018427387903 }
-    ensures { IfOk result (λ rows. rows ≡ literal_rows attributes.now dimension.now text.now) }
+    ensures value { IfOk result (λ read. read ≡ literal_rows attributes.now dimension.now text.now) }
+    ensures spelled { IfOk result (AreSpelled attributes.now dimension.now text.now) }
 {
     match elements_of(alloc, attributes.len() == 1, text)? {
         Some(elements) => rows_of(attributes, dimension, &elements),

@@ -1,9 +1,7 @@
-pub mod ChangedDatabases
 pub mod DatabasePlans
 pub mod GroupedRows
 mod Held
 pub mod KeptPlaces
-pub mod LegalDatabases
 pub mod PlanArrays
 pub mod RedimensionedRows
 mod Worked

@@ -15,14 +15,13 @@ use Rattle.logical_plan.specs.CellOps.{filter_rows, apply_rows, project_rows}
 use Rattle.logical_plan.specs.Faults.{if_whole, and_then}
 use Rattle.logical_plan.specs.Groups.{aggregate_rows, regrid_rows, window_rows}
 use Rattle.logical_plan.specs.Joins.{join_rows, cross_rows}
-use Rattle.logical_plan.specs.Laws.{HasLeaves}
 use Rattle.logical_plan.specs.Leaves.{leaves}
 use Rattle.logical_plan.specs.Meaning.{Database, meaning, version_rows}
 use Rattle.logical_plan.specs.PlanSchema.{schema_of, subarray_schema, regrid_schema, in_blocks, group_dimensions}
 use Rattle.logical_plan.specs.Query.{Query, built, listed, scanned, filtered, applied, projected, between, subarray, sliced, joined, crossed, redimensioned, regridded, windowed, aggregated}
 use Rattle.logical_plan.specs.Redimension.{redimension_rows}
 use Rattle.logical_plan.specs.Typing.{IsTyped, are_blocks_of, are_windows_of, are_aggregates_of, are_below, redimensions}
-use Rattle.logical_plan.proofs.ArrayLaws.{typed_arrays}
+use Rattle.logical_plan.proofs.ArrayLaws.{HasLeaves, typed_arrays}
 use Rattle.logical_plan.proofs.SchemaLaws.{meaning_schema}
 use Rattle.exec_box.proofs.PartLaws.{subarrays_are_arrays}
 use Rattle.exec_box.proofs.SliceLaws.{slices_are_arrays}

@@ -1,5 +1,5 @@
 -- When numbers of cells fit.
-use Rattle.std.specs.Prelude.{◌<◌, Bool, true, false, ◌&&◌, List, [], ◌∷◌, length, Result, IfOk}
+use Rattle.std.specs.Prelude.{◌<◌, List, [], ◌∷◌, length, Result, IfOk}
 use Rattle.cell_values.specs.declared.datum.Broken.{Broken}
 use Rattle.cell_values.specs.declared.datum.Row.{Row}
 use Rattle.logical_plan.specs.declared.parts.Aggregate.{Aggregate}
@@ -28,22 +28,3 @@ CountsFit db (redimensioned source schema gs) = CountsFit db source × CanCount 
 CountsFit db (regridded source sizes gs) = CountsFit db source × CanCount gs (meaning db source).rows
 CountsFit db (windowed source reach gs) = CountsFit db source × CanCount gs (meaning db source).rows
 CountsFit db (aggregated source gs places) = CountsFit db source × CanCount gs (meaning db source).rows
-
--- a plan without aggregates: blocks, windows and groups have some, and a redimension may have some
-abbrev pub aggregates_nothing : Query → Bool
-aggregates_nothing (built schema e) = true
-aggregates_nothing (listed schema rows) = true
-aggregates_nothing (scanned leaf) = true
-aggregates_nothing (filtered source test) = aggregates_nothing source
-aggregates_nothing (applied source values) = aggregates_nothing source
-aggregates_nothing (projected source places) = aggregates_nothing source
-aggregates_nothing (between source area) = aggregates_nothing source
-aggregates_nothing (subarray source area) = aggregates_nothing source
-aggregates_nothing (sliced source fixed) = aggregates_nothing source
-aggregates_nothing (joined left right schema) = aggregates_nothing left && aggregates_nothing right
-aggregates_nothing (crossed left right pairs schema) = aggregates_nothing left && aggregates_nothing right
-aggregates_nothing (redimensioned source schema []) = aggregates_nothing source
-aggregates_nothing (redimensioned source schema (g ∷ gs)) = false
-aggregates_nothing (regridded source sizes gs) = false
-aggregates_nothing (windowed source reach gs) = false
-aggregates_nothing (aggregated source gs places) = false

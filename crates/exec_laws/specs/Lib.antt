@@ -1,4 +1,3 @@
-pub mod Commits
 pub mod Computed
 pub mod Counts
 pub mod Laws

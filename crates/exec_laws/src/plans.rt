@@ -1,8 +1,5 @@
-//! Laws of plans and changes over databases: what typed plans mean are arrays, and databases stay databases.
+//! Laws of plans over databases: what typed plans mean are arrays.
 
 mod laws;
 
-pub use laws::{
-    legal_histories_keep_databases, plans_without_aggregates_mean_arrays,
-    typed_changes_keep_databases, typed_plans_mean_arrays,
-};
+pub use laws::typed_plans_mean_arrays;

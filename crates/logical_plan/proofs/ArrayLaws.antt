@@ -32,9 +32,9 @@ use Rattle.logical_plan.specs.declared.parts.Applied.{Applied}
 use Rattle.logical_plan.specs.BoxOps.{items_at}
 use Rattle.logical_plan.specs.CellOps.{kept, filter_cell, filter_rows, apply_cell, apply_rows, project_cell, project_rows, fit_value, fit_values, fit_cell}
 use Rattle.logical_plan.specs.Faults.{if_whole}
-use Rattle.logical_plan.specs.Laws.{HasLeaves, keeps_places}
+use Rattle.logical_plan.specs.declared.parts.Leaf.{Leaf}
 use Rattle.logical_plan.specs.Leaves.{leaves}
-use Rattle.logical_plan.specs.Meaning.{Database, meaning, built_rows, coordinates}
+use Rattle.logical_plan.specs.Meaning.{Database, meaning, version_rows, built_rows, coordinates}
 use Rattle.logical_plan.specs.PlanSchema.{schema_of, derived, apply_schema, project_schema}
 use Rattle.logical_plan.specs.Query.{Query, built, listed, scanned, filtered, applied, projected, between, subarray, sliced, joined, crossed, redimensioned, regridded, windowed, aggregated}
 use Rattle.logical_plan.specs.Typing.{IsTyped, is_bounded, places_in, fits_one, fits_apply, is_over, is_null_alone, kinds_of, builds, are_below}
@@ -269,6 +269,21 @@ projected_array source places b v rows a = record {
 whole_follows : (P Q : List Row → Type 0) (f : List Row → List Row) → ((rows : List Row) → P rows → Q (f rows)) → (r : Result (List Row) Broken) → IfOk r P → IfOk (if_whole f r) Q
 whole_follows P Q f h (Ok rows) p = h rows p
 whole_follows P Q f h (Err broken) p = p
+
+-- each leaf stands for an array of its schema
+abbrev pub HasLeaves : Database → List Leaf → Type 0
+HasLeaves db = AllByRecursion (λ leaf. AreRowsOf leaf.schema (version_rows db leaf.name leaf.version))
+
+-- builds, literals and scans, filtered, cut to boxes, and with more or fewer attributes
+abbrev pub keeps_places : Query → Bool
+keeps_places (built schema e) = true
+keeps_places (listed schema rows) = true
+keeps_places (scanned leaf) = true
+keeps_places (filtered source test) = keeps_places source
+keeps_places (applied source values) = keeps_places source
+keeps_places (projected source places) = keeps_places source
+keeps_places (between source area) = keeps_places source
+keeps_places query = false
 
 pub typed_arrays : (db : Database) (query : Query) → keeps_places query ≡ true → IsTyped query → HasLeaves db (leaves query) → IfOk (meaning db query).rows (AreRowsOf (schema_of query))
 typed_arrays db (built schema e) k t l = built_array schema e t.0 t.1

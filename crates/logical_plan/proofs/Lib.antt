@@ -2,6 +2,7 @@ pub mod ArrayLaws
 pub mod BuiltRows
 pub mod Items
 pub mod LeafMeanings
+pub mod OrderLaws
 mod Samples
 pub mod SchemaLaws
 mod Worked

@@ -1,13 +1,13 @@
 -- Aggregates of lists of cells, and the operators that form such lists.
-use Rattle.std.specs.Prelude.{ℕ, ◌/◌, ℤ, pos, ◌+ℤ◌, ◌-ℤ◌, unsigned_abs, Bool, not, if◌then◌else◌, List, [], ◌∷◌, map, filter, length, slice_index_or, Option, Some, None}
+use Rattle.std.specs.Prelude.{ℕ, ◌+◌, ◌/◌, ℤ, pos, ◌+ℤ◌, ◌-ℤ◌, unsigned_abs, Bool, not, if◌then◌else◌, List, [], ◌∷◌, map, filter, length, slice_index_or, Option, Some, None}
 use Rattle.std.specs.Option.{option_or}
-use Rattle.std.specs.Ordering.{is_eq, is_lt, nat_cmp, int_cmp}
+use Rattle.std.specs.Ordering.{is_eq, is_lt, nat_cmp, int_cmp, bool_cmp, on, then_cmp}
 use Rattle.std.specs.declared.cmp.Ordering.{Ordering}
-use Rattle.std.specs.declared.cmp.Ordering.TheVariants.{Equal}
 use Rattle.std.specs.Cmp.Lexicographic.{slice_cmp}
 use Rattle.cell_values.specs.declared.datum.FaultKind.{FaultKind}
+use Rattle.cell_values.specs.declared.datum.FaultKind.TheVariants.{Overflow, DivideByZero, OutOfBounds, Collision, NullInNotNull}
 use Rattle.cell_values.specs.declared.datum.Datum.{Datum}
-use Rattle.cell_values.specs.declared.datum.Datum.TheVariants.{Null, Int, Text, Bad}
+use Rattle.cell_values.specs.declared.datum.Datum.TheVariants.{Null, Missing, Int, Text, Truth, Bad}
 use Rattle.cell_values.specs.declared.datum.Cell.{Cell}
 use Rattle.cell_values.specs.declared.datum.Cell.TheVariants.{Full, Doubt}
 use Rattle.cell_values.specs.declared.datum.Row.{Row}
@@ -45,11 +45,33 @@ abbrev pub first_some : {A B : Type 0} → (A → Option B) → List A → Optio
 first_some f [] = None
 first_some f (x ∷ xs) = option_or (f x) (first_some f xs)
 
--- the order of values of one type: numbers by size, texts by their bytes
+-- the place of what a value is among nulls, numbers, texts, truths and faults
+abbrev pub sort_place : Datum → ℕ
+sort_place (Int n) = 1
+sort_place (Text s) = 2
+sort_place (Truth b) = 3
+sort_place (Bad kind) = 4
+sort_place v = 0
+
+abbrev pub kind_place : FaultKind → ℕ
+kind_place Overflow = 0
+kind_place DivideByZero = 1
+kind_place OutOfBounds = 2
+kind_place Collision = 3
+kind_place NullInNotNull = 4
+
+-- the place of a null among nulls, first the one without a reason, and of a fault among faults
+abbrev pub code_place : Datum → ℕ
+code_place (Missing code) = code + 1
+code_place (Bad kind) = kind_place kind
+code_place v = 0
+
+-- the order of all values: nulls by their codes, then numbers by size, texts by their bytes, false before true, and faults by kind
 abbrev pub datum_cmp : Datum → Datum → Ordering
 datum_cmp (Int x) (Int y) = int_cmp x y
 datum_cmp (Text s) (Text t) = slice_cmp nat_cmp s t
-datum_cmp v w = Equal
+datum_cmp (Truth a) (Truth b) = bool_cmp a b
+datum_cmp v w = then_cmp (on sort_place nat_cmp) (on code_place nat_cmp) v w
 
 abbrev pub number_of : Datum → ℤ
 number_of (Int n) = n

@@ -1,13 +1,13 @@
 -- Laws of plans.
-use Rattle.std.specs.Prelude.{◌≡◌, Bool, true, false, List, IfOk, IsTrue}
-use Rattle.std.specs.List.{AllByRecursion}
+use Rattle.std.specs.Prelude.{◌≡◌}
+use Rattle.std.specs.Cmp.{IsTotalOrder}
+use Rattle.std.specs.declared.cmp.Ordering.TheVariants.{Equal}
+use Rattle.cell_values.specs.declared.datum.Datum.{Datum}
 use Rattle.cell_values.specs.Schemas.{IsValid}
-use Rattle.array_rows.specs.Arrays.{AreRowsOf}
-use Rattle.logical_plan.specs.declared.parts.Leaf.{Leaf}
-use Rattle.logical_plan.specs.Leaves.{leaves}
-use Rattle.logical_plan.specs.Meaning.{Database, meaning, version_rows}
+use Rattle.logical_plan.specs.Groups.{datum_cmp}
+use Rattle.logical_plan.specs.Meaning.{Database, meaning}
 use Rattle.logical_plan.specs.PlanSchema.{schema_of}
-use Rattle.logical_plan.specs.Query.{Query, built, listed, scanned, filtered, applied, projected, between}
+use Rattle.logical_plan.specs.Query.{Query}
 use Rattle.logical_plan.specs.Typing.{IsTyped}
 
 -- the array that a plan means has the plan's schema
@@ -18,23 +18,6 @@ MeaningHasSchema = (db : Database) (query : Query) → (meaning db query).schema
 abbrev pub TypedPlansHaveValidSchemas : Type 0
 TypedPlansHaveValidSchemas = (query : Query) → IsTyped query → IsValid (schema_of query)
 
--- ---- the cells of a typed plan are those of an array of its schema
-
--- each leaf stands for an array of its schema
-abbrev pub HasLeaves : Database → List Leaf → Type 0
-HasLeaves db = AllByRecursion (λ leaf. AreRowsOf leaf.schema (version_rows db leaf.name leaf.version))
-
--- builds, literals and scans, filtered, cut to boxes, and with more or fewer attributes
-abbrev pub keeps_places : Query → Bool
-keeps_places (built schema e) = true
-keeps_places (listed schema rows) = true
-keeps_places (scanned leaf) = true
-keeps_places (filtered source test) = keeps_places source
-keeps_places (applied source values) = keeps_places source
-keeps_places (projected source places) = keeps_places source
-keeps_places (between source area) = keeps_places source
-keeps_places query = false
-
-abbrev pub TypedPlansMeanArrays : Type 0
-TypedPlansMeanArrays = (db : Database) (query : Query) → IsTrue (keeps_places query) → IsTyped query → HasLeaves db (leaves query)
-    → IfOk (meaning db query).rows (AreRowsOf (schema_of query))
+-- values have one order, in which no two are equal
+abbrev pub ValuesAreOrdered : Type 0
+ValuesAreOrdered = IsTotalOrder datum_cmp × ((v w : Datum) → datum_cmp v w ≡ Equal → v ≡ w)

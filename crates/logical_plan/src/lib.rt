@@ -14,7 +14,7 @@ mod plan;
 mod schema;
 
 pub use expr_nulls::{ArithOp, ExprNode, TypedExpr};
-pub use laws::{plans_mean_arrays_of_their_schema, typed_plans_mean_arrays};
+pub use laws::{plans_mean_arrays_of_their_schema, values_are_ordered};
 pub use leaves::reads;
 pub use meaning::meaning_reads_leaves;
 pub use names::{NameEntry, Names};

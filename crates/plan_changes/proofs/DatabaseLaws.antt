@@ -28,15 +28,15 @@ use Rattle.logical_plan.specs.Meaning.{meaning, version_rows}
 use Rattle.logical_plan.specs.PlanSchema.{schema_of}
 use Rattle.logical_plan.specs.Query.{Query}
 use Rattle.logical_plan.specs.Typing.{same_bounds, is_sound, AreSound}
-use Rattle.logical_plan.proofs.ArrayLaws.{typed_arrays}
+use Rattle.logical_plan.proofs.ArrayLaws.{keeps_places, typed_arrays}
 use Rattle.plan_changes.specs.declared.change.Change.{Change}
 use Rattle.plan_changes.specs.declared.change.Change.TheVariants.{Create, Store, Insert, Remove, RemoveVersions}
 use Rattle.plan_changes.specs.Allowed.{has_room, has_number}
 use Rattle.plan_changes.specs.Changes.{is_named, has_array, entry_named}
 use Rattle.plan_changes.specs.Databases.{Version, Stored, Database, entry_of, names_of, is_array, rows_or, rows_in, rows_of, newest_in, newest_rows, fitted, fault_of_change, rows_if_whole, new_rows, has_stored, with_stored, with_absent_stored, with_rows, from_version, after}
 use Rattle.plan_changes.specs.Stored.{is_before, NamesRise, IsStored, AreStored, IsDatabase}
-use Rattle.plan_changes.specs.Typed.{same_kinds, IsVersionOf, FitsInto, IsTypedFor}
-use Rattle.plan_changes.specs.Kept.{StoresArray, PlansMeanArrays, ChangesKeepDatabases}
+use Rattle.plan_changes.specs.Typed.{same_kinds, IsVersionOf, IsTypedOver, FitsInto, IsTypedFor}
+use Rattle.plan_changes.specs.Kept.{MeansArray, StoresArray, ChangesKeepDatabases}
 use Rattle.plan_changes.proofs.FitLaws.{mapped, bounds_alike, kinds_alike, fit_array, fit_sound}
 use Rattle.plan_changes.proofs.NamesOf.{names_depend_on_no_row}
 use Rattle.plan_changes.proofs.StoredLaws.{RiseAfter, names_in, after_next, tail_rises, all_inserted, all_less, changes_keep_names}
@@ -185,7 +185,8 @@ found_rows name schema k valid (a ∷ db) holds same = by_test (is_array name a)
 
 -- ---- plans over a database
 
-leaf_rows : (db : Database) → IsDatabase db → (leaf : Leaf) → IsVersionOf leaf (entry_named (map entry_of db) leaf.name) → AreRowsOf leaf.schema (version_rows (rows_of db) leaf.name leaf.version)
+-- a version that a plan reads is an array
+pub leaf_rows : (db : Database) → IsDatabase db → (leaf : Leaf) → IsVersionOf leaf (entry_named (map entry_of db) leaf.name) → AreRowsOf leaf.schema (version_rows (rows_of db) leaf.name leaf.version)
 leaf_rows db is leaf v = by_found (find (is_named leaf.name) (map entry_of db)) refl v
   where
     by_number : IsValid leaf.schema → AllByRecursion (HasSchema leaf.name leaf.schema) db → (k : ℕ) → AreRowsOf leaf.schema (version_rows (rows_of db) leaf.name k)
@@ -197,7 +198,7 @@ leaf_rows db is leaf v = by_found (find (is_named leaf.name) (map entry_of db)) 
     by_found (Some entry) e f =
         by_number (subst IsValid (sym f.0) (found_stored leaf.name entry (map entry_of db) is.names.each e).schema) (found_schema leaf.name leaf.schema entry db f.0 is.names.rising e) leaf.version
 
-pub plans_mean_arrays : PlansMeanArrays
+pub plans_mean_arrays : (plan : Query) → keeps_places plan ≡ true → (db : Database) → IsDatabase db → IsTypedOver (names_of db) plan → MeansArray db plan
 plans_mean_arrays plan keeps db is typed =
     typed_arrays (rows_of db) plan keeps typed.typed
     (weaker (λ leaf. IsVersionOf leaf (entry_named (map entry_of db) leaf.name)) (λ leaf. AreRowsOf leaf.schema (version_rows (rows_of db) leaf.name leaf.version)) (leaf_rows db is) (leaves plan) typed.reads)

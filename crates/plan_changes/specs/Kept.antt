@@ -1,7 +1,6 @@
 -- Databases stay databases.
-use Rattle.std.specs.Prelude.{◌≡◌, None, IfOk, IsTrue}
+use Rattle.std.specs.Prelude.{◌≡◌, None, IfOk}
 use Rattle.array_rows.specs.Arrays.{AreRowsOf}
-use Rattle.logical_plan.specs.Laws.{keeps_places}
 use Rattle.logical_plan.specs.Meaning.{meaning}
 use Rattle.logical_plan.specs.PlanSchema.{schema_of}
 use Rattle.logical_plan.specs.Query.{Query}
@@ -9,15 +8,11 @@ use Rattle.plan_changes.specs.declared.change.Change.{Change}
 use Rattle.plan_changes.specs.declared.change.Change.TheVariants.{Create, Store, Insert, Remove, RemoveVersions}
 use Rattle.plan_changes.specs.Databases.{Database, rows_of, names_of, fault_of_change, after}
 use Rattle.plan_changes.specs.Stored.{IsDatabase, HasItsNames}
-use Rattle.plan_changes.specs.Typed.{IsTypedOver, IsTypedFor}
+use Rattle.plan_changes.specs.Typed.{IsTypedFor}
 
 -- over a database a plan means an array of its schema, where it is not broken
 abbrev pub MeansArray : Database → Query → Type 0
 MeansArray db plan = IfOk (meaning (rows_of db) plan).rows (AreRowsOf (schema_of plan))
-
--- over each database that it is typed for
-abbrev pub MeansArrays : Query → Type 0
-MeansArrays plan = (db : Database) → IsDatabase db → IsTypedOver (names_of db) plan → MeansArray db plan
 
 -- so does the plan of a change over the database before it
 abbrev pub StoresArray : Database → Change → Type 0
@@ -26,10 +21,6 @@ StoresArray db (Store name schema plan) = MeansArray db plan
 StoresArray db (Insert name schema plan) = MeansArray db plan
 StoresArray db (Remove name) = Unit {0}
 StoresArray db (RemoveVersions name below) = Unit {0}
-
--- so does a plan of builds, literals and scans, filtered, cut to boxes, and with more or fewer attributes
-abbrev pub PlansMeanArrays : Type 0
-PlansMeanArrays = (plan : Query) → IsTrue (keeps_places plan) → MeansArrays plan
 
 -- a typed change without fault leaves a database
 abbrev pub ChangesKeepDatabases : Type 0

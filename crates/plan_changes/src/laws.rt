@@ -1,6 +1,6 @@
 //! Laws of changes.
 ghost use Rattle.plan_changes.specs.Databases.{NamesDependOnNoRow};
-ghost use Rattle.plan_changes.specs.Kept.{ChangesKeepDatabases, PlansMeanArrays};
+ghost use Rattle.plan_changes.specs.Kept.{ChangesKeepDatabases};
 ghost use Rattle.plan_changes.specs.Stored.{ChangesKeepNames};
 
 /// The names after a change are told by the names before it: they depend on no row.
@@ -11,12 +11,6 @@ pub fn names_depend_on_no_row()
 /// A change that the names allow leaves names that rise, numbers that rise, and no more arrays than may stand.
 pub fn changes_keep_names()
     ensures { ChangesKeepNames }
-{}
-
-/// A plan of builds, literals and scans, filtered, cut to boxes, and with more or fewer attributes, means an array of its schema
-/// over each database that it is typed for.
-pub fn plans_mean_arrays()
-    ensures { PlansMeanArrays }
 {}
 
 /// A typed change without fault, of a plan that means an array of its schema over the database, leaves a database.

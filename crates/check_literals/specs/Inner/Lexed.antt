@@ -1,16 +1,11 @@
 -- The tokens of a text as one value.
-use Rattle.std.specs.Prelude.{ℕ, zero, suc, ◌+◌, ◌==◌, if◌then◌else◌, Option, Some, None, List, [], ◌∷◌, length, drop, map}
+use Rattle.std.specs.Prelude.{ℕ, zero, suc, ◌+◌, ◌==◌, if◌then◌else◌, Option, Some, None, List, [], ◌∷◌, length, drop}
 use Rattle.std.specs.Option.{option_map}
-use Rattle.afl_lexer.specs.Lexemes.{Lexeme, lexeme_of}
 use Rattle.afl_lexer.specs.Scan.{gap_len, reading_of}
 use Rattle.afl_lexer.specs.declared.token.Token.{Token}
 use Rattle.afl_lexer.specs.declared.token.TokenKind.{TokenKind}
 use Rattle.afl_lexer.specs.declared.reading.Reading.{Reading}
 use Rattle.afl_lexer.specs.declared.reading.Reading.TheVariants.{Found, Wrong}
-
--- what tokens say
-abbrev pub whats : List ℕ → List Token → List Lexeme
-whats text tokens = map (λ token. (lexeme_of text token).what) tokens
 
 abbrev pub token_from : TokenKind → ℕ → ℕ → Token
 token_from kind start end = record { kind = kind; span = record { start = start; end = end } }

@@ -1,21 +1,18 @@
 use Rattle.std.proofs.Common.{◌≡◌, ◌≤◌, ℕ, Bool, List, length, Option, Some, None, IfOk, sym, ap, ◌∙◌, subst}
-use Rattle.std.proofs.lemmas.Bool.{le-leb}
-use Rattle.std.specs.Prelude.{if◌then◌else◌}
 use Rattle.cell_values.specs.declared.datum.Datum.{Datum}
 use Rattle.afl_lexer.specs.declared.token.Token.{Token}
-use Rattle.check_literals.specs.Inner.Lexed.{tokens_of, whats}
-use Rattle.check_literals.specs.Literals.{spelled, spelled_by, elements_of}
+use Rattle.check_literals.specs.Literals.{whats}
+use Rattle.check_literals.specs.Inner.Reader.{spelled, spelled_by, elements_of}
+use Rattle.check_literals.specs.Inner.Lexed.{tokens_of}
 use Rattle.check_literals.proofs.LexedLemmas.{tokens_are, tokens_stop}
+use Rattle.check_literals.proofs.TextLemmas.{few_elements}
 use Rattle.check_literals.proofs.literal.elements_of.Goals as goal
 
-short : (bare : Bool) (text : List ℕ) → length text ≤ 65535 → elements_of bare text ≡ spelled_by bare text (tokens_of text)
-short bare text few = ap (λ (b : Bool). if b then spelled_by bare text (tokens_of text) else None) (le-leb (length text) 65535 few)
-
 has_tokens : (bare : Bool) (text : List ℕ) (tokens : List Token) → length text ≤ 65535 → tokens_of text ≡ Some tokens → elements_of bare text ≡ spelled bare (whats text tokens)
-has_tokens bare text tokens few e = short bare text few ∙ ap (spelled_by bare text) e
+has_tokens bare text tokens few e = few_elements bare text few ∙ ap (spelled_by bare text) e
 
 has_none : (bare : Bool) (text : List ℕ) → length text ≤ 65535 → tokens_of text ≡ None → None ≡ elements_of bare text
-has_none bare text few e = sym (short bare text few ∙ ap (spelled_by bare text) e)
+has_none bare text few e = sym (few_elements bare text few ∙ ap (spelled_by bare text) e)
 
 pub returns-in-Ok : goal.returns-in-Ok
 returns-in-Ok c =

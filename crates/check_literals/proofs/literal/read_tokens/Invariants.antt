@@ -1,6 +1,6 @@
 use Rattle.std.proofs.Common.{◌≡◌, drop}
-use Rattle.check_literals.specs.Inner.Lexed.{whats}
-use Rattle.check_literals.specs.Literals.{spelled}
+use Rattle.check_literals.specs.Literals.{whats}
+use Rattle.check_literals.specs.Inner.Reader.{spelled}
 use Rattle.check_literals.proofs.ReadLemmas.{read_tokens}
 use Rattle.check_literals.proofs.literal.read_tokens.Given as goal
 
