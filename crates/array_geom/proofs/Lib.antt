@@ -5,8 +5,11 @@ pub mod LawProofs
 pub mod LinkLaws
 mod LinkWitness
 pub mod MarginLaws
+pub mod Meetings
 pub mod NearLemmas
 pub mod NumberLaws
+pub mod Pairs
 pub mod PlaceLaws
+pub mod Positions
 pub mod TestLaws
 mod Worked

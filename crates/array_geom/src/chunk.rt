@@ -5,7 +5,7 @@ use cell_columns::Cells;
 use cell_values::{Broken, ChunkAt, Copies, List, Margins, Memory, Schema, copy_numbers};
 
 /// The cells of a chunk's core and of its margins, by their rising positions in the chunk's frame.
-#[derive(Debug, Drop)]
+#[derive(Drop)]
 pub struct Chunk {
     pub at: ChunkAt,
     pub positions: List<u64>,
@@ -13,7 +13,7 @@ pub struct Chunk {
 }
 
 /// An array: its chunks by their rising numbers, or why it could not be computed.
-#[derive(Debug, Drop)]
+#[derive(Drop)]
 pub struct ChunkedArray {
     pub schema: Schema,
     pub margins: Margins,
@@ -22,7 +22,7 @@ pub struct ChunkedArray {
 }
 
 /// What a change writes: all chunks of an array, or those that it changes.
-#[derive(Debug, Drop)]
+#[derive(Drop)]
 pub struct Changed {
     pub schema: Schema,
     pub whole: bool,
@@ -34,11 +34,18 @@ impl Chunk {
     pub fn copy(&self) -> Result<Chunk, Memory>
         ensures { IfOk result (λ copy. copy ≡ self.now) }
     {
-        Ok(Chunk {
-            at: copy_numbers(&self.at),
-            positions: self.positions.copy()?,
-            cells: self.cells.copy()?,
-        })
+        let positions = self.positions.copy()?;
+        match self.cells.copy() {
+            Ok(cells) => Ok(Chunk {
+                at: copy_numbers(&self.at),
+                positions,
+                cells,
+            }),
+            Err(Memory) => {
+                drop(positions);
+                Err(Memory)
+            }
+        }
     }
 }
 
@@ -62,12 +69,20 @@ impl ChunkedArray {
     pub fn copy(&self) -> Result<ChunkedArray, Memory>
         ensures { IfOk result (λ copy. copy ≡ self.now) }
     {
-        Ok(ChunkedArray {
-            schema: self.schema.copy()?,
-            margins: copy_numbers(&self.margins),
-            chunks: self.chunks.copy()?,
-            broken: copy_broken(&self.broken)?,
-        })
+        let broken = copy_broken(&self.broken)?;
+        let schema = self.schema.copy()?;
+        match self.chunks.copy() {
+            Ok(chunks) => Ok(ChunkedArray {
+                schema,
+                margins: copy_numbers(&self.margins),
+                chunks,
+                broken,
+            }),
+            Err(Memory) => {
+                drop(schema);
+                Err(Memory)
+            }
+        }
     }
 }
 
@@ -82,11 +97,18 @@ impl Changed {
     pub fn copy(&self) -> Result<Changed, Memory>
         ensures { IfOk result (λ copy. copy ≡ self.now) }
     {
-        Ok(Changed {
-            schema: self.schema.copy()?,
-            whole: self.whole,
-            chunks: self.chunks.copy()?,
-        })
+        let schema = self.schema.copy()?;
+        match self.chunks.copy() {
+            Ok(chunks) => Ok(Changed {
+                schema,
+                whole: self.whole,
+                chunks,
+            }),
+            Err(Memory) => {
+                drop(schema);
+                Err(Memory)
+            }
+        }
     }
 }
 

@@ -10,7 +10,7 @@ use cell_values::Coord;
 pub type Lengths = ArrayVec<u64, 6>;
 
 /// A box whose coordinates have places, from 0 and in row-major order.
-#[derive(Debug, Drop)]
+#[derive(Drop)]
 pub struct Grid {
     /// Its lowest coordinate.
     pub low: Coord,

@@ -1,0 +1,42 @@
+-- The place of a coordinate, read from the front.
+use Rattle.std.proofs.Common.{◌≡◌, ◌+◌, ◌*◌, ◌-◌, ◌≤◌, ◌<◌, ℕ, ℤ, pos, ◌-ℤ◌, List, [], ◌∷◌, length, take, drop, get_or, refl, sym, ◌∙◌, ap, arith, IsTrue}
+use Rattle.std.specs.Prelude.{unsigned_abs}
+use Rattle.std.proofs.lemmas.List.{take_all}
+use Rattle.array_geom.specs.Geometry.{volume, position_in}
+use Rattle.array_geom.specs.Inner.Ranges.{is_in_grid}
+
+pub none_without_low : (low : List ℤ) (lengths : List ℕ) (at : List ℤ) → 1 ≤ length lengths → length low < 1 → IsTrue (is_in_grid low lengths at) → ⊥
+none_without_low low [] at some _ _ = absurd (omega (arith, some))
+none_without_low [] (n ∷ lengths) [] _ _ inside = cc
+none_without_low [] (n ∷ lengths) (x ∷ at) _ _ inside = cc
+none_without_low (l ∷ low) (n ∷ lengths) at _ none _ = absurd (omega (arith, none))
+
+pub none_without_place : (low : List ℤ) (lengths : List ℕ) (at : List ℤ) → 1 ≤ length lengths → 1 ≤ length low → length at < 1 → IsTrue (is_in_grid low lengths at) → ⊥
+none_without_place low [] at some _ _ _ = absurd (omega (arith, some))
+none_without_place [] (n ∷ lengths) at _ some _ _ = absurd (omega (arith, some))
+none_without_place (l ∷ low) (n ∷ lengths) [] _ _ _ inside = cc
+none_without_place (l ∷ low) (n ∷ lengths) (x ∷ at) _ _ none _ = absurd (omega (arith, none))
+
+abbrev rest : {A : Type 0} → List A → List A
+rest xs = take (length xs - 1) (drop 1 xs)
+
+rest_is : {A : Type 0} (x : A) (xs : List A) → rest (x ∷ xs) ≡ xs
+rest_is x xs = take_all (length (x ∷ xs) - 1) xs (omega arith)
+
+first_row : (low : List ℤ) (lengths : List ℕ) (at : List ℤ) → 1 ≤ length lengths → 1 ≤ length low → 1 ≤ length at
+    → position_in low lengths at ≡ unsigned_abs (get_or at 0 (pos 0) -ℤ get_or low 0 (pos 0)) * volume (rest lengths) + position_in (rest low) (rest lengths) (rest at)
+first_row low [] at some _ _ = absurd (omega (arith, some))
+first_row [] (n ∷ lengths) at _ some _ = absurd (omega (arith, some))
+first_row (l ∷ low) (n ∷ lengths) [] _ _ some = absurd (omega (arith, some))
+first_row (l ∷ low) (n ∷ lengths) (x ∷ at) _ _ _ =
+    sym (ap (λ (xs : List ℕ). unsigned_abs (x -ℤ l) * volume xs + position_in (rest (l ∷ low)) xs (rest (x ∷ at))) (rest_is n lengths)
+    ∙ ap (λ (xs : List ℤ). unsigned_abs (x -ℤ l) * volume lengths + position_in xs lengths (rest (x ∷ at))) (rest_is l low)
+    ∙ ap (λ (xs : List ℤ). unsigned_abs (x -ℤ l) * volume lengths + position_in low lengths xs) (rest_is x at))
+
+pub place_from : (low : List ℤ) (lengths : List ℕ) (at : List ℤ) (row size place result : ℕ) → 1 ≤ length lengths → 1 ≤ length low → 1 ≤ length at
+    → result ≡ row * size + place → size ≡ volume (take (length lengths - 1) (drop 1 lengths))
+    → place ≡ position_in (take (length low - 1) (drop 1 low)) (take (length lengths - 1) (drop 1 lengths)) (take (length at - 1) (drop 1 at))
+    → row ≡ unsigned_abs (get_or at 0 (pos 0) -ℤ get_or low 0 (pos 0)) → result ≡ position_in low lengths at
+place_from low lengths at row size place result some_lengths some_low some_at is same_size same_place same_row =
+    is ∙ ap (λ (r : ℕ). r * size + place) same_row ∙ ap (λ (s : ℕ). unsigned_abs (get_or at 0 (pos 0) -ℤ get_or low 0 (pos 0)) * s + place) same_size
+    ∙ ap (λ (p : ℕ). unsigned_abs (get_or at 0 (pos 0) -ℤ get_or low 0 (pos 0)) * volume (rest lengths) + p) same_place ∙ sym (first_row low lengths at some_lengths some_low some_at)
