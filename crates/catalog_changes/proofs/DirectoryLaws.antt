@@ -1,5 +1,5 @@
 -- Which directory each version has after a record.
-use Rattle.std.proofs.Common.{◌≡◌, ◌∙◌, ℕ, zero, suc, ◌+◌, ◌<◌, ◌≤◌, Bool, true, false, cond, not, ◌&&◌, ◌||◌, nat_lt, List, [], ◌∷◌, ◌++◌, map, length, drop, Option, Some, None, refl, sym, ap, subst, arith}
+use Rattle.std.proofs.Common.{◌≡◌, ◌∙◌, ℕ, zero, suc, ◌+◌, ◌≤◌, Bool, true, false, cond, not, ◌&&◌, ◌||◌, nat_lt, List, [], ◌∷◌, ◌++◌, map, length, drop, Option, Some, None, refl, sym, ap, subst, arith}
 use Rattle.std.specs.Prelude.{nat_eq}
 use Rattle.std.specs.List.{AllByRecursion, filter, find, insert, list_any, prefix_len, count_by}
 use Rattle.std.specs.Option.{option_map, option_or}
@@ -9,25 +9,20 @@ use Rattle.std.proofs.lemmas.Bool.{and_parts, not-true}
 use Rattle.std.proofs.lemmas.Bool.Decides.{nat_tests}
 use Rattle.std.proofs.lemmas.List.Sums.{sum_by-cons}
 use Rattle.cell_values.specs.declared.schema.Schema.{Schema}
-use Rattle.logical_plan.specs.declared.names.NameEntry.{NameEntry}
-use Rattle.plan_changes.specs.Allowed.{has_room, has_number}
+use Rattle.plan_changes.specs.Allowed.{has_room}
 use Rattle.plan_changes.specs.Changes.{is_named, has_array, next_or, next_of, new_entry, names_after}
-use Rattle.plan_changes.specs.Databases.{names_of}
 use Rattle.plan_changes.specs.Stored.{is_before, IsStored, RiseBetween}
 use Rattle.plan_changes.proofs.Found.{find_inserted, find_changed, find_kept, find_image}
 use Rattle.plan_changes.proofs.NamesOf.{names_depend_on_no_row}
 use Rattle.plan_changes.proofs.Stays.{not_both}
 use Rattle.version_catalog.specs.declared.rules.catalog.BlobAt.{BlobAt}
 use Rattle.version_catalog.specs.declared.rules.catalog.CatalogArray.{CatalogArray}
-use Rattle.version_catalog.specs.declared.rules.catalog.Catalog.{Catalog}
-use Rattle.version_catalog.specs.declared.rules.catalog_record.CatalogRecord.{CatalogRecord}
 use Rattle.version_catalog.specs.declared.rules.catalog_record.CatalogRecord.TheVariants.{Create, First, Next, Remove, RemoveVersions}
-use Rattle.version_catalog.specs.Catalogs.{HasDirectories, IsCatalog}
+use Rattle.version_catalog.specs.Catalogs.{HasDirectories}
 use Rattle.version_catalog.specs.Spelling.{VersionAt, versions_at}
 use Rattle.version_catalog.proofs.Pairs.{one_more_pair}
 use Rattle.catalog_changes.specs.Records.{entries_of, is_array, with_new, with_directory, from_version, without}
-use Rattle.catalog_changes.specs.Changed.{after_change}
-use Rattle.catalog_changes.specs.Directories.{directory_or, directory_in, directory_at, is_next, directory_after, RecordsMoveDirectories, RecordsAreAllowed, RecordsDoTheirChange, CatalogsFollowDatabases}
+use Rattle.catalog_changes.specs.Directories.{directory_or, directory_in, RecordsMoveDirectories, RecordsAreAllowed, RecordsDoTheirChange, CatalogsFollowDatabases}
 use Rattle.catalog_changes.proofs.Kept.{names_are_kept}
 use Rattle.catalog_changes.proofs.Maps.{any_map}
 use Rattle.catalog_changes.proofs.Recorded.{record_stands}

@@ -1,5 +1,5 @@
 -- A catalogue of one array with two versions, and where its directories lie after some records.
-use Rattle.std.proofs.Common.{◌≡◌, ℕ, ◌<◌, ◌^◌, pos, true, List, [], ◌∷◌, Option, Some, None, refl, codes, IsTrue, arith}
+use Rattle.std.proofs.Common.{◌≡◌, ℕ, ◌<◌, ◌^◌, pos, true, [], ◌∷◌, Option, Some, None, refl, codes, IsTrue, arith}
 use Rattle.cell_values.specs.declared.schema.Schema.{Schema}
 use Rattle.cell_values.specs.declared.schema.Kind.TheVariants.{Int64}
 use Rattle.version_catalog.specs.declared.rules.catalog.BlobAt.{BlobAt}
@@ -28,13 +28,17 @@ is_catalog : IsCatalog catalog
 unfolding catalog line blob
 is_catalog = record {
   names = record {
-    count = omega arith; rising = tt;
+    count = omega arith;
+    rising = tt;
     each = (record { name = refl; schema = refl; named = record { attributes = (refl, tt); dimensions = (refl, tt) }; next = (omega arith, omega arith); versions = (omega arith, omega arith, (omega arith, omega arith, tt)) }, tt);
   };
-  each = (record {
-    one_each = refl;
-    blobs = (one_page 7 (omega arith), (one_page 8 (omega arith), tt));
-  }, tt);
+  each = (
+    record {
+      one_each = refl;
+      blobs = (one_page 7 (omega arith), (one_page 8 (omega arith), tt));
+    },
+    tt,
+  );
 }
 
 after : CatalogRecord → ℕ → Option BlobAt

@@ -6,10 +6,10 @@ ghost use Rattle.plan_changes.specs.Changes.{has_array};
 ghost use Rattle.plan_changes.specs.Stored.{is_before};
 ghost use Rattle.catalog_changes.specs.Records.{entries_of, is_array, with_new, with_directory, from_version, without};
 
-use version_catalog::{BlobAt, CatalogArray};
 use cell_values::{List, Memory, Name, Schema};
 use logical_plan::NameEntry;
 use plan_changes::{from_number, is_before, is_same};
+use version_catalog::{BlobAt, CatalogArray};
 
 /// How many arrays come before a name.
 fn place_of(arrays: &List<CatalogArray>, name: &Name) -> usize

@@ -8,9 +8,9 @@ ghost use Rattle.catalog_changes.specs.Changed.{stored_by, record_for, has_its_d
 
 use crate::arrays::{from_version, with_directory, with_first, with_new, without};
 use crate::rules::has_array;
-use version_catalog::{BlobAt, Catalog, CatalogArray, CatalogRecord};
 use cell_values::{List, Memory, Name, Schema};
 use plan_changes::Change;
+use version_catalog::{BlobAt, Catalog, CatalogArray, CatalogRecord};
 
 /// The arrays after a record that they allow.
 fn recorded(arrays: List<CatalogArray>, entry: &CatalogRecord) -> Result<List<CatalogArray>, Memory>

@@ -6,9 +6,9 @@ ghost use Rattle.plan_changes.specs.Allowed.{has_number, has_room};
 ghost use Rattle.plan_changes.specs.Changes.{has_array, last_of, newest_of};
 ghost use Rattle.catalog_changes.specs.Records.{entries_of, is_array, newest_in, is_allowed};
 
-use version_catalog::{Catalog, CatalogArray, CatalogRecord};
 use cell_values::{List, Name};
 use plan_changes::{is_same, last_of};
+use version_catalog::{Catalog, CatalogArray, CatalogRecord};
 
 fn any_array(arrays: &List<CatalogArray>, name: &Name) -> bool
     ensures { result ≡ list_any (is_array name.now) arrays.now }

@@ -7,11 +7,11 @@ use Rattle.std.specs.declared.cmp.Ordering.{Ordering}
 use Rattle.std.specs.declared.cmp.Ordering.TheVariants.{Less, Equal, Greater}
 use Rattle.array_geom.specs.Link.{number_order}
 use Rattle.array_geom.specs.Geometry.{ChunkNumber}
-use Rattle.file_items.specs.Items.{Are, AreCounted}
+use Rattle.file_items.specs.Items.{Are}
 use Rattle.file_items.proofs.BytesLaws.{Are-length}
 use Rattle.chunk_map.specs.declared.directory.DirEntry.{DirEntry}
 use Rattle.chunk_map.specs.declared.directory.Directory.{Directory}
-use Rattle.chunk_map.specs.Entries.{numbers, AreRising}
+use Rattle.chunk_map.specs.Entries.{AreRising}
 use Rattle.file_items.proofs.PagesLaws.{lie_in, has_bytes, has_pages}
 use Rattle.chunk_map.specs.Spelling.{IsEntry, IsDirectory}
 use Rattle.chunk_map.specs.Table.{is_number, next_number, number_in}

@@ -5,3 +5,4 @@ pub mod Logs
 pub mod Orders
 pub mod Sharing
 pub mod Worked
+mod WorkedLengths

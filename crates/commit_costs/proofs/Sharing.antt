@@ -29,7 +29,7 @@ begins_at = record {
   pages = λ name version. refl;
 }
 
-four_rows : AreRowsOf (schema 0) (cell_at 0 ∷ cell_at 1 ∷ cell_at 2 ∷ cell_at 3 ∷ [])
+pub four_rows : AreRowsOf (schema 0) (cell_at 0 ∷ cell_at 1 ∷ cell_at 2 ∷ cell_at 3 ∷ [])
 four_rows = record {
   valid = refl;
   are_rows = record { rising = ((refl, (refl, (refl, tt))), ((refl, (refl, tt)), ((refl, tt), (tt, tt)))); in_bounds = (refl, (refl, (refl, (refl, tt)))) };
