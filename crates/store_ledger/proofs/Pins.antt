@@ -1,19 +1,20 @@
 -- Open pins over more entries and notes.
-use Rattle.std.proofs.Common.{◌≡◌, ◌∙◌, ℕ, ◌+◌, ◌≤◌, Bool, true, false, ◌&&◌, ◌||◌, if◌then◌else◌, nat_eq, nat_le, nat_lt, List, [], ◌∷◌, ◌++◌, length, reverse, refl, ap, sym, arith, add-zero}
-use Rattle.std.specs.List.{list_all, list_any, sum_by}
+use Rattle.std.proofs.Common.{◌≡◌, ◌∙◌, ℕ, ◌+◌, ◌≤◌, Bool, true, false, not, ◌&&◌, ◌||◌, if◌then◌else◌, nat_eq, nat_le, nat_lt, List, [], ◌∷◌, ◌++◌, length, reverse, refl, ap, sym, arith, zero-add}
+use Rattle.std.specs.List.{filter, list_all, list_any, sum_by}
 use Rattle.std.proofs.lemmas.Bool.{and_parts, or_from}
 use Rattle.std.proofs.lemmas.Bool.Decides.{nat_tests}
 use Rattle.std.proofs.lemmas.List.{reverse-append, length-reverse}
-use Rattle.std.proofs.lemmas.List.Sums.{sum_by_push}
+use Rattle.std.proofs.lemmas.List.Sums.{sum_by-cons, sum_by_push}
 use Rattle.event_core.specs.declared.entry.Entry.{Entry}
-use Rattle.event_core.specs.declared.entry.Entry.TheVariants.{Pin}
+use Rattle.event_core.specs.declared.entry.Entry.TheVariants.{Pin, Unpin}
 use Rattle.event_core.specs.History.{History, OpenPin, names_at, open_pins, pin_before}
-use Rattle.event_laws.proofs.Pins.{open_pins_stay}
+use Rattle.event_laws.proofs.Pins.{open_pins_stay, open_pins_are_these}
+use Rattle.event_laws.specs.Pins.{pins_of}
 use Rattle.store_ledger.specs.declared.note.Note.{Note}
 use Rattle.store_ledger.specs.declared.note.NoteKind.{NoteKind}
 use Rattle.store_ledger.specs.declared.note.NoteKind.TheVariants.{Tried}
 use Rattle.store_ledger.specs.Ledger.{LedgerState, history, is_kind, is_under, has_note, reserved_by, IsOpenPin}
-use Rattle.store_ledger.specs.Laws.{PinsReserveThree, OpenPinsOutlast}
+use Rattle.store_ledger.specs.Laws.{PinsReserveThree, OpenPinsOutlast, UnpinsGiveBack}
 
 late : (n count : ℕ) → nat_le n count ≡ true → nat_lt count n ≡ false
 late n count e = grind (arith, nat_tests)
@@ -52,3 +53,32 @@ open_pins_outlast ledger pinned entries notes leave o = record {
   place = o.place;
   names = o.names;
 }
+
+-- ---- unpins
+
+split_at : (f : OpenPin → ℕ) (x : OpenPin) (b : Bool) (xs ys zs : List OpenPin) → sum_by f xs ≡ sum_by f ys + sum_by f zs →
+    sum_by f (x ∷ xs) ≡ sum_by f (if not b then x ∷ ys else ys) + sum_by f (if b then x ∷ zs else zs)
+split_at f x true xs ys zs e =
+    let one : sum_by f (x ∷ xs) ≡ f x + sum_by f xs = sum_by-cons f x xs in
+    let two : sum_by f (x ∷ zs) ≡ f x + sum_by f zs = sum_by-cons f x zs in
+    omega (arith, one, two, e)
+split_at f x false xs ys zs e =
+    let one : sum_by f (x ∷ xs) ≡ f x + sum_by f xs = sum_by-cons f x xs in
+    let two : sum_by f (x ∷ ys) ≡ f x + sum_by f ys = sum_by-cons f x ys in
+    omega (arith, one, two, e)
+
+-- a sum is that of the pins that fail a test and that of those that pass it
+split : (f : OpenPin → ℕ) (t : OpenPin → Bool) (pins : List OpenPin) → sum_by f pins ≡ sum_by f (filter (λ pin. not (t pin)) pins) + sum_by f (filter t pins)
+split f t [] = refl
+split f t (pin ∷ pins) = split_at f pin (t pin) pins (filter (λ other. not (t other)) pins) (filter t pins) (split f t pins)
+
+pub unpins_give_back : UnpinsGiveBack
+unpins_give_back ledger session before ok begun =
+    let h : History = reverse ledger.entries in
+    let f : OpenPin → ℕ = reserved_by ledger.notes in
+    let own : OpenPin = record { session = session; before = before } in
+    let rest : ℕ = sum_by f (filter (λ pin. not (nat_eq pin.session session)) (open_pins h)) in
+    split f (λ pin. nat_eq pin.session session) (open_pins h)
+    ∙ ap (λ (pins : List OpenPin). rest + sum_by f pins) (open_pins_are_these ledger.base session h ok ∙ ap (pins_of session) begun)
+    ∙ ap (λ (n : ℕ). rest + n) (sum_by_push f [] own ∙ zero-add (f own))
+    ∙ ap (λ (later : History). sum_by f (open_pins later) + f own) (sym (one_more ledger.entries (Unpin session)))

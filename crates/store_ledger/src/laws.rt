@@ -1,5 +1,5 @@
 //! What holds of ledgers.
-ghost use Rattle.store_ledger.specs.Laws.{EventsGrowByEntries, EventsGrowByNotes, OpenPinsOutlast, PinsReserveThree};
+ghost use Rattle.store_ledger.specs.Laws.{EventsGrowByEntries, EventsGrowByNotes, OpenPinsOutlast, PinsReserveThree, UnpinsGiveBack};
 
 /// One more entry, or one more note, comes behind all events before.
 pub fn events_only_grow()
@@ -15,4 +15,9 @@ pub fn open_pins_outlast()
 /// A pin reserves three entries more.
 pub fn pins_reserve_three()
     ensures { PinsReserveThree }
+{}
+
+/// An unpin gives back what its pin had reserved.
+pub fn unpins_give_back()
+    ensures { UnpinsGiveBack }
 {}
