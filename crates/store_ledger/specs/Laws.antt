@@ -1,0 +1,35 @@
+-- What holds of ledgers.
+use Rattle.std.specs.Prelude.{◌≡◌, ◌+◌, ℕ, List, [], ◌∷◌, ◌++◌, length, reverse, Some, IsTrue}
+use Rattle.std.specs.List.{list_all}
+use Rattle.event_core.specs.declared.entry.Entry.{Entry}
+use Rattle.event_core.specs.declared.entry.Entry.TheVariants.{Pin, Unpin}
+use Rattle.event_core.specs.Allowed.{is_allowed}
+use Rattle.event_core.specs.History.{History, leaves_pin, pin_before}
+use Rattle.store_ledger.specs.declared.note.Note.{Note}
+use Rattle.store_ledger.specs.declared.pinned.Pinned.{Pinned}
+use Rattle.store_ledger.specs.Ledger.{LedgerState, with_entries, with_notes, AreWithin, history, reserved, reserved_by, IsOpenPin, entered, noted, events}
+
+-- a pin reserves three entries more than were reserved
+abbrev pub PinsReserveThree : Type 0
+PinsReserveThree = (ledger : LedgerState) (session : ℕ) → AreWithin (length ledger.entries) ledger.notes →
+    reserved (with_entries (Pin session ∷ []) ledger) ≡ reserved ledger + 3
+
+-- an unpin gives back what its pin had reserved: three entries, or one where a commit was tried under it
+abbrev pub UnpinsGiveBack : Type 0
+UnpinsGiveBack = (ledger : LedgerState) (session : ℕ) (before : History) → IsTrue (is_allowed ledger.base (history ledger)) → pin_before session (history ledger) ≡ Some before →
+    reserved ledger ≡ reserved (with_entries (Unpin session ∷ []) ledger) + reserved_by ledger.notes (record { session = session; before = before })
+
+-- an open pin is one after more entries, if none of them is a pin or an unpin of its session, and after more notes
+abbrev pub OpenPinsOutlast : Type 0
+OpenPinsOutlast = (ledger : LedgerState) (pinned : Pinned) (entries : List Entry) (notes : List Note) → IsTrue (list_all (leaves_pin pinned.session) (reverse entries)) →
+    IsOpenPin ledger pinned → IsOpenPin (with_notes notes (with_entries entries ledger)) pinned
+
+-- one more entry is the last event
+abbrev pub EventsGrowByEntries : Type 0
+EventsGrowByEntries = (ledger : LedgerState) (entry : Entry) → AreWithin (length ledger.entries) ledger.notes →
+    events (with_entries (entry ∷ []) ledger) ≡ events ledger ++ entered entry ∷ []
+
+-- one more note, behind all entries, is the last event
+abbrev pub EventsGrowByNotes : Type 0
+EventsGrowByNotes = (ledger : LedgerState) (note : Note) → note.after ≡ length ledger.entries →
+    events (with_notes (note ∷ []) ledger) ≡ events ledger ++ noted note ∷ []

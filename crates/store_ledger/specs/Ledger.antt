@@ -1,0 +1,105 @@
+-- The ledger of a store: a history, notes, and the entries that open pins reserve.
+use Rattle.std.specs.Prelude.{◌≡◌, ◌≤◌, ◌+◌, ℕ, Bool, true, false, ◌&&◌, if◌then◌else◌, nat_eq, nat_le, nat_lt, List, [], ◌∷◌, ◌++◌, length, map, reverse, Option, None, Some, IfSome, IsTrue}
+use Rattle.std.specs.List.{filter, list_all, list_any, sum_by}
+use Rattle.event_core.specs.declared.entry.Entry.{Entry}
+use Rattle.event_core.specs.declared.entry.Entry.TheVariants.{Pin, Unpin, Commit, Reap}
+use Rattle.event_core.specs.declared.state.Core.{Core}
+use Rattle.event_core.specs.Allowed.{is_pinned}
+use Rattle.event_core.specs.History.{History, OpenPin, names_at, open_pins, pin_before, up_to}
+use Rattle.store_ledger.specs.declared.note.Note.{Note}
+use Rattle.store_ledger.specs.declared.note.NoteKind.{NoteKind}
+use Rattle.store_ledger.specs.declared.note.NoteKind.TheVariants.{Fault, Tried}
+use Rattle.store_ledger.specs.declared.pinned.Pinned.{Pinned}
+
+-- a ledger as contracts see it: where it began, how many entries it may have, its entries and its notes, the oldest first
+pub record LedgerState : Type 0 where
+  pub base : Core
+  pub limit : ℕ
+  pub entries : List Entry
+  pub notes : List Note
+
+abbrev pub history : LedgerState → History
+history ledger = reverse ledger.entries
+
+-- the ledger with more entries, or with more notes
+abbrev pub with_entries : List Entry → LedgerState → LedgerState
+with_entries more ledger = record ledger { entries = ledger.entries ++ more }
+
+abbrev pub with_notes : List Note → LedgerState → LedgerState
+with_notes more ledger = record ledger { notes = ledger.notes ++ more }
+
+-- ---- notes
+
+abbrev pub is_kind : NoteKind → NoteKind → Bool
+is_kind Fault Fault = true
+is_kind Fault Tried = false
+is_kind Tried Fault = false
+is_kind Tried Tried = true
+
+-- whether a note of a kind was made under a pin: by its session, after the pin
+abbrev pub is_under : NoteKind → OpenPin → Note → Bool
+is_under kind pin note = nat_eq note.session pin.session && (is_kind kind note.kind && nat_lt (length pin.before) note.after)
+
+abbrev pub has_note : NoteKind → List Note → OpenPin → Bool
+has_note kind notes pin = list_any (is_under kind pin) notes
+
+-- a note behind others: none of them has more entries before it, its session was pinned, and had no note of this kind under this pin
+pub record IsNote (h : History) (others : List Note) (note : Note) : Type 0 where
+  pub within : note.after ≤ length h
+  pub rising : IsTrue (list_all (λ other. nat_le other.after note.after) others)
+  pub pinned : IsTrue (is_pinned note.session (up_to note.after h))
+  pub once : IfSome (pin_before note.session (up_to note.after h)) (λ before. has_note note.kind others (record { session = note.session; before = before }) ≡ false)
+
+-- notes, the newest first, that may stand beside a history
+abbrev pub AreNoted : History → List Note → Type 0
+AreNoted h [] = Unit {0}
+AreNoted h (note ∷ others) = AreNoted h others × IsNote h others note
+
+-- no note has more entries before it than there are
+abbrev pub AreWithin : ℕ → List Note → Type 0
+AreWithin count notes = IsTrue (list_all (λ note. nat_le note.after count) notes)
+
+-- ---- room
+
+-- a pin reserves three entries: those of a reap, of its commit and of its unpin. Once a commit was tried under it, one
+abbrev pub reserved_by : List Note → OpenPin → ℕ
+reserved_by notes pin = if has_note Tried notes pin then 1 else 3
+
+abbrev pub reserved : LedgerState → ℕ
+reserved ledger = sum_by (reserved_by ledger.notes) (open_pins (history ledger))
+
+-- whether so many entries more than those that stand and those that are reserved are within the limit: 4 for a pin, 1 for a reap of nobody's
+abbrev pub has_room : LedgerState → ℕ → Bool
+has_room ledger count = nat_le (length ledger.entries + reserved ledger + count) ledger.limit
+
+-- ---- open pins
+
+-- what a session holds is its open pin
+pub record IsOpenPin (ledger : LedgerState) (pinned : Pinned) : Type 0 where
+  pub before : History
+  pub begun : pin_before pinned.session (history ledger) ≡ Some before
+  pub place : pinned.place ≡ length before
+  pub names : pinned.names ≡ names_at ledger.base before
+
+-- ---- events
+
+-- what a ledger has of both kinds
+pub data Event : Type 0 where
+  entered : Entry → Event
+  noted : Note → Event
+
+-- entries and notes in the order in which they came: each note behind as many entries as it says
+abbrev pub events_from : ℕ → List Entry → List Note → List Event
+events_from place [] notes = map noted (filter (λ note. nat_le place note.after) notes)
+events_from place (entry ∷ entries) notes = map noted (filter (λ note. nat_eq note.after place) notes) ++ entered entry ∷ events_from (place + 1) entries notes
+
+abbrev pub events : LedgerState → List Event
+events ledger = events_from 0 ledger.entries ledger.notes
+
+-- whose an event is: a reap is nobody's
+abbrev pub owner_of : Event → Option ℕ
+owner_of (entered (Pin session)) = Some session
+owner_of (entered (Unpin session)) = Some session
+owner_of (entered (Commit session change used)) = Some session
+owner_of (entered Reap) = None
+owner_of (noted note) = Some note.session

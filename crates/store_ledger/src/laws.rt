@@ -1,0 +1,23 @@
+//! What holds of ledgers.
+ghost use Rattle.store_ledger.specs.Laws.{EventsGrowByEntries, EventsGrowByNotes, OpenPinsOutlast, PinsReserveThree, UnpinsGiveBack};
+
+/// One more entry, or one more note, comes behind all events before.
+pub fn events_only_grow()
+    ensures entries { EventsGrowByEntries }
+    ensures notes { EventsGrowByNotes }
+{}
+
+/// An open pin stays one over all entries but its session's pins and unpins, and over all notes.
+pub fn open_pins_outlast()
+    ensures { OpenPinsOutlast }
+{}
+
+/// A pin reserves three entries more.
+pub fn pins_reserve_three()
+    ensures { PinsReserveThree }
+{}
+
+/// An unpin gives back what its pin had reserved.
+pub fn unpins_give_back()
+    ensures { UnpinsGiveBack }
+{}
