@@ -1,18 +1,17 @@
 -- The catalogue of a database after a change is that of the database before it, changed.
-use Rattle.std.proofs.Common.{◌≡◌, ◌∙◌, ℕ, zero, suc, ◌+◌, ◌≤◌, Bool, true, false, cond, not, ◌||◌, List, [], ◌∷◌, ◌++◌, map, length, drop, Option, Some, None, refl, sym, ap, subst, arith}
+use Rattle.std.proofs.Common.{◌≡◌, ◌∙◌, ℕ, suc, ◌+◌, ◌≤◌, Bool, true, false, cond, not, ◌||◌, List, [], ◌∷◌, ◌++◌, map, length, drop, Some, refl, sym, ap, arith}
 use Rattle.std.specs.Prelude.{nat_lt}
-use Rattle.std.specs.List.{AllByRecursion, filter, find, insert, list_any, prefix_len, count_by}
+use Rattle.std.specs.List.{AllByRecursion, filter, find, insert, prefix_len, count_by}
 use Rattle.std.specs.Str.{bytes_eq}
 use Rattle.std.proofs.lemmas.Bool.Decides.{nat_tests}
 use Rattle.std.proofs.lemmas.List.{map-append}
 use Rattle.std.proofs.lemmas.List.Sums.{sum_by-cons}
 use Rattle.cell_values.specs.declared.datum.Row.{Row}
 use Rattle.cell_values.specs.declared.schema.Schema.{Schema}
-use Rattle.logical_plan.specs.declared.names.NameEntry.{NameEntry}
 use Rattle.logical_plan.specs.Query.{Query}
 use Rattle.plan_changes.specs.declared.change.Change.{Change}
 use Rattle.plan_changes.specs.declared.change.Change.TheVariants.{Create, Store, Insert, Remove, RemoveVersions}
-use Rattle.plan_changes.specs.Changes.{is_named, has_array, entry_named, with_version, without_below}
+use Rattle.plan_changes.specs.Changes.{is_named, has_array}
 use Rattle.plan_changes.specs.Databases.{Database, Stored, Version, entry_of, is_array, has_stored, with_stored, with_absent_stored, with_rows, from_version, new_rows, after}
 use Rattle.plan_changes.specs.Stored.{is_before, IsStored, NamesRise, RiseBetween, IsDatabase}
 use Rattle.plan_changes.specs.Typed.{FitsInto, IsTypedFor}

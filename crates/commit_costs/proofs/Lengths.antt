@@ -1,8 +1,8 @@
 -- How many bytes directories, catalogues and records have, whichever pages they name.
-use Rattle.std.proofs.Common.{◌≡◌, ◌∙◌, ℕ, zero, suc, ◌+◌, Bool, true, false, cond, not, List, [], ◌∷◌, ◌++◌, map, length, replicate, drop, Option, Some, None, refl, sym, ap, subst, arith}
+use Rattle.std.proofs.Common.{◌≡◌, ◌∙◌, ℕ, zero, suc, ◌+◌, Bool, true, false, cond, not, List, [], ◌∷◌, ◌++◌, map, length, drop, Some, None, refl, sym, ap, subst, arith}
 use Rattle.std.specs.Prelude.{nat_lt}
 use Rattle.std.specs.Int.{w32, w64, to_le_bytes}
-use Rattle.std.specs.List.{AllByRecursion, AllZip, filter, flat_map, insert, prefix_len, count_by}
+use Rattle.std.specs.List.{AllByRecursion, AllZip, flat_map, insert, prefix_len, count_by}
 use Rattle.std.proofs.lemmas.List.{length-append, length-replicate}
 use Rattle.cell_values.specs.declared.datum.Row.{Row}
 use Rattle.cell_values.specs.declared.schema.Schema.{Schema}
@@ -12,7 +12,6 @@ use Rattle.array_geom.specs.Link.{has_cell}
 use Rattle.file_items.specs.Pages.{pages_needed}
 use Rattle.file_items.specs.Spelling.{spell_name, spell_schema}
 use Rattle.logical_plan.specs.declared.names.NameEntry.{NameEntry}
-use Rattle.plan_changes.specs.declared.change.Change.{Change}
 use Rattle.plan_changes.specs.declared.change.Change.TheVariants.{Create, Store, Insert, Remove, RemoveVersions}
 use Rattle.plan_changes.specs.Changes.{is_named, has_array, new_entry, with_version, without_below}
 use Rattle.plan_changes.specs.Stored.{is_before}
@@ -21,14 +20,11 @@ use Rattle.chunk_map.specs.Entries.{numbers}
 use Rattle.chunk_map.specs.Spelling.{spelling as directory_spelling, spell_entry}
 use Rattle.version_catalog.specs.declared.rules.catalog.BlobAt.{BlobAt}
 use Rattle.version_catalog.specs.declared.rules.catalog.CatalogArray.{CatalogArray}
-use Rattle.version_catalog.specs.declared.rules.catalog.Catalog.{Catalog}
 use Rattle.version_catalog.specs.declared.rules.catalog_record.CatalogRecord.TheVariants as entries
-use Rattle.version_catalog.specs.Catalogs.{IsBlob}
-use Rattle.version_catalog.specs.Spelling.{VersionAt, versions_at, spelling, spell_array, spell_version, spell_blob, spell_record}
+use Rattle.version_catalog.specs.Spelling.{versions_at, spelling, spell_array, spell_version, spell_blob, spell_record}
 use Rattle.catalog_changes.specs.Records.{entries_of, is_array, with_new, with_directory, from_version, without}
-use Rattle.catalog_changes.specs.Changed.{after_change, changed, record_for}
-use Rattle.commit_costs.specs.Costs.{numbers_of, payload_length, dir_entry, directory_of, record_length}
-use Rattle.commit_costs.specs.Lengths.{AreListed, HasItsLength, AreAlike, AreAlikeArrays, AreAlikeCatalogs, AreBothAlike, DirectoriesAreAlike, CatalogsReadNoPage, RecordsReadNoPage, ChangesKeepAlike}
+use Rattle.commit_costs.specs.Costs.{numbers_of, payload_length, dir_entry, directory_of}
+use Rattle.commit_costs.specs.Lengths.{AreListed, HasItsLength, AreAlike, AreAlikeArrays, DirectoriesAreAlike, CatalogsReadNoPage, RecordsReadNoPage, ChangesKeepAlike}
 use Rattle.commit_costs.proofs.Orders.{total, any_order}
 
 both_append : (a b c d : List ℕ) → length a ≡ length b → length c ≡ length d → length (a ++ c) ≡ length (b ++ d)

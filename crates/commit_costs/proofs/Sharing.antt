@@ -1,5 +1,5 @@
 -- The worked list whose versions share a page, entry by entry.
-use Rattle.std.proofs.Common.{◌≡◌, true, [], ◌∷◌, Some, refl, arith}
+use Rattle.std.proofs.Common.{true, [], ◌∷◌, Some, refl, arith}
 use Rattle.array_rows.specs.Arrays.{AreRowsOf}
 use Rattle.chunk_rle.specs.Chunks.{spelling as payload_spelling}
 use Rattle.chunk_rle.specs.Spelling.{spell_runs, spell_value}
@@ -8,14 +8,12 @@ use Rattle.chunk_map.specs.Spelling.{spelling as directory_spelling, spell_entry
 use Rattle.version_catalog.specs.Spelling.{spelling, spell_array, spell_version, spell_blob, spell_record}
 use Rattle.file_items.specs.Spelling.{spell_name, spell_attribute, spell_signed, spell_dimension, spell_schema}
 use Rattle.page_chain.specs.Pages.{page_size}
-use Rattle.logical_plan.specs.Typing.{AreSound}
 use Rattle.plan_changes.specs.Stored.{HasItsNames}
 use Rattle.plan_changes.specs.Typed.{HasTypedPlan}
 use Rattle.event_core.specs.declared.entry.Entry.TheVariants.{Pin, Unpin, Commit}
 use Rattle.event_core.specs.Apart.{AllShareOwn, AreApart}
 use Rattle.event_core.specs.History.{names_at}
 use Rattle.event_core.specs.Legal.{BeginsAt, IsLegal}
-use Rattle.event_core.specs.Pages.{free_at}
 use Rattle.event_core.proofs.Tests.{both_not}
 use Rattle.commit_costs.specs.Costs.{cost_from}
 use Rattle.commit_costs.specs.Inner.Examples.{schema, cell_at, store, insert_at}

@@ -66,6 +66,17 @@ sixty_sixth_is = refl
 
 pub commits : CommitsCostTheirPages
 commits = record {
-  stored_first = stored_first_is; log_full = log_full_is; no_log = no_log_is; inserted = inserted_is; beside = beside_is; made = made_is; removed = removed_is; cut = cut_is;
-  short_text = short_text_is; long_text = long_text_is; sixty_fourth = sixty_fourth_is; sixty_fifth = sixty_fifth_is; sixty_sixth = sixty_sixth_is;
+  stored_first = stored_first_is;
+  log_full = log_full_is;
+  no_log = no_log_is;
+  inserted = inserted_is;
+  beside = beside_is;
+  made = made_is;
+  removed = removed_is;
+  cut = cut_is;
+  short_text = short_text_is;
+  long_text = long_text_is;
+  sixty_fourth = sixty_fourth_is;
+  sixty_fifth = sixty_fifth_is;
+  sixty_sixth = sixty_sixth_is;
 }
