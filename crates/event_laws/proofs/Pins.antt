@@ -115,26 +115,39 @@ beginnings_are_kept later before =
 pub all_entries_are_the_history : AllEntriesAreTheHistory
 all_entries_are_the_history h = beginnings_are_kept [] h
 
+-- a history with at least one entry behind a beginning
+abbrev Behind : History → History → Type 0
+Behind h before = (entry : Entry) × (later : History) × (h ≡ (entry ∷ later) ++ before)
+
+one_behind : (entry : Entry) (rest before : History) → Behind rest before → Behind (entry ∷ rest) before
+one_behind entry rest before p = (entry, p.0 ∷ p.1, ap (λ (h : History). entry ∷ h) p.2)
+
 found_or : (b : Bool) (entry : Entry) (rest before : History) (y : Option History) → (if b then Some rest else y) ≡ Some before →
-    (y ≡ Some before → (later : History) × (rest ≡ later ++ before)) → (later : History) × (entry ∷ rest ≡ later ++ before)
-found_or true entry rest before y e behind = let same : rest ≡ before = cc in (entry ∷ [], ap (λ (h : History). entry ∷ h) same)
-found_or false entry rest before y e behind = let p = behind e in (entry ∷ p.0, ap (λ (h : History). entry ∷ h) p.1)
+    (y ≡ Some before → Behind rest before) → Behind (entry ∷ rest) before
+found_or true entry rest before y e behind = let same : rest ≡ before = cc in (entry, [], ap (λ (h : History). entry ∷ h) same)
+found_or false entry rest before y e behind = one_behind entry rest before (behind e)
 
 lost_or : (b : Bool) (entry : Entry) (rest before : History) (y : Option History) → (if b then None else y) ≡ Some before →
-    (y ≡ Some before → (later : History) × (rest ≡ later ++ before)) → (later : History) × (entry ∷ rest ≡ later ++ before)
+    (y ≡ Some before → Behind rest before) → Behind (entry ∷ rest) before
 lost_or true entry rest before y e behind = cc
-lost_or false entry rest before y e behind = let p = behind e in (entry ∷ p.0, ap (λ (h : History). entry ∷ h) p.1)
+lost_or false entry rest before y e behind = one_behind entry rest before (behind e)
 
 -- what was before an open pin is a beginning of the history
-behind_pin : (s : ℕ) (h before : History) → pin_before s h ≡ Some before → (later : History) × (h ≡ later ++ before)
+behind_pin : (s : ℕ) (h before : History) → pin_before s h ≡ Some before → Behind h before
 behind_pin s [] before e = cc
 behind_pin s (Pin t ∷ rest) before e = found_or (nat_eq t s) (Pin t) rest before (pin_before s rest) e (behind_pin s rest before)
 behind_pin s (Unpin t ∷ rest) before e = lost_or (nat_eq t s) (Unpin t) rest before (pin_before s rest) e (behind_pin s rest before)
-behind_pin s (Commit t change used ∷ rest) before e = found_or false (Commit t change used) rest before (pin_before s rest) e (behind_pin s rest before)
-behind_pin s (Reap ∷ rest) before e = found_or false Reap rest before (pin_before s rest) e (behind_pin s rest before)
+behind_pin s (Commit t change used ∷ rest) before e = one_behind (Commit t change used) rest before (behind_pin s rest before e)
+behind_pin s (Reap ∷ rest) before e = one_behind Reap rest before (behind_pin s rest before e)
 
 pub places_tell_pins : PlacesTellPins
 places_tell_pins s h before e =
-    let p : (later : History) × (h ≡ later ++ before) = behind_pin s h before e in
-    let found : up_to (length before) h ≡ before = ap (up_to (length before)) p.1 ∙ beginnings_are_kept p.0 before in
-    record { history = found; names = λ base. ap (names_at base) found; pages = λ base. ap (pages_at base) found; database = λ db. ap (at db) found }
+    let p : Behind h before = behind_pin s h before e in
+    let found : up_to (length before) h ≡ before = ap (up_to (length before)) p.2 ∙ beginnings_are_kept (p.0 ∷ p.1) before in
+    record {
+      within = omega (arith, ap length p.2, length-append (p.0 ∷ p.1) before);
+      history = found;
+      names = λ base. ap (names_at base) found;
+      pages = λ base. ap (pages_at base) found;
+      database = λ db. ap (at db) found;
+    }

@@ -1,5 +1,5 @@
 -- What is known of an open pin whatever comes after it.
-use Rattle.std.specs.Prelude.{◌≡◌, ℕ, nat_eq, List, [], ◌∷◌, ◌++◌, length, map, Option, None, Some, IsTrue}
+use Rattle.std.specs.Prelude.{◌≡◌, ◌<◌, ℕ, nat_eq, List, [], ◌∷◌, ◌++◌, length, map, Option, None, Some, IsTrue}
 use Rattle.std.specs.List.{filter, list_all}
 use Rattle.plan_changes.specs.Databases.{Database}
 use Rattle.event_core.specs.declared.entry.Entry.TheVariants.{Pin}
@@ -40,8 +40,9 @@ BeginningsAreKept = (later before : History) → up_to (length before) (later ++
 abbrev pub AllEntriesAreTheHistory : Type 0
 AllEntriesAreTheHistory = (h : History) → up_to (length h) h ≡ h
 
--- what could be named at an open pin, its pages and its database are told by the pin's place
+-- the place of an open pin is below the number of entries, and what could be named at the pin, its pages and its database are told by it
 pub record PlaceTells (h before : History) : Type 0 where
+  pub within : length before < length h
   pub history : up_to (length before) h ≡ before
   pub names : (base : Core) → names_at base (up_to (length before) h) ≡ names_at base before
   pub pages : (base : Core) → pages_at base (up_to (length before) h) ≡ pages_at base before

@@ -68,7 +68,7 @@ split_at f x false xs ys zs e =
     omega (arith, one, two, e)
 
 -- a sum is that of the pins that fail a test and that of those that pass it
-split : (f : OpenPin → ℕ) (t : OpenPin → Bool) (pins : List OpenPin) → sum_by f pins ≡ sum_by f (filter (λ pin. not (t pin)) pins) + sum_by f (filter t pins)
+pub split : (f : OpenPin → ℕ) (t : OpenPin → Bool) (pins : List OpenPin) → sum_by f pins ≡ sum_by f (filter (λ pin. not (t pin)) pins) + sum_by f (filter t pins)
 split f t [] = refl
 split f t (pin ∷ pins) = split_at f pin (t pin) pins (filter (λ other. not (t other)) pins) (filter t pins) (split f t pins)
 

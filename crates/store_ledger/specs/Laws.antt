@@ -1,13 +1,14 @@
 -- What holds of ledgers.
-use Rattle.std.specs.Prelude.{◌≡◌, ◌+◌, ℕ, List, [], ◌∷◌, ◌++◌, length, reverse, Some, IsTrue}
+use Rattle.std.specs.Prelude.{◌≡◌, ◌+◌, ℕ, List, [], ◌∷◌, ◌++◌, length, reverse, false, Some, IsTrue}
 use Rattle.std.specs.List.{list_all}
 use Rattle.event_core.specs.declared.entry.Entry.{Entry}
 use Rattle.event_core.specs.declared.entry.Entry.TheVariants.{Pin, Unpin}
 use Rattle.event_core.specs.Allowed.{is_allowed}
 use Rattle.event_core.specs.History.{History, leaves_pin, pin_before}
 use Rattle.store_ledger.specs.declared.note.Note.{Note}
+use Rattle.store_ledger.specs.declared.note.NoteKind.TheVariants.{Tried}
 use Rattle.store_ledger.specs.declared.pinned.Pinned.{Pinned}
-use Rattle.store_ledger.specs.Ledger.{LedgerState, with_entries, with_notes, AreWithin, history, reserved, reserved_by, IsOpenPin, entered, noted, events}
+use Rattle.store_ledger.specs.Ledger.{LedgerState, with_entries, with_notes, AreWithin, has_note, history, reserved, reserved_by, IsOpenPin, entered, noted, events}
 
 -- a pin reserves three entries more than were reserved
 abbrev pub PinsReserveThree : Type 0
@@ -18,6 +19,16 @@ PinsReserveThree = (ledger : LedgerState) (session : ℕ) → AreWithin (length 
 abbrev pub UnpinsGiveBack : Type 0
 UnpinsGiveBack = (ledger : LedgerState) (session : ℕ) (before : History) → IsTrue (is_allowed ledger.base (history ledger)) → pin_before session (history ledger) ≡ Some before →
     reserved ledger ≡ reserved (with_entries (Unpin session ∷ []) ledger) + reserved_by ledger.notes (record { session = session; before = before })
+
+-- the note that a commit is tried now
+abbrev pub tried_now : LedgerState → ℕ → Note
+tried_now ledger session = record { session = session; kind = Tried; after = length ledger.entries }
+
+-- the first such note under a pin gives back two of its three entries
+abbrev pub TriedGivesTwoBack : Type 0
+TriedGivesTwoBack = (ledger : LedgerState) (session : ℕ) (before : History) → IsTrue (is_allowed ledger.base (history ledger)) → pin_before session (history ledger) ≡ Some before →
+    has_note Tried ledger.notes (record { session = session; before = before }) ≡ false →
+    reserved ledger ≡ reserved (with_notes (tried_now ledger session ∷ []) ledger) + 2
 
 -- an open pin is one after more entries, if none of them is a pin or an unpin of its session, and after more notes
 abbrev pub OpenPinsOutlast : Type 0

@@ -1,5 +1,5 @@
 //! What holds of ledgers.
-ghost use Rattle.store_ledger.specs.Laws.{EventsGrowByEntries, EventsGrowByNotes, OpenPinsOutlast, PinsReserveThree, UnpinsGiveBack};
+ghost use Rattle.store_ledger.specs.Laws.{EventsGrowByEntries, EventsGrowByNotes, OpenPinsOutlast, PinsReserveThree, TriedGivesTwoBack, UnpinsGiveBack};
 
 /// One more entry, or one more note, comes behind all events before.
 pub fn events_only_grow()
@@ -20,4 +20,9 @@ pub fn pins_reserve_three()
 /// An unpin gives back what its pin had reserved.
 pub fn unpins_give_back()
     ensures { UnpinsGiveBack }
+{}
+
+/// The first commit that is tried under a pin gives back two of the entries that it had reserved.
+pub fn tried_gives_two_back()
+    ensures { TriedGivesTwoBack }
 {}

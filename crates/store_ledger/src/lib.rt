@@ -5,6 +5,8 @@ mod laws;
 mod note;
 mod pinned;
 
-pub use laws::{events_only_grow, open_pins_outlast, pins_reserve_three, unpins_give_back};
+pub use laws::{
+    events_only_grow, open_pins_outlast, pins_reserve_three, tried_gives_two_back, unpins_give_back,
+};
 pub use note::{Note, NoteKind};
 pub use pinned::Pinned;
