@@ -5,5 +5,6 @@ pub mod CellsHolding
 pub mod FixedPlaces
 pub mod Held
 pub mod NullAlone
+pub mod PartLengths
 pub mod Parts
 pub mod Projected
