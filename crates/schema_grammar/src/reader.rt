@@ -15,6 +15,14 @@ use afl_lexer::{Symbol, Token, TokenKind, Word, name_value};
 use cell_values::{List, Memory, Name, Span};
 use std::alloc::Global;
 
+/// Nothing goes on so, and what was read of the part is let go.
+fn unexpected<X: Drop, P, T>(part: X) -> PartStep<P, T>
+    ensures { result ≡ PartStep.Unexpected }
+{
+    drop(part);
+    PartStep::Unexpected
+}
+
 /// The name at a token, with its place.
 fn label_at(alloc: Global, text: &[u8], token: Token) -> Result<Label, Memory>
     requires token { IsTokenOf text.now token }
@@ -79,10 +87,7 @@ fn end_attribute(attribute: AttrText, symbol: Symbol) -> PartStep<AttrPlace, Att
     match symbol {
         Symbol::Comma => PartStep::Next(attribute),
         Symbol::More => PartStep::Last(attribute),
-        _ => {
-            drop(attribute);
-            PartStep::Unexpected
-        }
+        _ => unexpected(attribute),
     }
 }
 
@@ -100,10 +105,7 @@ fn read_null(attribute: AttrText, kind: TokenKind) -> PartStep<AttrPlace, AttrTe
         }
         TokenKind::Word(Word::Null) => PartStep::On(AttrPlace::Ended(attribute)),
         TokenKind::Symbol(symbol) => end_attribute(attribute, symbol),
-        _ => {
-            drop(attribute);
-            PartStep::Unexpected
-        }
+        _ => unexpected(attribute),
     }
 }
 
@@ -131,10 +133,7 @@ fn read_colon(label: Label, token: Token) -> PartStep<AttrPlace, AttrText>
 {
     match token.kind {
         TokenKind::Symbol(Symbol::Colon) => PartStep::On(AttrPlace::Typed(label)),
-        _ => {
-            drop(label);
-            PartStep::Unexpected
-        }
+        _ => unexpected(label),
     }
 }
 
@@ -159,10 +158,7 @@ fn read_type(
                 Err(Memory)
             }
         },
-        _ => {
-            drop(label);
-            Ok(PartStep::Unexpected)
-        }
+        _ => Ok(unexpected(label)),
     }
 }
 
@@ -172,10 +168,7 @@ fn read_negated(attribute: AttrText, token: Token) -> PartStep<AttrPlace, AttrTe
 {
     match token.kind {
         TokenKind::Word(Word::Null) => PartStep::On(AttrPlace::Ended(attribute)),
-        _ => {
-            drop(attribute);
-            PartStep::Unexpected
-        }
+        _ => unexpected(attribute),
     }
 }
 
@@ -185,10 +178,7 @@ fn read_ended(attribute: AttrText, token: Token) -> PartStep<AttrPlace, AttrText
 {
     match token.kind {
         TokenKind::Symbol(symbol) => end_attribute(attribute, symbol),
-        _ => {
-            drop(attribute);
-            PartStep::Unexpected
-        }
+        _ => unexpected(attribute),
     }
 }
 
@@ -238,10 +228,7 @@ fn read_low(label: Label, token: Token) -> PartStep<DimPlace, DimText>
             let lo = Bound { value, span };
             PartStep::On(DimPlace::Bounds(label, BoundPlace::Lowered(lo)))
         }
-        _ => {
-            drop(label);
-            PartStep::Unexpected
-        }
+        _ => unexpected(label),
     }
 }
 
@@ -265,10 +252,7 @@ fn read_high(label: Label, lo: Bound, token: Token) -> PartStep<DimPlace, DimTex
             let hi = Bound { value, span };
             PartStep::On(DimPlace::Numbers(label, lo, hi, NumberPlace::Bounded))
         }
-        _ => {
-            drop(label);
-            PartStep::Unexpected
-        }
+        _ => unexpected(label),
     }
 }
 
@@ -285,19 +269,13 @@ fn read_bound(label: Label, place: BoundPlace, token: Token) -> PartStep<DimPlac
                 let lo = negated(value, minus, token.span);
                 PartStep::On(DimPlace::Bounds(label, BoundPlace::Lowered(lo)))
             }
-            _ => {
-                drop(label);
-                PartStep::Unexpected
-            }
+            _ => unexpected(label),
         },
         BoundPlace::Lowered(lo) => match token.kind {
             TokenKind::Symbol(Symbol::Colon) => {
                 PartStep::On(DimPlace::Bounds(label, BoundPlace::High(lo)))
             }
-            _ => {
-                drop(label);
-                PartStep::Unexpected
-            }
+            _ => unexpected(label),
         },
         BoundPlace::High(lo) => read_high(label, lo, token),
         BoundPlace::HighMinus(lo, minus) => match token.kind {
@@ -305,10 +283,7 @@ fn read_bound(label: Label, place: BoundPlace, token: Token) -> PartStep<DimPlac
                 let hi = negated(value, minus, token.span);
                 PartStep::On(DimPlace::Numbers(label, lo, hi, NumberPlace::Bounded))
             }
-            _ => {
-                drop(label);
-                PartStep::Unexpected
-            }
+            _ => unexpected(label),
         },
     }
 }
@@ -340,39 +315,27 @@ fn read_number(
             TokenKind::Symbol(Symbol::Comma) => {
                 PartStep::On(DimPlace::Numbers(label, lo, hi, NumberPlace::Chunk))
             }
-            _ => {
-                drop(label);
-                PartStep::Unexpected
-            }
+            _ => unexpected(label),
         },
         NumberPlace::Chunk => match token.kind {
             TokenKind::Int(value) => {
                 let chunk = count_of(value, token.span);
                 PartStep::On(DimPlace::Numbers(label, lo, hi, NumberPlace::Chunked(chunk)))
             }
-            _ => {
-                drop(label);
-                PartStep::Unexpected
-            }
+            _ => unexpected(label),
         },
         NumberPlace::Chunked(chunk) => match token.kind {
             TokenKind::Symbol(Symbol::Comma) => {
                 PartStep::On(DimPlace::Numbers(label, lo, hi, NumberPlace::Overlap(chunk)))
             }
-            _ => {
-                drop(label);
-                PartStep::Unexpected
-            }
+            _ => unexpected(label),
         },
         NumberPlace::Overlap(chunk) => match token.kind {
             TokenKind::Int(value) => {
                 let overlap = count_of(value, token.span);
                 PartStep::On(DimPlace::Ended(label.with_numbers(lo, hi, chunk, overlap)))
             }
-            _ => {
-                drop(label);
-                PartStep::Unexpected
-            }
+            _ => unexpected(label),
         },
     }
 }
@@ -401,10 +364,7 @@ fn read_equal(label: Label, token: Token) -> PartStep<DimPlace, DimText>
 {
     match token.kind {
         TokenKind::Symbol(Symbol::Equal) => PartStep::On(DimPlace::Bounds(label, BoundPlace::Low)),
-        _ => {
-            drop(label);
-            PartStep::Unexpected
-        }
+        _ => unexpected(label),
     }
 }
 
@@ -415,10 +375,7 @@ fn end_dimension(dimension: DimText, token: Token) -> PartStep<DimPlace, DimText
     match token.kind {
         TokenKind::Symbol(Symbol::Comma) => PartStep::Next(dimension),
         TokenKind::Symbol(Symbol::RightBracket) => PartStep::Last(dimension),
-        _ => {
-            drop(dimension);
-            PartStep::Unexpected
-        }
+        _ => unexpected(dimension),
     }
 }
 
@@ -442,15 +399,15 @@ fn read_dimension(
     }
 }
 
-/// The attributes and one more.
-fn with_attribute(attributes: List<AttrText>, attribute: AttrText) -> Result<List<AttrText>, Memory>
-    ensures { IfOk result (λ more. more ≡ attributes ++ attribute ∷ []) }
+/// The parts and one more.
+fn with_part<T: Drop>(parts: List<T>, part: T) -> Result<List<T>, Memory>
+    ensures { IfOk result (λ more. more ≡ parts ++ part ∷ []) }
 {
-    let mut attributes = attributes;
-    match attributes.push(attribute) {
-        Ok(()) => Ok(attributes),
+    let mut parts = parts;
+    match parts.push(part) {
+        Ok(()) => Ok(parts),
         Err(Memory) => {
-            drop(attributes);
+            drop(parts);
             Err(Memory)
         }
     }
@@ -471,7 +428,7 @@ fn after_attribute(
             place,
         })),
         PartStep::Next(attribute) => {
-            let attributes = with_attribute(attributes, attribute)?;
+            let attributes = with_part(attributes, attribute)?;
             let place = AttrPlace::First;
             Ok(ShapeStep::On(ShapeState::Attributes {
                 start,
@@ -480,7 +437,7 @@ fn after_attribute(
             }))
         }
         PartStep::Last(attribute) => {
-            let attributes = with_attribute(attributes, attribute)?;
+            let attributes = with_part(attributes, attribute)?;
             Ok(ShapeStep::On(ShapeState::Between { start, attributes }))
         }
         PartStep::Unexpected => {
@@ -508,20 +465,6 @@ fn whole(head: Head, dimensions: List<DimText>, end: Span) -> ShapeStep
     ShapeStep::Whole(schema, across(start, end))
 }
 
-/// The dimensions and one more.
-fn with_dimension(dimensions: List<DimText>, dimension: DimText) -> Result<List<DimText>, Memory>
-    ensures { IfOk result (λ more. more ≡ dimensions ++ dimension ∷ []) }
-{
-    let mut dimensions = dimensions;
-    match dimensions.push(dimension) {
-        Ok(()) => Ok(dimensions),
-        Err(Memory) => {
-            drop(dimensions);
-            Err(Memory)
-        }
-    }
-}
-
 /// Where the dimensions stand after a step at a token of this place.
 fn after_dimension(
     head: Head,
@@ -537,7 +480,7 @@ fn after_dimension(
             dimensions,
             place,
         })),
-        PartStep::Next(dimension) => match with_dimension(dimensions, dimension) {
+        PartStep::Next(dimension) => match with_part(dimensions, dimension) {
             Ok(dimensions) => {
                 let place = DimPlace::First;
                 Ok(ShapeStep::On(ShapeState::Dimensions {
@@ -551,7 +494,7 @@ fn after_dimension(
                 Err(Memory)
             }
         },
-        PartStep::Last(dimension) => match with_dimension(dimensions, dimension) {
+        PartStep::Last(dimension) => match with_part(dimensions, dimension) {
             Ok(dimensions) => Ok(whole(head, dimensions, span)),
             Err(Memory) => {
                 drop(head);

@@ -1,6 +1,6 @@
 -- What one call more does to the images.
-use Rattle.std.proofs.Common.{◌≡◌, ◌≤◌, ◌<◌, ◌⊎◌, inl, inr, ℕ, ◌+◌, ◌-◌, min, List, [], ◌∷◌, ◌++◌, length, take, drop, replicate, true, false, refl, sym, ◌∙◌, subst, arith, length-append, length-drop}
-use Rattle.std.proofs.lemmas.List.{drop_at, take_all, length-take, length-replicate, take-take, take-append-le}
+use Rattle.std.proofs.Common.{◌≡◌, ◌≤◌, ◌<◌, ◌⊎◌, inl, inr, ℕ, List, [], ◌∷◌, ◌++◌, length, take, true, false, refl, sym, subst, arith, length-append}
+use Rattle.std.proofs.lemmas.List.{take_all, take-append-le}
 use Rattle.afl_outside.specs.Disk.{written, Torn, Elapses}
 use Rattle.afl_outside.specs.Lemmas.TornLaws.{Torn-written}
 use Rattle.afl_in_memory.specs.Images.{next_content, NextImages, content_after, ImagesAfter, Leaves, LeftSince}
