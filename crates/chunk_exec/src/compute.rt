@@ -1,7 +1,8 @@
 //! The arrays of plans, operator by operator.
-ghost use Rattle.std.specs.Prelude.{◌≡◌, ◌+◌, length, IfOk, OnOk};
-ghost use Rattle.chunk_source.specs.Source.{Keeps};
+ghost use Rattle.std.specs.Prelude.{◌≡◌, ◌+◌, length, IfOk, OnOk, OnErr};
+ghost use Rattle.chunk_source.specs.Source.{AsksFront, Keeps};
 ghost use Rattle.chunk_source.specs.Faults.{Answers};
+ghost use Rattle.chunk_source.specs.Reading.{asked_of};
 ghost use Rattle.logical_plan.specs.Leaves.{leaves};
 ghost use Rattle.chunk_exec.specs.Computed.{CanCompute, IsComputed};
 
@@ -24,6 +25,7 @@ pub(crate) fn compute<S: ChunkSource>(
     requires { CanCompute (S.state source.old) plan.now }
     ensures computed { IfOk result (IsComputed next.old (S.state source.old) (S.state source.new) plan.now) }
     ensures next { OnOk result (next.new ≡ next.old + length (leaves plan.now)) }
+    ensures front { let old = S.state source.old in OnErr result (AsksFront (asked_of old next.old (leaves plan.now)) old (S.state source.new)) }
     ensures kept { Keeps (S.state source.old) (S.state source.new) }
     ensures cause { Answers (S.state source.old) (S.state source.new) result }
     ensures start { S.start source.new ≡ S.start source.old }
