@@ -68,7 +68,23 @@ computed_one first old new query source array made is from result = record {
   asked = from.asked ∙ ap (λ (z : List Leaf). old.asked ++ asked_of old first z) (sym (leaves_of_one query source is));
 }
 
+pub can_source : (old : SourceState) (query source : Query) → source ∷ [] ≡ sources query → CanCompute old query → CanCompute old source
+can_source old query source is can = record {
+  typed = let t : AllByRecursion IsTyped (source ∷ []) = subst (AllByRecursion IsTyped) (sym is) (typed_sources query can.typed) in t.0;
+  reads = subst (AllByRecursion (Reads old)) (leaves_of_one query source is) can.reads;
+}
+
 -- ---- plans of two sources
+
+all_left : {A : Type 0} (P : A → Type 0) (xs ys : List A) → AllByRecursion P (xs ++ ys) → AllByRecursion P xs
+all_left P [] ys a = tt
+all_left P (x ∷ xs) ys a = (a.0, all_left P xs ys a.1)
+
+pub can_left : (old : SourceState) (query left right : Query) → left ∷ right ∷ [] ≡ sources query → CanCompute old query → CanCompute old left
+can_left old query left right is can = record {
+  typed = let t : AllByRecursion IsTyped (left ∷ right ∷ []) = subst (AllByRecursion IsTyped) (sym is) (typed_sources query can.typed) in t.0;
+  reads = all_left (Reads old) (leaves left) (leaves right) (subst (AllByRecursion (Reads old)) (leaves_of_two query left right is) can.reads);
+}
 
 pub can_right : (old mid : SourceState) (query left right : Query) → left ∷ right ∷ [] ≡ sources query → Keeps old mid → CanCompute old query → CanCompute mid right
 can_right old mid query left right is k can = record {

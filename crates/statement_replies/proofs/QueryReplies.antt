@@ -1,5 +1,5 @@
 -- The reply to a query, by what checking answers to its tree.
-use Rattle.std.proofs.Common.{◌≡◌, ◌++◌, true, List, [], ◌∷◌, Result, Ok, Err, IfOk, sym, ap, ◌∙◌, subst}
+use Rattle.std.proofs.Common.{◌≡◌, ◌++◌, true, List, [], ◌∷◌, Result, Ok, Err, IfOk, OnOk, OnErr, sym, ap, ◌∙◌, subst}
 use Rattle.std.specs.List.{AllByRecursion}
 use Rattle.std.proofs.lemmas.List.{append-nil}
 use Rattle.cell_values.specs.declared.name.Span.{Span}
@@ -62,11 +62,11 @@ module _ (names : Names) (tells : Database → Type 0) (tree : Term) where
   }
 
 module _ (old new : SourceState) (checked : Checked Query) where
-  pub asked_of_plan : (plan : Query) → checked ≡ Ok plan → new.asked ≡ old.asked ++ asked_of old 0 (leaves plan) → new.asked ≡ old.asked ++ asked_for old checked
-  asked_of_plan plan is asked = asked ∙ ap (λ (c : Checked Query). old.asked ++ asked_for old c) (sym is)
+  pub asked_of_plan : {T E : Type 0} (answer : Result T E) (plan : Query) → checked ≡ Ok plan → OnOk answer (new.asked ≡ old.asked ++ asked_of old 0 (leaves plan)) → OnOk answer (new.asked ≡ old.asked ++ asked_for old checked)
+  asked_of_plan answer plan is = subst (λ (c : Checked Query). OnOk answer (new.asked ≡ old.asked ++ asked_for old c)) (sym is)
 
-  pub front_of_plan : (plan : Query) → checked ≡ Ok plan → AsksFront (asked_of old 0 (leaves plan)) old new → AsksFront (asked_for old checked) old new
-  front_of_plan plan is front = subst (λ (c : Checked Query). AsksFront (asked_for old c) old new) (sym is) front
+  pub front_of_plan : {T E : Type 0} (answer : Result T E) (plan : Query) → checked ≡ Ok plan → OnErr answer (AsksFront (asked_of old 0 (leaves plan)) old new) → OnErr answer (AsksFront (asked_for old checked) old new)
+  front_of_plan answer plan is = subst (λ (c : Checked Query). OnErr answer (AsksFront (asked_for old c) old new)) (sym is)
 
   pub asked_of_breach : (span : Span) (kind : TypeKind) → checked ≡ broken span kind → new.asked ≡ old.asked → new.asked ≡ old.asked ++ asked_for old checked
   asked_of_breach span kind is same = same ∙ sym (append-nil old.asked) ∙ ap (λ (c : Checked Query). old.asked ++ asked_for old c) (sym is)
