@@ -39,7 +39,7 @@ fn reply_to_tree(alloc: Global, text: &[u8], tree: &Tree) -> Result<Reply, Memor
 }
 
 /// The reply to a tree all of whose operators are built: it is a query.
-#[tactic(auto, using(crate::proofs::NoArrays::valid_none, crate::proofs::NoArrays::holds_none, crate::proofs::NoArrays::told_none, crate::proofs::NoArrays::never_fails, crate::proofs::NoArrays::never_damaged))]
+#[tactic(auto, using(crate::proofs::NoArrays::valid_none, crate::proofs::NoArrays::holds_none, crate::proofs::NoArrays::never_fails, crate::proofs::NoArrays::never_damaged))]
 fn reply_to_built(alloc: Global, text: &[u8], tree: &Tree) -> Result<Reply, Memory>
     requires { IsTrue (leaves_fit tree.now) }
     ensures { IfOk result (λ reply. reply ≡ query_reply no_names nothing tree.now) }
