@@ -2,7 +2,7 @@
 use Rattle.std.proofs.Common.{◌≡◌, ℕ, false, List, Option, Some, refl}
 use Rattle.std.proofs.lemmas.Bool.{or_parts}
 use Rattle.cell_values.specs.declared.name.Span.{Span}
-use Rattle.afl_parser.specs.Term.{Term, create, call, Terms}
+use Rattle.afl_trees.specs.Term.{Term, create, call, Terms}
 use Rattle.logical_plan.specs.declared.names.NameEntry.{NameEntry}
 use Rattle.logical_plan.specs.declared.names.Names.{Names}
 use Rattle.check_rules.specs.Checked.{Checked}

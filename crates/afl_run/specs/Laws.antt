@@ -1,6 +1,6 @@
 -- A law of statements whose parts are all built.
 use Rattle.std.specs.Prelude.{◌≡◌, ℕ, false, List}
-use Rattle.afl_parser.specs.Term.{Term}
+use Rattle.afl_trees.specs.Term.{Term}
 use Rattle.logical_plan.specs.declared.names.Names.{Names}
 use Rattle.afl_types.specs.Checking.{check_of}
 use Rattle.afl_types.specs.Queries.{query_of}

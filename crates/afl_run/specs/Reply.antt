@@ -2,7 +2,7 @@
 --
 -- A tree with a part that is not built yet is not built. Any other is a query, over stored arrays of these names and rows.
 use Rattle.std.specs.Prelude.{◌≡◌, [], if◌then◌else◌}
-use Rattle.afl_parser.specs.Term.{Term}
+use Rattle.afl_trees.specs.Term.{Term}
 use Rattle.logical_plan.specs.declared.names.Names.{Names}
 use Rattle.logical_plan.specs.Meaning.{Database}
 use Rattle.result_print.specs.declared.refusal.Refusal.TheVariants.{NotBuilt}

@@ -6,7 +6,8 @@ ghost use Rattle.afl_run.specs.Reply.{IsTreeReply, no_names, nothing};
 
 use crate::unbuilt::is_unbuilt;
 use afl_outside::OpenGate;
-use afl_parser::{ParseFault, Tree, parse};
+use afl_parser::{ParseFault, parse};
+use afl_trees::Tree;
 use cell_values::{List, Memory};
 use chunk_source::{ExecFault, SureChunks};
 use logical_plan::Names;

@@ -7,9 +7,9 @@ use Rattle.std.specs.Prelude.{◌≡◌, ◌⊎◌, ℕ, List, Option, Some, Non
 use Rattle.cell_values.specs.declared.datum.Broken.{Broken}
 use Rattle.cell_values.specs.declared.datum.Row.{Row}
 use Rattle.cell_values.specs.declared.schema.Schema.{Schema}
-use Rattle.afl_parser.specs.Term.{Term}
-use Rattle.afl_parser.specs.Statement.{DerivesText, StopsText}
-use Rattle.afl_parser.specs.declared.kind.ParseKind.{ParseKind}
+use Rattle.afl_trees.specs.Term.{Term}
+use Rattle.afl_trees.specs.Statement.{DerivesText, StopsText}
+use Rattle.afl_trees.specs.declared.kind.ParseKind.{ParseKind}
 use Rattle.logical_plan.specs.declared.names.Names.{Names}
 use Rattle.logical_plan.specs.Query.{Query}
 use Rattle.logical_plan.specs.Faults.{first_fault}

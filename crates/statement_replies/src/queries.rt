@@ -18,7 +18,7 @@ ghost use Rattle.statement_replies.specs.Reply.{meant_reply, plan_reply};
 
 use crate::replies::{Reply, refuse};
 use afl_outside::Gate;
-use afl_parser::Tree;
+use afl_trees::Tree;
 use afl_types::{TypeFault, query_plan};
 use cell_values::{Broken, Memory};
 use chunk_source::{ChunkSource, ExecFault};
