@@ -7,7 +7,7 @@ use Rattle.std.specs.Io.KnownBytes.{IsAtEnd}
 use Rattle.afl_outside.specs.Counts.{Rose}
 use Rattle.afl_outside.specs.Source.{SourceState, Gives}
 use Rattle.afl_outside.specs.Sink.{SinkState}
-use Rattle.afl_run.specs.Session.{Replies, Serves}
+use Rattle.afl_run.specs.Session.{AnswerRule, Replies, Serves}
 use Rattle.afl_run.specs.Inner.Serving.{HasAnswered, HasStopped, IsServing, StopsWithin, EndsServing, end_of}
 use Rattle.afl_run.specs.declared.report.SessionEnd.{SessionEnd}
 use Rattle.afl_run.specs.declared.report.Mark.{Mark}
@@ -24,29 +24,29 @@ pub closed_more : (script bytes : List ℕ) (i : ℕ) (told : List Statement) �
     → closed_statements (script ++ take i bytes) ++ told ≡ closed_statements (script ++ take (i + 1) bytes)
 closed_more script bytes i told within is = sym (ap (λ (x : List ℕ). closed_statements x) (read_more script bytes i within) ∙ is)
 
-pub ends_whole : (origin now : SinkState) (script : List ℕ) (marks : List Mark) (told : List Statement) → statements script ≡ closed_statements script ++ told
-    → HasAnswered origin now (closed_statements script ++ told) marks → EndsServing origin now script marks Whole
-ends_whole origin now script marks told is answered =
-    let all : HasAnswered origin now (statements script) marks = subst (λ (ss : List Statement). HasAnswered origin now ss marks) (sym is) answered in
-    record { written = all.written; takes = all.takes; replies = (refl, all.answers); fault = λ e. cc }
+pub ends_whole : (Answered : AnswerRule) (origin now : SinkState) (script : List ℕ) (marks : List Mark) (told : List Statement) → statements script ≡ closed_statements script ++ told
+    → HasAnswered Answered origin now (closed_statements script ++ told) marks → EndsServing Answered origin now script marks Whole
+ends_whole Answered origin now script marks told is answered =
+    let all : HasAnswered Answered origin now (statements script) marks = subst (λ (ss : List Statement). HasAnswered Answered origin now ss marks) (sym is) answered in
+    record { written = all.written; takes = all.takes; replies = (refl, all.answers); fault = λ e. cc; memory = λ e. absurd (cc (e)) }
 
-ends_early : (origin now : SinkState) (script : List ℕ) (marks : List Mark) (stopped : Stopped)
-    → HasStopped origin now (statements script) marks stopped → EndsServing origin now script marks (end_of stopped)
-ends_early origin now script marks Fault stops = record { written = stops.written; takes = stops.takes; replies = stops.answers; fault = λ e. stops.fault refl }
-ends_early origin now script marks Memory stops = record { written = stops.written; takes = stops.takes; replies = stops.answers; fault = λ e. cc }
+ends_early : (Answered : AnswerRule) (origin now : SinkState) (script : List ℕ) (marks : List Mark) (stopped : Stopped)
+    → HasStopped Answered origin now (statements script) marks stopped → EndsServing Answered origin now script marks (end_of stopped)
+ends_early Answered origin now script marks Fault stops = record { written = stops.written; takes = stops.takes; replies = stops.answers; fault = λ e. stops.fault refl; memory = λ e. absurd (cc (e)) }
+ends_early Answered origin now script marks Memory stops = record { written = stops.written; takes = stops.takes; replies = stops.answers; fault = λ e. cc; memory = λ e. stops.memory refl }
 
-pub ends_stopped : (origin now : SinkState) (script : List ℕ) (marks : List Mark) (stopped : Stopped) (told : List Statement) → statements script ≡ closed_statements script ++ told
-    → HasStopped origin now (closed_statements script ++ told) marks stopped → EndsServing origin now script marks (end_of stopped)
-ends_stopped origin now script marks stopped told is stops =
-    ends_early origin now script marks stopped (subst (λ (ss : List Statement). HasStopped origin now ss marks stopped) (sym is) stops)
+pub ends_stopped : (Answered : AnswerRule) (origin now : SinkState) (script : List ℕ) (marks : List Mark) (stopped : Stopped) (told : List Statement) → statements script ≡ closed_statements script ++ told
+    → HasStopped Answered origin now (closed_statements script ++ told) marks stopped → EndsServing Answered origin now script marks (end_of stopped)
+ends_stopped Answered origin now script marks stopped told is stops =
+    ends_early Answered origin now script marks stopped (subst (λ (ss : List Statement). HasStopped Answered origin now ss marks stopped) (sym is) stops)
 
 pieces_of : (read bytes done unread : List ℕ) → bytes ≡ done ++ unread → read ++ bytes ≡ (read ++ done) ++ unread
 pieces_of read bytes done unread is = ap (λ (x : List ℕ). read ++ x) is ∙ sym (append_assoc read done unread)
 
-module _ (source source' : SourceState) (sink sink' : SinkState) (marks : List Mark) where
+module _ (Answered : AnswerRule) (source source' : SourceState) (sink sink' : SinkState) (marks : List Mark) where
   -- the source's end was met
   pub serves_whole : (read more : List ℕ) (end : SessionEnd) → Gives source source' (read ++ more) → more ≡ [] → IsAtEnd source'.left
-      → EndsServing sink sink' read marks end → Serves source source' sink sink' marks end
+      → EndsServing Answered sink sink' read marks end → Serves Answered source source' sink sink' marks end
   serves_whole read more end gives none at_end ends = record {
     read = read;
     unread = more;
@@ -56,13 +56,14 @@ module _ (source source' : SourceState) (sink sink' : SinkState) (marks : List M
     takes = ends.takes;
     replies = ends.replies;
     at_end = λ whole. (at_end, none);
-    source_fault = λ is. let other = subst (λ (e : SessionEnd). Replies e true read marks ends.written) is ends.replies in absurd (cc (other.0));
+    source_fault = λ is. let other = subst (λ (e : SessionEnd). Replies Answered e true read marks ends.written) is ends.replies in absurd (cc (other.0));
     sink_fault = ends.fault;
+    memory = ends.memory;
   }
 
   -- it stopped within the bytes that came last
   pub serves_stopped : (read bytes : List ℕ) (stopped : Stopped) → Gives source source' (read ++ bytes)
-      → StopsWithin sink sink' read bytes marks stopped → Serves source source' sink sink' marks (end_of stopped)
+      → StopsWithin Answered sink sink' read bytes marks stopped → Serves Answered source source' sink sink' marks (end_of stopped)
   serves_stopped read bytes Fault gives stops = record {
     read = read ++ stops.done;
     unread = stops.unread;
@@ -74,6 +75,7 @@ module _ (source source' : SourceState) (sink sink' : SinkState) (marks : List M
     at_end = λ whole. absurd (cc (whole));
     source_fault = λ is. absurd (cc (is));
     sink_fault = λ is. stops.stops.fault refl;
+    memory = λ is. absurd (cc (is));
   }
   serves_stopped read bytes Memory gives stops = record {
     read = read ++ stops.done;
@@ -86,11 +88,12 @@ module _ (source source' : SourceState) (sink sink' : SinkState) (marks : List M
     at_end = λ whole. absurd (cc (whole));
     source_fault = λ is. absurd (cc (is));
     sink_fault = λ is. absurd (cc (is));
+    memory = λ is. stops.stops.memory refl;
   }
 
   -- the source failed
   pub serves_early : (read : List ℕ) (splitter : Splitting) → Gives source source' (read ++ []) → Rose source.faults source'.faults
-      → IsServing sink sink' read splitter marks → Serves source source' sink sink' marks Source
+      → IsServing Answered sink sink' read splitter marks → Serves Answered source source' sink sink' marks Source
   serves_early read splitter gives rose serving = record {
     read = read;
     unread = [];
@@ -102,4 +105,5 @@ module _ (source source' : SourceState) (sink sink' : SinkState) (marks : List M
     at_end = λ whole. absurd (cc (whole));
     source_fault = λ is. (rose, refl);
     sink_fault = λ is. absurd (cc (is));
+    memory = λ is. absurd (cc (is));
   }

@@ -1,8 +1,6 @@
+pub mod BuiltStatements
 pub mod Calls
-pub mod CheckedReplies
 pub mod Ending
-pub mod Outcomes
-pub mod PlanReplies
-pub mod PlansNow
+pub mod NoArrays
 pub mod Reports
 pub mod ServingLemmas

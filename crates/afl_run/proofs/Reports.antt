@@ -8,6 +8,7 @@ use Rattle.afl_outside.specs.Source.{SourceState, IsNewSource}
 use Rattle.afl_outside.specs.Sink.{SinkState, IsNewSink}
 use Rattle.afl_outside.specs.Shelf.{ShelfState, KeepsWord}
 use Rattle.afl_outside.proofs.Streams.{wrote_all}
+use Rattle.afl_run.specs.Answered.{IsAnswered}
 use Rattle.afl_run.specs.Session.{Serves}
 use Rattle.afl_run.specs.Notice.{is_refusal, is_want, notice_at, notice_of, status_of}
 use Rattle.afl_run.specs.Run.{IsOpenedAs, IsUnopened, Only, Prints, standard}
@@ -24,7 +25,7 @@ given_and_left l (Some xs) None bytes is c = absurd (subst (λ (o : Option (List
 given_and_left l (Some xs) (Some ys) bytes is c = (ys, refl, subst (λ (o : Option (List ℕ)). Consumes o (Some ys) bytes) is c)
 
 pub prints : (asked : List ℕ) (a b : SourceState) (k l : SinkState) (marks : List Mark) (end : SessionEnd)
-    → IsNewSource asked a → IsNewSink asked k → Serves a b k l marks end → Prints b l marks end
+    → IsNewSource asked a → IsNewSink asked k → Serves IsAnswered a b k l marks end → Prints IsAnswered b l marks end
 prints asked a b k l marks end source sink serves = record {
   read = serves.read;
   unread = serves.unread;
@@ -37,6 +38,7 @@ prints asked a b k l marks end source sink serves = record {
   at_end = serves.at_end;
   source_fault = λ is. let h = serves.source_fault is in (subst (λ (n : ℕ). Rose n b.faults) source.faults h.0, h.1);
   sink_fault = λ is. subst (λ (n : ℕ). Rose n l.faults) sink.faults (serves.sink_fault is);
+  memory = λ is. elim (serves.memory is) [ inl rose ↦ inl (subst (λ (n : ℕ). Rose n l.wants) sink.wants rose) | inr some ↦ inr some ];
 }
 
 -- what a shelf told of a name that it opened
@@ -48,7 +50,7 @@ kept_word (Some bytes) before now first x later is keeps = is ∙ keeps
 pub opened : {S K : Type 0} (source_of : S → SourceState) (sink_of : K → SinkState) (asked : List ℕ) (shelf next : ShelfState) (w w' v v' : ℕ) (s : S) (k : K) (b : SourceState) (l : SinkState) (marks : List Mark) (end : SessionEnd)
     → IsNewSource asked (source_of s) → IsNewSink asked (sink_of k) → KeepsWord (shelf.scripts asked) w w' (λ s. (source_of s).first) (Ok s)
     → KeepsWord (next.replies asked) v v' (λ k. (sink_of k).first) (Ok k) → next.replies asked ≡ shelf.replies asked
-    → Serves (source_of s) b (sink_of k) l marks end → IsOpenedAs asked shelf b l
+    → Serves IsAnswered (source_of s) b (sink_of k) l marks end → IsOpenedAs asked shelf b l
 opened source_of sink_of asked shelf next w w' v v' s k b l marks end source sink script reply same serves = record {
   source_name = subst (λ (o : Option (List ℕ)). IfSome o (λ told. told ≡ asked)) (sym serves.gives.name) source.name;
   sink_name = subst (λ (o : Option (List ℕ)). IfSome o (λ told. told ≡ asked)) (sym serves.takes.name) sink.name;
@@ -107,7 +109,7 @@ module _ {R : Type 0} (end : R → SessionEnd) (marks : R → List Mark) (source
   pub is_refused : notice ≡ Refused → Only (λ r. (end r ≡ ends.Whole) × Any (λ m. IsTrue (is_refusal m.refusal)) (marks r)) sessions
   is_refused is = elim told [ inl only ↦ refused_only sessions is only | inr none ↦ elim (none.1) [ inl m ↦ absurd (cc (is, m)) | inr s ↦ absurd (cc (is, s.0)) ] ]
 
-  complete_only : (xs : List R) → Only (λ r. notice ≡ notice_of (end r) (marks r)) xs → All (λ r. Prints (source r) (sink r) (marks r) (end r)) xs
+  complete_only : (xs : List R) → Only (λ r. notice ≡ notice_of (end r) (marks r)) xs → All (λ r. Prints IsAnswered (source r) (sink r) (marks r) (end r)) xs
       → All (λ r. (Rose 0 (source r).faults → ⊥) × (Rose 0 (sink r).faults → ⊥)) xs → Finished notice
   complete_only [] only prints calm = absurd only
   complete_only (r ∷ []) only prints calm =
@@ -116,7 +118,7 @@ module _ {R : Type 0} (end : R → SessionEnd) (marks : R → List Mark) (source
       subst Finished (sym only) (finished_at (end r) _ _ (λ is. still.0 (streams.source_fault is).0) (λ is. still.1 (streams.sink_fault is)))
   complete_only (r ∷ s ∷ xs) only prints calm = absurd only
 
-  pub is_complete : All (λ r. Prints (source r) (sink r) (marks r) (end r)) sessions → IsSome (shelf.scripts standard) → IsSome (shelf.replies standard)
+  pub is_complete : All (λ r. Prints IsAnswered (source r) (sink r) (marks r) (end r)) sessions → IsSome (shelf.scripts standard) → IsSome (shelf.replies standard)
       → All (λ r. (Rose 0 (source r).faults → ⊥) × (Rose 0 (sink r).faults → ⊥)) sessions → (status_of notice ≡ 0) ⊎ ((status_of notice ≡ 1) ⊎ (status_of notice ≡ 5))
   is_complete prints scripts replies calm =
       elim told [

@@ -1,4 +1,6 @@
+pub mod Answered
 pub mod Inner
+pub mod Laws
 pub mod Notice
 pub mod Reply
 pub mod Run

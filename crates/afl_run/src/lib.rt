@@ -2,6 +2,7 @@
 #![tactic(auto)]
 
 mod arg;
+mod laws;
 mod reply;
 mod report;
 mod session;
@@ -10,6 +11,7 @@ mod top;
 mod unbuilt;
 
 pub use arg::Arg;
+pub use laws::built_statements_are_queries;
 pub use report::{Mark, Notice, Report, SessionEnd, SessionReport, notice_line};
 pub use result_print::Refusal;
 pub use session::serve;

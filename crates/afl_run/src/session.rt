@@ -4,15 +4,19 @@ ghost use Rattle.afl_lexer.specs.Split.{Statement};
 ghost use Rattle.afl_lexer.specs.Inner.Standing.{StandsAfter, told};
 ghost use Rattle.afl_outside.specs.Sink.{SinkState};
 ghost use Rattle.afl_run.specs.Inner.Serving.{EndsServing, HasAnswered, HasStopped, IsServing, StopsWithin, end_of, mark_at, statement_at};
-ghost use Rattle.afl_run.specs.Session.{IsReplyToStatement, Serves};
+ghost use Rattle.afl_run.specs.Answered.{IsAnswered};
+ghost use Rattle.afl_run.specs.Reply.{IsTreeReply};
+ghost use Rattle.afl_run.specs.Session.{Serves};
+ghost use Rattle.statement_replies.specs.Reply.{IsReplyToStatement};
 
-use crate::reply::{Reply, refuse, reply_to};
+use crate::reply::reply_to;
 use crate::report::{Mark, SessionEnd, SessionReport};
 use crate::streams::{Stopped, write_whole};
 use afl_lexer::{SplitStep, Splitter};
 use afl_outside::{Failed, Sink, Source};
 use cell_values::{List, Memory};
 use result_print::Refusal;
+use statement_replies::{Reply, refuse};
 use std::alloc::Global;
 
 /// How many bytes are read at a time.
@@ -30,7 +34,7 @@ struct Session<K> {
 /// The reply to a statement between these places, which has no text where it is too long.
 fn answer(alloc: Global, start: u64, end: u64, text: Option<&[u8]>) -> Result<Reply, Memory>
     requires { IfSome text (λ t. length t.now ≤ 1048576) }
-    ensures { IfOk result (IsReplyToStatement (end - start) (option_map (λ t. t.now) text.entry)) }
+    ensures { IfOk result (IsReplyToStatement IsTreeReply (end - start) (option_map (λ t. t.now) text.entry)) }
 {
     match text {
         Some(text) => reply_to(alloc, text),
@@ -52,11 +56,11 @@ fn answer_statement<K: Sink>(
 ) -> Result<(), Stopped>
     requires { IfSome text (λ t. length t.now ≤ 1048576) }
     ensures ok { let statement = statement_at start end (option_map (λ t. t.now) text.entry) in
-        (origin : SinkState) (before : List Statement) → HasAnswered origin (K.state sink.old) before marks.old.items →
-        OnOk result (HasAnswered origin (K.state sink.new) (before ++ statement ∷ []) marks.new.items) }
+        (origin : SinkState) (before : List Statement) → HasAnswered IsAnswered origin (K.state sink.old) before marks.old.items →
+        OnOk result (HasAnswered IsAnswered origin (K.state sink.new) (before ++ statement ∷ []) marks.new.items) }
     ensures err { let statement = statement_at start end (option_map (λ t. t.now) text.entry) in
-        (origin : SinkState) (before : List Statement) → HasAnswered origin (K.state sink.old) before marks.old.items →
-        IfErr result (HasStopped origin (K.state sink.new) (before ++ statement ∷ []) marks.new.items) }
+        (origin : SinkState) (before : List Statement) → HasAnswered IsAnswered origin (K.state sink.old) before marks.old.items →
+        IfErr result (HasStopped IsAnswered origin (K.state sink.new) (before ++ statement ∷ []) marks.new.items) }
 {
     marks.reserve(1)?;
     match answer(alloc, start, end, text) {
@@ -98,10 +102,10 @@ impl<K: Sink> Session<K> {
     /// Answers the statement that the splitter told, if it told one.
     fn take_step(&mut self, step: SplitStep) -> Result<(), Stopped>
         ensures splitter { self.new.splitter ≡ self.old.splitter }
-        ensures ok { (origin : SinkState) (before : List Statement) → HasAnswered origin (K.state self.old.sink) before self.old.marks.items →
-            OnOk result (HasAnswered origin (K.state self.new.sink) (before ++ told step self.old.splitter) self.new.marks.items) }
-        ensures err { (origin : SinkState) (before : List Statement) → HasAnswered origin (K.state self.old.sink) before self.old.marks.items →
-            IfErr result (HasStopped origin (K.state self.new.sink) (before ++ told step self.old.splitter) self.new.marks.items) }
+        ensures ok { (origin : SinkState) (before : List Statement) → HasAnswered IsAnswered origin (K.state self.old.sink) before self.old.marks.items →
+            OnOk result (HasAnswered IsAnswered origin (K.state self.new.sink) (before ++ told step self.old.splitter) self.new.marks.items) }
+        ensures err { (origin : SinkState) (before : List Statement) → HasAnswered IsAnswered origin (K.state self.old.sink) before self.old.marks.items →
+            IfErr result (HasStopped IsAnswered origin (K.state self.new.sink) (before ++ told step self.old.splitter) self.new.marks.items) }
     {
         let (start, end, bytes) = self.splitter.piece();
         let (alloc, sink, marks) = (self.alloc, &mut self.sink, &mut self.marks);
@@ -115,10 +119,12 @@ impl<K: Sink> Session<K> {
     /// Takes the next bytes of the script.
     fn take_bytes(&mut self, bytes: &[u8]) -> Result<(), Stopped>
         requires { (script : List ℕ) × StandsAfter script self.old.splitter × (length script + length bytes.now < 2 ^ 63) }
-        ensures ok { (origin : SinkState) (script : List ℕ) → IsServing origin (K.state self.old.sink) script self.old.splitter self.old.marks.items →
-            OnOk result (IsServing origin (K.state self.new.sink) (script ++ bytes.now) self.new.splitter self.new.marks.items) }
-        ensures err { (origin : SinkState) (script : List ℕ) → IsServing origin (K.state self.old.sink) script self.old.splitter self.old.marks.items →
-            IfErr result (StopsWithin origin (K.state self.new.sink) script bytes.now self.new.marks.items) }
+        ensures ok { (origin : SinkState) (script : List ℕ) →
+            IsServing IsAnswered origin (K.state self.old.sink) script self.old.splitter self.old.marks.items →
+            OnOk result (IsServing IsAnswered origin (K.state self.new.sink) (script ++ bytes.now) self.new.splitter self.new.marks.items) }
+        ensures err { (origin : SinkState) (script : List ℕ) →
+            IsServing IsAnswered origin (K.state self.old.sink) script self.old.splitter self.old.marks.items →
+            IfErr result (StopsWithin IsAnswered origin (K.state self.new.sink) script bytes.now self.new.marks.items) }
     {
         for byte in bytes {
             let step = self.splitter.push(*byte);
@@ -129,8 +135,9 @@ impl<K: Sink> Session<K> {
 
     /// Takes the script's end.
     fn take_end(&mut self) -> SessionEnd
-        ensures { (origin : SinkState) (script : List ℕ) → IsServing origin (K.state self.old.sink) script self.old.splitter self.old.marks.items →
-            EndsServing origin (K.state self.new.sink) script self.new.marks.items result }
+        ensures { (origin : SinkState) (script : List ℕ) →
+            IsServing IsAnswered origin (K.state self.old.sink) script self.old.splitter self.old.marks.items →
+            EndsServing IsAnswered origin (K.state self.new.sink) script self.new.marks.items result }
     {
         let step = self.splitter.finish();
         match self.take_step(step) {
@@ -144,7 +151,7 @@ impl<K: Sink> Session<K> {
 fn converse<S: Source, K: Sink>(source: &mut S, session: &mut Session<K>) -> SessionEnd
     requires begun { StandsAfter [] session.old.splitter }
     requires marks { session.old.marks.items ≡ [] }
-    ensures { Serves (S.state source.old) (S.state source.new) (K.state session.old.sink) (K.state session.new.sink) session.new.marks.items result }
+    ensures { Serves IsAnswered (S.state source.old) (S.state source.new) (K.state session.old.sink) (K.state session.new.sink) session.new.marks.items result }
 {
     let mut piece = [0u8; PIECE];
     'pieces: loop {
@@ -167,7 +174,7 @@ pub fn serve<S: Source, K: Sink>(
     splitter: Splitter,
 ) -> SessionReport<S, K>
     requires { StandsAfter [] splitter }
-    ensures { Serves (S.state source) (S.state result.source) (K.state sink) (K.state result.sink) result.marks result.end }
+    ensures { Serves IsAnswered (S.state source) (S.state result.source) (K.state sink) (K.state result.sink) result.marks result.end }
 {
     let mut source = source;
     let mut session = Session {

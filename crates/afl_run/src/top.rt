@@ -5,6 +5,7 @@ ghost use Rattle.std.specs.List.{list_any};
 ghost use Rattle.afl_outside.specs.Counts.{Rose};
 ghost use Rattle.afl_outside.specs.Sink.{IsNewSink};
 ghost use Rattle.afl_outside.specs.Source.{IsNewSource};
+ghost use Rattle.afl_run.specs.Answered.{IsAnswered};
 ghost use Rattle.afl_run.specs.Notice.{is_refusal, is_want, notice_of, status_of};
 ghost use Rattle.afl_run.specs.Run.{IsOpenedAs, IsUnopened, Only, Prints, standard};
 ghost use Rattle.afl_run.specs.Words.{wrong_word};
@@ -29,7 +30,7 @@ pub fn run<F: Shelf, G: Gate>(alloc: Global, words: &[Arg], shelf: F, _gate: &G)
     ensures opened { All (λ r. IsOpenedAs standard (F.state shelf) (F.S.state r.source) (F.K.state r.sink)) result.sessions }
 
     // The statements of the script are answered in order.
-    ensures prints { All (λ r. Prints (F.S.state r.source) (F.K.state r.sink) r.marks r.end) result.sessions }
+    ensures prints { All (λ r. Prints IsAnswered (F.S.state r.source) (F.K.state r.sink) r.marks r.end) result.sessions }
 
     // Of a session the notice tells its end and its marks.
     ensures session { All (λ r. result.notice ≡ notice_of r.end r.marks) result.sessions }
@@ -91,7 +92,7 @@ fn status(notice: Notice) -> u8
 fn run_try<F: Shelf>(alloc: Global, shelf: F) -> Report<F>
     ensures status { result.status ≡ status_of result.notice }
     ensures opened { All (λ r. IsOpenedAs standard (F.state shelf) (F.S.state r.source) (F.K.state r.sink)) result.sessions }
-    ensures prints { All (λ r. Prints (F.S.state r.source) (F.K.state r.sink) r.marks r.end) result.sessions }
+    ensures prints { All (λ r. Prints IsAnswered (F.S.state r.source) (F.K.state r.sink) r.marks r.end) result.sessions }
     ensures notice { Only (λ r. result.notice ≡ notice_of r.end r.marks) result.sessions
         ⊎ ((result.sessions ≡ []) × ((result.notice ≡ Notice.Memory)
         ⊎ ((result.notice ≡ Notice.Stream 0) × IsUnopened standard (F.state shelf) (F.state result.shelf)))) }

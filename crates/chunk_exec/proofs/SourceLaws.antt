@@ -37,5 +37,11 @@ size_of_sources : (query : Query) → size_of_all (sources query) < query_size q
 size_of_sources (built schema e) = omega arith
 size_of_sources query = omega arith
 
+pub source_is_smaller : (query source : Query) → source ∷ [] ≡ sources query → query_size source < query_size query
+source_is_smaller query source is = let s : size_of_all (source ∷ []) < query_size query = subst (λ (z : List Query). size_of_all z < query_size query) (sym is) (size_of_sources query) in omega arith
+
+pub left_is_smaller : (query left right : Query) → left ∷ right ∷ [] ≡ sources query → query_size left < query_size query
+left_is_smaller query left right is = let s : size_of_all (left ∷ right ∷ []) < query_size query = subst (λ (z : List Query). size_of_all z < query_size query) (sym is) (size_of_sources query) in omega arith
+
 pub right_is_smaller : (query left right : Query) → left ∷ right ∷ [] ≡ sources query → query_size right < query_size query
 right_is_smaller query left right is = let s : size_of_all (left ∷ right ∷ []) < query_size query = subst (λ (z : List Query). size_of_all z < query_size query) (sym is) (size_of_sources query) in omega arith

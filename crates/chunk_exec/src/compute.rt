@@ -1,9 +1,11 @@
 //! The arrays of plans, operator by operator.
-ghost use Rattle.std.specs.Prelude.{◌≡◌, ◌+◌, length, IfOk, OnOk};
-ghost use Rattle.chunk_source.specs.Source.{Keeps};
+ghost use Rattle.std.specs.Prelude.{◌≡◌, ◌+◌, [], ◌∷◌, length, IfOk, OnOk, OnErr};
+ghost use Rattle.chunk_source.specs.Source.{AsksFront, Keeps};
 ghost use Rattle.chunk_source.specs.Faults.{Answers};
+ghost use Rattle.chunk_source.specs.Reading.{asked_of};
 ghost use Rattle.logical_plan.specs.Leaves.{leaves};
 ghost use Rattle.chunk_exec.specs.Computed.{CanCompute, IsComputed};
+ghost use Rattle.chunk_exec.specs.Inner.Operated.{sources};
 
 use crate::ExecFault;
 use crate::leaf::given_array;
@@ -15,6 +17,7 @@ use logical_plan::Plan;
 use std::alloc::Global;
 
 /// The array of a plan, whose leaves have the next numbers.
+#[cycle(compute)]
 pub(crate) fn compute<S: ChunkSource>(
     alloc: Global,
     plan: &Plan,
@@ -24,20 +27,60 @@ pub(crate) fn compute<S: ChunkSource>(
     requires { CanCompute (S.state source.old) plan.now }
     ensures computed { IfOk result (IsComputed next.old (S.state source.old) (S.state source.new) plan.now) }
     ensures next { OnOk result (next.new ≡ next.old + length (leaves plan.now)) }
+    ensures front { let old = S.state source.old in OnErr result (AsksFront (asked_of old next.old (leaves plan.now)) old (S.state source.new)) }
     ensures kept { Keeps (S.state source.old) (S.state source.new) }
     ensures cause { Answers (S.state source.old) (S.state source.new) result }
     ensures start { S.start source.new ≡ S.start source.old }
 {
     match sources_of(plan) {
         Sources::Given => given_array(alloc, plan, source, next),
-        Sources::One(from) => {
-            let array = compute(alloc, from, source, next)?;
-            Ok(of_one(alloc, plan, array)?)
-        }
-        Sources::Two(left, right) => {
-            let left = compute(alloc, left, source, next)?;
-            let right = compute(alloc, right, source, next)?;
-            Ok(of_two(plan, left, right)?)
-        }
+        Sources::One(from) => over_one(alloc, plan, from, source, next),
+        Sources::Two(left, right) => over_two(alloc, plan, left, right, source, next),
     }
+}
+
+/// The array of a plan of one source.
+#[cycle(compute)]
+fn over_one<S: ChunkSource>(
+    alloc: Global,
+    plan: &Plan,
+    from: &Plan,
+    source: &mut S,
+    next: &mut u32,
+) -> Result<ChunkedArray, ExecFault>
+    requires can { CanCompute (S.state source.old) plan.now }
+    requires from { from.now ∷ [] ≡ sources plan.now }
+    ensures computed { IfOk result (IsComputed next.old (S.state source.old) (S.state source.new) plan.now) }
+    ensures next { OnOk result (next.new ≡ next.old + length (leaves plan.now)) }
+    ensures front { let old = S.state source.old in OnErr result (AsksFront (asked_of old next.old (leaves plan.now)) old (S.state source.new)) }
+    ensures kept { Keeps (S.state source.old) (S.state source.new) }
+    ensures cause { Answers (S.state source.old) (S.state source.new) result }
+    ensures start { S.start source.new ≡ S.start source.old }
+{
+    let array = compute(alloc, from, source, next)?;
+    Ok(of_one(alloc, plan, array)?)
+}
+
+/// The array of a plan of two sources.
+#[cycle(compute)]
+fn over_two<S: ChunkSource>(
+    alloc: Global,
+    plan: &Plan,
+    left: &Plan,
+    right: &Plan,
+    source: &mut S,
+    next: &mut u32,
+) -> Result<ChunkedArray, ExecFault>
+    requires can { CanCompute (S.state source.old) plan.now }
+    requires both { left.now ∷ right.now ∷ [] ≡ sources plan.now }
+    ensures computed { IfOk result (IsComputed next.old (S.state source.old) (S.state source.new) plan.now) }
+    ensures next { OnOk result (next.new ≡ next.old + length (leaves plan.now)) }
+    ensures front { let old = S.state source.old in OnErr result (AsksFront (asked_of old next.old (leaves plan.now)) old (S.state source.new)) }
+    ensures kept { Keeps (S.state source.old) (S.state source.new) }
+    ensures cause { Answers (S.state source.old) (S.state source.new) result }
+    ensures start { S.start source.new ≡ S.start source.old }
+{
+    let left = compute(alloc, left, source, next)?;
+    let right = compute(alloc, right, source, next)?;
+    Ok(of_two(plan, left, right)?)
 }

@@ -1,8 +1,9 @@
 //! The arrays of plans without sources: given in the plan, or stored.
-ghost use Rattle.std.specs.Prelude.{◌≡◌, ◌+◌, [], length, IfOk, OnOk};
+ghost use Rattle.std.specs.Prelude.{◌≡◌, ◌+◌, [], length, map, IfOk, OnOk, OnErr};
 ghost use Rattle.cell_values.specs.Schemas.{IsValid};
-ghost use Rattle.chunk_source.specs.Source.{Keeps, Reads};
+ghost use Rattle.chunk_source.specs.Source.{AsksFront, Keeps, Reads, asks, listed};
 ghost use Rattle.chunk_source.specs.Faults.{Answers};
+ghost use Rattle.chunk_source.specs.Reading.{asked_of};
 ghost use Rattle.logical_plan.specs.Leaves.{leaves};
 ghost use Rattle.logical_plan.specs.Query.{scanned};
 ghost use Rattle.chunk_exec.specs.Computed.{CanCompute, IsComputed};
@@ -25,6 +26,7 @@ fn next_leaf<S: ChunkSource>(
     requires valid { IsValid leaf.now.schema }
     ensures computed { IfOk result (IsComputed next.old (S.state source.old) (S.state source.new) (scanned leaf.now)) }
     ensures next { OnOk result (next.new ≡ next.old + 1) }
+    ensures front { let old = S.state source.old in OnErr result (AsksFront (map (asks next.old) (listed old leaf.now)) old (S.state source.new)) }
     ensures kept { Keeps (S.state source.old) (S.state source.new) }
     ensures cause { Answers (S.state source.old) (S.state source.new) result }
     ensures start { S.start source.new ≡ S.start source.old }
@@ -40,6 +42,7 @@ fn next_leaf<S: ChunkSource>(
 }
 
 /// The array of a plan that works on no other.
+#[tactic(auto, using(crate::proofs::ComputedLaws::scan_front, crate::proofs::ComputedLaws::front_none))]
 pub(crate) fn given_array<S: ChunkSource>(
     alloc: Global,
     plan: &Plan,
@@ -50,6 +53,7 @@ pub(crate) fn given_array<S: ChunkSource>(
     requires given { sources plan.now ≡ [] }
     ensures computed { IfOk result (IsComputed next.old (S.state source.old) (S.state source.new) plan.now) }
     ensures next { OnOk result (next.new ≡ next.old + length (leaves plan.now)) }
+    ensures front { let old = S.state source.old in OnErr result (AsksFront (asked_of old next.old (leaves plan.now)) old (S.state source.new)) }
     ensures kept { Keeps (S.state source.old) (S.state source.new) }
     ensures cause { Answers (S.state source.old) (S.state source.new) result }
     ensures start { S.start source.new ≡ S.start source.old }

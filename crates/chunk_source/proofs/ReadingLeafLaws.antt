@@ -1,7 +1,6 @@
 -- The chunks of a leaf are those of its array.
-use Rattle.std.proofs.Common.{◌≡◌, ℕ, suc, ◌≤◌, ◌^◌, true, ◌&&◌, List, [], ◌∷◌, length, Option, Some, None, refl, sym, ap, ◌∙◌, subst, arith}
+use Rattle.std.proofs.Common.{◌≡◌, ℕ, suc, ◌≤◌, ◌^◌, true, ◌&&◌, List, [], ◌∷◌, length, None, refl, sym, ap, ◌∙◌, subst, arith}
 use Rattle.std.specs.List.{AllByRecursion, AllZip, list_all}
-use Rattle.std.specs.Prelude.{IfSome}
 use Rattle.arrayvec.specs.ArrayVec.{ArrayVec}
 use Rattle.cell_values.specs.declared.datum.Row.{Row}
 use Rattle.cell_values.specs.declared.schema.Dimension.{Dimension}
@@ -17,7 +16,7 @@ use Rattle.array_geom.proofs.TestLaws.{and_parts, at_most}
 use Rattle.array_parts.specs.Placed.{HasPlaces, HavePlaces}
 use Rattle.logical_plan.specs.declared.parts.Leaf.{Leaf}
 use Rattle.logical_plan.specs.Meaning.{Database, version_rows, whole}
-use Rattle.chunk_source.specs.Source.{numbers_of, IsStored, HasArray}
+use Rattle.chunk_source.specs.Source.{numbers_of, IsStored, HasArray, AreNumbersIn, IsChunkIn, IsArrayIn}
 
 pub each_overlap : (dims : List Dimension) → length (overlaps dims) ≡ length dims
 each_overlap [] = refl
@@ -97,10 +96,7 @@ is_array leaf array rows listed e m b valid rising stored has parts =
       };
     }
 
-pub is_told : (told : Option Database) (leaf : Leaf) (array : ChunkedArray) (listed : List (ArrayVec ℕ)) → array.schema ≡ leaf.schema → array.margins.items ≡ overlaps leaf.schema.dimensions → array.broken ≡ None
+pub is_told : (db : Database) (leaf : Leaf) (array : ChunkedArray) (listed : List (ArrayVec ℕ)) → array.schema ≡ leaf.schema → array.margins.items ≡ overlaps leaf.schema.dimensions → array.broken ≡ None
     → IsValid leaf.schema → NumbersRise (numbers_of listed) → AllZip (IsStored leaf.schema) listed array.chunks
-    → IfSome told (λ db. IsValid leaf.schema → HasArray leaf (version_rows db leaf.name leaf.version) listed)
-    → IfSome told (λ db. AllByRecursion (IsPart leaf.schema.dimensions (overlaps leaf.schema.dimensions) (version_rows db leaf.name leaf.version)) array.chunks)
-    → IfSome told (λ db. Is array (whole leaf.schema (version_rows db leaf.name leaf.version)))
-is_told None leaf array listed e m b valid rising stored has parts = tt
-is_told (Some db) leaf array listed e m b valid rising stored has parts = is_array leaf array (version_rows db leaf.name leaf.version) listed e m b valid rising stored (has valid) parts
+    → AreNumbersIn db leaf listed → AllByRecursion (IsChunkIn db leaf) array.chunks → IsArrayIn db leaf array
+is_told db leaf array listed e m b valid rising stored has parts = is_array leaf array (version_rows db leaf.name leaf.version) listed e m b valid rising stored (has valid) parts

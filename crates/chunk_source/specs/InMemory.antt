@@ -1,5 +1,5 @@
 -- What sources over arrays in memory are, and what their calls do.
-use Rattle.std.specs.Prelude.{◌≡◌, ℕ, List, [], None, Some, Result, Ok, Err}
+use Rattle.std.specs.Prelude.{◌≡◌, ℕ, List, [], None, Result, Ok, Err}
 use Rattle.afl_outside.specs.Turns.{Turns, no_turns, IsListed, passed, failed}
 use Rattle.chunk_source.specs.declared.sources.asked.Asked.{Asked}
 use Rattle.chunk_source.specs.declared.sources.fault.SourceFault.{SourceFault}
@@ -17,12 +17,12 @@ pub record StoredArrays : Type 0 where
 abbrev pub unread : List LeafArray → StoredArrays
 unread arrays = record { arrays = arrays; asked = [] }
 
--- A source over these arrays tells them, and finds no page damaged.
+-- A source over these arrays tells their database, and finds no page damaged.
 abbrev pub stored_state : StoredArrays → ℕ → SourceState
 stored_state s faults = record {
   stored = λ name version. schema_of (array_of s.arrays name version);
   chunks = λ name version. chunks_of (array_of s.arrays name version);
-  told = Some (database_of s.arrays);
+  tells = λ db. db ≡ database_of s.arrays;
   asked = s.asked;
   damaged = None;
   faults = faults;

@@ -1,4 +1,3 @@
-pub mod Executed
 pub mod FaultLaws
 pub mod Steps
 pub mod WholeRows

@@ -5,19 +5,10 @@ use Rattle.cell_values.specs.declared.datum.Row.{Row}
 use Rattle.cell_values.specs.declared.schema.Schema.{Schema}
 use Rattle.array_geom.specs.declared.chunk.ChunkedArray.{ChunkedArray}
 use Rattle.array_geom.specs.Link.{HoldsResult, HoldsRows, Is}
-use Rattle.array_parts.specs.Placed.{HavePlaces, IsSound}
 use Rattle.logical_plan.specs.Faults.{fault_of}
 use Rattle.logical_plan.specs.Meaning.{Meant}
 use Rattle.plan_rows.specs.declared.answers.rows.PlanRows.TheVariants.{Rows}
 use Rattle.plan_rows.specs.Found.{IsFound}
-
-unbroken : (schema : Schema) (array : ChunkedArray) (rows : Result (List Row) Broken) → HoldsResult schema array rows → fault_of rows ≡ None → array.broken ≡ None
-unbroken schema array (Ok rows) h none = h.whole
-unbroken schema array (Err broken) h none = absurd (let no : Some broken ≡ None = none in cc)
-
--- without a fault an array's chunks have places
-pub has_places : (array : ChunkedArray) (meant : Meant) → Is array meant → IsSound array → fault_of meant.rows ≡ None → HavePlaces array.schema array.margins.items array.chunks
-has_places array meant is sound none = sound (unbroken meant.schema array meant.rows is.cells none)
 
 module _ (array : ChunkedArray) (meant : Meant) (schema : Schema) (rows : List Row) (is : Is array meant) (s : schema ≡ array.schema) (held_are : (held : List Row) → HoldsRows array.schema array held → rows ≡ held) where
   abbrev made : Schema → Result (List Row) Broken → Meant

@@ -1,6 +1,5 @@
-//! The rows of plans that read no stored array.
+//! The rows of plans.
 
-mod array;
 mod rows;
 
 pub use rows::{PlanRows, rows_of};

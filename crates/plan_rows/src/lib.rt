@@ -1,4 +1,4 @@
-//! What a plan that reads no stored array gives: its rows, or its first fault.
+//! What a plan gives over the arrays of a source: its rows, or its first fault.
 #![tactic(auto)]
 
 mod answers;

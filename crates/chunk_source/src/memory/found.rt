@@ -2,11 +2,10 @@
 ghost use Rattle.std.specs.Prelude.{◌≡◌, IsTrue, IfOk, Contains};
 ghost use Rattle.std.specs.List.{AllByRecursion};
 ghost use Rattle.std.specs.Option.{option_copied};
-ghost use Rattle.cell_values.specs.Schemas.{IsValid};
-ghost use Rattle.array_geom.specs.Geometry.{overlaps};
-ghost use Rattle.array_geom.specs.Link.{IsPart, NumbersRise, number_order, numbers, is_listed};
-ghost use Rattle.chunk_source.specs.Source.{is_among, numbers_of, IsStored, HasArray};
-ghost use Rattle.chunk_source.specs.Found.{IsStoredArray, array_of, numbers_in, IsRead, listed_of, leaf_rows};
+ghost use Rattle.array_geom.specs.Link.{NumbersRise, number_order, numbers, is_listed};
+ghost use Rattle.logical_plan.specs.Meaning.{Database};
+ghost use Rattle.chunk_source.specs.Source.{is_among, numbers_of, IsStored, AreNumbersIn, IsChunkIn};
+ghost use Rattle.chunk_source.specs.Found.{IsStoredArray, array_of, database_of, numbers_in, IsRead, listed_of};
 
 use crate::memory::leaf_array::{LeafArray, is_of};
 use array_geom::Chunk;
@@ -57,7 +56,7 @@ pub(crate) fn listed_in(arrays: &List<LeafArray>, leaf: &Leaf) -> Result<List<Ch
     requires reads { IsRead arrays.now leaf.now }
     ensures listed { IfOk result (λ chunks. chunks ≡ listed_of arrays.now leaf.now) }
     ensures rising { IfOk result (λ chunks. NumbersRise (numbers_of chunks)) }
-    ensures told { IfOk result (λ chunks. IsValid leaf.now.schema → HasArray leaf.now (leaf_rows arrays.now leaf.now) chunks) }
+    ensures told { IfOk result (λ chunks. (db : Database) → db ≡ database_of arrays.now → AreNumbersIn db leaf.now chunks) }
 {
     if leaf.version == 0 {
         return Ok(arrays.another());
@@ -74,7 +73,7 @@ pub(crate) fn chunk_in(arrays: &List<LeafArray>, leaf: &Leaf, at: &ChunkAt) -> R
     requires reads { IsRead arrays.now leaf.now }
     requires listed { IsTrue (is_among at.now (listed_of arrays.now leaf.now)) }
     ensures stored { IfOk result (IsStored leaf.now.schema at.now) }
-    ensures told { IfOk result (IsPart leaf.now.schema.dimensions (overlaps leaf.now.schema.dimensions) (leaf_rows arrays.now leaf.now)) }
+    ensures told { IfOk result (λ chunk. (db : Database) → db ≡ database_of arrays.now → IsChunkIn db leaf.now chunk) }
 {
     match array_of(arrays.as_slice(), leaf) {
         Some(stored) => chunk_at(stored.array.chunks.as_slice(), at).copy(),

@@ -1,11 +1,9 @@
 //! Arrays in memory, as a source whose calls fail where a list says so.
-ghost use Rattle.std.specs.Prelude.{◌≡◌, IfOk, IsOk, IfSome, IsTrue};
+ghost use Rattle.std.specs.Prelude.{◌≡◌, IfOk, IsOk, IsTrue};
 ghost use Rattle.std.specs.List.{AllByRecursion};
-ghost use Rattle.cell_values.specs.Schemas.{IsValid};
-ghost use Rattle.array_geom.specs.Geometry.{overlaps};
-ghost use Rattle.array_geom.specs.Link.{IsPart, NumbersRise};
-ghost use Rattle.logical_plan.specs.Meaning.{version_rows};
-ghost use Rattle.chunk_source.specs.Source.{Reads, listed, is_among, numbers_of, IsStored, HasArray, Keeps, Blames, AsksFor};
+ghost use Rattle.array_geom.specs.Link.{NumbersRise};
+ghost use Rattle.logical_plan.specs.Meaning.{Database};
+ghost use Rattle.chunk_source.specs.Source.{Reads, listed, is_among, numbers_of, IsStored, AreNumbersIn, IsChunkIn, Keeps, Blames, AsksFor};
 ghost use Rattle.chunk_source.specs.Found.{IsStoredArray};
 ghost use Rattle.chunk_source.specs.InMemory.{new_chunks, memory_state, TakesTurn};
 
@@ -65,7 +63,7 @@ impl ChunkSource for MemChunks {
         requires { Reads (memory_state self.old) leaf.now }
         ensures listed { IfOk result (λ chunks. chunks ≡ listed (memory_state self.old) leaf.now) }
         ensures rising { IfOk result (λ chunks. NumbersRise (numbers_of chunks)) }
-        ensures told { IfOk result (λ chunks. IfSome (memory_state self.old).told (λ db. IsValid leaf.now.schema → HasArray leaf.now (version_rows db leaf.now.name leaf.now.version) chunks)) }
+        ensures told { IfOk result (λ chunks. (db : Database) → (memory_state self.old).tells db → AreNumbersIn db leaf.now chunks) }
         ensures asked { (memory_state self.new).asked ≡ (memory_state self.old).asked }
         ensures kept { Keeps (memory_state self.old) (memory_state self.new) }
         ensures cause { Blames (memory_state self.old) (memory_state self.new) result }
@@ -81,7 +79,7 @@ impl ChunkSource for MemChunks {
         requires reads { Reads (memory_state self.old) leaf.now }
         requires listed { IsTrue (is_among at.now (listed (memory_state self.old) leaf.now)) }
         ensures stored { IfOk result (IsStored leaf.now.schema at.now) }
-        ensures told { IfOk result (λ chunk. IfSome (memory_state self.old).told (λ db. IsPart leaf.now.schema.dimensions (overlaps leaf.now.schema.dimensions) (version_rows db leaf.now.name leaf.now.version) chunk)) }
+        ensures told { IfOk result (λ chunk. (db : Database) → (memory_state self.old).tells db → IsChunkIn db leaf.now chunk) }
         ensures asked { AsksFor number at.now (memory_state self.old) (memory_state self.new) result }
         ensures kept { Keeps (memory_state self.old) (memory_state self.new) }
         ensures cause { Blames (memory_state self.old) (memory_state self.new) result }

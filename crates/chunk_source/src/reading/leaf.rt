@@ -1,13 +1,12 @@
 //! The arrays of leaves.
-ghost use Rattle.std.specs.Prelude.{◌≡◌, ◌++◌, None, map, IfOk, OnOk, IfSome, IsTrue};
+ghost use Rattle.std.specs.Prelude.{◌≡◌, ◌++◌, None, map, IfOk, OnOk, OnErr, IsTrue};
 ghost use Rattle.std.specs.List.{AllByRecursion, AllZip};
 ghost use Rattle.cell_values.specs.Schemas.{IsValid};
 ghost use Rattle.array_geom.specs.Chunks.{IsChunk};
 ghost use Rattle.array_geom.specs.Geometry.{overlaps};
-ghost use Rattle.array_geom.specs.Link.{Is, IsPart};
 ghost use Rattle.array_parts.specs.Placed.{HavePlaces};
-ghost use Rattle.logical_plan.specs.Meaning.{version_rows, whole};
-ghost use Rattle.chunk_source.specs.Source.{Reads, listed, is_among, IsStored, Keeps, asks};
+ghost use Rattle.logical_plan.specs.Meaning.{Database};
+ghost use Rattle.chunk_source.specs.Source.{Reads, listed, is_among, IsStored, IsChunkIn, IsArrayIn, Keeps, AsksFront, asks};
 ghost use Rattle.chunk_source.specs.Faults.{Answers};
 
 use crate::reading::ExecFault;
@@ -26,8 +25,9 @@ fn read_chunks<S: ChunkSource>(
     requires reads { Reads (S.state source.old) leaf.now }
     requires listed { AllByRecursion (λ at. IsTrue (is_among at (listed (S.state source.old) leaf.now))) chunks.now }
     ensures stored { IfOk result (AllZip (IsStored leaf.now.schema) chunks.now) }
-    ensures told { IfOk result (λ read. IfSome (S.state source.old).told (λ db. AllByRecursion (IsPart leaf.now.schema.dimensions (overlaps leaf.now.schema.dimensions) (version_rows db leaf.now.name leaf.now.version)) read)) }
+    ensures told { IfOk result (λ read. (db : Database) → (S.state source.old).tells db → AllByRecursion (IsChunkIn db leaf.now) read) }
     ensures asked { OnOk result ((S.state source.new).asked ≡ (S.state source.old).asked ++ map (asks number) chunks.now) }
+    ensures front { OnErr result (AsksFront (map (asks number) chunks.now) (S.state source.old) (S.state source.new)) }
     ensures kept { Keeps (S.state source.old) (S.state source.new) }
     ensures cause { Answers (S.state source.old) (S.state source.new) result }
     ensures start { S.start source.new ≡ S.start source.old }
@@ -52,8 +52,9 @@ pub fn read_leaf<S: ChunkSource>(
     ensures whole { IfOk result (λ array. array.broken ≡ None) }
     ensures placed { IfOk result (λ array. HavePlaces array.schema array.margins.items array.chunks) }
     ensures valid { IfOk result (λ array. AllByRecursion (IsChunk array.schema array.margins.items) array.chunks) }
-    ensures told { IfOk result (λ array. IfSome (S.state source.old).told (λ db. Is array (whole leaf.now.schema (version_rows db leaf.now.name leaf.now.version)))) }
+    ensures told { IfOk result (λ array. (db : Database) → (S.state source.old).tells db → IsArrayIn db leaf.now array) }
     ensures asked { OnOk result ((S.state source.new).asked ≡ (S.state source.old).asked ++ map (asks number) (listed (S.state source.old) leaf.now)) }
+    ensures front { let old = S.state source.old in OnErr result (AsksFront (map (asks number) (listed old leaf.now)) old (S.state source.new)) }
     ensures kept { Keeps (S.state source.old) (S.state source.new) }
     ensures cause { Answers (S.state source.old) (S.state source.new) result }
     ensures start { S.start source.new ≡ S.start source.old }

@@ -1,18 +1,17 @@
 //! What gives the chunks of stored arrays.
-ghost use Rattle.std.specs.Prelude.{◌≡◌, IfOk, IfSome, IsTrue};
-ghost use Rattle.cell_values.specs.Schemas.{IsValid};
-ghost use Rattle.array_geom.specs.Geometry.{overlaps};
-ghost use Rattle.array_geom.specs.Link.{IsPart, NumbersRise};
-ghost use Rattle.logical_plan.specs.Meaning.{version_rows};
-ghost use Rattle.chunk_source.specs.Source.{SourceState, Reads, listed, is_among, numbers_of, IsStored, HasArray, Keeps, Blames, AsksFor};
+ghost use Rattle.std.specs.Prelude.{◌≡◌, IfOk, IsTrue};
+ghost use Rattle.array_geom.specs.Link.{NumbersRise};
+ghost use Rattle.logical_plan.specs.Meaning.{Database};
+ghost use Rattle.chunk_source.specs.Source.{SourceState, Reads, listed, is_among, numbers_of, IsStored, AreNumbersIn, IsChunkIn, Keeps, Blames, AsksFor};
 
 use crate::sources::SourceFault;
 use array_geom::Chunk;
 use cell_values::{ChunkAt, List};
 use logical_plan::Leaf;
 
-/// What gives the chunks of stored arrays. It may tell the arrays; then its lists and chunks are theirs. It gives sound chunks
-/// whether it tells them or not. No call changes the arrays, or the value with which the source was made.
+/// What gives the chunks of stored arrays. It may tell the database that they are; then its lists and chunks are that one's. It
+/// gives sound chunks whether it tells one or not. No call changes the arrays, what is told, or the value with which the source
+/// was made.
 pub trait ChunkSource {
     /// What whoever made the source knows of its start.
     type Start;
@@ -26,7 +25,7 @@ pub trait ChunkSource {
         requires { Reads (state self.old) leaf.now }
         ensures listed { IfOk result (λ chunks. chunks ≡ listed (state self.old) leaf.now) }
         ensures rising { IfOk result (λ chunks. NumbersRise (numbers_of chunks)) }
-        ensures told { IfOk result (λ chunks. IfSome (state self.old).told (λ db. IsValid leaf.now.schema → HasArray leaf.now (version_rows db leaf.now.name leaf.now.version) chunks)) }
+        ensures told { IfOk result (λ chunks. (db : Database) → (state self.old).tells db → AreNumbersIn db leaf.now chunks) }
         ensures asked { (state self.new).asked ≡ (state self.old).asked }
         ensures kept { Keeps (state self.old) (state self.new) }
         ensures cause { Blames (state self.old) (state self.new) result }
@@ -37,7 +36,7 @@ pub trait ChunkSource {
         requires reads { Reads (state self.old) leaf.now }
         requires listed { IsTrue (is_among at.now (listed (state self.old) leaf.now)) }
         ensures stored { IfOk result (IsStored leaf.now.schema at.now) }
-        ensures told { IfOk result (λ chunk. IfSome (state self.old).told (λ db. IsPart leaf.now.schema.dimensions (overlaps leaf.now.schema.dimensions) (version_rows db leaf.now.name leaf.now.version) chunk)) }
+        ensures told { IfOk result (λ chunk. (db : Database) → (state self.old).tells db → IsChunkIn db leaf.now chunk) }
         ensures asked { AsksFor number at.now (state self.old) (state self.new) result }
         ensures kept { Keeps (state self.old) (state self.new) }
         ensures cause { Blames (state self.old) (state self.new) result }

@@ -1,16 +1,24 @@
 //! The rows of plans, or their first faults.
-ghost use Rattle.std.specs.Prelude.{◌≡◌, IfOk, None};
+ghost use Rattle.std.specs.Prelude.{◌≡◌, ◌≤◌, ◌++◌, IfOk, OnOk, OnErr, None};
 ghost use Rattle.array_geom.specs.Link.{Is};
-ghost use Rattle.array_parts.specs.Placed.{HavePlaces};
+ghost use Rattle.array_parts.specs.Placed.{HavePlaces, IsSound};
+ghost use Rattle.chunk_source.specs.Faults.{Answers};
+ghost use Rattle.chunk_source.specs.Reading.{asked_of};
+ghost use Rattle.chunk_source.specs.Source.{AsksFront, Keeps};
+ghost use Rattle.chunk_exec.specs.Computed.{CanCompute};
 ghost use Rattle.logical_plan.specs.Faults.{fault_of};
-ghost use Rattle.logical_plan.specs.Meaning.{Meant, meaning};
-ghost use Rattle.plan_rows.specs.Found.{CanAnswer, IsFound, nothing};
+ghost use Rattle.logical_plan.specs.Leaves.{leaves};
+ghost use Rattle.logical_plan.specs.Meaning.{Database, Meant, meaning};
+ghost use Rattle.logical_plan.specs.PlanSchema.{schema_of};
+ghost use Rattle.plan_rows.specs.Found.{HasSchema, IsFound};
 
-use crate::answers::array::array_of;
 use crate::faults::first_fault;
+use afl_outside::Gate;
 use array_geom::ChunkedArray;
 use cell_values::{Broken, List, Memory, Row, Schema};
 use chunk_cells::into_rows;
+use chunk_exec::{ExecFault, execute};
+use chunk_source::ChunkSource;
 use logical_plan::Plan;
 use std::alloc::Global;
 
@@ -21,13 +29,36 @@ pub enum PlanRows {
     Rows(Schema, List<Row>),
 }
 
-/// What a plan gives where no array is stored.
-#[tactic(auto, using(crate::proofs::WholeRows::has_places))]
-pub fn rows_of(alloc: Global, plan: &Plan) -> Result<PlanRows, Memory>
-    requires { CanAnswer plan.now }
-    ensures { IfOk result (IsFound (meaning nothing plan.now)) }
+/// What a plan gives over the arrays of a source.
+pub fn rows_of<S: ChunkSource, G: Gate>(
+    alloc: Global,
+    plan: &Plan,
+    source: &mut S,
+    workers: u32,
+    session: u32,
+    gate: &G,
+) -> Result<PlanRows, ExecFault>
+    requires undamaged { (S.state source.old).damaged ≡ None }
+    requires can { CanCompute (S.state source.old) plan.now }
+    requires workers { (1 ≤ workers) × (workers ≤ 64) }
+    ensures schema { IfOk result (HasSchema (schema_of plan.now)) }
+    ensures found { IfOk result (λ found. (db : Database) → (S.state source.old).tells db → IsFound (meaning db plan.now) found) }
+    ensures asked { OnOk result ((S.state source.new).asked ≡ (S.state source.old).asked ++ asked_of (S.state source.old) 0 (leaves plan.now)) }
+    ensures front { let old = S.state source.old in OnErr result (AsksFront (asked_of old 0 (leaves plan.now)) old (S.state source.new)) }
+    ensures kept { Keeps (S.state source.old) (S.state source.new) }
+    ensures cause { Answers (S.state source.old) (S.state source.new) result }
+    ensures start { S.start source.new ≡ S.start source.old }
 {
-    let array = array_of(alloc, plan)?;
+    let array = execute(alloc, plan, source, workers, session, gate)?;
+    Ok(rows_in(array)?)
+}
+
+/// An array's first fault, or else its schema and its rows.
+fn rows_in(array: ChunkedArray) -> Result<PlanRows, Memory>
+    requires { IsSound array }
+    ensures schema { IfOk result (HasSchema array.schema) }
+    ensures found { (meant : Meant) → Is array meant → IfOk result (IsFound meant) }
+{
     match first_fault(&array) {
         Some(broken) => Ok(PlanRows::Fault(broken)),
         None => whole_rows(array),
@@ -37,7 +68,8 @@ pub fn rows_of(alloc: Global, plan: &Plan) -> Result<PlanRows, Memory>
 /// The schema and the rows of an array that is not broken.
 fn whole_rows(array: ChunkedArray) -> Result<PlanRows, Memory>
     requires { HavePlaces array.schema array.margins.items array.chunks }
-    ensures { (meant : Meant) → Is array meant → fault_of meant.rows ≡ None → IfOk result (IsFound meant) }
+    ensures schema { IfOk result (HasSchema array.schema) }
+    ensures found { (meant : Meant) → Is array meant → fault_of meant.rows ≡ None → IfOk result (IsFound meant) }
 {
     let schema = array.schema.copy()?;
     let rows = into_rows(array)?;

@@ -104,7 +104,8 @@ fn least_fault(schema: &Schema, margins: &Margins, chunks: &[Chunk]) -> Option<B
 #[tactic(auto, using(crate::proofs::FaultLaws::fault_of_chunks, crate::proofs::FaultLaws::fault_of_broken))]
 pub fn first_fault(array: &ChunkedArray) -> Option<Broken>
     requires { IsSound array.now }
-    ensures { (meant : Meant) → Is array.now meant → result ≡ fault_of meant.rows }
+    ensures first { (meant : Meant) → Is array.now meant → result ≡ fault_of meant.rows }
+    ensures whole { result ≡ None → array.now.broken ≡ None }
 {
     match &array.broken {
         Some(broken) => Some(Broken {

@@ -1,31 +1,69 @@
 use Rattle.std.proofs.Common.{◌<◌, rules, arith}
 use Rattle.std.proofs.lemmas.Grind.{common_steps}
 use Rattle.logical_plan.specs.Query.{query_size}
+use Rattle.chunk_source.proofs.ReadLemmas.{on_err}
 use Rattle.chunk_exec.specs.Computed.{CanCompute}
-use Rattle.chunk_exec.proofs.ComputedLaws.{can_right, computed_one, computed_two, count_two}
-use Rattle.chunk_exec.proofs.SourceLaws.{right_is_smaller}
+use Rattle.chunk_exec.proofs.ComputedLaws.{can_left, can_right, can_source, computed_one, computed_two, count_two, front_both, front_left, front_made, front_one, front_right}
+use Rattle.chunk_exec.proofs.SourceLaws.{left_is_smaller, right_is_smaller, source_is_smaller}
 use Rattle.chunk_exec.proofs.compute.+compute.Goals as goal
 
-pub compute-requires-in-Two-2 : goal.compute-requires-in-Two-2
-compute-requires-in-Two-2 g t c κs within =
-    let mid = g.S.ChunkSource.state c.compute-in-Two.new.source in
-    let right = c.in-Two.right.now in
-    let can : CanCompute mid right = can_right (g.S.ChunkSource.state c.args.source.now) mid c.args.plan.now c.in-Two.left.now right c.in-Two.ensures c.in_ok-left-in-Two.ensures.kept c.requires in
-    let less : query_size right < query_size c.args.plan.now = right_is_smaller c.args.plan.now c.in-Two.left.now right c.in-Two.ensures in
+pub over_one-compute-requires : goal.over_one-compute-requires
+over_one-compute-requires g t c κs within =
+    let can : CanCompute (g.S.ChunkSource.state c.args.source.now) c.args.from.now = can_source (g.S.ChunkSource.state c.args.source.now) c.args.plan.now c.args.from.now c.requires.from c.requires.can in
+    let less : query_size c.args.from.now < query_size c.args.plan.now = source_is_smaller c.args.plan.now c.args.from.now c.requires.from in
     first_of (search (rules, can), search (rules, can, less), grind (arith, common_steps, can, less))
 
-pub returns-in_ok-of_one-in-One-clause-computed : goal.returns-in_ok-of_one-in-One-clause-computed
-returns-in_ok-of_one-in-One-clause-computed g t c =
-    computed_one c.args.next.now (g.S.ChunkSource.state c.args.source.now) (g.S.ChunkSource.state c.compute.new.source) c.args.plan.now c.in-One.from.now
-    c.in_ok-array-in-One.array c.in_ok-of_one-in-One.field-0 c.in-One.ensures c.in_ok-array-in-One.ensures.computed c.in_ok-of_one-in-One.ensures
+pub over_two-compute-requires : goal.over_two-compute-requires
+over_two-compute-requires g t c κs within =
+    let can : CanCompute (g.S.ChunkSource.state c.args.source.now) c.args.left.now = can_left (g.S.ChunkSource.state c.args.source.now) c.args.plan.now c.args.left.now c.args.right.now c.requires.both c.requires.can in
+    let less : query_size c.args.left.now < query_size c.args.plan.now = left_is_smaller c.args.plan.now c.args.left.now c.args.right.now c.requires.both in
+    first_of (search (rules, can), search (rules, can, less), grind (arith, common_steps, can, less))
 
-pub returns-in_ok-of_two-in-Two-clause-computed : goal.returns-in_ok-of_two-in-Two-clause-computed
-returns-in_ok-of_two-in-Two-clause-computed g t c =
-    let left = c.in_ok-left-in-Two.ensures in
-    computed_two c.args.next.now c.compute-in-Two.new.next (g.S.ChunkSource.state c.args.source.now) (g.S.ChunkSource.state c.compute-in-Two.new.source) (g.S.ChunkSource.state c.compute-in-Two-2.new.source)
-    c.args.plan.now c.in-Two.left.now c.in-Two.right.now c.in_ok-left-in-Two.left c.in_ok-right-in-Two.right c.in_ok-of_two-in-Two.field-0
-    c.in-Two.ensures left.kept left.next left.computed c.in_ok-right-in-Two.ensures.computed c.in_ok-of_two-in-Two.ensures
+pub over_two-compute-requires-2 : goal.over_two-compute-requires-2
+over_two-compute-requires-2 g t c κs within =
+    let mid = g.S.ChunkSource.state c.compute.new.source in
+    let can : CanCompute mid c.args.right.now
+    = can_right (g.S.ChunkSource.state c.args.source.now) mid c.args.plan.now c.args.left.now c.args.right.now c.requires.both c.in_ok-left.ensures.kept c.requires.can in
+    let less : query_size c.args.right.now < query_size c.args.plan.now = right_is_smaller c.args.plan.now c.args.left.now c.args.right.now c.requires.both in
+    first_of (search (rules, can), search (rules, can, less), grind (arith, common_steps, can, less))
 
-pub returns-in_ok-of_two-in-Two-clause-next : goal.returns-in_ok-of_two-in-Two-clause-next
-returns-in_ok-of_two-in-Two-clause-next g t c =
-    count_two c.args.next.now c.compute-in-Two.new.next c.compute-in-Two-2.new.next c.args.plan.now c.in-Two.left.now c.in-Two.right.now c.in-Two.ensures c.in_ok-left-in-Two.ensures.next c.in_ok-right-in-Two.ensures.next
+pub over_one-returns-clause-computed : goal.over_one-returns-clause-computed
+over_one-returns-clause-computed g t c =
+    computed_one c.args.next.now (g.S.ChunkSource.state c.args.source.now) (g.S.ChunkSource.state c.compute.new.source) c.args.plan.now c.args.from.now
+    c.in_ok-array.array c.in_ok-of_one.field-0 c.requires.from c.in_ok-array.ensures.computed c.in_ok-of_one.ensures
+
+pub over_one-returns-in_err-array-clause-front : goal.over_one-returns-in_err-array-clause-front
+over_one-returns-in_err-array-clause-front g t c =
+    on_err _ _ (front_one c.args.plan.now c.args.next.now (g.S.ChunkSource.state c.args.source.now) (g.S.ChunkSource.state c.compute.new.source) c.args.from.now c.requires.from c.in_err-array.ensures.front)
+
+pub over_one-returns-in_err-of_one-clause-front : goal.over_one-returns-in_err-of_one-clause-front
+over_one-returns-in_err-of_one-clause-front g t c =
+    on_err _ _ (front_made c.args.plan.now c.args.next.now (g.S.ChunkSource.state c.args.source.now) (g.S.ChunkSource.state c.compute.new.source) c.args.from.now c.requires.from
+    c.in_ok-array.array c.in_ok-array.ensures.computed)
+
+pub over_two-returns-clause-computed : goal.over_two-returns-clause-computed
+over_two-returns-clause-computed g t c =
+    let left = c.in_ok-left.ensures in
+    computed_two c.args.next.now c.compute.new.next (g.S.ChunkSource.state c.args.source.now) (g.S.ChunkSource.state c.compute.new.source) (g.S.ChunkSource.state c.compute-2.new.source)
+    c.args.plan.now c.args.left.now c.args.right.now c.in_ok-left.left c.in_ok-right.right c.in_ok-of_two.field-0
+    c.requires.both left.kept left.next left.computed c.in_ok-right.ensures.computed c.in_ok-of_two.ensures
+
+pub over_two-returns-clause-next : goal.over_two-returns-clause-next
+over_two-returns-clause-next g t c =
+    count_two c.args.next.now c.compute.new.next c.compute-2.new.next c.args.plan.now c.args.left.now c.args.right.now c.requires.both c.in_ok-left.ensures.next c.in_ok-right.ensures.next
+
+pub over_two-returns-in_err-left-clause-front : goal.over_two-returns-in_err-left-clause-front
+over_two-returns-in_err-left-clause-front g t c =
+    on_err _ _ (front_left c.args.plan.now c.args.next.now (g.S.ChunkSource.state c.args.source.now) (g.S.ChunkSource.state c.compute.new.source) c.args.left.now c.args.right.now c.requires.both c.in_err-left.ensures.front)
+
+pub over_two-returns-in_err-right-clause-front : goal.over_two-returns-in_err-right-clause-front
+over_two-returns-in_err-right-clause-front g t c =
+    let left = c.in_ok-left.ensures in
+    on_err _ _ (front_right c.args.plan.now c.args.next.now (g.S.ChunkSource.state c.args.source.now) (g.S.ChunkSource.state c.compute-2.new.source) c.compute.new.next (g.S.ChunkSource.state c.compute.new.source)
+    c.args.left.now c.args.right.now c.in_ok-left.left c.requires.both left.kept left.next left.computed c.in_err-right.ensures.front)
+
+pub over_two-returns-in_err-of_two-clause-front : goal.over_two-returns-in_err-of_two-clause-front
+over_two-returns-in_err-of_two-clause-front g t c =
+    let left = c.in_ok-left.ensures in
+    on_err _ _ (front_both c.args.plan.now c.args.next.now (g.S.ChunkSource.state c.args.source.now) (g.S.ChunkSource.state c.compute-2.new.source) c.compute.new.next (g.S.ChunkSource.state c.compute.new.source)
+    c.args.left.now c.args.right.now c.in_ok-left.left c.in_ok-right.right c.requires.both left.kept left.next left.computed c.in_ok-right.ensures.computed)

@@ -3,6 +3,7 @@ use Rattle.std.proofs.lemmas.List.{take_all, take-append-drop}
 use Rattle.std.proofs.lemmas.Result.{err_from_is_err_and}
 use Rattle.afl_lexer.specs.Split.{Statement, closed_statements}
 use Rattle.afl_lexer.specs.Inner.Standing.{Splitting, StandsAfter}
+use Rattle.afl_run.specs.Answered.{IsAnswered}
 use Rattle.afl_run.specs.Inner.Serving.{HasAnswered, HasStopped}
 use Rattle.afl_run.proofs.Ending.{read_more, closed_more}
 use Rattle.afl_run.proofs.session.Session.take_bytes.Goals as goal
@@ -19,7 +20,7 @@ loop-byte-preserved g c =
           subst (λ (s : Splitting). StandsAfter (script ++ take (i + 1) bytes) s) (sym step.splitter)
           (subst (λ (x : List ℕ). StandsAfter x c.push-step.new.self) (sym (read_more script bytes i c.loop-byte-test.true)) (push.stands (script ++ take i bytes) (so_far.stands script stands)));
       answered = λ origin script stands answered.
-          subst (λ (ss : List Statement). HasAnswered origin (g.K.Sink.state c.take_step.new.self.sink) ss c.take_step.new.self.marks.items)
+          subst (λ (ss : List Statement). HasAnswered IsAnswered origin (g.K.Sink.state c.take_step.new.self.sink) ss c.take_step.new.self.marks.items)
           (closed_more script bytes i _ c.loop-byte-test.true (push.statements (script ++ take i bytes) (so_far.stands script stands)))
           (step.ok origin (closed_statements (script ++ take i bytes)) (so_far.answered origin script stands answered));
     }
@@ -37,7 +38,7 @@ returns-in_err-take_step-clause-err g c origin script serving =
       unread = drop (i + 1) bytes;
       pieces = sym (take-append-drop (i + 1) bytes);
       stops =
-          subst (λ (ss : List Statement). HasStopped origin (g.K.Sink.state c.take_step.new.self.sink) ss c.take_step.new.self.marks.items c.in_err-take_step.field-0.0)
+          subst (λ (ss : List Statement). HasStopped IsAnswered origin (g.K.Sink.state c.take_step.new.self.sink) ss c.take_step.new.self.marks.items c.in_err-take_step.field-0.0)
           (closed_more script bytes i _ c.loop-byte-test.true (push.statements (script ++ take i bytes) (so_far.stands script serving.stands)))
           (step.err origin (closed_statements (script ++ take i bytes)) (so_far.answered origin script serving.stands serving.answered));
     })
@@ -48,6 +49,6 @@ returns-clause-ok g c origin script serving =
     let all : take c.loop-byte.byte-index c.args.bytes.now ≡ c.args.bytes.now = take_all _ _ c.loop-byte-test.false in
     record {
       stands = subst (λ (x : List ℕ). StandsAfter (script ++ x) c.loop-byte.self.splitter) all (so_far.stands script serving.stands);
-      answered = subst (λ (x : List ℕ). HasAnswered origin (g.K.Sink.state c.loop-byte.self.sink) (closed_statements (script ++ x)) c.loop-byte.self.marks.items) all
+      answered = subst (λ (x : List ℕ). HasAnswered IsAnswered origin (g.K.Sink.state c.loop-byte.self.sink) (closed_statements (script ++ x)) c.loop-byte.self.marks.items) all
           (so_far.answered origin script serving.stands serving.answered);
     }

@@ -1,10 +1,10 @@
 use Rattle.std.proofs.Common.{◌≡◌, rules, true, Some, List, sym, subst}
 use Rattle.std.specs.Prelude.{Contains}
 use Rattle.array_geom.specs.declared.chunk.Chunk.{Chunk}
-use Rattle.array_geom.specs.Geometry.{overlaps}
-use Rattle.array_geom.specs.Link.{NumbersRise, numbers, is_listed, IsPart}
-use Rattle.chunk_source.specs.Source.{IsStored}
-use Rattle.chunk_source.specs.Found.{array_of, leaf_rows}
+use Rattle.array_geom.specs.Link.{NumbersRise, numbers, is_listed}
+use Rattle.logical_plan.specs.Meaning.{Database}
+use Rattle.chunk_source.specs.Source.{IsStored, IsChunkIn}
+use Rattle.chunk_source.specs.Found.{array_of, database_of}
 use Rattle.chunk_source.proofs.MemoryLeafLaws.{found, later_version, found_listed, found_stored, found_part, of_copy}
 use Rattle.chunk_source.proofs.memory.found.chunk_in.Goals as goal
 
@@ -33,6 +33,5 @@ returns-clause-told c =
     let is : array_of c.args.arrays.now c.args.leaf.now.name c.args.leaf.now.version ≡ Some c.in-Some.stored.now = search rules in
     let f = found c.args.arrays.now c.args.leaf.now c.in-Some.stored.now c.requires.stored c.requires.reads (later_version c.args.arrays.now c.args.leaf.now c.args.at.now c.requires.listed) is in
     let among = subst (λ (chunks : List Chunk). Contains chunks c.chunk_at.result.now) c.as_slice-in-Some.ensures c.chunk_at.ensures.among in
-    let dims = c.args.leaf.now.schema.dimensions in
-    of_copy (IsPart dims (overlaps dims) (leaf_rows c.args.arrays.now c.args.leaf.now)) c.copy.result c.chunk_at.result.now c.copy.ensures
-    (found_part c.args.arrays.now c.args.leaf.now c.in-Some.stored.now c.chunk_at.result.now f among)
+    of_copy (λ chunk. (db : Database) → db ≡ database_of c.args.arrays.now → IsChunkIn db c.args.leaf.now chunk) c.copy.result c.chunk_at.result.now c.copy.ensures
+    (λ db is. subst (λ (d : Database). IsChunkIn d c.args.leaf.now c.chunk_at.result.now) (sym is) (found_part c.args.arrays.now c.args.leaf.now c.in-Some.stored.now c.chunk_at.result.now f among))

@@ -1,17 +1,13 @@
-use Rattle.std.proofs.Common.{ℕ, List, Option, None, refl, sym, ◌∙◌, subst}
-use Rattle.std.specs.Prelude.{IfSome}
+use Rattle.std.proofs.Common.{ℕ, List, None, map, refl, sym, ap, ◌∙◌, subst}
 use Rattle.std.specs.List.{AllByRecursion, AllZip}
 use Rattle.arrayvec.specs.ArrayVec.{ArrayVec}
 use Rattle.cell_values.specs.declared.schema.Schema.{Schema}
 use Rattle.array_geom.specs.declared.chunk.ChunkedArray.{ChunkedArray}
 use Rattle.array_geom.specs.Chunks.{IsChunk}
-use Rattle.array_geom.specs.Geometry.{overlaps}
-use Rattle.array_geom.specs.Link.{IsPart}
 use Rattle.array_parts.specs.Placed.{HavePlaces}
-use Rattle.logical_plan.specs.Meaning.{Database, version_rows}
-use Rattle.chunk_source.specs.Source.{IsStored}
+use Rattle.chunk_source.specs.Source.{IsStored, asks}
 use Rattle.chunk_source.proofs.ReadingLeafLaws.{are_valid, have_places, is_told}
-use Rattle.chunk_source.proofs.ReadLemmas.{listed_among}
+use Rattle.chunk_source.proofs.ReadLemmas.{asked_all, asked_none, front_after, listed_among, on_err}
 use Rattle.chunk_source.proofs.reading.leaf.read_leaf.Goals as goal
 
 pub read_chunks-requires-clause-listed : goal.read_chunks-requires-clause-listed
@@ -31,10 +27,22 @@ returns-clause-valid g c =
     subst (λ (z : Schema). AllByRecursion (IsChunk z c.margins_of.result.items) c.in_ok-chunks.chunks) (sym c.in_ok-copy.ensures) valid
 
 pub returns-clause-told : goal.returns-clause-told
-returns-clause-told g c =
+returns-clause-told g c db tells =
     let leaf = c.args.leaf.now in
-    let dims = leaf.schema.dimensions in
     let array : ChunkedArray = record { schema = c.in_ok-copy.field-0; margins = c.margins_of.result; chunks = c.in_ok-chunks.chunks; broken = None } in
     let stored = subst (λ (z : List (ArrayVec ℕ)). AllZip (IsStored leaf.schema) z c.in_ok-chunks.chunks) c.as_slice.ensures c.in_ok-chunks.ensures.stored in
-    let parts = subst (λ (z : Option Database). IfSome z (λ db. AllByRecursion (IsPart dims (overlaps dims) (version_rows db leaf.name leaf.version)) c.in_ok-chunks.chunks)) c.in_ok-listed.ensures.kept.told c.in_ok-chunks.ensures.told in
-    is_told (g.S.ChunkSource.state c.args.source.now).told leaf array c.in_ok-listed.listed c.in_ok-copy.ensures c.margins_of.ensures refl c.requires.valid c.in_ok-listed.ensures.rising stored c.in_ok-listed.ensures.told parts
+    is_told db leaf array c.in_ok-listed.listed c.in_ok-copy.ensures c.margins_of.ensures refl c.requires.valid c.in_ok-listed.ensures.rising stored (c.in_ok-listed.ensures.told db tells)
+    (c.in_ok-chunks.ensures.told db ((c.in_ok-listed.ensures.kept.tells db).1 tells))
+
+pub returns-in_err-listed-clause-front : goal.returns-in_err-listed-clause-front
+returns-in_err-listed-clause-front g c = on_err _ _ (asked_none _ _ _ c.in_err-listed.ensures.asked)
+
+pub returns-in_err-chunks-clause-front : goal.returns-in_err-chunks-clause-front
+returns-in_err-chunks-clause-front g c =
+    on_err _ _ (front_after _ _ (g.S.ChunkSource.state c.args.source.now) (g.S.ChunkSource.state c.listed.new.self) _ (ap (map (asks c.args.number)) (c.as_slice.ensures ∙ c.in_ok-listed.ensures.listed)) c.in_ok-listed.ensures.asked
+    c.in_err-chunks.ensures.front)
+
+pub returns-in_err-copy-clause-front : goal.returns-in_err-copy-clause-front
+returns-in_err-copy-clause-front g c =
+    on_err _ _ (front_after _ _ (g.S.ChunkSource.state c.args.source.now) (g.S.ChunkSource.state c.listed.new.self) _ (ap (map (asks c.args.number)) (c.as_slice.ensures ∙ c.in_ok-listed.ensures.listed)) c.in_ok-listed.ensures.asked
+    (asked_all _ _ _ c.in_ok-chunks.ensures.asked))

@@ -1,0 +1,2 @@
+pub mod PlanReplies
+pub mod QueryReplies

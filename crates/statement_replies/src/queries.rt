@@ -1,0 +1,102 @@
+//! Replies to queries.
+ghost use Rattle.std.specs.Prelude.{◌≡◌, ◌≤◌, ◌++◌, None, IfOk, OnOk, OnErr, IsTrue};
+ghost use Rattle.cell_values.specs.declared.schema.Schema.{Schema};
+ghost use Rattle.check_exprs.specs.Laws.{leaves_fit};
+ghost use Rattle.afl_types.specs.Arrays.{AreValid};
+ghost use Rattle.afl_types.specs.Queries.{query_of};
+ghost use Rattle.logical_plan.specs.Leaves.{leaves};
+ghost use Rattle.logical_plan.specs.Meaning.{Database, Meant};
+ghost use Rattle.logical_plan.specs.PlanSchema.{schema_of};
+ghost use Rattle.chunk_source.specs.Faults.{Answers};
+ghost use Rattle.chunk_source.specs.Reading.{asked_of};
+ghost use Rattle.chunk_source.specs.Source.{AsksFront, Keeps};
+ghost use Rattle.chunk_exec.specs.Computed.{CanCompute};
+ghost use Rattle.plan_rows.specs.Found.{HasSchema, IsFound};
+ghost use Rattle.statement_replies.specs.Kinds.{IsQueryReply, IsRowsReply};
+ghost use Rattle.statement_replies.specs.Reading.{HoldsVersions, asked_for};
+ghost use Rattle.statement_replies.specs.Reply.{meant_reply, plan_reply};
+
+use crate::replies::{Reply, refuse};
+use afl_outside::Gate;
+use afl_trees::Tree;
+use afl_types::{TypeFault, query_plan};
+use cell_values::{Broken, Memory};
+use chunk_source::{ChunkSource, ExecFault};
+use logical_plan::{Names, Plan};
+use plan_rows::{PlanRows, rows_of};
+use result_print::{Refusal, dcsv};
+use std::alloc::Global;
+
+/// The reply to the tree of a query, over the arrays of a source that has the versions of these names: the first rule that it
+/// breaks, else its array's first fault, else its array's text.
+pub fn reply_to_query<S: ChunkSource, G: Gate>(
+    alloc: Global,
+    text: &[u8],
+    tree: &Tree,
+    names: &Names,
+    source: &mut S,
+    workers: u32,
+    session: u32,
+    gate: &G,
+) -> Result<Reply, ExecFault>
+    requires undamaged { (S.state source.old).damaged ≡ None }
+    requires fit { IsTrue (leaves_fit tree.now) }
+    requires valid { AreValid names.now.arrays }
+    requires holds { HoldsVersions names.now (S.state source.old) }
+    requires workers { (1 ≤ workers) × (workers ≤ 64) }
+    ensures reply { IfOk result (IsQueryReply names.now (S.state source.old).tells tree.now) }
+    ensures asked { let old = S.state source.old in
+        let all = asked_for old (query_of names.now.arrays tree.now) in
+        OnOk result ((S.state source.new).asked ≡ old.asked ++ all) }
+    ensures front { let old = S.state source.old in
+        let all = asked_for old (query_of names.now.arrays tree.now) in
+        OnErr result (AsksFront all old (S.state source.new)) }
+    ensures kept { Keeps (S.state source.old) (S.state source.new) }
+    ensures cause { Answers (S.state source.old) (S.state source.new) result }
+    ensures start { S.start source.new ≡ S.start source.old }
+{
+    match query_plan(alloc, tree, text, names) {
+        Ok(plan) => reply_to_plan(alloc, &plan, source, workers, session, gate),
+        Err(TypeFault::Rule { span, kind }) => Ok(refuse(alloc, Refusal::Typing { span, kind })?),
+        Err(TypeFault::Memory) => Err(ExecFault::Memory),
+    }
+}
+
+/// The reply to a plan.
+fn reply_to_plan<S: ChunkSource, G: Gate>(
+    alloc: Global,
+    plan: &Plan,
+    source: &mut S,
+    workers: u32,
+    session: u32,
+    gate: &G,
+) -> Result<Reply, ExecFault>
+    requires undamaged { (S.state source.old).damaged ≡ None }
+    requires can { CanCompute (S.state source.old) plan.now }
+    requires workers { (1 ≤ workers) × (workers ≤ 64) }
+    ensures kind { IfOk result (IsRowsReply (schema_of plan.now)) }
+    ensures told { IfOk result (λ reply. (db : Database) → (S.state source.old).tells db → reply ≡ plan_reply db plan.now) }
+    ensures asked { OnOk result ((S.state source.new).asked ≡ (S.state source.old).asked ++ asked_of (S.state source.old) 0 (leaves plan.now)) }
+    ensures front { let old = S.state source.old in OnErr result (AsksFront (asked_of old 0 (leaves plan.now)) old (S.state source.new)) }
+    ensures kept { Keeps (S.state source.old) (S.state source.new) }
+    ensures cause { Answers (S.state source.old) (S.state source.new) result }
+    ensures start { S.start source.new ≡ S.start source.old }
+{
+    let found = rows_of(alloc, plan, source, workers, session, gate)?;
+    Ok(reply_of(alloc, found)?)
+}
+
+/// The reply that tells what a plan gives.
+#[tactic(auto, using(crate::proofs::PlanReplies::fault_reply, crate::proofs::PlanReplies::rows_reply))]
+fn reply_of(alloc: Global, found: PlanRows) -> Result<Reply, Memory>
+    ensures kind { (schema : Schema) → HasSchema schema found → IfOk result (IsRowsReply schema) }
+    ensures told { (meant : Meant) → IsFound meant found → IfOk result (λ reply. reply ≡ meant_reply meant) }
+{
+    match found {
+        PlanRows::Fault(Broken { at, kind }) => refuse(alloc, Refusal::Cell { at, kind }),
+        PlanRows::Rows(schema, rows) => Ok(Reply {
+            text: dcsv(alloc, &schema, rows.as_slice())?,
+            refusal: None,
+        }),
+    }
+}
