@@ -2,8 +2,9 @@
 use afl_types::Typed;
 use anyhow::Result;
 use cell_values::{Name, Schema};
-use logical_plan::{Plan, reads, schema_of};
+use logical_plan::{Plan, reads};
 use plan_changes::Change;
+use plan_schemas::schema_of;
 use schema_grammar::schema_text;
 use std::str::from_utf8;
 

@@ -7,7 +7,8 @@ ghost use Rattle.check_rules.specs.NewSchema.{by_new_schema, of_new_schema};
 
 use crate::rules::{TypeFault, broken};
 use cell_values::{Attribute, Dimension, Memory, Schema, Span};
-use logical_plan::{Plan, let_go, schema_of};
+use logical_plan::{Plan, let_go};
+use plan_schemas::schema_of;
 use schema_grammar::TypeKind;
 use std::alloc::Global;
 

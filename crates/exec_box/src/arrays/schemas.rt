@@ -3,7 +3,8 @@ ghost use Rattle.std.specs.Prelude.{◌≡◌, IfOk};
 ghost use Rattle.logical_plan.specs.PlanSchema.{subarray_schema, slice_schema};
 
 use cell_values::{Bounds, List, Memory, Schema};
-use logical_plan::{Fixed, schema_of_part, schema_of_slice};
+use logical_plan::Fixed;
+use plan_schemas::{schema_of_part, schema_of_slice};
 
 /// The schema of the part of an array in a box.
 pub(crate) fn part_schema(schema: &Schema, area: &Bounds) -> Result<Schema, Memory>

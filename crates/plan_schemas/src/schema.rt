@@ -6,8 +6,8 @@ ghost use Rattle.logical_plan.specs.PlanSchema.{apply_schema, project_schema, su
 use crate::attributes::{attributes_of_aggregates, derived_attribute};
 use crate::dimensions::{dimensions_of_groups, free_dimensions, push_blocks, push_parts};
 use crate::places::at_places;
-use crate::{Aggregate, Applied, Fixed, Plan, PlanNode};
 use cell_values::{Bounds, List, Memory, Schema};
+use logical_plan::{Aggregate, Applied, Fixed, Plan, PlanNode};
 use std::alloc::Global;
 
 fn with_applied(source: Schema, values: &List<Applied>) -> Result<Schema, Memory>

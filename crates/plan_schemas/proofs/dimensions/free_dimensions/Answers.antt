@@ -1,5 +1,5 @@
 use Rattle.logical_plan.proofs.Items.{free_step}
-use Rattle.logical_plan.proofs.dimensions.free_dimensions.Goals as goal
+use Rattle.plan_schemas.proofs.dimensions.free_dimensions.Goals as goal
 
 pub loop-place-preserved : goal.loop-place-preserved
 loop-place-preserved c =

@@ -2,8 +2,8 @@
 ghost use Rattle.std.specs.Prelude.{◌≡◌, IfOk};
 ghost use Rattle.logical_plan.specs.PlanSchema.{derived, aggregate_kind, aggregate_attributes};
 
-use crate::{AggFunction, Aggregate};
 use cell_values::{Attribute, Kind, List, Memory, Name};
+use logical_plan::{AggFunction, Aggregate};
 
 pub(crate) fn derived_attribute(name: &Name, kind: Kind) -> Result<Attribute, Memory>
     ensures { IfOk result (λ attribute. attribute ≡ derived name.now kind) }

@@ -1,5 +1,5 @@
 use Rattle.std.proofs.Common.{length}
-use Rattle.logical_plan.proofs.dimensions.+push_blocks.Given as goal
+use Rattle.plan_schemas.proofs.dimensions.+push_blocks.Given as goal
 
 abbrev pub decreases-push_blocks : goal.decreases-push_blocks
 decreases-push_blocks l = length l.dimensions.now

@@ -1,5 +1,5 @@
 use Rattle.logical_plan.proofs.Items.{items_at_step}
-use Rattle.logical_plan.proofs.places.at_places.Goals as goal
+use Rattle.plan_schemas.proofs.places.at_places.Goals as goal
 
 pub loop-place-preserved : goal.loop-place-preserved
 loop-place-preserved g c =

@@ -7,9 +7,9 @@ ghost use Rattle.logical_plan.specs.BoxOps.{items_but, fixed_places};
 ghost use Rattle.logical_plan.specs.Groups.{block};
 ghost use Rattle.logical_plan.specs.PlanSchema.{from_zero, subarray_dimensions, in_blocks, without_overlap, one_place, group_dimensions};
 
-use crate::Fixed;
 use crate::places::at_places;
 use cell_values::{Dimension, List, Memory, Name};
+use logical_plan::Fixed;
 use std::alloc::Global;
 
 fn part_length(dimension: &Dimension, low: i64, high: i64) -> i64

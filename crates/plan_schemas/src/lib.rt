@@ -1,0 +1,9 @@
+//! The schemas of plans.
+#![tactic(auto)]
+
+mod attributes;
+mod dimensions;
+mod places;
+mod schema;
+
+pub use schema::{schema_of, schema_of_part, schema_of_slice};
