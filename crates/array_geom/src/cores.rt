@@ -47,6 +47,36 @@ pub(crate) fn last_of(d: &Dimension, k: u64) -> i64
     first_of(d, k) + (d.chunk - 1) as i64
 }
 
+/// Whether a chunk's part of one dimension has a place within the bounds.
+fn has_side(d: &Dimension, k: u64) -> bool
+    ensures { result ≡ int_le (first_in d.now k) d.now.hi }
+{
+    d.lo <= d.hi
+        && match k.checked_mul(d.chunk) {
+            Some(before) => before <= d.hi.abs_diff(d.lo),
+            None => false,
+        }
+}
+
+fn has_sides(dims: &[Dimension], chunk: &[u64]) -> bool
+    ensures { result ≡ has_core dims.now chunk.now }
+{
+    match dims {
+        [] => chunk.is_empty(),
+        [d, dims @ ..] => match chunk {
+            [] => false,
+            [k, chunk @ ..] => has_side(d, *k) && has_sides(dims, chunk),
+        },
+    }
+}
+
+/// Whether the core of a chunk has a coordinate.
+pub fn has_core(schema: &Schema, chunk: &ChunkAt) -> bool
+    ensures { result ≡ has_core schema.now.dimensions chunk.now.items }
+{
+    has_sides(schema.dimensions.as_slice(), chunk.as_slice())
+}
+
 fn push_numbers(out: &mut ChunkAt, dims: &[Dimension], at: &[i64])
     requires room { length out.old.items + length dims.now ≤ 6 }
     requires near { AreNear dims.now }

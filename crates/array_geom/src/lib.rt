@@ -11,7 +11,7 @@ mod margins;
 
 pub use boxes::Boxes;
 pub use chunk::{Changed, Chunk, ChunkedArray};
-pub use cores::{chunk_of, chunks_meeting, core_box};
+pub use cores::{chunk_of, chunks_meeting, core_box, has_core};
 pub use frames::{frame, grid_of, place, position};
 pub use grid::{Grid, Lengths};
 pub use laws::{

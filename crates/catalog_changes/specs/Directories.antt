@@ -51,10 +51,12 @@ RecordsAreAllowed = (catalog : Catalog) (change : Change) (directory : Option Bl
     → record_for catalog change directory ≡ Some entry → IsTrue (is_allowed catalog entry)
 
 abbrev pub RecordsDoTheirChange : Type 0
-RecordsDoTheirChange = (catalog : Catalog) (change : Change) (directory : Option BlobAt) (entry : CatalogRecord) → IsTrue (names_allow (names_in catalog) change)
+RecordsDoTheirChange = (catalog : Catalog) (change : Change) (directory : Option BlobAt) (entry : CatalogRecord)
+    → IsTrue (names_allow (names_in catalog) change)
     → record_for catalog change directory ≡ Some entry → after_record catalog entry ≡ after_change catalog change directory
 
 -- a catalogue with a database's names has those of the next database after a change, wherever its directories lie
 abbrev pub CatalogsFollowDatabases : Type 0
-CatalogsFollowDatabases = (db : Database) (catalog : Catalog) (change : Change) (directory : Option BlobAt) → names_in catalog ≡ names_of db → IsTrue (has_its_directory change directory)
+CatalogsFollowDatabases = (db : Database) (catalog : Catalog) (change : Change) (directory : Option BlobAt) → names_in catalog ≡ names_of db
+    → IsTrue (has_its_directory change directory)
     → names_in (after_change catalog change directory) ≡ names_of (after db change)

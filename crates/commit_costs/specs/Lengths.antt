@@ -38,7 +38,8 @@ meets dims input k = is_not_empty (within (frame dims (overlaps dims) k) input)
 
 -- the payloads of a version take as many pages in whichever order its chunks are listed
 abbrev pub StoredPagesAreTold : Type 0
-StoredPagesAreTold = (schema : Schema) (rows : List Row) (ks : List ChunkNumber) → AreRowsOf schema rows → AreListed schema.dimensions (has_cell schema.dimensions rows) ks
+StoredPagesAreTold = (schema : Schema) (rows : List Row) (ks : List ChunkNumber) → AreRowsOf schema rows
+    → AreListed schema.dimensions (has_cell schema.dimensions rows) ks
     → payload_pages schema rows ks ≡ payload_pages schema rows (numbers_of schema.dimensions rows)
 
 -- so do those that an insert writes
@@ -61,8 +62,10 @@ pub record AreAlike (a b : BlobAt) : Type 0 where
 
 -- the bytes of a directory of a version, wherever its payloads lie and whoever wrote them, are as many as its cost has it
 abbrev pub DirectoriesAreAlike : Type 0
-DirectoriesAreAlike = (schema : Schema) (rows : List Row) (entries : List DirEntry) (at : BlobAt) → AreRowsOf schema rows → AreListed schema.dimensions (has_cell schema.dimensions rows) (numbers entries)
-    → AllByRecursion (HasItsLength schema rows) entries → IsBlob at → at.length ≡ length (directory_spelling (record { entries = entries })) → AreAlike at (directory_of schema rows)
+DirectoriesAreAlike = (schema : Schema) (rows : List Row) (entries : List DirEntry) (at : BlobAt) → AreRowsOf schema rows
+    → AreListed schema.dimensions (has_cell schema.dimensions rows) (numbers entries)
+    → AllByRecursion (HasItsLength schema rows) entries → IsBlob at → at.length ≡ length (directory_spelling (record { entries = entries }))
+    → AreAlike at (directory_of schema rows)
 
 -- ---- catalogues
 
@@ -86,20 +89,24 @@ abbrev pub CatalogsReadNoPage : Type 0
 CatalogsReadNoPage = (a b : Catalog) → AreAlikeCatalogs a b → length (spelling a) ≡ length (spelling b)
 
 abbrev pub RecordsReadNoPage : Type 0
-RecordsReadNoPage = (a b : Catalog) (change : Change) (d e : Option BlobAt) → AreAlikeCatalogs a b → AreBothAlike d e → record_length (record_for a change d) ≡ record_length (record_for b change e)
+RecordsReadNoPage = (a b : Catalog) (change : Change) (d e : Option BlobAt) → AreAlikeCatalogs a b → AreBothAlike d e
+    → record_length (record_for a change d) ≡ record_length (record_for b change e)
 
 -- after a change they are alike again
 abbrev pub ChangesKeepAlike : Type 0
-ChangesKeepAlike = (a b : Catalog) (change : Change) (d e : Option BlobAt) → AreAlikeCatalogs a b → AreBothAlike d e → AreAlikeCatalogs (after_change a change d) (after_change b change e)
+ChangesKeepAlike = (a b : Catalog) (change : Change) (d e : Option BlobAt) → AreAlikeCatalogs a b → AreBothAlike d e
+    → AreAlikeCatalogs (after_change a change d) (after_change b change e)
 
 -- the catalogue of the next database is that after the change
 abbrev pub CatalogsOfDatabases : Type 0
-CatalogsOfDatabases = (db : Database) (change : Change) → IsDatabase db → IsTypedFor (names_of db) change → catalog_of (after db change) ≡ after_change (catalog_of db) change (directory_for db change)
+CatalogsOfDatabases = (db : Database) (change : Change) → IsDatabase db → IsTypedFor (names_of db) change
+    → catalog_of (after db change) ≡ after_change (catalog_of db) change (directory_for db change)
 
 -- so the pages of a record, or of the next catalogue, are told by any catalogue that is like the database's, with any directory that
 -- is like that of the new version
 abbrev pub RecordPagesAreTold : Type 0
-RecordPagesAreTold = (db : Database) (change : Change) (catalog : Catalog) (directory : Option BlobAt) → AreAlikeCatalogs catalog (catalog_of db) → AreBothAlike directory (directory_for db change)
+RecordPagesAreTold = (db : Database) (change : Change) (catalog : Catalog) (directory : Option BlobAt) → AreAlikeCatalogs catalog (catalog_of db)
+    → AreBothAlike directory (directory_for db change)
     → record_pages db change ≡ chain_pages (record_length (record_for catalog change directory))
 
 abbrev pub CataloguePagesAreTold : Type 0
