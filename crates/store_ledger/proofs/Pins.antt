@@ -1,19 +1,19 @@
 -- Open pins over more entries and notes.
-use Rattle.std.proofs.Common.{◌≡◌, ◌∙◌, ℕ, ◌+◌, ◌≤◌, Bool, true, false, not, ◌&&◌, ◌||◌, if◌then◌else◌, nat_eq, nat_le, nat_lt, List, [], ◌∷◌, ◌++◌, length, reverse, refl, ap, sym, arith, zero-add}
-use Rattle.std.specs.List.{filter, list_all, list_any, sum_by}
+use Rattle.std.proofs.Common.{◌≡◌, ◌∙◌, ℕ, ◌+◌, Bool, true, false, not, ◌&&◌, if◌then◌else◌, nat_eq, nat_le, nat_lt, List, [], ◌∷◌, ◌++◌, length, reverse, refl, ap, sym, arith, zero-add}
+use Rattle.std.specs.List.{filter, list_all, sum_by}
 use Rattle.std.proofs.lemmas.Bool.{and_parts, or_from}
 use Rattle.std.proofs.lemmas.Bool.Decides.{nat_tests}
 use Rattle.std.proofs.lemmas.List.{reverse-append, length-reverse}
 use Rattle.std.proofs.lemmas.List.Sums.{sum_by-cons, sum_by_push}
 use Rattle.event_core.specs.declared.entry.Entry.{Entry}
 use Rattle.event_core.specs.declared.entry.Entry.TheVariants.{Pin, Unpin}
-use Rattle.event_core.specs.History.{History, OpenPin, names_at, open_pins, pin_before}
+use Rattle.event_core.specs.History.{History, OpenPin, open_pins, pin_before}
 use Rattle.event_laws.proofs.Pins.{open_pins_stay, open_pins_are_these}
 use Rattle.event_laws.specs.Pins.{pins_of}
 use Rattle.store_ledger.specs.declared.note.Note.{Note}
 use Rattle.store_ledger.specs.declared.note.NoteKind.{NoteKind}
 use Rattle.store_ledger.specs.declared.note.NoteKind.TheVariants.{Tried}
-use Rattle.store_ledger.specs.Ledger.{LedgerState, history, is_kind, is_under, has_note, reserved_by, IsOpenPin}
+use Rattle.store_ledger.specs.Ledger.{is_kind, is_under, has_note, reserved_by}
 use Rattle.store_ledger.specs.Laws.{PinsReserveThree, OpenPinsOutlast, UnpinsGiveBack}
 
 late : (n count : ℕ) → nat_le n count ≡ true → nat_lt count n ≡ false

@@ -1,18 +1,18 @@
 -- The first commit that is tried under a pin.
 use Rattle.std.proofs.Common.{◌≡◌, ◌∙◌, ℕ, ◌+◌, ◌<◌, Bool, true, false, not, ◌&&◌, ◌||◌, if◌then◌else◌, nat_eq, nat_lt, List, [], ◌∷◌, ◌++◌, length, reverse, refl, ap, sym, arith, zero-add}
-use Rattle.std.specs.List.{filter, list_any, sum_by}
-use Rattle.std.proofs.lemmas.Bool.{eqb-true, eq-eqb}
+use Rattle.std.specs.List.{filter, sum_by}
+use Rattle.std.proofs.lemmas.Bool.{eq-eqb}
 use Rattle.std.proofs.lemmas.Bool.Decides.{nat_tests}
 use Rattle.std.proofs.lemmas.List.{length-reverse}
 use Rattle.std.proofs.lemmas.List.Folds.{list_any-append}
 use Rattle.std.proofs.lemmas.List.Sums.{sum_by-cons, sum_by_push}
-use Rattle.event_core.specs.History.{History, OpenPin, open_pins, pin_before}
+use Rattle.event_core.specs.History.{History, OpenPin, open_pins}
 use Rattle.event_core.proofs.Tests.{both_not, eq_sym}
 use Rattle.event_laws.specs.Pins.{pins_of, PlaceTells}
 use Rattle.event_laws.proofs.Pins.{open_pins_are_these, places_tell_pins}
 use Rattle.store_ledger.specs.declared.note.Note.{Note}
 use Rattle.store_ledger.specs.declared.note.NoteKind.TheVariants.{Tried}
-use Rattle.store_ledger.specs.Ledger.{LedgerState, is_under, has_note, reserved_by}
+use Rattle.store_ledger.specs.Ledger.{is_under, has_note, reserved_by}
 use Rattle.store_ledger.specs.Laws.{TriedGivesTwoBack, tried_now}
 use Rattle.store_ledger.proofs.Pins.{split}
 

@@ -17,7 +17,8 @@ PinsReserveThree = (ledger : LedgerState) (session : ℕ) → AreWithin (length 
 
 -- an unpin gives back what its pin had reserved: three entries, or one where a commit was tried under it
 abbrev pub UnpinsGiveBack : Type 0
-UnpinsGiveBack = (ledger : LedgerState) (session : ℕ) (before : History) → IsTrue (is_allowed ledger.base (history ledger)) → pin_before session (history ledger) ≡ Some before →
+UnpinsGiveBack = (ledger : LedgerState) (session : ℕ) (before : History) → IsTrue (is_allowed ledger.base (history ledger)) →
+    pin_before session (history ledger) ≡ Some before →
     reserved ledger ≡ reserved (with_entries (Unpin session ∷ []) ledger) + reserved_by ledger.notes (record { session = session; before = before })
 
 -- the note that a commit is tried now
@@ -26,13 +27,15 @@ tried_now ledger session = record { session = session; kind = Tried; after = len
 
 -- the first such note under a pin gives back two of its three entries
 abbrev pub TriedGivesTwoBack : Type 0
-TriedGivesTwoBack = (ledger : LedgerState) (session : ℕ) (before : History) → IsTrue (is_allowed ledger.base (history ledger)) → pin_before session (history ledger) ≡ Some before →
+TriedGivesTwoBack = (ledger : LedgerState) (session : ℕ) (before : History) → IsTrue (is_allowed ledger.base (history ledger)) →
+    pin_before session (history ledger) ≡ Some before →
     has_note Tried ledger.notes (record { session = session; before = before }) ≡ false →
     reserved ledger ≡ reserved (with_notes (tried_now ledger session ∷ []) ledger) + 2
 
 -- an open pin is one after more entries, if none of them is a pin or an unpin of its session, and after more notes
 abbrev pub OpenPinsOutlast : Type 0
-OpenPinsOutlast = (ledger : LedgerState) (pinned : Pinned) (entries : List Entry) (notes : List Note) → IsTrue (list_all (leaves_pin pinned.session) (reverse entries)) →
+OpenPinsOutlast = (ledger : LedgerState) (pinned : Pinned) (entries : List Entry) (notes : List Note) →
+    IsTrue (list_all (leaves_pin pinned.session) (reverse entries)) →
     IsOpenPin ledger pinned → IsOpenPin (with_notes notes (with_entries entries ledger)) pinned
 
 -- one more entry is the last event
