@@ -82,8 +82,13 @@ fn reply_to_plan<S: ChunkSource, G: Gate>(
     ensures cause { Answers (S.state source.old) (S.state source.new) result }
     ensures start { S.start source.new ≡ S.start source.old }
 {
-    let found = rows_of(alloc, plan, source, workers, session, gate)?;
-    Ok(reply_of(alloc, found)?)
+    match rows_of(alloc, plan, source, workers, session, gate) {
+        Ok(found) => match reply_of(alloc, found) {
+            Ok(reply) => Ok(reply),
+            Err(Memory) => Err(ExecFault::Memory),
+        },
+        Err(fault) => Err(fault),
+    }
 }
 
 /// The reply that tells what a plan gives.

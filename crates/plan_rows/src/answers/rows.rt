@@ -49,8 +49,13 @@ pub fn rows_of<S: ChunkSource, G: Gate>(
     ensures cause { Answers (S.state source.old) (S.state source.new) result }
     ensures start { S.start source.new ≡ S.start source.old }
 {
-    let array = execute(alloc, plan, source, workers, session, gate)?;
-    Ok(rows_in(array)?)
+    match execute(alloc, plan, source, workers, session, gate) {
+        Ok(array) => match rows_in(array) {
+            Ok(found) => Ok(found),
+            Err(Memory) => Err(ExecFault::Memory),
+        },
+        Err(fault) => Err(fault),
+    }
 }
 
 /// An array's first fault, or else its schema and its rows.
