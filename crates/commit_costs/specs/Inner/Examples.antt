@@ -11,6 +11,7 @@ use Rattle.plan_changes.specs.declared.change.Change.{Change}
 use Rattle.plan_changes.specs.declared.change.Change.TheVariants.{Create, Store, Insert, Remove, RemoveVersions}
 use Rattle.plan_changes.specs.Databases.{Database, after}
 use Rattle.event_core.specs.Bases.{records_at, commits}
+use Rattle.event_core.specs.declared.entry.Entry.TheVariants.{Commit}
 use Rattle.event_core.specs.History.{History}
 use Rattle.event_core.specs.Legal.{IsLegal}
 use Rattle.event_core.specs.Worked.{worked_base, worked_on}
