@@ -15,4 +15,5 @@ chained = record { pages = 4 ∷ []; bytes = 9 ∷ [] }
 -- where the log page is page 2, a payload may be written to page 3, a chain to page 4 and a new log to page 5
 abbrev pub CommitsMayBeWritten : Type 0
 CommitsMayBeWritten = (slots : Slots) → slots.current.root.log ≡ 2
-    → MayWrite (commit_pages (payload ∷ []) chained) slots × MayWrite (base_pages (payload ∷ []) chained 5) slots × AllByRecursion IsBlobSized (payload ∷ []) × IsChainSized chained
+    → MayWrite (commit_pages (payload ∷ []) chained) slots × MayWrite (base_pages (payload ∷ []) chained 5) slots
+    × AllByRecursion IsBlobSized (payload ∷ []) × IsChainSized chained

@@ -1,12 +1,12 @@
 -- What each image at each moment of a commit opens as, and which of its pages may differ.
 use Rattle.std.specs.Prelude.{◌≡◌, ℕ, ◌⊎◌, List, [], ◌∷◌, ◌++◌, IsTrue, true, false, Some}
-use Rattle.afl_outside.specs.Disk.{Moment}
+use Rattle.afl_outside.specs.Disk.{LeavesOnly, Moment, Only}
 use Rattle.page_layout.specs.Places.{other}
 use Rattle.page_layout.specs.Opens.{OpensAs}
 use Rattle.page_layout.specs.declared.sides.Format.TheVariants.{Two}
 use Rattle.page_chain.specs.Inner.Runs.{Over}
 use Rattle.page_slots.specs.Standing.{root_in, IsSound, MayOpen, OpensAsRoot}
-use Rattle.page_slots.specs.Steps.{doubted, emptied}
+use Rattle.page_slots.specs.Steps.{doubted, emptied, with_record, with_root}
 use Rattle.page_slots.specs.declared.slots.Slots.{Slots}
 use Rattle.page_slots.specs.declared.slots.RootSlot.TheVariants as roots
 use Rattle.page_slots.specs.declared.slots.NextEntry.TheVariants as entries
@@ -45,6 +45,15 @@ IsOpened pages new before c = Over pages before c × new c
 abbrev pub MayBe : ℕ → List ℕ → Slots → (List ℕ → Type 0) → (List ℕ → Type 0) → List ℕ → Type 0
 MayBe page pages slots new before c = IsUntouched page slots before c ⊎ (IsUnopened (page ∷ pages) slots before c ⊎ IsOpened (page ∷ pages) new before c)
 
+-- what each image at each moment of a commit may be, where the slots were known at its start
+abbrev pub PassesBy : ℕ → List ℕ → Slots → (List ℕ → Type 0) → Moment → Moment → Type 0
+PassesBy page pages slots new old now = (seen : List ℕ) → IsKnown slots seen old
+    → LeavesOnly old.state.moment now.state.moment old.left_since now.left_since (MayBe page pages slots new old.may_leave)
+
+-- where the slots were known at the start, a read gives the one image that there is
+abbrev pub LeavesOne : Slots → Moment → Moment → Type 0
+LeavesOne slots old new = (seen : List ℕ) → IsKnown slots seen old → (now : List ℕ) × (new.state.seen ≡ Some now) × Only now new.may_leave
+
 -- the file opens with the record, whose bytes it has, and the blobs'
 abbrev pub HasRecord : Slots → List Placed → Placed → List ℕ → Type 0
 HasRecord slots blobs chain c = OpensAs slots.current (slots.records ++ record_of chain ∷ []) c × HoldsAll c blobs chain
@@ -52,6 +61,11 @@ HasRecord slots blobs chain c = OpensAs slots.current (slots.records ++ record_o
 -- the slots once the target was closed, and what was written for it doesn't count
 abbrev pub cleared : Slots → Slots
 cleared slots = record (emptied slots) { doubtful = false }
+
+-- what a commit of a record has done: the log has it, and the next target is chosen
+abbrev pub AddsRecord : Slots → Slots → List Placed → Placed → Moment → Moment → Type 0
+AddsRecord slots later blobs chain old new = Leaves slots later (with_record (record_of chain) (cleared slots))
+    (IsOpened (slots.current.root.log ∷ commit_pages blobs chain) (HasRecord slots blobs chain) old.may_leave) old new
 
 -- How a commit of a record may fail: the entry wasn't closed for sure; it is closed, and isn't opened; it may be open.
 abbrev pub StopsRecord : Slots → Slots → List Placed → Placed → Moment → Moment → Type 0
@@ -69,6 +83,11 @@ MayHaveBase slots blobs chain sequence log c = OpensAsRoot (roots.Opening (root_
 -- the file opens as the new root with an empty log, and has the catalogue's bytes and the blobs'
 abbrev pub HasBase : Slots → List Placed → Placed → ℕ → ℕ → List ℕ → Type 0
 HasBase slots blobs chain sequence log c = OpensAs (root_in Two (other slots.current.side) (root_of sequence chain log)) [] c × HoldsAll c blobs chain
+
+-- what a commit of a new base has done: it is the current one
+abbrev pub MakesBase : Slots → Slots → List Placed → Placed → ℕ → ℕ → Moment → Moment → Type 0
+MakesBase slots later blobs chain sequence log old new = Leaves slots later (with_root (root_of sequence chain log) slots)
+    (IsOpened (0 ∷ base_pages blobs chain log) (HasBase slots blobs chain sequence log) old.may_leave) old new
 
 -- How a commit of a new base may fail: the root slot wasn't closed for sure; it is closed, and isn't opened; it may be open.
 abbrev pub StopsBase : Slots → Slots → List Placed → Placed → ℕ → ℕ → Moment → Moment → Type 0

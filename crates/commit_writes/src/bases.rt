@@ -2,7 +2,7 @@
 
 ghost use Rattle.std.specs.Prelude.{◌≡◌, ◌<◌, ◌⊎◌, ◌∷◌, [], ◌++◌, ℕ, List, Some, false, true, OnOk, OnErr, MatchResult};
 ghost use Rattle.std.specs.List.{AllByRecursion};
-ghost use Rattle.afl_outside.specs.Disk.{DiskGoesOn, FailsWithCause, LeavesOnly, Only};
+ghost use Rattle.afl_outside.specs.Disk.{DiskGoesOn, FailsWithCause};
 ghost use Rattle.page_layout.specs.Opens.{OpensAs};
 ghost use Rattle.page_layout.specs.Places.{IsNone, KeepsPages};
 ghost use Rattle.page_chain.specs.Inner.Runs.{OnlyWrites, Sees};
@@ -12,7 +12,7 @@ ghost use Rattle.page_slots.specs.declared.slots.Target.TheVariants as targets;
 ghost use Rattle.page_slots.specs.declared.slots.RootSlot.TheVariants as roots;
 ghost use Rattle.page_file.specs.Written.{MayWrite};
 ghost use Rattle.commit_writes.specs.Commits.{root_of, base_pages, commit_pages, IsBlobSized, IsChainSized, HoldsAll};
-ghost use Rattle.commit_writes.specs.Moments.{IsKnown, StaysKnown, Leaves, MayBe, IsOpened, HasBase, MayHaveBase, StopsBase};
+ghost use Rattle.commit_writes.specs.Moments.{HasBase, IsKnown, LeavesOne, MakesBase, MayHaveBase, PassesBy, StaysKnown, StopsBase};
 ghost use Rattle.commit_writes.specs.Inner.Going.{Goes};
 
 use crate::Placed;
@@ -24,7 +24,9 @@ use page_file::PageFile;
 fn write_zeros<D: Disk>(file: &mut PageFile<D>, log: u32) -> Result<(), Failed>
     requires closed { IsClosed file.old.slots }
     requires free { MayWrite (log ∷ []) file.old.slots }
-    ensures slots { MatchResult result (λ _. file.new.slots ≡ record (emptied file.old.slots) { zeroed = Some log }) (λ _. file.new.slots ≡ record (emptied file.old.slots) { zeroed = file.new.slots.zeroed }) }
+    ensures slots { MatchResult result
+        (λ _. file.new.slots ≡ record (emptied file.old.slots) { zeroed = Some log })
+        (λ _. file.new.slots ≡ record (emptied file.old.slots) { zeroed = file.new.slots.zeroed }) }
     ensures sound { KeepsSound file.old.slots file.new.slots (D.moment file.old.disk) (D.moment file.new.disk) }
     ensures seen { Sees (D.moment file.old.disk).state (D.moment file.new.disk).state (KeepsPages (log ∷ [])) }
     ensures writes { OnlyWrites (log ∷ []) (D.moment file.old.disk) (D.moment file.new.disk) }
@@ -79,11 +81,14 @@ fn fill_base<D: Disk>(
     requires chain { IsChainSized chain.now }
     requires newer { file.old.slots.current.root.sequence < sequence }
     ensures slots { MatchResult result
-        (λ _. file.new.slots ≡ record (emptied file.old.slots) { other = roots.Written (root_of sequence chain.now log); zeroed = Some log })
-        (λ _. file.new.slots ≡ record (emptied file.old.slots) { other = roots.Closed; doubtful = file.new.slots.doubtful; zeroed = file.new.slots.zeroed }) }
+        (λ _. file.new.slots
+        ≡ record (emptied file.old.slots) { other = roots.Written (root_of sequence chain.now log); zeroed = Some log })
+        (λ _. file.new.slots
+        ≡ record (emptied file.old.slots) { other = roots.Closed; doubtful = file.new.slots.doubtful; zeroed = file.new.slots.zeroed }) }
     ensures known { StaysKnown file.old.slots file.new.slots (D.moment file.old.disk) (D.moment file.new.disk) }
     ensures goes { (seen : List ℕ) → IsKnown file.old.slots seen (D.moment file.old.disk)
-        → Goes (0 ∷ base_pages blobs.now chain.now log) (OpensAs file.old.slots.current file.old.slots.records) (D.moment file.old.disk) (D.moment file.new.disk) }
+        → Goes (0 ∷ base_pages blobs.now chain.now log) (OpensAs file.old.slots.current file.old.slots.records)
+        (D.moment file.old.disk) (D.moment file.new.disk) }
     ensures holds { OnOk result ((seen : List ℕ) → IsKnown file.old.slots seen (D.moment file.old.disk)
         → (c : List ℕ) → (D.moment file.new.disk).may_leave c → HoldsAll c blobs.now chain.now) }
     ensures same { DiskGoesOn (D.moment file.old.disk).state (D.moment file.new.disk).state }
@@ -117,7 +122,9 @@ fn open_base<D: Disk>(
     ensures known { StaysKnown file.old.slots file.new.slots (D.moment file.old.disk) (D.moment file.new.disk) }
     ensures goes { (seen : List ℕ) → IsKnown file.old.slots seen (D.moment file.old.disk)
         → ((d : List ℕ) → (D.moment file.old.disk).may_leave d → HoldsAll d blobs.now chain.now)
-        → Goes (0 ∷ []) (λ c. OpensAs file.old.slots.current file.old.slots.records c ⊎ MayHaveBase file.old.slots blobs.now chain.now sequence log c) (D.moment file.old.disk) (D.moment file.new.disk) }
+        → Goes (0 ∷ [])
+        (λ c. OpensAs file.old.slots.current file.old.slots.records c ⊎ MayHaveBase file.old.slots blobs.now chain.now sequence log c)
+        (D.moment file.old.disk) (D.moment file.new.disk) }
     ensures done { OnOk result ((seen : List ℕ) → IsKnown file.old.slots seen (D.moment file.old.disk)
         → ((d : List ℕ) → (D.moment file.old.disk).may_leave d → HoldsAll d blobs.now chain.now)
         → (c : List ℕ) → (D.moment file.new.disk).may_leave c → HasBase file.old.slots blobs.now chain.now sequence log c) }
@@ -131,8 +138,8 @@ fn open_base<D: Disk>(
     }
 }
 
-/// Commits a new base: closes the root slot that isn't current, writes the commit's pages, a log page of zeros and the slot's body, and
-/// opens the slot.
+/// Commits a new base, whose catalogue is the chain: closes the root slot that isn't current, writes the blobs, the chain, a log page of
+/// zeros and the slot's body, and opens the slot.
 pub fn commit_base<D: Disk>(
     file: &mut PageFile<D>,
     blobs: &[Placed],
@@ -145,15 +152,12 @@ pub fn commit_base<D: Disk>(
     requires sized { AllByRecursion IsBlobSized blobs.now }
     requires chain { IsChainSized chain.now }
     requires newer { file.old.slots.current.root.sequence < sequence }
-    ensures done { OnOk result (Leaves file.old.slots file.new.slots (with_root (root_of sequence chain.now log) file.old.slots)
-        (IsOpened (0 ∷ base_pages blobs.now chain.now log) (HasBase file.old.slots blobs.now chain.now sequence log) (D.moment file.old.disk).may_leave) (D.moment file.old.disk) (D.moment file.new.disk)) }
+    ensures done { OnOk result (MakesBase file.old.slots file.new.slots blobs.now chain.now sequence log (D.moment file.old.disk) (D.moment file.new.disk)) }
     ensures failed { OnErr result (StopsBase file.old.slots file.new.slots blobs.now chain.now sequence log (D.moment file.old.disk) (D.moment file.new.disk)) }
     ensures known { StaysKnown file.old.slots file.new.slots (D.moment file.old.disk) (D.moment file.new.disk) }
-    ensures during { (seen : List ℕ) → IsKnown file.old.slots seen (D.moment file.old.disk)
-        → LeavesOnly (D.moment file.old.disk).state.moment (D.moment file.new.disk).state.moment (D.moment file.old.disk).left_since (D.moment file.new.disk).left_since
-        (MayBe 0 (base_pages blobs.now chain.now log) file.old.slots (MayHaveBase file.old.slots blobs.now chain.now sequence log) (D.moment file.old.disk).may_leave) }
-    ensures durable { OnOk result ((seen : List ℕ) → IsKnown file.old.slots seen (D.moment file.old.disk)
-        → (now : List ℕ) × ((D.moment file.new.disk).state.seen ≡ Some now) × Only now (D.moment file.new.disk).may_leave) }
+    ensures during { PassesBy 0 (base_pages blobs.now chain.now log) file.old.slots
+        (MayHaveBase file.old.slots blobs.now chain.now sequence log) (D.moment file.old.disk) (D.moment file.new.disk) }
+    ensures durable { OnOk result (LeavesOne file.old.slots (D.moment file.old.disk) (D.moment file.new.disk)) }
     ensures same { DiskGoesOn (D.moment file.old.disk).state (D.moment file.new.disk).state }
     ensures cause { FailsWithCause result (D.moment file.old.disk) (D.moment file.new.disk) }
 {

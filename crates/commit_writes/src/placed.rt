@@ -58,7 +58,8 @@ impl Placed {
         requires sized { IsBlobSized self.now }
         ensures slots { file.new.slots ≡ record (emptied file.old.slots) { zeroed = file.new.slots.zeroed } }
         ensures sound { KeepsSound file.old.slots file.new.slots (D.moment file.old.disk) (D.moment file.new.disk) }
-        ensures seen { Sees (D.moment file.old.disk).state (D.moment file.new.disk).state (λ seen now. KeepsPages self.now.pages seen now × OnOk result (HoldsBlob page_size now self.now.pages self.now.bytes)) }
+        ensures seen { Sees (D.moment file.old.disk).state (D.moment file.new.disk).state
+            (λ seen now. KeepsPages self.now.pages seen now × OnOk result (HoldsBlob page_size now self.now.pages self.now.bytes)) }
         ensures writes { OnlyWrites self.now.pages (D.moment file.old.disk) (D.moment file.new.disk) }
         ensures cause { FailsWithCause result (D.moment file.old.disk) (D.moment file.new.disk) }
     {
@@ -77,7 +78,8 @@ impl Placed {
         requires sized { IsChainSized self.now }
         ensures slots { file.new.slots ≡ record (emptied file.old.slots) { zeroed = file.new.slots.zeroed } }
         ensures sound { KeepsSound file.old.slots file.new.slots (D.moment file.old.disk) (D.moment file.new.disk) }
-        ensures seen { Sees (D.moment file.old.disk).state (D.moment file.new.disk).state (λ seen now. KeepsPages self.now.pages seen now × OnOk result (HoldsChain page_size now self.now.pages self.now.bytes)) }
+        ensures seen { Sees (D.moment file.old.disk).state (D.moment file.new.disk).state
+            (λ seen now. KeepsPages self.now.pages seen now × OnOk result (HoldsChain page_size now self.now.pages self.now.bytes)) }
         ensures writes { OnlyWrites self.now.pages (D.moment file.old.disk) (D.moment file.new.disk) }
         ensures cause { FailsWithCause result (D.moment file.old.disk) (D.moment file.new.disk) }
     {

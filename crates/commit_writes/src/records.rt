@@ -2,7 +2,7 @@
 
 ghost use Rattle.std.specs.Prelude.{◌≡◌, ◌≢◌, ◌⊎◌, ◌∷◌, [], ◌++◌, ℕ, List, Some, false, true, OnOk, OnErr, MatchResult};
 ghost use Rattle.std.specs.List.{AllByRecursion};
-ghost use Rattle.afl_outside.specs.Disk.{DiskGoesOn, FailsWithCause, LeavesOnly, Only};
+ghost use Rattle.afl_outside.specs.Disk.{DiskGoesOn, FailsWithCause};
 ghost use Rattle.page_layout.specs.Opens.{OpensAs};
 ghost use Rattle.page_layout.specs.Places.{IsNone};
 ghost use Rattle.page_slots.specs.Standing.{IsClosed, IsDurable, IsTarget};
@@ -11,7 +11,7 @@ ghost use Rattle.page_slots.specs.declared.slots.Target.TheVariants as targets;
 ghost use Rattle.page_slots.specs.declared.slots.NextEntry.TheVariants as entries;
 ghost use Rattle.page_file.specs.Written.{MayWrite};
 ghost use Rattle.commit_writes.specs.Commits.{record_of, commit_pages, IsBlobSized, IsChainSized, HoldsAll};
-ghost use Rattle.commit_writes.specs.Moments.{IsKnown, StaysKnown, Leaves, MayBe, IsOpened, HasRecord, StopsRecord, cleared};
+ghost use Rattle.commit_writes.specs.Moments.{AddsRecord, HasRecord, IsKnown, LeavesOne, PassesBy, StaysKnown, StopsRecord};
 ghost use Rattle.commit_writes.specs.Inner.Going.{Goes};
 
 use crate::Placed;
@@ -32,11 +32,14 @@ fn fill_record<D: Disk>(
     requires sized { AllByRecursion IsBlobSized blobs.now }
     requires chain { IsChainSized chain.now }
     ensures slots { MatchResult result
-        (λ _. file.new.slots ≡ record (emptied file.old.slots) { next = entries.Written (record_of chain.now); zeroed = file.new.slots.zeroed })
-        (λ _. file.new.slots ≡ record (emptied file.old.slots) { next = entries.Closed; doubtful = file.new.slots.doubtful; zeroed = file.new.slots.zeroed }) }
+        (λ _. file.new.slots
+        ≡ record (emptied file.old.slots) { next = entries.Written (record_of chain.now); zeroed = file.new.slots.zeroed })
+        (λ _. file.new.slots
+        ≡ record (emptied file.old.slots) { next = entries.Closed; doubtful = file.new.slots.doubtful; zeroed = file.new.slots.zeroed }) }
     ensures known { StaysKnown file.old.slots file.new.slots (D.moment file.old.disk) (D.moment file.new.disk) }
     ensures goes { (seen : List ℕ) → IsKnown file.old.slots seen (D.moment file.old.disk)
-        → Goes (file.old.slots.current.root.log ∷ commit_pages blobs.now chain.now) (OpensAs file.old.slots.current file.old.slots.records) (D.moment file.old.disk) (D.moment file.new.disk) }
+        → Goes (file.old.slots.current.root.log ∷ commit_pages blobs.now chain.now)
+        (OpensAs file.old.slots.current file.old.slots.records) (D.moment file.old.disk) (D.moment file.new.disk) }
     ensures holds { OnOk result ((seen : List ℕ) → IsKnown file.old.slots seen (D.moment file.old.disk)
         → (c : List ℕ) → (D.moment file.new.disk).may_leave c → HoldsAll c blobs.now chain.now) }
     ensures same { DiskGoesOn (D.moment file.old.disk).state (D.moment file.new.disk).state }
@@ -68,7 +71,8 @@ fn open_record<D: Disk>(
     ensures known { StaysKnown file.old.slots file.new.slots (D.moment file.old.disk) (D.moment file.new.disk) }
     ensures goes { (seen : List ℕ) → IsKnown file.old.slots seen (D.moment file.old.disk)
         → ((d : List ℕ) → (D.moment file.old.disk).may_leave d → HoldsAll d blobs.now chain.now)
-        → Goes (file.old.slots.current.root.log ∷ []) (λ c. OpensAs file.old.slots.current file.old.slots.records c ⊎ HasRecord file.old.slots blobs.now chain.now c) (D.moment file.old.disk) (D.moment file.new.disk) }
+        → Goes (file.old.slots.current.root.log ∷ [])
+        (λ c. OpensAs file.old.slots.current file.old.slots.records c ⊎ HasRecord file.old.slots blobs.now chain.now c) (D.moment file.old.disk) (D.moment file.new.disk) }
     ensures done { OnOk result ((seen : List ℕ) → IsKnown file.old.slots seen (D.moment file.old.disk)
         → ((d : List ℕ) → (D.moment file.old.disk).may_leave d → HoldsAll d blobs.now chain.now)
         → (c : List ℕ) → (D.moment file.new.disk).may_leave c → HasRecord file.old.slots blobs.now chain.now c) }
@@ -82,7 +86,8 @@ fn open_record<D: Disk>(
     }
 }
 
-/// Commits a record: closes the next entry of the log, writes the commit's pages and the entry's body, and opens the entry.
+/// Commits a record, whose bytes are the chain's: closes the next entry of the log, writes the blobs, the chain and the entry's body, and
+/// opens the entry.
 pub fn commit_record<D: Disk>(
     file: &mut PageFile<D>,
     blobs: &[Placed],
@@ -93,15 +98,12 @@ pub fn commit_record<D: Disk>(
     requires free { MayWrite (commit_pages blobs.now chain.now) file.old.slots }
     requires sized { AllByRecursion IsBlobSized blobs.now }
     requires chain { IsChainSized chain.now }
-    ensures done { OnOk result (Leaves file.old.slots file.new.slots (with_record (record_of chain.now) (cleared file.old.slots))
-        (IsOpened (file.old.slots.current.root.log ∷ commit_pages blobs.now chain.now) (HasRecord file.old.slots blobs.now chain.now) (D.moment file.old.disk).may_leave) (D.moment file.old.disk) (D.moment file.new.disk)) }
+    ensures done { OnOk result (AddsRecord file.old.slots file.new.slots blobs.now chain.now (D.moment file.old.disk) (D.moment file.new.disk)) }
     ensures failed { OnErr result (StopsRecord file.old.slots file.new.slots blobs.now chain.now (D.moment file.old.disk) (D.moment file.new.disk)) }
     ensures known { StaysKnown file.old.slots file.new.slots (D.moment file.old.disk) (D.moment file.new.disk) }
-    ensures during { (seen : List ℕ) → IsKnown file.old.slots seen (D.moment file.old.disk)
-        → LeavesOnly (D.moment file.old.disk).state.moment (D.moment file.new.disk).state.moment (D.moment file.old.disk).left_since (D.moment file.new.disk).left_since
-        (MayBe file.old.slots.current.root.log (commit_pages blobs.now chain.now) file.old.slots (HasRecord file.old.slots blobs.now chain.now) (D.moment file.old.disk).may_leave) }
-    ensures durable { OnOk result ((seen : List ℕ) → IsKnown file.old.slots seen (D.moment file.old.disk)
-        → (now : List ℕ) × ((D.moment file.new.disk).state.seen ≡ Some now) × Only now (D.moment file.new.disk).may_leave) }
+    ensures during { PassesBy file.old.slots.current.root.log (commit_pages blobs.now chain.now) file.old.slots
+        (HasRecord file.old.slots blobs.now chain.now) (D.moment file.old.disk) (D.moment file.new.disk) }
+    ensures durable { OnOk result (LeavesOne file.old.slots (D.moment file.old.disk) (D.moment file.new.disk)) }
     ensures same { DiskGoesOn (D.moment file.old.disk).state (D.moment file.new.disk).state }
     ensures cause { FailsWithCause result (D.moment file.old.disk) (D.moment file.new.disk) }
 {
