@@ -18,7 +18,7 @@ use page_file::PageFile;
 use page_layout::{RecordAt, Root};
 
 /// Bytes, and the pages that they are to lie in.
-#[derive(Debug, Drop)]
+#[derive(Drop)]
 pub struct Placed {
     pub pages: List<u32>,
     pub bytes: Bytes,
