@@ -175,3 +175,12 @@ more_pages few many P old new fewer p = record {
   where
     up : (x : List ℕ) → Over few old.may_leave x → Over many old.may_leave x
     up x over = (over.0, over.1, keeps_more few many over.0 x fewer over.2)
+
+pub reread_of : (pages seen : List ℕ) (slots : Slots) (old new : Moment) → IsKnown slots seen old → Sees old.state new.state (KeepsPages pages) → (now : List ℕ) × (new.state.seen ≡ Some now) × KeepsPages pages seen now
+reread_of pages seen slots old new known sees = at_some old.state.seen seen (λ y. (now : List ℕ) × (new.state.seen ≡ Some now) × KeepsPages pages y now) known.tells (sees known.honest)
+
+pub reread_then : (few more many seen x y : List ℕ) (b c : Moment) → ((n : ℕ) → IsNone many n → IsNone few n) → ((n : ℕ) → IsNone many n → IsNone more n) → b.state.seen ≡ Some x → b.state.seen ≡ Some y → KeepsPages few seen x
+    → ((now : List ℕ) × (c.state.seen ≡ Some now) × KeepsPages more y now) → (now : List ℕ) × (c.state.seen ≡ Some now) × KeepsPages many seen now
+reread_then few more many seen x y b c fewer others first second keeps next =
+    let same : y ≡ x = cc (first, second) in
+    (next.0, next.1, keeps_on many seen x next.0 (keeps_more few many seen x fewer keeps) (keeps_more more many x next.0 others (subst (λ (l : List ℕ). KeepsPages more l next.0) same next.2)))

@@ -1,7 +1,7 @@
 -- What each image at each moment of a commit opens as, and which of its pages may differ.
 use Rattle.std.specs.Prelude.{◌≡◌, ℕ, ◌⊎◌, List, [], ◌∷◌, ◌++◌, IsTrue, true, false, Some}
 use Rattle.afl_outside.specs.Disk.{LeavesOnly, Moment, Only}
-use Rattle.page_layout.specs.Places.{other}
+use Rattle.page_layout.specs.Places.{other, KeepsPages}
 use Rattle.page_layout.specs.Opens.{OpensAs}
 use Rattle.page_layout.specs.declared.sides.Format.TheVariants.{Two}
 use Rattle.page_chain.specs.Inner.Runs.{Over}
@@ -49,6 +49,10 @@ MayBe page pages slots new before c = IsUntouched page slots before c ⊎ (IsUno
 abbrev pub PassesBy : ℕ → List ℕ → Slots → (List ℕ → Type 0) → Moment → Moment → Type 0
 PassesBy page pages slots new old now = (seen : List ℕ) → IsKnown slots seen old
     → LeavesOnly old.state.moment now.state.moment old.left_since now.left_since (MayBe page pages slots new old.may_leave)
+
+-- where the slots were known at the start, a read gives what it gave, but for these pages
+abbrev pub Rereads : List ℕ → Slots → Moment → Moment → Type 0
+Rereads pages slots old new = (seen : List ℕ) → IsKnown slots seen old → (now : List ℕ) × (new.state.seen ≡ Some now) × KeepsPages pages seen now
 
 -- where the slots were known at the start, a read gives the one image that there is
 abbrev pub LeavesOne : Slots → Moment → Moment → Type 0

@@ -12,7 +12,7 @@ ghost use Rattle.page_slots.specs.declared.slots.Target.TheVariants as targets;
 ghost use Rattle.page_slots.specs.declared.slots.RootSlot.TheVariants as roots;
 ghost use Rattle.page_file.specs.Written.{MayWrite};
 ghost use Rattle.commit_writes.specs.Commits.{root_of, base_pages, commit_pages, IsBlobSized, IsChainSized, HoldsAll};
-ghost use Rattle.commit_writes.specs.Moments.{HasBase, IsKnown, LeavesOne, MakesBase, MayHaveBase, PassesBy, StaysKnown, StopsBase};
+ghost use Rattle.commit_writes.specs.Moments.{HasBase, IsKnown, LeavesOne, MakesBase, MayHaveBase, PassesBy, Rereads, StaysKnown, StopsBase};
 ghost use Rattle.commit_writes.specs.Inner.Going.{Goes};
 
 use crate::Placed;
@@ -53,6 +53,7 @@ fn write_base_pages<D: Disk>(
     ensures slots { file.new.slots ≡ record (emptied file.old.slots) { zeroed = file.new.slots.zeroed } }
     ensures zeroed { OnOk result (file.new.slots.zeroed ≡ Some log) }
     ensures sound { KeepsSound file.old.slots file.new.slots (D.moment file.old.disk) (D.moment file.new.disk) }
+    ensures seen { Sees (D.moment file.old.disk).state (D.moment file.new.disk).state (KeepsPages (base_pages blobs.now chain.now log)) }
     ensures writes { OnlyWrites (base_pages blobs.now chain.now log) (D.moment file.old.disk) (D.moment file.new.disk) }
     ensures holds { OnOk result (Sees (D.moment file.old.disk).state (D.moment file.new.disk).state (λ seen now. HoldsAll now blobs.now chain.now)) }
     ensures cause { FailsWithCause result (D.moment file.old.disk) (D.moment file.new.disk) }
@@ -91,6 +92,7 @@ fn fill_base<D: Disk>(
         (D.moment file.old.disk) (D.moment file.new.disk) }
     ensures holds { OnOk result ((seen : List ℕ) → IsKnown file.old.slots seen (D.moment file.old.disk)
         → (c : List ℕ) → (D.moment file.new.disk).may_leave c → HoldsAll c blobs.now chain.now) }
+    ensures seen { Rereads (0 ∷ base_pages blobs.now chain.now log) file.old.slots (D.moment file.old.disk) (D.moment file.new.disk) }
     ensures same { DiskGoesOn (D.moment file.old.disk).state (D.moment file.new.disk).state }
     ensures cause { FailsWithCause result (D.moment file.old.disk) (D.moment file.new.disk) }
 {
@@ -129,6 +131,7 @@ fn open_base<D: Disk>(
         → ((d : List ℕ) → (D.moment file.old.disk).may_leave d → HoldsAll d blobs.now chain.now)
         → (c : List ℕ) → (D.moment file.new.disk).may_leave c → HasBase file.old.slots blobs.now chain.now sequence log c) }
     ensures durable { OnOk result (IsDurable (D.moment file.old.disk) (D.moment file.new.disk)) }
+    ensures seen { Rereads (0 ∷ []) file.old.slots (D.moment file.old.disk) (D.moment file.new.disk) }
     ensures same { DiskGoesOn (D.moment file.old.disk).state (D.moment file.new.disk).state }
     ensures cause { FailsWithCause result (D.moment file.old.disk) (D.moment file.new.disk) }
 {
@@ -158,6 +161,7 @@ pub fn commit_base<D: Disk>(
     ensures during { PassesBy 0 (base_pages blobs.now chain.now log) file.old.slots
         (MayHaveBase file.old.slots blobs.now chain.now sequence log) (D.moment file.old.disk) (D.moment file.new.disk) }
     ensures durable { OnOk result (LeavesOne file.old.slots (D.moment file.old.disk) (D.moment file.new.disk)) }
+    ensures seen { Rereads (0 ∷ base_pages blobs.now chain.now log) file.old.slots (D.moment file.old.disk) (D.moment file.new.disk) }
     ensures same { DiskGoesOn (D.moment file.old.disk).state (D.moment file.new.disk).state }
     ensures cause { FailsWithCause result (D.moment file.old.disk) (D.moment file.new.disk) }
 {

@@ -11,7 +11,7 @@ ghost use Rattle.page_slots.specs.declared.slots.Target.TheVariants as targets;
 ghost use Rattle.page_slots.specs.declared.slots.NextEntry.TheVariants as entries;
 ghost use Rattle.page_file.specs.Written.{MayWrite};
 ghost use Rattle.commit_writes.specs.Commits.{record_of, commit_pages, IsBlobSized, IsChainSized, HoldsAll};
-ghost use Rattle.commit_writes.specs.Moments.{AddsRecord, HasRecord, IsKnown, LeavesOne, PassesBy, StaysKnown, StopsRecord};
+ghost use Rattle.commit_writes.specs.Moments.{AddsRecord, HasRecord, IsKnown, LeavesOne, PassesBy, Rereads, StaysKnown, StopsRecord};
 ghost use Rattle.commit_writes.specs.Inner.Going.{Goes};
 
 use crate::Placed;
@@ -42,6 +42,7 @@ fn fill_record<D: Disk>(
         (OpensAs file.old.slots.current file.old.slots.records) (D.moment file.old.disk) (D.moment file.new.disk) }
     ensures holds { OnOk result ((seen : List ℕ) → IsKnown file.old.slots seen (D.moment file.old.disk)
         → (c : List ℕ) → (D.moment file.new.disk).may_leave c → HoldsAll c blobs.now chain.now) }
+    ensures seen { Rereads (file.old.slots.current.root.log ∷ commit_pages blobs.now chain.now) file.old.slots (D.moment file.old.disk) (D.moment file.new.disk) }
     ensures same { DiskGoesOn (D.moment file.old.disk).state (D.moment file.new.disk).state }
     ensures cause { FailsWithCause result (D.moment file.old.disk) (D.moment file.new.disk) }
 {
@@ -77,6 +78,7 @@ fn open_record<D: Disk>(
         → ((d : List ℕ) → (D.moment file.old.disk).may_leave d → HoldsAll d blobs.now chain.now)
         → (c : List ℕ) → (D.moment file.new.disk).may_leave c → HasRecord file.old.slots blobs.now chain.now c) }
     ensures durable { OnOk result (IsDurable (D.moment file.old.disk) (D.moment file.new.disk)) }
+    ensures seen { Rereads (file.old.slots.current.root.log ∷ []) file.old.slots (D.moment file.old.disk) (D.moment file.new.disk) }
     ensures same { DiskGoesOn (D.moment file.old.disk).state (D.moment file.new.disk).state }
     ensures cause { FailsWithCause result (D.moment file.old.disk) (D.moment file.new.disk) }
 {
@@ -104,6 +106,7 @@ pub fn commit_record<D: Disk>(
     ensures during { PassesBy file.old.slots.current.root.log (commit_pages blobs.now chain.now) file.old.slots
         (HasRecord file.old.slots blobs.now chain.now) (D.moment file.old.disk) (D.moment file.new.disk) }
     ensures durable { OnOk result (LeavesOne file.old.slots (D.moment file.old.disk) (D.moment file.new.disk)) }
+    ensures seen { Rereads (file.old.slots.current.root.log ∷ commit_pages blobs.now chain.now) file.old.slots (D.moment file.old.disk) (D.moment file.new.disk) }
     ensures same { DiskGoesOn (D.moment file.old.disk).state (D.moment file.new.disk).state }
     ensures cause { FailsWithCause result (D.moment file.old.disk) (D.moment file.new.disk) }
 {

@@ -11,8 +11,10 @@ use Rattle.page_file.proofs.Kept.{at_some, root_there}
 use Rattle.commit_writes.specs.Commits.{base_pages, commit_pages, root_of}
 use Rattle.commit_writes.specs.Moments.{HasBase, MayHaveBase, cleared}
 use Rattle.commit_writes.specs.Inner.Going.{Goes}
+use Rattle.page_layout.specs.Places.{KeepsPages}
+use Rattle.page_chain.proofs.Kept.{keeps_more}
 use Rattle.commit_writes.proofs.BlobLemmas.{first_of, may_second}
-use Rattle.commit_writes.proofs.GoingLemmas.{closing_is, during_is, image_of, left_is}
+use Rattle.commit_writes.proofs.GoingLemmas.{closing_is, during_is, image_of, left_is, reread_then}
 use Rattle.commit_writes.proofs.BaseLemmas.{sealed_goes, shut_base, shut_on}
 use Rattle.commit_writes.proofs.SlotLemmas.{cause_on}
 use Rattle.commit_writes.proofs.bases.commit_base.Goals as goal
@@ -374,3 +376,69 @@ returns-in-Err-clause-failed g c =
           let g1 = subst (λ (t : Target). Goes (target_page t old.slots ∷ []) (MayOpen old.slots) m0 m1) c.requires.target (c.in-Err.ensures.goes seen known) in
           image_of (0 ∷ []) (MayOpen old.slots) m0 m1 (g.met.D.Disk.counts_now s1.disk) g1 x left;
     })
+
+pub returns-in-Err-clause-seen : goal.returns-in-Err-clause-seen
+returns-in-Err-clause-seen g c = λ seen known.
+    let old = c.args.file.now in
+    let s1 = c.close.new.file in
+    let m1 = g.D.Disk.moment s1.disk in
+    let page : ℕ = 0 in
+    let pages = base_pages c.args.blobs.now c.args.chain.now c.args.log in
+    let r1 = subst (λ (t : Target). (now : List ℕ) × (m1.state.seen ≡ Some now) × KeepsPages (target_page t old.slots ∷ []) seen now) c.requires.target (c.in-Err.ensures.seen seen known) in
+    (r1.0, r1.1, keeps_more (page ∷ []) (page ∷ pages) seen r1.0 (first_of (page ∷ []) pages) r1.2)
+
+pub returns-in-Err-fill_base-clause-seen : goal.returns-in-Err-fill_base-clause-seen
+returns-in-Err-fill_base-clause-seen g c = λ seen known.
+    let old = c.args.file.now in
+    let s1 = c.close.new.file in
+    let m1 = g.D.Disk.moment s1.disk in
+    let page : ℕ = 0 in
+    let pages = base_pages c.args.blobs.now c.args.chain.now c.args.log in
+    let r1 = subst (λ (t : Target). (now : List ℕ) × (m1.state.seen ≡ Some now) × KeepsPages (target_page t old.slots ∷ []) seen now) c.requires.target (c.in-Ok.ensures.seen seen known) in
+    let s2 = c.fill_base.new.file in
+    let m2 = g.D.Disk.moment s2.disk in
+    let is1 = shut_base old.slots s1.slots c.requires.target c.in-Ok.ensures.slots in
+    let k1 = c.in-Ok.ensures.known seen known in
+    let r2 = reread_then (page ∷ []) (page ∷ pages) (page ∷ pages) seen r1.0 k1.0 m1 m2 (first_of (page ∷ []) pages) (λ n none. none) r1.1 k1.1.tells r1.2
+    (c.in-Err-fill_base.ensures.seen k1.0 k1.1) in
+    r2
+
+pub returns-in-Ok-open_base-clause-seen : goal.returns-in-Ok-open_base-clause-seen
+returns-in-Ok-open_base-clause-seen g c = λ seen known.
+    let old = c.args.file.now in
+    let s1 = c.close.new.file in
+    let m1 = g.D.Disk.moment s1.disk in
+    let page : ℕ = 0 in
+    let pages = base_pages c.args.blobs.now c.args.chain.now c.args.log in
+    let r1 = subst (λ (t : Target). (now : List ℕ) × (m1.state.seen ≡ Some now) × KeepsPages (target_page t old.slots ∷ []) seen now) c.requires.target (c.in-Ok.ensures.seen seen known) in
+    let s2 = c.fill_base.new.file in
+    let m2 = g.D.Disk.moment s2.disk in
+    let is1 = shut_base old.slots s1.slots c.requires.target c.in-Ok.ensures.slots in
+    let k1 = c.in-Ok.ensures.known seen known in
+    let r2 = reread_then (page ∷ []) (page ∷ pages) (page ∷ pages) seen r1.0 k1.0 m1 m2 (first_of (page ∷ []) pages) (λ n none. none) r1.1 k1.1.tells r1.2
+    (c.in-Ok-fill_base.ensures.seen k1.0 k1.1) in
+    let m3 = g.D.Disk.moment c.open_base.new.file.disk in
+    let is2 = c.in-Ok-fill_base.ensures.slots in
+    let k2 = c.in-Ok-fill_base.ensures.known k1.0 k1.1 in
+    reread_then (page ∷ pages) (page ∷ []) (page ∷ pages) seen r2.0 k2.0 m2 m3 (λ n none. none) (first_of (page ∷ []) pages) r2.1 k2.1.tells r2.2
+    (c.in-Ok-open_base.ensures.seen k2.0 k2.1)
+
+pub returns-in-Err-open_base-clause-seen : goal.returns-in-Err-open_base-clause-seen
+returns-in-Err-open_base-clause-seen g c = λ seen known.
+    let old = c.args.file.now in
+    let s1 = c.close.new.file in
+    let m1 = g.D.Disk.moment s1.disk in
+    let page : ℕ = 0 in
+    let pages = base_pages c.args.blobs.now c.args.chain.now c.args.log in
+    let r1 = subst (λ (t : Target). (now : List ℕ) × (m1.state.seen ≡ Some now) × KeepsPages (target_page t old.slots ∷ []) seen now) c.requires.target (c.in-Ok.ensures.seen seen known) in
+    let s2 = c.fill_base.new.file in
+    let m2 = g.D.Disk.moment s2.disk in
+    let is1 = shut_base old.slots s1.slots c.requires.target c.in-Ok.ensures.slots in
+    let k1 = c.in-Ok.ensures.known seen known in
+    let r2 = reread_then (page ∷ []) (page ∷ pages) (page ∷ pages) seen r1.0 k1.0 m1 m2 (first_of (page ∷ []) pages) (λ n none. none) r1.1 k1.1.tells r1.2
+    (c.in-Ok-fill_base.ensures.seen k1.0 k1.1) in
+    let m3 = g.D.Disk.moment c.open_base.new.file.disk in
+    let is2 = c.in-Ok-fill_base.ensures.slots in
+    let k2 = c.in-Ok-fill_base.ensures.known k1.0 k1.1 in
+    reread_then (page ∷ pages) (page ∷ []) (page ∷ pages) seen r2.0 k2.0 m2 m3 (λ n none. none) (first_of (page ∷ []) pages) r2.1 k2.1.tells r2.2
+    (c.in-Err-open_base.ensures.seen k2.0 k2.1)

@@ -4,8 +4,9 @@ use Rattle.page_slots.specs.declared.slots.Slots.{Slots}
 use Rattle.page_slots.specs.declared.slots.RootSlot.TheVariants as roots
 use Rattle.page_file.proofs.Kept.{at_some, sound_on}
 use Rattle.commit_writes.specs.Commits.{base_pages, commit_pages, root_of, HoldsAll}
-use Rattle.commit_writes.proofs.BlobLemmas.{first_of}
-use Rattle.commit_writes.proofs.GoingLemmas.{put_holds, stays_known}
+use Rattle.page_chain.proofs.Kept.{keeps_more}
+use Rattle.commit_writes.proofs.BlobLemmas.{first_of, second_of}
+use Rattle.commit_writes.proofs.GoingLemmas.{put_holds, stays_known, reread_of, reread_then}
 use Rattle.commit_writes.proofs.BaseLemmas.{body_keeps, filled_goes, newer_on, pages_more, root_fills, root_unfilled, root_unwritten, root_written}
 use Rattle.commit_writes.proofs.SlotLemmas.{cause_on}
 use Rattle.commit_writes.proofs.bases.fill_base.Goals as goal
@@ -113,3 +114,40 @@ returns-in-Err-clause-goes g c = λ seen known.
     let old = c.args.file.now in
     let mid = c.write_base_pages.new.file in
     pages_more old.slots (base_pages c.args.blobs.now c.args.chain.now c.args.log) seen (g.D.Disk.moment old.disk) (g.D.Disk.moment mid.disk) known c.requires.closed c.requires.free c.in-Err.ensures.writes
+
+pub returns-in-Ok-write_root-clause-seen : goal.returns-in-Ok-write_root-clause-seen
+returns-in-Ok-write_root-clause-seen g c = λ seen known.
+    let old = c.args.file.now in
+    let mid = c.write_base_pages.new.file in
+    let new = c.write_root.new.self in
+    let m0 = g.D.Disk.moment old.disk in
+    let m1 = g.D.Disk.moment mid.disk in
+    let m2 = g.D.Disk.moment new.disk in
+    let page : ℕ = 0 in
+    let pages = base_pages c.args.blobs.now c.args.chain.now c.args.log in
+    let s = stays_known old.slots mid.slots m0 m1 c.in-Ok.ensures.writes.same c.in-Ok.ensures.sound seen known in
+    let first = reread_of pages seen old.slots m0 m1 known c.in-Ok.ensures.seen in
+    reread_then pages (page ∷ []) (page ∷ pages) seen first.0 s.0 m1 m2 (second_of (page ∷ []) pages) (first_of (page ∷ []) pages) first.1 s.1.tells first.2
+    (reread_of (page ∷ []) s.0 mid.slots m1 m2 s.1 (body_keeps mid.slots s.0 m1 m2 (ap (λ (t : Slots). t.target) c.in-Ok.ensures.slots ∙ c.requires.target) s.1 (g.met.D.Disk.as_read mid.disk) c.in-Ok-write_root.ensures.writes))
+
+pub returns-in-Err-write_root-clause-seen : goal.returns-in-Err-write_root-clause-seen
+returns-in-Err-write_root-clause-seen g c = λ seen known.
+    let old = c.args.file.now in
+    let mid = c.write_base_pages.new.file in
+    let new = c.write_root.new.self in
+    let m0 = g.D.Disk.moment old.disk in
+    let m1 = g.D.Disk.moment mid.disk in
+    let m2 = g.D.Disk.moment new.disk in
+    let page : ℕ = 0 in
+    let pages = base_pages c.args.blobs.now c.args.chain.now c.args.log in
+    let s = stays_known old.slots mid.slots m0 m1 c.in-Ok.ensures.writes.same c.in-Ok.ensures.sound seen known in
+    let first = reread_of pages seen old.slots m0 m1 known c.in-Ok.ensures.seen in
+    reread_then pages (page ∷ []) (page ∷ pages) seen first.0 s.0 m1 m2 (second_of (page ∷ []) pages) (first_of (page ∷ []) pages) first.1 s.1.tells first.2
+    (reread_of (page ∷ []) s.0 mid.slots m1 m2 s.1 (body_keeps mid.slots s.0 m1 m2 (ap (λ (t : Slots). t.target) c.in-Ok.ensures.slots ∙ c.requires.target) s.1 (g.met.D.Disk.as_read mid.disk) c.in-Err-write_root.ensures.writes))
+
+pub returns-in-Err-clause-seen : goal.returns-in-Err-clause-seen
+returns-in-Err-clause-seen g c = λ seen known.
+    let page : ℕ = 0 in
+    let pages = base_pages c.args.blobs.now c.args.chain.now c.args.log in
+    let first = reread_of pages seen c.args.file.now.slots (g.D.Disk.moment c.args.file.now.disk) (g.D.Disk.moment c.write_base_pages.new.file.disk) known c.in-Err.ensures.seen in
+    (first.0, first.1, keeps_more pages (page ∷ pages) seen first.0 (second_of (page ∷ []) pages) first.2)

@@ -1,8 +1,11 @@
 use Rattle.page_file.proofs.Kept.{root_ready, root_there}
 use Rattle.page_file.proofs.Opened.{root_open}
 use Rattle.commit_writes.specs.Commits.{root_of}
+use Rattle.page_slots.specs.Standing.{gate_place, target_page}
+use Rattle.page_slots.specs.declared.slots.Target.{Target}
+use Rattle.std.proofs.Common.{[], ◌∷◌, sym, ap, arith}
 use Rattle.commit_writes.proofs.BlobLemmas.{all_on}
-use Rattle.commit_writes.proofs.GoingLemmas.{stays_known}
+use Rattle.commit_writes.proofs.GoingLemmas.{stays_known, put_keeps, reread_of}
 use Rattle.commit_writes.proofs.BaseLemmas.{ajar_goes, root_ajar, root_opened}
 use Rattle.commit_writes.proofs.bases.open_base.Goals as goal
 
@@ -56,3 +59,19 @@ returns-in-Err-clause-goes g c = λ seen known holds.
 
 pub open_slot-requires-clause-there : goal.open_slot-requires-clause-there
 open_slot-requires-clause-there g c = root_there c.args.file.now.slots c.requires.target
+
+pub returns-in-Ok-clause-seen : goal.returns-in-Ok-clause-seen
+returns-in-Ok-clause-seen g c = λ seen known.
+    let old = c.args.file.now in
+    let m0 = g.D.Disk.moment old.disk in
+    let m1 = g.D.Disk.moment c.open_slot.new.self.disk in
+    reread_of (0 ∷ []) seen old.slots m0 m1 known
+    (put_keeps old.slots (0) (gate_place old.slots.target old.slots) 1 seen m0 m1 (sym (ap (λ (t : Target). target_page t old.slots) c.requires.target)) known (root_there old.slots c.requires.target) (g.met.D.Disk.as_read old.disk) (omega arith) (omega arith) c.in-Ok.ensures.writes)
+
+pub returns-in-Err-clause-seen : goal.returns-in-Err-clause-seen
+returns-in-Err-clause-seen g c = λ seen known.
+    let old = c.args.file.now in
+    let m0 = g.D.Disk.moment old.disk in
+    let m1 = g.D.Disk.moment c.open_slot.new.self.disk in
+    reread_of (0 ∷ []) seen old.slots m0 m1 known
+    (put_keeps old.slots (0) (gate_place old.slots.target old.slots) 1 seen m0 m1 (sym (ap (λ (t : Target). target_page t old.slots) c.requires.target)) known (root_there old.slots c.requires.target) (g.met.D.Disk.as_read old.disk) (omega arith) (omega arith) c.in-Err.ensures.writes)

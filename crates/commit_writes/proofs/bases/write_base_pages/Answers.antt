@@ -1,11 +1,12 @@
-use Rattle.std.proofs.Common.{[], ◌∷◌, Some, ap}
+use Rattle.std.proofs.Common.{[], ◌∷◌, Some, ap, ◌++◌}
 use Rattle.page_layout.specs.Places.{KeepsPages}
-use Rattle.page_chain.proofs.RunLemmas.{writes_follow, writes_more, sees_on}
+use Rattle.page_chain.proofs.RunLemmas.{writes_follow, writes_more, sees_on, sees_more}
 use Rattle.page_slots.specs.declared.slots.Slots.{Slots}
 use Rattle.page_file.proofs.Kept.{sound_on}
 use Rattle.commit_writes.specs.Commits.{base_pages, commit_pages, HoldsAll}
+use Rattle.page_chain.proofs.Kept.{keeps_on, keeps_more}
 use Rattle.commit_writes.proofs.BaseLemmas.{last_apart, emptied_once}
-use Rattle.commit_writes.proofs.BlobLemmas.{all_on, may_first, may_second, first_of}
+use Rattle.commit_writes.proofs.BlobLemmas.{all_on, may_first, may_second, first_of, second_of}
 use Rattle.commit_writes.proofs.SlotLemmas.{cause_on, closed_on, emptied_then, zeroed_only}
 use Rattle.commit_writes.proofs.bases.write_base_pages.Goals as goal
 
@@ -69,3 +70,25 @@ returns-in-Err-write_zeros-clause-sound g c =
 
 pub returns-in-Err-write_zeros-clause-writes : goal.returns-in-Err-write_zeros-clause-writes
 returns-in-Err-write_zeros-clause-writes g c = writes_follow (commit_pages c.args.blobs.now c.args.chain.now) (c.args.log ∷ []) _ _ _ _ _ _ _ _ _ c.in-Ok.ensures.writes c.in-Err-write_zeros.ensures.writes
+
+pub returns-in-Ok-write_zeros-clause-seen : goal.returns-in-Ok-write_zeros-clause-seen
+returns-in-Ok-write_zeros-clause-seen g c =
+    let first = commit_pages c.args.blobs.now c.args.chain.now in
+    let second = c.args.log ∷ [] in
+    let all = first ++ second in
+    sees_on (g.D.Disk.moment c.args.file.now.disk).state (g.D.Disk.moment c.write_pages.new.file.disk).state (g.D.Disk.moment c.write_zeros.new.file.disk).state (KeepsPages first) (KeepsPages second) (KeepsPages all)
+    (λ x y z p q. keeps_on all x y z (keeps_more first all x y (first_of first second) p) (keeps_more second all y z (second_of first second) q)) c.in-Ok.ensures.writes.same c.in-Ok.ensures.seen c.in-Ok-write_zeros.ensures.seen
+
+pub returns-in-Err-write_zeros-clause-seen : goal.returns-in-Err-write_zeros-clause-seen
+returns-in-Err-write_zeros-clause-seen g c =
+    let first = commit_pages c.args.blobs.now c.args.chain.now in
+    let second = c.args.log ∷ [] in
+    let all = first ++ second in
+    sees_on (g.D.Disk.moment c.args.file.now.disk).state (g.D.Disk.moment c.write_pages.new.file.disk).state (g.D.Disk.moment c.write_zeros.new.file.disk).state (KeepsPages first) (KeepsPages second) (KeepsPages all)
+    (λ x y z p q. keeps_on all x y z (keeps_more first all x y (first_of first second) p) (keeps_more second all y z (second_of first second) q)) c.in-Ok.ensures.writes.same c.in-Ok.ensures.seen c.in-Err-write_zeros.ensures.seen
+
+pub returns-in-Err-clause-seen : goal.returns-in-Err-clause-seen
+returns-in-Err-clause-seen g c =
+    let first = commit_pages c.args.blobs.now c.args.chain.now in
+    let second = c.args.log ∷ [] in
+    sees_more (g.D.Disk.moment c.args.file.now.disk).state (g.D.Disk.moment c.write_pages.new.file.disk).state (KeepsPages first) (KeepsPages (first ++ second)) (λ x y p. keeps_more first (first ++ second) x y (first_of first second) p) c.in-Err.ensures.seen

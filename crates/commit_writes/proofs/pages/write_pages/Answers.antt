@@ -2,11 +2,12 @@ use Rattle.std.proofs.Common.{◌++◌, ap}
 use Rattle.page_layout.specs.Places.{KeepsPages}
 use Rattle.page_chain.specs.Pages.{page_size}
 use Rattle.page_chain.specs.Chains.{HoldsChain}
-use Rattle.page_chain.proofs.RunLemmas.{writes_follow, writes_more, sees_on}
+use Rattle.page_chain.proofs.RunLemmas.{writes_follow, writes_more, sees_on, sees_more}
 use Rattle.page_slots.specs.declared.slots.Slots.{Slots}
 use Rattle.page_file.proofs.Kept.{sound_on}
 use Rattle.commit_writes.specs.Commits.{pages_of, HoldsBlobs, HoldsAll}
-use Rattle.commit_writes.proofs.BlobLemmas.{may_first, may_second, first_of, apart_of, blobs_on}
+use Rattle.page_chain.proofs.Kept.{keeps_on, keeps_more}
+use Rattle.commit_writes.proofs.BlobLemmas.{may_first, may_second, first_of, apart_of, blobs_on, second_of}
 use Rattle.commit_writes.proofs.SlotLemmas.{closed_on, emptied_then, cause_on}
 use Rattle.commit_writes.proofs.pages.write_pages.Goals as goal
 
@@ -67,3 +68,25 @@ returns-in-Err-write_chain-clause-cause g c =
 
 pub returns-in-Err-clause-writes : goal.returns-in-Err-clause-writes
 returns-in-Err-clause-writes g c = writes_more (pages_of c.args.blobs.now) (pages_of c.args.blobs.now ++ c.args.chain.now.pages) _ _ _ _ _ _ (first_of (pages_of c.args.blobs.now) c.args.chain.now.pages) c.in-Err.ensures.writes
+
+pub returns-in-Ok-write_chain-clause-seen : goal.returns-in-Ok-write_chain-clause-seen
+returns-in-Ok-write_chain-clause-seen g c =
+    let first = pages_of c.args.blobs.now in
+    let second = c.args.chain.now.pages in
+    let all = first ++ second in
+    sees_on (g.D.Disk.moment c.args.file.now.disk).state (g.D.Disk.moment c.write_blobs.new.file.disk).state (g.D.Disk.moment c.write_chain.new.file.disk).state (KeepsPages first) (λ seen now. KeepsPages second seen now × HoldsChain page_size now second c.args.chain.now.bytes) (KeepsPages all)
+    (λ x y z p q. keeps_on all x y z (keeps_more first all x y (first_of first second) p) (keeps_more second all y z (second_of first second) q.0)) c.in-Ok.ensures.writes.same c.in-Ok.ensures.seen c.in-Ok-write_chain.ensures.seen
+
+pub returns-in-Err-write_chain-clause-seen : goal.returns-in-Err-write_chain-clause-seen
+returns-in-Err-write_chain-clause-seen g c =
+    let first = pages_of c.args.blobs.now in
+    let second = c.args.chain.now.pages in
+    let all = first ++ second in
+    sees_on (g.D.Disk.moment c.args.file.now.disk).state (g.D.Disk.moment c.write_blobs.new.file.disk).state (g.D.Disk.moment c.write_chain.new.file.disk).state (KeepsPages first) (λ seen now. KeepsPages second seen now × Unit {0}) (KeepsPages all)
+    (λ x y z p q. keeps_on all x y z (keeps_more first all x y (first_of first second) p) (keeps_more second all y z (second_of first second) q.0)) c.in-Ok.ensures.writes.same c.in-Ok.ensures.seen c.in-Err-write_chain.ensures.seen
+
+pub returns-in-Err-clause-seen : goal.returns-in-Err-clause-seen
+returns-in-Err-clause-seen g c =
+    let first = pages_of c.args.blobs.now in
+    let second = c.args.chain.now.pages in
+    sees_more (g.D.Disk.moment c.args.file.now.disk).state (g.D.Disk.moment c.write_blobs.new.file.disk).state (KeepsPages first) (KeepsPages (first ++ second)) (λ x y p. keeps_more first (first ++ second) x y (first_of first second) p) c.in-Err.ensures.seen

@@ -1,7 +1,7 @@
 use Rattle.std.proofs.Common.{◌≡◌, ◌⊎◌, inl, inr, ⊎_elim, ℕ, List, [], ◌∷◌, Some, true, Option, sym, ◌∙◌, ap, subst}
 use Rattle.afl_outside.specs.Disk.{Only}
 use Rattle.page_layout.specs.Opens.{OpensAs}
-use Rattle.page_layout.specs.Places.{IsNone}
+use Rattle.page_layout.specs.Places.{IsNone, KeepsPages}
 use Rattle.page_chain.proofs.RunLemmas.{goes}
 use Rattle.page_slots.specs.Standing.{target_page, IsTarget, MayOpen}
 use Rattle.page_slots.specs.Steps.{emptied, with_record}
@@ -9,11 +9,12 @@ use Rattle.page_slots.specs.declared.slots.Slots.{Slots}
 use Rattle.page_slots.specs.declared.slots.Target.{Target}
 use Rattle.page_slots.specs.declared.slots.NextEntry.TheVariants as entries
 use Rattle.page_file.proofs.Kept.{at_some}
-use Rattle.commit_writes.proofs.BlobLemmas.{may_second}
+use Rattle.page_chain.proofs.Kept.{keeps_more}
+use Rattle.commit_writes.proofs.BlobLemmas.{may_second, first_of}
 use Rattle.commit_writes.specs.Commits.{commit_pages, record_of}
 use Rattle.commit_writes.specs.Moments.{HasRecord, cleared}
 use Rattle.commit_writes.specs.Inner.Going.{Goes}
-use Rattle.commit_writes.proofs.GoingLemmas.{closing_is, during_is, image_of, left_is}
+use Rattle.commit_writes.proofs.GoingLemmas.{closing_is, during_is, image_of, left_is, reread_then}
 use Rattle.commit_writes.proofs.RecordLemmas.{sealed_goes, shut_on}
 use Rattle.commit_writes.proofs.SlotLemmas.{cause_on, shut_record}
 use Rattle.commit_writes.proofs.records.commit_record.Goals as goal
@@ -365,3 +366,69 @@ returns-in-Err-clause-failed g c =
           let g1 = subst (λ (t : Target). Goes (target_page t old.slots ∷ []) (MayOpen old.slots) m0 m1) c.requires.target (c.in-Err.ensures.goes seen known) in
           image_of (log ∷ []) (MayOpen old.slots) m0 m1 (g.met.D.Disk.counts_now s1.disk) g1 x left;
     })
+
+pub returns-in-Err-clause-seen : goal.returns-in-Err-clause-seen
+returns-in-Err-clause-seen g c = λ seen known.
+    let old = c.args.file.now in
+    let s1 = c.close.new.file in
+    let m1 = g.D.Disk.moment s1.disk in
+    let page = c.args.file.now.slots.current.root.log in
+    let pages = commit_pages c.args.blobs.now c.args.chain.now in
+    let r1 = subst (λ (t : Target). (now : List ℕ) × (m1.state.seen ≡ Some now) × KeepsPages (target_page t old.slots ∷ []) seen now) c.requires.target (c.in-Err.ensures.seen seen known) in
+    (r1.0, r1.1, keeps_more (page ∷ []) (page ∷ pages) seen r1.0 (first_of (page ∷ []) pages) r1.2)
+
+pub returns-in-Err-fill_record-clause-seen : goal.returns-in-Err-fill_record-clause-seen
+returns-in-Err-fill_record-clause-seen g c = λ seen known.
+    let old = c.args.file.now in
+    let s1 = c.close.new.file in
+    let m1 = g.D.Disk.moment s1.disk in
+    let page = c.args.file.now.slots.current.root.log in
+    let pages = commit_pages c.args.blobs.now c.args.chain.now in
+    let r1 = subst (λ (t : Target). (now : List ℕ) × (m1.state.seen ≡ Some now) × KeepsPages (target_page t old.slots ∷ []) seen now) c.requires.target (c.in-Ok.ensures.seen seen known) in
+    let s2 = c.fill_record.new.file in
+    let m2 = g.D.Disk.moment s2.disk in
+    let is1 = shut_record old.slots s1.slots c.requires.target c.in-Ok.ensures.slots in
+    let k1 = c.in-Ok.ensures.known seen known in
+    let r2 = reread_then (page ∷ []) (page ∷ pages) (page ∷ pages) seen r1.0 k1.0 m1 m2 (first_of (page ∷ []) pages) (λ n none. none) r1.1 k1.1.tells r1.2
+    (subst (λ (s : Slots). (now : List ℕ) × (m2.state.seen ≡ Some now) × KeepsPages (s.current.root.log ∷ pages) k1.0 now) is1 (c.in-Err-fill_record.ensures.seen k1.0 k1.1)) in
+    r2
+
+pub returns-in-Ok-open_record-clause-seen : goal.returns-in-Ok-open_record-clause-seen
+returns-in-Ok-open_record-clause-seen g c = λ seen known.
+    let old = c.args.file.now in
+    let s1 = c.close.new.file in
+    let m1 = g.D.Disk.moment s1.disk in
+    let page = c.args.file.now.slots.current.root.log in
+    let pages = commit_pages c.args.blobs.now c.args.chain.now in
+    let r1 = subst (λ (t : Target). (now : List ℕ) × (m1.state.seen ≡ Some now) × KeepsPages (target_page t old.slots ∷ []) seen now) c.requires.target (c.in-Ok.ensures.seen seen known) in
+    let s2 = c.fill_record.new.file in
+    let m2 = g.D.Disk.moment s2.disk in
+    let is1 = shut_record old.slots s1.slots c.requires.target c.in-Ok.ensures.slots in
+    let k1 = c.in-Ok.ensures.known seen known in
+    let r2 = reread_then (page ∷ []) (page ∷ pages) (page ∷ pages) seen r1.0 k1.0 m1 m2 (first_of (page ∷ []) pages) (λ n none. none) r1.1 k1.1.tells r1.2
+    (subst (λ (s : Slots). (now : List ℕ) × (m2.state.seen ≡ Some now) × KeepsPages (s.current.root.log ∷ pages) k1.0 now) is1 (c.in-Ok-fill_record.ensures.seen k1.0 k1.1)) in
+    let m3 = g.D.Disk.moment c.open_record.new.file.disk in
+    let is2 = c.in-Ok-fill_record.ensures.slots in
+    let k2 = c.in-Ok-fill_record.ensures.known k1.0 k1.1 in
+    reread_then (page ∷ pages) (page ∷ []) (page ∷ pages) seen r2.0 k2.0 m2 m3 (λ n none. none) (first_of (page ∷ []) pages) r2.1 k2.1.tells r2.2
+    (subst (λ (s : Slots). (now : List ℕ) × (m3.state.seen ≡ Some now) × KeepsPages (s.current.root.log ∷ []) k2.0 now) is1 (subst (λ (s : Slots). (now : List ℕ) × (m3.state.seen ≡ Some now) × KeepsPages (s.current.root.log ∷ []) k2.0 now) is2 (c.in-Ok-open_record.ensures.seen k2.0 k2.1)))
+
+pub returns-in-Err-open_record-clause-seen : goal.returns-in-Err-open_record-clause-seen
+returns-in-Err-open_record-clause-seen g c = λ seen known.
+    let old = c.args.file.now in
+    let s1 = c.close.new.file in
+    let m1 = g.D.Disk.moment s1.disk in
+    let page = c.args.file.now.slots.current.root.log in
+    let pages = commit_pages c.args.blobs.now c.args.chain.now in
+    let r1 = subst (λ (t : Target). (now : List ℕ) × (m1.state.seen ≡ Some now) × KeepsPages (target_page t old.slots ∷ []) seen now) c.requires.target (c.in-Ok.ensures.seen seen known) in
+    let s2 = c.fill_record.new.file in
+    let m2 = g.D.Disk.moment s2.disk in
+    let is1 = shut_record old.slots s1.slots c.requires.target c.in-Ok.ensures.slots in
+    let k1 = c.in-Ok.ensures.known seen known in
+    let r2 = reread_then (page ∷ []) (page ∷ pages) (page ∷ pages) seen r1.0 k1.0 m1 m2 (first_of (page ∷ []) pages) (λ n none. none) r1.1 k1.1.tells r1.2
+    (subst (λ (s : Slots). (now : List ℕ) × (m2.state.seen ≡ Some now) × KeepsPages (s.current.root.log ∷ pages) k1.0 now) is1 (c.in-Ok-fill_record.ensures.seen k1.0 k1.1)) in
+    let m3 = g.D.Disk.moment c.open_record.new.file.disk in
+    let is2 = c.in-Ok-fill_record.ensures.slots in
+    let k2 = c.in-Ok-fill_record.ensures.known k1.0 k1.1 in
+    reread_then (page ∷ pages) (page ∷ []) (page ∷ pages) seen r2.0 k2.0 m2 m3 (λ n none. none) (first_of (page ∷ []) pages) r2.1 k2.1.tells r2.2
+    (subst (λ (s : Slots). (now : List ℕ) × (m3.state.seen ≡ Some now) × KeepsPages (s.current.root.log ∷ []) k2.0 now) is1 (subst (λ (s : Slots). (now : List ℕ) × (m3.state.seen ≡ Some now) × KeepsPages (s.current.root.log ∷ []) k2.0 now) is2 (c.in-Err-open_record.ensures.seen k2.0 k2.1)))

@@ -1,11 +1,13 @@
-use Rattle.std.proofs.Common.{◌≡◌, ℕ, List, Some, true, sym, ◌∙◌, ap, subst}
+use Rattle.std.proofs.Common.{◌≡◌, ℕ, List, Some, true, sym, ◌∙◌, ap, subst, [], ◌∷◌}
 use Rattle.page_chain.proofs.RunLemmas.{goes}
 use Rattle.page_slots.specs.Standing.{IsTarget}
 use Rattle.page_slots.specs.declared.slots.Slots.{Slots}
 use Rattle.page_slots.specs.declared.slots.NextEntry.TheVariants as entries
 use Rattle.page_file.proofs.Kept.{at_some, sound_on}
 use Rattle.commit_writes.specs.Commits.{commit_pages, HoldsAll}
-use Rattle.commit_writes.proofs.GoingLemmas.{put_holds, stays_known}
+use Rattle.page_chain.proofs.Kept.{keeps_more}
+use Rattle.commit_writes.proofs.BlobLemmas.{first_of, second_of}
+use Rattle.commit_writes.proofs.GoingLemmas.{put_holds, stays_known, reread_of, reread_then}
 use Rattle.commit_writes.proofs.RecordLemmas.{body_keeps, filled_goes, pages_more}
 use Rattle.commit_writes.proofs.SlotLemmas.{cause_on, entry_ready, entry_written, entry_unwritten, entry_unfilled}
 use Rattle.commit_writes.proofs.records.fill_record.Goals as goal
@@ -113,3 +115,40 @@ returns-in-Err-clause-goes g c = λ seen known.
     let old = c.args.file.now in
     let mid = c.write_pages.new.file in
     pages_more old.slots (commit_pages c.args.blobs.now c.args.chain.now) seen (g.D.Disk.moment old.disk) (g.D.Disk.moment mid.disk) known c.requires.closed c.requires.free c.in-Err.ensures.writes
+
+pub returns-in-Ok-write_record-clause-seen : goal.returns-in-Ok-write_record-clause-seen
+returns-in-Ok-write_record-clause-seen g c = λ seen known.
+    let old = c.args.file.now in
+    let mid = c.write_pages.new.file in
+    let new = c.write_record.new.self in
+    let m0 = g.D.Disk.moment old.disk in
+    let m1 = g.D.Disk.moment mid.disk in
+    let m2 = g.D.Disk.moment new.disk in
+    let page = c.args.file.now.slots.current.root.log in
+    let pages = commit_pages c.args.blobs.now c.args.chain.now in
+    let s = stays_known old.slots mid.slots m0 m1 c.in-Ok.ensures.writes.same c.in-Ok.ensures.sound seen known in
+    let first = reread_of pages seen old.slots m0 m1 known c.in-Ok.ensures.seen in
+    reread_then pages (page ∷ []) (page ∷ pages) seen first.0 s.0 m1 m2 (second_of (page ∷ []) pages) (first_of (page ∷ []) pages) first.1 s.1.tells first.2
+    (reread_of (page ∷ []) s.0 mid.slots m1 m2 s.1 (body_keeps old.slots mid.slots s.0 m1 m2 c.requires.target c.requires.there c.in-Ok.ensures.slots s.1 (g.met.D.Disk.as_read mid.disk) c.in-Ok-write_record.ensures.writes))
+
+pub returns-in-Err-write_record-clause-seen : goal.returns-in-Err-write_record-clause-seen
+returns-in-Err-write_record-clause-seen g c = λ seen known.
+    let old = c.args.file.now in
+    let mid = c.write_pages.new.file in
+    let new = c.write_record.new.self in
+    let m0 = g.D.Disk.moment old.disk in
+    let m1 = g.D.Disk.moment mid.disk in
+    let m2 = g.D.Disk.moment new.disk in
+    let page = c.args.file.now.slots.current.root.log in
+    let pages = commit_pages c.args.blobs.now c.args.chain.now in
+    let s = stays_known old.slots mid.slots m0 m1 c.in-Ok.ensures.writes.same c.in-Ok.ensures.sound seen known in
+    let first = reread_of pages seen old.slots m0 m1 known c.in-Ok.ensures.seen in
+    reread_then pages (page ∷ []) (page ∷ pages) seen first.0 s.0 m1 m2 (second_of (page ∷ []) pages) (first_of (page ∷ []) pages) first.1 s.1.tells first.2
+    (reread_of (page ∷ []) s.0 mid.slots m1 m2 s.1 (body_keeps old.slots mid.slots s.0 m1 m2 c.requires.target c.requires.there c.in-Ok.ensures.slots s.1 (g.met.D.Disk.as_read mid.disk) c.in-Err-write_record.ensures.writes))
+
+pub returns-in-Err-clause-seen : goal.returns-in-Err-clause-seen
+returns-in-Err-clause-seen g c = λ seen known.
+    let page = c.args.file.now.slots.current.root.log in
+    let pages = commit_pages c.args.blobs.now c.args.chain.now in
+    let first = reread_of pages seen c.args.file.now.slots (g.D.Disk.moment c.args.file.now.disk) (g.D.Disk.moment c.write_pages.new.file.disk) known c.in-Err.ensures.seen in
+    (first.0, first.1, keeps_more pages (page ∷ pages) seen first.0 (second_of (page ∷ []) pages) first.2)

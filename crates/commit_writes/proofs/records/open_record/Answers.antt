@@ -1,7 +1,10 @@
 use Rattle.page_file.proofs.Opened.{record_open}
 use Rattle.commit_writes.specs.Commits.{record_of}
+use Rattle.page_slots.specs.Standing.{gate_place, target_page}
+use Rattle.page_slots.specs.declared.slots.Target.{Target}
+use Rattle.std.proofs.Common.{[], ◌∷◌, sym, ap, arith}
 use Rattle.commit_writes.proofs.BlobLemmas.{all_on}
-use Rattle.commit_writes.proofs.GoingLemmas.{stays_known}
+use Rattle.commit_writes.proofs.GoingLemmas.{stays_known, put_keeps, reread_of}
 use Rattle.commit_writes.proofs.RecordLemmas.{ajar_goes}
 use Rattle.commit_writes.proofs.SlotLemmas.{entry_opened, entry_ajar, entry_target}
 use Rattle.commit_writes.proofs.records.open_record.Goals as goal
@@ -53,3 +56,19 @@ returns-in-Err-clause-goes g c = λ seen known holds.
     let new = c.open_slot.new.self in
     ajar_goes old.slots c.args.blobs.now c.args.chain.now seen (g.D.Disk.moment old.disk) (g.D.Disk.moment new.disk) c.requires.target c.requires.there c.requires.sure c.requires.written c.requires.apart known holds (g.met.D.Disk.as_read old.disk)
     c.in-Err.ensures.writes c.in-Err.ensures.opens
+
+pub returns-in-Ok-clause-seen : goal.returns-in-Ok-clause-seen
+returns-in-Ok-clause-seen g c = λ seen known.
+    let old = c.args.file.now in
+    let m0 = g.D.Disk.moment old.disk in
+    let m1 = g.D.Disk.moment c.open_slot.new.self.disk in
+    reread_of (c.args.file.now.slots.current.root.log ∷ []) seen old.slots m0 m1 known
+    (put_keeps old.slots (c.args.file.now.slots.current.root.log) (gate_place old.slots.target old.slots) 1 seen m0 m1 (sym (ap (λ (t : Target). target_page t old.slots) c.requires.target)) known c.requires.there (g.met.D.Disk.as_read old.disk) (omega arith) (omega arith) c.in-Ok.ensures.writes)
+
+pub returns-in-Err-clause-seen : goal.returns-in-Err-clause-seen
+returns-in-Err-clause-seen g c = λ seen known.
+    let old = c.args.file.now in
+    let m0 = g.D.Disk.moment old.disk in
+    let m1 = g.D.Disk.moment c.open_slot.new.self.disk in
+    reread_of (c.args.file.now.slots.current.root.log ∷ []) seen old.slots m0 m1 known
+    (put_keeps old.slots (c.args.file.now.slots.current.root.log) (gate_place old.slots.target old.slots) 1 seen m0 m1 (sym (ap (λ (t : Target). target_page t old.slots) c.requires.target)) known c.requires.there (g.met.D.Disk.as_read old.disk) (omega arith) (omega arith) c.in-Err.ensures.writes)
