@@ -42,7 +42,8 @@ fn fill_record<D: Disk>(
         (OpensAs file.old.slots.current file.old.slots.records) (D.moment file.old.disk) (D.moment file.new.disk) }
     ensures holds { OnOk result ((seen : List ℕ) → IsKnown file.old.slots seen (D.moment file.old.disk)
         → (c : List ℕ) → (D.moment file.new.disk).may_leave c → HoldsAll c blobs.now chain.now) }
-    ensures seen { Rereads (file.old.slots.current.root.log ∷ commit_pages blobs.now chain.now) file.old.slots (D.moment file.old.disk) (D.moment file.new.disk) }
+    ensures seen { Rereads (file.old.slots.current.root.log ∷ commit_pages blobs.now chain.now) file.old.slots
+        (D.moment file.old.disk) (D.moment file.new.disk) }
     ensures same { DiskGoesOn (D.moment file.old.disk).state (D.moment file.new.disk).state }
     ensures cause { FailsWithCause result (D.moment file.old.disk) (D.moment file.new.disk) }
 {
@@ -73,7 +74,8 @@ fn open_record<D: Disk>(
     ensures goes { (seen : List ℕ) → IsKnown file.old.slots seen (D.moment file.old.disk)
         → ((d : List ℕ) → (D.moment file.old.disk).may_leave d → HoldsAll d blobs.now chain.now)
         → Goes (file.old.slots.current.root.log ∷ [])
-        (λ c. OpensAs file.old.slots.current file.old.slots.records c ⊎ HasRecord file.old.slots blobs.now chain.now c) (D.moment file.old.disk) (D.moment file.new.disk) }
+        (λ c. OpensAs file.old.slots.current file.old.slots.records c ⊎ HasRecord file.old.slots blobs.now chain.now c)
+        (D.moment file.old.disk) (D.moment file.new.disk) }
     ensures done { OnOk result ((seen : List ℕ) → IsKnown file.old.slots seen (D.moment file.old.disk)
         → ((d : List ℕ) → (D.moment file.old.disk).may_leave d → HoldsAll d blobs.now chain.now)
         → (c : List ℕ) → (D.moment file.new.disk).may_leave c → HasRecord file.old.slots blobs.now chain.now c) }
@@ -106,7 +108,8 @@ pub fn commit_record<D: Disk>(
     ensures during { PassesBy file.old.slots.current.root.log (commit_pages blobs.now chain.now) file.old.slots
         (HasRecord file.old.slots blobs.now chain.now) (D.moment file.old.disk) (D.moment file.new.disk) }
     ensures durable { OnOk result (LeavesOne file.old.slots (D.moment file.old.disk) (D.moment file.new.disk)) }
-    ensures seen { Rereads (file.old.slots.current.root.log ∷ commit_pages blobs.now chain.now) file.old.slots (D.moment file.old.disk) (D.moment file.new.disk) }
+    ensures seen { Rereads (file.old.slots.current.root.log ∷ commit_pages blobs.now chain.now) file.old.slots
+        (D.moment file.old.disk) (D.moment file.new.disk) }
     ensures same { DiskGoesOn (D.moment file.old.disk).state (D.moment file.new.disk).state }
     ensures cause { FailsWithCause result (D.moment file.old.disk) (D.moment file.new.disk) }
 {
