@@ -1,0 +1,5 @@
+pub mod Given
+pub mod Made
+pub mod Rows
+pub mod Seen
+pub mod Worked
