@@ -1,3 +1,5 @@
+pub mod Ends
+pub mod Found
 pub mod Given
 pub mod Made
 pub mod Rows
