@@ -1,11 +1,11 @@
 -- The directory that a place sees of a version.
-use Rattle.std.proofs.Common.{◌≡◌, ◌∙◌, ℕ, Bool, true, false, ◌&&◌, if◌then◌else◌, nat_eq, List, [], ◌∷◌, map, Option, Some, refl, ap}
+use Rattle.std.proofs.Common.{◌≡◌, ◌∙◌, ℕ, Bool, true, false, ◌&&◌, if◌then◌else◌, nat_eq, List, [], ◌∷◌, map, Some, refl, ap}
 use Rattle.std.specs.List.{filter, find}
 use Rattle.std.specs.Option.{option_map}
 use Rattle.store_versions.specs.declared.row.VersionRow.{VersionRow}
 use Rattle.store_versions.specs.Rows.{is_seen, is_row_of}
 use Rattle.store_versions.specs.Seen.{version_of, seen}
-use Rattle.store_versions.specs.Versions.{MadeVersion, is_numbered, directory_of}
+use Rattle.store_versions.specs.Versions.{is_numbered, directory_of}
 
 abbrev is_found : List ℕ → ℕ → ℕ → VersionRow → Bool
 is_found name version place row = (is_row_of name row && nat_eq row.version version) && is_seen place row

@@ -1,5 +1,5 @@
 -- Each version that can be named has a directory.
-use Rattle.std.proofs.Common.{◌≡◌, ◌∙◌, ℕ, zero, suc, Bool, true, false, not, ◌&&◌, ◌||◌, if◌then◌else◌, nat_eq, nat_lt, List, [], ◌∷◌, ◌++◌, length, map, drop, get_or, refl, ap, sym, arith}
+use Rattle.std.proofs.Common.{◌≡◌, ◌∙◌, ℕ, Bool, true, false, not, ◌&&◌, ◌||◌, if◌then◌else◌, nat_eq, nat_lt, List, [], ◌∷◌, ◌++◌, length, map, drop, get_or, refl, ap, sym, arith}
 use Rattle.std.specs.List.{filter, list_any, list_all}
 use Rattle.std.specs.Str.{bytes_eq}
 use Rattle.std.proofs.lemmas.Bool.{and_parts, and_from, eqb-true}
@@ -17,7 +17,7 @@ use Rattle.chunk_map.specs.declared.directory.Directory.{Directory}
 use Rattle.event_core.specs.declared.entry.Entry.TheVariants.{Pin, Unpin, Commit, Reap}
 use Rattle.event_core.specs.declared.state.VersionPages.{VersionPages}
 use Rattle.event_core.specs.declared.state.Core.{Core}
-use Rattle.event_core.specs.Agree.{has_version, HavePages}
+use Rattle.event_core.specs.Agree.{has_version}
 use Rattle.event_core.specs.History.{History, names_at, pages_at, pages_after, is_pages_of}
 use Rattle.event_core.specs.Legal.{BeginsWithNames, IsOrdered}
 use Rattle.event_core.proofs.Tests.{both_not}
@@ -25,8 +25,8 @@ use Rattle.event_laws.proofs.Legal.{ordered_versions_have_pages}
 use Rattle.store_versions.specs.declared.row.VersionRow.{VersionRow}
 use Rattle.store_versions.specs.Laws.{BasesAreSeen, BasesHaveDirectories, NamedVersionsHaveDirectories}
 use Rattle.store_versions.specs.Rows.{is_seen, first_row, array_rows, first_rows}
-use Rattle.store_versions.specs.Seen.{version_of, seen, is_past, AreSeen}
-use Rattle.store_versions.specs.Versions.{MadeVersion, Directories, is_of, is_numbered, versions_after, versions_at}
+use Rattle.store_versions.specs.Seen.{version_of, is_past}
+use Rattle.store_versions.specs.Versions.{MadeVersion, Directories, is_numbered, versions_after, versions_at}
 
 -- ---- the opening
 

@@ -1,5 +1,5 @@
 -- What a place sees in rows that were changed.
-use Rattle.std.proofs.Common.{◌≡◌, ◌∙◌, ℕ, suc, ◌+◌, ◌≤◌, Bool, true, false, not, ◌&&◌, ◌||◌, if◌then◌else◌, List, [], ◌∷◌, ◌++◌, map, Option, None, Some, refl, ap, sym, arith}
+use Rattle.std.proofs.Common.{◌≡◌, ◌∙◌, ℕ, ◌+◌, ◌≤◌, Bool, true, false, not, ◌&&◌, if◌then◌else◌, List, [], ◌∷◌, ◌++◌, map, Option, None, Some, refl, ap, sym, arith}
 use Rattle.std.specs.Prelude.{nat_le, nat_lt}
 use Rattle.std.specs.List.{filter, list_all}
 use Rattle.std.proofs.lemmas.Bool.{and_parts, and_from, and_left, and_right, leb-true, le-leb, lt-leb, lt-ltb, le-ltb}
@@ -89,7 +89,7 @@ pub added_past : (name : List ℕ) (version n m : ℕ) (directory : Directory) (
 added_past name version n m directory rows le past =
     list_all-append (is_past m) rows (new_row name version n directory ∷ [])
     ∙ and_from (list_all (is_past m) rows) (list_all (is_past m) (new_row name version n directory ∷ [])) (past_later n m (omega arith) rows past)
-        (and_from (nat_le (n + 1) m && true) true (and_from (nat_le (n + 1) m) true (le-leb (n + 1) m le) refl) refl)
+    (and_from (nat_le (n + 1) m && true) true (and_from (nat_le (n + 1) m) true (le-leb (n + 1) m le) refl) refl)
 
 -- ---- rows that go
 
@@ -117,7 +117,7 @@ pub ended_seen : (goes : MadeVersion → Bool) (n m : ℕ) (rows : List VersionR
 ended_seen goes n m rows le past =
     seen_images (λ row. goes (version_of row)) n m rows
     ∙ ap (map version_of) (filter_among (λ row. is_seen m (ended (λ row. goes (version_of row)) n row)) (λ row. stands row.gone && not (goes (version_of row))) (is_past n)
-        (λ row p. ended_by (goes (version_of row)) (stands row.gone) row n m le (sees_by row.gone row.made n m (omega arith) p)) rows past)
+    (λ row p. ended_by (goes (version_of row)) (stands row.gone) row n m le (sees_by row.gone row.made n m (omega arith) p)) rows past)
     ∙ ap (map version_of) (sym (filter_filter (λ row. stands row.gone) (λ row. not (goes (version_of row))) rows))
     ∙ map_filter version_of (λ v. not (goes v)) (filter (λ row. stands row.gone) rows)
     ∙ ap (filter (λ v. not (goes v))) (sym (seen_is n n (omega arith) rows past))

@@ -1,8 +1,7 @@
 -- The present and each open pin see what can be named there, entry by entry.
-use Rattle.std.proofs.Common.{◌≡◌, ◌∙◌, ℕ, suc, ◌+◌, ◌<◌, ◌≤◌, Bool, true, false, not, ◌&&◌, ◌||◌, if◌then◌else◌, nat_eq, List, [], ◌∷◌, ◌++◌, length, map, Some, refl, ap, sym, arith, subst}
-use Rattle.std.specs.Prelude.{nat_lt, pos}
+use Rattle.std.proofs.Common.{◌≡◌, ◌∙◌, ℕ, suc, ◌<◌, ◌≤◌, Bool, true, false, not, ◌&&◌, if◌then◌else◌, nat_eq, List, [], ◌∷◌, ◌++◌, length, map, refl, ap, sym, arith, subst}
+use Rattle.std.specs.Prelude.{nat_lt}
 use Rattle.std.specs.List.{filter, list_any, list_all, AllByRecursion}
-use Rattle.std.specs.Str.{bytes_eq}
 use Rattle.std.proofs.lemmas.Bool.{or_left, or_right}
 use Rattle.plan_changes.specs.declared.change.Change.{Change}
 use Rattle.plan_changes.specs.declared.change.Change.TheVariants.{Create, Store, Insert, Remove, RemoveVersions}
@@ -11,15 +10,15 @@ use Rattle.event_core.specs.declared.entry.Used.{Used}
 use Rattle.event_core.specs.declared.entry.Entry.TheVariants.{Pin, Unpin, Commit, Reap}
 use Rattle.event_core.specs.declared.state.CorePin.{CorePin}
 use Rattle.event_core.specs.declared.state.Core.{Core}
-use Rattle.event_core.specs.History.{History, OpenPin, names_at, open_pins, pin_before}
-use Rattle.event_core.specs.Replay.{pin_at, core_at}
+use Rattle.event_core.specs.History.{History, OpenPin, names_at, open_pins}
+use Rattle.event_core.specs.Replay.{pin_at}
 use Rattle.event_core.proofs.Tests.{any_map}
 use Rattle.event_laws.proofs.Conserved.{filter_filter}
 use Rattle.event_laws.proofs.Pins.{open_pins_are_these}
 use Rattle.event_laws.specs.Pins.{pins_of}
 use Rattle.store_versions.specs.declared.row.VersionRow.{VersionRow}
-use Rattle.store_versions.specs.Laws.{EntriesAreSeen, TablesFollowEntries, ForgettingIsSeen, PinsSeeTheirVersions}
-use Rattle.store_versions.specs.Rows.{is_seen, is_needed, needed_rows, stands, is_row_of, is_row_below, new_row, ended, rows_after}
+use Rattle.store_versions.specs.Laws.{TablesFollowEntries, ForgettingIsSeen, PinsSeeTheirVersions}
+use Rattle.store_versions.specs.Rows.{is_seen, is_needed, needed_rows, stands, new_row, ended, rows_after}
 use Rattle.store_versions.specs.Seen.{version_of, seen, is_past, AreSeen}
 use Rattle.store_versions.specs.Versions.{MadeVersion, Directories, is_of, versions_after, versions_at}
 use Rattle.store_versions.proofs.Rows.{filter_among, all_left, sees_by, past_later, later_sees, added_seen, added_unseen, added_past, ended_seen, ended_unseen, ended_past}
@@ -138,8 +137,9 @@ IsKept pins pin = (row : VersionRow) → is_seen (length pin.before) row ≡ tru
 all_are_kept : (pins : List OpenPin) → AllByRecursion (IsKept pins) pins
 all_are_kept [] = tt
 all_are_kept (pin ∷ pins) = (
-    (λ row e. or_left (is_seen (length pin.before) row) (list_any (λ other. is_seen (length other.before) row) pins) e),
-    all_of (IsKept pins) (IsKept (pin ∷ pins)) (λ other kept row e. or_right (is_seen (length pin.before) row) (list_any (λ other. is_seen (length other.before) row) pins) (kept row e)) pins (all_are_kept pins))
+  (λ row e. or_left (is_seen (length pin.before) row) (list_any (λ other. is_seen (length other.before) row) pins) e),
+  all_of (IsKept pins) (IsKept (pin ∷ pins)) (λ other kept row e. or_right (is_seen (length pin.before) row) (list_any (λ other. is_seen (length other.before) row) pins) (kept row e)) pins (all_are_kept pins),
+)
 
 kept_seen : (pins : List CorePin) (rows : List VersionRow) (n place : ℕ) → list_all (is_past n) rows ≡ true →
     ((row : VersionRow) → is_past n row ≡ true → is_seen place row ≡ true → is_needed pins row ≡ true) → seen place (needed_rows pins rows) ≡ seen place rows
@@ -152,11 +152,11 @@ forgetting_is_seen given rows base h are =
     record {
       now = kept_seen (map (pin_at base) (open_pins h)) rows (length h) (length h) are.past
           (λ row p e. or_left (stands row.gone) (list_any (λ pin. is_seen pin.place row) (map (pin_at base) (open_pins h)))
-            (sym (sees_by row.gone row.made (length h) (length h) (omega arith) p) ∙ e)) ∙ are.now;
+          (sym (sees_by row.gone row.made (length h) (length h) (omega arith) p) ∙ e)) ∙ are.now;
       pinned = all_two (IsKept (open_pins h)) (Sees given rows base) (Sees given (needed_rows (map (pin_at base) (open_pins h)) rows) base)
           (λ pin kept e. kept_seen (map (pin_at base) (open_pins h)) rows (length h) (length pin.before) are.past
-            (λ row p sees. or_right (stands row.gone) (list_any (λ pin. is_seen pin.place row) (map (pin_at base) (open_pins h)))
-              (any_map (pin_at base) (λ pin. is_seen pin.place row) (open_pins h) ∙ kept row sees)) ∙ e)
+          (λ row p sees. or_right (stands row.gone) (list_any (λ pin. is_seen pin.place row) (map (pin_at base) (open_pins h)))
+          (any_map (pin_at base) (λ pin. is_seen pin.place row) (open_pins h) ∙ kept row sees)) ∙ e)
           (open_pins h) (all_are_kept (open_pins h)) are.pinned;
       past = all_left (is_past (length h)) (is_needed (map (pin_at base) (open_pins h))) rows are.past;
     }
@@ -166,4 +166,4 @@ forgetting_is_seen given rows base h are =
 pub pins_see_their_versions : PinsSeeTheirVersions
 pins_see_their_versions given rows base h before session ok are begun =
     (subst (AllByRecursion (Sees given rows base)) (open_pins_are_these base session h ok ∙ ap (pins_of session) begun)
-      (all_kept (Sees given rows base) (λ pin. nat_eq pin.session session) (open_pins h) are.pinned)).0
+    (all_kept (Sees given rows base) (λ pin. nat_eq pin.session session) (open_pins h) are.pinned)).0

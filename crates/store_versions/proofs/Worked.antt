@@ -1,5 +1,5 @@
 -- The worked table, computed.
-use Rattle.std.proofs.Common.{◌≡◌, List, [], ◌∷◌, drop, refl}
+use Rattle.std.proofs.Common.{◌≡◌, [], ◌∷◌, drop, refl}
 use Rattle.event_core.specs.Shared.{shared_base, shared}
 use Rattle.event_core.specs.Replay.{core_at}
 use Rattle.store_versions.specs.Rows.{needed_rows}

@@ -19,7 +19,8 @@ use Rattle.store_versions.specs.Versions.{Directories, versions_at, HaveDirector
 pub record EntriesAreSeen (given : Directories) (rows : List VersionRow) (base : Core) (h : History) : Type 0 where
   pub pin : (session : ℕ) → AreSeen given rows base (Pin session ∷ h)
   pub unpin : (session : ℕ) → AreSeen given rows base (Unpin session ∷ h)
-  pub commit : (session : ℕ) (change : Change) (used : Used) → AreSeen given (rows_after (names_at base h) (length h) change (given.made (length h)) rows) base (Commit session change used ∷ h)
+  pub commit : (session : ℕ) (change : Change) (used : Used) →
+      AreSeen given (rows_after (names_at base h) (length h) change (given.made (length h)) rows) base (Commit session change used ∷ h)
   pub reap : AreSeen given rows base (Reap ∷ h)
 
 abbrev pub TablesFollowEntries : Type 0
@@ -27,17 +28,20 @@ TablesFollowEntries = (given : Directories) (rows : List VersionRow) (base : Cor
 
 -- the rows that nobody can name any more may go
 abbrev pub ForgettingIsSeen : Type 0
-ForgettingIsSeen = (given : Directories) (rows : List VersionRow) (base : Core) (h : History) → AreSeen given rows base h → AreSeen given (needed_rows (core_at base h).pins rows) base h
+ForgettingIsSeen = (given : Directories) (rows : List VersionRow) (base : Core) (h : History) → AreSeen given rows base h →
+    AreSeen given (needed_rows (core_at base h).pins rows) base h
 
 -- at the opening
 abbrev pub BasesAreSeen : Type 0
-BasesAreSeen = (given : Directories) (base : Core) (directories : List (List Directory)) → given.first ≡ map version_of (first_rows base.names.arrays directories) →
+BasesAreSeen = (given : Directories) (base : Core) (directories : List (List Directory)) →
+    given.first ≡ map version_of (first_rows base.names.arrays directories) →
     AreSeen given (first_rows base.names.arrays directories) base []
 
 -- where each array has as many directories as versions, each version that can be named has one
 abbrev pub BasesHaveDirectories : Type 0
 BasesHaveDirectories = (names : Names) (directories : List (List Directory)) →
-    map (λ entry. length entry.versions) names.arrays ≡ map (λ row. length row) directories → HaveDirectories names (map version_of (first_rows names.arrays directories))
+    map (λ entry. length entry.versions) names.arrays ≡ map (λ row. length row) directories →
+    HaveDirectories names (map version_of (first_rows names.arrays directories))
 
 -- the directories of commits that come later may be any
 abbrev pub with_made : ℕ → Directory → Directories → Directories
@@ -49,8 +53,8 @@ LaterDirectoriesAreFree = (given : Directories) (rows : List VersionRow) (base :
 
 -- what a session's open pin sees
 abbrev pub PinsSeeTheirVersions : Type 0
-PinsSeeTheirVersions = (given : Directories) (rows : List VersionRow) (base : Core) (h before : History) (session : ℕ) → IsTrue (is_allowed base h) → AreSeen given rows base h →
-    pin_before session h ≡ Some before → seen (length before) rows ≡ versions_at base given before
+PinsSeeTheirVersions = (given : Directories) (rows : List VersionRow) (base : Core) (h before : History) (session : ℕ) →
+    IsTrue (is_allowed base h) → AreSeen given rows base h → pin_before session h ≡ Some before → seen (length before) rows ≡ versions_at base given before
 
 -- after an ordered history each version that can be named has a directory, and no other, if it is so at its base
 abbrev pub NamedVersionsHaveDirectories : Type 0

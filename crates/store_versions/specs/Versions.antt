@@ -34,15 +34,18 @@ is_numbered name number v = is_of name v && nat_eq v.version number
 -- the versions after a change: a new one has this directory
 abbrev pub versions_after : Names → Change → Directory → List MadeVersion → List MadeVersion
 versions_after names (Create name schema) directory versions = versions
-versions_after names (Store name schema plan) directory versions = versions ++ record { name = name; version = next_of names.arrays name; directory = directory } ∷ []
-versions_after names (Insert name schema plan) directory versions = versions ++ record { name = name; version = next_of names.arrays name; directory = directory } ∷ []
+versions_after names (Store name schema plan) directory versions =
+    versions ++ record { name = name; version = next_of names.arrays name; directory = directory } ∷ []
+versions_after names (Insert name schema plan) directory versions =
+    versions ++ record { name = name; version = next_of names.arrays name; directory = directory } ∷ []
 versions_after names (Remove name) directory versions = filter (λ v. not (is_of name v)) versions
 versions_after names (RemoveVersions name below) directory versions = filter (λ v. not (is_of name v && nat_lt v.version below)) versions
 
 -- the versions that can be named after a history, in the order in which they came
 abbrev pub versions_at : Core → Directories → History → List MadeVersion
 versions_at base given [] = given.first
-versions_at base given (Commit session change used ∷ before) = versions_after (names_at base before) change (given.made (length before)) (versions_at base given before)
+versions_at base given (Commit session change used ∷ before) =
+    versions_after (names_at base before) change (given.made (length before)) (versions_at base given before)
 versions_at base given (Pin session ∷ before) = versions_at base given before
 versions_at base given (Unpin session ∷ before) = versions_at base given before
 versions_at base given (Reap ∷ before) = versions_at base given before

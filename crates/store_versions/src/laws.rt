@@ -2,7 +2,8 @@
 ghost use Rattle.std.specs.Prelude.{◌≡◌, [], ◌∷◌, drop};
 ghost use Rattle.event_core.specs.Replay.{core_at};
 ghost use Rattle.event_core.specs.Shared.{shared_base, shared};
-ghost use Rattle.store_versions.specs.Laws.{BasesAreSeen, BasesHaveDirectories, ForgettingIsSeen, LaterDirectoriesAreFree, NamedVersionsHaveDirectories, PinsSeeTheirVersions, TablesFollowEntries};
+ghost use Rattle.store_versions.specs.Laws.{BasesAreSeen, BasesHaveDirectories, ForgettingIsSeen, LaterDirectoriesAreFree};
+ghost use Rattle.store_versions.specs.Laws.{NamedVersionsHaveDirectories, PinsSeeTheirVersions, TablesFollowEntries};
 ghost use Rattle.store_versions.specs.Rows.{needed_rows};
 ghost use Rattle.store_versions.specs.Seen.{seen, AreSeen};
 ghost use Rattle.store_versions.specs.Worked.{worked_directories, worked_rows, first_version, second_version};

@@ -62,10 +62,7 @@ fn needed_rows(rows: List<VersionRow>, pins: &List<CorePin>) -> List<VersionRow>
 
 impl VersionTable {
     /// The versions of a database, each with its directory.
-    pub fn new(
-        names: &Names,
-        directories: List<List<Directory>>,
-    ) -> Result<VersionTable, Memory>
+    pub fn new(names: &Names, directories: List<List<Directory>>) -> Result<VersionTable, Memory>
         ensures { IfOk result (λ table. table.rows ≡ first_rows names.now.arrays directories) }
     {
         Ok(VersionTable {
