@@ -1,5 +1,5 @@
 -- What entries make of a table of versions.
-use Rattle.std.specs.Prelude.{ℕ, ◌+◌, Bool, true, false, ◌&&◌, ◌||◌, nat_le, nat_lt, if◌then◌else◌, List, [], ◌∷◌, ◌++◌, map, Option, None, Some}
+use Rattle.std.specs.Prelude.{◌≡◌, ◌<◌, ℕ, ◌+◌, Bool, true, false, ◌&&◌, ◌||◌, nat_le, nat_lt, if◌then◌else◌, List, [], ◌∷◌, ◌++◌, map, Option, None, Some}
 use Rattle.std.specs.List.{filter, list_any}
 use Rattle.std.specs.Str.{bytes_eq}
 use Rattle.logical_plan.specs.declared.names.Names.{Names}
@@ -9,6 +9,7 @@ use Rattle.plan_changes.specs.declared.change.Change.TheVariants.{Create, Store,
 use Rattle.plan_changes.specs.Changes.{next_of}
 use Rattle.chunk_map.specs.declared.directory.Directory.{Directory}
 use Rattle.event_core.specs.declared.state.CorePin.{CorePin}
+use Rattle.store_versions.specs.declared.ready.ReadyVersion.{ReadyVersion}
 use Rattle.store_versions.specs.declared.row.VersionRow.{VersionRow}
 
 -- whether a place is before a version goes
@@ -68,3 +69,28 @@ abbrev pub first_rows : List NameEntry → List (List Directory) → List Versio
 first_rows (entry ∷ entries) (directories ∷ others) = array_rows entry.name entry.versions directories ++ first_rows entries others
 first_rows [] others = []
 first_rows (entry ∷ entries) [] = []
+
+-- ---- what is ready for a change
+
+-- a version of this name and number, with room for one row more than so many
+pub record IsVersionOf (array : List ℕ) (number count : ℕ) (ready : ReadyVersion) : Type 0 where
+  pub name : ready.name ≡ array
+  pub version : ready.version ≡ number
+  pub room : count < ready.room
+
+abbrev pub HasNext : List ℕ → ℕ → ℕ → Option ReadyVersion → Type 0
+HasNext name number count None = ⊥
+HasNext name number count (Some ready) = IsVersionOf name number count ready
+
+-- a change that makes a version has its next one ready
+abbrev pub IsReadyFor : Names → Change → ℕ → Option ReadyVersion → Type 0
+IsReadyFor names (Create name schema) count ready = Unit {0}
+IsReadyFor names (Store name schema plan) count ready = HasNext name (next_of names.arrays name) count ready
+IsReadyFor names (Insert name schema plan) count ready = HasNext name (next_of names.arrays name) count ready
+IsReadyFor names (Remove name) count ready = Unit {0}
+IsReadyFor names (RemoveVersions name below) count ready = Unit {0}
+
+-- the directory of a version that is ready. Where none is, no change asks for it
+abbrev pub directory_in : Option ReadyVersion → Directory
+directory_in None = record { entries = [] }
+directory_in (Some ready) = ready.directory

@@ -1,8 +1,8 @@
 //! Tables of versions.
-ghost use Rattle.std.specs.Prelude.{◌≡◌, ◌<◌, ◌-◌, ◌^◌, ◌&&◌, [], ◌∷◌, ◌++◌, length, map, nat_eq, IfOk};
+ghost use Rattle.std.specs.Prelude.{◌≡◌, ℕ, List as Items, ◌<◌, ◌-◌, ◌^◌, ◌&&◌, [], ◌∷◌, ◌++◌, length, map, nat_eq, IfOk};
 ghost use Rattle.std.specs.List.{filter, find};
 ghost use Rattle.std.specs.Option.{option_copied};
-ghost use Rattle.store_versions.specs.Rows.{is_seen, is_needed, needed_rows, is_row_of, is_row_below, ended, new_row, first_rows};
+ghost use Rattle.store_versions.specs.Rows.{is_seen, is_needed, needed_rows, is_row_of, is_row_below, ended, new_row, rows_after, HasNext, IsReadyFor, directory_in, first_rows};
 ghost use Rattle.store_versions.specs.Seen.{seen};
 ghost use Rattle.store_versions.specs.Versions.{directory_of};
 
@@ -12,6 +12,7 @@ use cell_values::{List, Memory, Name};
 use chunk_map::Directory;
 use event_core::CorePin;
 use logical_plan::Names;
+use plan_changes::Change;
 
 /// The versions that the present or an open pin may see, in the order in which they came.
 #[derive(Drop)]
@@ -143,6 +144,46 @@ impl VersionTable {
         let mut items = self.rows.take().into_vec();
         end_below(items.as_mut_slice(), name, below, place);
         self.rows = List::from_vec(items);
+    }
+
+    /// A version that is ready was made by the commit at a place.
+    fn made_next(&mut self, ready: Option<ReadyVersion>, place: u64)
+        requires place { place < 2 ^ 64 - 1 }
+        requires ready { (name : Items ℕ) × (number : ℕ) × HasNext name number (length self.old.rows) ready }
+        ensures { (name : Items ℕ) (number : ℕ) → HasNext name number (length self.old.rows) ready → self.new.rows ≡ self.old.rows ++ new_row name number place (directory_in ready) ∷ [] }
+    {
+        match ready {
+            Some(ready) => self.made(ready, place),
+            None => unreachable!(),
+        }
+    }
+
+    /// The commit of a change at a place, over these names. This takes no memory.
+    pub fn committed(
+        &mut self,
+        names: &Names,
+        change: &Change,
+        ready: Option<ReadyVersion>,
+        place: u64,
+    )
+        requires ready { IsReadyFor names.now change.now (length self.old.rows) ready }
+        requires place { place < 2 ^ 64 - 1 }
+        ensures { self.new.rows ≡ rows_after names.now place change.now (directory_in ready) self.old.rows }
+    {
+        let _names = names;
+        match change {
+            Change::Create { .. } => drop(ready),
+            Change::Store { .. } => self.made_next(ready, place),
+            Change::Insert { .. } => self.made_next(ready, place),
+            Change::Remove { name } => {
+                drop(ready);
+                self.removed(name, place);
+            }
+            Change::RemoveVersions { name, below } => {
+                drop(ready);
+                self.removed_below(name, *below, place);
+            }
+        }
     }
 
     /// The versions go that neither stand nor are seen by one of these pins. This takes no memory.
