@@ -1,3 +1,6 @@
 pub mod Events
+pub mod Keeping
+pub mod Notes
+pub mod Opened
 pub mod Pins
 pub mod Tried
