@@ -39,7 +39,12 @@ kept_wider base limit h notes core r er nr p er2 nr2 p2 k more_entries more_note
     let fe : length h + sum_by (entries_to_come h) (open_pins h) ≤ er2 = omega (arith, k.for_entries, more_entries) in
     let fn : length notes + sum_by (notes_to_come notes) (open_pins h) ≤ nr2 = omega (arith, k.for_notes, more_notes) in
     record {
-      begins = k.begins; allowed = k.allowed; made = k.made; noted = k.noted; reserved = k.reserved; within = k.within;
+      begins = k.begins;
+      allowed = k.allowed;
+      made = k.made;
+      noted = k.noted;
+      reserved = k.reserved;
+      within = k.within;
       for_entries = fe;
       for_notes = fn;
       marks = same ∙ k.marks;

@@ -22,13 +22,15 @@ noted_on entry h [] k = tt
 noted_on entry h (note ∷ others) k =
     let n : IsNote h others note = k.1 in
     let more : note.after ≤ suc (length h) = omega (arith, n.within) in
-    let same : up_to note.after h ≡ up_to note.after (entry ∷ h) = sym (later_same note.after entry h n.within) in
-    (noted_on entry h others k.0, record {
-      within = more;
-      rising = n.rising;
-      pinned = subst (λ (before : History). IsTrue (is_pinned note.session before)) same n.pinned;
-      once = subst (λ (before : History). IfSome (pin_before note.session before) (λ b. has_note note.kind others (record { session = note.session; before = b }) ≡ false)) same n.once;
-    })
+    let same : up_to note.after h ≡ up_to note.after (entry ∷ h) = sym (later_same note.after entry h n.within) in (
+      noted_on entry h others k.0,
+      record {
+        within = more;
+        rising = n.rising;
+        pinned = subst (λ (before : History). IsTrue (is_pinned note.session before)) same n.pinned;
+        once = subst (λ (before : History). IfSome (pin_before note.session before) (λ b. has_note note.kind others (record { session = note.session; before = b }) ≡ false)) same n.once;
+      },
+    )
 
 le_test : (n m : ℕ) → n ≤ m → nat_le n m ≡ true
 le_test n m e = grind (arith, nat_tests)

@@ -84,7 +84,6 @@ unused_told ledger core r er nr p k =
     ∙ filter_agrees (λ page. not (is_core_live (core_at ledger.base (history ledger)) page)) (λ page. not (is_live ledger.base (history ledger) page))
     (λ page. ap not (core_tells_pages ledger.base (history ledger) page).0) (pages_below ledger.base.limit)
 
-
 -- ---- unpins
 
 -- what an unpin gives back, by its pin's place

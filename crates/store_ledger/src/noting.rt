@@ -19,14 +19,16 @@ fn is_try(kind: NoteKind) -> bool
 fn is_tried(notes: &[Note], session: u32, place: u64) -> bool
     ensures { result ≡ list_any (λ note. nat_eq note.session session && (is_kind Tried note.kind && nat_lt place note.after)) notes.now }
 {
-    notes
-        .iter()
-        .any(|note| note.session == session && is_try(note.kind) && place < note.after)
+    notes.iter().any(|note| note.session == session && is_try(note.kind) && place < note.after)
 }
 
 /// How many entries the pin of a session and a place reserves.
 pub(crate) fn reserved_under(notes: &[Note], session: u32, place: u64) -> u32
     ensures { result ≡ (if list_any (λ note. nat_eq note.session session && (is_kind Tried note.kind && nat_lt place note.after)) notes.now then 1 else 3) }
 {
-    if is_tried(notes, session, place) { 1 } else { 3 }
+    if is_tried(notes, session, place) {
+        1
+    } else {
+        3
+    }
 }
