@@ -162,7 +162,7 @@ begun_of s (Commit t change used ∷ rest) e = begun_of s rest e
 begun_of s (Reap ∷ rest) e = begun_of s rest e
 
 -- a sum over the open pins is that over those of others, and the session's own
-own_sum : (f : OpenPin → ℕ) (base : Core) (session : ℕ) (h before : History) → IsTrue (is_allowed base h) → pin_before session h ≡ Some before →
+pub own_sum : (f : OpenPin → ℕ) (base : Core) (session : ℕ) (h before : History) → IsTrue (is_allowed base h) → pin_before session h ≡ Some before →
     sum_by f (open_pins h) ≡ sum_by f (filter (λ pin. not (nat_eq pin.session session)) (open_pins h)) + f (record { session = session; before = before })
 own_sum f base session h before ok begun =
     let own : OpenPin = record { session = session; before = before } in

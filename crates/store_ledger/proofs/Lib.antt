@@ -1,5 +1,6 @@
 pub mod Events
 pub mod Keeping
+pub mod Noted
 pub mod Notes
 pub mod Opened
 pub mod Pins
