@@ -3,7 +3,7 @@ ghost use Rattle.plan_changes.specs.Allowed.{names_allow};
 ghost use Rattle.version_catalog.specs.Catalogs.{names_in};
 ghost use Rattle.catalog_changes.specs.Changed.{has_its_directory};
 ghost use Rattle.version_catalog.specs.declared.rules.catalog.BlobAt.{BlobAt as ABlob};
-ghost use Rattle.test_catalogs.specs.Worked.{worked_catalog};
+ghost use Rattle.test_changes.specs.Worked.{worked_catalog};
 
 use crate::vectors::*;
 use crate::worked::{blob, catalog, create, cut, insert, remove, store};
