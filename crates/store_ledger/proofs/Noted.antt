@@ -80,3 +80,103 @@ module _ (h : History) (notes : List Note) (session : ℕ) (before : History) (b
         once = subst (λ (o : Option History). IfSome o (λ b. has_note kind (reverse notes) (record { session = session; before = b }) ≡ false)) (sym (ap (pin_before session) now ∙ begun)) unnoted;
       } in
       subst (AreNoted h) (sym (reverse-append notes (next_note kind session h ∷ []))) (k, is_next)
+
+module _ (base : Core) (limit : ℕ) (h : History) (notes : List Note) (core : Core) (r er nr p session : ℕ) (before : History)
+  (k : IsKept base limit h notes core r er nr p) (begun : pin_before session h ≡ Some before) where
+
+  -- a sum over the open pins, told before and after a note of a session
+  own_changes : (f g : OpenPin → ℕ) → ((pin : OpenPin) → nat_eq pin.session session ≡ false → f pin ≡ g pin) →
+      sum_by f (open_pins h) + g (record { session = session; before = before }) ≡ sum_by g (open_pins h) + f (record { session = session; before = before })
+  own_changes f g same =
+      let fs : sum_by f (open_pins h) ≡ sum_by f (filter (λ pin. not (nat_eq pin.session session)) (open_pins h)) + f (record { session = session; before = before }) =
+      own_sum f base session h before k.allowed begun in
+      let gs : sum_by g (open_pins h) ≡ sum_by g (filter (λ pin. not (nat_eq pin.session session)) (open_pins h)) + g (record { session = session; before = before }) =
+      own_sum g base session h before k.allowed begun in
+      let others : sum_by f (filter (λ pin. not (nat_eq pin.session session)) (open_pins h)) ≡ sum_by g (filter (λ pin. not (nat_eq pin.session session)) (open_pins h)) =
+      same_sum f g (λ pin. nat_eq pin.session session) same (open_pins h) in
+      omega (arith, fs, gs, others)
+
+  longer : (note : Note) → length (notes ++ note ∷ []) ≡ suc (length notes)
+  longer note = let e : length (notes ++ note ∷ []) ≡ length notes + 1 = length-append notes (note ∷ []) in omega (arith, e)
+
+  reserves_left : (kind : NoteKind) (pin : OpenPin) → nat_eq pin.session session ≡ false → reserved_by notes pin ≡ reserved_by (notes ++ next_note kind session h ∷ []) pin
+  reserves_left kind pin other = ap (λ (b : Bool). if b then 1 else 3) (left h notes session before begun kind Tried pin other)
+
+  notes_left : (kind : NoteKind) (pin : OpenPin) → nat_eq pin.session session ≡ false → notes_to_come notes pin ≡ notes_to_come (notes ++ next_note kind session h ∷ []) pin
+  notes_left kind pin other =
+      ap (λ (b : Bool). (if b then 0 else 1) + note_to_come Tried notes pin) (left h notes session before begun kind Fault pin other)
+      ∙ ap (λ (b : Bool). note_to_come Fault (notes ++ next_note kind session h ∷ []) pin + (if b then 0 else 1)) (left h notes session before begun kind Tried pin other)
+
+  pub kept_fault : has_note Fault notes (record { session = session; before = before }) ≡ false → IsKept base limit h (notes ++ next_note Fault session h ∷ []) core r er nr p
+  kept_fault none =
+      let own : OpenPin = record { session = session; before = before } in
+      let more : List Note = notes ++ next_note Fault session h ∷ [] in
+      let rs : sum_by (reserved_by notes) (open_pins h) + reserved_by more own ≡ sum_by (reserved_by more) (open_pins h) + reserved_by notes own =
+      own_changes (reserved_by notes) (reserved_by more) (reserves_left Fault) in
+      let ns : sum_by (notes_to_come notes) (open_pins h) + notes_to_come more own ≡ sum_by (notes_to_come more) (open_pins h) + notes_to_come notes own =
+      own_changes (notes_to_come notes) (notes_to_come more) (notes_left Fault) in
+      let r_own : reserved_by more own ≡ reserved_by notes own = ap (λ (b : Bool). if b then 1 else 3) (not_tried h notes session before begun) in
+      let f_old : note_to_come Fault notes own ≡ 1 = ap (λ (b : Bool). if b then 0 else 1) none in
+      let f_new : note_to_come Fault more own ≡ 0 = ap (λ (b : Bool). if b then 0 else 1) (faulty h notes session before begun) in
+      let t_own : note_to_come Tried more own ≡ note_to_come Tried notes own = ap (λ (b : Bool). if b then 0 else 1) (not_tried h notes session before begun) in
+      let n_old : notes_to_come notes own ≡ note_to_come Fault notes own + note_to_come Tried notes own = refl in
+      let n_new : notes_to_come more own ≡ note_to_come Fault more own + note_to_come Tried more own = refl in
+      let res : r ≡ sum_by (reserved_by more) (open_pins h) = omega (arith, k.reserved, rs, r_own) in
+      let fn : length more + sum_by (notes_to_come more) (open_pins h) ≤ nr = omega (arith, k.for_notes, ns, f_old, f_new, t_own, n_old, n_new, longer (next_note Fault session h)) in
+      record {
+        begins = k.begins;
+        allowed = k.allowed;
+        made = k.made;
+        noted = noted_next h notes session before begun Fault k.noted none;
+        reserved = res;
+        within = k.within;
+        for_entries = k.for_entries;
+        for_notes = fn;
+        marks = k.marks;
+      }
+
+  -- what the first try gives back is reserved
+  pub tried_given : has_note Tried notes (record { session = session; before = before }) ≡ false → 2 ≤ r
+  tried_given none =
+      let sum : sum_by (reserved_by notes) (open_pins h) ≡ sum_by (reserved_by notes) (filter (λ pin. not (nat_eq pin.session session)) (open_pins h)) + reserved_by notes (record { session = session; before = before }) =
+      own_sum (reserved_by notes) base session h before k.allowed begun in
+      let three : reserved_by notes (record { session = session; before = before }) ≡ 3 = ap (λ (b : Bool). if b then 1 else 3) none in
+      omega (arith, k.reserved, sum, three)
+
+  pub kept_tried : (rest : ℕ) → has_note Tried notes (record { session = session; before = before }) ≡ false → rest + 2 ≡ r →
+      IsKept base limit h (notes ++ next_note Tried session h ∷ []) core rest er nr p
+  kept_tried rest none gives =
+      let own : OpenPin = record { session = session; before = before } in
+      let more : List Note = notes ++ next_note Tried session h ∷ [] in
+      let rs : sum_by (reserved_by notes) (open_pins h) + reserved_by more own ≡ sum_by (reserved_by more) (open_pins h) + reserved_by notes own =
+      own_changes (reserved_by notes) (reserved_by more) (reserves_left Tried) in
+      let ns : sum_by (notes_to_come notes) (open_pins h) + notes_to_come more own ≡ sum_by (notes_to_come more) (open_pins h) + notes_to_come notes own =
+      own_changes (notes_to_come notes) (notes_to_come more) (notes_left Tried) in
+      let r_old : reserved_by notes own ≡ 3 = ap (λ (b : Bool). if b then 1 else 3) none in
+      let r_new : reserved_by more own ≡ 1 = ap (λ (b : Bool). if b then 1 else 3) (tried h notes session before begun) in
+      let t_old : note_to_come Tried notes own ≡ 1 = ap (λ (b : Bool). if b then 0 else 1) none in
+      let t_new : note_to_come Tried more own ≡ 0 = ap (λ (b : Bool). if b then 0 else 1) (tried h notes session before begun) in
+      let f_own : note_to_come Fault more own ≡ note_to_come Fault notes own = ap (λ (b : Bool). if b then 0 else 1) (not_faulty h notes session before begun) in
+      let n_old : notes_to_come notes own ≡ note_to_come Fault notes own + note_to_come Tried notes own = refl in
+      let n_new : notes_to_come more own ≡ note_to_come Fault more own + note_to_come Tried more own = refl in
+      let res : rest ≡ sum_by (reserved_by more) (open_pins h) = omega (arith, k.reserved, rs, r_old, r_new, gives) in
+      let all_within : length h + rest ≤ limit = omega (arith, k.within, gives) in
+      let fn : length more + sum_by (notes_to_come more) (open_pins h) ≤ nr = omega (arith, k.for_notes, ns, t_old, t_new, f_own, n_old, n_new, longer (next_note Tried session h)) in
+      record {
+        begins = k.begins;
+        allowed = k.allowed;
+        made = k.made;
+        noted = noted_next h notes session before begun Tried k.noted none;
+        reserved = res;
+        within = all_within;
+        for_entries = k.for_entries;
+        for_notes = fn;
+        marks = k.marks;
+      }
+
+  -- there is room for a note of a kind that has not come yet
+  pub note_fits : 1 ≤ notes_to_come notes (record { session = session; before = before }) → suc (length notes) ≤ nr
+  note_fits one =
+      let sum : sum_by (notes_to_come notes) (open_pins h) ≡ sum_by (notes_to_come notes) (filter (λ pin. not (nat_eq pin.session session)) (open_pins h)) + notes_to_come notes (record { session = session; before = before }) =
+      own_sum (notes_to_come notes) base session h before k.allowed begun in
+      omega (arith, k.for_notes, sum, one)
