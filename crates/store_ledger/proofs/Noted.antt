@@ -82,8 +82,7 @@ module _ (h : History) (notes : List Note) (session : ℕ) (before : History) (b
       subst (AreNoted h) (sym (reverse-append notes (next_note kind session h ∷ []))) (k, is_next)
 
 module _ (base : Core) (limit : ℕ) (h : History) (notes : List Note) (core : Core) (r er nr p session : ℕ) (before : History)
-  (k : IsKept base limit h notes core r er nr p) (begun : pin_before session h ≡ Some before) where
-
+    (k : IsKept base limit h notes core r er nr p) (begun : pin_before session h ≡ Some before) where
   -- a sum over the open pins, told before and after a note of a session
   own_changes : (f g : OpenPin → ℕ) → ((pin : OpenPin) → nat_eq pin.session session ≡ false → f pin ≡ g pin) →
       sum_by f (open_pins h) + g (record { session = session; before = before }) ≡ sum_by g (open_pins h) + f (record { session = session; before = before })
@@ -180,3 +179,53 @@ module _ (base : Core) (limit : ℕ) (h : History) (notes : List Note) (core : C
       let sum : sum_by (notes_to_come notes) (open_pins h) ≡ sum_by (notes_to_come notes) (filter (λ pin. not (nat_eq pin.session session)) (open_pins h)) + notes_to_come notes (record { session = session; before = before }) =
       own_sum (notes_to_come notes) base session h before k.allowed begun in
       omega (arith, k.for_notes, sum, one)
+
+-- ---- an open ledger
+
+abbrev pub Unnoted : NoteKind → LedgerState → ℕ → Option History → Type 0
+Unnoted kind ledger session o = IfSome o (λ b. has_note kind ledger.notes (record { session = session; before = b }) ≡ false)
+
+one_fault : (a : Bool) (n : ℕ) → a ≡ false → 1 ≤ (if a then 0 else 1) + n
+one_fault true n e = absurd (both_not true e refl)
+one_fault false n e = omega arith
+
+one_try : (a : Bool) (n : ℕ) → a ≡ false → 1 ≤ n + (if a then 0 else 1)
+one_try true n e = absurd (both_not true e refl)
+one_try false n e = omega arith
+
+module _ (ledger now : LedgerState) (session : ℕ) (core : Core) (r er nr p : ℕ) (same : ledger ≡ now)
+    (k : IsKept ledger.base ledger.limit (reverse ledger.entries) ledger.notes core r er nr p) (pinned : IsTrue (is_pinned session (history now))) where
+  begun : (before : History) × (pin_before session (reverse ledger.entries) ≡ Some before)
+  begun = begun_of session (reverse ledger.entries) (subst (λ (l : LedgerState). is_pinned session (history l) ≡ true) (sym same) pinned)
+
+  none : (kind : NoteKind) → Unnoted kind now session (pin_before session (history now)) → has_note kind ledger.notes (record { session = session; before = begun.0 }) ≡ false
+  none kind first = subst (Unnoted kind ledger session) begun.1 (subst (λ (l : LedgerState). Unnoted kind l session (pin_before session (history l))) (sym same) first)
+
+  pub fault_fits : Unnoted Fault now session (pin_before session (history now)) → suc (length ledger.notes) ≤ nr
+  fault_fits first = note_fits ledger.base ledger.limit (reverse ledger.entries) ledger.notes core r er nr p session begun.0 k begun.1
+      (one_fault (has_note Fault ledger.notes (record { session = session; before = begun.0 })) (note_to_come Tried ledger.notes (record { session = session; before = begun.0 })) (none Fault first))
+
+  pub tried_fits : Unnoted Tried now session (pin_before session (history now)) → suc (length ledger.notes) ≤ nr
+  tried_fits first = note_fits ledger.base ledger.limit (reverse ledger.entries) ledger.notes core r er nr p session begun.0 k begun.1
+      (one_try (has_note Tried ledger.notes (record { session = session; before = begun.0 })) (note_to_come Fault ledger.notes (record { session = session; before = begun.0 })) (none Tried first))
+
+  is_next : (kind : NoteKind) (after : ℕ) (ns : List Note) → after ≡ length ledger.entries → ns ≡ ledger.notes ++ record { session = session; kind = kind; after = after } ∷ [] →
+      ns ≡ ledger.notes ++ next_note kind session (reverse ledger.entries) ∷ []
+  is_next kind after ns e f = f ∙ ap (λ (n : ℕ). ledger.notes ++ record { session = session; kind = kind; after = n } ∷ []) (e ∙ sym (length-reverse ledger.entries))
+
+  pub fault_keeps : (after nr2 : ℕ) (ns : List Note) → Unnoted Fault now session (pin_before session (history now)) → after ≡ length ledger.entries →
+      ns ≡ ledger.notes ++ record { session = session; kind = Fault; after = after } ∷ [] → nr2 ≡ nr → IsKept ledger.base ledger.limit (reverse ledger.entries) ns core r er nr2 p
+  fault_keeps after nr2 ns first e f room =
+      subst (λ (n : ℕ). IsKept ledger.base ledger.limit (reverse ledger.entries) ns core r er n p) (sym room)
+      (subst (λ (xs : List Note). IsKept ledger.base ledger.limit (reverse ledger.entries) xs core r er nr p) (sym (is_next Fault after ns e f))
+      (kept_fault ledger.base ledger.limit (reverse ledger.entries) ledger.notes core r er nr p session begun.0 k begun.1 (none Fault first)))
+
+  pub tried_gives : Unnoted Tried now session (pin_before session (history now)) → 2 ≤ r
+  tried_gives first = tried_given ledger.base ledger.limit (reverse ledger.entries) ledger.notes core r er nr p session begun.0 k begun.1 (none Tried first)
+
+  pub tried_keeps : (after nr2 rest : ℕ) (ns : List Note) → Unnoted Tried now session (pin_before session (history now)) → after ≡ length ledger.entries →
+      ns ≡ ledger.notes ++ record { session = session; kind = Tried; after = after } ∷ [] → nr2 ≡ nr → rest + 2 ≡ r → IsKept ledger.base ledger.limit (reverse ledger.entries) ns core rest er nr2 p
+  tried_keeps after nr2 rest ns first e f room gives =
+      subst (λ (n : ℕ). IsKept ledger.base ledger.limit (reverse ledger.entries) ns core rest er n p) (sym room)
+      (subst (λ (xs : List Note). IsKept ledger.base ledger.limit (reverse ledger.entries) xs core rest er nr p) (sym (is_next Tried after ns e f))
+      (kept_tried ledger.base ledger.limit (reverse ledger.entries) ledger.notes core r er nr p session begun.0 k begun.1 rest (none Tried first) gives))
