@@ -1,12 +1,12 @@
 -- What a ledger keeps over a new note.
-use Rattle.std.proofs.Common.{◌≡◌, ◌∙◌, ℕ, suc, ◌+◌, ◌≤◌, Bool, true, false, not, ◌&&◌, ◌||◌, if◌then◌else◌, nat_eq, nat_lt, List, [], ◌∷◌, ◌++◌, length, reverse, Option, None, Some, IfSome, IsTrue, refl, ap, sym, subst, arith, length-append}
+use Rattle.std.proofs.Common.{◌≡◌, ◌∙◌, ℕ, suc, ◌+◌, ◌≤◌, Bool, true, false, not, ◌&&◌, ◌||◌, if◌then◌else◌, nat_eq, nat_lt, List, [], ◌∷◌, ◌++◌, length, reverse, Option, Some, IfSome, IsTrue, refl, ap, sym, subst, arith, length-append}
 use Rattle.std.specs.List.{filter, sum_by}
 use Rattle.std.proofs.lemmas.Bool.{eq-eqb}
 use Rattle.std.proofs.lemmas.Bool.Decides.{nat_tests}
 use Rattle.std.proofs.lemmas.List.{reverse-append, length-reverse}
 use Rattle.std.proofs.lemmas.List.Folds.{list_any-append}
 use Rattle.event_core.specs.declared.state.Core.{Core}
-use Rattle.event_core.specs.Allowed.{is_allowed, is_pinned}
+use Rattle.event_core.specs.Allowed.{is_pinned}
 use Rattle.event_core.specs.History.{History, OpenPin, open_pins, pin_before, up_to}
 use Rattle.event_core.proofs.Tests.{both_not, eq_sym}
 use Rattle.event_laws.specs.Pins.{PlaceTells}
@@ -15,7 +15,7 @@ use Rattle.store_ledger.specs.declared.note.Note.{Note}
 use Rattle.store_ledger.specs.declared.note.NoteKind.{NoteKind}
 use Rattle.store_ledger.specs.declared.note.NoteKind.TheVariants.{Fault, Tried}
 use Rattle.store_ledger.specs.Ledger.{LedgerState, AreNoted, IsNote, has_note, history, is_kind, is_under, reserved_by}
-use Rattle.store_ledger.specs.Inner.Kept.{IsKept, entries_to_come, note_to_come, notes_to_come}
+use Rattle.store_ledger.specs.Inner.Kept.{IsKept, note_to_come, notes_to_come}
 use Rattle.store_ledger.proofs.Keeping.{begun_of, own_sum, pinned_of}
 use Rattle.store_ledger.proofs.Notes.{any_reverse, within_all}
 use Rattle.store_ledger.proofs.Tried.{same_sum}
