@@ -10,7 +10,7 @@ use Rattle.event_core.specs.declared.state.Core.{Core}
 use Rattle.event_core.specs.Allowed.{IsBase, is_allowed, allows, is_pinned}
 use Rattle.event_core.specs.History.{History, OpenPin, open_pins, pin_before}
 use Rattle.event_core.specs.Legal.{has_committed}
-use Rattle.event_core.specs.Replay.{core_at, core_after}
+use Rattle.event_core.specs.Replay.{core_after}
 use Rattle.event_core.proofs.Steps.{core_step, core_start}
 use Rattle.event_core.proofs.Tests.{both_not, eq_sym}
 use Rattle.event_laws.specs.Pins.{pins_of}

@@ -1,4 +1,4 @@
-use Rattle.std.proofs.Common.{ℕ, ◌+◌, ◌*◌, ◌≤◌, length, ◌∙◌, sym, arith}
+use Rattle.std.proofs.Common.{◌∙◌, sym, arith}
 use Rattle.store_ledger.specs.Ledger.{LedgerState}
 use Rattle.store_ledger.proofs.Opened.{pin_keeps}
 use Rattle.store_ledger.proofs.ledger.Ledger.pin.Goals as goal
