@@ -1,29 +1,27 @@
 //! What is told of arrays, and of the sources that gave them.
-ghost use Rattle.array_parts.specs.Placed.{IsSound};
+ghost use Rattle.array_parts.specs.Placed.{HavePlaces, IsSound};
 
 use array_geom::{Chunk, ChunkedArray};
-use cell_values::{Broken, Datum, List, Memory, Row};
+use cell_values::{Broken, Cell, Datum, List, Memory, Row};
 use chunk_cells::rows;
 use chunk_source::{Asked, ChunkSource, ExecFault};
-use test_kit::{push_cell, push_coord, push_datum, push_number};
+use test_kit::{push_cell, push_chunk, push_coord, push_datum, push_number};
 
-/// Adds a chunk's number, and what it holds at each of its positions.
-pub(crate) fn push_chunk(out: &mut String, chunk: &Chunk) -> Result<(), Memory> {
-    out.push_str("chunk ")?;
-    push_number(out, &chunk.at)?;
-    let cells = chunk.cells.copy()?.into_list()?;
-    for (position, cell) in chunk.positions.as_slice().iter().zip(cells.as_slice()) {
-        write!(out, ", at {position}")?;
-        push_cell(out, cell)?;
-    }
-    out.push('\n')?;
+fn cells_of(chunk: &Chunk) -> Result<List<Cell>, Memory> {
+    let copy = chunk.cells.copy()?;
+    copy.into_list()
+}
+
+fn push_one(out: &mut String, chunk: &Chunk) -> Result<(), Memory> {
+    let cells = cells_of(chunk)?;
+    push_chunk(out, &chunk.at, chunk.positions.as_slice(), cells.as_slice())?;
     Ok(())
 }
 
 /// Adds the chunks of an array.
 pub(crate) fn push_array(out: &mut String, array: &ChunkedArray) -> Result<(), Memory> {
     for chunk in array.chunks.as_slice() {
-        push_chunk(out, chunk)?;
+        push_one(out, chunk)?;
     }
     Ok(())
 }
@@ -47,13 +45,20 @@ fn push_broken(out: &mut String, broken: &Broken) -> Result<(), Memory> {
     Ok(())
 }
 
+fn push_held(out: &mut String, array: &ChunkedArray) -> Result<(), Memory>
+    requires { HavePlaces array.now.schema array.now.margins.items array.now.chunks }
+{
+    let rows = rows(array)?;
+    push_rows(out, &rows)
+}
+
 /// Adds the cells of an array, by their coordinates.
 pub(crate) fn push_cells(out: &mut String, array: &ChunkedArray) -> Result<(), Memory>
     requires { IsSound array.now }
 {
     match &array.broken {
         Some(broken) => push_broken(out, broken),
-        None => push_rows(out, &rows(array)?),
+        None => push_held(out, array),
     }
 }
 

@@ -1,11 +1,11 @@
 //! What a crash may leave of a file, and what that opens as.
 
-use crate::files::{disk_of, open};
 use afl_in_memory::{DeviceCall, MemDisk};
 use afl_outside::Disk;
 use cell_values::{Bytes, List, Memory};
 use page_file::PageFile;
 use std::alloc::Global;
+use test_files::{disk_of, open};
 
 /// What a file opens as.
 #[derive(Clone, Copy)]

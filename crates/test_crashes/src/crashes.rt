@@ -3,8 +3,6 @@ ghost use Rattle.std.specs.Prelude.{OnErr};
 ghost use Rattle.page_file.specs.OpeningOpened.{AreFresh};
 ghost use Rattle.page_slots.specs.Standing.{IsTarget};
 
-use crate::commits::{commit_base, commit_record};
-use crate::files::{bytes_of, disk_of, made, open};
 use crate::images::{RECORD, Seen, catalogue_of, seen_behind};
 use afl_in_memory::MemDisk;
 use afl_outside::{Disk, Failed};
@@ -12,6 +10,7 @@ use anyhow::Result;
 use cell_values::{Bytes, List, Memory};
 use page_file::PageFile;
 use std::alloc::Global;
+use test_files::{bytes_of, commit_base, commit_record, disk_of, made, open};
 
 /// A commit, with the pages that it writes.
 #[derive(Clone, Copy)]

@@ -1,6 +1,8 @@
 //! The array alone.
 ghost use Rattle.cell_values.specs.Schemas.{IsValid};
 ghost use Rattle.chunk_source.specs.Source.{Reads};
+ghost use Rattle.test_sources.specs.Example.{leaf};
+ghost use Rattle.test_sources.specs.declared.layout.Layout.TheVariants.{Pairs};
 
 use crate::example::{example_leaf, failing_source, sure_source};
 use crate::layout::Layout;
@@ -24,20 +26,25 @@ fn push_leaf<S: ChunkSource>(out: &mut String, source: &mut S, leaf: &Leaf) -> R
     push_faults(out, source)
 }
 
-/// The array from a source, some of whose calls fail.
+/// Reads the leaf of the array.
 #[tactic(auto, using(crate::proofs::Stored::pairs_valid))]
-pub(crate) fn push_failing(out: &mut String, fails: &[u64]) -> Result<(), Memory> {
+fn push_pairs<S: ChunkSource>(out: &mut String, source: &mut S) -> Result<(), Memory>
+    requires { Reads (S.state source.old) (leaf Pairs) }
+{
     let leaf = example_leaf(*out.allocator(), Layout::Pairs)?;
+    push_leaf(out, source, &leaf)
+}
+
+/// The array from a source, some of whose calls fail.
+pub(crate) fn push_failing(out: &mut String, fails: &[u64]) -> Result<(), Memory> {
     let mut source = failing_source(*out.allocator(), Layout::Pairs, fails)?;
-    push_leaf(out, &mut source, &leaf)?;
+    push_pairs(out, &mut source)?;
     push_asked(out, source.asked())
 }
 
 /// The array from a source that never fails.
-#[tactic(auto, using(crate::proofs::Stored::pairs_valid))]
 pub(crate) fn push_sure(out: &mut String) -> Result<(), Memory> {
-    let leaf = example_leaf(*out.allocator(), Layout::Pairs)?;
     let mut source = sure_source(*out.allocator(), Layout::Pairs)?;
-    push_leaf(out, &mut source, &leaf)?;
+    push_pairs(out, &mut source)?;
     push_asked(out, source.asked())
 }

@@ -4,7 +4,7 @@ ghost use Rattle.std.specs.List.{list_all};
 ghost use Rattle.page_file.specs.OpeningOpened.{AreFresh};
 ghost use Rattle.page_slots.specs.Standing.{IsClosed, IsReady, IsTarget};
 ghost use Rattle.page_slots.specs.declared.slots.Target.TheVariants as targets;
-ghost use Rattle.test_pages.specs.Committing.{IsLaid};
+ghost use Rattle.test_files.specs.Committing.{IsLaid};
 
 use afl_outside::{Disk, Failed};
 use page_chain::{blob_pages, chain_pages};
@@ -137,7 +137,7 @@ fn write_base<D: Disk>(
 }
 
 /// Makes a new base: its log page of zeros, its catalogue in one page, and the other root slot, whose sequence is one greater.
-pub(crate) fn commit_base<D: Disk>(
+pub fn commit_base<D: Disk>(
     file: &mut PageFile<D>,
     page: u32,
     log: u32,
@@ -180,11 +180,7 @@ fn open_entry<D: Disk>(file: &mut PageFile<D>, at: RecordAt) -> Result<(), Faile
 }
 
 /// Writes a record in one page, and opens the next entry of the log.
-pub(crate) fn commit_record<D: Disk>(
-    file: &mut PageFile<D>,
-    page: u32,
-    bytes: &[u8],
-) -> Result<(), Failed>
+pub fn commit_record<D: Disk>(file: &mut PageFile<D>, page: u32, bytes: &[u8]) -> Result<(), Failed>
     requires { AreFresh file.old.slots }
     ensures { OnErr result (IsTarget file.new.slots) }
 {

@@ -4,9 +4,9 @@ use Rattle.logical_plan.specs.Query.{Query}
 use Rattle.logical_plan.specs.Typing.{IsTyped}
 use Rattle.chunk_source.specs.Source.{Reads, SourceState}
 use Rattle.chunk_exec.specs.Computed.{CanCompute}
-use Rattle.test_operators.specs.Example.{above_five, leaf}
-use Rattle.test_operators.specs.declared.layout.Layout.{Layout}
-use Rattle.test_operators.specs.declared.layout.Layout.TheVariants.{Singles, Pairs, Whole}
+use Rattle.test_sources.specs.Example.{above_five, leaf}
+use Rattle.test_sources.specs.declared.layout.Layout.{Layout}
+use Rattle.test_sources.specs.declared.layout.Layout.TheVariants.{Singles, Pairs, Whole}
 
 typed : (layout : Layout) → IsTyped (above_five layout)
 typed Singles = (refl, refl)

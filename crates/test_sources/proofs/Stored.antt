@@ -15,9 +15,9 @@ use Rattle.logical_plan.specs.declared.parts.Leaf.{Leaf}
 use Rattle.logical_plan.specs.Typing.{AreSound}
 use Rattle.chunk_source.specs.declared.memory.leaf_array.LeafArray.{LeafArray}
 use Rattle.chunk_source.specs.Found.{IsRead, IsStoredArray, rows_of}
-use Rattle.test_operators.specs.Example.{dimensions, schema, leaf, rows, meant}
-use Rattle.test_operators.specs.declared.layout.Layout.{Layout}
-use Rattle.test_operators.specs.declared.layout.Layout.TheVariants.{Singles, Pairs, Whole}
+use Rattle.test_sources.specs.Example.{dimensions, schema, leaf, rows, meant}
+use Rattle.test_sources.specs.declared.layout.Layout.{Layout}
+use Rattle.test_sources.specs.declared.layout.Layout.TheVariants.{Singles, Pairs, Whole}
 
 abbrev row_with : ArrayVec ℤ → Cell → Row
 row_with at cell = record { at = at; cell = cell }

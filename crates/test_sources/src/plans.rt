@@ -2,7 +2,7 @@
 ghost use Rattle.std.specs.Prelude.{◌≡◌, None, IfOk};
 ghost use Rattle.chunk_exec.specs.Computed.{CanCompute};
 ghost use Rattle.chunk_source.specs.Source.{Reads};
-ghost use Rattle.test_operators.specs.Example.{above_five, leaf};
+ghost use Rattle.test_sources.specs.Example.{above_five, leaf};
 
 use crate::example::{example_leaf, failing_source, sure_source};
 use crate::layout::Layout;
@@ -12,16 +12,17 @@ use cell_values::{CompareOp, Datum, Memory};
 use chunk_exec::execute;
 use chunk_source::ChunkSource;
 use expr_nulls::TypedExpr;
-use logical_plan::Plan;
+use logical_plan::{Plan, let_go};
 use std::alloc::Global;
 
 /// `filter(a, v>5)`
 fn above_five(alloc: Global, layout: Layout) -> Result<Plan, Memory>
     ensures { IfOk result (λ plan. plan ≡ above_five layout) }
 {
+    let leaf = example_leaf(alloc, layout)?;
     let five = TypedExpr::lit(Datum::Int(5));
     let test = TypedExpr::compare(alloc, CompareOp::More, TypedExpr::attr(0), five)?;
-    Plan::filter(alloc, Plan::scan(example_leaf(alloc, layout)?), test)
+    Plan::filter(alloc, Plan::scan(leaf), test)
 }
 
 /// Executes a plan, and adds its chunks or why there are none, and how often the source has failed.
@@ -50,7 +51,9 @@ fn push_filter<S: ChunkSource>(
     requires reads { Reads (S.state source.old) (leaf layout) }
 {
     let plan = above_five(*out.allocator(), layout)?;
-    push_plan(out, source, &plan)
+    let told = push_plan(out, source, &plan);
+    let_go(plan);
+    told
 }
 
 /// The filter over a source, some of whose calls fail.

@@ -1,9 +1,9 @@
 //! The chunks of the example.
 ghost use Rattle.std.specs.Prelude.{◌≡◌};
-ghost use Rattle.test_operators.specs.Example.{length_in, overlap_in};
+ghost use Rattle.test_sources.specs.Example.{length_in, overlap_in};
 
 /// In which chunks the cells lie.
-#[derive(Clone, Copy, Debug)]
+#[derive(Clone, Copy)]
 pub(crate) enum Layout {
     /// In chunks of one place.
     Singles,

@@ -11,7 +11,7 @@ use page_file::{InitFault, PageFile, init};
 use std::alloc::Global;
 
 /// A disk with these bytes, whose call of this number fails.
-pub(crate) fn disk_of(alloc: Global, bytes: Bytes, fails: Option<u64>) -> Result<MemDisk, Memory> {
+pub fn disk_of(alloc: Global, bytes: Bytes, fails: Option<u64>) -> Result<MemDisk, Memory> {
     let mut numbers = List::new(alloc);
     if let Some(call) = fails {
         numbers.push(call)?;
@@ -20,12 +20,12 @@ pub(crate) fn disk_of(alloc: Global, bytes: Bytes, fails: Option<u64>) -> Result
 }
 
 /// The bytes that a disk holds.
-pub(crate) fn bytes_of(disk: &MemDisk) -> Result<Bytes, Memory> {
+pub fn bytes_of(disk: &MemDisk) -> Result<Bytes, Memory> {
     disk.image(disk.calls().len() as u64, &[], 0)
 }
 
 /// Opens a file. Nothing was written to its slots yet.
-pub(crate) fn open<D: Disk>(disk: D) -> Result<PageFile<D>, (OpenCause, D)>
+pub fn open<D: Disk>(disk: D) -> Result<PageFile<D>, (OpenCause, D)>
     ensures { IfOk result (λ file. AreFresh file.slots) }
 {
     PageFile::open(disk)
@@ -40,7 +40,7 @@ fn write<D: Disk>(disk: &mut D, at: u64, bytes: &[u8]) -> Result<(), Failed> {
 }
 
 /// An empty file that was made a database.
-pub(crate) fn made(alloc: Global) -> Result<Bytes> {
+pub fn made(alloc: Global) -> Result<Bytes> {
     let mut disk = disk_of(alloc, List::new(alloc), None)?;
     made_on(&mut disk)
 }
@@ -51,7 +51,7 @@ fn made_on(disk: &mut MemDisk) -> Result<Bytes> {
 }
 
 /// The file with these bytes over it at a place.
-pub(crate) fn changed(alloc: Global, file: &Bytes, at: u64, bytes: &[u8]) -> Result<Bytes> {
+pub fn changed(alloc: Global, file: &Bytes, at: u64, bytes: &[u8]) -> Result<Bytes> {
     let mut disk = disk_of(alloc, file.copy()?, None)?;
     changed_on(&mut disk, at, bytes)
 }
@@ -65,7 +65,7 @@ fn changed_on(disk: &mut MemDisk, at: u64, bytes: &[u8]) -> Result<Bytes> {
 const FIRST_BODY: [u8; 20] = [1, 0, 0, 0, 0, 0, 0, 0, 4, 0, 0, 0, 0, 0, 0, 0, 1, 0, 0, 0];
 
 /// An empty database of format 1, whose slot A is open.
-pub(crate) fn of_format_one(alloc: Global) -> Result<Bytes> {
+pub fn of_format_one(alloc: Global) -> Result<Bytes> {
     let zeros = List::from_vec(vec![in alloc; 0u8; 8192]?);
     let head = changed(alloc, &zeros, 0, b"AFLSTORE\x01")?;
     let open = changed(alloc, &head, 512, &[1])?;
@@ -73,7 +73,7 @@ pub(crate) fn of_format_one(alloc: Global) -> Result<Bytes> {
 }
 
 /// The first bytes of a file.
-pub(crate) fn cut(alloc: Global, file: &Bytes, length: usize) -> Result<Bytes, Memory> {
+pub fn cut(alloc: Global, file: &Bytes, length: usize) -> Result<Bytes, Memory> {
     let bytes = file.as_slice();
     List::from_slice(alloc, &bytes[..length.min(bytes.len())])
 }

@@ -9,7 +9,7 @@ ghost use Rattle.array_geom.specs.Link.{Is};
 ghost use Rattle.chunk_source.specs.Source.{Reads};
 ghost use Rattle.chunk_source.specs.Found.{IsRead, IsStoredArray};
 ghost use Rattle.chunk_source.specs.InMemory.{memory_state, sure_state};
-ghost use Rattle.test_operators.specs.Example.{attributes, dimensions, schema, leaf, rows, meant};
+ghost use Rattle.test_sources.specs.Example.{attributes, dimensions, schema, leaf, rows, meant};
 
 use crate::layout::Layout;
 use array_geom::{ChunkedArray, margins_of};

@@ -13,8 +13,8 @@ use Rattle.array_rows.specs.Rows.{placed}
 use Rattle.expr_nulls.specs.Expr.{attribute_value, literal, relation}
 use Rattle.logical_plan.specs.declared.parts.Leaf.{Leaf}
 use Rattle.logical_plan.specs.Query.{Query, filtered, scanned}
-use Rattle.test_operators.specs.declared.layout.Layout.{Layout}
-use Rattle.test_operators.specs.declared.layout.Layout.TheVariants.{Singles, Pairs, Whole}
+use Rattle.test_sources.specs.declared.layout.Layout.{Layout}
+use Rattle.test_sources.specs.declared.layout.Layout.TheVariants.{Singles, Pairs, Whole}
 
 abbrev pub length_in : Layout → ℕ
 length_in Singles = 1
