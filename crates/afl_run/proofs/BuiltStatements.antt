@@ -9,7 +9,7 @@ use Rattle.check_rules.specs.Checked.{Checked}
 use Rattle.check_rules.specs.Operators.{operator_named}
 use Rattle.check_rules.specs.declared.rules.operator.Operator.{Operator}
 use Rattle.check_rules.specs.declared.rules.operator.Operator.TheVariants as operator
-use Rattle.afl_types.specs.Queries.{query_of}
+use Rattle.check_queries.specs.Queries.{query_of}
 use Rattle.afl_types.specs.Statements.{queried, said}
 use Rattle.afl_types.specs.declared.statements.checking.Typed.{Typed}
 use Rattle.afl_run.specs.Laws.{BuiltStatementsAreQueries}

@@ -7,7 +7,7 @@ use Rattle.logical_plan.specs.declared.parts.Leaf.{Leaf}
 use Rattle.logical_plan.specs.Meaning.{Database}
 use Rattle.plan_changes.specs.Typed.{IsVersionOf}
 use Rattle.check_sources.specs.Stored.{entry_named}
-use Rattle.afl_types.specs.Arrays.{AreValid}
+use Rattle.check_queries.specs.Arrays.{AreValid}
 use Rattle.chunk_source.specs.declared.memory.leaf_array.LeafArray.{LeafArray}
 use Rattle.chunk_source.specs.declared.reading.fault.ExecFault.TheVariants.{Source, Damaged}
 use Rattle.chunk_source.specs.Faults.{Answers}

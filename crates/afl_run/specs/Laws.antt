@@ -3,7 +3,7 @@ use Rattle.std.specs.Prelude.{◌≡◌, ℕ, false, List}
 use Rattle.afl_trees.specs.Term.{Term}
 use Rattle.logical_plan.specs.declared.names.Names.{Names}
 use Rattle.afl_types.specs.Checking.{check_of}
-use Rattle.afl_types.specs.Queries.{query_of}
+use Rattle.check_queries.specs.Queries.{query_of}
 use Rattle.afl_types.specs.Statements.{queried}
 use Rattle.afl_run.specs.Unbuilt.{is_unbuilt}
 

@@ -1,12 +1,4 @@
-pub mod Arrays
-pub mod Calls
 pub mod Changes
 pub mod Checking
-pub mod GroupCalls
-pub mod Inner
-pub mod JoinCalls
-pub mod MovedCalls
-pub mod Nested
 pub mod Place
-pub mod Queries
 pub mod Statements

@@ -2,11 +2,8 @@
 #![tactic(auto)]
 
 mod changes;
-mod queries;
 mod statements;
 
 pub use changes::{Target, array_call, create_array, cut_call, insert_call, list_call, store_call};
-pub use queries::{
-    Call, Form, OneForm, Operator, OverSource, OverTwo, TypeFault, operator_named, query_plan,
-};
+pub use check_rules::TypeFault;
 pub use statements::{Typed, check, let_go_typed};

@@ -3,5 +3,4 @@
 mod checking;
 mod statement;
 
-pub use crate::queries::{Form, OneForm, Operator, TypeFault, operator_named};
 pub use checking::{Typed, check, let_go_typed};

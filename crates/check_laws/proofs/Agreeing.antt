@@ -20,11 +20,12 @@ use Rattle.check_rules.specs.declared.rules.operator.Operator.TheVariants as ope
 use Rattle.check_rules.specs.Sorts.{to_list, number_in}
 use Rattle.check_sources.specs.Build.{meant}
 use Rattle.check_sources.specs.Stored.{newest_of, version_of, referred, scan_call}
-use Rattle.afl_types.specs.Calls.{call_of}
-use Rattle.afl_types.specs.Queries.{called, over, over_two, query_of}
-use Rattle.afl_types.specs.declared.queries.call.Call.{Call}
-use Rattle.afl_types.specs.declared.queries.call.Call.TheVariants.{Build, Scan, Over, Two}
-use Rattle.afl_types.specs.declared.queries.call.OverTwo.{OverTwo}
+use Rattle.check_queries.specs.Calls.{call_of}
+use Rattle.check_queries.specs.Content.{content_span}
+use Rattle.check_queries.specs.Queries.{called, over, over_two, query_of}
+use Rattle.check_queries.specs.declared.call.Call.{Call}
+use Rattle.check_queries.specs.declared.call.Call.TheVariants.{Build, Scan, Over, Two}
+use Rattle.check_queries.specs.declared.call.OverTwo.{OverTwo}
 use Rattle.afl_types.specs.Changes.{created, created_as, store_call, insert_call, array_call, cut_call, store_target, insert_target, stored_schema, inserted_schema, target_of, known, stored_name, cut_of, cut_by, cut_from}
 use Rattle.afl_types.specs.Place.{created_place}
 use Rattle.afl_types.specs.Statements.{queried, changed, removed, numbered, shown, store_of, insert_of, said, statement_of}
@@ -79,8 +80,9 @@ module _ (a b : List NameEntry) (room : has_room a ≡ has_room b) where
   same_scan s (and_term x no_terms) same = same_referred x same
   same_scan s arguments same = refl
 
-  same_two : (s : Span) (operator : OverTwo) (l l' r r' : Checked Query) (arguments : List Term) → l ≡ l' → r ≡ r' → over_two s operator l r arguments ≡ over_two s operator l' r' arguments
-  same_two s operator l l' r r' arguments p q = ap (λ x. over_two s operator x r arguments) p ∙ ap (λ x. over_two s operator l' x arguments) q
+  same_two : (s : Span) (operator : OverTwo) (at : Span) (l l' r r' : Checked Query) (arguments : List Term) → l ≡ l' → r ≡ r'
+      → over_two s operator at l r arguments ≡ over_two s operator at l' r' arguments
+  same_two s operator at l l' r r' arguments p q = ap (λ x. over_two s operator at x r arguments) p ∙ ap (λ x. over_two s operator at l' x arguments) q
 
   mutual
     same_query : (t : Term) → All (read_names t) → query_of a t ≡ query_of b t
@@ -91,10 +93,11 @@ module _ (a b : List NameEntry) (room : has_room a ≡ has_room b) where
     same_called : (s : Span) (name : List ℕ) (o : Option Call) (arguments : Terms) → All (called_names o arguments) → called a s name o arguments ≡ called b s name o arguments
     same_called s name (Some Build) arguments same = refl
     same_called s name (Some Scan) arguments same = same_scan s arguments same
-    same_called s name (Some (Over operator)) (and_term source arguments) same = ap (λ c. over s operator c (to_list arguments)) (same_query source same)
+    same_called s name (Some (Over operator)) (and_term source arguments) same =
+        ap (λ c. over s operator (content_span source) c (to_list arguments)) (same_query source same)
     same_called s name (Some (Over operator)) no_terms same = refl
     same_called s name (Some (Two operator)) (and_term left (and_term right arguments)) same =
-        same_two s operator (query_of a left) (query_of b left) (query_of a right) (query_of b right) (to_list arguments)
+        same_two s operator (content_span left) (query_of a left) (query_of b left) (query_of a right) (query_of b right) (to_list arguments)
         (same_query left (first_of Same (read_names left) (read_names right) same)) (same_query right (second_of Same (read_names left) (read_names right) same))
     same_called s name (Some (Two operator)) (and_term left no_terms) same = refl
     same_called s name (Some (Two operator)) no_terms same = refl

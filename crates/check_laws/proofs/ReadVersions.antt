@@ -21,14 +21,15 @@ use Rattle.check_sources.specs.Stored.{newest, is_version, leaf_of, newest_of, a
 use Rattle.check_sources.proofs.Holding.{build_holds}
 use Rattle.check_cellwise.proofs.CellsHolding.{filter_holds, apply_holds, project_holds}
 use Rattle.check_cellwise.proofs.BoxesHolding.{between_holds, subarray_holds, slice_holds}
-use Rattle.afl_types.specs.Calls.{call_of, fits_count, fits_two, ruled, ruled_two}
-use Rattle.afl_types.specs.Queries.{called, over, over_two, query_of}
-use Rattle.afl_types.specs.declared.queries.call.Call.{Call}
-use Rattle.afl_types.specs.declared.queries.call.Call.TheVariants.{Build, Scan, Over, Two}
-use Rattle.afl_types.specs.declared.queries.call.OverSource.{OverSource}
-use Rattle.afl_types.specs.declared.queries.call.OverSource.TheVariants.{Filter, Apply, Project, Between, Subarray, Slice, Redimension, Regrid, Window, Aggregate}
-use Rattle.afl_types.specs.declared.queries.call.OverTwo.{OverTwo}
-use Rattle.afl_types.specs.declared.queries.call.OverTwo.TheVariants.{Join, CrossJoin}
+use Rattle.check_queries.specs.Calls.{call_of, fits_count, fits_two, ruled, ruled_two}
+use Rattle.check_queries.specs.Content.{content_span}
+use Rattle.check_queries.specs.Queries.{called, over, over_two, query_of}
+use Rattle.check_queries.specs.declared.call.Call.{Call}
+use Rattle.check_queries.specs.declared.call.Call.TheVariants.{Build, Scan, Over, Two}
+use Rattle.check_queries.specs.declared.call.OverSource.{OverSource}
+use Rattle.check_queries.specs.declared.call.OverSource.TheVariants.{Filter, Apply, Project, Between, Subarray, Slice, Redimension, Regrid, Window, Aggregate}
+use Rattle.check_queries.specs.declared.call.OverTwo.{OverTwo}
+use Rattle.check_queries.specs.declared.call.OverTwo.TheVariants.{Join, CrossJoin}
 use Rattle.check_groups.specs.Blocks.{regrid_parts}
 use Rattle.check_groups.specs.Groups.{aggregate_parts}
 use Rattle.check_groups.specs.Windows.{window_parts}
@@ -36,7 +37,7 @@ use Rattle.check_joins.specs.Crosses.{cross_parts}
 use Rattle.check_joins.specs.JoinSchemas.{joined_schema}
 use Rattle.check_redimension.specs.Redimension.{redimension_parts}
 use Rattle.check_rules.proofs.OperatorsHolding.{new_holds}
-use Rattle.afl_types.proofs.NoQuery.{nested_holds}
+use Rattle.check_queries.proofs.NoQuery.{nested_holds}
 
 -- ---- what is found in a list
 
@@ -117,19 +118,20 @@ module _ (arrays : List NameEntry) where
   scan_reads s (and_term x no_terms) = referred_reads x
   scan_reads s arguments = tt
 
-  ruled_reads : (s : Span) (operator : OverSource) (source : Query) (arguments : List Term) → ReadsVersions source → IfOk (ruled s operator source arguments) ReadsVersions
-  ruled_reads s Filter source arguments reads = filter_holds ReadsVersions s source arguments (λ e x one t fit. reads)
-  ruled_reads s Apply source arguments reads = apply_holds ReadsVersions s source arguments (λ values e within. reads)
-  ruled_reads s Project source arguments reads = project_holds ReadsVersions s source arguments (λ some places e within. reads)
-  ruled_reads s Between source arguments reads = between_holds ReadsVersions s source arguments (λ count. reads)
-  ruled_reads s Subarray source arguments reads = subarray_holds ReadsVersions s source arguments (λ count order range within. reads)
-  ruled_reads s Slice source arguments reads = slice_holds ReadsVersions s source arguments (λ fixed e some within. reads)
-  ruled_reads s Redimension source arguments reads = thens ReadsVersions (redimension_parts s (schema_of source) arguments) _ (λ p e. reads)
-  ruled_reads s Regrid source arguments reads =
+  ruled_reads : (s : Span) (operator : OverSource) (at : Span) (source : Query) (arguments : List Term) → ReadsVersions source
+      → IfOk (ruled s operator at source arguments) ReadsVersions
+  ruled_reads s Filter at source arguments reads = filter_holds ReadsVersions s source arguments (λ e x one t fit. reads)
+  ruled_reads s Apply at source arguments reads = apply_holds ReadsVersions s source arguments (λ values e within. reads)
+  ruled_reads s Project at source arguments reads = project_holds ReadsVersions s source arguments (λ some places e within. reads)
+  ruled_reads s Between at source arguments reads = between_holds ReadsVersions s source arguments (λ count. reads)
+  ruled_reads s Subarray at source arguments reads = subarray_holds ReadsVersions s source arguments (λ count order range within. reads)
+  ruled_reads s Slice at source arguments reads = slice_holds ReadsVersions s source arguments (λ fixed e some within. reads)
+  ruled_reads s Redimension at source arguments reads = thens ReadsVersions (redimension_parts s (schema_of source) arguments) _ (λ p e. reads)
+  ruled_reads s Regrid at source arguments reads =
       thens ReadsVersions (regrid_parts s (schema_of source) arguments) _ (λ p e. new_holds ReadsVersions s (regridded source p.sizes p.aggregates) (λ within. reads))
-  ruled_reads s Window source arguments reads =
+  ruled_reads s Window at source arguments reads =
       thens ReadsVersions (window_parts s (schema_of source) arguments) _ (λ p e. new_holds ReadsVersions s (windowed source p.reach p.aggregates) (λ within. reads))
-  ruled_reads s Aggregate source arguments reads =
+  ruled_reads s Aggregate at source arguments reads =
       thens ReadsVersions (aggregate_parts s (schema_of source) arguments) _ (λ p e. new_holds ReadsVersions s (aggregated source p.aggregates p.places) (λ within. reads))
 
   both_read : (xs ys : List Leaf) → AllByRecursion (λ leaf. IsVersionOf leaf (entry_named arrays leaf.name)) xs → AllByRecursion (λ leaf. IsVersionOf leaf (entry_named arrays leaf.name)) ys
@@ -137,25 +139,28 @@ module _ (arrays : List NameEntry) where
   both_read [] ys h k = k
   both_read (x ∷ xs) ys h k = (h.0, both_read xs ys h.1 k)
 
-  ruled_two_reads : (s : Span) (operator : OverTwo) (left right : Query) (arguments : List Term) → ReadsVersions left → ReadsVersions right → IfOk (ruled_two s operator left right arguments) ReadsVersions
-  ruled_two_reads s Join left right arguments l r =
+  ruled_two_reads : (s : Span) (operator : OverTwo) (at : Span) (left right : Query) (arguments : List Term) → ReadsVersions left → ReadsVersions right
+      → IfOk (ruled_two s operator at left right arguments) ReadsVersions
+  ruled_two_reads s Join at left right arguments l r =
       thens ReadsVersions (joined_schema s (schema_of left) (schema_of right)) _ (λ schema e. new_holds ReadsVersions s (joined left right schema) (λ within. both_read (leaves left) (leaves right) l r))
-  ruled_two_reads s CrossJoin left right arguments l r =
+  ruled_two_reads s CrossJoin at left right arguments l r =
       thens ReadsVersions (cross_parts s (schema_of left) (schema_of right) arguments) _ (λ p e. new_holds ReadsVersions s (crossed left right p.pairs p.schema) (λ within. both_read (leaves left) (leaves right) l r))
 
-  over_reads : (s : Span) (operator : OverSource) (source : Term) (arguments : Terms) → IfOk (query_of arrays source) ReadsVersions → IfOk (over s operator (query_of arrays source) (to_list arguments)) ReadsVersions
+  over_reads : (s : Span) (operator : OverSource) (source : Term) (arguments : Terms) → IfOk (query_of arrays source) ReadsVersions
+      → IfOk (over s operator (content_span source) (query_of arrays source) (to_list arguments)) ReadsVersions
   over_reads s operator source arguments reads =
       demanded ReadsVersions (fits_count operator (length (to_list arguments))) s WrongCount _ (λ count.
       thens ReadsVersions (query_of arrays source) _ (λ plan e.
-      ruled_reads s operator plan (to_list arguments) (of_answer ReadsVersions (query_of arrays source) plan reads e)))
+      ruled_reads s operator (content_span source) plan (to_list arguments) (of_answer ReadsVersions (query_of arrays source) plan reads e)))
 
   over_two_reads : (s : Span) (operator : OverTwo) (left right : Term) (arguments : Terms) → IfOk (query_of arrays left) ReadsVersions → IfOk (query_of arrays right) ReadsVersions
-      → IfOk (over_two s operator (query_of arrays left) (query_of arrays right) (to_list arguments)) ReadsVersions
+      → IfOk (over_two s operator (content_span left) (query_of arrays left) (query_of arrays right) (to_list arguments)) ReadsVersions
   over_two_reads s operator left right arguments h k =
       demanded ReadsVersions (fits_two operator (length (to_list arguments))) s WrongCount _ (λ count.
       thens ReadsVersions (query_of arrays left) _ (λ l e.
       thens ReadsVersions (query_of arrays right) _ (λ r f.
-      ruled_two_reads s operator l r (to_list arguments) (of_answer ReadsVersions (query_of arrays left) l h e) (of_answer ReadsVersions (query_of arrays right) r k f))))
+      ruled_two_reads s operator (content_span left) l r (to_list arguments) (of_answer ReadsVersions (query_of arrays left) l h e)
+      (of_answer ReadsVersions (query_of arrays right) r k f))))
 
   mutual
     query_reads : (t : Term) → IfOk (query_of arrays t) ReadsVersions

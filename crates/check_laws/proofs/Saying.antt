@@ -35,15 +35,16 @@ use Rattle.check_groups.specs.Windows.{window_parts}
 use Rattle.check_joins.specs.Crosses.{cross_parts}
 use Rattle.check_joins.specs.JoinSchemas.{joined_schema}
 use Rattle.check_redimension.specs.Redimension.{redimension_parts}
-use Rattle.afl_types.specs.Calls.{call_of, fits_count, fits_two, ruled, ruled_two}
-use Rattle.afl_types.specs.Queries.{called, over, over_two, query_of}
-use Rattle.afl_types.specs.declared.queries.call.Call.{Call}
-use Rattle.afl_types.specs.declared.queries.call.Call.TheVariants.{Build, Scan, Over, Two}
-use Rattle.afl_types.specs.declared.queries.call.OverSource.{OverSource}
-use Rattle.afl_types.specs.declared.queries.call.OverSource.TheVariants.{Filter, Apply, Project, Between, Subarray, Slice, Redimension, Regrid, Window, Aggregate}
-use Rattle.afl_types.specs.declared.queries.call.OverTwo.{OverTwo}
-use Rattle.afl_types.specs.declared.queries.call.OverTwo.TheVariants.{Join, CrossJoin}
-use Rattle.afl_types.proofs.NoQuery.{nested_holds}
+use Rattle.check_queries.specs.Calls.{call_of, fits_count, fits_two, ruled, ruled_two}
+use Rattle.check_queries.specs.Content.{content_span}
+use Rattle.check_queries.specs.Queries.{called, over, over_two, query_of}
+use Rattle.check_queries.specs.declared.call.Call.{Call}
+use Rattle.check_queries.specs.declared.call.Call.TheVariants.{Build, Scan, Over, Two}
+use Rattle.check_queries.specs.declared.call.OverSource.{OverSource}
+use Rattle.check_queries.specs.declared.call.OverSource.TheVariants.{Filter, Apply, Project, Between, Subarray, Slice, Redimension, Regrid, Window, Aggregate}
+use Rattle.check_queries.specs.declared.call.OverTwo.{OverTwo}
+use Rattle.check_queries.specs.declared.call.OverTwo.TheVariants.{Join, CrossJoin}
+use Rattle.check_queries.proofs.NoQuery.{nested_holds}
 use Rattle.afl_types.specs.Changes.{created, array_call, cut_at, cut_by, cut_call, cut_from, cut_of, list_call, store_target, insert_target, stored_schema, inserted_schema, known, stored_name}
 use Rattle.afl_types.specs.Place.{created_place}
 use Rattle.afl_types.specs.declared.changes.put.Target.{Target}
@@ -65,28 +66,30 @@ abbrev Reads : List (List ℕ) → Query → Type 0
 Reads names plan = leaf_names plan ≡ names
 
 module _ (names : List (List ℕ)) where
-  ruled_reads : (s : Span) (operator : OverSource) (source : Query) (arguments : List Term) → Reads names source → IfOk (ruled s operator source arguments) (Reads names)
-  ruled_reads s Filter source arguments reads = filter_holds (Reads names) s source arguments (λ e x one t fit. reads)
-  ruled_reads s Apply source arguments reads = apply_holds (Reads names) s source arguments (λ values e within. reads)
-  ruled_reads s Project source arguments reads = project_holds (Reads names) s source arguments (λ some places e within. reads)
-  ruled_reads s Between source arguments reads = between_holds (Reads names) s source arguments (λ count. reads)
-  ruled_reads s Subarray source arguments reads = subarray_holds (Reads names) s source arguments (λ count order range within. reads)
-  ruled_reads s Slice source arguments reads = slice_holds (Reads names) s source arguments (λ fixed e some within. reads)
-  ruled_reads s Redimension source arguments reads = thens (Reads names) (redimension_parts s (schema_of source) arguments) _ (λ p e. reads)
-  ruled_reads s Regrid source arguments reads =
+  ruled_reads : (s : Span) (operator : OverSource) (at : Span) (source : Query) (arguments : List Term) → Reads names source
+      → IfOk (ruled s operator at source arguments) (Reads names)
+  ruled_reads s Filter at source arguments reads = filter_holds (Reads names) s source arguments (λ e x one t fit. reads)
+  ruled_reads s Apply at source arguments reads = apply_holds (Reads names) s source arguments (λ values e within. reads)
+  ruled_reads s Project at source arguments reads = project_holds (Reads names) s source arguments (λ some places e within. reads)
+  ruled_reads s Between at source arguments reads = between_holds (Reads names) s source arguments (λ count. reads)
+  ruled_reads s Subarray at source arguments reads = subarray_holds (Reads names) s source arguments (λ count order range within. reads)
+  ruled_reads s Slice at source arguments reads = slice_holds (Reads names) s source arguments (λ fixed e some within. reads)
+  ruled_reads s Redimension at source arguments reads = thens (Reads names) (redimension_parts s (schema_of source) arguments) _ (λ p e. reads)
+  ruled_reads s Regrid at source arguments reads =
       thens (Reads names) (regrid_parts s (schema_of source) arguments) _ (λ p e. new_holds (Reads names) s (regridded source p.sizes p.aggregates) (λ within. reads))
-  ruled_reads s Window source arguments reads =
+  ruled_reads s Window at source arguments reads =
       thens (Reads names) (window_parts s (schema_of source) arguments) _ (λ p e. new_holds (Reads names) s (windowed source p.reach p.aggregates) (λ within. reads))
-  ruled_reads s Aggregate source arguments reads =
+  ruled_reads s Aggregate at source arguments reads =
       thens (Reads names) (aggregate_parts s (schema_of source) arguments) _ (λ p e. new_holds (Reads names) s (aggregated source p.aggregates p.places) (λ within. reads))
 
 both_read : (left right : Query) (xs ys : List (List ℕ)) → Reads xs left → Reads ys right → map (λ leaf. leaf.name) (leaves left ++ leaves right) ≡ xs ++ ys
 both_read left right xs ys l r = map-append (λ leaf. leaf.name) (leaves left) (leaves right) ∙ ap (λ (ns : List (List ℕ)). ns ++ leaf_names right) l ∙ ap (λ (ns : List (List ℕ)). xs ++ ns) r
 
-ruled_two_reads : (xs ys : List (List ℕ)) (s : Span) (operator : OverTwo) (left right : Query) (arguments : List Term) → Reads xs left → Reads ys right → IfOk (ruled_two s operator left right arguments) (Reads (xs ++ ys))
-ruled_two_reads xs ys s Join left right arguments l r =
+ruled_two_reads : (xs ys : List (List ℕ)) (s : Span) (operator : OverTwo) (at : Span) (left right : Query) (arguments : List Term) → Reads xs left
+    → Reads ys right → IfOk (ruled_two s operator at left right arguments) (Reads (xs ++ ys))
+ruled_two_reads xs ys s Join at left right arguments l r =
     thens (Reads (xs ++ ys)) (joined_schema s (schema_of left) (schema_of right)) _ (λ schema e. new_holds (Reads (xs ++ ys)) s (joined left right schema) (λ within. both_read left right xs ys l r))
-ruled_two_reads xs ys s CrossJoin left right arguments l r =
+ruled_two_reads xs ys s CrossJoin at left right arguments l r =
     thens (Reads (xs ++ ys)) (cross_parts s (schema_of left) (schema_of right) arguments) _ (λ p e. new_holds (Reads (xs ++ ys)) s (crossed left right p.pairs p.schema) (λ within. both_read left right xs ys l r))
 
 module _ (arrays : List NameEntry) where
@@ -120,19 +123,20 @@ module _ (arrays : List NameEntry) where
   scan_reads s arguments = tt
 
   over_reads : (s : Span) (operator : OverSource) (source : Term) (arguments : Terms) → IfOk (query_of arrays source) (Reads (read_names source))
-      → IfOk (over s operator (query_of arrays source) (to_list arguments)) (Reads (read_names source))
+      → IfOk (over s operator (content_span source) (query_of arrays source) (to_list arguments)) (Reads (read_names source))
   over_reads s operator source arguments reads =
       demanded (Reads (read_names source)) (fits_count operator (length (to_list arguments))) s WrongCount _ (λ count.
       thens (Reads (read_names source)) (query_of arrays source) _ (λ plan e.
-      ruled_reads (read_names source) s operator plan (to_list arguments) (of_answer (Reads (read_names source)) (query_of arrays source) plan reads e)))
+      ruled_reads (read_names source) s operator (content_span source) plan (to_list arguments) (of_answer (Reads (read_names source)) (query_of arrays source) plan reads e)))
 
   over_two_reads : (s : Span) (operator : OverTwo) (left right : Term) (arguments : Terms) → IfOk (query_of arrays left) (Reads (read_names left)) → IfOk (query_of arrays right) (Reads (read_names right))
-      → IfOk (over_two s operator (query_of arrays left) (query_of arrays right) (to_list arguments)) (Reads (read_names left ++ read_names right))
+      → IfOk (over_two s operator (content_span left) (query_of arrays left) (query_of arrays right) (to_list arguments))
+      (Reads (read_names left ++ read_names right))
   over_two_reads s operator left right arguments h k =
       demanded (Reads (read_names left ++ read_names right)) (fits_two operator (length (to_list arguments))) s WrongCount _ (λ count.
       thens (Reads (read_names left ++ read_names right)) (query_of arrays left) _ (λ l e.
       thens (Reads (read_names left ++ read_names right)) (query_of arrays right) _ (λ r f.
-      ruled_two_reads (read_names left) (read_names right) s operator l r (to_list arguments)
+      ruled_two_reads (read_names left) (read_names right) s operator (content_span left) l r (to_list arguments)
       (of_answer (Reads (read_names left)) (query_of arrays left) l h e) (of_answer (Reads (read_names right)) (query_of arrays right) r k f))))
 
   mutual

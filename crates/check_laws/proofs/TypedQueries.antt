@@ -46,20 +46,21 @@ use Rattle.check_cellwise.specs.Slice.{fixed_one}
 use Rattle.check_cellwise.proofs.FixedPlaces.{Held, holds_one}
 use Rattle.check_cellwise.proofs.BoxesHolding.{between_holds, subarray_holds, slice_holds}
 use Rattle.check_cellwise.proofs.Parts.{length_pairs, slice_valid, part_valid}
-use Rattle.afl_types.specs.Calls.{call_of, fits_count, fits_two, ruled, ruled_two}
-use Rattle.afl_types.specs.Arrays.{AreValid}
-use Rattle.afl_types.specs.Queries.{called, query_of}
-use Rattle.afl_types.specs.declared.queries.call.Call.{Call}
-use Rattle.afl_types.specs.declared.queries.call.Call.TheVariants.{Build, Scan, Over, Two}
-use Rattle.afl_types.specs.declared.queries.call.OverSource.{OverSource}
-use Rattle.afl_types.specs.declared.queries.call.OverSource.TheVariants.{Filter, Apply, Project, Between, Subarray, Slice, Redimension, Regrid, Window, Aggregate}
-use Rattle.afl_types.specs.declared.queries.call.OverTwo.{OverTwo}
-use Rattle.afl_types.specs.declared.queries.call.OverTwo.TheVariants.{Join, CrossJoin}
+use Rattle.check_queries.specs.Calls.{call_of, fits_count, fits_two, ruled, ruled_two}
+use Rattle.check_queries.specs.Arrays.{AreValid}
+use Rattle.check_queries.specs.Content.{content_span}
+use Rattle.check_queries.specs.Queries.{called, query_of}
+use Rattle.check_queries.specs.declared.call.Call.{Call}
+use Rattle.check_queries.specs.declared.call.Call.TheVariants.{Build, Scan, Over, Two}
+use Rattle.check_queries.specs.declared.call.OverSource.{OverSource}
+use Rattle.check_queries.specs.declared.call.OverSource.TheVariants.{Filter, Apply, Project, Between, Subarray, Slice, Redimension, Regrid, Window, Aggregate}
+use Rattle.check_queries.specs.declared.call.OverTwo.{OverTwo}
+use Rattle.check_queries.specs.declared.call.OverTwo.TheVariants.{Join, CrossJoin}
 use Rattle.check_laws.proofs.TypedGroups.{regrid_typed, window_typed, aggregate_typed}
 use Rattle.check_laws.proofs.TypedJoins.{join_typed, cross_typed}
 use Rattle.check_laws.proofs.TypedMoves.{redimension_typed}
-use Rattle.afl_types.proofs.NoQuery.{nested_holds}
-use Rattle.afl_types.proofs.Small.{entry_valid}
+use Rattle.check_queries.proofs.NoQuery.{nested_holds}
+use Rattle.check_queries.proofs.Small.{entry_valid}
 use Rattle.check_literals.proofs.Limits.{are_bytes}
 use Rattle.check_laws.proofs.RowsFit.{literal_fits}
 use Rattle.check_laws.specs.Laws.{CheckedPlansAreTyped}
@@ -110,12 +111,12 @@ module _ (s : Span) (source : Query) (typed_source : IsTyped source) where
   leaf_in : (arguments : List Term) (e : Term) → AllByRecursion Leaf arguments → arguments ≡ e ∷ [] → Leaf e
   leaf_in arguments e leaves one = (subst (AllByRecursion Leaf) one leaves).0
 
-  filter_typed : (arguments : List Term) → AllByRecursion Leaf arguments → IfOk (ruled s Filter source arguments) IsTyped
-  filter_typed arguments leaves =
+  filter_typed : (at : Span) (arguments : List Term) → AllByRecursion Leaf arguments → IfOk (ruled s Filter at source arguments) IsTyped
+  filter_typed at arguments leaves =
       filter_holds IsTyped s source arguments (λ e x one t fit. (typed_source, typed_have_kinds shape.attributes shape.dimensions e x (leaf_in arguments e leaves one) t Truths fit))
 
-  apply_typed : (arguments : List Term) → AllByRecursion Leaf arguments → IfOk (ruled s Apply source arguments) IsTyped
-  apply_typed arguments leaves =
+  apply_typed : (at : Span) (arguments : List Term) → AllByRecursion Leaf arguments → IfOk (ruled s Apply at source arguments) IsTyped
+  apply_typed at arguments leaves =
       let start : Added shape [] = record { fit = refl; names = ap (λ (xs : List Attribute). are_distinct (attribute_names xs ++ dimension_names shape.dimensions)) (append-nil shape.attributes) ∙ parts.distinct } in
       let kept : IfOk (pairs_in_turn (applied_one shape) [] arguments) (Added shape) = pairs_keep Leaf (Added shape) (applied_one shape) (λ done n e leaf other added. adds shape done n e other added) [] arguments leaves start in
       apply_holds IsTyped s source arguments (λ values e within.
@@ -138,8 +139,8 @@ module _ (s : Span) (source : Query) (typed_source : IsTyped source) where
           let one = and_parts (nat_le 1 (length shape.attributes)) (nat_le (length shape.attributes) 64) parts.attributes in
           omega (arith, leb-true 1 (length shape.attributes) one.0, length-append shape.attributes (map (λ (a : Applied). derived a.name a.kind) values))
 
-  project_typed : (arguments : List Term) → IfOk (ruled s Project source arguments) IsTyped
-  project_typed arguments =
+  project_typed : (at : Span) (arguments : List Term) → IfOk (ruled s Project at source arguments) IsTyped
+  project_typed at arguments =
       let alone = (distinct_front (attribute_names shape.attributes) (dimension_names shape.dimensions) parts.distinct).0 in
       let behind = (distinct_front (attribute_names shape.attributes) (dimension_names shape.dimensions) parts.distinct).1 in
       let Kept : List ℕ → Type 0 = Chosen shape parts.distinct alone in
@@ -175,17 +176,17 @@ module _ (s : Span) (source : Query) (typed_source : IsTyped source) where
       and_from (length area.lo.items == length shape.dimensions) (length area.hi.items == length shape.dimensions)
       (eq-eqb (length area.lo.items) (length shape.dimensions) (low_length bounds e)) (eq-eqb (length area.hi.items) (length shape.dimensions) (high_length bounds e))
 
-  between_typed : (bounds : List Term) → IfOk (ruled s Between source bounds) IsTyped
-  between_typed bounds = between_holds IsTyped s source bounds (λ count. (typed_source, enough bounds count))
+  between_typed : (at : Span) (bounds : List Term) → IfOk (ruled s Between at source bounds) IsTyped
+  between_typed at bounds = between_holds IsTyped s source bounds (λ count. (typed_source, enough bounds count))
 
-  subarray_typed : (bounds : List Term) → IfOk (ruled s Subarray source bounds) IsTyped
-  subarray_typed bounds =
+  subarray_typed : (at : Span) (bounds : List Term) → IfOk (ruled s Subarray at source bounds) IsTyped
+  subarray_typed at bounds =
       let area : Bounds = box_of shape.dimensions bounds in
       subarray_holds IsTyped s source bounds (λ count order range within.
       (typed_source, enough bounds count, part_valid shape area.lo.items area.hi.items valid (low_length bounds count) (high_length bounds count) order range within))
 
-  slice_typed : (arguments : List Term) → IfOk (ruled s Slice source arguments) IsTyped
-  slice_typed arguments =
+  slice_typed : (at : Span) (arguments : List Term) → IfOk (ruled s Slice at source arguments) IsTyped
+  slice_typed at arguments =
       let Kept : List Fixed → Type 0 = Held shape.dimensions in
       let start : Kept [] = record { below = refl; apart = refl } in
       let kept : IfOk (pairs_in_turn (fixed_one shape.dimensions) [] arguments) Kept
@@ -197,37 +198,42 @@ module _ (s : Span) (source : Query) (typed_source : IsTyped source) where
         slice_valid shape (fixed_places fixed) valid (leb-true 1 (length (items_but (fixed_places fixed) 0 shape.dimensions)) some) within,
       ))
 
-ruled_typed : (s : Span) (operator : OverSource) (source : Query) (arguments : List Term) → AllByRecursion Leaf arguments → IsTyped source → IfOk (ruled s operator source arguments) IsTyped
-ruled_typed s Filter source arguments leaves t = filter_typed s source t arguments leaves
-ruled_typed s Apply source arguments leaves t = apply_typed s source t arguments leaves
-ruled_typed s Project source arguments leaves t = project_typed s source t arguments
-ruled_typed s Between source arguments leaves t = between_typed s source t arguments
-ruled_typed s Subarray source arguments leaves t = subarray_typed s source t arguments
-ruled_typed s Slice source arguments leaves t = slice_typed s source t arguments
-ruled_typed s Redimension source arguments leaves t = redimension_typed s source t arguments
-ruled_typed s Regrid source arguments leaves t = regrid_typed s source t arguments
-ruled_typed s Window source arguments leaves t = window_typed s source t arguments
-ruled_typed s Aggregate source arguments leaves t = aggregate_typed s source t arguments
+ruled_typed : (s : Span) (operator : OverSource) (at : Span) (source : Query) (arguments : List Term) → AllByRecursion Leaf arguments → IsTyped source
+    → IfOk (ruled s operator at source arguments) IsTyped
+ruled_typed s Filter at source arguments leaves t = filter_typed s source t at arguments leaves
+ruled_typed s Apply at source arguments leaves t = apply_typed s source t at arguments leaves
+ruled_typed s Project at source arguments leaves t = project_typed s source t at arguments
+ruled_typed s Between at source arguments leaves t = between_typed s source t at arguments
+ruled_typed s Subarray at source arguments leaves t = subarray_typed s source t at arguments
+ruled_typed s Slice at source arguments leaves t = slice_typed s source t at arguments
+ruled_typed s Redimension at source arguments leaves t = redimension_typed s source t arguments
+ruled_typed s Regrid at source arguments leaves t = regrid_typed s source t arguments
+ruled_typed s Window at source arguments leaves t = window_typed s source t arguments
+ruled_typed s Aggregate at source arguments leaves t = aggregate_typed s source t arguments
 
-ruled_two_typed : (s : Span) (operator : OverTwo) (left right : Query) (arguments : List Term) → IsTyped left → IsTyped right → IfOk (ruled_two s operator left right arguments) IsTyped
-ruled_two_typed s Join left right arguments l r = join_typed s left right l r
-ruled_two_typed s CrossJoin left right arguments l r = cross_typed s left right l r arguments
+ruled_two_typed : (s : Span) (operator : OverTwo) (at : Span) (left right : Query) (arguments : List Term) → IsTyped left → IsTyped right
+    → IfOk (ruled_two s operator at left right arguments) IsTyped
+ruled_two_typed s Join at left right arguments l r = join_typed s left right l r
+ruled_two_typed s CrossJoin at left right arguments l r = cross_typed s left right l r arguments
 
 module _ (arrays : List NameEntry) (stored : AreValid arrays) where
   over_typed : (s : Span) (operator : OverSource) (arguments : Terms) (t : Term) → IsTrue (all_leaves_fit arguments) → IfOk (query_of arrays t) IsTyped
-      → IfOk (demand (fits_count operator (length (to_list arguments))) s WrongCount (then (query_of arrays t) (λ plan. ruled s operator plan (to_list arguments)))) IsTyped
+      → IfOk (demand (fits_count operator (length (to_list arguments))) s WrongCount (then (query_of arrays t)
+      (λ plan. ruled s operator (content_span t) plan (to_list arguments)))) IsTyped
   over_typed s operator arguments t leaves h =
       demanded IsTyped (fits_count operator (length (to_list arguments))) s WrongCount _ (λ count.
       thens IsTyped (query_of arrays t) _ (λ plan e.
-      ruled_typed s operator plan (to_list arguments) (leaves_of arguments leaves) (of_answer IsTyped (query_of arrays t) plan h e)))
+      ruled_typed s operator (content_span t) plan (to_list arguments) (leaves_of arguments leaves) (of_answer IsTyped (query_of arrays t) plan h e)))
 
   over_two_typed : (s : Span) (operator : OverTwo) (arguments : Terms) (x y : Term) → IfOk (query_of arrays x) IsTyped → IfOk (query_of arrays y) IsTyped
-      → IfOk (demand (fits_two operator (length (to_list arguments))) s WrongCount (then (query_of arrays x) (λ l. then (query_of arrays y) (λ r. ruled_two s operator l r (to_list arguments))))) IsTyped
+      → IfOk (demand (fits_two operator (length (to_list arguments))) s WrongCount (then (query_of arrays x)
+      (λ l. then (query_of arrays y) (λ r. ruled_two s operator (content_span x) l r (to_list arguments))))) IsTyped
   over_two_typed s operator arguments x y h k =
       demanded IsTyped (fits_two operator (length (to_list arguments))) s WrongCount _ (λ count.
       thens IsTyped (query_of arrays x) _ (λ l e.
       thens IsTyped (query_of arrays y) _ (λ r f.
-      ruled_two_typed s operator l r (to_list arguments) (of_answer IsTyped (query_of arrays x) l h e) (of_answer IsTyped (query_of arrays y) r k f))))
+      ruled_two_typed s operator (content_span x) l r (to_list arguments) (of_answer IsTyped (query_of arrays x) l h e)
+      (of_answer IsTyped (query_of arrays y) r k f))))
 
   mutual
     query_typed : (t : Term) → Leaf t → IfOk (query_of arrays t) IsTyped

@@ -1,3 +1,7 @@
 pub mod Events
+pub mod Keeping
+pub mod Noted
+pub mod Notes
+pub mod Opened
 pub mod Pins
 pub mod Tried

@@ -25,7 +25,7 @@ no_pass true false c e = refl
 no_pass false b c e = refl
 
 -- no note stands under a pin that has just begun
-unnoted : (kind : NoteKind) (pin : OpenPin) (count : ℕ) (notes : List Note) → count ≡ length pin.before → list_all (λ note. nat_le note.after count) notes ≡ true → has_note kind notes pin ≡ false
+pub unnoted : (kind : NoteKind) (pin : OpenPin) (count : ℕ) (notes : List Note) → count ≡ length pin.before → list_all (λ note. nat_le note.after count) notes ≡ true → has_note kind notes pin ≡ false
 unnoted kind pin count [] e within = refl
 unnoted kind pin count (note ∷ notes) e within =
     let p : (nat_le note.after count ≡ true) × (list_all (λ other. nat_le other.after count) notes ≡ true) = and_parts (nat_le note.after count) (list_all (λ other. nat_le other.after count) notes) within in
@@ -33,7 +33,7 @@ unnoted kind pin count (note ∷ notes) e within =
     (no_pass (nat_eq note.session pin.session) (is_kind kind note.kind) (nat_lt (length pin.before) note.after) (ap (λ k. nat_lt k note.after) (sym e) ∙ late note.after count p.0))
     (unnoted kind pin count notes e p.1)
 
-one_more : (entries : List Entry) (entry : Entry) → reverse (entries ++ entry ∷ []) ≡ entry ∷ reverse entries
+pub one_more : (entries : List Entry) (entry : Entry) → reverse (entries ++ entry ∷ []) ≡ entry ∷ reverse entries
 one_more entries entry = reverse-append entries (entry ∷ [])
 
 pub pins_reserve_three : PinsReserveThree

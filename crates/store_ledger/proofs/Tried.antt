@@ -33,7 +33,7 @@ same_at f g pin true pins one rest = rest
 same_at f g pin false pins one rest = sum_by-cons f pin pins ∙ ap (λ (n : ℕ). n + sum_by f pins) (one refl) ∙ ap (λ (n : ℕ). g pin + n) rest ∙ sym (sum_by-cons g pin pins)
 
 -- two sums over the pins that fail a test agree where their terms do
-same_sum : (f g : OpenPin → ℕ) (t : OpenPin → Bool) → ((pin : OpenPin) → t pin ≡ false → f pin ≡ g pin) → (pins : List OpenPin) →
+pub same_sum : (f g : OpenPin → ℕ) (t : OpenPin → Bool) → ((pin : OpenPin) → t pin ≡ false → f pin ≡ g pin) → (pins : List OpenPin) →
     sum_by f (filter (λ pin. not (t pin)) pins) ≡ sum_by g (filter (λ pin. not (t pin)) pins)
 same_sum f g t one [] = refl
 same_sum f g t one (pin ∷ pins) = same_at f g pin (t pin) (filter (λ other. not (t other)) pins) (one pin) (same_sum f g t one pins)

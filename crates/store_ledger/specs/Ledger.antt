@@ -1,15 +1,19 @@
 -- The ledger of a store: a history, notes, and the entries that open pins reserve.
-use Rattle.std.specs.Prelude.{◌≡◌, ◌≤◌, ◌+◌, ℕ, Bool, true, false, ◌&&◌, if◌then◌else◌, nat_eq, nat_le, nat_lt, List, [], ◌∷◌, ◌++◌, length, map, reverse, Option, None, Some, IfSome, IsTrue}
+use Rattle.std.specs.Prelude.{◌≡◌, ◌≤◌, ◌+◌, ℕ, Bool, true, false, not, ◌&&◌, if◌then◌else◌, nat_eq, nat_le, nat_lt, List, [], ◌∷◌, ◌++◌, length, map, reverse, Option, None, Some, IfSome, IsTrue}
 use Rattle.std.specs.List.{filter, list_all, list_any, sum_by}
 use Rattle.event_core.specs.declared.entry.Entry.{Entry}
 use Rattle.event_core.specs.declared.entry.Entry.TheVariants.{Pin, Unpin, Commit, Reap}
 use Rattle.event_core.specs.declared.state.Core.{Core}
+use Rattle.version_reaper.specs.PageSets.{pages_below}
 use Rattle.event_core.specs.Allowed.{is_pinned}
+use Rattle.event_core.specs.Pages.{is_live, is_awaiting}
 use Rattle.event_core.specs.History.{History, OpenPin, names_at, open_pins, pin_before, up_to}
 use Rattle.store_ledger.specs.declared.note.Note.{Note}
 use Rattle.store_ledger.specs.declared.note.NoteKind.{NoteKind}
 use Rattle.store_ledger.specs.declared.note.NoteKind.TheVariants.{Fault, Tried}
 use Rattle.store_ledger.specs.declared.pinned.Pinned.{Pinned}
+use Rattle.store_ledger.specs.declared.pinned.PinFault.{PinFault}
+use Rattle.store_ledger.specs.declared.pinned.PinFault.TheVariants.{HistoryFull, Memory}
 
 -- a ledger as contracts see it: where it began, how many entries it may have, its entries and its notes, the oldest first
 pub record LedgerState : Type 0 where
@@ -80,6 +84,21 @@ pub record IsOpenPin (ledger : LedgerState) (pinned : Pinned) : Type 0 where
   pub begun : pin_before pinned.session (history ledger) ≡ Some before
   pub place : pinned.place ≡ length before
   pub names : pinned.names ≡ names_at ledger.base before
+
+-- why a pin is refused: the history has no room for it and for what it would reserve, or memory is short
+abbrev pub IsRefused : LedgerState → PinFault → Type 0
+IsRefused ledger (HistoryFull entries) = (has_room ledger 4 ≡ false) × (entries ≡ length ledger.entries)
+IsRefused ledger Memory = IsTrue (has_room ledger 4)
+
+-- ---- pages
+
+-- the pages from 1 on that nobody can name
+abbrev pub unused_pages : LedgerState → List ℕ
+unused_pages ledger = filter (λ page. not (is_live ledger.base (history ledger) page)) (pages_below ledger.base.limit)
+
+-- whether a reap comes: some page awaits it, and the history has room for it
+abbrev pub reap_comes : LedgerState → Bool
+reap_comes ledger = has_room ledger 1 && list_any (is_awaiting ledger.base (history ledger)) (pages_below ledger.base.limit)
 
 -- ---- events
 

@@ -1,12 +1,19 @@
 //! The ledger of a store: its entries, its notes, and the room that open pins have reserved.
 #![tactic(auto)]
 
+mod commits;
 mod laws;
+mod ledger;
 mod note;
+mod noting;
 mod pinned;
+mod pinning;
+mod reaping;
 
+pub use commits::ReadyCommit;
 pub use laws::{
     events_only_grow, open_pins_outlast, pins_reserve_three, tried_gives_two_back, unpins_give_back,
 };
+pub use ledger::Ledger;
 pub use note::{Note, NoteKind};
-pub use pinned::Pinned;
+pub use pinned::{PinFault, Pinned};

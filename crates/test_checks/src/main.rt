@@ -5,7 +5,7 @@
 //! over other arrays: as many as there may be, and an array with a number for one more version or for none.
 #![tactic(auto)]
 
-ghost use Rattle.afl_types.specs.Arrays.{AreValid};
+ghost use Rattle.check_queries.specs.Arrays.{AreValid};
 
 mod stored;
 mod told;

@@ -1,7 +1,7 @@
 //! The stored arrays that statements may speak of.
 ghost use Rattle.std.specs.Prelude.{◌≤◌, length, IfSome, OnSome};
 ghost use Rattle.cell_values.specs.Schemas.{IsValid};
-ghost use Rattle.afl_types.specs.Arrays.{AreValid};
+ghost use Rattle.check_queries.specs.Arrays.{AreValid};
 
 use afl_parser::parse;
 use afl_trees::Node;

@@ -96,3 +96,19 @@ pub fn push_number(out: &mut String, at: &ChunkAt) -> Result<(), AllocError> {
     }
     out.push(']')
 }
+
+/// Adds the number of a chunk, and the cell at each of its positions.
+pub fn push_chunk(
+    out: &mut String,
+    at: &ChunkAt,
+    positions: &[u64],
+    cells: &[Cell],
+) -> Result<(), AllocError> {
+    out.push_str("chunk ")?;
+    push_number(out, at)?;
+    for (position, cell) in positions.iter().zip(cells) {
+        write!(out, ", at {position}")?;
+        push_cell(out, cell)?;
+    }
+    out.push('\n')
+}

@@ -1,6 +1,5 @@
 //! What a file opens as.
 
-use crate::files::{disk_of, open};
 use afl_outside::Disk;
 use anyhow::Result;
 use cell_values::Bytes;
@@ -8,6 +7,7 @@ use page_chain::OpenCause;
 use page_file::PageFile;
 use page_layout::Slot;
 use std::alloc::Global;
+use test_files::{disk_of, open};
 
 fn tell_target(rt: &impl Print, slot: Slot) -> Result<()> {
     match slot {

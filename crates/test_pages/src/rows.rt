@@ -1,12 +1,11 @@
 //! Files with known bytes, and what they open as.
 
-use crate::commits::commit_base;
-use crate::files::{bytes_of, changed, cut, disk_of, made, of_format_one, open};
 use crate::opens::tell_open;
 use afl_outside::{Disk, Failed};
 use anyhow::Result;
 use cell_values::{Bytes, List, Memory};
 use std::alloc::Global;
+use test_files::{bytes_of, changed, commit_base, cut, disk_of, made, of_format_one, open};
 
 /// Prints the length of a file, and each byte of it that isn't 0 behind its place.
 fn tell_bytes(rt: &impl Print, title: &str, file: &Bytes) -> Result<()> {

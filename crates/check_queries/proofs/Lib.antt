@@ -1,0 +1,4 @@
+pub mod NoQuery
+pub mod Small
+pub mod Sources
+mod WorkedQueries

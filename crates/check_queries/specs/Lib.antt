@@ -1,0 +1,9 @@
+pub mod Arrays
+pub mod Calls
+pub mod Content
+pub mod GroupCalls
+pub mod Inner
+pub mod JoinCalls
+pub mod MovedCalls
+pub mod Nested
+pub mod Queries

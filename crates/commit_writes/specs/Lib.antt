@@ -1,0 +1,4 @@
+pub mod Commits
+pub mod Examples
+pub mod Inner
+pub mod Moments

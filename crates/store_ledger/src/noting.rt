@@ -1,0 +1,67 @@
+//! Notes that stand under a pin, and new ones.
+ghost use Rattle.std.specs.Prelude.{false, [], ◌∷◌, length, IfSome, IsTrue, ◌≡◌, ◌&&◌, if◌then◌else◌, nat_eq, nat_lt};
+ghost use Rattle.std.specs.List.{list_any};
+ghost use Rattle.store_ledger.specs.declared.note.NoteKind.TheVariants.{Fault, Tried};
+ghost use Rattle.event_core.specs.Allowed.{is_pinned};
+ghost use Rattle.event_core.specs.History.{pin_before};
+ghost use Rattle.store_ledger.specs.Ledger.{has_note, history, is_kind, with_notes};
+
+use crate::{Ledger, Note, NoteKind};
+
+fn is_try(kind: NoteKind) -> bool
+    ensures { result ≡ is_kind Tried kind }
+{
+    match kind {
+        NoteKind::Fault => false,
+        NoteKind::Tried => true,
+    }
+}
+
+/// Whether a session tried a commit under its pin of a place.
+fn is_tried(notes: &[Note], session: u32, place: u64) -> bool
+    ensures { result ≡ list_any (λ note. nat_eq note.session session && (is_kind Tried note.kind && nat_lt place note.after)) notes.now }
+{
+    notes.iter().any(|note| note.session == session && is_try(note.kind) && place < note.after)
+}
+
+/// How many entries the pin of a session and a place reserves.
+pub(crate) fn reserved_under(notes: &[Note], session: u32, place: u64) -> u32
+    ensures { result ≡ (if list_any (λ note. nat_eq note.session session && (is_kind Tried note.kind && nat_lt place note.after)) notes.now then 1 else 3) }
+{
+    if is_tried(notes, session, place) {
+        1
+    } else {
+        3
+    }
+}
+
+impl Ledger {
+    /// The first note that the device failed under a session's pin. This takes no memory.
+    pub fn note_fault(&mut self, session: u32)
+        requires pinned { IsTrue (is_pinned session (history self.old)) }
+        requires first { IfSome (pin_before session (history self.old)) (λ before. has_note Fault self.old.notes (record { session = session; before = before }) ≡ false) }
+        ensures { self.new ≡ with_notes (record { session = session; kind = Fault; after = length self.old.entries } ∷ []) self.old }
+    {
+        let after = self.entries.len() as u64;
+        self.notes.push_reserved(Note {
+            session,
+            kind: NoteKind::Fault,
+            after,
+        });
+    }
+
+    /// The note that a commit is tried under a session's pin, which gives back two of the entries that the pin reserved. This takes no memory.
+    pub fn note_tried(&mut self, session: u32)
+        requires pinned { IsTrue (is_pinned session (history self.old)) }
+        requires first { IfSome (pin_before session (history self.old)) (λ before. has_note Tried self.old.notes (record { session = session; before = before }) ≡ false) }
+        ensures { self.new ≡ with_notes (record { session = session; kind = Tried; after = length self.old.entries } ∷ []) self.old }
+    {
+        let after = self.entries.len() as u64;
+        self.notes.push_reserved(Note {
+            session,
+            kind: NoteKind::Tried,
+            after,
+        });
+        self.reserved -= 2;
+    }
+}

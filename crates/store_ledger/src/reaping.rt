@@ -1,0 +1,50 @@
+//! Reaps.
+ghost use Rattle.std.specs.Prelude.{◌≡◌, ◌≤◌, ◌<◌, ◌+◌, ◌-◌, ◌^◌, [], ◌∷◌, ◌++◌, length, if◌then◌else◌, vec_capacity, IfOk, OnOk, OnErr};
+ghost use Rattle.event_core.specs.declared.entry.Entry.TheVariants.{Reap};
+ghost use Rattle.event_core.specs.Replay.{core_after};
+ghost use Rattle.store_ledger.specs.Ledger.{reap_comes, with_entries};
+
+use crate::Ledger;
+use cell_values::Memory;
+use event_core::{Core, Entry};
+
+/// A reap in the core and behind the entries, and room for so many entries more than stood.
+fn append_reap(core: &mut Core, entries: &mut Vec<Entry>, count: usize) -> Result<(), Memory>
+    requires small { core.old.entries < 2 ^ 64 - 1 }
+    requires some { 0 < count }
+    ensures core { OnOk result (core.new ≡ core_after core.old Reap) }
+    ensures entries { OnOk result (entries.new.items ≡ entries.old.items ++ Reap ∷ []) }
+    ensures room { OnOk result (length entries.old.items + count ≤ vec_capacity entries.new) }
+    ensures grows { vec_capacity entries.old ≤ vec_capacity entries.new }
+    ensures err { OnErr result ((core.new ≡ core.old) × (entries.new.items ≡ entries.old.items)) }
+{
+    entries.reserve(count)?;
+    core.reap()?;
+    entries.push_reserved(Entry::Reap);
+    Ok(())
+}
+
+impl Ledger {
+    /// Whether some page would become free, and the history has room for that.
+    fn reap_comes(&mut self) -> bool
+        ensures comes { result ≡ reap_comes self.old }
+        ensures same { self.new ≡ self.old }
+    {
+        self.has_room(1) && self.core.would_free(&mut self.pages)
+    }
+
+    /// All pages that nobody can name become free, if that frees one and the history has room for it. The answer tells whether.
+    pub fn reap(&mut self) -> Result<bool, Memory>
+        ensures comes { IfOk result (λ comes. comes ≡ reap_comes self.old) }
+        ensures ok { IfOk result (λ comes. self.new ≡ (if comes then with_entries (Reap ∷ []) self.old else self.old)) }
+        ensures err { OnErr result (self.new ≡ self.old) }
+    {
+        if !self.reap_comes() {
+            return Ok(false);
+        }
+        // No pin takes more than twice as many entries as it reserves.
+        let count = 2 * self.reserved as usize + 1;
+        append_reap(&mut self.core, &mut self.entries, count)?;
+        Ok(true)
+    }
+}

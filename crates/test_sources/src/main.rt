@@ -1,0 +1,60 @@
+//! Tells for each line of standard input what sources of an array of two cells give.
+//!
+//! `leaf` and `filter` read the array from a source in memory whose calls with these numbers, from 0, fail, or, behind
+//! `sure`, from one that never fails: alone in chunks of two places, and under a filter in chunks of one place, of two and of
+//! all. They tell the chunks, and which chunks were asked for.
+#![tactic(auto)]
+
+mod example;
+mod layout;
+mod leaves;
+mod plans;
+mod show;
+
+use anyhow::Result;
+use cell_values::Memory;
+use layout::layout_of;
+use leaves::{push_failing, push_sure};
+use plans::{push_failing_filter, push_sure_filter};
+
+/// The numbers of the calls that are to fail.
+fn numbers_in(out: &String, words: &[&str]) -> Result<Vec<u64>, Memory> {
+    let mut numbers = Vec::new(*out.allocator());
+    for word in words {
+        numbers.push(word.parse::<u64>().unwrap_or(0))?;
+    }
+    Ok(numbers)
+}
+
+/// Adds the answer to the words of a line.
+fn push_answer(out: &mut String, words: &[&str]) -> Result<(), Memory> {
+    match words {
+        ["leaf", fails @ ..] => push_failing(out, &numbers_in(out, fails)?),
+        ["sure", "leaf"] => push_sure(out),
+        ["filter", layout, fails @ ..] => {
+            push_failing_filter(out, layout_of(layout), &numbers_in(out, fails)?)
+        }
+        ["sure", "filter", layout] => push_sure_filter(out, layout_of(layout)),
+        _ => Ok(()),
+    }
+}
+
+/// Prints a title, or a line and its answer.
+fn tell(rt: &(impl Print + AllocGlobal), line: &str) -> Result<()> {
+    if line.starts_with("##") {
+        println!(rt; "{line}")?;
+        return Ok(());
+    }
+    let words: Vec<&str> = line.split_whitespace().collect(rt.alloc())?;
+    let mut answer = String::new(rt.alloc());
+    push_answer(&mut answer, words.as_slice())?;
+    print!(rt; "> {line}\n{answer}")?;
+    Ok(())
+}
+
+fn main(rt: HostRuntime) -> Result<()> {
+    for line in rt.lines(rt.alloc()) {
+        tell(&rt, line?.as_str())?;
+    }
+    Ok(())
+}

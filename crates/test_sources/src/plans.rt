@@ -1,0 +1,75 @@
+//! A filter over the array, executed over a source.
+ghost use Rattle.std.specs.Prelude.{◌≡◌, None, IfOk};
+ghost use Rattle.chunk_exec.specs.Computed.{CanCompute};
+ghost use Rattle.chunk_source.specs.Source.{Reads};
+ghost use Rattle.test_sources.specs.Example.{above_five, leaf};
+
+use crate::example::{example_leaf, failing_source, sure_source};
+use crate::layout::Layout;
+use crate::show::{push_array, push_asked, push_cause, push_cells, push_faults};
+use afl_outside::OpenGate;
+use cell_values::{CompareOp, Datum, Memory};
+use chunk_exec::execute;
+use chunk_source::ChunkSource;
+use expr_nulls::TypedExpr;
+use logical_plan::{Plan, let_go};
+use std::alloc::Global;
+
+/// `filter(a, v>5)`
+fn above_five(alloc: Global, layout: Layout) -> Result<Plan, Memory>
+    ensures { IfOk result (λ plan. plan ≡ above_five layout) }
+{
+    let leaf = example_leaf(alloc, layout)?;
+    let five = TypedExpr::lit(Datum::Int(5));
+    let test = TypedExpr::compare(alloc, CompareOp::More, TypedExpr::attr(0), five)?;
+    Plan::filter(alloc, Plan::scan(leaf), test)
+}
+
+/// Executes a plan, and adds its chunks or why there are none, and how often the source has failed.
+fn push_plan<S: ChunkSource>(out: &mut String, source: &mut S, plan: &Plan) -> Result<(), Memory>
+    requires undamaged { (S.state source.old).damaged ≡ None }
+    requires can { CanCompute (S.state source.old) plan.now }
+{
+    match execute(*out.allocator(), plan, source, 1, 0, &OpenGate) {
+        Ok(array) => {
+            push_array(out, &array)?;
+            push_cells(out, &array)?;
+        }
+        Err(cause) => push_cause(out, cause)?,
+    }
+    push_faults(out, source)
+}
+
+/// Executes the filter over a source that has the array.
+#[tactic(auto, using(crate::proofs::Executed::can_compute))]
+fn push_filter<S: ChunkSource>(
+    out: &mut String,
+    source: &mut S,
+    layout: Layout,
+) -> Result<(), Memory>
+    requires undamaged { (S.state source.old).damaged ≡ None }
+    requires reads { Reads (S.state source.old) (leaf layout) }
+{
+    let plan = above_five(*out.allocator(), layout)?;
+    let told = push_plan(out, source, &plan);
+    let_go(plan);
+    told
+}
+
+/// The filter over a source, some of whose calls fail.
+pub(crate) fn push_failing_filter(
+    out: &mut String,
+    layout: Layout,
+    fails: &[u64],
+) -> Result<(), Memory> {
+    let mut source = failing_source(*out.allocator(), layout, fails)?;
+    push_filter(out, &mut source, layout)?;
+    push_asked(out, source.asked())
+}
+
+/// The filter over a source that never fails.
+pub(crate) fn push_sure_filter(out: &mut String, layout: Layout) -> Result<(), Memory> {
+    let mut source = sure_source(*out.allocator(), layout)?;
+    push_filter(out, &mut source, layout)?;
+    push_asked(out, source.asked())
+}
