@@ -15,7 +15,7 @@ use Rattle.page_chain.specs.Chains.{content_size, HoldsChain}
 use Rattle.page_chain.specs.Links.{AreFree}
 use Rattle.chunk_map.specs.declared.directory.DirEntry.{DirEntry}
 use Rattle.chunk_map.specs.declared.directory.Directory.{Directory}
-use Rattle.chunk_map.specs.Entries.{numbers}
+use Rattle.chunk_map.specs.Entries.{numbers, AreRising}
 use Rattle.chunk_map.specs.Spelling.{IsDirectory, spelling}
 use Rattle.logical_plan.specs.declared.names.NameEntry.{NameEntry}
 use Rattle.plan_changes.specs.declared.change.Change.{Change}
@@ -98,14 +98,18 @@ pub record HoldsMade (old new : List ℕ) (seen : List DirEntry) (sequence : ℕ
   pub listed : (k : ChunkNumber) → length k ≡ length schema.dimensions → is_listed k (numbers made.directory.entries) ≡ has_cell schema.dimensions rows k
   pub payloads : AllByRecursion (λ entry. HoldsEntry old new schema rows entry (is_seen seen entry)) made.directory.entries
 
--- a new version comes with a change that makes one, and with no other
-abbrev pub HoldsVersionOf : List ℕ → List ℕ → List DirEntry → ℕ → Database → Change → Option Made → Type 0
-HoldsVersionOf old new seen sequence db (Store name schema plan) (Some made) = HoldsMade old new seen sequence schema (new_rows db (Store name schema plan)) made
-HoldsVersionOf old new seen sequence db (Store name schema plan) None = ⊥
-HoldsVersionOf old new seen sequence db (Insert name schema plan) (Some made) = HoldsMade old new seen sequence schema (new_rows db (Insert name schema plan)) made
-HoldsVersionOf old new seen sequence db (Insert name schema plan) None = ⊥
-HoldsVersionOf old new seen sequence db change (Some made) = ⊥
-HoldsVersionOf old new seen sequence db change None = Unit {0}
+-- A change that makes a version comes with it, and this holds of its schema, its rows and its directory. No other change does.
+abbrev pub OfVersion : (Schema → List Row → Made → Type 0) → Database → Change → Option Made → Type 0
+OfVersion P db (Store name schema plan) (Some made) = P schema (new_rows db (Store name schema plan)) made
+OfVersion P db (Store name schema plan) None = ⊥
+OfVersion P db (Insert name schema plan) (Some made) = P schema (new_rows db (Insert name schema plan)) made
+OfVersion P db (Insert name schema plan) None = ⊥
+OfVersion P db change (Some made) = ⊥
+OfVersion P db change None = Unit {0}
+
+-- the entries of each directory that was found rise
+abbrev pub AllRise : Found → Type 0
+AllRise found = AllByRecursion (AllByRecursion (λ directory. AreRising directory.entries)) found.directories
 
 -- ---- a record
 
@@ -121,11 +125,12 @@ slots_with slots at = record { current = slots.current; records = slots.records 
 pub record HoldsRecord (written old new : List ℕ) (slots : Slots) (found : Found) (db : Database) (change : Change) (made : Option Made) (pages : List ℕ) (entry : CatalogRecord) : Type 0 where
   pub kept : KeepsPages (slots.current.root.log ∷ written) old new
   pub apart : AllByRecursion (IsNone written) (pages_of found)
+  pub rising : AllRise found
   pub free : AreFree (slots.current.root.log ∷ pages_of found) (pages ++ made_pages (seen_before found change) made)
   pub is_its : record_for found.catalog change (blob_of made) ≡ Some entry
   pub is_record : IsRecord entry
   pub chained : HasChain new pages (spell_record entry)
-  pub version : HoldsVersionOf old new (seen_before found change) (sequence_of slots + 1) db change made
+  pub version : OfVersion (HoldsMade old new (seen_before found change) (sequence_of slots + 1)) db change made
 
 -- ---- a new base
 
@@ -141,8 +146,9 @@ slots_of side root = record { current = record { side = side; format = Two; root
 pub record HoldsBase (written old new : List ℕ) (slots : Slots) (found : Found) (db : Database) (change : Change) (made : Option Made) (pages : List ℕ) (sequence log : ℕ) : Type 0 where
   pub kept : KeepsPages (0 ∷ written) old new
   pub apart : AllByRecursion (IsNone written) (pages_of found)
+  pub rising : AllRise found
   pub free : AreFree (pages_of found) (log ∷ pages ++ made_pages (seen_before found change) made)
   pub is_catalog : IsCatalog (after_change found.catalog change (blob_of made))
   pub chained : HasChain new pages (catalog_spelling (after_change found.catalog change (blob_of made)))
-  pub version : HoldsVersionOf old new (seen_before found change) sequence db change made
+  pub version : OfVersion (HoldsMade old new (seen_before found change) sequence) db change made
   pub later : sequence_of slots ≤ sequence

@@ -1,0 +1,14 @@
+mod Appended
+mod BySlots
+mod Cut
+mod Follow
+mod Free
+mod Held
+mod Later
+mod Lists
+mod Logged
+mod Rows
+mod Same
+mod Shed
+mod Taken
+mod Version
