@@ -1,4 +1,6 @@
 mod Appended
+mod Base
+mod Both
 mod BySlots
 mod Cut
 mod Follow
@@ -7,6 +9,7 @@ mod Held
 mod Later
 mod Lists
 mod Logged
+mod Record
 mod Rows
 mod Same
 mod Shed

@@ -48,10 +48,10 @@ pub rows_insert : (extra file : List ℕ) (rules : Rules) (name : List ℕ) (sch
     → AllByRecursion (IsNone extra) (all_pages arrays rows) → rows_in file rules less (insert arrays i (record { entry = new_entry name schema; directories = [] })) ≡ Ok (insert rows i [])
 rows_insert extra file rules name schema [] zero more less rows is beside apart =
     let none : [] ≡ rows = cc in
-    subst (λ (rs : List (List Directory)). Ok ([] ∷ []) ≡ Ok (insert rs 0 [])) none refl
+    subst (λ (rs : List (List Directory)). rows_in file rules less (insert [] 0 (record { entry = new_entry name schema; directories = [] })) ≡ Ok (insert rs 0 [])) none refl
 rows_insert extra file rules name schema [] (suc i) more less rows is beside apart =
     let none : [] ≡ rows = cc in
-    subst (λ (rs : List (List Directory)). Ok ([] ∷ []) ≡ Ok (insert rs (suc i) [])) none refl
+    subst (λ (rs : List (List Directory)). rows_in file rules less (insert [] (suc i) (record { entry = new_entry name schema; directories = [] })) ≡ Ok (insert rs (suc i) [])) none refl
 rows_insert extra file rules name schema (array ∷ arrays) zero more less rows is beside apart =
     then_is (rows_in file rules less (array ∷ arrays)) (λ later. Ok ([] ∷ later)) rows (rows_fewer extra file rules (array ∷ arrays) more less rows apart beside is)
 rows_insert extra file rules name schema (array ∷ arrays) (suc i) more less rows is beside apart =

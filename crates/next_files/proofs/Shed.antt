@@ -49,8 +49,8 @@ or_right true b is = refl
 or_right false b is = is
 
 clash : (b : Bool) → b ≡ true → b ≡ false → ⊥
-clash true yes other = cc
-clash false yes other = cc
+clash true is not_so = cc
+clash false is not_so = cc
 
 -- ---- more pages, more entries
 
