@@ -106,7 +106,7 @@ bases_make_next written old new slots found db change made pages sequence log si
     let same : sequence_of (slots_of side root) ≡ sequence = omega arith in
     let version : OfVersion (HoldsMade old new seen other.sequence) db change made = subst (λ (n : ℕ). OfVersion (HoldsMade old new seen n) db change made) (sym same) holds.version in
     let fresh = made_fresh new found log pages all holds.free (pages_there old new other.sequence seen db change made version) in
-    let next = is_next (0 ∷ written) old new ((log ∷ pages) ++ all) (pages ++ log ∷ []) slots found db change made other holds.kept stands.database may holds.rising once_more steps (omega (arith, same, holds.later))
+    let next = is_next (0 ∷ written) old new ((log ∷ pages) ++ all) (pages ++ log ∷ []) slots found db change made other holds.kept stands.database may once_more steps (omega (arith, same, holds.later))
     (beside_new new steps.logged.taken log pages all) (stored_none found ((log ∷ pages) ++ all) holds.free) fresh version in
     let c = chain_read new (log ∷ []) pages bytes 0 holds.chained.held (chain_free found log pages all holds.free) (some_bytes catalog) holds.chained.enough in
     record {

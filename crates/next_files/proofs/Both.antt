@@ -9,13 +9,14 @@ use Rattle.page_chain.specs.Pages.{page_size, has_page, first_past}
 use Rattle.page_chain.specs.Chains.{names_page}
 use Rattle.chunk_map.specs.declared.directory.DirEntry.{DirEntry}
 use Rattle.chunk_map.specs.declared.directory.Directory.{Directory}
+use Rattle.chunk_map.specs.Entries.{AreRising}
 use Rattle.logical_plan.specs.declared.names.NameEntry.{NameEntry}
 use Rattle.logical_plan.specs.declared.names.Names.{Names}
 use Rattle.plan_changes.specs.declared.change.Change.{Change}
 use Rattle.plan_changes.specs.declared.change.Change.TheVariants.{Create, Store, Insert, Remove, RemoveVersions}
 use Rattle.plan_changes.specs.Changes.{name_of}
 use Rattle.plan_changes.specs.Databases.{Database, entry_of, names_of, new_rows, after}
-use Rattle.plan_changes.specs.Stored.{IsDatabase}
+use Rattle.plan_changes.specs.Stored.{IsDatabase, IsStored}
 use Rattle.plan_changes.proofs.DatabaseLaws.{changes_keep_databases}
 use Rattle.version_catalog.specs.declared.rules.catalog.CatalogArray.{CatalogArray}
 use Rattle.version_catalog.specs.declared.rules.catalog.Catalog.{Catalog}
@@ -31,13 +32,14 @@ use Rattle.file_laws.proofs.Apart.{both_all}
 use Rattle.file_laws.proofs.Elsewhere.{AreApart, AreThere, IsKept, found_again, FoundSteps, holds_still}
 use Rattle.file_laws.proofs.More.{Beside}
 use Rattle.next_files.specs.Next.{Made, blob_of, rows_after}
-use Rattle.next_files.specs.Premises.{StandsBy, MayChange, OfVersion, HoldsMade, seen_before, made_pages, row_of, AllRise}
+use Rattle.next_files.specs.Premises.{StandsBy, MayChange, OfVersion, HoldsMade, seen_before, made_pages, row_of}
 use Rattle.next_files.proofs.Free.{AreNamed, Differ, weaker, names_none}
 use Rattle.next_files.proofs.Later.{rows_later}
 use Rattle.next_files.proofs.Taken.{ArePaged, rows_paged}
 use Rattle.next_files.proofs.Appended.{entries_in, fresh_pages}
 use Rattle.next_files.proofs.Follow.{Before, Fresh, rows_follow, versions_follow}
 use Rattle.next_files.proofs.Lists.{all_row, all_entries}
+use Rattle.next_files.proofs.Rising.{rows_rise}
 use Rattle.next_files.proofs.Version.{AreKept, new_of, held_of, made_there}
 
 -- what was found is found in the new file, and is the database's there
@@ -92,6 +94,12 @@ pages_there old new sequence seen db (Insert name schema plan) (Some made) of =
 pages_there old new sequence seen db (Remove name) (Some made) of = absurd of
 pages_there old new sequence seen db (RemoveVersions name below) (Some made) of = absurd of
 
+-- the directories of a database's catalogue rise
+pub directories_rise : (file : List ℕ) (rules : Rules) (taken : List ℕ) (db : Database) (found : Found) → IsDatabase db → names_in found.catalog ≡ names_of db → rows_in file rules taken found.catalog.arrays ≡ Ok found.directories
+    → AllByRecursion (AllByRecursion (λ d. AreRising d.entries)) found.directories
+directories_rise file rules taken db found database names is =
+    rows_rise file rules found.catalog.arrays taken found.directories (subst (λ (n : Names). AllByRecursion IsStored n.arrays) (sym names) database.names.each) is
+
 -- what is next in a file
 pub record IsNext (new : List ℕ) (other : Rules) (less : List ℕ) (found : Found) (db : Database) (change : Change) (made : Option Made) : Type 0 where
   pub rows : rows_in new other less (changed found.catalog.arrays change (blob_of made)) ≡ Ok (rows_after (names_in found.catalog).arrays change made found.directories)
@@ -105,10 +113,10 @@ fresh_named new less seen made named m is =
     weaker (λ p. names_page page_size new less p ≡ true) (λ p. names_page page_size new [] p ≡ true) (λ p names. names_none new less p names) (fresh_pages seen m.directory.entries)
     (rest_all (λ p. names_page page_size new less p ≡ true) m.at.pages (fresh_pages seen m.directory.entries) all)
 
-pub is_next : (written old new extra less : List ℕ) (slots : Slots) (found : Found) (db : Database) (change : Change) (made : Option Made) (other : Rules) → KeepsPages written old new → IsDatabase db → MayChange db change → AllRise found
+pub is_next : (written old new extra less : List ℕ) (slots : Slots) (found : Found) (db : Database) (change : Change) (made : Option Made) (other : Rules) → KeepsPages written old new → IsDatabase db → MayChange db change
     → (once_more : Again written old new slots db found) → (steps : FoundSteps new slots found) → sequence_of slots ≤ other.sequence → Beside extra new steps.logged.taken less → AllByRecursion (IsNone extra) (stored_pages found)
     → Fresh extra new less (made_pages (seen_before found change) made) (stored_pages found) → OfVersion (HoldsMade old new (seen_before found change) other.sequence) db change made → IsNext new other less found db change made
-is_next written old new extra less slots found db change made other keeps database may rising once_more steps later beside apart fresh version =
+is_next written old new extra less slots found db change made other keeps database may once_more steps later beside apart fresh version =
     let rules : Rules = record { first = slots.current.root.first; sequence = sequence_of slots } in
     let arrays = found.catalog.arrays in
     let seen = seen_before found change in
@@ -117,6 +125,7 @@ is_next written old new extra less slots found db change made other keeps databa
     = record { is = rows_later new rules other later arrays steps.logged.taken found.directories is; beside = beside; apart = apart } in
     let kept = seen_kept written old new rules steps.logged.taken arrays found.directories (name_of change) (names_in found.catalog).arrays once_more.kept is in
     let names : (names_in found.catalog).arrays ≡ map entry_of db = ap (λ (n : Names). n.arrays) once_more.holds.names in
+    let rising = directories_rise new rules steps.logged.taken db found database once_more.holds.names is in
     record {
       rows = rows_follow extra new other steps.logged.taken less arrays found.directories db change made before fresh database may names rising
           (new_of written old new other seen db change made kept (fresh_named new less seen made fresh.named) database may version);

@@ -4,12 +4,14 @@ mod Both
 mod BySlots
 mod Cut
 mod Follow
+mod FoundRise
 mod Free
 mod Held
 mod Later
 mod Lists
 mod Logged
 mod Record
+mod Rising
 mod Rows
 mod Same
 mod Shed

@@ -125,7 +125,7 @@ records_make_next written old new slots found db change made pages entry stands 
     let sequence = one_later slots at in
     let version : OfVersion (HoldsMade old new seen other.sequence) db change made = subst (λ (n : ℕ). OfVersion (HoldsMade old new seen n) db change made) (sym sequence) holds.version in
     let fresh = made_fresh new slots found steps pages all holds.free (pages_there old new other.sequence seen db change made version) in
-    let next = is_next (log ∷ written) old new (pages ++ all) (pages ++ taken) slots found db change made other holds.kept stands.database may holds.rising once_more steps (omega (arith, sequence))
+    let next = is_next (log ∷ written) old new (pages ++ all) (pages ++ taken) slots found db change made other holds.kept stands.database may once_more steps (omega (arith, sequence))
     (λ p none names. beside_these pages new taken p (none_front pages all p none) names) (stored_none slots found (pages ++ all) holds.free) fresh version in
     let c = chain_read new taken pages bytes log holds.chained.held (free_front (log ∷ pages_of found) taken pages all (λ p none. none_of_has taken p (not_taken new slots found steps p none)) holds.free) (some_bytes entry) holds.chained.enough in
     let allow : IsTrue (names_allow (names_in found.catalog) change) = subst (λ (n : Names). IsTrue (names_allow n change)) (sym stands.holds.names) may.typed.0 in

@@ -41,7 +41,7 @@ use Rattle.next_files.proofs.Lists.{seen_has}
 
 -- ---- its schema is valid
 
-has_some : (schema : Schema) → IsValid schema → 1 ≤ length schema.dimensions
+pub has_some : (schema : Schema) → IsValid schema → 1 ≤ length schema.dimensions
 has_some schema valid =
     let a = has_attributes schema.attributes in
     let b = has_dimensions schema.dimensions in

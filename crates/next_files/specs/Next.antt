@@ -47,7 +47,8 @@ without_row name (entry ∷ entries) (row ∷ rows) = if is_named name entry the
 
 -- of an array as many of the first directories go as it has versions below a number
 abbrev pub from_version : List ℕ → ℕ → List NameEntry → Rows → Rows
-from_version name below entries rows = by_pairs (λ entry row. if is_named name entry then drop (count_by (λ version. nat_lt version below) entry.versions) row else row) entries rows
+from_version name below entries rows = by_pairs
+    (λ entry row. if is_named name entry then drop (count_by (λ version. nat_lt version below) entry.versions) row else row) entries rows
 
 -- the directories after a change
 abbrev pub rows_after : List NameEntry → Change → Option Made → Rows → Rows

@@ -1,5 +1,5 @@
 -- What a commit leaves of a file: the premises under which it stands for the next database.
-use Rattle.std.specs.Prelude.{◌≡◌, ◌⊎◌, ℕ, ◌+◌, ◌<◌, ◌≤◌, Bool, true, false, not, if◌then◌else◌, List, [], ◌∷◌, ◌++◌, length, slice_index, Option, Some, None, Ok}
+use Rattle.std.specs.Prelude.{◌≡◌, ℕ, ◌+◌, ◌≤◌, Bool, true, false, not, if◌then◌else◌, List, [], ◌∷◌, ◌++◌, length, slice_index, Option, Some, None, Ok}
 use Rattle.std.specs.List.{AllByRecursion, filter, flat_map}
 use Rattle.cell_values.specs.declared.datum.Row.{Row}
 use Rattle.cell_values.specs.declared.schema.Schema.{Schema}
@@ -15,7 +15,7 @@ use Rattle.page_chain.specs.Chains.{content_size, HoldsChain}
 use Rattle.page_chain.specs.Links.{AreFree}
 use Rattle.chunk_map.specs.declared.directory.DirEntry.{DirEntry}
 use Rattle.chunk_map.specs.declared.directory.Directory.{Directory}
-use Rattle.chunk_map.specs.Entries.{numbers, AreRising}
+use Rattle.chunk_map.specs.Entries.{numbers}
 use Rattle.chunk_map.specs.Spelling.{IsDirectory, spelling}
 use Rattle.logical_plan.specs.declared.names.NameEntry.{NameEntry}
 use Rattle.plan_changes.specs.declared.change.Change.{Change}
@@ -95,7 +95,8 @@ pub record HoldsMade (old new : List ℕ) (seen : List DirEntry) (sequence : ℕ
   pub size : made.at.length ≡ length (spelling made.directory)
   pub rules : IsDirectory (length schema.dimensions) made.directory
   pub each : AllByRecursion (IsWritten schema sequence) made.directory.entries
-  pub listed : (k : ChunkNumber) → length k ≡ length schema.dimensions → is_listed k (numbers made.directory.entries) ≡ has_cell schema.dimensions rows k
+  pub listed : (k : ChunkNumber) → length k ≡ length schema.dimensions
+      → is_listed k (numbers made.directory.entries) ≡ has_cell schema.dimensions rows k
   pub payloads : AllByRecursion (λ entry. HoldsEntry old new schema rows entry (is_seen seen entry)) made.directory.entries
 
 -- A change that makes a version comes with it, and this holds of its schema, its rows and its directory. No other change does.
@@ -106,10 +107,6 @@ OfVersion P db (Insert name schema plan) (Some made) = P schema (new_rows db (In
 OfVersion P db (Insert name schema plan) None = ⊥
 OfVersion P db change (Some made) = ⊥
 OfVersion P db change None = Unit {0}
-
--- the entries of each directory that was found rise
-abbrev pub AllRise : Found → Type 0
-AllRise found = AllByRecursion (AllByRecursion (λ directory. AreRising directory.entries)) found.directories
 
 -- ---- a record
 
@@ -122,10 +119,10 @@ slots_with slots at = record { current = slots.current; records = slots.records 
 
 -- THE RECORD OF A CHANGE in the new file. Of the old file the log page and other pages may be written, none of which was found;
 -- the record and the new version lie in pages that differ from one another and were neither found nor the log page.
-pub record HoldsRecord (written old new : List ℕ) (slots : Slots) (found : Found) (db : Database) (change : Change) (made : Option Made) (pages : List ℕ) (entry : CatalogRecord) : Type 0 where
+pub record HoldsRecord (written old new : List ℕ) (slots : Slots) (found : Found) (db : Database) (change : Change) (made : Option Made)
+    (pages : List ℕ) (entry : CatalogRecord) : Type 0 where
   pub kept : KeepsPages (slots.current.root.log ∷ written) old new
   pub apart : AllByRecursion (IsNone written) (pages_of found)
-  pub rising : AllRise found
   pub free : AreFree (slots.current.root.log ∷ pages_of found) (pages ++ made_pages (seen_before found change) made)
   pub is_its : record_for found.catalog change (blob_of made) ≡ Some entry
   pub is_record : IsRecord entry
@@ -143,10 +140,10 @@ slots_of side root = record { current = record { side = side; format = Two; root
 
 -- A NEW BASE in the new file: the catalogue after the change. Of the old file page 0 and other pages may be written, none of which
 -- was found; the new log page, the chain and the new version lie in pages that differ from one another and were not found.
-pub record HoldsBase (written old new : List ℕ) (slots : Slots) (found : Found) (db : Database) (change : Change) (made : Option Made) (pages : List ℕ) (sequence log : ℕ) : Type 0 where
+pub record HoldsBase (written old new : List ℕ) (slots : Slots) (found : Found) (db : Database) (change : Change) (made : Option Made)
+    (pages : List ℕ) (sequence log : ℕ) : Type 0 where
   pub kept : KeepsPages (0 ∷ written) old new
   pub apart : AllByRecursion (IsNone written) (pages_of found)
-  pub rising : AllRise found
   pub free : AreFree (pages_of found) (log ∷ pages ++ made_pages (seen_before found change) made)
   pub is_catalog : IsCatalog (after_change found.catalog change (blob_of made))
   pub chained : HasChain new pages (catalog_spelling (after_change found.catalog change (blob_of made)))
