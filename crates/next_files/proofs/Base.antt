@@ -1,21 +1,16 @@
 -- With a new base of the catalogue after a change the file stands for the database after it.
-use Rattle.std.proofs.Common.{◌≡◌, ◌≢◌, ◌≤◌, ◌<◌, ℕ, zero, suc, ◌+◌, Bool, false, true, List, [], ◌∷◌, ◌++◌, length, slice_index, Option, refl, sym, ◌∙◌, ap, subst, arith}
-use Rattle.std.specs.Prelude.{nat_eq, Ok}
-use Rattle.std.specs.List.{AllByRecursion, list_any}
-use Rattle.std.specs.Int.{w32, to_le_bytes}
-use Rattle.file_items.specs.Items.{◌>>=◌}
+use Rattle.std.proofs.Common.{◌≡◌, ◌≢◌, ◌<◌, ℕ, zero, suc, true, List, [], ◌∷◌, ◌++◌, length, slice_index, sym, ◌∙◌, ap, subst, arith}
+use Rattle.std.specs.Prelude.{Ok}
+use Rattle.std.specs.List.{AllByRecursion}
 use Rattle.page_layout.specs.Places.{IsNone}
 use Rattle.page_layout.specs.declared.roots.Root.{Root}
 use Rattle.page_layout.specs.declared.sides.Side.{Side}
-use Rattle.page_chain.specs.Pages.{page_size, has_page, AreDistinct}
+use Rattle.page_chain.specs.Pages.{page_size, has_page}
 use Rattle.page_chain.specs.Chains.{chain, chain_bytes, names_page}
 use Rattle.page_chain.specs.Links.{AreFree}
 use Rattle.page_chain.proofs.PageLaws.{chain_read}
 use Rattle.chunk_map.specs.declared.directory.Directory.{Directory}
-use Rattle.plan_changes.specs.declared.change.Change.{Change}
-use Rattle.plan_changes.specs.Databases.{Database}
 use Rattle.version_catalog.specs.declared.rules.catalog.Catalog.{Catalog}
-use Rattle.version_catalog.specs.Catalogs.{IsCatalog}
 use Rattle.version_catalog.specs.Spelling.{spelling}
 use Rattle.version_catalog.specs.Table.{catalog_in}
 use Rattle.version_catalog.proofs.RuleLaws.{catalog_again}
@@ -27,8 +22,8 @@ use Rattle.file_laws.proofs.Steps.{then_is}
 use Rattle.file_laws.proofs.Elsewhere.{found_steps}
 use Rattle.file_laws.proofs.More.{Beside}
 use Rattle.next_files.specs.Laws.{BasesMakeNext}
-use Rattle.next_files.specs.Next.{Made, blob_of, with_base}
-use Rattle.next_files.specs.Premises.{StandsBy, MayChange, OfVersion, HoldsMade, HoldsBase, seen_before, made_pages, root_at, slots_of}
+use Rattle.next_files.specs.Next.{blob_of}
+use Rattle.next_files.specs.Premises.{OfVersion, HoldsMade, seen_before, made_pages, root_at, slots_of}
 use Rattle.next_files.proofs.Free.{weaker, pair_all, by_index, differ_by, none_later, none_front, none_rest, none_both, turned, has_none, names_more, names_none, names_with, names_positive, free_front, free_rest, distinct_cross, free_named}
 use Rattle.next_files.proofs.Taken.{found_named}
 use Rattle.next_files.proofs.Both.{again, pages_there, is_next}

@@ -1,5 +1,5 @@
 -- What a record and a new base have in common: the directories and the database after a change.
-use Rattle.std.proofs.Common.{◌≡◌, ◌≤◌, ℕ, true, List, [], ◌∷◌, ◌++◌, map, Option, Some, None, refl, sym, ap, subst}
+use Rattle.std.proofs.Common.{◌≡◌, ◌≤◌, ℕ, true, List, [], ◌++◌, map, Option, Some, None, refl, sym, ap, subst}
 use Rattle.std.specs.Prelude.{Ok, IsTrue}
 use Rattle.std.specs.List.{AllByRecursion, AllZip}
 use Rattle.cell_values.specs.declared.datum.Row.{Row}
@@ -33,7 +33,7 @@ use Rattle.file_laws.proofs.Elsewhere.{AreApart, AreThere, IsKept, found_again, 
 use Rattle.file_laws.proofs.More.{Beside}
 use Rattle.next_files.specs.Next.{Made, blob_of, rows_after}
 use Rattle.next_files.specs.Premises.{StandsBy, MayChange, OfVersion, HoldsMade, seen_before, made_pages, row_of}
-use Rattle.next_files.proofs.Free.{AreNamed, Differ, weaker, names_none}
+use Rattle.next_files.proofs.Free.{AreNamed, weaker, names_none}
 use Rattle.next_files.proofs.Later.{rows_later}
 use Rattle.next_files.proofs.Taken.{ArePaged, rows_paged}
 use Rattle.next_files.proofs.Appended.{entries_in, fresh_pages}

@@ -1,13 +1,12 @@
 -- The directories follow a change of the catalogue and of the database.
-use Rattle.std.proofs.Common.{◌≡◌, ℕ, Bool, true, false, cond, not, ◌&&◌, ◌||◌, List, [], ◌∷◌, ◌++◌, map, length, Option, Some, None, refl, sym, ◌∙◌, ap, subst}
+use Rattle.std.proofs.Common.{◌≡◌, ℕ, Bool, true, false, cond, ◌&&◌, ◌||◌, List, [], ◌∷◌, map, Option, Some, None, refl, sym, ◌∙◌, ap, subst}
 use Rattle.std.specs.Prelude.{Ok}
-use Rattle.std.specs.List.{AllByRecursion, AllZip, filter, insert, list_all, prefix_len}
+use Rattle.std.specs.List.{AllByRecursion, AllZip, insert, list_all, prefix_len}
 use Rattle.std.proofs.lemmas.Bool.{and_parts}
 use Rattle.cell_values.specs.declared.datum.Row.{Row}
 use Rattle.cell_values.specs.declared.schema.Schema.{Schema}
 use Rattle.cell_values.specs.Schemas.{is_valid}
 use Rattle.page_layout.specs.Places.{IsNone}
-use Rattle.chunk_map.specs.declared.directory.DirEntry.{DirEntry}
 use Rattle.chunk_map.specs.declared.directory.Directory.{Directory}
 use Rattle.chunk_map.specs.Entries.{AreRising}
 use Rattle.logical_plan.specs.Query.{Query}
@@ -16,10 +15,9 @@ use Rattle.logical_plan.specs.declared.names.Names.{Names}
 use Rattle.plan_changes.specs.declared.change.Change.{Change}
 use Rattle.plan_changes.specs.declared.change.Change.TheVariants.{Create, Store, Insert, Remove, RemoveVersions}
 use Rattle.plan_changes.specs.Allowed.{has_room, has_number}
-use Rattle.plan_changes.specs.Changes.{is_named, has_array, place_of, new_entry, with_array, name_of, entry_named}
-use Rattle.plan_changes.specs.Databases.{Database, Stored, is_array, entry_of, names_of, new_rows, with_rows, with_stored, has_stored, after}
-use Rattle.plan_changes.specs.Stored.{is_before, IsDatabase, AreStored, NamesRise}
-use Rattle.plan_changes.specs.Typed.{FitsInto}
+use Rattle.plan_changes.specs.Changes.{has_array, place_of, new_entry, with_array, name_of}
+use Rattle.plan_changes.specs.Databases.{Database, Stored, entry_of, new_rows, with_rows, with_stored, has_stored, after}
+use Rattle.plan_changes.specs.Stored.{is_before, IsDatabase, NamesRise}
 use Rattle.plan_changes.proofs.NamesOf.{prefix_map, map_insert, names_depend_on_no_row}
 use Rattle.plan_changes.proofs.StoredLaws.{all_inserted, add_array, names_in}
 use Rattle.version_catalog.specs.declared.rules.catalog.CatalogArray.{CatalogArray}

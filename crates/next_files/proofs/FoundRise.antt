@@ -1,5 +1,5 @@
 -- The entries of each directory that is found rise.
-use Rattle.std.proofs.Common.{◌≡◌, List, subst}
+use Rattle.std.proofs.Common.{◌≡◌, subst}
 use Rattle.std.specs.Prelude.{Ok}
 use Rattle.version_catalog.specs.declared.rules.catalog.Catalog.{Catalog}
 use Rattle.file_meaning.specs.Opening.{Rules, rows_in, sequence_of}

@@ -1,11 +1,10 @@
 -- Which database the directories after a change are of.
-use Rattle.std.proofs.Common.{◌≡◌, ℕ, zero, suc, ◌+◌, ◌<◌, ◌≤◌, Bool, true, false, cond, not, ◌||◌, nat_lt, List, [], ◌∷◌, ◌++◌, map, length, drop, refl, sym, ◌∙◌, ap, subst, arith}
+use Rattle.std.proofs.Common.{◌≡◌, ℕ, zero, suc, ◌+◌, ◌≤◌, Bool, true, false, cond, not, nat_lt, List, [], ◌∷◌, ◌++◌, map, drop, refl, sym, ◌∙◌, ap, subst, arith}
 use Rattle.std.specs.Prelude.{Some}
 use Rattle.std.specs.List.{AllByRecursion, AllZip, filter, insert, count_by}
 use Rattle.std.proofs.lemmas.Bool.Decides.{nat_tests}
 use Rattle.std.proofs.lemmas.List.Sums.{sum_by-cons}
 use Rattle.cell_values.specs.declared.datum.Row.{Row}
-use Rattle.cell_values.specs.declared.schema.Schema.{Schema}
 use Rattle.chunk_map.specs.declared.directory.Directory.{Directory}
 use Rattle.plan_changes.specs.Databases.{Database, Stored, Version, is_array, with_rows, from_version, entry_of}
 use Rattle.plan_changes.specs.Stored.{RiseBetween, IsStored}

@@ -1,9 +1,8 @@
 -- One more record behind those of a log.
-use Rattle.std.proofs.Common.{◌≡◌, ◌<◌, ℕ, zero, suc, Bool, true, false, ◌||◌, List, [], ◌∷◌, ◌++◌, length, slice_index, refl, sym, ◌∙◌, ap, subst, arith}
+use Rattle.std.proofs.Common.{◌≡◌, ◌<◌, ℕ, zero, suc, Bool, true, false, ◌||◌, List, [], ◌∷◌, ◌++◌, length, refl, sym, ◌∙◌, ap, subst, arith}
 use Rattle.std.specs.Prelude.{if◌then◌else◌, nat_eq, Ok, Err}
 use Rattle.std.specs.List.{list_any}
 use Rattle.std.proofs.lemmas.Bool.Decides.{nat_tests}
-use Rattle.file_items.specs.Items.{◌>>=◌}
 use Rattle.page_layout.specs.Places.{IsNone}
 use Rattle.page_layout.specs.declared.logs.RecordAt.{RecordAt}
 use Rattle.page_chain.specs.Pages.{page_size}

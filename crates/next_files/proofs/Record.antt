@@ -1,9 +1,8 @@
 -- With the record of a change the file stands for the database after it.
-use Rattle.std.proofs.Common.{◌≡◌, ◌≢◌, ◌≤◌, ◌<◌, ℕ, zero, suc, ◌+◌, false, true, Bool, ◌||◌, List, [], ◌∷◌, ◌++◌, length, slice_index, Option, sym, ◌∙◌, ap, subst, arith}
+use Rattle.std.proofs.Common.{◌≡◌, ◌≢◌, ℕ, zero, suc, ◌+◌, false, true, Bool, ◌||◌, List, [], ◌∷◌, ◌++◌, length, slice_index, Option, sym, ◌∙◌, ap, subst, arith}
 use Rattle.std.specs.Prelude.{nat_eq, Ok, IsTrue}
 use Rattle.std.specs.List.{AllByRecursion, list_any}
 use Rattle.std.proofs.lemmas.List.{length-append}
-use Rattle.file_items.specs.Items.{◌>>=◌}
 use Rattle.page_layout.specs.Places.{IsNone}
 use Rattle.page_layout.specs.declared.logs.RecordAt.{RecordAt}
 use Rattle.page_chain.specs.Pages.{page_size, has_page}
@@ -13,7 +12,6 @@ use Rattle.page_chain.proofs.PageLaws.{chain_read}
 use Rattle.logical_plan.specs.declared.names.Names.{Names}
 use Rattle.plan_changes.specs.declared.change.Change.{Change}
 use Rattle.plan_changes.specs.Allowed.{names_allow}
-use Rattle.plan_changes.specs.Databases.{Database}
 use Rattle.version_catalog.specs.declared.rules.catalog.Catalog.{Catalog}
 use Rattle.version_catalog.specs.declared.rules.catalog_record.CatalogRecord.{CatalogRecord}
 use Rattle.version_catalog.specs.Catalogs.{names_in}
@@ -32,11 +30,11 @@ use Rattle.file_laws.proofs.Apart.{has_either, taken_are}
 use Rattle.file_laws.proofs.Elsewhere.{FoundSteps, found_steps}
 use Rattle.file_laws.proofs.More.{beside_these}
 use Rattle.next_files.specs.Laws.{RecordsMakeNext}
-use Rattle.next_files.specs.Next.{Made, blob_of, with_record}
-use Rattle.next_files.specs.Premises.{StandsBy, MayChange, OfVersion, HoldsMade, HoldsRecord, seen_before, made_pages, record_at, slots_with}
-use Rattle.next_files.proofs.Free.{AreNamed, weaker, pair_all, by_index, differ_by, none_front, none_rest, none_both, turned, has_none, names_other, free_front, free_rest, distinct_cross, free_named}
+use Rattle.next_files.specs.Next.{Made, blob_of}
+use Rattle.next_files.specs.Premises.{OfVersion, HoldsMade, seen_before, made_pages, record_at, slots_with}
+use Rattle.next_files.proofs.Free.{weaker, pair_all, by_index, differ_by, none_front, none_rest, none_both, turned, has_none, names_other, free_front, free_rest, distinct_cross, free_named}
 use Rattle.next_files.proofs.Taken.{found_named}
-use Rattle.next_files.proofs.Both.{Again, again, pages_there, IsNext, is_next}
+use Rattle.next_files.proofs.Both.{again, pages_there, is_next}
 use Rattle.next_files.proofs.Follow.{Fresh}
 use Rattle.next_files.proofs.Logged.{IsRead, logged_more, some_bytes, none_of_has}
 

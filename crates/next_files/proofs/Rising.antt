@@ -1,5 +1,5 @@
 -- The entries of each directory that is read rise.
-use Rattle.std.proofs.Common.{◌≡◌, ◌≤◌, ℕ, zero, suc, Bool, true, false, cond, nat_lt, nat_le, List, [], ◌∷◌, ◌++◌, length, slice_index, Option, Some, None, Result, Ok, refl, sym, ◌∙◌, ap, subst, arith}
+use Rattle.std.proofs.Common.{◌≡◌, ◌≤◌, ℕ, zero, suc, Bool, true, false, cond, nat_lt, nat_le, List, [], ◌∷◌, ◌++◌, length, slice_index, Option, Some, None, Ok, refl, ◌∙◌, ap, subst, arith}
 use Rattle.std.specs.Prelude.{◌==◌}
 use Rattle.std.specs.Int.{w64}
 use Rattle.std.specs.List.{AllByRecursion}
@@ -9,7 +9,7 @@ use Rattle.std.specs.declared.cmp.Ordering.TheVariants.{Less, Equal, Greater}
 use Rattle.array_geom.specs.Geometry.{ChunkNumber}
 use Rattle.array_geom.specs.Link.{number_order}
 use Rattle.cell_values.specs.declared.schema.Dimension.{Dimension}
-use Rattle.file_items.specs.Items.{◌>>=◌, Reading, number_at, item, repeat, counted, Are}
+use Rattle.file_items.specs.Items.{Reading, number_at, item, repeat, counted, Are}
 use Rattle.file_items.proofs.BytesLaws.{bind_ok, test_ok, ok_is}
 use Rattle.page_chain.specs.Pages.{page_size, blob}
 use Rattle.chunk_map.specs.declared.directory.DirEntry.{DirEntry}
@@ -17,7 +17,6 @@ use Rattle.chunk_map.specs.declared.directory.Directory.{Directory}
 use Rattle.chunk_map.specs.Entries.{AreRising}
 use Rattle.chunk_map.specs.Table.{is_number, next_number, number_of, payload_at, entry_after, next_entry, number_in, entries_at, directory_in}
 use Rattle.chunk_map.proofs.Moves.{IsBefore, before-trans}
-use Rattle.logical_plan.specs.declared.names.NameEntry.{NameEntry}
 use Rattle.plan_changes.specs.Stored.{IsStored}
 use Rattle.version_catalog.specs.declared.rules.catalog.BlobAt.{BlobAt}
 use Rattle.version_catalog.specs.declared.rules.catalog.CatalogArray.{CatalogArray}

@@ -1,5 +1,5 @@
 -- The directories of all arrays, where an array is made, gets a version, or goes.
-use Rattle.std.proofs.Common.{◌≡◌, ℕ, zero, suc, ◌+◌, Bool, true, false, cond, not, ◌||◌, List, [], ◌∷◌, ◌++◌, map, length, refl, sym, ◌∙◌, ap, subst}
+use Rattle.std.proofs.Common.{◌≡◌, ℕ, zero, suc, ◌+◌, Bool, true, false, cond, not, List, [], ◌∷◌, ◌++◌, map, refl, sym, ◌∙◌, ap, subst}
 use Rattle.std.specs.Prelude.{if◌then◌else◌, Ok, Some}
 use Rattle.std.specs.List.{AllByRecursion, insert}
 use Rattle.std.proofs.lemmas.Bool.{or_parts}
@@ -18,7 +18,7 @@ use Rattle.file_meaning.specs.Opening.{is_seen, Listed, Rules, directory_from, R
 use Rattle.file_laws.proofs.Steps.{then_is}
 use Rattle.file_laws.proofs.Parts.{front_all, rest_all}
 use Rattle.file_laws.proofs.Apart.{row_free}
-use Rattle.file_laws.proofs.Elsewhere.{rows_steps, AreApart, NoneOf, IsKept, row_apart}
+use Rattle.file_laws.proofs.Elsewhere.{rows_steps, AreApart, NoneOf, row_apart}
 use Rattle.file_laws.proofs.More.{Beside, Rows as AreRows, row_fewer, rows_fewer, kept_apart}
 use Rattle.next_files.specs.Next.{Made, with_made, without_row}
 use Rattle.next_files.specs.Premises.{row_of}

@@ -1,24 +1,21 @@
 -- Entries that agree in all that they say are one.
-use Rattle.std.proofs.Common.{◌≡◌, ℕ, Bool, true, false, ◌&&◌, ◌||◌, List, [], ◌∷◌, ◌++◌, refl, sym, ◌∙◌, ap, arith}
+use Rattle.std.proofs.Common.{◌≡◌, ℕ, Bool, true, false, ◌&&◌, ◌||◌, List, [], ◌∷◌, refl, sym, ◌∙◌, ap, arith}
 use Rattle.std.specs.Prelude.{◌==◌}
 use Rattle.std.specs.List.{AllByRecursion}
 use Rattle.std.specs.Ordering.{nat_cmp, is_eq, ordering_reverse}
 use Rattle.std.specs.declared.cmp.Ordering.{Ordering}
 use Rattle.std.specs.declared.cmp.Ordering.TheVariants.{Less, Equal, Greater}
 use Rattle.std.specs.Cmp.Lexicographic.{slice_cmp, bytes_decides}
-use Rattle.std.specs.Str.{bytes_eq}
 use Rattle.std.proofs.lemmas.Bool.{and_from, eqb-true}
 use Rattle.std.proofs.lemmas.Cmp.{nat_list_cmp_total}
 use Rattle.std.proofs.lemmas.Map.Text.{is_eq-slice_cmp}
-use Rattle.arrayvec.specs.ArrayVec.{ArrayVec}
 use Rattle.array_geom.specs.Geometry.{ChunkNumber}
 use Rattle.array_geom.specs.Link.{number_order}
 use Rattle.array_geom.proofs.NumberLaws.{same_number, is_equal}
 use Rattle.chunk_map.specs.declared.directory.DirEntry.{DirEntry}
-use Rattle.chunk_map.specs.Entries.{numbers, AreRising}
+use Rattle.chunk_map.specs.Entries.{numbers}
 use Rattle.file_meaning.specs.Opening.{is_same, is_seen}
 use Rattle.file_laws.proofs.Parts.{both_true}
-use Rattle.next_files.proofs.Appended.{seen_either}
 
 entry_is : (a b : DirEntry) → a.at.items ≡ b.at.items → a.length ≡ b.length → a.birth ≡ b.birth → a.pages ≡ b.pages → a ≡ b
 entry_is a b at size birth pages =

@@ -1,5 +1,5 @@
 -- The new version, as it is found and as it is held.
-use Rattle.std.proofs.Common.{◌≡◌, ◌≤◌, ◌<◌, ℕ, Bool, true, false, cond, not, ◌&&◌, ◌||◌, List, [], ◌∷◌, ◌++◌, map, length, Option, Some, None, refl, sym, ◌∙◌, ap, subst, arith}
+use Rattle.std.proofs.Common.{◌≡◌, ◌≤◌, ℕ, Bool, true, false, cond, not, ◌&&◌, ◌||◌, List, [], ◌∷◌, ◌++◌, map, length, Option, Some, None, refl, sym, ◌∙◌, ap, subst, arith}
 use Rattle.std.specs.Prelude.{nat_le}
 use Rattle.std.specs.List.{AllByRecursion, filter, find, flat_map, list_all}
 use Rattle.std.proofs.lemmas.Bool.{and_parts, and_from}
@@ -13,7 +13,6 @@ use Rattle.page_chain.specs.Pages.{page_size, has_page, first_past, blob}
 use Rattle.page_chain.specs.Chains.{names_page}
 use Rattle.page_chain.proofs.PageLaws.{blob_read}
 use Rattle.chunk_map.specs.declared.directory.DirEntry.{DirEntry}
-use Rattle.chunk_map.specs.declared.directory.Directory.{Directory}
 use Rattle.chunk_map.specs.Spelling.{spelling}
 use Rattle.chunk_map.specs.Table.{directory_in}
 use Rattle.chunk_map.proofs.Laws.{directory_again}
@@ -26,7 +25,7 @@ use Rattle.plan_changes.specs.declared.change.Change.{Change}
 use Rattle.plan_changes.specs.declared.change.Change.TheVariants.{Create, Store, Insert, Remove, RemoveVersions}
 use Rattle.plan_changes.specs.Allowed.{has_room, has_number}
 use Rattle.plan_changes.specs.Changes.{is_named, has_array}
-use Rattle.plan_changes.specs.Databases.{Database, entry_of, names_of, new_rows}
+use Rattle.plan_changes.specs.Databases.{Database, entry_of, new_rows}
 use Rattle.plan_changes.specs.Stored.{IsDatabase, IsStored}
 use Rattle.plan_changes.specs.Typed.{FitsInto}
 use Rattle.file_meaning.specs.Opening.{are_pages, is_seen, is_entry, Rules}
@@ -34,7 +33,7 @@ use Rattle.file_meaning.specs.Standing.{HoldsPart, HoldsVersion}
 use Rattle.file_laws.proofs.Parts.{front_all, rest_all, blob_still}
 use Rattle.next_files.specs.Next.{Made}
 use Rattle.next_files.specs.Premises.{MayChange, OfVersion, HoldsEntry, HoldsMade, IsWritten}
-use Rattle.next_files.proofs.Free.{AreNamed, weaker, all_there}
+use Rattle.next_files.proofs.Free.{AreNamed, all_there}
 use Rattle.next_files.proofs.Appended.{IsNew, fresh_pages}
 use Rattle.next_files.proofs.Follow.{IsNewOf, HoldsVersionOf}
 use Rattle.next_files.proofs.Lists.{seen_has}

@@ -1,7 +1,6 @@
 -- What is found of a file after a change: the next catalogue, and the next directories.
 use Rattle.std.specs.Prelude.{ℕ, if◌then◌else◌, List, [], ◌∷◌, ◌++◌, drop, insert, nat_lt, Option, Some, None}
 use Rattle.std.specs.List.{count_by}
-use Rattle.cell_values.specs.declared.schema.Schema.{Schema}
 use Rattle.array_rows.specs.Boxes.{by_pairs}
 use Rattle.chunk_map.specs.declared.directory.Directory.{Directory}
 use Rattle.logical_plan.specs.declared.names.NameEntry.{NameEntry}
