@@ -51,6 +51,7 @@ with_record catalog catalogue change version pages =
       blobs = version.blobs;
       chain = chain;
       directory = version.directory;
+      at = version.at;
       catalog = after_change catalog change version.at;
       used = record { version = version.pages; catalogue = catalogue ++ chain.pages };
     }
@@ -77,6 +78,7 @@ with_base catalog change version pages log =
       blobs = version.blobs;
       chain = chain;
       directory = version.directory;
+      at = version.at;
       catalog = after_change catalog change version.at;
       used = record { version = version.pages; catalogue = chain.pages ++ log ∷ [] };
     }

@@ -33,6 +33,8 @@ pub struct Laid {
     pub chain: Placed,
     /// That of the version which the change makes.
     pub directory: Option<Directory>,
+    /// Where it lies.
+    pub at: Option<BlobAt>,
     /// The next catalogue.
     pub catalog: Catalog,
     pub used: Used,
@@ -248,6 +250,7 @@ fn joined(version: NewVersion, next: Next) -> Laid
         blobs = version.blobs;
         chain = next.chain;
         directory = version.directory;
+        at = version.at;
         catalog = next.catalog;
         used = record { version = version.pages; catalogue = next.pages } } }
 {
@@ -257,7 +260,6 @@ fn joined(version: NewVersion, next: Next) -> Laid
         at,
         pages,
     } = version;
-    drop(at);
     let Next {
         chain,
         catalog,
@@ -267,6 +269,7 @@ fn joined(version: NewVersion, next: Next) -> Laid
         blobs,
         chain,
         directory,
+        at,
         catalog,
         used: Used {
             version: pages,

@@ -1,10 +1,10 @@
 //! The version that a change makes.
-ghost use Rattle.std.specs.Prelude.{◌≡◌, ℕ, ◌++◌, [], ◌∷◌, take, drop, length, Some, None, IfOk, IfSome};
+ghost use Rattle.std.specs.Prelude.{◌≡◌, ◌++◌, [], ◌∷◌, Some, IfOk, IfSome, OnOk};
+ghost use Rattle.std.specs.List.{flat_map};
 ghost use Rattle.array_rows.specs.Boxes.{by_pairs};
 ghost use Rattle.chunk_map.specs.Entries.{AreRising};
 ghost use Rattle.chunk_map.specs.Spelling.{spelling as directory_spelling};
 ghost use Rattle.file_meaning.specs.Opening.{version_pages};
-ghost use Rattle.commit_writes.specs.Commits.{pages_of};
 ghost use Rattle.commit_pages.specs.Versions.{placed, blob_at, settled, entry_of, entries_of, directory_of, directory_bytes, version_in, new_version, all_placed, payload_count, HasRisingNumbers};
 
 use crate::Written;
@@ -123,14 +123,22 @@ fn blob_at(one: &Placed) -> Result<BlobAt, Memory>
     })
 }
 
+/// Adds the pages of payloads.
+fn push_pages(pages: &mut List<u32>, entries: &[DirEntry]) -> Result<(), Memory>
+    ensures { OnOk result (pages.new ≡ pages.old ++ flat_map (λ entry. entry.pages) entries.now) }
+{
+    for entry in entries {
+        pages.extend(entry.pages.as_slice())?;
+    }
+    Ok(())
+}
+
 /// The pages of a version, whose directory lies here.
 fn all_pages(at: &BlobAt, directory: &Directory) -> Result<List<u32>, Memory>
     ensures { IfOk result (λ pages. pages ≡ version_pages at.now directory.now) }
 {
     let mut pages = at.pages.copy()?;
-    for entry in directory.entries.as_slice() {
-        pages.extend(entry.pages.as_slice())?;
-    }
+    push_pages(&mut pages, directory.entries.as_slice())?;
     Ok(pages)
 }
 

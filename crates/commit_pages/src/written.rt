@@ -70,12 +70,16 @@ fn drafted_payload(alloc: Global, schema: &Schema, chunk: &Chunk) -> Result<Plac
     Ok(Placed { pages, bytes })
 }
 
-fn drafted_payloads(alloc: Global, changed: &Changed) -> Result<List<Placed>, Memory>
-    ensures { IfOk result (λ payloads. payloads ≡ map (λ chunk. drafted (payload_spelling changed.now.schema.attributes chunk)) changed.now.chunks) }
+fn drafted_payloads(
+    alloc: Global,
+    schema: &Schema,
+    chunks: &[Chunk],
+) -> Result<List<Placed>, Memory>
+    ensures { IfOk result (λ payloads. payloads ≡ map (λ chunk. drafted (payload_spelling schema.now.attributes chunk)) chunks.now) }
 {
-    let mut payloads = List::with_capacity(alloc, changed.chunks.len())?;
-    for chunk in changed.chunks.as_slice() {
-        payloads.push(drafted_payload(alloc, &changed.schema, chunk)?)?;
+    let mut payloads = List::with_capacity(alloc, chunks.len())?;
+    for chunk in chunks {
+        payloads.push(drafted_payload(alloc, schema, chunk)?)?;
     }
     Ok(payloads)
 }
@@ -93,8 +97,9 @@ fn numbers_of(alloc: Global, chunks: &[Chunk]) -> Result<List<ChunkAt>, Memory>
 fn draft_chunks(alloc: Global, changed: &Changed, birth: u64) -> Result<Written, Memory>
     ensures { IfOk result (λ written. written ≡ draft birth changed.now) }
 {
-    let numbers = numbers_of(alloc, changed.chunks.as_slice())?;
-    match drafted_payloads(alloc, changed) {
+    let chunks = changed.chunks.as_slice();
+    let numbers = numbers_of(alloc, chunks)?;
+    match drafted_payloads(alloc, &changed.schema, chunks) {
         Ok(payloads) => Ok(Written {
             whole: changed.whole,
             birth,
@@ -109,6 +114,7 @@ fn draft_chunks(alloc: Global, changed: &Changed, birth: u64) -> Result<Written,
 }
 
 /// The chunks that the commit of this sequence writes, before their pages are known.
+#[tactic(auto, using(crate::proofs::Drafts::draft_is_written))]
 pub fn draft(alloc: Global, changed: &Option<Changed>, birth: u64) -> Result<Option<Written>, Memory>
     requires { IfSome changed.now (λ some. NumbersRise (numbers some.chunks)) }
     ensures spelled { IfOk result (λ written. written ≡ draft_of birth changed.now) }
