@@ -27,8 +27,9 @@ use Rattle.commit_writes.specs.Commits.{pages_of, commit_pages, IsBlobSized, IsC
 use Rattle.std.specs.List.{AllZip}
 use Rattle.commit_pages.specs.declared.written.Written.{Written}
 use Rattle.commit_pages.specs.declared.version.NewVersion.{NewVersion}
-use Rattle.commit_pages.specs.Versions.{new_version, version_needs, draft_at, IsWritten}
-use Rattle.commit_pages.specs.Commits.{chain_count, chain_in, spelled, record_bytes, catalog_bytes, record_needs, base_needs, rest_of}
+use Rattle.commit_pages.specs.Versions.{version_in, new_version, version_needs, draft_at, IsWritten}
+use Rattle.commit_pages.specs.Commits.{chain_count, chain_in, spelled, record_bytes, catalog_bytes, record_needs, base_needs, rest_of, with_record, with_base}
+use Rattle.commit_pages.specs.declared.laid.Laid.{Laid}
 use Rattle.commit_pages.proofs.Blobs.{all_left}
 use Rattle.commit_pages.proofs.Lengths.{Takes, takes}
 
@@ -121,7 +122,7 @@ catalogs_as_long catalog change d e alike =
 
 pub record Fills (pages bytes : List ℕ) (version : NewVersion) : Type 0 where
   pub sized : IsChainSized (chain_in (rest_of version pages) bytes)
-  pub pages : commit_pages version.blobs (chain_in (rest_of version pages) bytes) ≡ pages
+  pub all : commit_pages version.blobs (chain_in (rest_of version pages) bytes) ≡ pages
 
 fills : (pages bytes : List ℕ) (version : NewVersion) (needs : ℕ) → 0 < length bytes → length pages ≡ needs + chain_count bytes → pages_of version.blobs ≡ take needs pages → Fills pages bytes version
 fills pages bytes version needs some count its =
@@ -135,7 +136,7 @@ fills pages bytes version needs some count its =
     let positive : 0 < n = pages_for_some (length bytes) some in
     record {
       sized = record { some = subst (λ (k : ℕ). 0 < k) (sym enough) positive; enough = enough };
-      pages = ap (λ (ps : List ℕ). ps ++ take n (rest_of version pages)) its ∙ ap (λ (ps : List ℕ). take needs pages ++ ps) all ∙ take-append-drop needs pages;
+      all = ap (λ (ps : List ℕ). ps ++ take n (rest_of version pages)) its ∙ ap (λ (ps : List ℕ). take needs pages ++ ps) all ∙ take-append-drop needs pages;
     }
 
 -- what is laid of a commit of a record
@@ -149,7 +150,7 @@ record_fills catalog newest change written pages comes is count =
     let its = takes pages written newest is (omega (arith, count)) in
     let as_long = records_as_long catalog change version.at (draft_at written newest) its.alike in
     fills pages (record_bytes catalog change version.at) version needs (record_is_some catalog change version.at (version_has_its change pages written newest comes))
-    (count ∙ ap (λ (k : ℕ). needs + k) (sym as_long)) its.pages
+    (count ∙ ap (λ (k : ℕ). needs + k) (sym as_long)) its.first
 
 pub base_fills : (catalog : Catalog) (newest : Directory) (change : Change) (written : Option Written) (pages : List ℕ) → IfSome written IsWritten
     → length pages ≡ base_needs catalog newest change written
@@ -160,7 +161,7 @@ base_fills catalog newest change written pages is count =
     let version = new_version pages written newest in
     let its = takes pages written newest is (omega (arith, count)) in
     let as_long = catalogs_as_long catalog change version.at (draft_at written newest) its.alike in
-    fills pages (catalog_bytes catalog change version.at) version needs (catalog_is_some (after_change catalog change version.at)) (count ∙ ap (λ (k : ℕ). needs + k) (sym as_long)) its.pages
+    fills pages (catalog_bytes catalog change version.at) version needs (catalog_is_some (after_change catalog change version.at)) (count ∙ ap (λ (k : ℕ). needs + k) (sym as_long)) its.first
 
 pub record_sized : (catalog : Catalog) (newest : Directory) (change : Change) (written : Option Written) (pages : List ℕ) → IfSome written IsWritten
     → length pages ≡ record_needs catalog newest change written → AllByRecursion IsBlobSized (new_version pages written newest).blobs
@@ -171,3 +172,25 @@ pub base_sized : (catalog : Catalog) (newest : Directory) (change : Change) (wri
     → length pages ≡ base_needs catalog newest change written → AllByRecursion IsBlobSized (new_version pages written newest).blobs
 unfolding base_needs
 base_sized catalog newest change written pages is count = (takes pages written newest is (omega (arith, count))).sized
+
+-- ---- what is laid
+
+-- blobs and a chain of just the pages that they need, which are these
+pub record Lies (laid : Laid) (pages : List ℕ) : Type 0 where
+  pub blobs : AllByRecursion IsBlobSized laid.blobs
+  pub chain : IsChainSized laid.chain
+  pub all : commit_pages laid.blobs laid.chain ≡ pages
+
+pub record_lies : (catalog : Catalog) (catalogue : List ℕ) (newest : Directory) (change : Change) (written : Option Written) (pages : List ℕ) (version : NewVersion) (laid : Laid) → is_some written ≡ makes_version change
+    → IfSome written IsWritten → length pages ≡ record_needs catalog newest change written → version ≡ new_version pages written newest → laid ≡ with_record catalog catalogue change version pages → Lies laid pages
+record_lies catalog catalogue newest change written pages version laid comes is count made e =
+    let its = record_fills catalog newest change written pages comes is count in
+    let all : laid ≡ with_record catalog catalogue change (new_version pages written newest) pages = e ∙ ap (λ (v : NewVersion). with_record catalog catalogue change v pages) made in
+    subst (λ (l : Laid). Lies l pages) (sym all) (record { blobs = record_sized catalog newest change written pages is count; chain = its.sized; all = its.all })
+
+pub base_lies : (catalog : Catalog) (newest : Directory) (change : Change) (written : Option Written) (pages : List ℕ) (log : ℕ) (version : NewVersion) (laid : Laid)
+    → IfSome written IsWritten → length pages ≡ base_needs catalog newest change written → version ≡ new_version pages written newest → laid ≡ with_base catalog change version pages log → Lies laid pages
+base_lies catalog newest change written pages log version laid is count made e =
+    let its = base_fills catalog newest change written pages is count in
+    let all : laid ≡ with_base catalog change (new_version pages written newest) pages log = e ∙ ap (λ (v : NewVersion). with_base catalog change v pages log) made in
+    subst (λ (l : Laid). Lies l pages) (sym all) (record { blobs = base_sized catalog newest change written pages is count; chain = its.sized; all = its.all })

@@ -249,11 +249,11 @@ insert_priced db name plan birth changed newest whole valid is are of =
     let HasSize : DirEntry → Type 0 = λ e. length e.at.items ≡ length dims in
     let old_sized : AllByRecursion HasSize old = of_entries (length dims) old of.listed.sized in
     let fresh_sized : AllByRecursion HasSize fresh = of_entries (length dims) fresh (subst (AllByRecursion (λ (k : ChunkNumber). length k ≡ length dims)) (sym its_numbers) sized) in
-    let new_sized : AllByRecursion HasSize new = replaced_has HasSize fresh old new replaced fresh_sized (λ e found no. found_has HasSize old e.at.items e old_sized found) in
-    let kept : (e : DirEntry) → entry_at old e.at.items ≡ Some e → is_listed e.at.items (numbers fresh) ≡ false → HasItsLength schema rows e = λ e found no.
+    let new_sized : AllByRecursion HasSize new = replaced_has HasSize fresh old new replaced fresh_sized (λ e found none. found_has HasSize old e.at.items e old_sized found) in
+    let kept : (e : DirEntry) → entry_at old e.at.items ≡ Some e → is_listed e.at.items (numbers fresh) ≡ false → HasItsLength schema rows e = λ e found none.
     insert_keeps schema input before e rise (found_has HasSize old e.at.items e old_sized found) (found_has (HasItsLength schema before) old e.at.items e of.lengths found)
     (sym (of.listed.listed e.at.items (found_has HasSize old e.at.items e old_sized found)) ∙ found_listed old e.at.items e found)
-    (sym (chosen e.at.items (found_has HasSize old e.at.items e old_sized found)) ∙ no) in
+    (sym (chosen e.at.items (found_has HasSize old e.at.items e old_sized found)) ∙ none) in
     let lengths : AllByRecursion (HasItsLength schema rows) new = replaced_has (HasItsLength schema rows) fresh old new replaced (fresh_lengths schema rows birth chunks theirs) kept in
     let bytes : length (directory_bytes written newest) ≡ (cost_directory schema rows).length =
     cost_bytes schema rows new is.rows (record { rising = replaced.rising; sized = of_numbers (length dims) new new_sized; listed = listed }) lengths in
@@ -269,20 +269,20 @@ insert_priced db name plan birth changed newest whole valid is are of =
 
 priced : (db : Database) (change : Change) (birth : ℕ) (catalog : Catalog) (changed : Option Changed) (newest : Directory) → IsOver db change catalog changed newest → IsPriced db change birth changed newest
 priced db (Create name schema) birth catalog None newest over = record { needs = refl; alike = tt }
-priced db (Create name schema) birth catalog (Some changed) newest over = absurd (let no = over.comes in cc)
+priced db (Create name schema) birth catalog (Some changed) newest over = absurd (let wrong = over.comes in cc)
 priced db (Store name schema plan) birth catalog None newest over = absurd over.comes
 priced db (Store name schema plan) birth catalog (Some changed) newest over =
     subst (λ (s : Schema). IsChangeOf db (Store name s plan) changed → IsPriced db (Store name s plan) birth (Some changed) newest) over.comes.0
     (store_priced db name plan birth changed newest over.comes.1 over.valid) over.chunks
 priced db (Insert name schema plan) birth catalog None newest over = absurd over.comes
 priced db (Insert name schema plan) birth catalog (Some changed) newest over =
-    let its = over.newest over.comes.1 in
+    let its = over.before over.comes.1 in
     subst (λ (s : Schema). IsChangeOf db (Insert name s plan) changed → IsPriced db (Insert name s plan) birth (Some changed) newest) over.comes.0
     (λ is. insert_priced db name plan birth changed newest over.comes.1 over.valid is its.0 its.1) over.chunks
 priced db (Remove name) birth catalog None newest over = record { needs = refl; alike = tt }
-priced db (Remove name) birth catalog (Some changed) newest over = absurd (let no = over.comes in cc)
+priced db (Remove name) birth catalog (Some changed) newest over = absurd (let wrong = over.comes in cc)
 priced db (RemoveVersions name below) birth catalog None newest over = record { needs = refl; alike = tt }
-priced db (RemoveVersions name below) birth catalog (Some changed) newest over = absurd (let no = over.comes in cc)
+priced db (RemoveVersions name below) birth catalog (Some changed) newest over = absurd (let wrong = over.comes in cc)
 
 pub records_cost : RecordsCostTheirPages
 unfolding record_needs
@@ -290,7 +290,7 @@ records_cost records db h change catalog changed newest birth over room =
     let its = priced db change birth catalog changed newest over in
     let at = draft_at (draft_of birth changed) newest in
     let chain : chain_count (record_bytes catalog change at) ≡ record_pages db change =
-    ap (pages_for (content_size page_size)) (same_length catalog change at) ∙ sym (record_pages_are_told db change catalog at over.catalog its.alike) in
+    ap (pages_for (content_size page_size)) (same_length catalog change at) ∙ sym (record_pages_are_told db change catalog at over.alike its.alike) in
     two_sums _ _ _ _ its.needs chain ∙ ap (λ (b : Bool). new_version_pages db change + cond b (record_pages db change) (catalogue_pages db change + 1)) (sym room)
 
 pub bases_cost : BasesCostTheirPages
@@ -298,7 +298,7 @@ unfolding base_needs
 bases_cost records db h change catalog changed newest birth over full =
     let its = priced db change birth catalog changed newest over in
     let at = draft_at (draft_of birth changed) newest in
-    let chain : chain_count (catalog_bytes catalog change at) ≡ catalogue_pages db change = sym (catalogue_pages_are_told db change catalog at over.database over.typed over.catalog its.alike) in
+    let chain : chain_count (catalog_bytes catalog change at) ≡ catalogue_pages db change = sym (catalogue_pages_are_told db change catalog at over.database over.typed over.alike its.alike) in
     let sum : version_needs (draft_of birth changed) newest + chain_count (catalog_bytes catalog change at) ≡ new_version_pages db change + catalogue_pages db change = two_sums _ _ _ _ its.needs chain in
     ap (λ (n : ℕ). n + 1) sum ∙ add_assoc (new_version_pages db change) (catalogue_pages db change) 1
     ∙ ap (λ (b : Bool). new_version_pages db change + cond b (record_pages db change) (catalogue_pages db change + 1)) (sym full)

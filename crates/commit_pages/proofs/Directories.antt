@@ -164,6 +164,9 @@ chunk_numbers (chunk ∷ chunks) = ap (λ (ks : List ChunkNumber). chunk.at.item
 pub draft_rises : (changed : Changed) (birth : ℕ) → NumbersRise (link.numbers changed.chunks) → HasRisingNumbers (draft birth changed)
 draft_rises changed birth rise = subst NumbersRise (sym (chunk_numbers changed.chunks)) rise
 
+pub entries_rise : (written : Written) → HasRisingNumbers written → AreRising (entries_of written)
+entries_rise written rise = pairs_rise written.birth written.numbers written.payloads rise
+
 -- ---- the directory
 
 pub stores_list_theirs : (written : Written) (newest : Directory) → written.whole ≡ true → (directory_of written newest).entries ≡ entries_of written

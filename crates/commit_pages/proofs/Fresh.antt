@@ -5,7 +5,8 @@ use Rattle.std.specs.List.{AllByRecursion, filter, flat_map}
 use Rattle.std.specs.Option.{is_some}
 use Rattle.std.specs.declared.cmp.Ordering.{Ordering}
 use Rattle.std.specs.declared.cmp.Ordering.TheVariants.{Less, Equal, Greater}
-use Rattle.std.proofs.lemmas.List.{append_assoc, append-nil}
+use Rattle.std.proofs.lemmas.Bool.Decides.{nat_tests}
+use Rattle.std.proofs.lemmas.List.{append_assoc}
 use Rattle.std.proofs.lemmas.List.Elements.{filter-append}
 use Rattle.arrayvec.specs.ArrayVec.{ArrayVec}
 use Rattle.array_rows.specs.Boxes.{by_pairs}
@@ -206,13 +207,12 @@ held_in : (x : ℕ) (all pages : List ℕ) → AllByRecursion (λ page. holds al
 held_in x all [] held = tt
 held_in x all (page ∷ pages) held = (more_known (nat_eq x page) (holds all page) held.0, held_in x all pages held.1)
 
-equal_itself : (n : ℕ) → nat_eq n n ≡ true
-equal_itself zero = refl
-equal_itself (suc n) = equal_itself n
+same_page : (a b : ℕ) → a ≡ b → nat_eq a b ≡ true
+same_page a b is = grind (arith, nat_tests)
 
 all_held : (pages : List ℕ) → AllByRecursion (λ page. holds pages page ≡ true) pages
 all_held [] = tt
-all_held (x ∷ pages) = (ap (λ (b : Bool). b || holds pages x) (equal_itself x), held_in x pages pages (all_held pages))
+all_held (x ∷ pages) = (ap (λ (b : Bool). b || holds pages x) (same_page x x refl), held_in x pages pages (all_held pages))
 
 known_catalogue : (names : Names) (versions : List VersionPages) (catalogue : List ℕ) (change : Change) (pages : List ℕ) → AllByRecursion (λ page. holds catalogue page ≡ true) pages
     → AreDropped (is_known names versions catalogue change) pages
@@ -239,14 +239,14 @@ records_use_the_given names versions catalog catalogue newest change written pag
     let known = is_known names versions catalogue change in
     let version = new_version pages written newest in
     let chain = chain_in (rest_of version pages) (record_bytes catalog change version.at) in
-    let fills : pages_of version.blobs ++ chain.pages ≡ pages = (record_fills catalog newest change written pages comes is count).pages in
+    let fills : pages_of version.blobs ++ chain.pages ≡ pages = (record_fills catalog newest change written pages comes is count).all in
     let kept : AreKept known (pages_of version.blobs ++ chain.pages) = subst (AreKept known) (sym fills) apart.given in
     let blobs : AreKept known (pages_of version.blobs) = all_first (λ page. known page ≡ false) (pages_of version.blobs) chain.pages kept in
     let rest : AreKept known chain.pages = all_rest (λ page. known page ≡ false) (pages_of version.blobs) chain.pages kept in
     let before : left known catalogue ≡ [] = dropped_go known catalogue (known_catalogue names versions catalogue change catalogue (all_held catalogue)) in
     let more : left known (catalogue ++ chain.pages) ≡ chain.pages =
     left_append known catalogue chain.pages ∙ ap (λ (ps : List ℕ). ps ++ left known chain.pages) before ∙ kept_stay known chain.pages rest in
-    all_given known version chain.pages (catalogue ++ chain.pages) pages (its known pages written newest is apart.newest blobs) more fills
+    all_given known version chain.pages (catalogue ++ chain.pages) pages (its known pages written newest is apart.known blobs) more fills
 
 pub bases_use_the_given : BasesUseTheGiven
 unfolding base_laid
@@ -254,11 +254,11 @@ bases_use_the_given names versions catalog catalogue newest change written pages
     let known = is_known names versions catalogue change in
     let version = new_version pages written newest in
     let chain = chain_in (rest_of version pages) (catalog_bytes catalog change version.at) in
-    let fills : pages_of version.blobs ++ chain.pages ≡ pages = (base_fills catalog newest change written pages is count).pages in
+    let fills : pages_of version.blobs ++ chain.pages ≡ pages = (base_fills catalog newest change written pages is count).all in
     let all : pages_of version.blobs ++ (chain.pages ++ log ∷ []) ≡ pages ++ log ∷ [] =
     sym (append_assoc (pages_of version.blobs) chain.pages (log ∷ [])) ∙ ap (λ (ps : List ℕ). ps ++ log ∷ []) fills in
     let kept : AreKept known (pages_of version.blobs ++ (chain.pages ++ log ∷ [])) = subst (AreKept known) (sym all) apart.given in
     let blobs : AreKept known (pages_of version.blobs) = all_first (λ page. known page ≡ false) (pages_of version.blobs) (chain.pages ++ log ∷ []) kept in
     let rest : AreKept known (chain.pages ++ log ∷ []) = all_rest (λ page. known page ≡ false) (pages_of version.blobs) (chain.pages ++ log ∷ []) kept in
-    all_given known version (chain.pages ++ log ∷ []) (chain.pages ++ log ∷ []) (pages ++ log ∷ []) (its known pages written newest is apart.newest blobs)
+    all_given known version (chain.pages ++ log ∷ []) (chain.pages ++ log ∷ []) (pages ++ log ∷ []) (its known pages written newest is apart.known blobs)
     (kept_stay known (chain.pages ++ log ∷ []) rest) all

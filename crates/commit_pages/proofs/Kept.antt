@@ -42,9 +42,12 @@ none_in_core dims k len (row ∷ rows) e =
         → is_not_empty (cond b (row ∷ within (frame dims (overlaps dims) k) rows) (within (frame dims (overlaps dims) k) rows)) ≡ false
         → (is_not_empty (within (frame dims (overlaps dims) k) rows) ≡ false → within (core dims k) rows ≡ [])
         → cond c (row ∷ within (core dims k) rows) (within (core dims k) rows) ≡ []
-    by_tests true c f g no later = absurd cc
-    by_tests false true f g no later = let inside : is_inside (frame dims (overlaps dims) k) row.at.items ≡ true = core_in_frame dims (overlaps dims) k row.at.items len g in absurd cc
-    by_tests false false f g no later = later no
+    by_tests true c f g none later = absurd (not_both true refl none)
+      where
+        not_both : (b : Bool) → b ≡ true → b ≡ false → ⊥
+        not_both b p q = cc
+    by_tests false true f g none later = absurd (let inside : is_inside (frame dims (overlaps dims) k) row.at.items ≡ true = core_in_frame dims (overlaps dims) k row.at.items len g in cc)
+    by_tests false false f g none later = later none
 
 -- a chunk whose frame meets no cell that is put in holds a cell just where it did
 pub has_as_before : (dims : List Dimension) (k : ChunkNumber) (input rows : List Row) → length (overlaps dims) ≡ length dims → IsRising rows → meets dims input k ≡ false
@@ -61,7 +64,7 @@ frame_is_empty (row ∷ part) e = absurd cc
 pub both_listed : (now before met : Bool) → (before ≡ true → now ≡ true) → (met ≡ false → now ≡ before) → ((now && met) || before) ≡ now
 both_listed true before true f g = refl
 both_listed true before false f g = sym (g refl)
-both_listed false true met f g = absurd (let no = f refl in cc)
+both_listed false true met f g = absurd (let wrong = f refl in cc)
 both_listed false false met f g = refl
 
 -- what there was and isn't written meets none

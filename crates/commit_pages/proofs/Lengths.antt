@@ -101,16 +101,16 @@ all_put_alike (x ∷ xs) (y ∷ ys) old all = put_alike x y (put_entries xs old)
 
 -- ---- the entries of payloads, whichever pages these have
 
-pairs_alike : (birth : ℕ) (ns : List (ArrayVec ℕ)) (as bs : List Placed) → AllByRecursion IsBlobSized as → AllByRecursion IsBlobSized bs → map (λ one. one.bytes) as ≡ map (λ one. one.bytes) bs
-    → AllZip AreAlikeEntries (by_pairs (entry_of birth) ns as) (by_pairs (entry_of birth) ns bs)
-pairs_alike birth [] as bs p q e = tt
+pairs_alike : (birth : ℕ) (ns : List (ArrayVec ℕ)) (xs ys : List Placed) → AllByRecursion IsBlobSized xs → AllByRecursion IsBlobSized ys → map (λ one. one.bytes) xs ≡ map (λ one. one.bytes) ys
+    → AllZip AreAlikeEntries (by_pairs (entry_of birth) ns xs) (by_pairs (entry_of birth) ns ys)
+pairs_alike birth [] xs ys p q e = tt
 pairs_alike birth (n ∷ ns) [] [] p q e = tt
-pairs_alike birth (n ∷ ns) [] (b ∷ bs) p q e = absurd cc
-pairs_alike birth (n ∷ ns) (a ∷ as) [] p q e = absurd cc
-pairs_alike birth (n ∷ ns) (a ∷ as) (b ∷ bs) p q e =
+pairs_alike birth (n ∷ ns) [] (b ∷ ys) p q e = absurd cc
+pairs_alike birth (n ∷ ns) (a ∷ xs) [] p q e = absurd cc
+pairs_alike birth (n ∷ ns) (a ∷ xs) (b ∷ ys) p q e =
     let first : a.bytes ≡ b.bytes = cc in
-    let later : map (λ (one : Placed). one.bytes) as ≡ map (λ (one : Placed). one.bytes) bs = cc in
-    (record { numbers = refl; pages = p.0 ∙ ap blob_count first ∙ sym q.0 }, pairs_alike birth ns as bs p.1 q.1 later)
+    let later : map (λ (one : Placed). one.bytes) xs ≡ map (λ (one : Placed). one.bytes) ys = cc in
+    (record { numbers = refl; pages = p.0 ∙ ap blob_count first ∙ sym q.0 }, pairs_alike birth ns xs ys p.1 q.1 later)
 
 bytes_placed : (pages : List ℕ) (blobs : List Placed) → map (λ one. one.bytes) (all_placed pages blobs) ≡ map (λ one. one.bytes) blobs
 bytes_placed pages [] = refl
@@ -140,7 +140,7 @@ settled_bytes pages written newest is le =
 -- a version takes the first pages, as many as it needs, and its directory is like the one before its pages are known
 pub record Takes (pages : List ℕ) (written : Option Written) (newest : Directory) : Type 0 where
   pub sized : AllByRecursion IsBlobSized (new_version pages written newest).blobs
-  pub pages : pages_of (new_version pages written newest).blobs ≡ take (version_needs written newest) pages
+  pub first : pages_of (new_version pages written newest).blobs ≡ take (version_needs written newest) pages
   pub alike : AreBothAlike (new_version pages written newest).at (draft_at written newest)
 
 nothing : (pages : List ℕ) → [] ≡ take 0 pages
@@ -162,7 +162,7 @@ some_takes pages written newest is le =
     let own_is : IsBlobSized own = length-take-le n (drop m pages) fits in
     record {
       sized = sized_more (all_placed pages written.payloads) own (sized_placed pages written.payloads is.sized payloads_fit) own_is;
-      pages = pages_more (all_placed pages written.payloads) own
+      first = pages_more (all_placed pages written.payloads) own
           ∙ ap (λ (ps : List ℕ). ps ++ take n (drop m pages)) (pages_placed pages written.payloads is.sized payloads_fit)
           ∙ take_both m n pages payloads_fit
           ∙ ap (λ (k : ℕ). take (m + k) pages) count;
@@ -170,5 +170,5 @@ some_takes pages written newest is le =
     }
 
 pub takes : (pages : List ℕ) (written : Option Written) (newest : Directory) → IfSome written IsWritten → version_needs written newest ≤ length pages → Takes pages written newest
-takes pages None newest is le = record { sized = tt; pages = nothing pages; alike = tt }
+takes pages None newest is le = record { sized = tt; first = nothing pages; alike = tt }
 takes pages (Some written) newest is le = some_takes pages written newest is le

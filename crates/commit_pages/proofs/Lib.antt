@@ -9,4 +9,5 @@ pub mod Lengths
 pub mod Loops
 pub mod Needs
 pub mod Parts
+pub mod Results
 pub mod Same

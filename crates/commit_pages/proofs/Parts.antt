@@ -31,7 +31,7 @@ all_there file schema rows birth (chunk ∷ chunks) pages stored parts le holds 
     let read = blob_read file (take n pages) bytes holds.0 (length-take-le n pages fit.0) in
     (record {
       core = stored.0.valid.framed.core;
-      birth = refl;
+      written = refl;
       pages = read.0;
       part = spelled_is_read schema (blob page_size file (take n pages) (length bytes)) chunk stored.0 read.1 ∙ ap Ok (part_stored schema rows chunk stored.0.valid.framed parts.0);
     }, all_there file schema rows birth chunks (drop n pages) stored.1 parts.1 fit.1 holds.1)

@@ -62,11 +62,11 @@ IsNewest db change changed newest = IfSome changed (λ some. some.whole ≡ fals
 pub record IsOver (db : Database) (change : Change) (catalog : Catalog) (changed : Option Changed) (newest : Directory) : Type 0 where
   pub database : IsDatabase db
   pub typed : IsTypedFor (names_of db) change
-  pub catalog : AreAlikeCatalogs catalog (catalog_of db)
+  pub alike : AreAlikeCatalogs catalog (catalog_of db)
   pub comes : ComesWith change changed
   pub valid : IfSome changed AreValid
   pub chunks : IfSome changed (IsChangeOf db change)
-  pub newest : IsNewest db change changed newest
+  pub before : IsNewest db change changed newest
 
 -- a commit of a record takes as many pages as the change costs, where the log has room for one, and a commit of a new base, with the log
 -- page, where it has none
@@ -86,7 +86,7 @@ BasesCostTheirPages = (records : Option ℕ) (db : Database) (h : History) (chan
 -- the rows
 pub record IsThere (file : List ℕ) (schema : Schema) (rows : List Row) (birth : ℕ) (entry : DirEntry) : Type 0 where
   pub core : has_core schema.dimensions entry.at.items ≡ true
-  pub birth : entry.birth ≡ birth
+  pub written : entry.birth ≡ birth
   pub pages : first_past page_size file entry.pages ≡ None
   pub part : HoldsPart file schema rows entry
 
@@ -105,7 +105,7 @@ is_known names versions catalogue change page = is_newest names versions (name_o
 
 -- what is handed to a commit is that of a core: the newest version's payloads lie in its pages, and the given pages are none that are known
 pub record IsApart (names : Names) (versions : List VersionPages) (catalogue : List ℕ) (change : Change) (newest : Directory) (pages : List ℕ) : Type 0 where
-  pub newest : AllByRecursion (λ entry. AllByRecursion (λ page. is_known names versions catalogue change page ≡ true) entry.pages) newest.entries
+  pub known : AllByRecursion (λ entry. AllByRecursion (λ page. is_known names versions catalogue change page ≡ true) entry.pages) newest.entries
   pub given : AllByRecursion (λ page. is_known names versions catalogue change page ≡ false) pages
 
 -- the same pages, in whichever order

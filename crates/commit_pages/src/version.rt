@@ -5,7 +5,7 @@ ghost use Rattle.array_rows.specs.Boxes.{by_pairs};
 ghost use Rattle.chunk_map.specs.Entries.{AreRising};
 ghost use Rattle.chunk_map.specs.Spelling.{spelling as directory_spelling};
 ghost use Rattle.file_meaning.specs.Opening.{version_pages};
-ghost use Rattle.commit_pages.specs.Versions.{placed, blob_at, settled, entry_of, entries_of, directory_of, directory_bytes, version_in, new_version, all_placed, payload_count, HasRisingNumbers};
+ghost use Rattle.commit_pages.specs.Versions.{placed, blob_at, settled, entry_of, entries_of, put_entries, directory_of, directory_bytes, version_in, new_version, all_placed, payload_count, HasRisingNumbers};
 
 use crate::Written;
 use crate::written::{blob_count, first_pages, pages_behind, settle_all};
@@ -55,6 +55,22 @@ fn entries(
     Ok(entries)
 }
 
+fn written_entries(alloc: Global, written: &Written) -> Result<List<DirEntry>, Memory>
+    ensures { IfOk result (λ entries. entries ≡ entries_of written.now) }
+{
+    let numbers = written.numbers.as_slice();
+    entries(alloc, written.birth, numbers, written.payloads.as_slice())
+}
+
+/// The newest version's directory with these entries in their places.
+fn with_entries(newest: &Directory, fresh: &List<DirEntry>) -> Result<Directory, Memory>
+    requires fresh { AreRising fresh.now }
+    requires newest { AreRising newest.now.entries }
+    ensures { IfOk result (λ directory. directory ≡ record { entries = put_entries fresh.now newest.now.entries }) }
+{
+    replaced(newest, fresh.as_slice())
+}
+
 /// The directory of a version: of all its chunks, or the newest one with these in their places.
 #[tactic(auto, unfolding(crate::specs::Versions::directory_of))]
 fn directory_of(
@@ -66,12 +82,11 @@ fn directory_of(
     requires newest { AreRising newest.now.entries }
     ensures { IfOk result (λ directory. directory ≡ directory_of written.now newest.now) }
 {
-    let numbers = written.numbers.as_slice();
-    let fresh = entries(alloc, written.birth, numbers, written.payloads.as_slice())?;
+    let fresh = written_entries(alloc, written)?;
     if written.whole {
         Ok(Directory { entries: fresh })
     } else {
-        replaced(newest, fresh.as_slice())
+        with_entries(newest, &fresh)
     }
 }
 

@@ -114,7 +114,6 @@ fn draft_chunks(alloc: Global, changed: &Changed, birth: u64) -> Result<Written,
 }
 
 /// The chunks that the commit of this sequence writes, before their pages are known.
-#[tactic(auto, using(crate::proofs::Drafts::draft_is_written))]
 pub fn draft(alloc: Global, changed: &Option<Changed>, birth: u64) -> Result<Option<Written>, Memory>
     requires { IfSome changed.now (λ some. NumbersRise (numbers some.chunks)) }
     ensures spelled { IfOk result (λ written. written ≡ draft_of birth changed.now) }
