@@ -1,11 +1,11 @@
 -- Blobs that lie in pages one after the other.
-use Rattle.std.proofs.Common.{◌≡◌, ◌∙◌, ℕ, zero, suc, ◌+◌, ◌-◌, ◌≤◌, List, [], ◌∷◌, ◌++◌, length, take, drop, replicate, refl, sym, ap, subst, arith}
+use Rattle.std.proofs.Common.{◌≡◌, ◌∙◌, ℕ, suc, ◌+◌, ◌-◌, ◌≤◌, List, [], ◌∷◌, ◌++◌, length, take, drop, refl, sym, ap, subst, arith}
 use Rattle.std.specs.List.{AllByRecursion}
 use Rattle.std.proofs.lemmas.List.{length-append, length-drop, length-take-le, length-replicate, take-append-drop, append-nil}
 use Rattle.std.proofs.Math.Seq.{take-append-add, take-length}
 use Rattle.commit_writes.specs.declared.placed.Placed.{Placed}
 use Rattle.commit_writes.specs.Commits.{pages_of, IsBlobSized}
-use Rattle.commit_pages.specs.Versions.{blob_count, placed, all_placed, drafted}
+use Rattle.commit_pages.specs.Versions.{blob_count, all_placed, drafted}
 
 -- the first pages, and then the first of those behind them
 pub take_both : (m n : ℕ) (pages : List ℕ) → m ≤ length pages → take m pages ++ take n (drop m pages) ≡ take (m + n) pages

@@ -1,5 +1,5 @@
 -- The chain of a commit behind the blobs of its version.
-use Rattle.std.proofs.Common.{◌≡◌, ◌∙◌, IfSome, ℕ, zero, suc, ◌+◌, ◌-◌, ◌/◌, ◌%◌, ◌<◌, ◌≤◌, min, Bool, true, false, cond, IsTrue, List, [], ◌∷◌, ◌++◌, length, take, drop, Option, Some, None, refl, sym, ap, subst, arith}
+use Rattle.std.proofs.Common.{◌≡◌, ◌∙◌, IfSome, ℕ, ◌+◌, ◌-◌, ◌<◌, Bool, true, false, cond, List, [], ◌∷◌, ◌++◌, length, take, drop, Option, Some, None, refl, sym, ap, subst, arith}
 use Rattle.std.specs.Int.{w32, to_le_bytes}
 use Rattle.std.specs.List.{AllByRecursion, flat_map}
 use Rattle.std.specs.Option.{is_some}
@@ -16,13 +16,12 @@ use Rattle.version_catalog.specs.declared.rules.catalog.CatalogArray.{CatalogArr
 use Rattle.version_catalog.specs.declared.rules.catalog.Catalog.{Catalog}
 use Rattle.version_catalog.specs.declared.rules.catalog_record.CatalogRecord.TheVariants as entries
 use Rattle.version_catalog.specs.Spelling.{spell_record, spell_array, spelling}
-use Rattle.catalog_changes.specs.Changed.{has_its_directory, record_for, stored_by, after_change}
+use Rattle.catalog_changes.specs.Changed.{has_its_directory, record_for, after_change}
 use Rattle.catalog_changes.specs.Records.{entries_of}
 use Rattle.event_core.specs.Apart.{makes_version}
-use Rattle.commit_costs.specs.Lengths.{AreAlike, AreAlikeArrays, AreAlikeCatalogs, AreBothAlike}
+use Rattle.commit_costs.specs.Lengths.{AreAlike, AreAlikeArrays, AreBothAlike}
 use Rattle.commit_costs.proofs.Lengths.{records_read_no_page, catalogs_read_no_page, changes_keep_alike}
 use Rattle.commit_costs.specs.Costs.{record_length}
-use Rattle.commit_writes.specs.declared.placed.Placed.{Placed}
 use Rattle.commit_writes.specs.Commits.{pages_of, commit_pages, IsBlobSized, IsChainSized}
 use Rattle.std.specs.List.{AllZip}
 use Rattle.commit_pages.specs.declared.written.Written.{Written}
@@ -31,7 +30,7 @@ use Rattle.commit_pages.specs.Versions.{version_in, new_version, version_needs, 
 use Rattle.commit_pages.specs.Commits.{chain_count, chain_in, spelled, record_bytes, catalog_bytes, record_needs, base_needs, rest_of, with_record, with_base}
 use Rattle.commit_pages.specs.declared.laid.Laid.{Laid}
 use Rattle.commit_pages.proofs.Blobs.{all_left}
-use Rattle.commit_pages.proofs.Lengths.{Takes, takes}
+use Rattle.commit_pages.proofs.Lengths.{takes}
 
 -- ---- a directory comes where a version is made
 

@@ -1,10 +1,9 @@
 -- What a commit takes is what its change costs.
-use Rattle.std.proofs.Common.{◌≡◌, ◌∙◌, IfSome, add_assoc, ℕ, zero, suc, ◌+◌, ◌<◌, Bool, true, false, cond, ◌&&◌, ◌||◌, IsTrue, List, [], ◌∷◌, ◌++◌, length, map, replicate, Option, Some, None, refl, sym, ap, subst, arith}
+use Rattle.std.proofs.Common.{◌≡◌, ◌∙◌, add_assoc, ℕ, suc, ◌+◌, Bool, true, false, cond, ◌&&◌, ◌||◌, List, [], ◌∷◌, length, map, replicate, Option, Some, None, refl, sym, ap, subst}
 use Rattle.std.specs.List.{AllByRecursion}
 use Rattle.std.specs.Option.{option_or}
 use Rattle.std.specs.Ordering.{is_eq}
 use Rattle.std.specs.declared.cmp.Ordering.{Ordering}
-use Rattle.std.specs.declared.cmp.Ordering.TheVariants.{Less}
 use Rattle.std.proofs.lemmas.Bool.{and_parts}
 use Rattle.std.proofs.lemmas.List.{length-append, length-replicate}
 use Rattle.cell_values.specs.declared.datum.Row.{Row}
@@ -15,7 +14,7 @@ use Rattle.array_rows.specs.Boxes.{by_pairs, within}
 use Rattle.array_rows.specs.Rows.{IsRising, put_all}
 use Rattle.array_geom.specs.declared.chunk.Changed.{Changed}
 use Rattle.array_geom.specs.declared.chunk.Chunk.{Chunk}
-use Rattle.array_geom.specs.Geometry.{ChunkNumber, first_in, frame, has_core, overlaps}
+use Rattle.array_geom.specs.Geometry.{ChunkNumber, frame, has_core, overlaps}
 use Rattle.array_geom.specs.Link.{IsPart, NumbersRise, number_order, is_listed, has_cell}
 use Rattle.array_geom.specs.Link as link
 use Rattle.chunk_rle.specs.Chunks.{spelling as payload_spelling}
@@ -32,13 +31,11 @@ use Rattle.plan_changes.specs.declared.change.Change.{Change}
 use Rattle.plan_changes.specs.declared.change.Change.TheVariants.{Create, Store, Insert, Remove, RemoveVersions}
 use Rattle.plan_changes.specs.Databases.{Database, fitted, new_rows, newest_rows, rows_if_whole}
 use Rattle.version_catalog.specs.declared.rules.catalog.Catalog.{Catalog}
-use Rattle.event_core.specs.Bases.{records_at}
-use Rattle.event_core.specs.History.{History}
 use Rattle.file_meaning.specs.Standing.{stored_chunk}
 use Rattle.file_laws.proofs.Counts.{counts_agree}
 use Rattle.file_laws.proofs.Payloads.{part_stored}
 use Rattle.file_laws.proofs.StoredLaws.{beside_stay}
-use Rattle.commit_costs.specs.Costs.{payload_length, payload_pages, numbers_of, touched, directory_for, new_version_pages, has_log_room, record_pages, catalogue_pages, cost_from}
+use Rattle.commit_costs.specs.Costs.{payload_length, payload_pages, directory_for, new_version_pages, record_pages, catalogue_pages}
 use Rattle.commit_costs.specs.Costs.{directory_of as cost_directory}
 use Rattle.commit_costs.specs.Lengths.{AreAlike, AreBothAlike, AreListed, HasItsLength, meets}
 use Rattle.commit_costs.proofs.Catalogs.{record_pages_are_told, catalogue_pages_are_told}
@@ -46,11 +43,11 @@ use Rattle.commit_costs.proofs.Lengths.{directory_bytes as cost_bytes}
 use Rattle.commit_costs.proofs.Orders.{stored_pages, written_pages}
 use Rattle.commit_writes.specs.Commits.{pages_of}
 use Rattle.commit_pages.specs.Versions.{blob_count, blob_at, drafted, draft, draft_of, draft_at, entry_of, entries_of, directory_of, directory_bytes, version_needs}
-use Rattle.commit_pages.specs.Changes.{ComesWith, AreValid, IsChangeOf, is_written}
+use Rattle.commit_pages.specs.Changes.{AreValid, IsChangeOf}
 use Rattle.commit_pages.specs.Commits.{record_needs, base_needs, record_bytes, catalog_bytes, chain_count}
 use Rattle.page_chain.specs.Pages.{page_size, pages_for}
 use Rattle.page_chain.specs.Chains.{content_size}
-use Rattle.commit_pages.specs.Laws.{IsOfRows, IsNewest, IsOver, RecordsCostTheirPages, BasesCostTheirPages}
+use Rattle.commit_pages.specs.Laws.{IsOfRows, IsOver, RecordsCostTheirPages, BasesCostTheirPages}
 use Rattle.commit_pages.proofs.Chains.{same_length}
 use Rattle.commit_pages.proofs.Directories.{stores_list_theirs, inserts_replace, first_found, draft_rises}
 use Rattle.commit_pages.proofs.Kept.{still_has, has_as_before, frame_is_empty, both_listed, not_met}
@@ -100,11 +97,13 @@ fresh_lengths : (schema : Schema) (rows : List Row) (birth : ℕ) (chunks : List
     → AllByRecursion (HasItsLength schema rows) (by_pairs (entry_of birth) (map (λ chunk. chunk.at) chunks) (map (λ chunk. drafted (payload_spelling schema.attributes chunk)) chunks))
 fresh_lengths schema rows birth [] all = tt
 fresh_lengths schema rows birth (chunk ∷ chunks) all =
-    let bytes = payload_spelling schema.attributes chunk in
-    (record {
-      bytes = ap (λ (c : Chunk). length (payload_spelling schema.attributes c)) all.0;
-      pages = length-replicate (blob_count bytes) 1 ∙ sym (counts_agree (length bytes));
-    }, fresh_lengths schema rows birth chunks all.1)
+    let bytes = payload_spelling schema.attributes chunk in (
+      record {
+        bytes = ap (λ (c : Chunk). length (payload_spelling schema.attributes c)) all.0;
+        pages = length-replicate (blob_count bytes) 1 ∙ sym (counts_agree (length bytes));
+      },
+      fresh_lengths schema rows birth chunks all.1,
+    )
 
 -- ---- directories
 

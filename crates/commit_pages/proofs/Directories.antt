@@ -1,5 +1,5 @@
 -- Entries that are put into a directory.
-use Rattle.std.proofs.Common.{◌≡◌, ◌∙◌, ℕ, Bool, true, false, cond, List, [], ◌∷◌, length, map, Option, Some, None, refl, sym, ap, subst}
+use Rattle.std.proofs.Common.{◌≡◌, ◌∙◌, ℕ, Bool, true, false, cond, List, [], ◌∷◌, map, Option, Some, None, refl, sym, ap, subst}
 use Rattle.std.proofs.lemmas.Cmp.{tied_itself}
 use Rattle.std.specs.List.{AllByRecursion}
 use Rattle.std.specs.Option.{option_or}
@@ -114,6 +114,7 @@ at_put x (e ∷ es) k r = by_order (number_order x.at.items e.at.items) refl (at
         let ek : e.at.items ≡ k = same_number e.at.items k (is_equal (number_order e.at.items k) g) in
         let xe : number_order x.at.items e.at.items ≡ Equal = ap (λ (z : ChunkNumber). number_order x.at.items z) (ek ∙ sym xk) ∙ same_itself x.at.items in
         absurd cc
+
     by_order : (t : Ordering) → number_order x.at.items e.at.items ≡ t → entry_at (put_entry x es) k ≡ cond (is_eq (number_order x.at.items k)) (Some x) (entry_at es k)
         → entry_at (put_by t x e es (put_entry x es)) k ≡ cond (is_eq (number_order x.at.items k)) (Some x) (entry_at (e ∷ es) k)
     by_order Less is later = refl

@@ -1,5 +1,5 @@
 -- Chunks that are written, before their pages are known.
-use Rattle.std.proofs.Common.{◌≡◌, ◌∙◌, IfSome, ℕ, suc, List, [], ◌∷◌, length, map, Option, Some, None, refl, ap}
+use Rattle.std.proofs.Common.{◌≡◌, IfSome, ℕ, suc, List, [], ◌∷◌, length, map, Option, Some, None, refl, ap}
 use Rattle.std.specs.List.{AllByRecursion}
 use Rattle.cell_values.specs.declared.schema.Schema.{Schema}
 use Rattle.array_geom.specs.declared.chunk.Changed.{Changed}

@@ -1,8 +1,7 @@
 -- The fresh pages of a commit are those that it was given.
-use Rattle.std.proofs.Common.{◌≡◌, ◌∙◌, ◌⊎◌, inl, inr, IfSome, ℕ, zero, suc, ◌+◌, ◌≤◌, Bool, true, false, cond, not, ◌||◌, List, [], ◌∷◌, ◌++◌, length, map, take, drop, Option, Some, None, refl, sym, ap, subst, arith}
+use Rattle.std.proofs.Common.{◌≡◌, ◌∙◌, ◌⊎◌, inl, inr, IfSome, ℕ, Bool, true, false, cond, not, ◌||◌, List, [], ◌∷◌, ◌++◌, length, drop, Option, Some, None, refl, sym, ap, subst, arith}
 use Rattle.std.specs.Prelude.{nat_eq}
 use Rattle.std.specs.List.{AllByRecursion, filter, flat_map}
-use Rattle.std.specs.Option.{is_some}
 use Rattle.std.specs.declared.cmp.Ordering.{Ordering}
 use Rattle.std.specs.declared.cmp.Ordering.TheVariants.{Less, Equal, Greater}
 use Rattle.std.proofs.lemmas.Bool.Decides.{nat_tests}
@@ -14,27 +13,25 @@ use Rattle.array_geom.specs.Geometry.{ChunkNumber}
 use Rattle.array_geom.specs.Link.{number_order}
 use Rattle.chunk_map.specs.declared.directory.DirEntry.{DirEntry}
 use Rattle.chunk_map.specs.declared.directory.Directory.{Directory}
-use Rattle.chunk_map.specs.Entries.{AreRising, numbers}
+use Rattle.chunk_map.specs.Entries.{AreRising}
 use Rattle.chunk_map.proofs.Moves.{IsBefore}
 use Rattle.logical_plan.specs.declared.names.Names.{Names}
 use Rattle.plan_changes.specs.declared.change.Change.{Change}
-use Rattle.version_catalog.specs.declared.rules.catalog.Catalog.{Catalog}
 use Rattle.version_reaper.specs.PageSets.{holds}
-use Rattle.event_core.specs.Apart.{makes_version}
 use Rattle.event_core.specs.declared.state.VersionPages.{VersionPages}
-use Rattle.event_core.specs.Pages.{fresh_of, is_newest}
+use Rattle.event_core.specs.Pages.{is_newest}
 use Rattle.plan_changes.specs.Changes.{name_of}
 use Rattle.commit_writes.specs.declared.placed.Placed.{Placed}
-use Rattle.commit_writes.specs.Commits.{pages_of, commit_pages}
+use Rattle.commit_writes.specs.Commits.{pages_of}
 use Rattle.commit_pages.specs.declared.written.Written.{Written}
 use Rattle.commit_pages.specs.declared.version.NewVersion.{NewVersion}
-use Rattle.commit_pages.specs.Versions.{blob_count, placed, all_placed, settled, entry_of, entries_of, put_by, put_entry, put_entries, directory_of, directory_bytes, version_in, new_version, IsWritten}
-use Rattle.commit_pages.specs.Commits.{chain_in, rest_of, record_bytes, catalog_bytes, record_needs, base_needs, record_laid, base_laid}
-use Rattle.commit_pages.specs.Laws.{is_known, IsApart, AreSamePages, RecordsUseTheGiven, BasesUseTheGiven}
+use Rattle.commit_pages.specs.Versions.{placed, all_placed, settled, entry_of, entries_of, put_by, put_entry, put_entries, directory_of, directory_bytes, version_in, new_version, IsWritten}
+use Rattle.commit_pages.specs.Commits.{chain_in, rest_of, record_bytes, catalog_bytes, record_laid, base_laid}
+use Rattle.commit_pages.specs.Laws.{is_known, AreSamePages, RecordsUseTheGiven, BasesUseTheGiven}
 use Rattle.commit_pages.proofs.Blobs.{pages_more, length_placed}
 use Rattle.commit_pages.proofs.Chains.{record_fills, base_fills}
 use Rattle.commit_pages.proofs.Directories.{pairs_rise, stores_list_theirs, inserts_put}
-use Rattle.commit_pages.proofs.Same.{swapped, unchanged}
+use Rattle.commit_pages.proofs.Same.{swapped}
 
 -- ---- pages that a test keeps, and pages that it doesn't
 
@@ -83,8 +80,10 @@ put_left known x (e ∷ es) kept all = by_order (number_order x.at.items e.at.it
   where
     silent : (b : List ℕ) → left known e.pages ≡ [] → left known (e.pages ++ b) ≡ left known b
     silent b none = left_append known e.pages b ∙ ap (λ (ps : List ℕ). ps ++ left known b) none
+
     first : (b : List ℕ) → left known (x.pages ++ b) ≡ x.pages ++ left known b
     first b = left_append known x.pages b ∙ ap (λ (ps : List ℕ). ps ++ left known b) (kept_stay known x.pages kept)
+
     by_order : (t : Ordering) → number_order x.at.items e.at.items ≡ t → (left known e.pages ≡ []) ⊎ (number_order x.at.items e.at.items ≡ Less)
         → left known (entry_pages (put_entry x es)) ≡ x.pages ++ left known (entry_pages es)
         → left known (entry_pages (put_by t x e es (put_entry x es))) ≡ x.pages ++ left known (entry_pages (e ∷ es))

@@ -1,5 +1,5 @@
 -- How many bytes directories have, whichever pages their payloads lie in, and how many pages new versions take.
-use Rattle.std.proofs.Common.{◌≡◌, ◌∙◌, IfSome, ℕ, zero, suc, ◌+◌, ◌-◌, ◌≤◌, Bool, true, false, cond, List, [], ◌∷◌, ◌++◌, length, take, drop, map, Option, Some, None, refl, sym, ap, subst, arith}
+use Rattle.std.proofs.Common.{◌≡◌, ◌∙◌, IfSome, ℕ, suc, ◌+◌, ◌-◌, ◌≤◌, Bool, true, false, cond, List, [], ◌∷◌, ◌++◌, length, take, drop, map, Option, Some, None, refl, sym, ap, subst, arith}
 use Rattle.std.specs.Int.{w32, w64, to_le_bytes}
 use Rattle.std.specs.List.{AllByRecursion, AllZip, flat_map}
 use Rattle.std.specs.declared.cmp.Ordering.{Ordering}
@@ -17,7 +17,7 @@ use Rattle.commit_costs.specs.Lengths.{AreBothAlike}
 use Rattle.commit_writes.specs.declared.placed.Placed.{Placed}
 use Rattle.commit_writes.specs.Commits.{pages_of, IsBlobSized}
 use Rattle.commit_pages.specs.declared.written.Written.{Written}
-use Rattle.commit_pages.specs.Versions.{blob_count, placed, all_placed, drafted, blob_at, settled, entry_of, entries_of, put_by, put_entry, put_entries, directory_of, directory_bytes, version_in, new_version, version_needs, draft_at, IsWritten}
+use Rattle.commit_pages.specs.Versions.{blob_count, placed, all_placed, settled, entry_of, entries_of, put_by, put_entry, put_entries, directory_of, directory_bytes, version_in, new_version, version_needs, draft_at, IsWritten}
 use Rattle.commit_pages.proofs.Blobs.{take_both, pages_placed, sized_placed, pages_more, sized_more}
 
 -- ---- entries that are alike

@@ -1,8 +1,6 @@
 -- Steps of loops over blobs and their chunks.
-use Rattle.std.proofs.Common.{◌≡◌, ◌∙◌, ℕ, zero, suc, ◌+◌, ◌<◌, ◌≤◌, min, List, [], ◌∷◌, ◌++◌, length, get_or, take, drop, set, refl, sym, ap, subst, arith, add-one}
-use Rattle.std.specs.List.{flat_map}
-use Rattle.std.proofs.lemmas.List.{length-append, append_assoc}
-use Rattle.std.proofs.Math.Seq.{take-length}
+use Rattle.std.proofs.Common.{◌≡◌, ◌∙◌, ℕ, zero, suc, ◌+◌, ◌<◌, ◌≤◌, min, List, [], ◌∷◌, ◌++◌, length, get_or, take, refl, sym, ap, arith, add-one}
+use Rattle.std.proofs.lemmas.List.{length-append}
 use Rattle.arrayvec.specs.ArrayVec.{ArrayVec}
 use Rattle.array_rows.specs.Boxes.{by_pairs}
 use Rattle.chunk_map.specs.declared.directory.DirEntry.{DirEntry}

@@ -1,5 +1,5 @@
 -- How many pages a version takes, by where its directory lies.
-use Rattle.std.proofs.Common.{◌≡◌, ◌∙◌, ℕ, ◌+◌, Option, Some, None, refl, sym, ap, arith}
+use Rattle.std.proofs.Common.{◌≡◌, ◌∙◌, ℕ, ◌+◌, Option, Some, None, refl, ap}
 use Rattle.std.proofs.lemmas.List.{length-replicate}
 use Rattle.chunk_map.specs.declared.directory.Directory.{Directory}
 use Rattle.version_catalog.specs.declared.rules.catalog.BlobAt.{BlobAt}

@@ -1,5 +1,5 @@
 -- Payloads in a file are their parts of the rows.
-use Rattle.std.proofs.Common.{◌≡◌, ◌∙◌, ℕ, ◌≤◌, true, List, [], ◌∷◌, length, map, take, drop, replicate, Ok, refl, ap, arith, subst, sym}
+use Rattle.std.proofs.Common.{◌∙◌, ℕ, ◌≤◌, List, [], ◌∷◌, length, map, take, drop, Ok, refl, ap}
 use Rattle.std.specs.List.{AllByRecursion}
 use Rattle.std.proofs.lemmas.List.{length-take-le}
 use Rattle.cell_values.specs.declared.datum.Row.{Row}
@@ -13,7 +13,7 @@ use Rattle.chunk_rle.specs.Stored.{IsStored}
 use Rattle.page_chain.specs.Pages.{page_size, blob}
 use Rattle.page_chain.proofs.PageLaws.{blob_read}
 use Rattle.file_laws.proofs.Payloads.{part_stored, spelled_is_read}
-use Rattle.commit_writes.specs.Commits.{pages_of, HoldsBlobs, IsBlobSized}
+use Rattle.commit_writes.specs.Commits.{pages_of, HoldsBlobs}
 use Rattle.commit_pages.specs.Laws.{IsThere, WrittenAreThere}
 use Rattle.commit_pages.specs.Versions.{blob_count, all_placed, drafted, entry_of}
 use Rattle.commit_pages.proofs.Blobs.{both_fit, drafted_is_sized}
@@ -28,13 +28,15 @@ all_there file schema rows birth (chunk ∷ chunks) pages stored parts le holds 
     let bytes = spelling schema.attributes chunk in
     let n = blob_count bytes in
     let fit = both_fit (drafted bytes) (map (λ (c : Chunk). drafted (spelling schema.attributes c)) chunks) pages (drafted_is_sized bytes) le in
-    let read = blob_read file (take n pages) bytes holds.0 (length-take-le n pages fit.0) in
-    (record {
-      core = stored.0.valid.framed.core;
-      written = refl;
-      pages = read.0;
-      part = spelled_is_read schema (blob page_size file (take n pages) (length bytes)) chunk stored.0 read.1 ∙ ap Ok (part_stored schema rows chunk stored.0.valid.framed parts.0);
-    }, all_there file schema rows birth chunks (drop n pages) stored.1 parts.1 fit.1 holds.1)
+    let read = blob_read file (take n pages) bytes holds.0 (length-take-le n pages fit.0) in (
+      record {
+        core = stored.0.valid.framed.core;
+        written = refl;
+        pages = read.0;
+        part = spelled_is_read schema (blob page_size file (take n pages) (length bytes)) chunk stored.0 read.1 ∙ ap Ok (part_stored schema rows chunk stored.0.valid.framed parts.0);
+      },
+      all_there file schema rows birth chunks (drop n pages) stored.1 parts.1 fit.1 holds.1,
+    )
 
 pub written_are_there : WrittenAreThere
 written_are_there file changed rows birth pages valid parts le holds = all_there file changed.schema rows birth changed.chunks pages valid.stored parts le holds

@@ -1,7 +1,7 @@
 -- The same pages in another order.
 use Rattle.std.proofs.Common.{◌≡◌, ◌∙◌, ℕ, ◌+◌, Bool, true, false, not, ◌&&◌, ◌||◌, List, [], ◌∷◌, ◌++◌, length, refl, sym, ap, arith}
 use Rattle.std.specs.Prelude.{nat_eq}
-use Rattle.std.proofs.lemmas.List.{length-append, append_assoc}
+use Rattle.std.proofs.lemmas.List.{length-append}
 use Rattle.version_reaper.specs.PageSets.{holds}
 use Rattle.event_core.specs.Allowed.{are_different}
 use Rattle.event_core.proofs.Tests.{eq_sym}

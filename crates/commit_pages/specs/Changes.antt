@@ -1,5 +1,5 @@
 -- The chunks that a change writes over a database.
-use Rattle.std.specs.Prelude.{◌≡◌, Bool, true, false, ◌&&◌, List, length, Option, Some, None}
+use Rattle.std.specs.Prelude.{◌≡◌, Bool, true, false, ◌&&◌, length, Option, Some, None}
 use Rattle.std.specs.List.{AllByRecursion}
 use Rattle.cell_values.specs.declared.schema.Schema.{Schema}
 use Rattle.array_rows.specs.Arrays.{AreRowsOf}
@@ -7,7 +7,6 @@ use Rattle.array_geom.specs.declared.chunk.Changed.{Changed}
 use Rattle.array_geom.specs.Geometry.{ChunkNumber, overlaps}
 use Rattle.array_geom.specs.Link.{IsPart, NumbersRise, numbers, is_listed, has_cell}
 use Rattle.chunk_rle.specs.Stored.{IsStored}
-use Rattle.logical_plan.specs.Typing.{AreSound}
 use Rattle.plan_changes.specs.declared.change.Change.{Change}
 use Rattle.plan_changes.specs.declared.change.Change.TheVariants.{Create, Store, Insert, Remove, RemoveVersions}
 use Rattle.plan_changes.specs.Databases.{Database, fitted, fault_of_change, new_rows, rows_if_whole}

@@ -11,10 +11,10 @@ ghost use Rattle.event_core.specs.Apart.{makes_version};
 ghost use Rattle.std.specs.Option.{is_some};
 ghost use Rattle.commit_pages.specs.Commits.{chain_in, record_bytes, catalog_bytes, rest_of, with_record, with_base, record_needs, base_needs, record_laid, base_laid};
 
+use crate::Written;
 use crate::needed::{catalog_bytes, count_pages, payload_count, record_bytes};
 use crate::version::{NewVersion, new_version};
 use crate::written::{chain_count, first_pages, pages_behind};
-use crate::Written;
 use catalog_changes::with_change;
 use cell_values::{Bytes, List, Memory};
 use chunk_map::Directory;
@@ -65,11 +65,7 @@ fn copy_at(at: &Option<BlobAt>) -> Result<Option<BlobAt>, Memory>
     }
 }
 
-fn next_catalog(
-    catalog: &Catalog,
-    change: &Change,
-    at: &Option<BlobAt>,
-) -> Result<Catalog, Memory>
+fn next_catalog(catalog: &Catalog, change: &Change, at: &Option<BlobAt>) -> Result<Catalog, Memory>
     requires names { IsTrue (names_allow (names_in catalog.now) change.now) }
     requires directory { IsTrue (has_its_directory change.now at.now) }
     ensures { IfOk result (λ next. next ≡ after_change catalog.now change.now at.now) }
@@ -211,9 +207,10 @@ fn next_by_record(
     requires names { IsTrue (names_allow (names_in catalog.now) change.now) }
     requires directory { IsTrue (has_its_directory change.now version.now.at) }
     ensures { IfOk result (λ next. next ≡ record {
-        chain = chain_in (rest_of version.now pages.now) (record_bytes catalog.now change.now version.now.at);
-        catalog = after_change catalog.now change.now version.now.at;
-        pages = catalogue.now ++ (chain_in (rest_of version.now pages.now) (record_bytes catalog.now change.now version.now.at)).pages }) }
+      chain = chain_in (rest_of version.now pages.now) (record_bytes catalog.now change.now version.now.at);
+      catalog = after_change catalog.now change.now version.now.at;
+      pages = catalogue.now ++ (chain_in (rest_of version.now pages.now) (record_bytes catalog.now change.now version.now.at)).pages;
+    }) }
 {
     let rest = behind(version, pages)?;
     match recorded(alloc, catalog, catalogue, change, &version.at, rest) {
@@ -233,9 +230,10 @@ fn next_by_base(
     requires names { IsTrue (names_allow (names_in catalog.now) change.now) }
     requires directory { IsTrue (has_its_directory change.now version.now.at) }
     ensures { IfOk result (λ next. next ≡ record {
-        chain = chain_in (rest_of version.now pages.now) (catalog_bytes catalog.now change.now version.now.at);
-        catalog = after_change catalog.now change.now version.now.at;
-        pages = (chain_in (rest_of version.now pages.now) (catalog_bytes catalog.now change.now version.now.at)).pages ++ log ∷ [] }) }
+      chain = chain_in (rest_of version.now pages.now) (catalog_bytes catalog.now change.now version.now.at);
+      catalog = after_change catalog.now change.now version.now.at;
+      pages = (chain_in (rest_of version.now pages.now) (catalog_bytes catalog.now change.now version.now.at)).pages ++ log ∷ [];
+    }) }
 {
     let rest = behind(version, pages)?;
     match based(alloc, catalog, change, &version.at, rest, log) {
@@ -247,12 +245,13 @@ fn next_by_base(
 /// A commit of these parts.
 fn joined(version: NewVersion, next: Next) -> Laid
     ensures { result ≡ record {
-        blobs = version.blobs;
-        chain = next.chain;
-        directory = version.directory;
-        at = version.at;
-        catalog = next.catalog;
-        used = record { version = version.pages; catalogue = next.pages } } }
+      blobs = version.blobs;
+      chain = next.chain;
+      directory = version.directory;
+      at = version.at;
+      catalog = next.catalog;
+      used = record { version = version.pages; catalogue = next.pages };
+    } }
 {
     let NewVersion {
         blobs,

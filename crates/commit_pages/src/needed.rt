@@ -55,11 +55,7 @@ pub(crate) fn payload_count(written: &Option<Written>) -> Result<u64, Memory>
 }
 
 /// Where a directory lies before its pages are known.
-fn drafted_directory(
-    alloc: Global,
-    written: &Written,
-    newest: &Directory,
-) -> Result<BlobAt, Memory>
+fn drafted_directory(alloc: Global, written: &Written, newest: &Directory) -> Result<BlobAt, Memory>
     requires written { HasRisingNumbers written.now }
     requires newest { AreRising newest.now.entries }
     ensures { IfOk result (λ at. at ≡ blob_at (drafted (directory_bytes written.now newest.now))) }
@@ -98,7 +94,11 @@ fn count_at(at: &Option<BlobAt>) -> u64
 
 /// How many pages a version takes, whose directory lies here before its pages are known.
 #[tactic(auto, using(crate::proofs::Needs::needs_are))]
-fn version_needs(written: &Option<Written>, newest: &Directory, at: &Option<BlobAt>) -> Result<u64, Memory>
+fn version_needs(
+    written: &Option<Written>,
+    newest: &Directory,
+    at: &Option<BlobAt>,
+) -> Result<u64, Memory>
     requires { at.now ≡ draft_at written.now newest.now }
     ensures { IfOk result (λ count. count ≡ version_needs written.now newest.now) }
 {

@@ -73,11 +73,7 @@ fn with_entries(newest: &Directory, fresh: &List<DirEntry>) -> Result<Directory,
 
 /// The directory of a version: of all its chunks, or the newest one with these in their places.
 #[tactic(auto, unfolding(crate::specs::Versions::directory_of))]
-fn directory_of(
-    alloc: Global,
-    written: &Written,
-    newest: &Directory,
-) -> Result<Directory, Memory>
+fn directory_of(alloc: Global, written: &Written, newest: &Directory) -> Result<Directory, Memory>
     requires written { HasRisingNumbers written.now }
     requires newest { AreRising newest.now.entries }
     ensures { IfOk result (λ directory. directory ≡ directory_of written.now newest.now) }
@@ -177,7 +173,11 @@ fn found_in(directory: &Directory, blob: &Placed) -> Result<(BlobAt, List<u32>),
 }
 
 /// A directory in the first of these pages.
-fn own_of(alloc: Global, directory: &Directory, pages: &[u32]) -> Result<(Placed, BlobAt, List<u32>), Memory>
+fn own_of(
+    alloc: Global,
+    directory: &Directory,
+    pages: &[u32],
+) -> Result<(Placed, BlobAt, List<u32>), Memory>
     ensures blob { IfOk result (λ own. own.0 ≡ placed pages.now (directory_spelling directory.now)) }
     ensures at { IfOk result (λ own. own.1 ≡ blob_at (placed pages.now (directory_spelling directory.now))) }
     ensures pages { IfOk result (λ own. own.2 ≡ version_pages (blob_at (placed pages.now (directory_spelling directory.now))) directory.now) }
@@ -273,7 +273,11 @@ fn version_of(
 }
 
 /// Puts the payloads into the first of these pages.
-fn settle_payloads(alloc: Global, payloads: List<Placed>, pages: &[u32]) -> Result<List<Placed>, Memory>
+fn settle_payloads(
+    alloc: Global,
+    payloads: List<Placed>,
+    pages: &[u32],
+) -> Result<List<Placed>, Memory>
     ensures { IfOk result (λ settled. settled ≡ all_placed pages.now payloads) }
 {
     let mut items = payloads.into_vec();

@@ -38,11 +38,7 @@ pub(crate) fn chain_count(bytes: &Bytes) -> usize
 }
 
 /// The first of some pages, as many as are asked for.
-pub(crate) fn first_pages(
-    alloc: Global,
-    pages: &[u32],
-    count: usize,
-) -> Result<List<u32>, Memory>
+pub(crate) fn first_pages(alloc: Global, pages: &[u32], count: usize) -> Result<List<u32>, Memory>
     ensures { IfOk result (λ first. first ≡ take count pages.now) }
 {
     List::from_slice(alloc, &pages[..count.min(pages.len())])
@@ -114,7 +110,11 @@ fn draft_chunks(alloc: Global, changed: &Changed, birth: u64) -> Result<Written,
 }
 
 /// The chunks that the commit of this sequence writes, before their pages are known.
-pub fn draft(alloc: Global, changed: &Option<Changed>, birth: u64) -> Result<Option<Written>, Memory>
+pub fn draft(
+    alloc: Global,
+    changed: &Option<Changed>,
+    birth: u64,
+) -> Result<Option<Written>, Memory>
     requires { IfSome changed.now (λ some. NumbersRise (numbers some.chunks)) }
     ensures spelled { IfOk result (λ written. written ≡ draft_of birth changed.now) }
     ensures ready { IfOk result (λ written. IfSome written IsWritten) }
