@@ -1,0 +1,4 @@
+pub mod Changes
+pub mod Commits
+pub mod Laws
+pub mod Versions

@@ -1,0 +1,25 @@
+//! What is known of the pages of commits. No code has to be run for it.
+ghost use Rattle.commit_pages.specs.Laws.{StoresListTheirs, InsertsReplace, RecordsCostTheirPages, BasesCostTheirPages, WrittenAreThere, RecordsUseTheGiven, BasesUseTheGiven};
+
+/// The directory of a new version has the entries that are written, of an insert in the places of those of the newest version.
+pub fn directories_take_entries()
+    ensures stores { StoresListTheirs }
+    ensures inserts { InsertsReplace }
+{}
+
+/// A commit takes as many pages as its change costs.
+pub fn commits_take_what_they_cost()
+    ensures records { RecordsCostTheirPages }
+    ensures bases { BasesCostTheirPages }
+{}
+
+/// Once a file has the payloads' bytes in their pages, each chunk that is written is there.
+pub fn written_chunks_are_there()
+    ensures { WrittenAreThere }
+{}
+
+/// The fresh pages of a commit are those that it was given.
+pub fn commits_use_the_given_pages()
+    ensures records { RecordsUseTheGiven }
+    ensures bases { BasesUseTheGiven }
+{}
