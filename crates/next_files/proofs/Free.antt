@@ -184,7 +184,7 @@ may_differ file (p ∷ pages) taken may = (
 
 -- ---- free pages of two lists, one behind the other
 
-index_front : (xs ys : List ℕ) (k : ℕ) → k < length xs → slice_index (xs ++ ys) k ≡ slice_index xs k
+pub index_front : (xs ys : List ℕ) (k : ℕ) → k < length xs → slice_index (xs ++ ys) k ≡ slice_index xs k
 index_front [] ys k low = absurd (omega arith)
 index_front (x ∷ xs) ys zero low = refl
 index_front (x ∷ xs) ys (suc k) low = index_front xs ys k (omega arith)

@@ -16,4 +16,6 @@ mod Rows
 mod Same
 mod Shed
 mod Taken
+mod Torn
 mod Version
+mod Worked

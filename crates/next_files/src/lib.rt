@@ -1,7 +1,8 @@
 //! A commit carries a file from the database that it stands for to the next one. No code has to be run for it.
 #![tactic(auto)]
 
-ghost use Rattle.next_files.specs.Laws.{FilesStandByTheirSlots, StandingFilesHaveSlots, FoundDirectoriesRise, RecordsMakeNext, BasesMakeNext};
+ghost use Rattle.next_files.specs.Inner.Example.{AnArrayIsStoredAgain};
+ghost use Rattle.next_files.specs.Laws.{FilesStandByTheirSlots, StandingFilesHaveSlots, FoundDirectoriesRise, RecordsMakeNext, BasesMakeNext, TornBasesStandAlike, WrittenPayloadsAreHeld};
 
 /// A file stands for a database just where it does so by its own slots.
 pub fn files_stand_by_their_slots()
@@ -22,4 +23,19 @@ pub fn records_make_next()
 /// With a new base of the catalogue after a change the file stands for the database after it.
 pub fn bases_make_next()
     ensures { BasesMakeNext }
+{}
+
+/// A new base that is torn to format 1 stands for the same database.
+pub fn torn_bases_stand_alike()
+    ensures { TornBasesStandAlike }
+{}
+
+/// What was written as the one spelling of a chunk of sound rows is a new version's payload.
+pub fn written_payloads_are_held()
+    ensures { WrittenPayloadsAreHeld }
+{}
+
+/// An array that is stored again: a file, the file with the record, and what the law of records says of them.
+pub fn an_array_is_stored_again()
+    ensures { AnArrayIsStoredAgain }
 {}
