@@ -1,10 +1,7 @@
 -- A new base that is torn to format 1, and payloads that were written.
-use Rattle.std.proofs.Common.{◌≡◌, ◌<◌, ℕ, true, List, length, Option, None, Ok, refl, sym, ◌∙◌, ap, subst}
-use Rattle.cell_values.specs.declared.datum.Row.{Row}
-use Rattle.cell_values.specs.declared.schema.Schema.{Schema}
-use Rattle.page_chain.specs.Pages.{page_size, first_past, blob}
+use Rattle.std.proofs.Common.{ℕ, List, refl, ◌∙◌, ap}
+use Rattle.page_chain.specs.Pages.{page_size, blob}
 use Rattle.page_chain.proofs.PageLaws.{blob_read}
-use Rattle.chunk_map.specs.declared.directory.DirEntry.{DirEntry}
 use Rattle.chunk_rle.specs.Frames.{frame_of}
 use Rattle.chunk_rle.specs.Chunks.{chunk_payload, spelling}
 use Rattle.file_meaning.specs.Standing.{stored_chunk}

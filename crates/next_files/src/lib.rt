@@ -2,7 +2,8 @@
 #![tactic(auto)]
 
 ghost use Rattle.next_files.specs.Inner.Example.{AnArrayIsStoredAgain};
-ghost use Rattle.next_files.specs.Laws.{FilesStandByTheirSlots, StandingFilesHaveSlots, FoundDirectoriesRise, RecordsMakeNext, BasesMakeNext, TornBasesStandAlike, WrittenPayloadsAreHeld};
+ghost use Rattle.next_files.specs.Laws.{FilesStandByTheirSlots, StandingFilesHaveSlots, FoundDirectoriesRise, WrittenPayloadsAreHeld};
+ghost use Rattle.next_files.specs.Laws.{RecordsMakeNext, BasesMakeNext, TornBasesStandAlike};
 
 /// A file stands for a database just where it does so by its own slots.
 pub fn files_stand_by_their_slots()
