@@ -1,12 +1,12 @@
 -- With the record of a change the file stands for the database after it.
-use Rattle.std.proofs.Common.{◌≡◌, inr, ℕ, zero, suc, ◌+◌, false, true, Bool, ◌||◌, List, [], ◌∷◌, ◌++◌, length, slice_index, Option, refl, sym, ◌∙◌, ap, subst, arith}
+use Rattle.std.proofs.Common.{◌≡◌, inr, ℕ, ◌+◌, false, true, Bool, ◌||◌, List, [], ◌∷◌, ◌++◌, length, slice_index, Option, refl, sym, ◌∙◌, ap, subst, arith}
 use Rattle.std.specs.Prelude.{nat_eq, Ok, IsTrue}
 use Rattle.std.specs.List.{AllByRecursion, list_any}
 use Rattle.std.proofs.lemmas.List.{length-append}
 use Rattle.page_layout.specs.Places.{IsNone}
 use Rattle.page_layout.specs.declared.logs.RecordAt.{RecordAt}
 use Rattle.page_chain.specs.Pages.{page_size, has_page}
-use Rattle.page_chain.specs.Chains.{chain, chain_bytes, names_page}
+use Rattle.page_chain.specs.Chains.{chain, chain_bytes}
 use Rattle.page_chain.specs.Links.{AreFree}
 use Rattle.page_chain.proofs.PageLaws.{chain_read}
 use Rattle.logical_plan.specs.declared.names.Names.{Names}

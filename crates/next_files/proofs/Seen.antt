@@ -1,5 +1,5 @@
 -- Which entries a version before has, and which are new.
-use Rattle.std.proofs.Common.{◌≡◌, ◌<◌, ◌≤◌, ℕ, Bool, true, false, cond, not, ◌||◌, List, [], ◌∷◌, ◌++◌, Option, Some, None, Ok, refl, sym, ◌∙◌, ap, subst, arith}
+use Rattle.std.proofs.Common.{◌≡◌, ◌<◌, ◌≤◌, ℕ, Bool, true, false, cond, not, ◌||◌, List, [], ◌∷◌, Option, Some, None, Ok, refl, sym, ◌∙◌, ap, subst, arith}
 use Rattle.std.specs.Prelude.{nat_le, ◌&&◌}
 use Rattle.std.specs.List.{AllByRecursion, filter}
 use Rattle.std.specs.Option.{option_or}
@@ -22,7 +22,7 @@ use Rattle.file_meaning.specs.Opening.{is_same, is_seen, is_entry, are_pages, Ru
 use Rattle.file_laws.proofs.Parts.{both_true}
 use Rattle.file_laws.proofs.Elsewhere.{found_steps}
 use Rattle.next_files.specs.Laws.{HadEntriesAreSeen, LaterEntriesAreUnseen, ReplacingEntriesAreUnseen}
-use Rattle.next_files.specs.Premises.{row_of, seen_before}
+use Rattle.next_files.specs.Premises.{row_of}
 use Rattle.next_files.proofs.Appended.{entries_in, seen_either}
 use Rattle.next_files.proofs.Lists.{all_row, all_entries, seen_has}
 use Rattle.next_files.proofs.Same.{same_itself, not_itself}
