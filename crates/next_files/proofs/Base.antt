@@ -1,12 +1,12 @@
 -- With a new base of the catalogue after a change the file stands for the database after it.
-use Rattle.std.proofs.Common.{◌≡◌, ◌≢◌, ◌<◌, ℕ, zero, suc, true, List, [], ◌∷◌, ◌++◌, length, slice_index, sym, ◌∙◌, ap, subst, arith}
+use Rattle.std.proofs.Common.{◌≡◌, ◌<◌, inl, ℕ, true, List, [], ◌∷◌, ◌++◌, length, slice_index, refl, sym, ◌∙◌, ap, subst, arith}
 use Rattle.std.specs.Prelude.{Ok}
 use Rattle.std.specs.List.{AllByRecursion}
 use Rattle.page_layout.specs.Places.{IsNone}
 use Rattle.page_layout.specs.declared.roots.Root.{Root}
 use Rattle.page_layout.specs.declared.sides.Side.{Side}
 use Rattle.page_chain.specs.Pages.{page_size, has_page}
-use Rattle.page_chain.specs.Chains.{chain, chain_bytes, names_page}
+use Rattle.page_chain.specs.Chains.{chain, chain_bytes}
 use Rattle.page_chain.specs.Links.{AreFree}
 use Rattle.page_chain.proofs.PageLaws.{chain_read}
 use Rattle.chunk_map.specs.declared.directory.Directory.{Directory}
@@ -15,7 +15,6 @@ use Rattle.version_catalog.specs.Spelling.{spelling}
 use Rattle.version_catalog.specs.Table.{catalog_in}
 use Rattle.version_catalog.proofs.RuleLaws.{catalog_again}
 use Rattle.catalog_changes.specs.Changed.{after_change}
-use Rattle.file_meaning.specs.Slots.{Slots}
 use Rattle.file_meaning.specs.Opening.{blamed, Rules, rows_in, found_in, sequence_of, catalogue_pages, stored_pages, pages_of}
 use Rattle.file_meaning.specs.declared.found.Found.{Found}
 use Rattle.file_laws.proofs.Steps.{then_is}
@@ -24,24 +23,9 @@ use Rattle.file_laws.proofs.More.{Beside}
 use Rattle.next_files.specs.Laws.{BasesMakeNext}
 use Rattle.next_files.specs.Next.{blob_of}
 use Rattle.next_files.specs.Premises.{OfVersion, HoldsMade, seen_before, made_pages, root_at, slots_of}
-use Rattle.next_files.proofs.Free.{weaker, pair_all, by_index, differ_by, none_later, none_front, none_rest, none_both, turned, has_none, names_more, names_none, names_with, names_positive, free_front, free_rest, distinct_cross, free_named}
-use Rattle.next_files.proofs.Taken.{found_named}
-use Rattle.next_files.proofs.Both.{again, pages_there, is_next}
+use Rattle.next_files.proofs.Free.{by_index, differ_by, none_later, none_front, none_rest, none_both, turned, has_none, names_more, names_none, names_with, free_front, free_rest, distinct_cross, free_named}
+use Rattle.next_files.proofs.Both.{again, slot_apart, pages_there, is_next}
 use Rattle.next_files.proofs.Follow.{Fresh}
-
-none_cons : (q : ℕ) (pages : List ℕ) (p : ℕ) → q ≢ p → IsNone pages p → IsNone (q ∷ pages) p
-none_cons q pages p apart none zero low = apart
-none_cons q pages p apart none (suc k) low = none k (omega arith)
-
-not_zero : (p : ℕ) → 0 < p → 0 ≢ p
-not_zero p more same = absurd (omega (arith, more, same))
-
--- neither page 0 nor one of the pages written is found
-kept_apart : (written old : List ℕ) (slots : Slots) (found : Found) → found_in old slots ≡ Ok found → AllByRecursion (IsNone written) (pages_of found) → AllByRecursion (IsNone (0 ∷ written)) (pages_of found)
-kept_apart written old slots found finds apart =
-    let log = slots.current.root.log in
-    weaker (λ p. (names_page page_size old (log ∷ []) p ≡ true) × IsNone written p) (IsNone (0 ∷ written)) (λ p x. none_cons 0 written p (not_zero p (names_positive old (log ∷ []) p x.0)) x.1) (pages_of found)
-    (pair_all (λ p. names_page page_size old (log ∷ []) p ≡ true) (IsNone written) (pages_of found) (found_named old slots found finds) apart)
 
 -- ---- the pages
 
@@ -95,7 +79,7 @@ bases_make_next written old new slots found db change made pages sequence log si
     let catalog = after_change found.catalog change (blob_of made) in
     let bytes = spelling catalog in
     let root = root_at sequence pages bytes log in
-    let once_more = again (0 ∷ written) old new slots db found holds.kept (kept_apart written old slots found stands.finds holds.apart) stands in
+    let once_more = again (0 ∷ written) old new slots db found holds.kept (slot_apart 0 written old slots found (inl refl) stands.finds holds.apart) stands in
     let steps = found_steps new slots found once_more.finds in
     let other : Rules = record { first = slice_index pages 0; sequence = sequence_of (slots_of side root) } in
     let same : sequence_of (slots_of side root) ≡ sequence = omega arith in

@@ -1,5 +1,5 @@
 -- What a record and a new base have in common: the directories and the database after a change.
-use Rattle.std.proofs.Common.{◌≡◌, ◌≤◌, ℕ, true, List, [], ◌++◌, map, Option, Some, None, refl, sym, ap, subst}
+use Rattle.std.proofs.Common.{◌≡◌, ◌≢◌, ◌<◌, ◌≤◌, ◌⊎◌, inl, inr, ℕ, true, List, [], ◌∷◌, ◌++◌, map, Option, Some, None, refl, sym, ap, subst, arith}
 use Rattle.std.specs.Prelude.{Ok, IsTrue}
 use Rattle.std.specs.List.{AllByRecursion, AllZip}
 use Rattle.cell_values.specs.declared.datum.Row.{Row}
@@ -31,16 +31,32 @@ use Rattle.file_laws.proofs.Parts.{rest_all}
 use Rattle.file_laws.proofs.Apart.{both_all}
 use Rattle.file_laws.proofs.Elsewhere.{AreApart, AreThere, IsKept, found_again, FoundSteps, holds_still}
 use Rattle.file_laws.proofs.More.{Beside}
+use Rattle.next_files.specs.Laws.{WritesLeaveStanding}
 use Rattle.next_files.specs.Next.{Made, blob_of, rows_after}
 use Rattle.next_files.specs.Premises.{StandsBy, MayChange, OfVersion, HoldsMade, seen_before, made_pages, row_of}
-use Rattle.next_files.proofs.Free.{AreNamed, weaker, names_none}
+use Rattle.next_files.proofs.Free.{AreNamed, weaker, pair_all, none_cons, names_none, names_other, names_positive}
 use Rattle.next_files.proofs.Later.{rows_later}
-use Rattle.next_files.proofs.Taken.{ArePaged, rows_paged}
+use Rattle.next_files.proofs.Taken.{ArePaged, rows_paged, found_named}
 use Rattle.next_files.proofs.Appended.{entries_in, fresh_pages}
 use Rattle.next_files.proofs.Follow.{Before, Fresh, rows_follow, versions_follow}
 use Rattle.next_files.proofs.Lists.{all_row, all_entries}
 use Rattle.next_files.proofs.Rising.{rows_rise}
 use Rattle.next_files.proofs.Version.{AreKept, new_of, held_of, made_there}
+
+not_zero : (p : ℕ) → 0 < p → 0 ≢ p
+not_zero p more same = absurd (omega (arith, more, same))
+
+-- neither page 0, nor the log page, nor one of the other pages written is found
+pub slot_apart : (page : ℕ) (written old : List ℕ) (slots : Slots) (found : Found) → (page ≡ 0) ⊎ (page ≡ slots.current.root.log) → found_in old slots ≡ Ok found → AllByRecursion (IsNone written) (pages_of found)
+    → AllByRecursion (IsNone (page ∷ written)) (pages_of found)
+slot_apart page written old slots found which finds apart =
+    let log = slots.current.root.log in
+    weaker (λ p. (names_page page_size old (log ∷ []) p ≡ true) × IsNone written p) (IsNone (page ∷ written)) (λ p x. none_cons page written p (other which p x.0) x.1) (pages_of found)
+    (pair_all (λ p. names_page page_size old (log ∷ []) p ≡ true) (IsNone written) (pages_of found) (found_named old slots found finds) apart)
+  where
+    other : (page ≡ 0) ⊎ (page ≡ slots.current.root.log) → (p : ℕ) → names_page page_size old (slots.current.root.log ∷ []) p ≡ true → page ≢ p
+    other (inl zero_page) p names = subst (λ (q : ℕ). q ≢ p) (sym zero_page) (not_zero p (names_positive old (slots.current.root.log ∷ []) p names))
+    other (inr log_page) p names = subst (λ (q : ℕ). q ≢ p) (sym log_page) (names_other old [] slots.current.root.log p names)
 
 -- what was found is found in the new file, and is the database's there
 pub record Again (written old new : List ℕ) (slots : Slots) (db : Database) (found : Found) : Type 0 where
@@ -79,6 +95,11 @@ has_its P db (Remove name) None of = refl
 has_its P db (Remove name) (Some made) of = absurd of
 has_its P db (RemoveVersions name below) None of = refl
 has_its P db (RemoveVersions name below) (Some made) of = absurd of
+
+pub leave_standing : WritesLeaveStanding
+leave_standing page written old new slots db found which keeps apart stands =
+    let a = again (page ∷ written) old new slots db found keeps (slot_apart page written old slots found which stands.finds apart) stands in
+    record { finds = a.finds; database = stands.database; holds = a.holds }
 
 -- the new file has all pages of the new version
 pub pages_there : (old new : List ℕ) (sequence : ℕ) (seen : List DirEntry) (db : Database) (change : Change) (made : Option Made) → OfVersion (HoldsMade old new seen sequence) db change made

@@ -14,6 +14,10 @@ use Rattle.file_laws.proofs.More.{Beside}
 
 -- ---- pages that are none of some
 
+pub none_cons : (q : ℕ) (pages : List ℕ) (p : ℕ) → q ≢ p → IsNone pages p → IsNone (q ∷ pages) p
+none_cons q pages p apart none zero low = apart
+none_cons q pages p apart none (suc k) low = none k (omega arith)
+
 pub none_later : (q : ℕ) (pages : List ℕ) (p : ℕ) → IsNone (q ∷ pages) p → IsNone pages p
 none_later q pages p none k low = none (suc k) (omega arith)
 

@@ -14,8 +14,10 @@ mod Record
 mod Rising
 mod Rows
 mod Same
+mod Seen
 mod Shed
 mod Taken
 mod Torn
+mod Turn
 mod Version
 mod Worked

@@ -1,12 +1,12 @@
 -- With the record of a change the file stands for the database after it.
-use Rattle.std.proofs.Common.{◌≡◌, ◌≢◌, ℕ, zero, suc, ◌+◌, false, true, Bool, ◌||◌, List, [], ◌∷◌, ◌++◌, length, slice_index, Option, sym, ◌∙◌, ap, subst, arith}
+use Rattle.std.proofs.Common.{◌≡◌, inr, ℕ, ◌+◌, false, true, Bool, ◌||◌, List, [], ◌∷◌, ◌++◌, length, slice_index, Option, refl, sym, ◌∙◌, ap, subst, arith}
 use Rattle.std.specs.Prelude.{nat_eq, Ok, IsTrue}
 use Rattle.std.specs.List.{AllByRecursion, list_any}
 use Rattle.std.proofs.lemmas.List.{length-append}
 use Rattle.page_layout.specs.Places.{IsNone}
 use Rattle.page_layout.specs.declared.logs.RecordAt.{RecordAt}
 use Rattle.page_chain.specs.Pages.{page_size, has_page}
-use Rattle.page_chain.specs.Chains.{chain, chain_bytes, names_page}
+use Rattle.page_chain.specs.Chains.{chain, chain_bytes}
 use Rattle.page_chain.specs.Links.{AreFree}
 use Rattle.page_chain.proofs.PageLaws.{chain_read}
 use Rattle.logical_plan.specs.declared.names.Names.{Names}
@@ -32,22 +32,10 @@ use Rattle.file_laws.proofs.More.{beside_these}
 use Rattle.next_files.specs.Laws.{RecordsMakeNext}
 use Rattle.next_files.specs.Next.{Made, blob_of}
 use Rattle.next_files.specs.Premises.{OfVersion, HoldsMade, seen_before, made_pages, record_at, slots_with}
-use Rattle.next_files.proofs.Free.{weaker, pair_all, by_index, differ_by, none_front, none_rest, none_both, turned, has_none, names_other, free_front, free_rest, distinct_cross, free_named}
-use Rattle.next_files.proofs.Taken.{found_named}
-use Rattle.next_files.proofs.Both.{again, pages_there, is_next}
+use Rattle.next_files.proofs.Free.{by_index, differ_by, none_front, none_rest, none_both, turned, has_none, free_front, free_rest, distinct_cross, free_named}
+use Rattle.next_files.proofs.Both.{again, slot_apart, pages_there, is_next}
 use Rattle.next_files.proofs.Follow.{Fresh}
 use Rattle.next_files.proofs.Logged.{IsRead, logged_more, some_bytes, none_of_has}
-
-none_cons : (q : ℕ) (pages : List ℕ) (p : ℕ) → q ≢ p → IsNone pages p → IsNone (q ∷ pages) p
-none_cons q pages p apart none zero low = apart
-none_cons q pages p apart none (suc k) low = none k (omega arith)
-
--- neither the log page nor one of the pages written is found
-kept_apart : (written old : List ℕ) (slots : Slots) (found : Found) → found_in old slots ≡ Ok found → AllByRecursion (IsNone written) (pages_of found) → AllByRecursion (IsNone (slots.current.root.log ∷ written)) (pages_of found)
-kept_apart written old slots found finds apart =
-    let log = slots.current.root.log in
-    weaker (λ p. (names_page page_size old (log ∷ []) p ≡ true) × IsNone written p) (IsNone (log ∷ written)) (λ p x. none_cons log written p (names_other old [] log p x.0) x.1) (pages_of found)
-    (pair_all (λ p. names_page page_size old (log ∷ []) p ≡ true) (IsNone written) (pages_of found) (found_named old slots found finds) apart)
 
 -- what is free beside all that was found isn't taken
 not_taken : (new : List ℕ) (slots : Slots) (found : Found) (steps : FoundSteps new slots found) (p : ℕ) → IsNone (slots.current.root.log ∷ pages_of found) p → list_any (λ page. nat_eq page p) steps.logged.taken ≡ false
@@ -116,7 +104,7 @@ records_make_next written old new slots found db change made pages entry stands 
     let all = made_pages seen made in
     let bytes = spell_record entry in
     let at = record_at pages bytes in
-    let once_more = again (log ∷ written) old new slots db found holds.kept (kept_apart written old slots found stands.finds holds.apart) stands in
+    let once_more = again (log ∷ written) old new slots db found holds.kept (slot_apart log written old slots found (inr refl) stands.finds holds.apart) stands in
     let steps = found_steps new slots found once_more.finds in
     let taken = steps.logged.taken in
     let other : Rules = record { first = slots.current.root.first; sequence = sequence_of (slots_with slots at) } in

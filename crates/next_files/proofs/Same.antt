@@ -61,7 +61,7 @@ flips Less e l = cc
 flips Equal e l = cc
 flips Greater e l = cc
 
-not_itself : (k : ChunkNumber) → number_order k k ≡ Less → ⊥
+pub not_itself : (k : ChunkNumber) → number_order k k ≡ Less → ⊥
 not_itself k less = flips (number_order k k) (nat_list_cmp_total.antisymm k k) less
 
 not_before : (first e : DirEntry) → number_order first.at.items e.at.items ≡ Less → is_same e first ≡ false

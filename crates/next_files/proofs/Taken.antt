@@ -15,7 +15,7 @@ use Rattle.version_catalog.specs.declared.rules.catalog.BlobAt.{BlobAt}
 use Rattle.version_catalog.specs.declared.rules.catalog.CatalogArray.{CatalogArray}
 use Rattle.version_catalog.specs.declared.rules.catalog.Catalog.{Catalog}
 use Rattle.file_meaning.specs.Slots.{Slots}
-use Rattle.file_meaning.specs.Opening.{Logged, logged_in, claimed, are_pages, is_seen, payloads_in, Listed, Rules, directory_from, Row, row_in, rows_in, found_in, all_of, version_pages, catalogue_pages, stored_pages, pages_of}
+use Rattle.file_meaning.specs.Opening.{Logged, logged_in, claimed, are_pages, is_entry, is_seen, payloads_in, Listed, Rules, directory_from, Row, row_in, rows_in, found_in, all_of, version_pages, catalogue_pages, stored_pages, pages_of}
 use Rattle.file_meaning.specs.declared.found.Found.{Found}
 use Rattle.file_laws.proofs.Parts.{claim_parts}
 use Rattle.file_laws.proofs.Apart.{both_all, stored_apart}
@@ -64,41 +64,52 @@ row_beside file rules dims (at ∷ blobs) seen taken row is p none names =
     (row_beside file rules dims blobs (s.first.directory.entries ++ seen) s.first.taken s.later s.rest p (none_rest front behind p apart)
     (directory_beside file rules dims seen taken at s.first s.found p (none_front front behind p apart) names))
 
--- ---- each payload lies in pages of the file
+-- ---- each entry is one
 
+-- what each entry that passes its test meets
+abbrev pub Meets : List ℕ → ℕ → (DirEntry → Type 0) → Type 0
+Meets file sequence P = (dims : List Dimension) (e : DirEntry) → is_entry file sequence dims e ≡ true → P e
+
+payloads_meet : (file : List ℕ) (sequence : ℕ) (P : DirEntry → Type 0) → Meets file sequence P → (dims : List Dimension) (named : ℕ) (seen entries : List DirEntry) (taken now : List ℕ) → payloads_in file sequence dims named seen taken entries ≡ Ok now
+    → AllByRecursion P entries
+payloads_meet file sequence P meets dims named seen [] taken now is = tt
+payloads_meet file sequence P meets dims named seen (entry ∷ entries) taken now is =
+    let s = entry_steps file sequence dims named seen taken entry entries now is in
+    (meets dims entry s.tested, payloads_meet file sequence P meets dims named seen entries s.after now s.rest)
+
+directory_meets : (file : List ℕ) (rules : Rules) (P : DirEntry → Type 0) → Meets file rules.sequence P → (dims : List Dimension) (seen : List DirEntry) (taken : List ℕ) (at : BlobAt) (listed : Listed) → directory_from file rules dims seen taken at ≡ Ok listed
+    → AllByRecursion P listed.directory.entries
+directory_meets file rules P meets dims seen taken at listed is =
+    let s = directory_steps file rules dims seen taken at listed is in
+    subst (λ (l : Listed). AllByRecursion P l.directory.entries) s.is (payloads_meet file rules.sequence P meets dims (slice_index at.pages 0) seen s.directory.entries s.own s.all s.payloads)
+
+row_meets : (file : List ℕ) (rules : Rules) (P : DirEntry → Type 0) → Meets file rules.sequence P → (dims : List Dimension) (blobs : List BlobAt) (seen : List DirEntry) (taken : List ℕ) (row : Row) → row_in file rules dims seen taken blobs ≡ Ok row
+    → AllByRecursion (λ d. AllByRecursion P d.entries) row.directories
+row_meets file rules P meets dims [] seen taken row is =
+    let same : record { directories = []; taken = taken } ≡ row = cc in
+    subst (λ (r : Row). AllByRecursion (λ d. AllByRecursion P d.entries) r.directories) same tt
+row_meets file rules P meets dims (at ∷ blobs) seen taken row is =
+    let s = row_steps file rules dims seen taken at blobs row is in
+    subst (λ (r : Row). AllByRecursion (λ d. AllByRecursion P d.entries) r.directories) s.is
+    (directory_meets file rules P meets dims seen taken at s.first s.found, row_meets file rules P meets dims blobs (s.first.directory.entries ++ seen) s.first.taken s.later s.rest)
+
+pub rows_meet : (file : List ℕ) (rules : Rules) (P : DirEntry → Type 0) → Meets file rules.sequence P → (arrays : List CatalogArray) (taken : List ℕ) (rows : List (List Directory)) → rows_in file rules taken arrays ≡ Ok rows
+    → AllByRecursion (AllByRecursion (λ d. AllByRecursion P d.entries)) rows
+rows_meet file rules P meets [] taken rows is =
+    let none : [] ≡ rows = cc in
+    subst (AllByRecursion (AllByRecursion (λ (d : Directory). AllByRecursion P d.entries))) none tt
+rows_meet file rules P meets (array ∷ arrays) taken rows is =
+    let s = rows_steps file rules taken array arrays rows is in
+    subst (AllByRecursion (AllByRecursion (λ (d : Directory). AllByRecursion P d.entries))) s.is
+    (row_meets file rules P meets array.entry.schema.dimensions array.directories [] taken s.row s.found, rows_meet file rules P meets arrays s.row.taken s.later s.rest)
+
+-- each payload lies in pages of the file
 abbrev pub ArePaged : List ℕ → List DirEntry → Type 0
 ArePaged file entries = AllByRecursion (λ e. are_pages file e.pages ≡ true) entries
 
-payloads_paged : (file : List ℕ) (sequence : ℕ) (dims : List Dimension) (named : ℕ) (seen entries : List DirEntry) (taken now : List ℕ) → payloads_in file sequence dims named seen taken entries ≡ Ok now → ArePaged file entries
-payloads_paged file sequence dims named seen [] taken now is = tt
-payloads_paged file sequence dims named seen (entry ∷ entries) taken now is =
-    let s = entry_steps file sequence dims named seen taken entry entries now is in
-    (entry_pages file sequence dims entry s.tested, payloads_paged file sequence dims named seen entries s.after now s.rest)
-
-directory_paged : (file : List ℕ) (rules : Rules) (dims : List Dimension) (seen : List DirEntry) (taken : List ℕ) (at : BlobAt) (listed : Listed) → directory_from file rules dims seen taken at ≡ Ok listed → ArePaged file listed.directory.entries
-directory_paged file rules dims seen taken at listed is =
-    let s = directory_steps file rules dims seen taken at listed is in
-    subst (λ (l : Listed). ArePaged file l.directory.entries) s.is (payloads_paged file rules.sequence dims (slice_index at.pages 0) seen s.directory.entries s.own s.all s.payloads)
-
-row_paged : (file : List ℕ) (rules : Rules) (dims : List Dimension) (blobs : List BlobAt) (seen : List DirEntry) (taken : List ℕ) (row : Row) → row_in file rules dims seen taken blobs ≡ Ok row
-    → AllByRecursion (λ d. ArePaged file d.entries) row.directories
-row_paged file rules dims [] seen taken row is =
-    let same : record { directories = []; taken = taken } ≡ row = cc in
-    subst (λ (r : Row). AllByRecursion (λ d. ArePaged file d.entries) r.directories) same tt
-row_paged file rules dims (at ∷ blobs) seen taken row is =
-    let s = row_steps file rules dims seen taken at blobs row is in
-    subst (λ (r : Row). AllByRecursion (λ d. ArePaged file d.entries) r.directories) s.is
-    (directory_paged file rules dims seen taken at s.first s.found, row_paged file rules dims blobs (s.first.directory.entries ++ seen) s.first.taken s.later s.rest)
-
 pub rows_paged : (file : List ℕ) (rules : Rules) (arrays : List CatalogArray) (taken : List ℕ) (rows : List (List Directory)) → rows_in file rules taken arrays ≡ Ok rows
     → AllByRecursion (AllByRecursion (λ d. ArePaged file d.entries)) rows
-rows_paged file rules [] taken rows is =
-    let none : [] ≡ rows = cc in
-    subst (AllByRecursion (AllByRecursion (λ d. ArePaged file d.entries))) none tt
-rows_paged file rules (array ∷ arrays) taken rows is =
-    let s = rows_steps file rules taken array arrays rows is in
-    subst (AllByRecursion (AllByRecursion (λ d. ArePaged file d.entries))) s.is
-    (row_paged file rules array.entry.schema.dimensions array.directories [] taken s.row s.found, rows_paged file rules arrays s.row.taken s.later s.rest)
+rows_paged file rules arrays taken rows is = rows_meet file rules (λ e. are_pages file e.pages ≡ true) (λ dims e tested. entry_pages file rules.sequence dims e tested) arrays taken rows is
 
 -- ---- all pages that are found are pages of the file, and none is the log page
 

@@ -1,6 +1,5 @@
 -- An array that is stored again, computed: what the law of records asks, and what it says.
-use Rattle.std.proofs.Common.{◌≡◌, ◌≢◌, ◌<◌, ◌≤◌, ◌⊎◌, inl, inr, ℕ, zero, suc, ◌+◌, ◌-◌, ◌*◌, pos, true, List, [], ◌∷◌, ◌++◌, length, slice_index, Some, Ok, refl, sym, ◌∙◌, ap, subst, arith}
-use Rattle.std.specs.Prelude.{codes}
+use Rattle.std.proofs.Common.{◌≡◌, ◌≢◌, ◌<◌, ◌≤◌, ◌⊎◌, inl, inr, ℕ, zero, suc, ◌+◌, ◌-◌, ◌*◌, List, [], ◌∷◌, ◌++◌, length, slice_index, Some, Ok, refl, sym, ◌∙◌, ap, subst, arith}
 use Rattle.page_layout.specs.Places.{IsNone, KeepsPages, number_at}
 use Rattle.page_chain.specs.Pages.{page_size, page_at, piece_of}
 use Rattle.page_chain.specs.Chains.{chain_piece}

@@ -1,13 +1,13 @@
 -- An array that is stored again: the file before, the file after, and what the commit of its record has done.
-use Rattle.std.specs.Prelude.{◌≡◌, ℕ, List, [], ◌∷◌, ◌++◌, codes, Option, Some, Ok}
-use Rattle.logical_plan.specs.Query.{Query, scanned}
+use Rattle.std.specs.Prelude.{ℕ, List, [], ◌∷◌, ◌++◌, codes, Some}
+use Rattle.logical_plan.specs.Query.{scanned}
 use Rattle.page_layout.specs.declared.sides.Side.TheVariants.{A}
 use Rattle.page_layout.specs.declared.sides.Format.TheVariants.{Two}
 use Rattle.chunk_map.specs.declared.directory.DirEntry.{DirEntry}
 use Rattle.plan_changes.specs.declared.change.Change.{Change}
 use Rattle.plan_changes.specs.declared.change.Change.TheVariants.{Store}
 use Rattle.plan_changes.specs.Databases.{after}
-use Rattle.version_catalog.specs.declared.rules.catalog.Catalog.{Catalog}
+use Rattle.version_catalog.specs.declared.rules.catalog.CatalogArray.{CatalogArray}
 use Rattle.version_catalog.specs.declared.rules.catalog_record.CatalogRecord.{CatalogRecord}
 use Rattle.version_catalog.specs.declared.rules.catalog_record.CatalogRecord.TheVariants.{Next}
 use Rattle.file_meaning.specs.Slots.{Slots}
@@ -54,11 +54,14 @@ added = (four 0 ++ (record_bytes ++ zeros 4073)) ++ (directory_bytes 0 2 4 ++ ze
 unfoldable pub next : List ℕ
 next = head ++ (log_page ++ (stored ++ added))
 
-abbrev pub catalog : Catalog
-catalog = record { arrays = record { entry = record { name = codes "A"; schema = schema; next = 2; versions = 1 ∷ [] }; directories = record { length = 40; pages = 3 ∷ [] } ∷ [] } ∷ [] }
+abbrev pub array : CatalogArray
+array = record {
+  entry = record { name = codes "A"; schema = schema; next = 2; versions = 1 ∷ [] };
+  directories = record { length = 40; pages = 3 ∷ [] } ∷ [];
+}
 
 abbrev pub found : Found
-found = record { chain = 1 ∷ []; logged = []; catalog = catalog; directories = (record { entries = entry ∷ [] } ∷ []) ∷ [] }
+found = record { chain = 1 ∷ []; logged = []; catalog = record { arrays = array ∷ [] }; directories = (record { entries = entry ∷ [] } ∷ []) ∷ [] }
 
 abbrev pub slots : Slots
 slots = record { current = record { side = A; format = Two; root = record { sequence = 2; length = 74; first = 1; log = 2 } }; records = [] }
