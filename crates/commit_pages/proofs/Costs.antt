@@ -62,7 +62,7 @@ are_theirs : (schema : Schema) (rows : List Row) (chunks : List Chunk) → AllBy
 are_theirs schema rows [] stored parts = tt
 are_theirs schema rows (chunk ∷ chunks) stored parts = (part_stored schema rows chunk stored.0.valid.framed parts.0, are_theirs schema rows chunks stored.1 parts.1)
 
-core_length : (dims : List Dimension) (k : ChunkNumber) → has_core dims k ≡ true → length k ≡ length dims
+pub core_length : (dims : List Dimension) (k : ChunkNumber) → has_core dims k ≡ true → length k ≡ length dims
 core_length [] [] e = refl
 core_length [] (k ∷ ks) e = absurd cc
 core_length (d ∷ dims) [] e = absurd cc

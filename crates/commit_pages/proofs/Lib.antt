@@ -10,4 +10,6 @@ pub mod Loops
 pub mod Needs
 pub mod Parts
 pub mod Results
+pub mod Rules
 pub mod Same
+pub mod Worked
