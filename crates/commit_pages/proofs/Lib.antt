@@ -4,6 +4,7 @@ pub mod Costs
 pub mod Directories
 pub mod Drafts
 pub mod Fresh
+pub mod Held
 pub mod Kept
 pub mod Lengths
 pub mod Loops

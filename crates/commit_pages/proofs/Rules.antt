@@ -199,7 +199,7 @@ all_named : (pages : List ℕ) → ((i : ℕ) → slice_index pages i < 2 ^ 32) 
 all_named [] each = tt
 all_named (page ∷ pages) each = (each 0, all_named pages (λ i. each (suc i)))
 
-behind_fit : (m : ℕ) (bytes other pages : List ℕ) → length bytes ≡ length other → m + blob_count other ≤ length pages → blob_count bytes ≤ length (drop m pages)
+pub behind_fit : (m : ℕ) (bytes other pages : List ℕ) → length bytes ≡ length other → m + blob_count other ≤ length pages → blob_count bytes ≤ length (drop m pages)
 behind_fit m bytes other pages e le =
     let count : blob_count bytes ≡ blob_count other = ap (pages_for page_size) e in
     let left : length (drop m pages) ≡ length pages - m = length-drop m pages in
