@@ -62,13 +62,13 @@ are_theirs : (schema : Schema) (rows : List Row) (chunks : List Chunk) → AllBy
 are_theirs schema rows [] stored parts = tt
 are_theirs schema rows (chunk ∷ chunks) stored parts = (part_stored schema rows chunk stored.0.valid.framed parts.0, are_theirs schema rows chunks stored.1 parts.1)
 
-core_length : (dims : List Dimension) (k : ChunkNumber) → has_core dims k ≡ true → length k ≡ length dims
+pub core_length : (dims : List Dimension) (k : ChunkNumber) → has_core dims k ≡ true → length k ≡ length dims
 core_length [] [] e = refl
 core_length [] (k ∷ ks) e = absurd cc
 core_length (d ∷ dims) [] e = absurd cc
 core_length (d ∷ dims) (k ∷ ks) e = ap suc (core_length dims ks (and_parts _ _ e).1)
 
-are_sized : (schema : Schema) (chunks : List Chunk) → AllByRecursion (IsStored schema) chunks → AllByRecursion (λ k. length k ≡ length schema.dimensions) (link.numbers chunks)
+pub are_sized : (schema : Schema) (chunks : List Chunk) → AllByRecursion (IsStored schema) chunks → AllByRecursion (λ k. length k ≡ length schema.dimensions) (link.numbers chunks)
 are_sized schema [] stored = tt
 are_sized schema (chunk ∷ chunks) stored = (core_length schema.dimensions chunk.at.items stored.0.valid.framed.core, are_sized schema chunks stored.1)
 
@@ -88,7 +88,7 @@ payloads_take schema rows (chunk ∷ chunks) all =
 
 -- ---- the entries of a change
 
-fresh_numbers : (schema : Schema) (birth : ℕ) (chunks : List Chunk)
+pub fresh_numbers : (schema : Schema) (birth : ℕ) (chunks : List Chunk)
     → numbers (by_pairs (entry_of birth) (map (λ chunk. chunk.at) chunks) (map (λ chunk. drafted (payload_spelling schema.attributes chunk)) chunks)) ≡ link.numbers chunks
 fresh_numbers schema birth [] = refl
 fresh_numbers schema birth (chunk ∷ chunks) = ap (λ (ks : List ChunkNumber). chunk.at.items ∷ ks) (fresh_numbers schema birth chunks)
@@ -107,9 +107,9 @@ fresh_lengths schema rows birth (chunk ∷ chunks) all =
 
 -- ---- directories
 
-like_directory : (schema : Schema) (rows : List Row) (directory : Directory) (bytes : List ℕ) → length bytes ≡ (cost_directory schema rows).length
+like_directory : (schema : Schema) (rows : List Row) (bytes : List ℕ) → length bytes ≡ (cost_directory schema rows).length
     → AreAlike (blob_at (drafted bytes)) (cost_directory schema rows)
-like_directory schema rows directory bytes e = record {
+like_directory schema rows bytes e = record {
   bytes = e;
   pages = length-replicate (blob_count bytes) 1 ∙ sym (counts_agree (length bytes)) ∙ ap pages_needed e ∙ sym (length-replicate (pages_needed (cost_directory schema rows).length) 1);
 }
@@ -137,7 +137,7 @@ store_priced db name plan birth changed newest whole valid is =
     let its_lengths = subst (AllByRecursion (HasItsLength schema rows)) (sym entries) (fresh_lengths schema rows birth changed.chunks theirs) in
     let bytes : length (directory_bytes (draft birth changed) newest) ≡ (cost_directory schema rows).length =
     cost_bytes schema rows (directory_of (draft birth changed) newest).entries is.rows (subst (AreListed schema.dimensions (has_cell schema.dimensions rows)) its_numbers listed) its_lengths in
-    let alike = like_directory schema rows newest (directory_bytes (draft birth changed) newest) bytes in
+    let alike = like_directory schema rows (directory_bytes (draft birth changed) newest) bytes in
     record {
       needs = two_sums _ _ _ _ (payloads_take schema rows changed.chunks theirs ∙ stored_pages schema rows (link.numbers changed.chunks) is.rows listed)
           (sym (length-replicate (blob_count (directory_bytes (draft birth changed) newest)) 1) ∙ alike.pages);
@@ -155,11 +155,11 @@ each_found : (es : List DirEntry) → AreRising es → AllByRecursion (λ e. ent
 each_found [] rise = tt
 each_found (x ∷ es) rise = (first_found x es, later_found x es es rise.0 (each_found es rise.1))
 
-map_all : (P Q : DirEntry → Type 0) (es : List DirEntry) → ((e : DirEntry) → P e → Q e) → AllByRecursion P es → AllByRecursion Q es
+pub map_all : (P Q : DirEntry → Type 0) (es : List DirEntry) → ((e : DirEntry) → P e → Q e) → AllByRecursion P es → AllByRecursion Q es
 map_all P Q [] f all = tt
 map_all P Q (e ∷ es) f all = (f e all.0, map_all P Q es f all.1)
 
-found_has : (P : DirEntry → Type 0) (es : List DirEntry) (k : ChunkNumber) (e : DirEntry) → AllByRecursion P es → entry_at es k ≡ Some e → P e
+pub found_has : (P : DirEntry → Type 0) (es : List DirEntry) (k : ChunkNumber) (e : DirEntry) → AllByRecursion P es → entry_at es k ≡ Some e → P e
 found_has P [] k e all is = absurd cc
 found_has P (x ∷ es) k e all is = by_test (is_eq (number_order x.at.items k)) is (found_has P es k e all.1)
   where
@@ -183,7 +183,7 @@ none_listed (x ∷ es) k is = by_test (is_eq (number_order x.at.items k)) is (no
     by_test true it later = absurd cc
     by_test false it later = later it
 
-of_entries : (n : ℕ) (es : List DirEntry) → AllByRecursion (λ k. length k ≡ n) (numbers es) → AllByRecursion (λ e. length e.at.items ≡ n) es
+pub of_entries : (n : ℕ) (es : List DirEntry) → AllByRecursion (λ k. length k ≡ n) (numbers es) → AllByRecursion (λ e. length e.at.items ≡ n) es
 of_entries n [] all = tt
 of_entries n (e ∷ es) all = (all.0, of_entries n es all.1)
 
@@ -192,7 +192,7 @@ of_numbers n [] all = tt
 of_numbers n (e ∷ es) all = (all.0, of_numbers n es all.1)
 
 -- an entry of a directory in which entries were replaced is a fresh one, or one of the old that no fresh one replaces
-replaced_has : (P : DirEntry → Type 0) (fresh old new : List DirEntry) → AreReplaced fresh old new → AllByRecursion P fresh
+pub replaced_has : (P : DirEntry → Type 0) (fresh old new : List DirEntry) → AreReplaced fresh old new → AllByRecursion P fresh
     → ((e : DirEntry) → entry_at old e.at.items ≡ Some e → is_listed e.at.items (numbers fresh) ≡ false → P e) → AllByRecursion P new
 replaced_has P fresh old new replaced theirs kept = map_all (λ e. entry_at new e.at.items ≡ Some e) P new each (each_found new replaced.rising)
   where
@@ -205,20 +205,44 @@ replaced_has P fresh old new replaced theirs kept = map_all (λ e. entry_at new 
 
 -- ---- an insert
 
-overlaps_length : (dims : List Dimension) → length (overlaps dims) ≡ length dims
+pub overlaps_length : (dims : List Dimension) → length (overlaps dims) ≡ length dims
 overlaps_length [] = refl
 overlaps_length (d ∷ dims) = ap suc (overlaps_length dims)
 
--- where no written chunk replaces it, the payload of an entry stays as long
-insert_keeps : (schema : Schema) (input before : List Row) (e : DirEntry) → IsRising before → length e.at.items ≡ length schema.dimensions → HasItsLength schema before e
-    → has_cell schema.dimensions before e.at.items ≡ true
-    → (has_cell schema.dimensions (put_all input before) e.at.items && meets schema.dimensions input e.at.items) ≡ false → HasItsLength schema (put_all input before) e
-insert_keeps schema input before e rise len its had none =
+-- what an insert writes, and which chunks the newest version has
+pub record IsPutOver (schema : Schema) (input before : List Row) (fresh old : List DirEntry) : Type 0 where
+  pub rising : IsRising before
+  pub chosen : (k : ChunkNumber) → length k ≡ length schema.dimensions → is_listed k (numbers fresh) ≡ (has_cell schema.dimensions (put_all input before) k && meets schema.dimensions input k)
+  pub held : (k : ChunkNumber) → length k ≡ length schema.dimensions → is_listed k (numbers old) ≡ has_cell schema.dimensions before k
+  pub sized : AllByRecursion (λ e. length e.at.items ≡ length schema.dimensions) old
+
+-- the new directory lists each chunk that then holds a cell
+pub insert_lists : (schema : Schema) (input before : List Row) (fresh old new : List DirEntry) → IsPutOver schema input before fresh old → AreReplaced fresh old new → (k : ChunkNumber) → length k ≡ length schema.dimensions
+    → is_listed k (numbers new) ≡ has_cell schema.dimensions (put_all input before) k
+insert_lists schema input before fresh old new put replaced k len =
+    let dims = schema.dimensions in
+    are_listed fresh old new k replaced
+    ∙ ap (λ (b : Bool). b || is_listed k (numbers old)) (put.chosen k len)
+    ∙ ap (λ (b : Bool). (has_cell dims (put_all input before) k && meets dims input k) || b) (put.held k len)
+    ∙ both_listed (has_cell dims (put_all input before) k) (has_cell dims before k) (meets dims input k) (still_has dims k input before put.rising)
+    (has_as_before dims k input before (overlaps_length dims) put.rising)
+
+-- a chunk that the newest version has, and that isn't written, stays
+pub insert_keeps : (schema : Schema) (input before : List Row) (fresh old : List DirEntry) (e : DirEntry) → IsPutOver schema input before fresh old → entry_at old e.at.items ≡ Some e
+    → is_listed e.at.items (numbers fresh) ≡ false → stored_chunk schema (put_all input before) e.at.items ≡ stored_chunk schema before e.at.items
+insert_keeps schema input before fresh old e put found none =
     let dims = schema.dimensions in
     let k = e.at.items in
-    let met : meets dims input k ≡ false = not_met (has_cell dims (put_all input before) k) (meets dims input k) (still_has dims k input before rise had) none in
-    let same : stored_chunk schema (put_all input before) k ≡ stored_chunk schema before k = beside_stay schema input before k rise (frame_is_empty (within (frame dims (overlaps dims) k) input) met) in
-    record { bytes = its.bytes ∙ ap (λ (c : Chunk). length (payload_spelling schema.attributes c)) (sym same); pages = its.pages }
+    let len : length k ≡ length dims = found_has (λ f. length f.at.items ≡ length dims) old k e put.sized found in
+    let had : has_cell dims before k ≡ true = sym (put.held k len) ∙ found_listed old k e found in
+    let out : (has_cell dims (put_all input before) k && meets dims input k) ≡ false = sym (put.chosen k len) ∙ none in
+    let met : meets dims input k ≡ false = not_met (has_cell dims (put_all input before) k) (meets dims input k) (still_has dims k input before put.rising had) out in
+    beside_stay schema input before k put.rising (frame_is_empty (within (frame dims (overlaps dims) k) input) met)
+
+-- an entry of a chunk that stays has its length still
+as_long : (schema : Schema) (input before : List Row) (e : DirEntry) → stored_chunk schema (put_all input before) e.at.items ≡ stored_chunk schema before e.at.items → HasItsLength schema before e
+    → HasItsLength schema (put_all input before) e
+as_long schema input before e same its = record { bytes = its.bytes ∙ ap (λ (c : Chunk). length (payload_spelling schema.attributes c)) (sym same); pages = its.pages }
 
 insert_priced : (db : Database) (name : List ℕ) (plan : Query) (birth : ℕ) (changed : Changed) (newest : Directory) → changed.whole ≡ false → AreValid changed
     → IsChangeOf db (Insert name changed.schema plan) changed → AreRowsOf changed.schema (newest_rows db name) → IsOfRows changed.schema (newest_rows db name) newest
@@ -229,7 +253,6 @@ insert_priced db name plan birth changed newest whole valid is are of =
     let before = newest_rows db name in
     let input = rows_if_whole (fitted schema plan db) in
     let rows = put_all input before in
-    let rise = are.are_rows.rising in
     let chunks = changed.chunks in
     let theirs = are_theirs schema rows chunks valid.stored is.parts in
     let written = draft birth changed in
@@ -239,24 +262,18 @@ insert_priced db name plan birth changed newest whole valid is are of =
     let replaced : AreReplaced fresh old new = inserts_replace written newest (draft_rises changed birth valid.rising) of.listed.rising whole in
     let sized = are_sized schema chunks valid.stored in
     let its_numbers : numbers fresh ≡ link.numbers chunks = fresh_numbers schema birth chunks in
-    let chosen : (k : ChunkNumber) → length k ≡ length dims → is_listed k (numbers fresh) ≡ (has_cell dims rows k && meets dims input k) = λ k len. ap (is_listed k) its_numbers ∙ is.listed k len in
-    let listed : (k : ChunkNumber) → length k ≡ length dims → is_listed k (numbers new) ≡ has_cell dims rows k = λ k len.
-    are_listed fresh old new k replaced
-    ∙ ap (λ (b : Bool). b || is_listed k (numbers old)) (chosen k len)
-    ∙ ap (λ (b : Bool). (has_cell dims rows k && meets dims input k) || b) (of.listed.listed k len)
-    ∙ both_listed (has_cell dims rows k) (has_cell dims before k) (meets dims input k) (still_has dims k input before rise) (has_as_before dims k input before (overlaps_length dims) rise) in
     let HasSize : DirEntry → Type 0 = λ e. length e.at.items ≡ length dims in
     let old_sized : AllByRecursion HasSize old = of_entries (length dims) old of.listed.sized in
+    let put : IsPutOver schema input before fresh old =
+    record { rising = are.are_rows.rising; chosen = λ k len. ap (is_listed k) its_numbers ∙ is.listed k len; held = of.listed.listed; sized = old_sized } in
     let fresh_sized : AllByRecursion HasSize fresh = of_entries (length dims) fresh (subst (AllByRecursion (λ (k : ChunkNumber). length k ≡ length dims)) (sym its_numbers) sized) in
     let new_sized : AllByRecursion HasSize new = replaced_has HasSize fresh old new replaced fresh_sized (λ e found none. found_has HasSize old e.at.items e old_sized found) in
-    let kept : (e : DirEntry) → entry_at old e.at.items ≡ Some e → is_listed e.at.items (numbers fresh) ≡ false → HasItsLength schema rows e = λ e found none.
-    insert_keeps schema input before e rise (found_has HasSize old e.at.items e old_sized found) (found_has (HasItsLength schema before) old e.at.items e of.lengths found)
-    (sym (of.listed.listed e.at.items (found_has HasSize old e.at.items e old_sized found)) ∙ found_listed old e.at.items e found)
-    (sym (chosen e.at.items (found_has HasSize old e.at.items e old_sized found)) ∙ none) in
-    let lengths : AllByRecursion (HasItsLength schema rows) new = replaced_has (HasItsLength schema rows) fresh old new replaced (fresh_lengths schema rows birth chunks theirs) kept in
+    let lengths : AllByRecursion (HasItsLength schema rows) new =
+    replaced_has (HasItsLength schema rows) fresh old new replaced (fresh_lengths schema rows birth chunks theirs)
+    (λ e found none. as_long schema input before e (insert_keeps schema input before fresh old e put found none) (found_has (HasItsLength schema before) old e.at.items e of.lengths found)) in
     let bytes : length (directory_bytes written newest) ≡ (cost_directory schema rows).length =
-    cost_bytes schema rows new is.rows (record { rising = replaced.rising; sized = of_numbers (length dims) new new_sized; listed = listed }) lengths in
-    let alike = like_directory schema rows newest (directory_bytes written newest) bytes in
+    cost_bytes schema rows new is.rows (record { rising = replaced.rising; sized = of_numbers (length dims) new new_sized; listed = insert_lists schema input before fresh old new put replaced }) lengths in
+    let alike = like_directory schema rows (directory_bytes written newest) bytes in
     record {
       needs = two_sums _ _ _ _
           (payloads_take schema rows chunks theirs ∙ written_pages schema rows input (link.numbers chunks) is.rows (record { rising = valid.rising; sized = sized; listed = is.listed }))

@@ -1,5 +1,5 @@
 -- Chunks that are written, before their pages are known.
-use Rattle.std.proofs.Common.{◌≡◌, IfSome, ℕ, suc, List, [], ◌∷◌, length, map, Option, Some, None, refl, ap}
+use Rattle.std.proofs.Common.{◌≡◌, ℕ, suc, List, [], ◌∷◌, length, map, refl, ap}
 use Rattle.std.specs.List.{AllByRecursion}
 use Rattle.cell_values.specs.declared.schema.Schema.{Schema}
 use Rattle.array_geom.specs.declared.chunk.Changed.{Changed}
@@ -7,7 +7,7 @@ use Rattle.array_geom.specs.declared.chunk.Chunk.{Chunk}
 use Rattle.array_geom.specs.Link.{NumbersRise, numbers}
 use Rattle.chunk_rle.specs.Chunks.{spelling}
 use Rattle.commit_writes.specs.Commits.{IsBlobSized}
-use Rattle.commit_pages.specs.Versions.{drafted, draft, draft_of, IsWritten}
+use Rattle.commit_pages.specs.Versions.{drafted, draft, IsWritten}
 use Rattle.commit_pages.proofs.Blobs.{drafted_is_sized}
 use Rattle.commit_pages.proofs.Directories.{draft_rises}
 
@@ -25,7 +25,3 @@ is_written birth changed rise = record {
   each = as_many changed.schema changed.chunks;
   sized = all_sized changed.schema changed.chunks;
 }
-
-pub draft_is_written : (birth : ℕ) (changed : Option Changed) → IfSome changed (λ some. NumbersRise (numbers some.chunks)) → IfSome (draft_of birth changed) IsWritten
-draft_is_written birth None rise = tt
-draft_is_written birth (Some changed) rise = is_written birth changed rise

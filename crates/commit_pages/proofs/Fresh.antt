@@ -245,7 +245,7 @@ records_use_the_given names versions catalog catalogue newest change written pag
     let before : left known catalogue ≡ [] = dropped_go known catalogue (known_catalogue names versions catalogue change catalogue (all_held catalogue)) in
     let more : left known (catalogue ++ chain.pages) ≡ chain.pages =
     left_append known catalogue chain.pages ∙ ap (λ (ps : List ℕ). ps ++ left known chain.pages) before ∙ kept_stay known chain.pages rest in
-    all_given known version chain.pages (catalogue ++ chain.pages) pages (its known pages written newest is apart.known blobs) more fills
+    all_given known version chain.pages (catalogue ++ chain.pages) pages (its known pages written newest is apart.shared blobs) more fills
 
 pub bases_use_the_given : BasesUseTheGiven
 unfolding base_laid
@@ -259,5 +259,5 @@ bases_use_the_given names versions catalog catalogue newest change written pages
     let kept : AreKept known (pages_of version.blobs ++ (chain.pages ++ log ∷ [])) = subst (AreKept known) (sym all) apart.given in
     let blobs : AreKept known (pages_of version.blobs) = all_first (λ page. known page ≡ false) (pages_of version.blobs) (chain.pages ++ log ∷ []) kept in
     let rest : AreKept known (chain.pages ++ log ∷ []) = all_rest (λ page. known page ≡ false) (pages_of version.blobs) (chain.pages ++ log ∷ []) kept in
-    all_given known version (chain.pages ++ log ∷ []) (chain.pages ++ log ∷ []) (pages ++ log ∷ []) (its known pages written newest is apart.known blobs)
+    all_given known version (chain.pages ++ log ∷ []) (chain.pages ++ log ∷ []) (pages ++ log ∷ []) (its known pages written newest is apart.shared blobs)
     (kept_stay known (chain.pages ++ log ∷ []) rest) all

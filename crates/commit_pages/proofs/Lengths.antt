@@ -128,7 +128,7 @@ directories_alike a b newest e all =
     by_test false = all_put_alike (entries_of a) (entries_of b) newest.entries all
 
 -- a directory has as many bytes before its payloads' pages are known
-settled_bytes : (pages : List ℕ) (written : Written) (newest : Directory) → IsWritten written → length (pages_of written.payloads) ≤ length pages
+pub settled_bytes : (pages : List ℕ) (written : Written) (newest : Directory) → IsWritten written → length (pages_of written.payloads) ≤ length pages
     → length (directory_bytes (settled pages written) newest) ≡ length (directory_bytes written newest)
 settled_bytes pages written newest is le =
     spelled_alike (directory_of (settled pages written) newest) (directory_of written newest)

@@ -18,7 +18,7 @@ use Rattle.commit_pages.specs.Laws.{IsThere, WrittenAreThere}
 use Rattle.commit_pages.specs.Versions.{blob_count, all_placed, drafted, entry_of}
 use Rattle.commit_pages.proofs.Blobs.{both_fit, drafted_is_sized}
 
-all_there : (file : List ℕ) (schema : Schema) (rows : List Row) (birth : ℕ) (chunks : List Chunk) (pages : List ℕ) → AllByRecursion (IsStored schema) chunks
+pub all_there : (file : List ℕ) (schema : Schema) (rows : List Row) (birth : ℕ) (chunks : List Chunk) (pages : List ℕ) → AllByRecursion (IsStored schema) chunks
     → AllByRecursion (IsPart schema.dimensions (overlaps schema.dimensions) rows) chunks
     → length (pages_of (map (λ chunk. drafted (spelling schema.attributes chunk)) chunks)) ≤ length pages
     → HoldsBlobs file (all_placed pages (map (λ chunk. drafted (spelling schema.attributes chunk)) chunks))

@@ -1,5 +1,5 @@
 -- The version that a change makes, in pages: the payloads of the chunks that are written, and a directory.
-use Rattle.std.specs.Prelude.{◌≡◌, ℕ, ◌+◌, List, [], ◌∷◌, ◌++◌, length, map, take, drop, replicate, if◌then◌else◌, Option, Some, None}
+use Rattle.std.specs.Prelude.{◌≡◌, ℕ, ◌+◌, ◌<◌, ◌≤◌, ◌^◌, List, [], ◌∷◌, ◌++◌, length, map, take, drop, replicate, if◌then◌else◌, Option, Some, None}
 use Rattle.std.specs.List.{AllByRecursion}
 use Rattle.std.specs.declared.cmp.Ordering.{Ordering}
 use Rattle.std.specs.declared.cmp.Ordering.TheVariants.{Less, Equal, Greater}
@@ -69,6 +69,12 @@ pub record IsWritten (written : Written) : Type 0 where
   pub rising : HasRisingNumbers written
   pub each : length written.payloads ≡ length written.numbers
   pub sized : AllByRecursion IsBlobSized written.payloads
+
+-- what a directory may list: numbers for so many dimensions, a sequence and lengths of 64 bits
+pub record CanBeListed (dims : ℕ) (written : Written) : Type 0 where
+  pub birth : (1 ≤ written.birth) × (written.birth < 2 ^ 64)
+  pub numbers : AllByRecursion (λ at. (length at.items ≡ dims) × AllByRecursion (λ k. k < 2 ^ 64) at.items) written.numbers
+  pub bytes : AllByRecursion (λ one. (1 ≤ length one.bytes) × (length one.bytes < 2 ^ 64)) written.payloads
 
 -- how many pages the payloads have
 abbrev pub payload_count : Option Written → ℕ

@@ -1,12 +1,13 @@
 //! What a commit writes, and what there is after it.
-ghost use Rattle.std.specs.Prelude.{◌≡◌, ◌++◌, [], ◌∷◌, length, IfOk, IfSome, IsTrue};
+ghost use Rattle.std.specs.Prelude.{◌≡◌, ◌<◌, ◌^◌, ℕ, ◌++◌, [], ◌∷◌, length, IfOk, IfSome, IsTrue};
 ghost use Rattle.std.specs.List.{AllByRecursion};
 ghost use Rattle.chunk_map.specs.Entries.{AreRising};
+ghost use Rattle.chunk_map.specs.Spelling.{IsDirectory};
 ghost use Rattle.plan_changes.specs.Allowed.{names_allow};
 ghost use Rattle.version_catalog.specs.Catalogs.{names_in};
-ghost use Rattle.catalog_changes.specs.Changed.{after_change, has_its_directory};
+ghost use Rattle.catalog_changes.specs.Changed.{after_change, has_its_directory, IsItsBlob};
 ghost use Rattle.commit_writes.specs.Commits.{base_pages, commit_pages, IsBlobSized, IsChainSized};
-ghost use Rattle.commit_pages.specs.Versions.{new_version, HasRisingNumbers, IsWritten};
+ghost use Rattle.commit_pages.specs.Versions.{new_version, HasRisingNumbers, IsWritten, CanBeListed};
 ghost use Rattle.event_core.specs.Apart.{makes_version};
 ghost use Rattle.std.specs.Option.{is_some};
 ghost use Rattle.commit_pages.specs.Commits.{chain_in, record_bytes, catalog_bytes, rest_of, with_record, with_base, record_needs, base_needs, record_laid, base_laid};
@@ -341,6 +342,21 @@ fn placed_version(
     }
 }
 
+fn length_of(at: &BlobAt) -> u64
+    ensures { result ≡ at.now.length }
+{
+    at.length
+}
+
+/// Looks at a length, which has 64 bits.
+fn look_at(at: &Option<BlobAt>)
+    ensures { IfSome at.now (λ some. some.length < 2 ^ 64) }
+{
+    if let Some(at) = at {
+        let _length = length_of(at);
+    }
+}
+
 /// A commit of a record over a catalogue and its pages, and the newest version's directory: its blobs and its record take the pages one
 /// after the other.
 #[tactic(auto, unfolding(crate::specs::Commits::record_laid))]
@@ -358,13 +374,19 @@ pub fn lay_record(
     requires written { IfSome written IsWritten }
     requires newest { AreRising newest.now.entries }
     requires pages { length pages.now ≡ record_needs catalog.now newest.now change.now written }
+    requires few { length pages.now < 2 ^ 32 }
     ensures laid { IfOk result (λ laid. laid ≡ record_laid catalog.now catalogue.now newest.now change.now written pages.now) }
     ensures blobs { IfOk result (λ laid. AllByRecursion IsBlobSized laid.blobs) }
     ensures chain { IfOk result (λ laid. IsChainSized laid.chain) }
     ensures pages { IfOk result (λ laid. commit_pages laid.blobs laid.chain ≡ pages.now) }
+    ensures at { IfOk result (λ laid. IsItsBlob laid.at) }
+    ensures rules { IfOk result (λ laid. (dims : ℕ) → IsDirectory dims newest.now → IfSome written (CanBeListed dims) → IfSome laid.directory (IsDirectory dims)) }
 {
     match placed_version(alloc, written, newest, pages) {
-        Ok(version) => with_record(alloc, catalog, catalogue, change, version, pages),
+        Ok(version) => {
+            look_at(&version.at);
+            with_record(alloc, catalog, catalogue, change, version, pages)
+        }
         Err(Memory) => Err(Memory),
     }
 }
@@ -386,13 +408,19 @@ pub fn lay_base(
     requires written { IfSome written IsWritten }
     requires newest { AreRising newest.now.entries }
     requires pages { length pages.now ≡ base_needs catalog.now newest.now change.now written }
+    requires few { length pages.now < 2 ^ 32 }
     ensures laid { IfOk result (λ laid. laid ≡ base_laid catalog.now newest.now change.now written pages.now log) }
     ensures blobs { IfOk result (λ laid. AllByRecursion IsBlobSized laid.blobs) }
     ensures chain { IfOk result (λ laid. IsChainSized laid.chain) }
     ensures pages { IfOk result (λ laid. base_pages laid.blobs laid.chain log ≡ pages.now ++ log ∷ []) }
+    ensures at { IfOk result (λ laid. IsItsBlob laid.at) }
+    ensures rules { IfOk result (λ laid. (dims : ℕ) → IsDirectory dims newest.now → IfSome written (CanBeListed dims) → IfSome laid.directory (IsDirectory dims)) }
 {
     match placed_version(alloc, written, newest, pages) {
-        Ok(version) => with_base(alloc, catalog, change, version, pages, log),
+        Ok(version) => {
+            look_at(&version.at);
+            with_base(alloc, catalog, change, version, pages, log)
+        }
         Err(Memory) => Err(Memory),
     }
 }

@@ -1,9 +1,11 @@
 //! The chunks that a change writes, spelled.
-ghost use Rattle.std.specs.Prelude.{◌≡◌, ℕ, map, take, drop, replicate, length, Some, IfOk, IfSome, OnOk};
+ghost use Rattle.std.specs.Prelude.{◌≡◌, ◌<◌, ◌≤◌, ◌^◌, map, take, drop, replicate, length, IfOk, IfSome, OnOk};
+ghost use Rattle.std.specs.List.{AllByRecursion};
 ghost use Rattle.array_geom.specs.Link.{NumbersRise, numbers};
 ghost use Rattle.chunk_rle.specs.Chunks.{spelling as payload_spelling};
+ghost use Rattle.commit_pages.specs.Changes.{AreValid};
 ghost use Rattle.commit_pages.specs.Commits.{chain_count};
-ghost use Rattle.commit_pages.specs.Versions.{blob_count, placed, all_placed, drafted, draft, draft_of, IsWritten};
+ghost use Rattle.commit_pages.specs.Versions.{blob_count, placed, all_placed, drafted, draft, draft_of, IsWritten, CanBeListed};
 
 use array_geom::{Changed, Chunk};
 use cell_values::{Bytes, ChunkAt, List, Memory, Schema, copy_numbers};
@@ -25,7 +27,8 @@ pub struct Written {
 
 /// How many pages some bytes need as a blob.
 pub(crate) fn blob_count(bytes: &Bytes) -> usize
-    ensures { result ≡ blob_count bytes.now }
+    ensures count { result ≡ blob_count bytes.now }
+    ensures short { length bytes.now < 2 ^ 64 }
 {
     blob_pages(bytes.len() as u64) as usize
 }
@@ -53,13 +56,15 @@ pub(crate) fn pages_behind(pages: &[u32], count: usize) -> &[u32]
 
 /// As many pages as some bytes need, each as if it were page 1.
 pub(crate) fn drafted_pages(alloc: Global, bytes: &Bytes) -> Result<List<u32>, Memory>
-    ensures { IfOk result (λ pages. pages ≡ replicate (blob_count bytes.now) 1) }
+    ensures pages { IfOk result (λ pages. pages ≡ replicate (blob_count bytes.now) 1) }
+    ensures short { IfOk result (λ _. length bytes.now < 2 ^ 64) }
 {
     Ok(List::from_vec(vec![in alloc; 1u32; blob_count(bytes)]?))
 }
 
 fn drafted_payload(alloc: Global, schema: &Schema, chunk: &Chunk) -> Result<Placed, Memory>
-    ensures { IfOk result (λ one. one ≡ drafted (payload_spelling schema.now.attributes chunk.now)) }
+    ensures drafted { IfOk result (λ one. one ≡ drafted (payload_spelling schema.now.attributes chunk.now)) }
+    ensures short { IfOk result (λ one. length one.bytes < 2 ^ 64) }
 {
     let bytes = encode(alloc, schema, chunk)?;
     let pages = drafted_pages(alloc, &bytes)?;
@@ -71,7 +76,8 @@ fn drafted_payloads(
     schema: &Schema,
     chunks: &[Chunk],
 ) -> Result<List<Placed>, Memory>
-    ensures { IfOk result (λ payloads. payloads ≡ map (λ chunk. drafted (payload_spelling schema.now.attributes chunk)) chunks.now) }
+    ensures drafted { IfOk result (λ payloads. payloads ≡ map (λ chunk. drafted (payload_spelling schema.now.attributes chunk)) chunks.now) }
+    ensures short { IfOk result (AllByRecursion (λ one. length one.bytes < 2 ^ 64)) }
 {
     let mut payloads = List::with_capacity(alloc, chunks.len())?;
     for chunk in chunks {
@@ -91,7 +97,8 @@ fn numbers_of(alloc: Global, chunks: &[Chunk]) -> Result<List<ChunkAt>, Memory>
 }
 
 fn draft_chunks(alloc: Global, changed: &Changed, birth: u64) -> Result<Written, Memory>
-    ensures { IfOk result (λ written. written ≡ draft birth changed.now) }
+    ensures drafted { IfOk result (λ written. written ≡ draft birth changed.now) }
+    ensures short { IfOk result (λ written. AllByRecursion (λ one. length one.bytes < 2 ^ 64) written.payloads) }
 {
     let chunks = changed.chunks.as_slice();
     let numbers = numbers_of(alloc, chunks)?;
@@ -118,6 +125,8 @@ pub fn draft(
     requires { IfSome changed.now (λ some. NumbersRise (numbers some.chunks)) }
     ensures spelled { IfOk result (λ written. written ≡ draft_of birth changed.now) }
     ensures ready { IfOk result (λ written. IfSome written IsWritten) }
+    ensures listed { IfOk result (λ _. IfSome changed.now (λ some. AreValid some → 1 ≤ birth
+        → CanBeListed (length some.schema.dimensions) (draft birth some))) }
 {
     match changed {
         Some(changed) => Ok(Some(draft_chunks(alloc, changed, birth)?)),
