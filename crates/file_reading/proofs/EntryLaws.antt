@@ -1,13 +1,14 @@
 -- The payloads of a directory, one after the other.
 use Rattle.std.proofs.Common.{◌≡◌, ℕ, ◌+◌, ◌<◌, ◌≤◌, Bool, true, false, List, [], ◌∷◌, ◌++◌, length, drop, get_or, Ok, Err, Result, refl, sym, ◌∙◌, ap, subst}
-use Rattle.std.specs.Prelude.{if◌then◌else◌, ◌||◌}
-use Rattle.std.specs.List.{list_any}
+use Rattle.std.specs.Prelude.{if◌then◌else◌, ◌&&◌, ◌||◌}
+use Rattle.std.specs.List.{AllByRecursion, list_any}
 use Rattle.std.proofs.lemmas.List.{drop_more, drop_all}
 use Rattle.std.proofs.lemmas.List.Folds.{list_any-append}
 use Rattle.cell_values.specs.declared.schema.Dimension.{Dimension}
 use Rattle.file_items.specs.Items.{◌>>=◌}
 use Rattle.chunk_map.specs.declared.directory.DirEntry.{DirEntry}
 use Rattle.chunk_map.specs.declared.directory.Directory.{Directory}
+use Rattle.chunk_map.specs.Entries.{AreRising}
 use Rattle.file_meaning.specs.Opening.{claimed, is_entry, is_same, is_seen, payload_in, payloads_in}
 use Rattle.file_reading.specs.Inner.Rows.{entries_of}
 use Rattle.file_reading.specs.Inner.Taken.{IsTaken, IsClaimed}
@@ -30,6 +31,18 @@ seen_here entry row last all is here = seen_push entry row last all is ∙ ap (�
 
 pub seen_before : (entry : DirEntry) (row : List Directory) (last : Directory) (all : List Directory) → all ≡ row ++ last ∷ [] → is_seen last.entries entry ≡ false → is_seen (entries_of [] row) entry ≡ is_seen (entries_of [] all) entry
 seen_before entry row last all is here = sym (seen_push entry row last all is ∙ ap (λ (b : Bool). b || is_seen (entries_of [] row) entry) here)
+
+-- of the tests of an entry the first two are passed
+pub all_true : (x y z r : Bool) → x ≡ true → y ≡ true → r ≡ z → r ≡ (x && (y && z))
+all_true x y z r first second is = is ∙ sym (ap (λ (b : Bool). b && (y && z)) first ∙ ap (λ (b : Bool). b && z) second)
+
+-- the last one of a row
+pub last_rises : (row : List Directory) (last : Directory) (all : List Directory) → all ≡ row ++ last ∷ [] → AllByRecursion (λ d. AreRising d.entries) all → AreRising last.entries × AllByRecursion (λ d. AreRising d.entries) row
+last_rises row last all is rise = go row (subst (AllByRecursion (λ d. AreRising d.entries)) is rise)
+  where
+    go : (ds : List Directory) → AllByRecursion (λ d. AreRising d.entries) (ds ++ last ∷ []) → AreRising last.entries × AllByRecursion (λ d. AreRising d.entries) ds
+    go [] rise = (rise.0, tt)
+    go (d ∷ ds) rise = let rest = go ds rise.1 in (rest.0, (rise.0, rest.1))
 
 -- ---- one payload
 
@@ -80,8 +93,7 @@ goes_on all old set now i entry tested done low is tests passed claims claimed_a
     let g = going file taken named has in
     let paid = subst (λ (b : Bool). IsClaimed file b now (payload_in file named all.seen g.0 entry) named) claimed_all (claims file g.0 named g.1) in
     let step = tested_then all file g.0 named entry (drop (i + 1) all.entries) (sym (tests file g.0 g.1) ∙ passed) in
-    let then_ = ap (λ (r : Result (List ℕ) ℕ). r >>= λ n. payloads_in file all.sequence all.dims named all.seen n (drop (i + 1) all.entries)) paid.1 in
-    (
+    let then_ = ap (λ (r : Result (List ℕ) ℕ). r >>= λ n. payloads_in file all.sequence all.dims named all.seen n (drop (i + 1) all.entries)) paid.1 in (
       paid.0,
       paid.2,
       sym (step ∙ then_) ∙ ap (payloads_in file all.sequence all.dims named all.seen g.0) (sym (next_entry all i entry low is)) ∙ g.2,

@@ -1,8 +1,5 @@
 -- All that a file keeps, part by part.
-use Rattle.std.proofs.Common.{◌≡◌, ◌≤◌, ℕ, List, [], ◌∷◌, ◌++◌, length, Result, Ok, Err, IsErrOf, refl, sym, ◌∙◌, ap, subst, arith}
-use Rattle.std.specs.List.{AllZip}
-use Rattle.afl_outside.specs.Counts.{Rose}
-use Rattle.afl_outside.specs.Disk.{Moment}
+use Rattle.std.proofs.Common.{◌≡◌, ℕ, List, [], ◌∷◌, ◌++◌, Option, Some, IfSome, Result, Ok, Err, refl, sym, ◌∙◌, ap, subst}
 use Rattle.file_items.specs.Items.{◌>>=◌}
 use Rattle.page_layout.specs.declared.roots.Root.{Root}
 use Rattle.page_chain.specs.Pages.{page_size}
@@ -10,8 +7,6 @@ use Rattle.page_chain.specs.Chains.{chain, chain_bytes}
 use Rattle.page_chain.specs.declared.fault.OpenCause.{OpenCause}
 use Rattle.page_chain.specs.declared.fault.OpenCause.TheVariants.{Disk, NotDatabase, Memory}
 use Rattle.page_slots.specs.declared.slots.Slots.{Slots as FileSlots}
-use Rattle.page_slots.specs.Standing.{IsSound}
-use Rattle.page_file.proofs.OnlyRead.{sound_read}
 use Rattle.chunk_map.specs.declared.directory.Directory.{Directory}
 use Rattle.version_catalog.specs.declared.rules.catalog.Catalog.{Catalog}
 use Rattle.version_catalog.specs.Table.{catalog_in}
@@ -19,22 +14,28 @@ use Rattle.file_meaning.specs.Slots.{Slots}
 use Rattle.file_meaning.specs.Opening.{blamed, found_in, Logged, logged_in, rows_in, sequence_of}
 use Rattle.file_meaning.specs.declared.found.Found.{Found}
 use Rattle.file_laws.proofs.Steps.{then_is}
-use Rattle.file_reading.specs.Reading.{Answers}
+use Rattle.file_reading.specs.Reading.{Answers, slots_of}
 use Rattle.file_reading.specs.Inner.Found.{IsLogFound, base_found_in, found_behind, log_behind, rules_in}
 use Rattle.file_reading.specs.Inner.Log.{GoesOn, base_in, behind_log}
-use Rattle.file_reading.proofs.Steps.{unless}
+use Rattle.file_reading.proofs.Steps.{told, unless}
 use Rattle.file_reading.proofs.LogLaws.{behind_none}
 
 -- ---- the parts
 
+abbrev with_both : List ℕ → Catalog → Result (List ℕ × Catalog) ℕ
+with_both pages catalog = Ok (pages, catalog)
+
+abbrev alone : List ℕ × Catalog → Result Found ℕ
+alone base = Ok (record { chain = base.0; logged = []; catalog = base.1; directories = [] })
+
 spelled_then : (pages : List ℕ) (spelled : Result Catalog ℕ) (more : List ℕ → Catalog → Result Found ℕ)
-    → (spelled >>= λ b. more pages b) ≡ (((spelled >>= λ c. Ok (pages, c)) >>= λ base. Ok (record { chain = base.0; logged = []; catalog = base.1; directories = [] })) >>= λ found. more found.chain found.catalog)
+    → (spelled >>= λ b. more pages b) ≡ (((spelled >>= λ c. with_both pages c) >>= alone) >>= λ found. more found.chain found.catalog)
 spelled_then pages (Ok b) more = refl
 spelled_then pages (Err page) more = refl
 
 chained_then : (chained : Result (List ℕ) ℕ) (spelled : List ℕ → Result Catalog ℕ) (more : List ℕ → Catalog → Result Found ℕ)
     → (chained >>= λ pages. spelled pages >>= λ b. more pages b)
-    ≡ (((chained >>= λ pages. spelled pages >>= λ c. Ok (pages, c)) >>= λ base. Ok (record { chain = base.0; logged = []; catalog = base.1; directories = [] })) >>= λ found. more found.chain found.catalog)
+    ≡ (((chained >>= λ pages. spelled pages >>= λ c. with_both pages c) >>= alone) >>= λ found. more found.chain found.catalog)
 chained_then (Ok pages) spelled more = spelled_then pages (spelled pages) more
 chained_then (Err page) spelled more = refl
 
@@ -44,8 +45,8 @@ found_parts file slots =
     let root = slots.current.root in
     chained_then (chain page_size file (root.log ∷ []) 0 root.first root.length) (λ pages. blamed root.first (catalog_in (chain_bytes page_size file pages root.length)))
     (λ pages catalog. logged_in file root.log (pages ++ root.log ∷ []) catalog slots.records
-        >>= λ logged. rows_in file (rules_in slots) logged.taken logged.catalog.arrays
-            >>= λ directories. Ok (record { chain = pages; logged = logged.pages; catalog = logged.catalog; directories = directories }))
+    >>= λ logged. rows_in file (rules_in slots) logged.taken logged.catalog.arrays
+    >>= λ directories. Ok (record { chain = pages; logged = logged.pages; catalog = logged.catalog; directories = directories }))
 
 -- ---- the base
 
@@ -117,12 +118,27 @@ found_stops_behind Disk file slots base any is behind = tt
 found_stops_behind (NotDatabase page) file slots base any is behind = found_parts file slots ∙ then_is (base_found_in file slots.current.root) (found_behind file slots) base is ∙ behind
 found_stops_behind Memory file slots base any is behind = tt
 
--- ---- calls that only read, one after the other
+-- ---- what a disk tells
 
--- a fault that came later
-pub rose_later : (before mid now : ℕ) → before ≤ mid → Rose mid now → Rose before now
-rose_later before mid now less rose = omega (arith, less, rose)
+-- a call that read what follows a base
+abbrev pub ReadsBehind : FileSlots → Option (List ℕ) → Result (Unit {0}) OpenCause → Found → Found → Type 0
+ReadsBehind slots tells result base found = (seen : List ℕ) → tells ≡ Some seen → GoesOn result (Ok found) (found_behind seen (slots_of slots) base)
 
--- the slots stay sound
-pub sound_stays : (old new : FileSlots) (seen : List ℕ) (before now : List ℕ → Type 0) → new ≡ old → ((c : List ℕ) → now c → before c) → IsSound old seen before → IsSound new seen now
-sound_stays old new seen before now same fewer sound = subst (λ (s : FileSlots). IsSound s seen now) (sym same) (sound_read old seen before now fewer sound)
+pub all_told : (slots mid_slots : FileSlots) (tells mid : Option (List ℕ)) (base found : Found) → mid_slots ≡ slots → mid ≡ tells
+    → ((seen : List ℕ) → tells ≡ Some seen → base_found_in seen slots.current.root ≡ Ok base) → ReadsBehind mid_slots mid (Ok tt) base found
+    → IfSome tells (λ seen. found_in seen (slots_of slots) ≡ Ok found)
+all_told slots mid_slots tells mid base found slots_are same first behind =
+    told (λ (seen : List ℕ). found_in seen (slots_of slots) ≡ Ok found) tells
+    (λ seen is. found_is seen (slots_of slots) base found (first seen is) (subst (λ (s : FileSlots). ReadsBehind s mid (Ok tt) base found) slots_are behind seen (same ∙ is)))
+
+pub behind_stopped : (slots mid_slots : FileSlots) (tells mid : Option (List ℕ)) (base found : Found) (cause : OpenCause) → mid_slots ≡ slots → mid ≡ tells
+    → ((seen : List ℕ) → tells ≡ Some seen → base_found_in seen slots.current.root ≡ Ok base) → ReadsBehind mid_slots mid (Err cause) base found
+    → IfSome tells (λ seen. Answers {X = Found} (Err cause) (found_in seen (slots_of slots)))
+behind_stopped slots mid_slots tells mid base found cause slots_are same first behind =
+    told (λ (seen : List ℕ). Answers {X = Found} (Err cause) (found_in seen (slots_of slots))) tells
+    (λ seen is. found_stops_behind cause seen (slots_of slots) base (Ok found) (first seen is) (subst (λ (s : FileSlots). ReadsBehind s mid (Err cause) base found) slots_are behind seen (same ∙ is)))
+
+pub base_stopped : (slots : FileSlots) (tells : Option (List ℕ)) (cause : OpenCause) → ((seen : List ℕ) → tells ≡ Some seen → Answers {X = Found} (Err cause) (base_found_in seen slots.current.root))
+    → IfSome tells (λ seen. Answers {X = Found} (Err cause) (found_in seen (slots_of slots)))
+base_stopped slots tells cause first =
+    told (λ (seen : List ℕ). Answers {X = Found} (Err cause) (found_in seen (slots_of slots))) tells (λ seen is. found_stops cause seen (slots_of slots) (first seen is))

@@ -9,6 +9,8 @@ use Rattle.page_chain.specs.declared.fault.OpenCause.{OpenCause}
 use Rattle.page_chain.specs.declared.fault.OpenCause.TheVariants.{Disk, NotDatabase, Memory}
 use Rattle.chunk_map.specs.declared.directory.DirEntry.{DirEntry}
 use Rattle.chunk_map.specs.declared.directory.Directory.{Directory}
+use Rattle.chunk_map.specs.Entries.{AreRising}
+use Rattle.chunk_map.specs.Spelling.{IsDirectory}
 use Rattle.chunk_map.specs.Table.{directory_in}
 use Rattle.version_catalog.specs.declared.rules.catalog.BlobAt.{BlobAt}
 use Rattle.version_catalog.specs.declared.rules.catalog.CatalogArray.{CatalogArray}
@@ -59,6 +61,27 @@ pub whole : (a : Asked) (own all : List ℕ) (directory : Directory) → claimed
 whole a own all directory is step right =
     then_is (claimed a.file a.rules.first a.taken a.at.pages) _ own is ∙ then_is (spelled a) _ directory step ∙ then_is (paid a own directory) _ all right
 
+-- what a call claimed, by its answer and by the pages themselves
+pub claims_of : (file taken pages slice : List ℕ) (named : ℕ) (done b : Bool) (set : List Bool) → slice ≡ pages → done ≡ b → IsClaimed file done set (claimed file named taken slice) named
+    → IsClaimed file b set (claimed file named taken pages) named
+claims_of file taken pages slice named done b set pages_is done_is claims =
+    subst (λ (c : Bool). IsClaimed file c set (claimed file named taken pages) named) done_is (subst (λ (ps : List ℕ). IsClaimed file done set (claimed file named taken ps) named) pages_is claims)
+
+pub paid_of : (a : Asked) (own : List ℕ) (directory : Directory) (slice : List DirEntry) (done b : Bool) (set : List Bool) → slice ≡ directory.entries → done ≡ b
+    → IsClaimed a.file done set (payloads_in a.file a.rules.sequence a.dims (slice_index a.at.pages 0) a.seen own slice) (slice_index a.at.pages 0)
+    → IsClaimed a.file b set (paid a own directory) (slice_index a.at.pages 0)
+paid_of a own directory slice done b set slice_is done_is claims =
+    subst (λ (c : Bool). IsClaimed a.file c set (paid a own directory) (slice_index a.at.pages 0)) done_is
+    (subst (λ (es : List DirEntry). IsClaimed a.file done set (payloads_in a.file a.rules.sequence a.dims (slice_index a.at.pages 0) a.seen own es) (slice_index a.at.pages 0)) slice_is claims)
+
+-- each directory of a row rises
+pub all_rising : (dims : ℕ) (row slice : List Directory) → slice ≡ row → AllByRecursion (IsDirectory dims) row → AllByRecursion (λ directory. AreRising directory.entries) slice
+all_rising dims row slice is all = subst (AllByRecursion (λ directory. AreRising directory.entries)) (sym is) (go row all)
+  where
+    go : (ds : List Directory) → AllByRecursion (IsDirectory dims) ds → AllByRecursion (λ directory. AreRising directory.entries) ds
+    go [] all = tt
+    go (d ∷ ds) all = (all.0.rising, go ds all.1)
+
 -- ---- the directories of an array
 
 -- one more directory
@@ -108,12 +131,11 @@ pub row_goes : (a : AskedRow) (told mid : Option (List ℕ)) (old set now : List
     → i < length a.blobs → at ≡ get_or a.blobs i at → mid ≡ told → more ≡ row ++ directory ∷ [] → ReadsOne a mid set row at (Ok directory) now → GoingRow a told old i row set → GoingRow a told old (i + 1) more now
 row_goes a told mid old set now i row more directory at low is same more_is reads going seen seen_is taken has =
     let g = going seen seen_is taken has in
-    let r = reads seen (same ∙ seen_is) g.0 g.1 in
-    (
+    let r = reads seen (same ∙ seen_is) g.0 g.1 in (
       r.0,
       r.2,
       ap (λ (ds : List Directory). row_of a seen ds r.0 (drop (i + 1) a.blobs)) more_is ∙ sym (one_directory a seen row g.0 r.0 directory at (drop (i + 1) a.blobs) r.1)
-      ∙ ap (row_of a seen row g.0) (sym (next_blob a i at low is)) ∙ g.2,
+          ∙ ap (row_of a seen row g.0) (sym (next_blob a i at low is)) ∙ g.2,
     )
 
 pub row_stops : (a : AskedRow) (told mid : Option (List ℕ)) (old set now : List Bool) (i : ℕ) (row : List Directory) (at : BlobAt) (cause : OpenCause)
@@ -130,8 +152,7 @@ row_stops a told mid old set now i row at Memory low is same reads going seen se
 pub row_ends : (a : AskedRow) (told : Option (List ℕ)) (old set : List Bool) (i : ℕ) (row : List Directory) → length a.blobs ≤ i → GoingRow a told old i row set
     → (seen : List ℕ) → told ≡ Some seen → (taken : List ℕ) → IsTaken seen old taken → Takes seen rowed (Ok row) set (row_in seen a.rules a.dims [] taken a.blobs)
 row_ends a told old set i row past going seen seen_is taken has =
-    let g = going seen seen_is taken has in
-    (
+    let g = going seen seen_is taken has in (
       g.0,
       sym g.2 ∙ ap (row_of a seen row g.0) (drop_all i a.blobs past) ∙ ap (λ (ds : List Directory). Ok (rowed ds g.0)) (append-nil row),
       g.1,
@@ -176,14 +197,13 @@ pub rows_go : (rules : Rules) (arrays : List CatalogArray) (told mid : Option (L
 rows_go rules arrays told mid old set now i rows more row array low is same more_is reads going seen seen_is taken has =
     let g = going seen seen_is taken has in
     let r = reads seen (same ∙ seen_is) g.0 g.1 in
-    let left = drop (i + 1) arrays in
-    (
+    let left = drop (i + 1) arrays in (
       r.0,
       r.2,
       ap (λ (rs : List (List Directory)). behind_rows rs (rows_in seen rules r.0 left)) more_is
-      ∙ behind_rows_more rows row (rows_in seen rules r.0 left)
-      ∙ sym (ap (behind_rows rows) (then_is (row_in seen rules array.entry.schema.dimensions [] g.0 array.directories) _ (rowed row r.0) r.1))
-      ∙ ap (λ (as_ : List CatalogArray). behind_rows rows (rows_in seen rules g.0 as_)) (sym (next_array arrays i array low is)) ∙ g.2,
+          ∙ behind_rows_more rows row (rows_in seen rules r.0 left)
+          ∙ sym (ap (behind_rows rows) (then_is (row_in seen rules array.entry.schema.dimensions [] g.0 array.directories) _ (rowed row r.0) r.1))
+          ∙ ap (λ (as_ : List CatalogArray). behind_rows rows (rows_in seen rules g.0 as_)) (sym (next_array arrays i array low is)) ∙ g.2,
     )
 
 pub rows_stop : (rules : Rules) (arrays : List CatalogArray) (told mid : Option (List ℕ)) (old set now : List Bool) (i : ℕ) (rows : List (List Directory)) (array : CatalogArray) (cause : OpenCause)

@@ -5,6 +5,7 @@ ghost use Rattle.afl_outside.specs.Counts.{Rose};
 ghost use Rattle.cell_values.specs.Schemas.{IsValid};
 ghost use Rattle.page_chain.specs.Pages.{page_size, blob, first_past};
 ghost use Rattle.page_chain.specs.Inner.Runs.{OnlyReads};
+ghost use Rattle.chunk_map.specs.Entries.{AreRising};
 ghost use Rattle.chunk_map.specs.Spelling.{IsDirectory};
 ghost use Rattle.chunk_map.specs.Table.{directory_in};
 ghost use Rattle.plan_changes.specs.Stored.{IsStored};
@@ -91,6 +92,7 @@ fn read_version<D: Disk>(
 ) -> Result<Directory, OpenCause>
     requires valid { IsValid schema.now }
     requires blob { IsBlob at.now }
+    requires rising { AllByRecursion (λ directory. AreRising directory.entries) before.now }
     ensures exact { (seen : List ℕ) → (D.moment file.old.disk).state.seen ≡ Some seen → (taken_before : List ℕ) → IsTaken seen taken.old taken_before
         → Takes seen listed result taken.new (directory_from seen (rules_of base.now) schema.now.dimensions (entries_of [] before.now) taken_before at.now) }
     ensures rules { IfOk result (IsDirectory (length schema.now.dimensions)) }

@@ -1,10 +1,10 @@
 //! The payloads of a directory.
-ghost use Rattle.std.specs.Prelude.{◌≡◌, ◌+◌, ℕ, List, [], length, nat_le};
-ghost use Rattle.std.specs.List.{AllByRecursion};
+ghost use Rattle.std.specs.Prelude.{◌≡◌, ◌+◌, ◌&&◌, ℕ, List, [], length, nat_lt};
+ghost use Rattle.std.specs.List.{AllByRecursion, list_all};
 ghost use Rattle.array_geom.specs.Link.{number_order};
-ghost use Rattle.chunk_map.specs.Spelling.{IsDirectory};
+ghost use Rattle.chunk_map.specs.Entries.{AreRising};
 ghost use Rattle.file_meaning.specs.Opening.{are_pages, is_entry, is_same, is_seen, payload_in, payloads_in};
-ghost use Rattle.file_reading.specs.Inner.Rows.{entries_of, rules_of};
+ghost use Rattle.file_reading.specs.Inner.Rows.{entries_of};
 ghost use Rattle.file_reading.specs.Inner.Taken.{IsTaken, IsClaimed};
 
 use crate::base::Base;
@@ -12,6 +12,7 @@ use crate::taken::{TakenPages, claim};
 use array_geom::has_core;
 use cell_values::{Schema, compare_numbers};
 use chunk_map::{DirEntry, Directory};
+use std::cmp::Ordering;
 
 /// Whether two entries agree in all that they say.
 fn is_same(a: &DirEntry, b: &DirEntry) -> bool
@@ -22,25 +23,32 @@ fn is_same(a: &DirEntry, b: &DirEntry) -> bool
             && (a.birth == b.birth && a.pages.as_slice().cmp(b.pages.as_slice()).is_eq()))
 }
 
-/// Whether a directory has an equal entry.
-fn has_entry(directory: &Directory, entry: &DirEntry) -> bool
-    ensures { result ≡ is_seen directory.now.entries entry.now }
+fn order_of(other: &DirEntry, entry: &DirEntry) -> Ordering
+    ensures { result ≡ number_order other.now.at.items entry.now.at.items }
 {
-    directory
-        .entries
-        .as_slice()
-        .iter()
-        .any(|other| is_same(other, entry))
+    compare_numbers(&other.at, &entry.at)
+}
+
+/// Whether an equal entry is among some that rise.
+fn has_entry(entries: &[DirEntry], entry: &DirEntry) -> bool
+    requires { AreRising entries.now }
+    ensures { result ≡ is_seen entries.now entry.now }
+{
+    match entries.binary_search_by(|other| order_of(other, entry)) {
+        Ok(place) => is_same(entry, &entries[place]),
+        Err(_) => false,
+    }
 }
 
 /// Whether one of these directories has an equal entry. The last one is looked at first, since a version shares most with the one
 /// before it.
 fn is_seen(before: &[Directory], entry: &DirEntry) -> bool
+    requires { AllByRecursion (λ directory. AreRising directory.entries) before.now }
     ensures { result ≡ is_seen (entries_of [] before.now) entry.now }
 {
     let mut left = before;
     while let Some((last, rest)) = left.split_last() {
-        if has_entry(last, entry) {
+        if has_entry(last.entries.as_slice(), entry) {
             return true;
         }
         left = rest;
@@ -48,10 +56,17 @@ fn is_seen(before: &[Directory], entry: &DirEntry) -> bool
     false
 }
 
+fn all_pages(taken: &TakenPages, pages: &[u32]) -> bool
+    ensures { result ≡ list_all (λ page. nat_lt 0 page && nat_lt page (length taken.now)) pages.now }
+{
+    pages.iter().all(|page| taken.is_page(*page))
+}
+
+/// Whether each is a page of the file, other than page 0.
 fn are_pages(taken: &TakenPages, pages: &[u32]) -> bool
     ensures { (file before : List ℕ) → IsTaken file taken.now before → result ≡ are_pages file pages.now }
 {
-    pages.iter().all(|page| taken.is_page(*page))
+    all_pages(taken, pages)
 }
 
 /// Whether the core of its chunk holds a coordinate, a commit so far wrote it, and its pages are pages of the file.
@@ -64,6 +79,7 @@ fn is_entry(taken: &TakenPages, base: &Base, schema: &Schema, entry: &DirEntry) 
 
 /// Takes the pages of a payload, unless a directory of the array before has it.
 fn claim_payload(taken: &mut TakenPages, before: &[Directory], entry: &DirEntry) -> bool
+    requires { AllByRecursion (λ directory. AreRising directory.entries) before.now }
     ensures { (file taken_before : List ℕ) (named : ℕ) → IsTaken file taken.old taken_before
         → IsClaimed file result taken.new (payload_in file named (entries_of [] before.now) taken_before entry.now) named }
 {
@@ -81,6 +97,7 @@ pub(crate) fn claim_payloads(
     before: &[Directory],
     entries: &[DirEntry],
 ) -> bool
+    requires { AllByRecursion (λ directory. AreRising directory.entries) before.now }
     ensures { (file taken_before : List ℕ) (named : ℕ) → IsTaken file taken.old taken_before
         → IsClaimed file result taken.new (payloads_in file (base.now.sequence + base.now.records) schema.now.dimensions named (entries_of [] before.now) taken_before entries.now) named }
 {

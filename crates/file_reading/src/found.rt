@@ -117,7 +117,13 @@ fn read_records<D: Disk>(
 {
     match base_pages(&found.chain, file.root().log) {
         Ok(mut taken) => {
-            match read_log(alloc, file, &mut found.catalog, &mut taken, &mut found.logged) {
+            match read_log(
+                alloc,
+                file,
+                &mut found.catalog,
+                &mut taken,
+                &mut found.logged,
+            ) {
                 Ok(()) => Ok(taken),
                 Err(cause) => Err(cause),
             }

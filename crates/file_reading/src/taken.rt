@@ -1,5 +1,5 @@
 //! Which pages are taken.
-ghost use Rattle.std.specs.Prelude.{◌≡◌, ◌<◌, ◌^◌, ◌&&◌, ◌||◌, ℕ, List, length, min, nat_eq, nat_lt, not, false, replicate, slice_index_or, IfOk};
+ghost use Rattle.std.specs.Prelude.{◌≡◌, ◌<◌, ◌/◌, ◌^◌, ◌&&◌, ◌||◌, ℕ, List, length, min, nat_eq, nat_lt, not, false, replicate, slice_index_or, IfOk};
 ghost use Rattle.file_meaning.specs.Opening.{claimed};
 ghost use Rattle.file_reading.specs.Inner.Taken.{IsTaken, IsClaimed};
 
@@ -44,7 +44,7 @@ impl TakenPages {
     fn has(&self, page: u32) -> bool
         ensures { result ≡ slice_index_or self.now page false }
     {
-        match self.flags.get(page as usize) {
+        match self.flags.as_slice().get(page as usize) {
             Some(flag) => *flag,
             None => false,
         }

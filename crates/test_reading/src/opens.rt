@@ -33,7 +33,11 @@ fn push_number(out: &mut String, entry: &DirEntry) -> Result<(), AllocError> {
 fn push_entry(out: &mut String, entry: &DirEntry) -> Result<(), AllocError> {
     out.push_str("  chunk ")?;
     push_number(out, entry)?;
-    write!(out, ": {} bytes, commit {}, pages", entry.length, entry.birth)?;
+    write!(
+        out,
+        ": {} bytes, commit {}, pages",
+        entry.length, entry.birth
+    )?;
     push_pages(out, &entry.pages)?;
     writeln!(out, "")
 }
