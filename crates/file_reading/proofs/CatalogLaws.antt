@@ -6,10 +6,9 @@ use Rattle.cell_values.specs.declared.schema.Schema.{Schema}
 use Rattle.cell_values.specs.Schemas.{has_attributes, has_dimensions, are_distinct, names_of, is_dimension, frame_fits, IsValid}
 use Rattle.array_geom.proofs.TestLaws.{and_parts, at_most}
 use Rattle.plan_changes.specs.Stored.{IsStored}
-use Rattle.version_catalog.specs.declared.rules.catalog.BlobAt.{BlobAt}
 use Rattle.version_catalog.specs.declared.rules.catalog.CatalogArray.{CatalogArray}
 use Rattle.version_catalog.specs.declared.rules.catalog.Catalog.{Catalog}
-use Rattle.version_catalog.specs.Catalogs.{HasDirectories, IsBlob, IsCatalog}
+use Rattle.version_catalog.specs.Catalogs.{HasDirectories, IsCatalog}
 
 pub at_index : {A : Type 0} (P : A → Type 0) (xs : List A) (i : ℕ) (x : A) → i < length xs → x ≡ get_or xs i x → AllByRecursion P xs → P x
 at_index P [] i x low is all = absurd (omega (arith, low))

@@ -11,7 +11,7 @@ use Rattle.chunk_map.specs.declared.directory.Directory.{Directory}
 use Rattle.version_catalog.specs.declared.rules.catalog.Catalog.{Catalog}
 use Rattle.version_catalog.specs.Table.{catalog_in}
 use Rattle.file_meaning.specs.Slots.{Slots}
-use Rattle.file_meaning.specs.Opening.{blamed, found_in, Logged, logged_in, rows_in, sequence_of}
+use Rattle.file_meaning.specs.Opening.{blamed, found_in, Logged, logged_in, rows_in}
 use Rattle.file_meaning.specs.declared.found.Found.{Found}
 use Rattle.file_laws.proofs.Steps.{then_is}
 use Rattle.file_reading.specs.Reading.{Answers, slots_of}

@@ -1,10 +1,10 @@
 -- The directories of an array, and of all arrays, one after the other.
-use Rattle.std.proofs.Common.{◌≡◌, ℕ, ◌+◌, ◌<◌, ◌≤◌, Bool, true, false, List, [], ◌∷◌, ◌++◌, length, drop, get_or, slice_index, Option, Some, None, Ok, Err, Result, refl, sym, ◌∙◌, ap, subst, arith, append_assoc, append-nil}
+use Rattle.std.proofs.Common.{◌≡◌, ℕ, ◌+◌, ◌<◌, ◌≤◌, Bool, false, List, [], ◌∷◌, ◌++◌, length, drop, get_or, slice_index, Option, Some, Ok, Err, Result, refl, sym, ◌∙◌, ap, subst, append_assoc, append-nil}
 use Rattle.std.specs.List.{AllByRecursion, AllZip}
 use Rattle.std.proofs.lemmas.List.{drop_more, drop_all}
 use Rattle.cell_values.specs.declared.schema.Dimension.{Dimension}
 use Rattle.file_items.specs.Items.{◌>>=◌}
-use Rattle.page_chain.specs.Pages.{page_size, blob, first_past}
+use Rattle.page_chain.specs.Pages.{page_size, blob}
 use Rattle.page_chain.specs.declared.fault.OpenCause.{OpenCause}
 use Rattle.page_chain.specs.declared.fault.OpenCause.TheVariants.{Disk, NotDatabase, Memory}
 use Rattle.chunk_map.specs.declared.directory.DirEntry.{DirEntry}

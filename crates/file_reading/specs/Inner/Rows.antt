@@ -1,7 +1,6 @@
 -- The directories of an array, one after the other.
-use Rattle.std.specs.Prelude.{◌≡◌, ℕ, ◌+◌, List, [], ◌∷◌, ◌++◌, length, Result, Ok, Err}
+use Rattle.std.specs.Prelude.{ℕ, ◌+◌, List, [], ◌∷◌, ◌++◌, Result, Ok}
 use Rattle.file_items.specs.Items.{◌>>=◌}
-use Rattle.page_layout.specs.declared.roots.Root.{Root}
 use Rattle.chunk_map.specs.declared.directory.DirEntry.{DirEntry}
 use Rattle.chunk_map.specs.declared.directory.Directory.{Directory}
 use Rattle.file_meaning.specs.Opening.{Listed, Row, Rules}

@@ -1,4 +1,4 @@
-use Rattle.std.proofs.Common.{◌≡◌, ℕ, List, [], None, Err, true, false, sym, ◌∙◌, ap}
+use Rattle.std.proofs.Common.{◌≡◌, [], None, Err, true, false, sym, ◌∙◌, ap}
 use Rattle.page_chain.specs.Pages.{page_size, first_past}
 use Rattle.file_laws.proofs.Parts.{claimed_there}
 use Rattle.file_reading.specs.Inner.Rows.{entries_of, rules_of}

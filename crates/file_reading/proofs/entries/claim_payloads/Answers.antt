@@ -1,6 +1,6 @@
-use Rattle.std.proofs.Common.{refl, sym, ◌∙◌, ◌+◌, [], true, false}
+use Rattle.std.proofs.Common.{◌+◌, []}
 use Rattle.file_reading.specs.Inner.Rows.{entries_of}
-use Rattle.file_reading.proofs.EntryLaws.{Entries, begins, goes_on, stops_untested, stops_unclaimed, ends}
+use Rattle.file_reading.proofs.EntryLaws.{Entries, goes_on, stops_untested, stops_unclaimed, ends}
 use Rattle.file_reading.proofs.entries.claim_payloads.Goals as goal
 
 pub returns-then-not-is_entry : goal.returns-then-not-is_entry

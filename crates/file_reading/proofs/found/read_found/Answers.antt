@@ -1,4 +1,3 @@
-use Rattle.std.proofs.Common.{◌∙◌}
 use Rattle.file_reading.proofs.FoundLaws.{all_told, base_stopped, behind_stopped}
 use Rattle.file_reading.proofs.found.read_found.Goals as goal
 

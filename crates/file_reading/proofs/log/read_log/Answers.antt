@@ -1,4 +1,4 @@
-use Rattle.std.proofs.Common.{◌<◌, ◌∙◌, List, length, Ok, arith}
+use Rattle.std.proofs.Common.{◌<◌, ◌∙◌, length, Ok, arith}
 use Rattle.page_chain.proofs.RunLemmas.{reads_on}
 use Rattle.file_reading.proofs.LogLaws.{LogAt, log_goes, log_stops}
 use Rattle.file_reading.proofs.log.read_log.Goals as goal

@@ -1,4 +1,4 @@
-use Rattle.std.proofs.Common.{ℕ, length}
+use Rattle.std.proofs.Common.{length}
 use Rattle.file_reading.proofs.TakenLaws.{Started}
 use Rattle.file_reading.proofs.taken.taken_pages.Given as goal
 
