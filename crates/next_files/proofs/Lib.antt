@@ -21,3 +21,4 @@ mod Torn
 mod Turn
 mod Version
 mod Worked
+mod WorkedBase

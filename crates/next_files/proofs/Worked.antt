@@ -18,7 +18,7 @@ use Rattle.next_files.proofs.Free.{index_front}
 use Rattle.next_files.proofs.Logged.{none_of_has}
 use Rattle.next_files.proofs.Record.{records_make_next}
 
-stands_is : StandsBy file slots database found
+pub stands_is : StandsBy file slots database found
 stands_is = record { finds = found_is; database = database_is; holds = record { names = refl; versions = ((version_is, tt), tt) } }
 
 may_change : MayChange database change
@@ -55,7 +55,7 @@ long_added : length added ≡ 8192
 unfolding added directory_bytes zeros
 long_added = refl
 
-length-both : (xs ys : List ℕ) → length (xs ++ ys) ≡ length xs + length ys
+pub length-both : (xs ys : List ℕ) → length (xs ++ ys) ≡ length xs + length ys
 length-both [] ys = omega arith
 length-both (x ∷ xs) ys = let later : length (xs ++ ys) ≡ length xs + length ys = length-both xs ys in omega (arith, later)
 
@@ -65,7 +65,7 @@ index_rest (x ∷ xs) ys zero k is = absurd (omega (arith, is))
 index_rest (x ∷ xs) ys (suc i) k is = index_rest xs ys i k (omega (arith, is))
 
 -- a front that stays, a page that differs, and what stays behind it
-kept_index : (a m n b c : List ℕ) (i : ℕ) → length m ≡ length n → (i < length a) ⊎ (length a + length m ≤ i) → i < length (a ++ (m ++ b)) → slice_index (a ++ (n ++ (b ++ c))) i ≡ slice_index (a ++ (m ++ b)) i
+pub kept_index : (a m n b c : List ℕ) (i : ℕ) → length m ≡ length n → (i < length a) ⊎ (length a + length m ≤ i) → i < length (a ++ (m ++ b)) → slice_index (a ++ (n ++ (b ++ c))) i ≡ slice_index (a ++ (m ++ b)) i
 kept_index a m n b c i same (inl low) short = index_front a (n ++ (b ++ c)) i low ∙ sym (index_front a (m ++ b) i low)
 kept_index a m n b c i same (inr high) short =
     let j : ℕ = i - length a in
@@ -86,7 +86,7 @@ long_next =
     let c : length (stored ++ added) ≡ length stored + length added = length-both stored added in
     omega (arith, a, b, c, long_head, long_log, long_stored, long_added)
 
-long_old : length file ≡ 20480
+pub long_old : length file ≡ 20480
 unfolding file_with front catalog_bytes zeros directory_bytes payload_bytes
 long_old = refl
 

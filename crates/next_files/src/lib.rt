@@ -2,6 +2,7 @@
 #![tactic(auto)]
 
 ghost use Rattle.next_files.specs.Inner.Example.{AnArrayIsStoredAgain};
+ghost use Rattle.next_files.specs.Inner.Removed.{AnArrayIsRemoved};
 ghost use Rattle.next_files.specs.Laws.{FilesStandByTheirSlots, StandingFilesHaveSlots, WritesLeaveStanding, FoundDirectoriesRise, FreePagesTurn};
 ghost use Rattle.next_files.specs.Laws.{HadEntriesAreSeen, LaterEntriesAreUnseen, ReplacingEntriesAreUnseen, WrittenPayloadsAreHeld};
 ghost use Rattle.next_files.specs.Laws.{RecordsMakeNext, BasesMakeNext, TornBasesStandAlike};
@@ -45,6 +46,11 @@ pub fn written_payloads_are_held()
 /// An array that is stored again: a file, the file with the record, and what the law of records says of them.
 pub fn an_array_is_stored_again()
     ensures { AnArrayIsStoredAgain }
+{}
+
+/// An array that is removed by a new base: the same file, the file with the base, and what the law of bases says of them.
+pub fn an_array_is_removed()
+    ensures { AnArrayIsRemoved }
 {}
 
 /// Which entries of a new version the versions before have, and which are new.
