@@ -6,8 +6,10 @@ mod laws;
 mod pages;
 mod placed;
 mod records;
+mod stopped;
 
 pub use bases::commit_base;
 pub use laws::commits_may_be_written;
 pub use placed::Placed;
 pub use records::commit_record;
+pub use stopped::Stopped;

@@ -4,4 +4,5 @@ pub mod Noted
 pub mod Notes
 pub mod Opened
 pub mod Pins
+pub mod Told
 pub mod Tried

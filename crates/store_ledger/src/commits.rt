@@ -39,6 +39,29 @@ impl Model for ReadyCommit {
     ghost invariant = { λ r. (r.change ≡ r.ready.change) × (r.used ≡ r.ready.used) };
 }
 
+impl ReadyCommit {
+    /// The change that it is of.
+    pub fn change(&self) -> &Change
+        ensures { result.now ≡ self.now.change }
+    {
+        &self.change
+    }
+
+    /// Gives the change back, where it isn't committed.
+    pub fn into_change(self) -> Change
+        ensures { result ≡ self.change }
+    {
+        let ReadyCommit {
+            ready,
+            change,
+            used,
+        } = self;
+        drop(ready);
+        drop(used);
+        change
+    }
+}
+
 impl Ledger {
     /// Takes all memory that a commit of a change needs.
     pub fn ready(&self, change: Change, used: Used) -> Result<ReadyCommit, Memory>

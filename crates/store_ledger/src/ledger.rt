@@ -2,7 +2,8 @@
 ghost use Rattle.std.specs.Prelude.{◌≡◌, [], length, IfOk};
 ghost use Rattle.event_core.specs.Allowed.{IsBase};
 ghost use Rattle.event_core.specs.History.{names_at};
-ghost use Rattle.store_ledger.specs.Ledger.{history, has_room, unused_pages};
+ghost use Rattle.event_core.specs.Replay.{core_at};
+ghost use Rattle.store_ledger.specs.Ledger.{history, has_room, unused_pages, IsLedger};
 
 use crate::Note;
 use cell_values::Memory;
@@ -67,6 +68,14 @@ impl Ledger {
                 Err(want)
             }
         }
+    }
+
+    /// What the entries make of the base.
+    pub fn core(&self) -> &Core
+        ensures core { result.now ≡ core_at self.now.base (history self.now) }
+        ensures ledger { IsLedger self.now }
+    {
+        &self.core
     }
 
     /// What can be named now.

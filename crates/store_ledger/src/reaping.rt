@@ -1,8 +1,8 @@
 //! Reaps.
-ghost use Rattle.std.specs.Prelude.{◌≡◌, ◌≤◌, ◌<◌, ◌+◌, ◌-◌, ◌^◌, [], ◌∷◌, ◌++◌, length, if◌then◌else◌, vec_capacity, IfOk, OnOk, OnErr};
+ghost use Rattle.std.specs.Prelude.{◌≡◌, ◌≤◌, ◌<◌, ◌+◌, ◌-◌, ◌^◌, [], ◌∷◌, ◌++◌, length, if◌then◌else◌, vec_capacity, IfOk, OnOk, OnErr, IsTrue};
 ghost use Rattle.event_core.specs.declared.entry.Entry.TheVariants.{Reap};
 ghost use Rattle.event_core.specs.Replay.{core_after};
-ghost use Rattle.store_ledger.specs.Ledger.{reap_comes, with_entries};
+ghost use Rattle.store_ledger.specs.Ledger.{has_room, reap_comes, with_entries};
 
 use crate::Ledger;
 use cell_values::Memory;
@@ -46,5 +46,17 @@ impl Ledger {
         let count = 2 * self.reserved as usize + 1;
         append_reap(&mut self.core, &mut self.entries, count)?;
         Ok(true)
+    }
+
+    /// All pages that nobody can name become free, whether that frees one or not.
+    pub fn reap_now(&mut self) -> Result<(), Memory>
+        requires { IsTrue (has_room self.old 1) }
+        ensures ok { OnOk result (self.new ≡ with_entries (Reap ∷ []) self.old) }
+        ensures err { OnErr result (self.new ≡ self.old) }
+    {
+        // No pin takes more than twice as many entries as it reserves.
+        let count = 2 * self.reserved as usize + 1;
+        append_reap(&mut self.core, &mut self.entries, count)?;
+        Ok(())
     }
 }

@@ -231,7 +231,7 @@ returns-in-Err-open_base-clause-failed g c =
     let m3 = g.D.Disk.moment s3.disk in
     let is2 = c.in-Ok-fill_base.ensures.slots in
     let is3 = c.in-Err-open_base.ensures.slots in
-    inr (inr (record {
+    record {
       slots_are = is3 ∙ ap (λ (s : Slots). record s { other = roots.Opening (root_of sequence chain log); doubtful = true }) (is2 ∙ ap (λ (s : Slots). record (emptied s) { other = roots.Written (root_of sequence chain log); zeroed = Some log }) is1)
           ∙ ap (λ (z : Option ℕ). record (cleared old.slots) { other = roots.Opening (root_of sequence chain log); doubtful = true; zeroed = z }) (sym (ap (λ (s : Slots). s.zeroed) is3 ∙ ap (λ (s : Slots). s.zeroed) is2));
       images = λ seen known x left.
@@ -242,7 +242,7 @@ returns-in-Err-open_base-clause-failed g c =
           let g3 = sealed_goes old.slots s1.slots s2.slots blobs chain sequence log (Some log) m1 m2 m3 is1 is2 (c.in-Ok-fill_base.ensures.goes k1.0 k1.1) (c.in-Err-open_base.ensures.goes k2.0 k2.1 holds) in
           let h = left_is 0 pages (MayOpen old.slots) (λ y. OpensAs old.slots.current old.slots.records y ⊎ MayHaveBase old.slots blobs chain sequence log y) m0 m1 m3 (g.met.D.Disk.counts_now s3.disk) g1 g3 x left in
           ⊎_elim (λ o. inl (h.0, o)) (λ n. inr (h.0, n)) h.1;
-    }))
+    }
 
 pub returns-in-Err-open_base-clause-cause : goal.returns-in-Err-open_base-clause-cause
 returns-in-Err-open_base-clause-cause g c =
@@ -319,14 +319,14 @@ returns-in-Err-fill_base-clause-failed g c =
     let s2 = c.fill_base.new.file in
     let m2 = g.D.Disk.moment s2.disk in
     let is1 = shut_base old.slots s1.slots c.requires.target c.in-Ok.ensures.slots in
-    inr (inl (record {
+    record {
       slots_are = c.in-Err-fill_base.ensures.slots ∙ ap (λ (s : Slots). record (emptied s) { other = roots.Closed; doubtful = s2.slots.doubtful; zeroed = s2.slots.zeroed }) is1;
       images = λ seen known x left.
           let g1 = subst (λ (t : Target). Goes (target_page t old.slots ∷ []) (MayOpen old.slots) m0 m1) c.requires.target (c.in-Ok.ensures.goes seen known) in
           let k1 = c.in-Ok.ensures.known seen known in
           let g2 = shut_on old.slots s1.slots pages m1 m2 is1 (c.in-Err-fill_base.ensures.goes k1.0 k1.1) in
           left_is 0 pages (MayOpen old.slots) (OpensAs old.slots.current old.slots.records) m0 m1 m2 (g.met.D.Disk.counts_now s2.disk) g1 g2 x left;
-    }))
+    }
 
 pub returns-in-Err-fill_base-clause-cause : goal.returns-in-Err-fill_base-clause-cause
 returns-in-Err-fill_base-clause-cause g c =
@@ -370,12 +370,12 @@ returns-in-Err-clause-failed g c =
     let log = c.args.log in
     let sequence = c.args.sequence in
     let pages = base_pages blobs chain log in
-    inl (record {
+    record {
       slots_are = c.in-Err.ensures.slots;
       images = λ seen known x left.
           let g1 = subst (λ (t : Target). Goes (target_page t old.slots ∷ []) (MayOpen old.slots) m0 m1) c.requires.target (c.in-Err.ensures.goes seen known) in
           image_of (0 ∷ []) (MayOpen old.slots) m0 m1 (g.met.D.Disk.counts_now s1.disk) g1 x left;
-    })
+    }
 
 pub returns-in-Err-clause-seen : goal.returns-in-Err-clause-seen
 returns-in-Err-clause-seen g c = λ seen known.
