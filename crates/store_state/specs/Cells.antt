@@ -17,9 +17,8 @@ use Rattle.event_core.specs.Cells.{at}
 use Rattle.event_core.specs.History.{History, catalogue_at, open_pins, pages_at}
 use Rattle.event_core.specs.Legal.{IsLegal}
 use Rattle.event_core.specs.Pages.{has_page}
-use Rattle.store_ledger.specs.Ledger.{history}
 use Rattle.store_versions.specs.Versions.{Directories, versions_at}
-use Rattle.store_state.specs.Standings.{Standing, base_of, commit_places, current_slots, database_at, given_of, IsSound, StandsFor, HaveStood}
+use Rattle.store_state.specs.Standings.{Standing, base_of, current_slots, IsSound, StandsFor, HaveStood}
 use Rattle.store_state.specs.Inner.Keeping.{Keeping, LieIn, directories_in, pages_of_catalogue}
 
 -- What is found from the current root on: the catalogue that is kept, the directories of the versions that can be named, and pages that are
@@ -39,17 +38,18 @@ pub record IsImage (base : Core) (given : Directories) (db : Database) (h : Hist
   pub pinned : AllByRecursion (λ pin. LieIn image (at db pin.before) (versions_at base given pin.before)) (open_pins h)
   pub stands : StandsFor (at db h) doubt image
 
--- 'AT', ON AN HONEST DISK THAT BEGAN AS THIS DATABASE
-pub record HoldsCells {D : Type 0} (moment : D → Moment) (s : Standing D) (k : Keeping) (db : Database) : Type 0 where
-  pub legal : IsLegal (cost_from (base_of s).records) db s.ledger.base (history s.ledger)
-  pub database : IsDatabase (database_at db s)
-  pub doubt : IfSome s.doubt (IsSound (database_at db s))
+-- 'AT', ON AN HONEST DISK THAT BEGAN AS THIS DATABASE: over a history whose commits have these places
+pub record HoldsCells {D : Type 0} (moment : D → Moment) (s : Standing D) (k : Keeping) (db : Database) (h : History) (given : Directories) (places : List ℕ) : Type 0 where
+  pub legal : IsLegal (cost_from (base_of s).records) db s.ledger.base h
+  pub database : IsDatabase (at db h)
+  pub pinned : AllByRecursion (λ pin. IsDatabase (at db pin.before)) (open_pins h)
+  pub doubt : IfSome s.doubt (IsSound (at db h))
   pub bytes : List ℕ
   pub known : IsKnown k.slots bytes (moment s.disk)
   pub found : Found
-  pub is_found : IsFound s.ledger.base (given_of s) (history s.ledger) k.catalog k.slots.current.root.log found
-  pub images : (image : List ℕ) → (moment s.disk).may_leave image → IsImage s.ledger.base (given_of s) db (history s.ledger) k.slots s.doubt found image
+  pub is_found : IsFound s.ledger.base given h k.catalog k.slots.current.root.log found
+  pub images : (image : List ℕ) → (moment s.disk).may_leave image → IsImage s.ledger.base given db h k.slots s.doubt found image
   -- what a crash since the opening might have left
-  pub past : HaveStood (moment s.disk) db (history s.ledger) 0 (moment s.opened.disk).state.moment
+  pub past : HaveStood (moment s.disk) db h 0 (moment s.opened.disk).state.moment
   -- since a commit was acknowledged no image is of a shorter history
-  pub acked : AllZip (λ place since. HaveStood (moment s.disk) db (history s.ledger) (place + 1) since) (commit_places 0 s.ledger.entries) s.acked
+  pub acked : AllZip (λ place since. HaveStood (moment s.disk) db h (place + 1) since) places s.acked

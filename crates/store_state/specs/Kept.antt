@@ -13,11 +13,10 @@ use Rattle.event_core.specs.Apart.{AllShareOwn, AreApart}
 use Rattle.event_core.specs.Bases.{Base, commits, sequence_at, records_at}
 use Rattle.event_core.specs.History.{History, catalogue_at, names_at, open_pins, pages_at}
 use Rattle.event_core.specs.Legal.{IsOrdered}
-use Rattle.store_ledger.specs.Ledger.{history}
 use Rattle.store_versions.specs.declared.row.VersionRow.{VersionRow}
 use Rattle.store_versions.specs.Seen.{AreSeen}
 use Rattle.store_versions.specs.Versions.{Directories, HaveDirectories, versions_at}
-use Rattle.store_state.specs.Standings.{Standing, base_of, current_slots, given_of, records_in}
+use Rattle.store_state.specs.Standings.{Standing, base_of, current_slots, records_in}
 use Rattle.store_state.specs.Inner.Keeping.{Keeping, AreDirectoriesOf, HasItsPages, is_opening, is_tried, AreCounted}
 
 -- the history is an ordered one, whose commits share no pages but their own, over a base whose catalogue is apart
@@ -44,15 +43,17 @@ pub record AreSlots (base : Base) (h : History) (slots : Slots) : Type 0 where
   pub target : slots.target ≡ first_target slots.current.format (length slots.records)
   pub alone : IsAlone slots.target slots
 
--- 'AT', ON EVERY DISK
-pub record IsKept {D : Type 0} (moment : D → Moment) (s : Standing D) (k : Keeping) : Type 0 where
-  pub in_order : IsInOrder s.ledger.base (history s.ledger)
+-- 'AT', ON EVERY DISK: over a history, with the directories that its versions were made with
+pub record IsKept {D : Type 0} (moment : D → Moment) (s : Standing D) (k : Keeping) (h : History) (given : Directories) : Type 0 where
+  pub in_order : IsInOrder s.ledger.base h
   pub catalog : IsCatalog k.catalog
-  pub names : names_in k.catalog ≡ names_at s.ledger.base (history s.ledger)
-  pub versions : AreVersions s.ledger.base (given_of s) (history s.ledger) k.rows
-  pub slots : AreSlots (base_of s) (history s.ledger) k.slots
+  pub names : names_in k.catalog ≡ names_at s.ledger.base h
+  pub versions : AreVersions s.ledger.base given h k.rows
+  pub slots : AreSlots (base_of s) h k.slots
+  -- a slot may stand open just where a change is in doubt
   pub doubt : is_opening k.slots ≡ is_some s.doubt
-  pub acked : length s.acked ≡ commits (history s.ledger)
-  pub made : length s.made ≡ commits (history s.ledger)
-  pub tried : IsTrue (list_all (is_tried (history s.ledger) s.ledger.notes) (open_pins (history s.ledger)))
+  pub acked : length s.acked ≡ commits h
+  pub made : length s.made ≡ commits h
+  -- what was committed under an open pin was tried under it
+  pub tried : IsTrue (list_all (is_tried h s.ledger.notes) (open_pins h))
   pub noted : AreCounted (moment s.opened.disk).state.faults (moment s.disk).state.faults s.ledger.notes

@@ -5,3 +5,4 @@ pub mod Events
 pub mod Inner
 pub mod Kept
 pub mod Standings
+pub mod Worked

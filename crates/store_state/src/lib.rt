@@ -2,7 +2,15 @@
 #![tactic(auto)]
 
 mod event;
+mod fault;
+mod laws;
 mod parts;
+mod pins;
+mod reaping;
 
 pub use event::Event;
+pub use fault::ReadFault;
+pub use laws::a_store_is_kept;
 pub use parts::StoreParts;
+pub use pins::{pin, unpin};
+pub use reaping::reap;

@@ -1,0 +1,5 @@
+pub mod AtOn
+pub mod CellsOn
+pub mod KeptOn
+pub mod Lists
+mod Worked
