@@ -84,7 +84,7 @@ under_pin : (notes : List Note) (session : ℕ) (o : Option History) → list_an
 under_pin notes session None = refl
 under_pin notes session (Some before) = or_nothing (has_note Fault notes (record { session = session; before = before }))
 
-abbrev faulty_pin : List Note → ℕ → CorePin → Bool
+abbrev pub faulty_pin : List Note → ℕ → CorePin → Bool
 faulty_pin notes session pin = nat_eq pin.session session && list_any (λ note. nat_eq note.session pin.session && (is_kind Fault note.kind && nat_lt pin.place note.after)) notes
 
 -- the core's pins and the notes tell whether a fault was noted under a session's pin
@@ -98,3 +98,13 @@ faulted_told ledger now session core r er nr p same k =
     ∙ ap (list_any (has_note Fault ledger.notes)) (open_pins_are_these ledger.base session (reverse ledger.entries) k.allowed)
     ∙ under_pin ledger.notes session (pin_before session (reverse ledger.entries))
     ∙ ap (λ (l : LedgerState). is_noted Fault l session) same
+
+-- the same, as the note's call leaves the ledger
+pub two_fit : (ledger now : LedgerState) (session after : ℕ) (ns : List Note) → ledger ≡ now → IsLedger now → IsTrue (is_pinned session (history now)) →
+    IfSome (pin_before session (history now)) (λ before. has_note Tried now.notes (record { session = session; before = before }) ≡ false) →
+    after ≡ length ledger.entries → ns ≡ ledger.notes ++ record { session = session; kind = Tried; after = after } ∷ [] → has_room (record ledger { notes = ns }) 2 ≡ true
+two_fit ledger now session after ns same is pinned first e f =
+    let room : has_room (with_notes (tried_now ledger session ∷ []) ledger) 2 ≡ true =
+    subst (λ (l : LedgerState). has_room (with_notes (tried_now l session ∷ []) l) 2 ≡ true) (sym same) (tried_room now session is pinned first) in
+    let notes : ns ≡ ledger.notes ++ tried_now ledger session ∷ [] = f ∙ ap (λ (n : ℕ). ledger.notes ++ record { session = session; kind = Tried; after = n } ∷ []) e in
+    subst (λ (xs : List Note). has_room (record ledger { notes = xs }) 2 ≡ true) (sym notes) room

@@ -1,5 +1,7 @@
 pub mod AtOn
 pub mod CellsOn
+pub mod Finds
 pub mod KeptOn
 pub mod Lists
+pub mod Sights
 mod Worked

@@ -1,5 +1,5 @@
 -- What the calls of a store say.
-use Rattle.std.specs.Prelude.{◌≡◌, ℕ, List, [], map, slice_index, Option, None, Some, IfSome, Ok}
+use Rattle.std.specs.Prelude.{◌≡◌, ℕ, List, [], map, slice_index, Option, None, Some, IfSome, Result, Ok, Err}
 use Rattle.arrayvec.specs.ArrayVec.{ArrayVec}
 use Rattle.cell_values.specs.declared.schema.Schema.{Schema}
 use Rattle.afl_outside.specs.Counts.{Rose}
@@ -49,11 +49,25 @@ entry_in (Some directory) k = entry_at directory.entries k
 abbrev pub payload_at : {D : Type 0} → Standing D → ℕ → Leaf → ArrayVec ℕ → Option DirEntry
 payload_at s place leaf at = entry_in (directory_of leaf.name leaf.version (versions_after s (history_at s place))) at.items
 
+-- what the bytes of an entry's payload spell, and what the file has of it
+abbrev pub spelled_by : Schema → DirEntry → List ℕ → Result Chunk ℕ
+spelled_by schema entry bytes = chunk_payload (frame_of schema entry.at.items) entry.at schema.attributes bytes
+
+abbrev pub payload_in : List ℕ → Schema → DirEntry → Result Chunk ℕ
+payload_in file schema entry = spelled_by schema entry (blob page_size file entry.pages entry.length)
+
 -- a payload is whole: its pages lie within the file, and their bytes spell a chunk
 pub record IsWhole (file : List ℕ) (schema : Schema) (entry : DirEntry) : Type 0 where
   pub within : first_past page_size file entry.pages ≡ None
   pub chunk : Chunk
-  pub spells : chunk_payload (frame_of schema entry.at.items) entry.at schema.attributes (blob page_size file entry.pages entry.length) ≡ Ok chunk
+  pub spells : payload_in file schema entry ≡ Ok chunk
+
+-- what reading a payload answers: the chunk that it spells; or, where it isn't whole, its first page
+abbrev pub IsRead : List ℕ → Schema → DirEntry → Result Chunk ReadFault → Type 0
+IsRead file schema entry (Ok chunk) = (first_past page_size file entry.pages ≡ None) × (payload_in file schema entry ≡ Ok chunk)
+IsRead file schema entry (Err Disk) = Unit {0}
+IsRead file schema entry (Err (Damaged page)) = (page ≡ slice_index entry.pages 0) × ¬ IsWhole file schema entry
+IsRead file schema entry (Err Memory) = Unit {0}
 
 -- the payload that begins at this page isn't whole, as far as the disk tells its bytes
 abbrev pub IsDamagedAt : ℕ → DirEntry → DiskState → Schema → Type 0

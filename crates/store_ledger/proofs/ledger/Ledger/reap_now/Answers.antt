@@ -2,8 +2,8 @@ use Rattle.store_ledger.specs.Ledger.{LedgerState}
 use Rattle.store_ledger.proofs.Opened.{reap_keeps}
 use Rattle.store_ledger.proofs.ledger.Ledger.reap_now.Goals as goal
 
-pub invariant_of-self : goal.invariant_of-self
-invariant_of-self c =
+pub invariant_of-self-2 : goal.invariant_of-self-2
+invariant_of-self-2 c =
     let i = c.self.inside in
     let ledger : LedgerState = record { base = i.base.value; limit = i.limit; entries = i.entries.items; notes = i.notes.items } in
     reap_keeps ledger c.args.self.now i.core c.append_reap.new.core i.reserved _ _ _ c.append_reap.new.entries.items _
