@@ -2,6 +2,7 @@ pub mod AtOn
 pub mod CellsOn
 pub mod Finds
 pub mod KeptOn
+pub mod Leaves
 pub mod Lists
 pub mod Sights
 mod Worked

@@ -3,6 +3,8 @@ use Rattle.std.proofs.Common.{◌≡◌, ◌∙◌, ℕ, Bool, true, false, ◌&
 use Rattle.std.specs.List.{AllByRecursion, filter, find, list_any}
 use Rattle.std.proofs.lemmas.Bool.{and_parts}
 use Rattle.afl_outside.specs.Disk.{Moment}
+use Rattle.logical_plan.specs.declared.names.Names.{Names}
+use Rattle.logical_plan.specs.declared.parts.Leaf.{Leaf}
 use Rattle.plan_changes.specs.Databases.{Database, names_of}
 use Rattle.plan_changes.specs.Stored.{IsDatabase}
 use Rattle.plan_changes.proofs.NamesOf.{names_depend_on_no_row}
@@ -26,20 +28,9 @@ use Rattle.store_state.specs.Standings.{Standing, BeganAs, commit_places, given_
 use Rattle.store_state.specs.Cells.{HoldsCells, IsImage}
 use Rattle.store_state.specs.At.{IsAt}
 use Rattle.store_state.specs.Inner.Keeping.{Keeping, AreDirectoriesOf, LieIn}
+use Rattle.store_state.specs.Calls.{history_at, IsLeafOf}
+use Rattle.store_state.specs.Inner.Sights.{Sees, SeesCells}
 use Rattle.store_state.proofs.Lists.{all_filter}
-
--- what a place sees, where this was before it
-pub record Sight {D : Type 0} (s : Standing D) (k : Keeping) (place : ℕ) (before : History) : Type 0 where
-  pub history : up_to place (history s.ledger) ≡ before
-  pub rows : seen place k.rows ≡ versions_after s before
-  pub directories : AreDirectoriesOf (names_at s.ledger.base before) (versions_after s before)
-  pub named : HaveDirectories (names_at s.ledger.base before) (versions_after s before)
-
--- and what it sees of a database
-pub record CellSight {D : Type 0} (moment : D → Moment) (s : Standing D) (db : Database) (before : History) : Type 0 where
-  pub database : IsDatabase (at db before)
-  pub names : names_of (at db before) ≡ names_at s.ledger.base before
-  pub lies : (image : List ℕ) → (moment s.disk).may_leave image → LieIn image (at db before) (versions_after s before)
 
 -- what holds of each open pin holds of a session's
 own_pin : (P : OpenPin → Type 0) (base : Core) (session : ℕ) (h before : History) → IsTrue (is_allowed base h) → pin_before session h ≡ Some before →
@@ -77,40 +68,51 @@ module _ {D : Type 0} (moment : D → Moment) (s : Standing D) (k : Keeping) (x 
   allowed : IsTrue (is_allowed s.ledger.base (history s.ledger))
   allowed = (ordered_is_allowed s.ledger.base (history s.ledger) x.kept.in_order.ordered).1
 
-  pub sight_now : Sight s k (length (history s.ledger)) (history s.ledger)
-  sight_now = record {
-    history = all_entries_are_the_history (history s.ledger);
+  pub sees_now : Sees s k (length (history s.ledger)) (history_at s (length (history s.ledger)))
+  sees_now = subst (Sees s k (length (history s.ledger))) (sym (all_entries_are_the_history (history s.ledger))) (record {
     rows = x.kept.versions.seen.now;
     directories = x.kept.versions.now;
     named = named_versions_have_directories (given_of s) s.ledger.base (history s.ledger) x.kept.in_order.ordered x.kept.versions.first;
-  }
+  })
 
-  pub sight_of : (pinned : Pinned) (o : IsOpenPin s.ledger pinned) → Sight s k pinned.place o.before
-  sight_of pinned o =
+  -- what was before a pin is found by its place
+  pub pin_history : (pinned : Pinned) (o : IsOpenPin s.ledger pinned) → history_at s pinned.place ≡ o.before
+  pin_history pinned o =
+      let tells : PlaceTells (history s.ledger) o.before = places_tell_pins pinned.session (history s.ledger) o.before o.begun in
+      ap (λ (n : ℕ). up_to n (history s.ledger)) o.place ∙ tells.history
+
+  pub sees_at : (pinned : Pinned) (o : IsOpenPin s.ledger pinned) → Sees s k pinned.place (history_at s pinned.place)
+  sees_at pinned o =
       let h : History = history s.ledger in
-      let tells : PlaceTells h o.before = places_tell_pins pinned.session h o.before o.begun in
-      record {
-        history = ap (λ (n : ℕ). up_to n h) o.place ∙ tells.history;
+      subst (Sees s k pinned.place) (sym (pin_history pinned o)) (record {
         rows = ap (λ (n : ℕ). seen n k.rows) o.place ∙ pins_see_their_versions (given_of s) k.rows s.ledger.base h o.before pinned.session allowed x.kept.versions.seen o.begun;
         directories = own_pin (λ pin. AreDirectoriesOf (names_at s.ledger.base pin.before) (versions_after s pin.before)) s.ledger.base pinned.session h o.before allowed o.begun x.kept.versions.pinned;
         named = named_versions_have_directories (given_of s) s.ledger.base o.before (ordered_before s.ledger.base pinned.session h o.before x.kept.in_order.ordered o.begun) x.kept.versions.first;
-      }
+      })
 
-  pub cells_now : (db : Database) → BeganAs (moment s.opened.disk).state db → CellSight moment s db (history s.ledger)
+  -- a leaf of the pin's names is one of those after what was before it
+  pub leaf_at : (pinned : Pinned) (o : IsOpenPin s.ledger pinned) (leaf : Leaf) → IsLeafOf pinned.names leaf → IsLeafOf (names_at s.ledger.base (history_at s pinned.place)) leaf
+  leaf_at pinned o leaf is = subst (λ (names : Names). IsLeafOf names leaf) (o.names ∙ ap (names_at s.ledger.base) (sym (pin_history pinned o))) is
+
+  pub cells_now : (db : Database) → BeganAs (moment s.opened.disk).state db → SeesCells moment s db (history_at s (length (history s.ledger)))
   cells_now db began =
       let c : HoldsCells moment s k db (history s.ledger) (given_of s) (commit_places 0 s.ledger.entries) = x.cells db began in
-      record {
+      subst (SeesCells moment s db) (sym (all_entries_are_the_history (history s.ledger))) (record {
         database = c.database;
         names = names_are_of_the_database names_depend_on_no_row db s.ledger.base (history s.ledger) (legal_begins _ db s.ledger.base (history s.ledger) c.legal).names;
+        file = c.bytes;
+        tells = c.known.tells;
         lies = λ image left. (c.images image left).now;
-      }
+      })
 
-  pub cells_of : (pinned : Pinned) (o : IsOpenPin s.ledger pinned) (db : Database) → BeganAs (moment s.opened.disk).state db → CellSight moment s db o.before
-  cells_of pinned o db began =
+  pub cells_at : (pinned : Pinned) (o : IsOpenPin s.ledger pinned) (db : Database) → BeganAs (moment s.opened.disk).state db → SeesCells moment s db (history_at s pinned.place)
+  cells_at pinned o db began =
       let h : History = history s.ledger in
       let c : HoldsCells moment s k db h (given_of s) (commit_places 0 s.ledger.entries) = x.cells db began in
-      record {
+      subst (SeesCells moment s db) (sym (pin_history pinned o)) (record {
         database = own_pin (λ pin. IsDatabase (at db pin.before)) s.ledger.base pinned.session h o.before allowed o.begun c.pinned;
         names = names_are_of_the_database names_depend_on_no_row db s.ledger.base o.before (legal_begins _ db s.ledger.base h c.legal).names;
+        file = c.bytes;
+        tells = c.known.tells;
         lies = λ image left. own_pin (λ pin. LieIn image (at db pin.before) (versions_after s pin.before)) s.ledger.base pinned.session h o.before allowed o.begun (c.images image left).pinned;
-      }
+      })

@@ -8,9 +8,10 @@ ghost use Rattle.event_core.specs.History.{names_at};
 ghost use Rattle.store_ledger.specs.Ledger.{IsOpenPin, history};
 ghost use Rattle.store_versions.specs.Seen.{seen};
 ghost use Rattle.store_versions.specs.Versions.{directory_of};
-ghost use Rattle.store_state.specs.At.{AreParts, standing};
+ghost use Rattle.store_state.specs.At.{AreParts, keeping, standing};
 ghost use Rattle.store_state.specs.Calls.{chunks_at, history_at, numbers_in, IsLeafOf};
 ghost use Rattle.store_state.specs.Standings.{database_at, BeganAs};
+ghost use Rattle.store_state.specs.Inner.Sights.{Sees, SeesCells};
 
 use crate::StoreParts;
 use afl_outside::Disk;
@@ -51,6 +52,25 @@ fn numbers_at(
     }
 }
 
+/// The numbers of a leaf's chunks, rising, as a place sees them.
+fn listed_at<D: Disk>(
+    alloc: Global,
+    parts: &StoreParts<D>,
+    leaf: &Leaf,
+    place: u64,
+) -> Result<List<ChunkAt>, Memory>
+    requires sees { Sees (standing D.moment parts.now) (keeping parts.now) place (history_at (standing D.moment parts.now) place) }
+    requires cells { (db : Database) → BeganAs (D.moment parts.now.opened.value.disk).state db
+        → SeesCells D.moment (standing D.moment parts.now) db (history_at (standing D.moment parts.now) place) }
+    requires leaf { IsLeafOf (names_at parts.now.ledger.base (history_at (standing D.moment parts.now) place)) leaf.now }
+    ensures listed { IfOk result (λ chunks. chunks ≡ chunks_at (standing D.moment parts.now) place leaf.now) }
+    ensures rising { IfOk result (λ chunks. NumbersRise (numbers_of chunks)) }
+    ensures told { IfOk result (λ chunks. (db : Database) → BeganAs (D.moment parts.now.opened.value.disk).state db
+        → AreNumbersIn (rows_of (at db (history_at (standing D.moment parts.now) place))) leaf.now chunks) }
+{
+    numbers_at(alloc, &parts.table, leaf, place)
+}
+
 /// The numbers of a leaf's chunks under a pin, rising.
 pub fn listed<D: Disk>(
     alloc: Global,
@@ -66,10 +86,7 @@ pub fn listed<D: Disk>(
     ensures told { IfOk result (λ chunks. (db : Database) → BeganAs (D.moment parts.now.opened.value.disk).state db
         → AreNumbersIn (rows_of (at db (history_at (standing D.moment parts.now) pinned.now.place))) leaf.now chunks) }
 {
-    match numbers_at(alloc, &parts.table, leaf, pinned.place) {
-        Ok(numbers) => Ok(numbers),
-        Err(want) => Err(want),
-    }
+    listed_at(alloc, parts, leaf, pinned.place)
 }
 
 /// The numbers of a leaf's chunks now, rising.
@@ -86,8 +103,5 @@ pub fn listed_now<D: Disk>(
         → AreNumbersIn (rows_of (database_at db (standing D.moment parts.now))) leaf.now chunks) }
 {
     let place = parts.ledger.entries().len() as u64;
-    match numbers_at(alloc, &parts.table, leaf, place) {
-        Ok(numbers) => Ok(numbers),
-        Err(want) => Err(want),
-    }
+    listed_at(alloc, parts, leaf, place)
 }
