@@ -1,8 +1,10 @@
 pub mod AtOn
 pub mod CellsOn
+pub mod Decodes
 pub mod Finds
 pub mod KeptOn
 pub mod Leaves
 pub mod Lists
+pub mod Reads
 pub mod Sights
 mod Worked

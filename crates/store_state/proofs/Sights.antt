@@ -16,7 +16,7 @@ use Rattle.event_core.specs.History.{History, OpenPin, names_at, open_pins, pin_
 use Rattle.event_core.specs.Legal.{BeginsAt, Cost, IsLegal, IsOrdered}
 use Rattle.event_laws.specs.Pins.{PlaceTells, pins_of}
 use Rattle.event_laws.proofs.Cells.{names_are_of_the_database}
-use Rattle.event_laws.proofs.Legal.{ordered_is_allowed}
+use Rattle.event_laws.proofs.Legal.{ordered_is_allowed, ordered_names_are_stored}
 use Rattle.event_laws.proofs.Pins.{all_entries_are_the_history, open_pins_are_these, places_tell_pins}
 use Rattle.store_ledger.specs.declared.pinned.Pinned.{Pinned}
 use Rattle.store_ledger.specs.Ledger.{IsOpenPin, history}
@@ -73,6 +73,7 @@ module _ {D : Type 0} (moment : D → Moment) (s : Standing D) (k : Keeping) (x 
     rows = x.kept.versions.seen.now;
     directories = x.kept.versions.now;
     named = named_versions_have_directories (given_of s) s.ledger.base (history s.ledger) x.kept.in_order.ordered x.kept.versions.first;
+    stored = ordered_names_are_stored s.ledger.base (history s.ledger) x.kept.in_order.ordered;
   })
 
   -- what was before a pin is found by its place
@@ -88,6 +89,7 @@ module _ {D : Type 0} (moment : D → Moment) (s : Standing D) (k : Keeping) (x 
         rows = ap (λ (n : ℕ). seen n k.rows) o.place ∙ pins_see_their_versions (given_of s) k.rows s.ledger.base h o.before pinned.session allowed x.kept.versions.seen o.begun;
         directories = own_pin (λ pin. AreDirectoriesOf (names_at s.ledger.base pin.before) (versions_after s pin.before)) s.ledger.base pinned.session h o.before allowed o.begun x.kept.versions.pinned;
         named = named_versions_have_directories (given_of s) s.ledger.base o.before (ordered_before s.ledger.base pinned.session h o.before x.kept.in_order.ordered o.begun) x.kept.versions.first;
+        stored = ordered_names_are_stored s.ledger.base o.before (ordered_before s.ledger.base pinned.session h o.before x.kept.in_order.ordered o.begun);
       })
 
   -- a leaf of the pin's names is one of those after what was before it

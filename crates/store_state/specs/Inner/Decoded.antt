@@ -13,3 +13,9 @@ IsDecoded schema entry bytes (Ok chunk) = spelled_by schema entry bytes ≡ Ok c
 IsDecoded schema entry bytes (Err Disk) = ⊥
 IsDecoded schema entry bytes (Err (Damaged page)) = (page ≡ slice_index entry.pages 0) × (wrong : ℕ) × (spelled_by schema entry bytes ≡ Err wrong)
 IsDecoded schema entry bytes (Err Memory) = Unit {0}
+
+-- damage is told by the payload's first page
+abbrev pub IsToldBy : DirEntry → ReadFault → Type 0
+IsToldBy entry Disk = Unit {0}
+IsToldBy entry (Damaged page) = page ≡ slice_index entry.pages 0
+IsToldBy entry Memory = Unit {0}

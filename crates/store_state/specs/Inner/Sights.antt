@@ -2,7 +2,7 @@
 use Rattle.std.specs.Prelude.{◌≡◌, ℕ, List, Some}
 use Rattle.afl_outside.specs.Disk.{Moment}
 use Rattle.plan_changes.specs.Databases.{Database, names_of}
-use Rattle.plan_changes.specs.Stored.{IsDatabase}
+use Rattle.plan_changes.specs.Stored.{AreStored, IsDatabase}
 use Rattle.event_core.specs.Cells.{at}
 use Rattle.event_core.specs.History.{History, names_at}
 use Rattle.store_versions.specs.Seen.{seen}
@@ -15,6 +15,7 @@ pub record Sees {D : Type 0} (s : Standing D) (k : Keeping) (place : ℕ) (befor
   pub rows : seen place k.rows ≡ versions_after s before
   pub directories : AreDirectoriesOf (names_at s.ledger.base before) (versions_after s before)
   pub named : HaveDirectories (names_at s.ledger.base before) (versions_after s before)
+  pub stored : AreStored (names_at s.ledger.base before)
 
 -- and each lies in each image with the rows that it had. The disk tells its bytes
 pub record SeesCells {D : Type 0} (moment : D → Moment) (s : Standing D) (db : Database) (before : History) : Type 0 where
