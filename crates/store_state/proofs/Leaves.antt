@@ -81,10 +81,10 @@ of_version Q names versions leaf n s all =
       eqb-true s.v.version (suc n) both.1,
     )
 
-directory_is : (names : Names) (versions : List MadeVersion) (leaf : Leaf) (n : ℕ) (s : IsSeen names versions leaf n) → directory_of leaf.name (suc n) versions ≡ Some s.v.directory
+pub directory_is : (names : Names) (versions : List MadeVersion) (leaf : Leaf) (n : ℕ) (s : IsSeen names versions leaf n) → directory_of leaf.name (suc n) versions ≡ Some s.v.directory
 directory_is names versions leaf n s = ap (option_map (λ (v : MadeVersion). v.directory)) s.found
 
-numbers_are : (entries : List DirEntry) → numbers_of (map (λ (entry : DirEntry). entry.at) entries) ≡ numbers entries
+pub numbers_are : (entries : List DirEntry) → numbers_of (map (λ (entry : DirEntry). entry.at) entries) ≡ numbers entries
 numbers_are entries = map-map (λ (at : ArrayVec ℕ). at.items) (λ (entry : DirEntry). entry.at) entries
 
 -- ---- listings

@@ -5,6 +5,6 @@ pub mod Finds
 pub mod KeptOn
 pub mod Leaves
 pub mod Lists
-pub mod Reads
+pub mod ReadLaws
 pub mod Sights
 mod Worked

@@ -8,6 +8,7 @@ use Rattle.logical_plan.specs.declared.parts.Leaf.{Leaf}
 use Rattle.plan_changes.specs.Databases.{Database, names_of}
 use Rattle.plan_changes.specs.Stored.{IsDatabase}
 use Rattle.plan_changes.proofs.NamesOf.{names_depend_on_no_row}
+use Rattle.commit_costs.specs.Costs.{cost_from}
 use Rattle.event_core.specs.declared.entry.Entry.TheVariants.{Pin, Unpin, Commit, Reap}
 use Rattle.event_core.specs.declared.state.Core.{Core}
 use Rattle.event_core.specs.Allowed.{is_allowed}
@@ -24,7 +25,7 @@ use Rattle.store_versions.specs.Seen.{seen}
 use Rattle.store_versions.specs.Versions.{Directories, HaveDirectories, MadeVersion, versions_at}
 use Rattle.store_versions.proofs.Made.{named_versions_have_directories}
 use Rattle.store_versions.proofs.Seen.{pins_see_their_versions}
-use Rattle.store_state.specs.Standings.{Standing, BeganAs, commit_places, given_of, versions_after}
+use Rattle.store_state.specs.Standings.{Standing, BeganAs, base_of, commit_places, given_of, versions_after}
 use Rattle.store_state.specs.Cells.{HoldsCells, IsImage}
 use Rattle.store_state.specs.At.{IsAt}
 use Rattle.store_state.specs.Inner.Keeping.{Keeping, AreDirectoriesOf, LieIn}
@@ -101,7 +102,7 @@ module _ {D : Type 0} (moment : D → Moment) (s : Standing D) (k : Keeping) (x 
       let c : HoldsCells moment s k db (history s.ledger) (given_of s) (commit_places 0 s.ledger.entries) = x.cells db began in
       subst (SeesCells moment s db) (sym (all_entries_are_the_history (history s.ledger))) (record {
         database = c.database;
-        names = names_are_of_the_database names_depend_on_no_row db s.ledger.base (history s.ledger) (legal_begins _ db s.ledger.base (history s.ledger) c.legal).names;
+        names = names_are_of_the_database names_depend_on_no_row db s.ledger.base (history s.ledger) (legal_begins (cost_from (base_of s).records) db s.ledger.base (history s.ledger) c.legal).names;
         file = c.bytes;
         tells = c.known.tells;
         lies = λ image left. (c.images image left).now;
@@ -113,7 +114,7 @@ module _ {D : Type 0} (moment : D → Moment) (s : Standing D) (k : Keeping) (x 
       let c : HoldsCells moment s k db h (given_of s) (commit_places 0 s.ledger.entries) = x.cells db began in
       subst (SeesCells moment s db) (sym (pin_history pinned o)) (record {
         database = own_pin (λ pin. IsDatabase (at db pin.before)) s.ledger.base pinned.session h o.before allowed o.begun c.pinned;
-        names = names_are_of_the_database names_depend_on_no_row db s.ledger.base o.before (legal_begins _ db s.ledger.base h c.legal).names;
+        names = names_are_of_the_database names_depend_on_no_row db s.ledger.base o.before (legal_begins (cost_from (base_of s).records) db s.ledger.base h c.legal).names;
         file = c.bytes;
         tells = c.known.tells;
         lies = λ image left. own_pin (λ pin. LieIn image (at db pin.before) (versions_after s pin.before)) s.ledger.base pinned.session h o.before allowed o.begun (c.images image left).pinned;

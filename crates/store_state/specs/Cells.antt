@@ -23,9 +23,9 @@ use Rattle.store_state.specs.Inner.Keeping.{Keeping, LieIn, directories_in, page
 
 -- What is found from the current root on: the catalogue that is kept, the directories of the versions that can be named, and pages that are
 -- just those of the history's catalogue, or of such a version
-pub record IsFound (base : Core) (given : Directories) (h : History) (catalog : Catalog) (log : ℕ) (found : Found) : Type 0 where
-  pub catalog : found.catalog ≡ catalog
-  pub directories : found.directories ≡ directories_in catalog (versions_at base given h)
+pub record IsFound (base : Core) (given : Directories) (h : History) (kept : Catalog) (log : ℕ) (found : Found) : Type 0 where
+  pub catalog : found.catalog ≡ kept
+  pub directories : found.directories ≡ directories_in kept (versions_at base given h)
   pub catalogue : catalogue_at base h ≡ pages_of_catalogue found.chain log found.logged
   pub stored : AllByRecursion (λ page. IsTrue (has_page (pages_at base h) page)) (stored_pages found)
 
