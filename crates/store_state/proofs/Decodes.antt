@@ -5,6 +5,9 @@ use Rattle.array_geom.specs.declared.chunk.Chunk.{Chunk}
 use Rattle.file_items.specs.Items.{wrong_at}
 use Rattle.page_chain.specs.Pages.{page_size, blob, first_past}
 use Rattle.chunk_map.specs.declared.directory.DirEntry.{DirEntry}
+use Rattle.chunk_rle.specs.Decoding.{Answers}
+use Rattle.chunk_rle.specs.declared.decoding.BadPayload.{BadPayload}
+use Rattle.chunk_rle.specs.declared.decoding.BadPayload.TheVariants.{At, Memory as OutOfMemory}
 use Rattle.store_state.specs.Calls.{payload_in, spelled_by, IsRead, IsWhole}
 use Rattle.store_state.specs.Inner.Decoded.{IsDecoded, IsToldBy}
 use Rattle.store_state.specs.declared.fault.ReadFault.{ReadFault}
@@ -37,3 +40,10 @@ decoded_told schema entry bytes Memory d = tt
 -- a payload of which a page passes the end isn't whole
 pub past_end : (file : List ℕ) (schema : Schema) (entry : DirEntry) (page : ℕ) → first_past page_size file entry.pages ≡ Some page → IsWhole file schema entry → ⊥
 past_end file schema entry page e whole = let both : Some page ≡ None = sym e ∙ whole.within in cc
+
+-- bytes that are told wrong at an offset spell no chunk
+pub told_wrong : (r : Result Chunk BadPayload) (fault : BadPayload) (bytes : List ℕ) (reading : Result Chunk ℕ) (at : ℕ) → r ≡ Err fault → fault ≡ At at → Answers (λ (x : Chunk). x) r bytes reading →
+    (wrong : ℕ) × (reading ≡ Err wrong)
+told_wrong (Ok chunk) fault bytes reading at e f a = absurd cc
+told_wrong (Err OutOfMemory) fault bytes reading at e f a = let no : OutOfMemory ≡ At at = (let same : OutOfMemory ≡ fault = cc in same) ∙ f in absurd cc
+told_wrong (Err (At other)) fault bytes reading at e f a = wrong_is (length bytes) other reading a

@@ -4,6 +4,7 @@ pub mod Decodes
 pub mod Finds
 pub mod KeptOn
 pub mod Leaves
+pub mod Listings
 pub mod Lists
 pub mod ReadLaws
 pub mod Sights

@@ -1,7 +1,7 @@
 -- What the present and each open pin see of a store.
 use Rattle.std.proofs.Common.{◌≡◌, ◌∙◌, ℕ, Bool, true, false, ◌&&◌, ◌||◌, if◌then◌else◌, nat_eq, List, [], ◌∷◌, ◌++◌, length, map, Option, None, Some, IfSome, IsTrue, refl, ap, sym, subst}
 use Rattle.std.specs.List.{AllByRecursion, filter, find, list_any}
-use Rattle.std.proofs.lemmas.Bool.{and_parts}
+use Rattle.std.proofs.lemmas.List.{length-reverse}
 use Rattle.afl_outside.specs.Disk.{Moment}
 use Rattle.logical_plan.specs.declared.names.Names.{Names}
 use Rattle.logical_plan.specs.declared.parts.Leaf.{Leaf}
@@ -119,3 +119,16 @@ module _ {D : Type 0} (moment : D → Moment) (s : Standing D) (k : Keeping) (x 
         tells = c.known.tells;
         lies = λ image left. own_pin (λ pin. LieIn image (at db pin.before) (versions_after s pin.before)) s.ledger.base pinned.session h o.before allowed o.begun (c.images image left).pinned;
       })
+
+  -- the same of the present, by its number of entries
+  now_is : (n : ℕ) → n ≡ length s.ledger.entries → n ≡ length (history s.ledger)
+  now_is n e = e ∙ sym (length-reverse s.ledger.entries)
+
+  pub sees_place : (n : ℕ) → n ≡ length s.ledger.entries → Sees s k n (history_at s n)
+  sees_place n e = subst (λ (m : ℕ). Sees s k m (history_at s m)) (sym (now_is n e)) sees_now
+
+  pub cells_place : (n : ℕ) → n ≡ length s.ledger.entries → (db : Database) → BeganAs (moment s.opened.disk).state db → SeesCells moment s db (history_at s n)
+  cells_place n e db began = subst (λ (m : ℕ). SeesCells moment s db (history_at s m)) (sym (now_is n e)) (cells_now db began)
+
+  pub history_place : (n : ℕ) → n ≡ length s.ledger.entries → history_at s n ≡ history s.ledger
+  history_place n e = ap (history_at s) (now_is n e) ∙ all_entries_are_the_history (history s.ledger)

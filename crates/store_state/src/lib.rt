@@ -4,13 +4,16 @@
 mod event;
 mod fault;
 mod laws;
+mod listing;
 mod parts;
 mod pins;
+mod reading;
 mod reaping;
 
 pub use event::Event;
 pub use fault::ReadFault;
 pub use laws::a_store_is_kept;
+pub use listing::{listed, listed_now};
 pub use parts::StoreParts;
 pub use pins::{pin, unpin};
 pub use reaping::reap;
