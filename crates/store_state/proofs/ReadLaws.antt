@@ -1,5 +1,5 @@
 -- The payload of a leaf's chunk, and what reading it tells.
-use Rattle.std.proofs.Common.{◌≡◌, ◌≢◌, ◌∙◌, ℕ, zero, suc, ◌+◌, ◌/◌, ◌<◌, ◌≤◌, Bool, true, false, List, [], ◌∷◌, length, map, Option, None, Some, IfSome, IsTrue, Result, Ok, Err, refl, ap, sym, subst, arith}
+use Rattle.std.proofs.Common.{◌≡◌, ◌∙◌, ℕ, zero, suc, ◌+◌, ◌/◌, ◌<◌, ◌≤◌, ◌⊎◌, ⊎_elim, Bool, true, false, List, [], ◌∷◌, length, map, Option, None, Some, IfSome, IfOk, IsTrue, Result, Ok, Err, refl, ap, sym, subst, arith}
 use Rattle.std.specs.List.{AllByRecursion, find, list_any}
 use Rattle.std.specs.Ordering.{is_eq}
 use Rattle.arrayvec.specs.ArrayVec.{ArrayVec}
@@ -31,9 +31,27 @@ use Rattle.logical_plan.specs.declared.parts.Leaf.{Leaf}
 use Rattle.logical_plan.specs.Meaning.{version_rows}
 use Rattle.plan_changes.specs.Databases.{Database, names_of, rows_of}
 use Rattle.plan_changes.specs.Changes.{entry_named}
+use Rattle.plan_changes.specs.Changes.{is_named}
+use Rattle.plan_changes.specs.Stored.{IsStored as AreStoredSo}
+use Rattle.afl_outside.specs.Counts.{Rose}
+use Rattle.afl_outside.specs.Disk.{Moment}
+use Rattle.page_chain.specs.Inner.Runs.{OnlyReads}
+use Rattle.page_slots.specs.Standing.{IsSound as AreSound}
+use Rattle.page_slots.specs.declared.slots.Slots.{Slots}
+use Rattle.event_core.specs.Cells.{at as at_history}
+use Rattle.event_core.specs.History.{History, names_at}
+use Rattle.store_ledger.specs.Ledger.{LedgerState, with_fault}
+use Rattle.store_versions.specs.Seen.{seen}
 use Rattle.store_versions.specs.Versions.{HaveDirectories, MadeVersion, directory_of}
-use Rattle.store_state.specs.Calls.{entry_in, numbers_in, payload_in, IsLeafOf, IsWhole}
-use Rattle.store_state.specs.Inner.Keeping.{AreDirectoriesOf, IsDirectoryOf, LiesIn, LieIn}
+use Rattle.store_state.specs.At.{IsAt}
+use Rattle.store_state.specs.Standings.{Standing, BeganAs, versions_after}
+use Rattle.store_state.specs.Inner.Sights.{Sees, SeesCells}
+use Rattle.store_state.specs.declared.fault.ReadFault.{ReadFault}
+use Rattle.store_state.specs.declared.fault.ReadFault.TheVariants.{Damaged}
+use Rattle.store_state.proofs.AtOn.{at_fault, at_read, with_ledger}
+use Rattle.store_state.proofs.Listings.{as_it_reads}
+use Rattle.store_state.specs.Calls.{entry_in, numbers_in, payload_in, IsLeafOf, IsRead, IsWhole}
+use Rattle.store_state.specs.Inner.Keeping.{Keeping, AreDirectoriesOf, IsDirectoryOf, LiesIn, LieIn}
 use Rattle.store_state.proofs.Finds.{IsFoundIn, found_in_all, any_found, entry_found, listed_any}
 use Rattle.store_state.proofs.Leaves.{IsSeen, is_seen, of_version, directory_is, numbers_are}
 
@@ -142,3 +160,80 @@ there_whole file db leaf entry there = record { within = there.within; chunk = s
 
 pub read_stored : (schema : Schema) (entry at : ArrayVec ℕ) (chunk : Chunk) → IsSpelled schema chunk → chunk.at ≡ entry → entry ≡ at → IsStored schema at chunk
 read_stored schema entry at chunk stored number same = subst (λ (x : ArrayVec ℕ). IsStored schema x chunk) (number ∙ same) (stored_are_given schema chunk stored)
+
+-- ---- a read at a place
+
+module _ {D : Type 0} (moment : D → Moment) (s : Standing D) (k : Keeping) (place : ℕ) (before : History) (leaf : Leaf) (at : ArrayVec ℕ) (sees : Sees s k place before)
+    (is : IsLeafOf (names_at s.ledger.base before) leaf)
+    (among : is_among at (version_chunks (λ name number. numbers_in (directory_of name number (versions_after s before))) leaf.name leaf.version) ≡ true) where
+  place_lists : IsListed (names_at s.ledger.base before) (versions_after s before) leaf at
+  place_lists = listed_is (names_at s.ledger.base before) (versions_after s before) leaf at is sees.named sees.directories among
+
+  -- what is looked up in the table
+  look_up : entry_in (directory_of leaf.name leaf.version (seen place k.rows)) at.items ≡ Some place_lists.entry
+  look_up = ap (λ (versions : List MadeVersion). entry_in (directory_of leaf.name leaf.version versions) at.items) sees.rows
+      ∙ entry_is (names_at s.ledger.base before) (versions_after s before) leaf at place_lists
+
+  pub never_none : None ≡ entry_in (directory_of leaf.name leaf.version (seen place k.rows)) at.items → ⊥
+  never_none e = let no : None ≡ Some place_lists.entry = e ∙ look_up in cc
+
+  pub read_valid : IsValid leaf.schema
+  read_valid =
+      let l : IsListed (names_at s.ledger.base before) (versions_after s before) leaf at = place_lists in
+      subst IsValid (sym l.s.schema)
+      (found_in_all AreStoredSo (is_named leaf.name) (names_at s.ledger.base before).arrays l.s.entry sees.stored.each l.s.named).holds.schema
+
+  module _ (entry : DirEntry) (found : Some entry ≡ entry_in (directory_of leaf.name leaf.version (seen place k.rows)) at.items) where
+    the_same : place_lists.entry ≡ entry
+    the_same = let both : Some entry ≡ Some place_lists.entry = found ∙ look_up in cc
+
+    pub read_core : IsTrue (has_core leaf.schema.dimensions entry.at.items)
+    read_core = subst (λ (e : DirEntry). IsTrue (has_core leaf.schema.dimensions e.at.items)) the_same place_lists.core
+
+    pub read_pages : length entry.pages ≡ pages_for page_size entry.length
+    read_pages = subst (λ (e : DirEntry). length e.pages ≡ pages_for page_size e.length) the_same
+        (entry_pages (names_at s.ledger.base before) (versions_after s before) leaf at place_lists)
+
+    pub read_some : 0 < length entry.pages
+    read_some = subst (λ (e : DirEntry). 0 < length e.pages) the_same (entry_some (names_at s.ledger.base before) (versions_after s before) leaf at place_lists)
+
+    pub read_number : entry.at ≡ at
+    read_number = subst (λ (e : DirEntry). e.at ≡ at) the_same place_lists.number
+
+    place_there : (db : Database) (cells : SeesCells moment s db before) → IfSome (moment s.disk).state.seen (moment s.disk).may_leave → IsThere cells.file (at_history db before) leaf entry
+    place_there db cells reads = subst (λ (e : DirEntry). IsThere cells.file (at_history db before) leaf e) the_same
+        (entry_there cells.file (at_history db before) (names_at s.ledger.base before) (versions_after s before) leaf at place_lists cells.names
+        (cells.lies cells.file (as_it_reads (moment s.disk) cells.file cells.tells reads)))
+
+    of_file : (r : Result Chunk ReadFault) (db : Database) (cells : SeesCells moment s db before) → IfSome (moment s.disk).state.seen (λ seen. IsRead seen leaf.schema entry r) → IsRead cells.file leaf.schema entry r
+    of_file r db cells exact = let all : IfSome (Some cells.file) (λ seen. IsRead seen leaf.schema entry r) = subst (λ (o : Option (List ℕ)). IfSome o (λ seen. IsRead seen leaf.schema entry r)) cells.tells exact in all
+
+    pub read_tells : (r : Result Chunk ReadFault) → ((db : Database) → BeganAs (moment s.opened.disk).state db → SeesCells moment s db before) → IfSome (moment s.disk).state.seen (moment s.disk).may_leave →
+        IfSome (moment s.disk).state.seen (λ seen. IsRead seen leaf.schema entry r) → IfOk r (λ chunk. (db : Database) → BeganAs (moment s.opened.disk).state db → IsChunkIn (rows_of (at_history db before)) leaf chunk)
+    read_tells (Ok chunk) cells reads exact = λ db began. read_told (cells db began).file (at_history db before) leaf entry chunk read_valid read_core
+        (place_there db (cells db began) reads) (of_file (Ok chunk) db (cells db began) exact).1
+    read_tells (Err fault) cells reads exact = tt
+
+    pub read_whole : (r : Result Chunk ReadFault) → ((db : Database) → BeganAs (moment s.opened.disk).state db → SeesCells moment s db before) → IfSome (moment s.disk).state.seen (moment s.disk).may_leave →
+        IfSome (moment s.disk).state.seen (λ seen. IsRead seen leaf.schema entry r) → (db : Database) (page : ℕ) → BeganAs (moment s.opened.disk).state db → r ≡ Err (Damaged page) → ⊥
+    read_whole r cells reads exact db page began e =
+        let told : IsRead (cells db began).file leaf.schema entry (Err (Damaged page)) = subst (IsRead (cells db began).file leaf.schema entry) e (of_file r db (cells db began) exact) in
+        told.1 (there_whole (cells db began).file (at_history db before) leaf entry (place_there db (cells db began) reads))
+
+    pub read_is_stored : (r : Result Chunk ReadFault) → IfOk r (IsSpelled leaf.schema) → IfOk r (λ chunk. chunk.at ≡ entry.at) → IfOk r (IsStored leaf.schema at)
+    read_is_stored (Ok chunk) stored number = read_stored leaf.schema entry.at at chunk stored number read_number
+    read_is_stored (Err fault) stored number = tt
+
+-- the parts after a read, with a note where the count rose
+pub parts_read : {D : Type 0} (moment : D → Moment) (s : Standing D) (k : Keeping) → IsAt moment s k → (disk : D) (slots : Slots) → slots ≡ k.slots → OnlyReads (moment s.disk) (moment disk) →
+    ((seen : List ℕ) → AreSound k.slots seen (moment s.disk).may_leave → AreSound slots seen (moment disk).may_leave) → (session old new : ℕ) → old ≡ (moment s.disk).state.faults → new ≡ (moment disk).state.faults →
+    (made : LedgerState) → (Rose old new × (made ≡ with_fault session s.ledger)) ⊎ ((¬ Rose old new) × (made ≡ s.ledger)) → IsAt moment (record s { disk = disk; ledger = made }) (record k { slots = slots })
+parts_read moment s k x disk slots same reads sound session old new eo en made noted =
+    let kept : (seen : List ℕ) → AreSound k.slots seen (moment s.disk).may_leave → AreSound k.slots seen (moment disk).may_leave =
+    λ seen a. subst (λ (t : Slots). AreSound t seen (moment disk).may_leave) same (sound seen a) in
+    subst (λ (t : Slots). IsAt moment (record s { disk = disk; ledger = made }) (record k { slots = t })) (sym same)
+    (⊎_elim
+    (λ rose. with_ledger moment (record s { disk = disk }) k made (with_fault session s.ledger) rose.1
+    (at_fault moment s k disk reads kept session (subst (λ (n : ℕ). Rose n (moment disk).state.faults) eo (subst (Rose old) en rose.0)) x))
+    (λ still. with_ledger moment (record s { disk = disk }) k made s.ledger still.1 (at_read moment s k disk reads kept x))
+    noted)

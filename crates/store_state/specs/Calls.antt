@@ -16,6 +16,8 @@ use Rattle.logical_plan.specs.declared.names.Names.{Names}
 use Rattle.logical_plan.specs.declared.parts.Leaf.{Leaf}
 use Rattle.plan_changes.specs.Changes.{entry_named}
 use Rattle.plan_changes.specs.Typed.{IsVersionOf}
+use Rattle.plan_changes.specs.Databases.{Database}
+use Rattle.event_core.specs.Cells.{at}
 use Rattle.event_core.specs.History.{History, up_to}
 use Rattle.store_ledger.specs.Ledger.{LedgerState, history, with_fault}
 use Rattle.store_versions.specs.Versions.{directory_of}
@@ -26,6 +28,10 @@ use Rattle.store_state.specs.declared.fault.ReadFault.TheVariants.{Disk, Damaged
 -- the history when it had so many entries
 abbrev pub history_at : {D : Type 0} → Standing D → ℕ → History
 history_at s place = up_to place (history s.ledger)
+
+-- the database when it had so many entries
+abbrev pub database_with : {D : Type 0} → Database → Standing D → ℕ → Database
+database_with db s place = at db (history_at s place)
 
 -- a leaf is of a version that can be named, or of version 0 of an array without versions
 abbrev pub IsLeafOf : Names → Leaf → Type 0

@@ -1,6 +1,7 @@
 //! The parts of a store, what holds of them at each moment, and the calls on them that write nothing.
 #![tactic(auto)]
 
+mod chunks;
 mod event;
 mod fault;
 mod laws;
@@ -10,6 +11,7 @@ mod pins;
 mod reading;
 mod reaping;
 
+pub use chunks::{read_chunk, read_now};
 pub use event::Event;
 pub use fault::ReadFault;
 pub use laws::a_store_is_kept;
