@@ -1,6 +1,6 @@
 -- Chunks whose cores have nothing in a box.
-use Rattle.std.proofs.Common.{◌≡◌, ℕ, zero, suc, ◌+◌, ◌*◌, ◌-◌, ◌<◌, ◌≤◌, ℤ, pos, ◌≤ℤ◌, ◌<ℤ◌, ◌+ℤ◌, Bool, true, false, cond, ◌&&◌, ◌||◌, List, [], ◌∷◌, ◌++◌, length, get_or, refl, sym, ap, ◌∙◌, subst, arith}
-use Rattle.std.specs.Prelude.{int_le, int_lt}
+use Rattle.std.proofs.Common.{◌≡◌, ℕ, zero, suc, ◌*◌, ◌-◌, ◌<◌, ◌≤◌, ℤ, ◌≤ℤ◌, Bool, true, false, cond, ◌&&◌, ◌||◌, List, [], ◌∷◌, length, get_or, refl, ap, ◌∙◌, arith}
+use Rattle.std.specs.Prelude.{int_le}
 use Rattle.std.specs.Int.{int_max, int_min}
 use Rattle.std.proofs.lemmas.Int.{ints, clamps}
 use Rattle.std.specs.List.{AllByRecursion}
@@ -16,7 +16,7 @@ use Rattle.array_rows.specs.Rows.{Coordinate, put_all}
 use Rattle.array_rows.proofs.RowSets.{rows_where-put_all}
 use Rattle.array_geom.specs.declared.chunk.Chunk.{Chunk}
 use Rattle.array_geom.specs.Areas.{are_ordered}
-use Rattle.array_geom.specs.Geometry.{ChunkNumber, core, first_in, last_in}
+use Rattle.array_geom.specs.Geometry.{ChunkNumber, core}
 use Rattle.array_geom.specs.Link.{NumbersRise, chunk_rows, core_rows, number_order, numbers}
 use Rattle.array_geom.proofs.TestLaws.{and_both, and_parts, le_from_test, le_test, lt_from_test}
 use Rattle.chunk_cells.proofs.MergeLaws.{IsRising-core_rows}
@@ -58,6 +58,7 @@ none_in a b (row ∷ rows) h = cases (is_inside a row.at.items) refl (none_in a 
     other : (t : Bool) → is_inside a row.at.items ≡ true → is_inside b row.at.items ≡ t → within b (within a rows) ≡ [] → cond t (row ∷ within b (within a rows)) (within b (within a rows)) ≡ []
     other true e f r = absurd (h row.at.items e f)
     other false e f r = r
+
     cases : (t : Bool) → is_inside a row.at.items ≡ t → within b (within a rows) ≡ [] → within b (cond t (row ∷ within a rows) (within a rows)) ≡ []
     cases true e r = other (is_inside b row.at.items) e refl r
     cases false e r = r

@@ -116,8 +116,8 @@ takes_both schema margins area chunks a b old mid new e f g =
           ∙ ap (λ (z : List Row). put_all z second) f.rows
           ∙ sym (put_all-assoc (core_rows dims margins old) first second (rising a) (rising b))
           ∙ ap (put_all (core_rows dims margins old))
-              (sym (rows_where-put_all (is_inside area) (core_rows dims margins a) (core_rows dims margins b) (IsRising-core_rows dims margins b))
-              ∙ ap (within area) (sym (core_rows-append dims margins a b) ∙ ap (core_rows dims margins) (sym e)));
+          (sym (rows_where-put_all (is_inside area) (core_rows dims margins a) (core_rows dims margins b) (IsRising-core_rows dims margins b))
+          ∙ ap (within area) (sym (core_rows-append dims margins a b) ∙ ap (core_rows dims margins) (sym e)));
       places = λ h. g.places (f.places h);
       rise = λ h. g.rise (f.rise h);
     }

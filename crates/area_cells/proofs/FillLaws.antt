@@ -1,5 +1,5 @@
 -- A chunk that is filled row by row.
-use Rattle.std.proofs.Common.{◌≡◌, ℕ, ◌+◌, ◌^◌, ◌<◌, ◌≤◌, ℤ, true, None, Ok, append_assoc, List, [], ◌∷◌, ◌++◌, length, refl, sym, ap, ◌∙◌, subst, length-append, arith}
+use Rattle.std.proofs.Common.{◌≡◌, ℕ, ◌+◌, ◌^◌, ◌<◌, ◌≤◌, ℤ, true, None, Ok, append_assoc, List, [], ◌∷◌, ◌++◌, length, refl, sym, ap, ◌∙◌, subst, length-append}
 use Rattle.std.specs.List.{AllByRecursion}
 use Rattle.std.proofs.lemmas.List.{append-nil}
 use Rattle.arrayvec.specs.ArrayVec.{ArrayVec}
@@ -64,11 +64,15 @@ pub begun : (schema : Schema) (margins : List ℕ) (k : ArrayVec ℕ) (grid : Gr
 begun schema margins k grid all left chunk framed low lengths inside e n p cells = record {
   number_is = n;
   inside = subst (AllByRecursion (λ row. is_in_grid grid.low.items grid.lengths.items row.at.items ≡ true)) (sym e) (each all inside);
-  filled = ([], record {
-    each = ap length cells ∙ sym (ap length p);
-    in_grid = subst (AllByRecursion (λ q. q < volume grid.lengths.items)) (sym p) tt;
-    cells = ap (λ (ps : List ℕ). rows_in grid.low.items grid.lengths.items ps chunk.cells) p;
-  }, e);
+  filled = (
+    [],
+    record {
+      each = ap length cells ∙ sym (ap length p);
+      in_grid = subst (AllByRecursion (λ q. q < volume grid.lengths.items)) (sym p) tt;
+      cells = ap (λ (ps : List ℕ). rows_in grid.low.items grid.lengths.items ps chunk.cells) p;
+    },
+    e,
+  );
 }
   where
     each : (rows : List Row) → AllByRecursion (λ row. is_inside (frame schema.dimensions margins k.items) row.at.items ≡ true) rows → AllByRecursion (λ row. is_in_grid grid.low.items grid.lengths.items row.at.items ≡ true) rows

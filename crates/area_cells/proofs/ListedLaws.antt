@@ -1,5 +1,5 @@
 -- Chunks whose cores have a row are listed.
-use Rattle.std.proofs.Common.{◌≡◌, ℕ, Bool, true, false, cond, ◌||◌, ◌⊎◌, inl, inr, List, [], ◌∷◌, length, refl, sym, ap, ◌∙◌, subst}
+use Rattle.std.proofs.Common.{◌≡◌, ℕ, Bool, true, false, cond, ◌||◌, ◌⊎◌, inl, inr, List, [], ◌∷◌, length, refl, sym, ap, ◌∙◌}
 use Rattle.std.specs.List.{AllByRecursion}
 use Rattle.std.specs.Ordering.{is_eq}
 use Rattle.std.proofs.lemmas.Cmp.{lists_total, nat_cmp_total, tied_itself}
@@ -10,7 +10,7 @@ use Rattle.array_rows.specs.Boxes.{is_inside, within}
 use Rattle.array_rows.specs.Rows.{Coordinate, put_all}
 use Rattle.array_rows.proofs.RowSets.{rows_where-put_all}
 use Rattle.array_geom.specs.declared.chunk.Chunk.{Chunk}
-use Rattle.array_geom.specs.Geometry.{ChunkNumber, chunk_of, core}
+use Rattle.array_geom.specs.Geometry.{ChunkNumber, core}
 use Rattle.array_geom.specs.Inner.Ranges.{AreNear}
 use Rattle.array_geom.specs.Link.{chunk_rows, core_rows, has_cell, is_listed, is_not_empty, number_order, numbers}
 use Rattle.array_geom.proofs.CoreLaws.{core_of}
@@ -29,6 +29,7 @@ in_both a b (row ∷ rows) = cases (is_inside b row.at.items) refl (in_both a b 
     other : (t : Bool) → is_inside b row.at.items ≡ true → is_inside a row.at.items ≡ t → (within a (within b rows) ≡ []) ⊎ Shared a b → (cond t (row ∷ within a (within b rows)) (within a (within b rows)) ≡ []) ⊎ Shared a b
     other true e f r = inr (record { at = row.at.items; first = f; second = e })
     other false e f r = r
+
     cases : (t : Bool) → is_inside b row.at.items ≡ t → (within a (within b rows) ≡ []) ⊎ Shared a b → (within a (cond t (row ∷ within b rows) (within b rows)) ≡ []) ⊎ Shared a b
     cases true e r = other (is_inside a row.at.items) e refl r
     cases false e r = r
@@ -49,6 +50,7 @@ core_listed dims margins (chunk ∷ chunks) k near sized l e =
   where
     both : is_not_empty (put_all (within (core dims k) (within (core dims chunk.at.items) (chunk_rows dims margins chunk))) (within (core dims k) (core_rows dims margins chunks))) ≡ true
     both = sym (ap is_not_empty (rows_where-put_all (is_inside (core dims k)) (within (core dims chunk.at.items) (chunk_rows dims margins chunk)) (core_rows dims margins chunks) (IsRising-core_rows dims margins chunks))) ∙ e
+
     cases : (within (core dims k) (within (core dims chunk.at.items) (chunk_rows dims margins chunk)) ≡ []) ⊎ Shared (core dims k) (core dims chunk.at.items) → (has_cell dims (core_rows dims margins chunks) k ≡ true → is_listed k (numbers chunks) ≡ true) → is_listed k (chunk.at.items ∷ numbers chunks) ≡ true
     cases (inl none) rest = or_right (is_eq (number_order chunk.at.items k)) (is_listed k (numbers chunks)) (rest (sym (ap (λ (z : List Row). is_not_empty (put_all z (within (core dims k) (core_rows dims margins chunks)))) none) ∙ both))
     cases (inr shared) rest =

@@ -1,5 +1,5 @@
 -- Numbers that begin above others.
-use Rattle.std.specs.Prelude.{ℤ, int_lt, Bool, false, List, [], ◌∷◌}
+use Rattle.std.specs.Prelude.{ℤ, int_lt, Bool, false, List, ◌∷◌}
 
 -- whether the first of some numbers is above the first of others
 abbrev pub begins_above : List ℤ → List ℤ → Bool

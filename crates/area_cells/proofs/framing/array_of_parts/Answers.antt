@@ -1,4 +1,3 @@
-use Rattle.std.proofs.Common.{refl}
 use Rattle.area_cells.proofs.FillLaws.{is_array}
 use Rattle.area_cells.proofs.framing.array_of_parts.Goals as goal
 

@@ -1,9 +1,4 @@
-use Rattle.std.proofs.Common.{◌≡◌, ◌++◌, List}
-use Rattle.std.specs.Prelude.{IsTrue}
-use Rattle.std.specs.List.{AllByRecursion}
 use Rattle.std.specs.Vec.Iter.{into_iter_items}
-use Rattle.array_geom.specs.Inner.Ranges.{is_in_grid}
-use Rattle.area_cells.specs.Inner.Filled.{IsFilled}
 use Rattle.area_cells.proofs.FillLaws.{IsFilling}
 use Rattle.area_cells.proofs.framing.chunk_of_rows.Given as goal
 

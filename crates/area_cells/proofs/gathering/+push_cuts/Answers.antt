@@ -30,8 +30,13 @@ push_cuts-requires t c =
     let some = some_chunks (length chunks) (sym c.is_empty.ensures ∙ c.if-is_empty.false) in
     let front : c.split_at.result.0.now ≡ take half chunks = c.split_at.ensures.front in (
       omega (arith, c.split_at.ensures.front_len, some, c.decreases),
-      (c.requires.valid, (subst (AllByRecursion (HasPlaces schema margins)) (sym front) (all_take (HasPlaces schema margins) half chunks c.requires.places),
-      (subst (CoresRise schema.dimensions margins) (sym front) (cores_take schema.dimensions margins half chunks c.requires.cores), subst (λ (cs : List Chunk). NumbersRise (numbers cs)) (sym front) (rise_take half chunks c.requires.rise))))
+      (
+        c.requires.valid,
+        (
+          subst (AllByRecursion (HasPlaces schema margins)) (sym front) (all_take (HasPlaces schema margins) half chunks c.requires.places),
+          (subst (CoresRise schema.dimensions margins) (sym front) (cores_take schema.dimensions margins half chunks c.requires.cores), subst (λ (cs : List Chunk). NumbersRise (numbers cs)) (sym front) (rise_take half chunks c.requires.rise)),
+        ),
+      ),
     )
 
 pub push_cuts-requires-2 : goal.push_cuts-requires-2
@@ -44,8 +49,13 @@ push_cuts-requires-2 t c =
     let back : c.split_at.result.1.now ≡ drop half chunks = c.split_at.ensures.back in
     let more : 0 < half = two_or_more (length chunks) some c.if-chunks-eq1.false in (
       omega (arith, c.split_at.ensures.back_len, some, more, c.decreases),
-      (c.requires.valid, (subst (AllByRecursion (HasPlaces schema margins)) (sym back) (all_drop (HasPlaces schema margins) half chunks c.requires.places),
-      (subst (CoresRise schema.dimensions margins) (sym back) (cores_drop schema.dimensions margins half chunks c.requires.cores), subst (λ (cs : List Chunk). NumbersRise (numbers cs)) (sym back) (rise_drop half chunks c.requires.rise))))
+      (
+        c.requires.valid,
+        (
+          subst (AllByRecursion (HasPlaces schema margins)) (sym back) (all_drop (HasPlaces schema margins) half chunks c.requires.places),
+          (subst (CoresRise schema.dimensions margins) (sym back) (cores_drop schema.dimensions margins half chunks c.requires.cores), subst (λ (cs : List Chunk). NumbersRise (numbers cs)) (sym back) (rise_drop half chunks c.requires.rise)),
+        ),
+      ),
     )
 
 pub returns : goal.returns
