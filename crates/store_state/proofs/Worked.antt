@@ -55,12 +55,15 @@ directory_is : IsDirectoryOf schema worked_directory
 directory_is = record {
   spelled = record {
     count = omega arith;
-    each = (record {
-      dimensions = refl;
-      numbers = (omega arith, tt);
-      birth = (omega arith, omega arith);
-      payload = record { some = (omega arith, omega arith); count = (refl, omega arith); each = (omega arith, tt) };
-    }, tt);
+    each = (
+      record {
+        dimensions = refl;
+        numbers = (omega arith, tt);
+        birth = (omega arith, omega arith);
+        payload = record { some = (omega arith, omega arith); count = (refl, omega arith); each = (omega arith, tt) };
+      },
+      tt,
+    );
     rising = (tt, tt);
   };
   cores = (refl, tt);
