@@ -1,5 +1,5 @@
 -- What stands, and what a place sees, in rows that were changed.
-use Rattle.std.proofs.Common.{◌≡◌, ◌∙◌, ℕ, ◌+◌, ◌≤◌, Bool, true, false, not, ◌&&◌, ◌||◌, if◌then◌else◌, List, [], ◌∷◌, ◌++◌, map, Option, None, Some, refl, ap, sym, arith}
+use Rattle.std.proofs.Common.{◌≡◌, ◌∙◌, ℕ, ◌+◌, ◌≤◌, Bool, true, false, not, ◌&&◌, if◌then◌else◌, List, [], ◌∷◌, ◌++◌, map, Option, None, Some, refl, ap, sym, arith}
 use Rattle.std.specs.Prelude.{nat_le, nat_lt}
 use Rattle.std.specs.List.{filter, list_all, list_any}
 use Rattle.std.proofs.lemmas.Bool.{and_parts, and_from, and_left, and_right, or_left, or_right, leb-true, le-leb, lt-leb, lt-ltb, le-ltb}
@@ -9,14 +9,13 @@ use Rattle.std.proofs.lemmas.List.Folds.{list_all-append}
 use Rattle.logical_plan.specs.declared.names.Names.{Names}
 use Rattle.plan_changes.specs.declared.change.Change.{Change}
 use Rattle.plan_changes.specs.declared.change.Change.TheVariants.{Create, Store, Insert, Remove, RemoveVersions}
-use Rattle.plan_changes.specs.Changes.{next_of}
 use Rattle.plan_changes.proofs.Maps.{all_weaker}
 use Rattle.event_core.specs.declared.state.VersionPages.{VersionPages}
 use Rattle.event_core.specs.History.{is_pages_of, pages_after}
 use Rattle.event_core.proofs.Tests.{both_not, map_filter, filter_agrees}
 use Rattle.lean_core.specs.declared.pin.LeanPin.{LeanPin}
 use Rattle.lean_core.specs.declared.row.Row.{Row}
-use Rattle.lean_core.specs.Rows.{is_before, is_seen, is_needed, is_below, stands, standing, seen, first_row, new_row, ended, rows_after}
+use Rattle.lean_core.specs.Rows.{is_before, is_seen, is_needed, is_below, stands, standing, seen, first_row, new_row, ended, next_version, rows_after}
 use Rattle.lean_core.specs.Inner.Kept.{is_gone_by, is_past}
 use Rattle.lean_core.proofs.Lists.{filter_filter, filter_among, all_images, all_left}
 
@@ -137,23 +136,23 @@ past_left goes n rows past = all_images (ended goes n) (is_past n) (is_past (n +
 
 pub standing_after : (names : Names) (n : ℕ) (change : Change) (used : List ℕ) (rows : List Row) → standing (rows_after names n change used rows) ≡ pages_after names change used (standing rows)
 standing_after names n (Create name schema) used rows = refl
-standing_after names n (Store name schema plan) used rows = standing_more n rows (record { name = name; version = next_of names.arrays name; pages = used })
-standing_after names n (Insert name schema plan) used rows = standing_more n rows (record { name = name; version = next_of names.arrays name; pages = used })
+standing_after names n (Store name schema plan) used rows = standing_more n rows (next_version names name used)
+standing_after names n (Insert name schema plan) used rows = standing_more n rows (next_version names name used)
 standing_after names n (Remove name) used rows = standing_left (is_pages_of name) n rows
 standing_after names n (RemoveVersions name below) used rows = standing_left (is_below name below) n rows
 
 -- the places before it see the same
 pub seen_after : (names : Names) (n : ℕ) (change : Change) (used : List ℕ) (rows : List Row) (m : ℕ) → m ≤ n → seen m (rows_after names n change used rows) ≡ seen m rows
 seen_after names n (Create name schema) used rows m le = refl
-seen_after names n (Store name schema plan) used rows m le = unseen_more n m (record { name = name; version = next_of names.arrays name; pages = used }) rows le
-seen_after names n (Insert name schema plan) used rows m le = unseen_more n m (record { name = name; version = next_of names.arrays name; pages = used }) rows le
+seen_after names n (Store name schema plan) used rows m le = unseen_more n m (next_version names name used) rows le
+seen_after names n (Insert name schema plan) used rows m le = unseen_more n m (next_version names name used) rows le
 seen_after names n (Remove name) used rows m le = unseen_left (is_pages_of name) n m rows le
 seen_after names n (RemoveVersions name below) used rows m le = unseen_left (is_below name below) n m rows le
 
 pub past_after : (names : Names) (n : ℕ) (change : Change) (used : List ℕ) (rows : List Row) → list_all (is_past n) rows ≡ true → list_all (is_past (n + 1)) (rows_after names n change used rows) ≡ true
 past_after names n (Create name schema) used rows past = past_later n (n + 1) (omega arith) rows past
-past_after names n (Store name schema plan) used rows past = past_more n (record { name = name; version = next_of names.arrays name; pages = used }) rows past
-past_after names n (Insert name schema plan) used rows past = past_more n (record { name = name; version = next_of names.arrays name; pages = used }) rows past
+past_after names n (Store name schema plan) used rows past = past_more n (next_version names name used) rows past
+past_after names n (Insert name schema plan) used rows past = past_more n (next_version names name used) rows past
 past_after names n (Remove name) used rows past = past_left (is_pages_of name) n rows past
 past_after names n (RemoveVersions name below) used rows past = past_left (is_below name below) n rows past
 

@@ -1,7 +1,7 @@
 -- What a lean core stands for, entry by entry.
-use Rattle.std.proofs.Common.{◌≡◌, ◌∙◌, ℕ, ◌+◌, ◌≤◌, Bool, true, false, not, ◌&&◌, ◌||◌, if◌then◌else◌, nat_eq, List, [], ◌∷◌, ◌++◌, map, IsTrue, refl, ap, sym, subst, arith}
+use Rattle.std.proofs.Common.{◌≡◌, ◌∙◌, ℕ, ◌+◌, ◌≤◌, Bool, true, false, not, ◌&&◌, ◌||◌, nat_eq, List, [], ◌∷◌, ◌++◌, map, refl, ap, sym, subst, arith}
 use Rattle.std.specs.Prelude.{nat_le}
-use Rattle.std.specs.List.{filter, list_all, list_any}
+use Rattle.std.specs.List.{filter, list_all}
 use Rattle.std.proofs.lemmas.Bool.{and_from, leb-true, le-leb}
 use Rattle.std.proofs.lemmas.List.{map-append}
 use Rattle.std.proofs.lemmas.List.Folds.{list_all-append}
@@ -15,7 +15,7 @@ use Rattle.event_core.specs.declared.entry.Entry.TheVariants.{Pin, Unpin, Commit
 use Rattle.event_core.specs.declared.state.VersionPages.{VersionPages}
 use Rattle.event_core.specs.declared.state.CorePin.{CorePin}
 use Rattle.event_core.specs.declared.state.Core.{Core}
-use Rattle.event_core.specs.History.{is_pages_of, pages_after}
+use Rattle.event_core.specs.History.{is_pages_of}
 use Rattle.event_core.specs.Pages.{is_newest, fresh_of}
 use Rattle.event_core.specs.Ready.{ReadyFor, IsReadyOver}
 use Rattle.event_core.specs.Replay.{core_after, is_core_live}
@@ -24,7 +24,7 @@ use Rattle.lean_core.specs.declared.pin.LeanPin.{LeanPin}
 use Rattle.lean_core.specs.declared.row.Row.{Row}
 use Rattle.lean_core.specs.Rows.{is_needed, standing, seen, rows_after, first_row}
 use Rattle.lean_core.specs.States.{LeanState, pin_of, core_of, place_of, core_place}
-use Rattle.lean_core.specs.Inner.Kept.{is_past, IsLean, IsPart}
+use Rattle.lean_core.specs.Inner.Kept.{IsLean, IsPart}
 use Rattle.lean_core.proofs.Lists.{all_left, map_among, any_agrees, any_filter}
 use Rattle.lean_core.proofs.Seeing.{past_later, seen_now, first_stand, first_past, standing_after, seen_after, past_after, standing_needed, needed_see, past_needed}
 
@@ -193,17 +193,18 @@ pub ready_keeps : (lean now : LeanState) (ready : ReadyFor) (part : Core) (chang
       limit = now.core.limit;
       entries = 0;
     } → (ready.core ≡ part) × IsPart lean.core ready.change ready.used part
-ready_keeps lean now ready part change used name same for named is =
-    (ap (λ (r : ReadyFor). r.core) for,
-    subst (λ (l : LeanState). IsPart l.core ready.change ready.used part) (sym same)
-    (subst (λ (r : ReadyFor). IsPart now.core r.change r.used part) (sym for) (record {
-      names = ap (λ (p : Core). p.names) is;
-      catalogue = ap (λ (p : Core). p.catalogue) is;
-      fresh = ap (λ (p : Core). fresh_of p.names p.pages p.catalogue change used) is
-          ∙ ap (λ (n : List ℕ). fresh_of now.core.names (newest_alone now.core.names n now.core.pages) now.core.catalogue change used) named
-          ∙ fresh_same now.core.names now.core.pages now.core.catalogue change used;
-      entries = ap (λ (p : Core). p.entries) is;
-    })))
+ready_keeps lean now ready part change used name same for named is = (
+  ap (λ (r : ReadyFor). r.core) for,
+  subst (λ (l : LeanState). IsPart l.core ready.change ready.used part) (sym same)
+      (subst (λ (r : ReadyFor). IsPart now.core r.change r.used part) (sym for) (record {
+        names = ap (λ (p : Core). p.names) is;
+        catalogue = ap (λ (p : Core). p.catalogue) is;
+        fresh = ap (λ (p : Core). fresh_of p.names p.pages p.catalogue change used) is
+            ∙ ap (λ (n : List ℕ). fresh_of now.core.names (newest_alone now.core.names n now.core.pages) now.core.catalogue change used) named
+            ∙ fresh_same now.core.names now.core.pages now.core.catalogue change used;
+        entries = ap (λ (p : Core). p.entries) is;
+      })),
+)
 
 pub put_keeps : (names : Names) (rows sows : List Row) (pins : List LeanPin) (n : ℕ) (change : Change) (used : List ℕ) → IsLean rows pins n → sows ≡ rows_after names n change used rows → IsLean sows pins (n + 1)
 put_keeps names rows sows pins n change used is es = subst (λ (ss : List Row). IsLean ss pins (n + 1)) (sym es) (commit_lean names rows pins n change used is)

@@ -49,10 +49,14 @@ ended goes place row = if goes row.version && stands row.gone then record row { 
 abbrev pub is_below : List ℕ → ℕ → VersionPages → Bool
 is_below name below v = is_pages_of name v && nat_lt v.version below
 
+-- the next version of an array
+abbrev pub next_version : Names → List ℕ → List ℕ → VersionPages
+next_version names name used = record { name = name; version = next_of names.arrays name; pages = used }
+
 -- the rows after the commit of a change at a place: a new version has these pages
 abbrev pub rows_after : Names → ℕ → Change → List ℕ → List Row → List Row
 rows_after names place (Create name schema) used rows = rows
-rows_after names place (Store name schema plan) used rows = rows ++ new_row place (record { name = name; version = next_of names.arrays name; pages = used }) ∷ []
-rows_after names place (Insert name schema plan) used rows = rows ++ new_row place (record { name = name; version = next_of names.arrays name; pages = used }) ∷ []
+rows_after names place (Store name schema plan) used rows = rows ++ new_row place (next_version names name used) ∷ []
+rows_after names place (Insert name schema plan) used rows = rows ++ new_row place (next_version names name used) ∷ []
 rows_after names place (Remove name) used rows = map (ended (is_pages_of name) place) rows
 rows_after names place (RemoveVersions name below) used rows = map (ended (is_below name below) place) rows

@@ -13,7 +13,8 @@ use version_reaper::{PageSet, free_of};
 /// Adds the pages of the rows that stand, or that one of these pins sees, to a set.
 fn add_needed(set: &mut PageSet, rows: &[Row], pins: &[LeanPin])
     ensures limit { length set.new ≡ length set.old }
-    ensures pages { (p : ℕ) → p < length set.old → slice_index_or set.new p false ≡ (slice_index_or set.old p false || list_any (λ row. is_needed pins.now row && holds row.version.pages p) rows.now) }
+    ensures pages { (p : ℕ) → p < length set.old → slice_index_or set.new p false
+        ≡ (slice_index_or set.old p false || list_any (λ row. is_needed pins.now row && holds row.version.pages p) rows.now) }
 {
     for row in rows {
         if row.is_needed(pins) {

@@ -20,7 +20,8 @@ fn change_rows(rows: &mut Vec<Row>, change: &Change, versions: List<VersionPages
     requires room { vec_len rows.old < vec_capacity rows.old }
     requires place { place < 2 ^ 64 - 1 }
     requires made { (names : Names) × (used : Items ℕ) × (before : Items VersionPages) × (versions ≡ pages_after names change.now used before) }
-    ensures rows { (names : Names) (used : Items ℕ) (before : Items VersionPages) → versions ≡ pages_after names change.now used before → rows.new.items ≡ rows_after names place change.now used rows.old.items }
+    ensures rows { (names : Names) (used : Items ℕ) (before : Items VersionPages) → versions ≡ pages_after names change.now used before
+        → rows.new.items ≡ rows_after names place change.now used rows.old.items }
     ensures room { vec_capacity rows.new ≡ vec_capacity rows.old }
     ensures more { vec_len rows.new ≤ vec_len rows.old + 1 }
 {

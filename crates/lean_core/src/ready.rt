@@ -43,13 +43,13 @@ impl LeanCore {
     /// The names, the catalogue, and the newest version of an array.
     fn part_of(&self, name: &Name) -> Result<Core, Memory>
         ensures { IfOk result (λ part. part ≡ record {
-            names = self.now.core.names;
-            pages = filter (λ v. is_pages_of name.now v && nat_eq v.version (newest_of self.now.core.names.arrays name.now)) self.now.core.pages;
-            catalogue = self.now.core.catalogue;
-            pins = [];
-            free = [];
-            limit = self.now.core.limit;
-            entries = 0
+          names = self.now.core.names;
+          pages = filter (λ v. is_pages_of name.now v && nat_eq v.version (newest_of self.now.core.names.arrays name.now)) self.now.core.pages;
+          catalogue = self.now.core.catalogue;
+          pins = [];
+          free = [];
+          limit = self.now.core.limit;
+          entries = 0;
         }) }
     {
         let newest = newest_of(&self.names.arrays, name);

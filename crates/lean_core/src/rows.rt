@@ -48,7 +48,8 @@ pub fn add_last(rows: &mut Vec<Row>, versions: List<VersionPages>, place: u64)
     requires room { vec_len rows.old < vec_capacity rows.old }
     requires place { place < 2 ^ 64 - 1 }
     requires last { (before : Items VersionPages) × (version : VersionPages) × (versions ≡ before ++ version ∷ []) }
-    ensures rows { (before : Items VersionPages) (version : VersionPages) → versions ≡ before ++ version ∷ [] → rows.new.items ≡ rows.old.items ++ new_row place version ∷ [] }
+    ensures rows { (before : Items VersionPages) (version : VersionPages) → versions ≡ before ++ version ∷ []
+        → rows.new.items ≡ rows.old.items ++ new_row place version ∷ [] }
     ensures room { vec_capacity rows.new ≡ vec_capacity rows.old }
 {
     let mut versions = versions;

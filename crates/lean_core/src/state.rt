@@ -34,8 +34,8 @@ impl Model for LeanCore {
     ghost Value = { LeanState };
 
     ghost view = { λ l. record {
-        core = core_of l.names l.rows.items l.catalogue l.pins.items l.free l.limit l.entries;
-        room = vec_capacity l.rows - vec_len l.rows
+      core = core_of l.names l.rows.items l.catalogue l.pins.items l.free l.limit l.entries;
+      room = vec_capacity l.rows - vec_len l.rows;
     } };
 
     ghost invariant = { λ l. IsLean l.rows.items l.pins.items l.entries };

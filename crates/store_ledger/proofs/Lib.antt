@@ -4,4 +4,6 @@ pub mod Noted
 pub mod Notes
 pub mod Opened
 pub mod Pins
+pub mod Told
 pub mod Tried
+pub mod Versions

@@ -8,7 +8,7 @@ use Rattle.event_core.specs.History.{History, leaves_pin, pin_before}
 use Rattle.store_ledger.specs.declared.note.Note.{Note}
 use Rattle.store_ledger.specs.declared.note.NoteKind.TheVariants.{Tried}
 use Rattle.store_ledger.specs.declared.pinned.Pinned.{Pinned}
-use Rattle.store_ledger.specs.Ledger.{LedgerState, with_entries, with_notes, AreWithin, has_note, history, reserved, reserved_by, IsOpenPin, entered, noted, events}
+use Rattle.store_ledger.specs.Ledger.{LedgerState, with_entries, with_notes, AreWithin, has_note, history, IsLedger, reserved, reserved_by, IsOpenPin, entered, noted, events}
 
 -- a pin reserves three entries more than were reserved
 abbrev pub PinsReserveThree : Type 0
@@ -47,3 +47,7 @@ EventsGrowByEntries = (ledger : LedgerState) (entry : Entry) → AreWithin (leng
 abbrev pub EventsGrowByNotes : Type 0
 EventsGrowByNotes = (ledger : LedgerState) (note : Note) → note.after ≡ length ledger.entries →
     events (with_notes (note ∷ []) ledger) ≡ events ledger ++ noted note ∷ []
+
+-- no note of a ledger has more entries before it than there are
+abbrev pub NotesAreWithin : Type 0
+NotesAreWithin = (ledger : LedgerState) → IsLedger ledger → AreWithin (length ledger.entries) ledger.notes

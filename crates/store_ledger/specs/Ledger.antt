@@ -5,7 +5,7 @@ use Rattle.event_core.specs.declared.entry.Entry.{Entry}
 use Rattle.event_core.specs.declared.entry.Entry.TheVariants.{Pin, Unpin, Commit, Reap}
 use Rattle.event_core.specs.declared.state.Core.{Core}
 use Rattle.version_reaper.specs.PageSets.{pages_below}
-use Rattle.event_core.specs.Allowed.{is_pinned}
+use Rattle.event_core.specs.Allowed.{IsBase, is_allowed, is_pinned}
 use Rattle.event_core.specs.Pages.{is_live, is_awaiting}
 use Rattle.event_core.specs.History.{History, OpenPin, names_at, open_pins, pin_before, up_to}
 use Rattle.store_ledger.specs.declared.note.Note.{Note}
@@ -54,6 +54,22 @@ pub record IsNote (h : History) (others : List Note) (note : Note) : Type 0 wher
   pub pinned : IsTrue (is_pinned note.session (up_to note.after h))
   pub once : IfSome (pin_before note.session (up_to note.after h)) (λ before. has_note note.kind others (record { session = note.session; before = before }) ≡ false)
 
+-- whether a note of a kind was made under the open pin of a session, if it has one
+abbrev pub has_under : NoteKind → List Note → ℕ → Option History → Bool
+has_under kind notes session None = false
+has_under kind notes session (Some before) = has_note kind notes (record { session = session; before = before })
+
+abbrev pub is_noted : NoteKind → LedgerState → ℕ → Bool
+is_noted kind ledger session = has_under kind ledger.notes session (pin_before session (history ledger))
+
+-- the note of a kind that a session makes now
+abbrev pub note_now : NoteKind → LedgerState → ℕ → Note
+note_now kind ledger session = record { session = session; kind = kind; after = length ledger.entries }
+
+-- the ledger with the note of a fault under a session's pin, if none was made there yet
+abbrev pub with_fault : ℕ → LedgerState → LedgerState
+with_fault session ledger = if is_noted Fault ledger session then ledger else with_notes (note_now Fault ledger session ∷ []) ledger
+
 -- notes, the newest first, that may stand beside a history
 abbrev pub AreNoted : History → List Note → Type 0
 AreNoted h [] = Unit {0}
@@ -76,7 +92,19 @@ reserved ledger = sum_by (reserved_by ledger.notes) (open_pins (history ledger))
 abbrev pub has_room : LedgerState → ℕ → Bool
 has_room ledger count = nat_le (length ledger.entries + reserved ledger + count) ledger.limit
 
+-- WHAT A LEDGER IS: its entries are allowed over a base, its notes may stand beside them, and what stands and what is reserved is within
+-- the limit
+pub record IsLedger (ledger : LedgerState) : Type 0 where
+  pub base : IsBase ledger.base
+  pub allowed : IsTrue (is_allowed ledger.base (history ledger))
+  pub notes : AreNoted (history ledger) (reverse ledger.notes)
+  pub room : IsTrue (has_room ledger 0)
+
 -- ---- open pins
+
+-- the session and the place of an open pin
+abbrev pub open_place : OpenPin → ℕ × ℕ
+open_place pin = (pin.session, length pin.before)
 
 -- what a session holds is its open pin
 pub record IsOpenPin (ledger : LedgerState) (pinned : Pinned) : Type 0 where

@@ -11,14 +11,15 @@ ghost use Rattle.store_ledger.specs.Ledger.{has_room, history, with_entries};
 
 use crate::Ledger;
 use cell_values::Memory;
-use event_core::{Entry, Ready, Used};
+use event_core::{Entry, Used};
+use lean_core::LeanReady;
 use plan_changes::Change;
 use std::marker::Model;
 
 /// A commit that was made ready, with its change and its pages. Contracts see the core, the change and the pages that it was made for.
 #[derive(Drop)]
 pub struct ReadyCommit {
-    ready: Ready,
+    ready: LeanReady,
     change: Change,
     used: Used,
 }
@@ -37,6 +38,29 @@ impl Model for ReadyCommit {
     ghost view = { λ r. r.ready };
 
     ghost invariant = { λ r. (r.change ≡ r.ready.change) × (r.used ≡ r.ready.used) };
+}
+
+impl ReadyCommit {
+    /// The change that it is of.
+    pub fn change(&self) -> &Change
+        ensures { result.now ≡ self.now.change }
+    {
+        &self.change
+    }
+
+    /// Gives the change back, where it isn't committed.
+    pub fn into_change(self) -> Change
+        ensures { result ≡ self.change }
+    {
+        let ReadyCommit {
+            ready,
+            change,
+            used,
+        } = self;
+        drop(ready);
+        drop(used);
+        change
+    }
 }
 
 impl Ledger {
@@ -72,7 +96,7 @@ impl Ledger {
             change,
             used,
         } = commit;
-        self.core.put(session, ready);
+        self.core.put(session, ready, &change);
         self.entries.push_reserved(Entry::Commit {
             session,
             change,

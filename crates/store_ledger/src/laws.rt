@@ -1,5 +1,5 @@
 //! What holds of ledgers.
-ghost use Rattle.store_ledger.specs.Laws.{EventsGrowByEntries, EventsGrowByNotes, OpenPinsOutlast, PinsReserveThree, TriedGivesTwoBack, UnpinsGiveBack};
+ghost use Rattle.store_ledger.specs.Laws.{EventsGrowByEntries, EventsGrowByNotes, NotesAreWithin, OpenPinsOutlast, PinsReserveThree, TriedGivesTwoBack, UnpinsGiveBack};
 
 /// One more entry, or one more note, comes behind all events before.
 pub fn events_only_grow()
@@ -25,4 +25,9 @@ pub fn unpins_give_back()
 /// The first commit that is tried under a pin gives back two of the entries that it had reserved.
 pub fn tried_gives_two_back()
     ensures { TriedGivesTwoBack }
+{}
+
+/// No note of a ledger comes behind more entries than there are.
+pub fn notes_are_within()
+    ensures { NotesAreWithin }
 {}

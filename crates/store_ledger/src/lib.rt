@@ -12,7 +12,8 @@ mod reaping;
 
 pub use commits::ReadyCommit;
 pub use laws::{
-    events_only_grow, open_pins_outlast, pins_reserve_three, tried_gives_two_back, unpins_give_back,
+    events_only_grow, notes_are_within, open_pins_outlast, pins_reserve_three,
+    tried_gives_two_back, unpins_give_back,
 };
 pub use ledger::Ledger;
 pub use note::{Note, NoteKind};

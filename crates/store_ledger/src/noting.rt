@@ -4,9 +4,10 @@ ghost use Rattle.std.specs.List.{list_any};
 ghost use Rattle.store_ledger.specs.declared.note.NoteKind.TheVariants.{Fault, Tried};
 ghost use Rattle.event_core.specs.Allowed.{is_pinned};
 ghost use Rattle.event_core.specs.History.{pin_before};
-ghost use Rattle.store_ledger.specs.Ledger.{has_note, history, is_kind, with_notes};
+ghost use Rattle.store_ledger.specs.Ledger.{has_note, has_room, history, is_kind, is_noted, with_fault, with_notes};
 
 use crate::{Ledger, Note, NoteKind};
+use lean_core::LeanPin;
 
 fn is_try(kind: NoteKind) -> bool
     ensures { result ≡ is_kind Tried kind }
@@ -15,6 +16,30 @@ fn is_try(kind: NoteKind) -> bool
         NoteKind::Fault => false,
         NoteKind::Tried => true,
     }
+}
+
+fn is_fault(kind: NoteKind) -> bool
+    ensures { result ≡ is_kind Fault kind }
+{
+    match kind {
+        NoteKind::Fault => true,
+        NoteKind::Tried => false,
+    }
+}
+
+/// Whether a fault was noted under the pin of a session and a place.
+fn is_faulty(notes: &[Note], session: u32, place: u64) -> bool
+    ensures { result ≡ list_any (λ note. nat_eq note.session session && (is_kind Fault note.kind && nat_lt place note.after)) notes.now }
+{
+    notes.iter().any(|note| note.session == session && is_fault(note.kind) && place < note.after)
+}
+
+/// Whether a fault was noted under a session's pin, which is one of these.
+fn is_faulted(pins: &[LeanPin], notes: &[Note], session: u32) -> bool
+    ensures { result ≡ list_any (λ pin. nat_eq pin.session session
+        && list_any (λ note. nat_eq note.session pin.session && (is_kind Fault note.kind && nat_lt pin.place note.after)) notes.now) pins.now }
+{
+    pins.iter().any(|pin| pin.session == session && is_faulty(notes, pin.session, pin.place))
 }
 
 /// Whether a session tried a commit under its pin of a place.
@@ -50,11 +75,29 @@ impl Ledger {
         });
     }
 
+    /// The note that the device failed under a session's pin, if there is none yet. This takes no memory.
+    pub fn note_first_fault(&mut self, session: u32)
+        requires { IsTrue (is_pinned session (history self.old)) }
+        ensures { self.new ≡ with_fault session self.old }
+    {
+        if !self.has_fault(session) {
+            self.note_fault(session);
+        }
+    }
+
+    /// Whether a fault was noted under a session's pin.
+    fn has_fault(&self, session: u32) -> bool
+        ensures { result ≡ is_noted Fault self.now session }
+    {
+        is_faulted(self.core.pins(), self.notes.as_slice(), session)
+    }
+
     /// The note that a commit is tried under a session's pin, which gives back two of the entries that the pin reserved. This takes no memory.
     pub fn note_tried(&mut self, session: u32)
         requires pinned { IsTrue (is_pinned session (history self.old)) }
         requires first { IfSome (pin_before session (history self.old)) (λ before. has_note Tried self.old.notes (record { session = session; before = before }) ≡ false) }
-        ensures { self.new ≡ with_notes (record { session = session; kind = Tried; after = length self.old.entries } ∷ []) self.old }
+        ensures noted { self.new ≡ with_notes (record { session = session; kind = Tried; after = length self.old.entries } ∷ []) self.old }
+        ensures room { IsTrue (has_room self.new 2) }
     {
         let after = self.entries.len() as u64;
         self.notes.push_reserved(Note {

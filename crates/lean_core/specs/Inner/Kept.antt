@@ -5,7 +5,6 @@ use Rattle.plan_changes.specs.declared.change.Change.{Change}
 use Rattle.event_core.specs.declared.entry.Used.{Used}
 use Rattle.event_core.specs.declared.state.Core.{Core}
 use Rattle.event_core.specs.Pages.{fresh_of}
-use Rattle.event_core.specs.Ready.{ReadyFor}
 use Rattle.lean_core.specs.declared.pin.LeanPin.{LeanPin}
 use Rattle.lean_core.specs.declared.row.Row.{Row}
 

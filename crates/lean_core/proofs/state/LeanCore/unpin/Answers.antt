@@ -1,4 +1,4 @@
-use Rattle.std.proofs.Common.{◌≡◌, ◌∙◌, List, rules, ap, not, nat_eq}
+use Rattle.std.proofs.Common.{◌∙◌, List, rules, ap, not, nat_eq}
 use Rattle.std.specs.List.{filter}
 use Rattle.std.proofs.lemmas.Fn.{filter_same}
 use Rattle.lean_core.specs.declared.pin.LeanPin.{LeanPin}
