@@ -7,8 +7,8 @@ ghost use Rattle.event_core.specs.History.{is_pages_of};
 
 use crate::LeanCore;
 use crate::rows::standing_pages;
-use cell_values::{Memory, Name};
-use event_core::{Core, Ready, Used};
+use cell_values::{List, Memory, Name};
+use event_core::{Core, Ready, Used, VersionPages};
 use plan_changes::{Change, changed_name, newest_of};
 use std::marker::Model;
 use std::snapshot::Snapshot;
@@ -40,6 +40,24 @@ impl Model for LeanReady {
 }
 
 impl LeanCore {
+    /// The newest version of an array, and the catalogue.
+    fn part_lists(&self, name: &Name) -> Result<(List<VersionPages>, List<u32>), Memory>
+        ensures pages { IfOk result (λ lists. lists.0
+            ≡ filter (λ v. is_pages_of name.now v && nat_eq v.version (newest_of self.now.core.names.arrays name.now)) self.now.core.pages) }
+        ensures catalogue { IfOk result (λ lists. lists.1 ≡ self.now.core.catalogue) }
+    {
+        let newest = newest_of(&self.names.arrays, name);
+        let rows = self.rows.as_slice();
+        let catalogue = self.catalogue.copy()?;
+        match standing_pages(rows, name, newest, self.free.another()) {
+            Ok(pages) => Ok((pages, catalogue)),
+            Err(want) => {
+                drop(catalogue);
+                Err(want)
+            }
+        }
+    }
+
     /// The names, the catalogue, and the newest version of an array.
     fn part_of(&self, name: &Name) -> Result<Core, Memory>
         ensures { IfOk result (λ part. part ≡ record {
@@ -52,17 +70,23 @@ impl LeanCore {
           entries = 0;
         }) }
     {
-        let newest = newest_of(&self.names.arrays, name);
-        let rows = self.rows.as_slice();
-        Ok(Core {
-            names: self.names.copy()?,
-            pages: standing_pages(rows, name, newest, self.free.another())?,
-            catalogue: self.catalogue.copy()?,
-            pins: self.free.another(),
-            free: self.free.another(),
-            limit: self.limit,
-            entries: 0,
-        })
+        let (pages, catalogue) = self.part_lists(name)?;
+        match self.names.copy() {
+            Ok(names) => Ok(Core {
+                names,
+                pages,
+                catalogue,
+                pins: self.free.another(),
+                free: self.free.another(),
+                limit: self.limit,
+                entries: 0,
+            }),
+            Err(want) => {
+                drop(pages);
+                drop(catalogue);
+                Err(want)
+            }
+        }
     }
 
     /// Takes all memory that a commit of a change needs, but for the room of a version.
