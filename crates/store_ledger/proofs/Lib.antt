@@ -6,3 +6,4 @@ pub mod Opened
 pub mod Pins
 pub mod Told
 pub mod Tried
+pub mod Versions

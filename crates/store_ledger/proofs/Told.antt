@@ -8,13 +8,13 @@ use Rattle.event_core.specs.declared.state.Core.{Core}
 use Rattle.event_core.specs.declared.state.CorePin.{CorePin}
 use Rattle.event_core.specs.Allowed.{is_pinned}
 use Rattle.event_core.specs.History.{History, OpenPin, open_pins, pin_before}
-use Rattle.event_core.specs.Replay.{pin_at, core_at}
+use Rattle.event_core.specs.Replay.{pin_at}
 use Rattle.event_core.proofs.Tests.{any_map}
 use Rattle.event_laws.specs.Pins.{pins_of}
 use Rattle.event_laws.proofs.Pins.{open_pins_are_these}
 use Rattle.store_ledger.specs.declared.note.Note.{Note}
 use Rattle.store_ledger.specs.declared.note.NoteKind.TheVariants.{Fault, Tried}
-use Rattle.store_ledger.specs.Ledger.{LedgerState, IsLedger, AreWithin, has_note, has_room, has_under, history, is_kind, is_noted, reserved, with_notes}
+use Rattle.store_ledger.specs.Ledger.{LedgerState, IsLedger, has_note, has_room, has_under, history, is_kind, is_noted, reserved, with_notes}
 use Rattle.store_ledger.specs.Laws.{NotesAreWithin, tried_now}
 use Rattle.store_ledger.specs.Inner.Kept.{IsKept}
 use Rattle.store_ledger.proofs.Keeping.{begun_of}
@@ -84,7 +84,10 @@ under_pin : (notes : List Note) (session : ℕ) (o : Option History) → list_an
 under_pin notes session None = refl
 under_pin notes session (Some before) = or_nothing (has_note Fault notes (record { session = session; before = before }))
 
-abbrev pub faulty_pin : List Note → ℕ → CorePin → Bool
+abbrev pub faulty_at : List Note → ℕ → ℕ × ℕ → Bool
+faulty_at notes session at = nat_eq at.0 session && list_any (λ note. nat_eq note.session at.0 && (is_kind Fault note.kind && nat_lt at.1 note.after)) notes
+
+abbrev faulty_pin : List Note → ℕ → CorePin → Bool
 faulty_pin notes session pin = nat_eq pin.session session && list_any (λ note. nat_eq note.session pin.session && (is_kind Fault note.kind && nat_lt pin.place note.after)) notes
 
 -- the core's pins and the notes tell whether a fault was noted under a session's pin

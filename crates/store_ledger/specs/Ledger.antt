@@ -102,6 +102,10 @@ pub record IsLedger (ledger : LedgerState) : Type 0 where
 
 -- ---- open pins
 
+-- the session and the place of an open pin
+abbrev pub open_place : OpenPin → ℕ × ℕ
+open_place pin = (pin.session, length pin.before)
+
 -- what a session holds is its open pin
 pub record IsOpenPin (ledger : LedgerState) (pinned : Pinned) : Type 0 where
   pub before : History

@@ -11,14 +11,15 @@ ghost use Rattle.store_ledger.specs.Ledger.{has_room, history, with_entries};
 
 use crate::Ledger;
 use cell_values::Memory;
-use event_core::{Entry, Ready, Used};
+use event_core::{Entry, Used};
+use lean_core::LeanReady;
 use plan_changes::Change;
 use std::marker::Model;
 
 /// A commit that was made ready, with its change and its pages. Contracts see the core, the change and the pages that it was made for.
 #[derive(Drop)]
 pub struct ReadyCommit {
-    ready: Ready,
+    ready: LeanReady,
     change: Change,
     used: Used,
 }
@@ -95,7 +96,7 @@ impl Ledger {
             change,
             used,
         } = commit;
-        self.core.put(session, ready);
+        self.core.put(session, ready, &change);
         self.entries.push_reserved(Entry::Commit {
             session,
             change,

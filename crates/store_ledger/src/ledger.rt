@@ -1,13 +1,15 @@
 //! The ledger as one value.
-ghost use Rattle.std.specs.Prelude.{◌≡◌, [], length, IfOk};
+ghost use Rattle.std.specs.Prelude.{◌≡◌, [], length, map, IfOk};
 ghost use Rattle.event_core.specs.Allowed.{IsBase};
-ghost use Rattle.event_core.specs.History.{names_at};
-ghost use Rattle.event_core.specs.Replay.{core_at};
-ghost use Rattle.store_ledger.specs.Ledger.{history, has_room, unused_pages, IsLedger};
+ghost use Rattle.event_core.specs.History.{names_at, catalogue_at, open_pins};
+ghost use Rattle.event_core.specs.Pages.{free_at};
+ghost use Rattle.lean_core.specs.States.{place_of};
+ghost use Rattle.store_ledger.specs.Ledger.{history, has_room, open_place, unused_pages, IsLedger};
 
 use crate::Note;
-use cell_values::Memory;
+use cell_values::{List, Memory};
 use event_core::{Core, Entry};
+use lean_core::{LeanCore, LeanPin};
 use logical_plan::Names;
 use std::alloc::Global;
 use std::marker::Model;
@@ -15,14 +17,14 @@ use std::snapshot::Snapshot;
 use version_reaper::PageSet;
 
 /// Entries and notes, with the core that they make of a base. There is always room for the unpin of each open pin, for its first
-/// commit and for its first note of each kind.
+/// commit with the version that it makes, and for its first note of each kind.
 #[derive(Drop)]
 pub struct Ledger {
     pub(crate) base: Snapshot<Core>,
     pub(crate) limit: u32,
     pub(crate) entries: Vec<Entry>,
     pub(crate) notes: Vec<Note>,
-    pub(crate) core: Core,
+    pub(crate) core: LeanCore,
     /// How many entries the open pins reserve.
     pub(crate) reserved: u32,
     /// A set that is lent to counts of pages.
@@ -32,7 +34,7 @@ pub struct Ledger {
 impl Model for Ledger {
     ghost use Rattle.std.specs.Prelude.{length, reverse, vec_capacity};
     ghost use Rattle.store_ledger.specs.Ledger.{LedgerState};
-    ghost use Rattle.store_ledger.specs.Inner.Kept.{IsKept};
+    ghost use Rattle.store_ledger.specs.Inner.Kept.{IsKept, HasVersionRoom};
 
     ghost Value = { LedgerState };
 
@@ -43,8 +45,9 @@ impl Model for Ledger {
 
     ghost view = { λ l. record { base = l.base.value; limit = l.limit; entries = l.entries.items; notes = l.notes.items } };
 
-    ghost invariant = { λ l. IsKept l.base.value l.limit (reverse l.entries.items) l.notes.items l.core l.reserved
-        (vec_capacity l.entries) (vec_capacity l.notes) (length l.pages) };
+    ghost invariant = { λ l. IsKept l.base.value l.limit (reverse l.entries.items) l.notes.items l.core.core l.reserved
+        (vec_capacity l.entries) (vec_capacity l.notes) (length l.pages)
+        × HasVersionRoom (reverse l.entries.items) l.core.room };
 }
 
 impl Ledger {
@@ -54,15 +57,7 @@ impl Ledger {
         ensures { IfOk result (λ ledger. ledger ≡ record { base = base; limit = limit; entries = []; notes = [] }) }
     {
         match PageSet::new(alloc, base.limit) {
-            Ok(pages) => Ok(Ledger {
-                base: Snapshot::of(&base),
-                limit,
-                entries: Vec::new(alloc),
-                notes: Vec::new(alloc),
-                core: base,
-                reserved: 0,
-                pages,
-            }),
+            Ok(pages) => Ledger::over(alloc, base, limit, pages),
             Err(want) => {
                 drop(base);
                 Err(want)
@@ -70,19 +65,59 @@ impl Ledger {
         }
     }
 
-    /// What the entries make of the base.
-    pub fn core(&self) -> &Core
-        ensures core { result.now ≡ core_at self.now.base (history self.now) }
+    /// A ledger over a base, with a set of as many pages.
+    fn over(alloc: Global, base: Core, limit: u32, pages: PageSet) -> Result<Ledger, Memory>
+        requires base { IsBase base }
+        requires pages { length pages ≡ base.limit }
+        ensures { IfOk result (λ ledger. ledger ≡ record { base = base; limit = limit; entries = []; notes = [] }) }
+    {
+        let start = Snapshot::of(&base);
+        match LeanCore::new(base) {
+            Ok(core) => Ok(Ledger {
+                base: start,
+                limit,
+                entries: Vec::new(alloc),
+                notes: Vec::new(alloc),
+                core,
+                reserved: 0,
+                pages,
+            }),
+            Err(want) => {
+                drop(pages);
+                Err(want)
+            }
+        }
+    }
+
+    /// The free pages, rising.
+    pub fn free(&self) -> &List<u32>
+        ensures free { result.now ≡ free_at self.now.base (history self.now) }
         ensures ledger { IsLedger self.now }
     {
-        &self.core
+        self.core.free()
+    }
+
+    /// The pages of the catalogue.
+    pub fn catalogue(&self) -> &List<u32>
+        ensures catalogue { result.now ≡ catalogue_at self.now.base (history self.now) }
+        ensures ledger { IsLedger self.now }
+    {
+        self.core.catalogue()
+    }
+
+    /// The open pins, the oldest first.
+    pub fn pins(&self) -> &[LeanPin]
+        ensures pins { map place_of result.now ≡ map open_place (open_pins (history self.now)) }
+        ensures ledger { IsLedger self.now }
+    {
+        self.core.pins()
     }
 
     /// What can be named now.
     pub fn names(&self) -> &Names
         ensures { result.now ≡ names_at self.now.base (history self.now) }
     {
-        &self.core.names
+        self.core.names()
     }
 
     /// The entries, the oldest first.

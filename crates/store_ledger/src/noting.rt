@@ -7,7 +7,7 @@ ghost use Rattle.event_core.specs.History.{pin_before};
 ghost use Rattle.store_ledger.specs.Ledger.{has_note, has_room, history, is_kind, is_noted, with_fault, with_notes};
 
 use crate::{Ledger, Note, NoteKind};
-use event_core::CorePin;
+use lean_core::LeanPin;
 
 fn is_try(kind: NoteKind) -> bool
     ensures { result ≡ is_kind Tried kind }
@@ -35,8 +35,9 @@ fn is_faulty(notes: &[Note], session: u32, place: u64) -> bool
 }
 
 /// Whether a fault was noted under a session's pin, which is one of these.
-fn is_faulted(pins: &[CorePin], notes: &[Note], session: u32) -> bool
-    ensures { result ≡ list_any (λ pin. nat_eq pin.session session && list_any (λ note. nat_eq note.session pin.session && (is_kind Fault note.kind && nat_lt pin.place note.after)) notes.now) pins.now }
+fn is_faulted(pins: &[LeanPin], notes: &[Note], session: u32) -> bool
+    ensures { result ≡ list_any (λ pin. nat_eq pin.session session
+        && list_any (λ note. nat_eq note.session pin.session && (is_kind Fault note.kind && nat_lt pin.place note.after)) notes.now) pins.now }
 {
     pins.iter().any(|pin| pin.session == session && is_faulty(notes, pin.session, pin.place))
 }
@@ -88,7 +89,7 @@ impl Ledger {
     fn has_fault(&self, session: u32) -> bool
         ensures { result ≡ is_noted Fault self.now session }
     {
-        is_faulted(self.core.pins.as_slice(), self.notes.as_slice(), session)
+        is_faulted(self.core.pins(), self.notes.as_slice(), session)
     }
 
     /// The note that a commit is tried under a session's pin, which gives back two of the entries that the pin reserved. This takes no memory.

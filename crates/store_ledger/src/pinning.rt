@@ -9,7 +9,8 @@ ghost use Rattle.store_ledger.specs.Ledger.{IsOpenPin, IsRefused, has_room, hist
 use crate::noting::reserved_under;
 use crate::{Ledger, Note, PinFault, Pinned};
 use cell_values::Memory;
-use event_core::{Core, Entry};
+use event_core::Entry;
+use lean_core::LeanCore;
 
 /// Room for so many entries and notes more.
 fn make_room(entries: &mut Vec<Entry>, notes: &mut Vec<Note>, count: usize) -> Result<(), Memory>
@@ -24,23 +25,26 @@ fn make_room(entries: &mut Vec<Entry>, notes: &mut Vec<Note>, count: usize) -> R
 }
 
 /// What a session that pins now holds.
-fn pinned_now(core: &Core, session: u32) -> Result<Pinned, Memory>
-    ensures { IfOk result (λ pinned. pinned ≡ record { session = session; place = core.now.entries; names = core.now.names }) }
+fn pinned_now(core: &LeanCore, session: u32) -> Result<Pinned, Memory>
+    ensures { IfOk result (λ pinned. pinned ≡ record { session = session; place = core.now.core.entries; names = core.now.core.names }) }
 {
     Ok(Pinned {
         session,
-        place: core.entries,
-        names: core.names.copy()?,
+        place: core.entries(),
+        names: core.names().copy()?,
     })
 }
 
-/// A pin in the core, and what its session holds.
-fn pin_core(core: &mut Core, session: u32) -> Result<Pinned, Memory>
-    requires { core.old.entries < 2 ^ 64 - 1 }
-    ensures ok { OnOk result (core.new ≡ core_after core.old (Pin session)) }
-    ensures pinned { IfOk result (λ pinned. pinned ≡ record { session = session; place = core.old.entries; names = core.old.names }) }
-    ensures err { OnErr result (core.new ≡ core.old) }
+/// A pin in the core, which then has room for so many versions more, and what its session holds.
+fn pin_core(core: &mut LeanCore, session: u32, count: usize) -> Result<Pinned, Memory>
+    requires { core.old.core.entries < 2 ^ 64 - 1 }
+    ensures ok { OnOk result (core.new.core ≡ core_after core.old.core (Pin session)) }
+    ensures pinned { IfOk result (λ pinned. pinned ≡ record { session = session; place = core.old.core.entries; names = core.old.core.names }) }
+    ensures room { OnOk result (count ≤ core.new.room) }
+    ensures err { OnErr result (core.new.core ≡ core.old.core) }
+    ensures grows { core.old.room ≤ core.new.room }
 {
+    core.reserve(count)?;
     let pinned = pinned_now(core, session)?;
     match core.pin(session) {
         Ok(()) => Ok(pinned),
@@ -67,10 +71,10 @@ impl Ledger {
                 entries: self.entries.len() as u32,
             });
         }
-        // No pin takes more than twice as many entries or notes as it reserves.
+        // No pin takes more than twice as many entries, notes or versions as it reserves entries.
         let count = 2 * self.reserved as usize + 7;
         make_room(&mut self.entries, &mut self.notes, count)?;
-        let pinned = pin_core(&mut self.core, session)?;
+        let pinned = pin_core(&mut self.core, session, count)?;
         self.entries.push_reserved(Entry::Pin { session });
         self.reserved += 3;
         Ok(pinned)

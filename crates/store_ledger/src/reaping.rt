@@ -6,17 +6,19 @@ ghost use Rattle.store_ledger.specs.Ledger.{has_room, reap_comes, with_entries};
 
 use crate::Ledger;
 use cell_values::Memory;
-use event_core::{Core, Entry};
+use event_core::Entry;
+use lean_core::LeanCore;
 
 /// A reap in the core and behind the entries, and room for so many entries more than stood.
-fn append_reap(core: &mut Core, entries: &mut Vec<Entry>, count: usize) -> Result<(), Memory>
-    requires small { core.old.entries < 2 ^ 64 - 1 }
+fn append_reap(core: &mut LeanCore, entries: &mut Vec<Entry>, count: usize) -> Result<(), Memory>
+    requires small { core.old.core.entries < 2 ^ 64 - 1 }
     requires some { 0 < count }
-    ensures core { OnOk result (core.new ≡ core_after core.old Reap) }
+    ensures core { OnOk result (core.new.core ≡ core_after core.old.core Reap) }
     ensures entries { OnOk result (entries.new.items ≡ entries.old.items ++ Reap ∷ []) }
     ensures room { OnOk result (length entries.old.items + count ≤ vec_capacity entries.new) }
     ensures grows { vec_capacity entries.old ≤ vec_capacity entries.new }
-    ensures err { OnErr result ((core.new ≡ core.old) × (entries.new.items ≡ entries.old.items)) }
+    ensures versions { core.new.room ≡ core.old.room }
+    ensures err { OnErr result ((core.new.core ≡ core.old.core) × (entries.new.items ≡ entries.old.items)) }
 {
     entries.reserve(count)?;
     core.reap()?;

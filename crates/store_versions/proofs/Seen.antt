@@ -8,17 +8,15 @@ use Rattle.plan_changes.specs.declared.change.Change.TheVariants.{Create, Store,
 use Rattle.plan_changes.specs.Changes.{next_of}
 use Rattle.event_core.specs.declared.entry.Used.{Used}
 use Rattle.event_core.specs.declared.entry.Entry.TheVariants.{Pin, Unpin, Commit, Reap}
-use Rattle.event_core.specs.declared.state.CorePin.{CorePin}
 use Rattle.event_core.specs.declared.state.Core.{Core}
 use Rattle.event_core.specs.History.{History, OpenPin, names_at, open_pins}
-use Rattle.event_core.specs.Replay.{pin_at}
 use Rattle.event_core.proofs.Tests.{any_map}
 use Rattle.event_laws.proofs.Conserved.{filter_filter}
 use Rattle.event_laws.proofs.Pins.{open_pins_are_these}
 use Rattle.event_laws.specs.Pins.{pins_of}
 use Rattle.store_versions.specs.declared.row.VersionRow.{VersionRow}
 use Rattle.store_versions.specs.Laws.{TablesFollowEntries, ForgettingIsSeen, PinsSeeTheirVersions}
-use Rattle.store_versions.specs.Rows.{is_seen, is_needed, needed_rows, stands, new_row, ended, rows_after}
+use Rattle.store_versions.specs.Rows.{is_seen, is_needed, needed_rows, places_at, stands, new_row, ended, rows_after}
 use Rattle.store_versions.specs.Seen.{version_of, seen, is_past, AreSeen}
 use Rattle.store_versions.specs.Versions.{MadeVersion, Directories, is_of, versions_after, versions_at}
 use Rattle.store_versions.proofs.Rows.{filter_among, all_left, sees_by, past_later, later_sees, added_seen, added_unseen, added_past, ended_seen, ended_unseen, ended_past}
@@ -141,24 +139,24 @@ all_are_kept (pin ∷ pins) = (
   all_of (IsKept pins) (IsKept (pin ∷ pins)) (λ other kept row e. or_right (is_seen (length pin.before) row) (list_any (λ other. is_seen (length other.before) row) pins) (kept row e)) pins (all_are_kept pins),
 )
 
-kept_seen : (pins : List CorePin) (rows : List VersionRow) (n place : ℕ) → list_all (is_past n) rows ≡ true →
-    ((row : VersionRow) → is_past n row ≡ true → is_seen place row ≡ true → is_needed pins row ≡ true) → seen place (needed_rows pins rows) ≡ seen place rows
-kept_seen pins rows n place past needs =
-    ap (map version_of) (filter_filter (is_needed pins) (is_seen place) rows
-    ∙ filter_among (λ row. is_needed pins row && is_seen place row) (is_seen place) (is_past n) (λ row p. covered (is_needed pins row) (is_seen place row) (needs row p)) rows past)
+kept_seen : (places : List ℕ) (rows : List VersionRow) (n place : ℕ) → list_all (is_past n) rows ≡ true →
+    ((row : VersionRow) → is_past n row ≡ true → is_seen place row ≡ true → is_needed places row ≡ true) → seen place (needed_rows places rows) ≡ seen place rows
+kept_seen places rows n place past needs =
+    ap (map version_of) (filter_filter (is_needed places) (is_seen place) rows
+    ∙ filter_among (λ row. is_needed places row && is_seen place row) (is_seen place) (is_past n) (λ row p. covered (is_needed places row) (is_seen place row) (needs row p)) rows past)
 
 pub forgetting_is_seen : ForgettingIsSeen
 forgetting_is_seen given rows base h are =
     record {
-      now = kept_seen (map (pin_at base) (open_pins h)) rows (length h) (length h) are.past
-          (λ row p e. or_left (stands row.gone) (list_any (λ pin. is_seen pin.place row) (map (pin_at base) (open_pins h)))
+      now = kept_seen (places_at h) rows (length h) (length h) are.past
+          (λ row p e. or_left (stands row.gone) (list_any (λ place. is_seen place row) (places_at h))
           (sym (sees_by row.gone row.made (length h) (length h) (omega arith) p) ∙ e)) ∙ are.now;
-      pinned = all_two (IsKept (open_pins h)) (Sees given rows base) (Sees given (needed_rows (map (pin_at base) (open_pins h)) rows) base)
-          (λ pin kept e. kept_seen (map (pin_at base) (open_pins h)) rows (length h) (length pin.before) are.past
-          (λ row p sees. or_right (stands row.gone) (list_any (λ pin. is_seen pin.place row) (map (pin_at base) (open_pins h)))
-          (any_map (pin_at base) (λ pin. is_seen pin.place row) (open_pins h) ∙ kept row sees)) ∙ e)
+      pinned = all_two (IsKept (open_pins h)) (Sees given rows base) (Sees given (needed_rows (places_at h) rows) base)
+          (λ pin kept e. kept_seen (places_at h) rows (length h) (length pin.before) are.past
+          (λ row p sees. or_right (stands row.gone) (list_any (λ place. is_seen place row) (places_at h))
+          (any_map (λ (pin : OpenPin). length pin.before) (λ place. is_seen place row) (open_pins h) ∙ kept row sees)) ∙ e)
           (open_pins h) (all_are_kept (open_pins h)) are.pinned;
-      past = all_left (is_past (length h)) (is_needed (map (pin_at base) (open_pins h))) rows are.past;
+      past = all_left (is_past (length h)) (is_needed (places_at h)) rows are.past;
     }
 
 -- ---- what a session's pin sees

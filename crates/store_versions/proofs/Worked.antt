@@ -1,8 +1,7 @@
 -- The worked table, computed.
 use Rattle.std.proofs.Common.{◌≡◌, [], ◌∷◌, drop, refl}
 use Rattle.event_core.specs.Shared.{shared_base, shared}
-use Rattle.event_core.specs.Replay.{core_at}
-use Rattle.store_versions.specs.Rows.{needed_rows}
+use Rattle.store_versions.specs.Rows.{needed_rows, places_at}
 use Rattle.store_versions.specs.Seen.{seen, AreSeen}
 use Rattle.store_versions.specs.Worked.{worked_directories, worked_rows, first_version, second_version}
 
@@ -15,8 +14,8 @@ pin_sees = refl
 pub present_sees : seen 11 worked_rows ≡ second_version ∷ []
 present_sees = refl
 
-pub pin_needs : needed_rows (core_at shared_base (drop 2 shared)).pins worked_rows ≡ worked_rows
+pub pin_needs : needed_rows (places_at (drop 2 shared)) worked_rows ≡ worked_rows
 pin_needs = refl
 
-pub forgotten_later : needed_rows (core_at shared_base shared).pins worked_rows ≡ drop 1 worked_rows
+pub forgotten_later : needed_rows (places_at shared) worked_rows ≡ drop 1 worked_rows
 forgotten_later = refl

@@ -9,9 +9,8 @@ use Rattle.event_core.specs.declared.state.Core.{Core}
 use Rattle.event_core.specs.Allowed.{is_allowed}
 use Rattle.event_core.specs.History.{History, names_at, pin_before}
 use Rattle.event_core.specs.Legal.{IsOrdered}
-use Rattle.event_core.specs.Replay.{core_at}
 use Rattle.store_versions.specs.declared.row.VersionRow.{VersionRow}
-use Rattle.store_versions.specs.Rows.{rows_after, needed_rows, first_rows}
+use Rattle.store_versions.specs.Rows.{rows_after, needed_rows, places_at, first_rows}
 use Rattle.store_versions.specs.Seen.{version_of, seen, AreSeen}
 use Rattle.store_versions.specs.Versions.{Directories, versions_at, HaveDirectories}
 
@@ -29,7 +28,7 @@ TablesFollowEntries = (given : Directories) (rows : List VersionRow) (base : Cor
 -- the rows that nobody can name any more may go
 abbrev pub ForgettingIsSeen : Type 0
 ForgettingIsSeen = (given : Directories) (rows : List VersionRow) (base : Core) (h : History) → AreSeen given rows base h →
-    AreSeen given (needed_rows (core_at base h).pins rows) base h
+    AreSeen given (needed_rows (places_at h) rows) base h
 
 -- at the opening
 abbrev pub BasesAreSeen : Type 0

@@ -1,5 +1,5 @@
 -- What entries make of a table of versions.
-use Rattle.std.specs.Prelude.{◌≡◌, ◌<◌, ℕ, ◌+◌, Bool, true, false, ◌&&◌, ◌||◌, nat_le, nat_lt, if◌then◌else◌, List, [], ◌∷◌, ◌++◌, map, Option, None, Some}
+use Rattle.std.specs.Prelude.{◌≡◌, ◌<◌, ℕ, ◌+◌, Bool, true, false, ◌&&◌, ◌||◌, nat_le, nat_lt, if◌then◌else◌, List, [], ◌∷◌, ◌++◌, length, map, Option, None, Some}
 use Rattle.std.specs.List.{filter, list_any}
 use Rattle.std.specs.Str.{bytes_eq}
 use Rattle.logical_plan.specs.declared.names.Names.{Names}
@@ -8,7 +8,7 @@ use Rattle.plan_changes.specs.declared.change.Change.{Change}
 use Rattle.plan_changes.specs.declared.change.Change.TheVariants.{Create, Store, Insert, Remove, RemoveVersions}
 use Rattle.plan_changes.specs.Changes.{next_of}
 use Rattle.chunk_map.specs.declared.directory.Directory.{Directory}
-use Rattle.event_core.specs.declared.state.CorePin.{CorePin}
+use Rattle.event_core.specs.History.{History, open_pins}
 use Rattle.store_versions.specs.declared.ready.ReadyVersion.{ReadyVersion}
 use Rattle.store_versions.specs.declared.row.VersionRow.{VersionRow}
 
@@ -26,9 +26,13 @@ abbrev pub stands : Option ℕ → Bool
 stands None = true
 stands (Some gone) = false
 
--- whether a version stands, or one of these pins sees it
-abbrev pub is_needed : List CorePin → VersionRow → Bool
-is_needed pins row = stands row.gone || list_any (λ pin. is_seen pin.place row) pins
+-- the places of the open pins
+abbrev pub places_at : History → List ℕ
+places_at h = map (λ pin. length pin.before) (open_pins h)
+
+-- whether a version stands, or one of these places sees it
+abbrev pub is_needed : List ℕ → VersionRow → Bool
+is_needed places row = stands row.gone || list_any (λ place. is_seen place row) places
 
 -- the row of a new version, and of one that was there at the base
 abbrev pub new_row : List ℕ → ℕ → ℕ → Directory → VersionRow
@@ -56,8 +60,8 @@ rows_after names place (Remove name) directory rows = map (ended (is_row_of name
 rows_after names place (RemoveVersions name below) directory rows = map (ended (is_row_below name below) place) rows
 
 -- the rows that are left where those go that nobody can name any more
-abbrev pub needed_rows : List CorePin → List VersionRow → List VersionRow
-needed_rows pins rows = filter (is_needed pins) rows
+abbrev pub needed_rows : List ℕ → List VersionRow → List VersionRow
+needed_rows places rows = filter (is_needed places) rows
 
 -- the rows at the opening: of each array its versions, each with its directory
 abbrev pub array_rows : List ℕ → List ℕ → List Directory → List VersionRow

@@ -1,10 +1,9 @@
 //! What holds of tables of versions.
 ghost use Rattle.std.specs.Prelude.{◌≡◌, [], ◌∷◌, drop};
-ghost use Rattle.event_core.specs.Replay.{core_at};
 ghost use Rattle.event_core.specs.Shared.{shared_base, shared};
 ghost use Rattle.store_versions.specs.Laws.{BasesAreSeen, BasesHaveDirectories, ForgettingIsSeen, LaterDirectoriesAreFree};
 ghost use Rattle.store_versions.specs.Laws.{NamedVersionsHaveDirectories, PinsSeeTheirVersions, TablesFollowEntries};
-ghost use Rattle.store_versions.specs.Rows.{needed_rows};
+ghost use Rattle.store_versions.specs.Rows.{needed_rows, places_at};
 ghost use Rattle.store_versions.specs.Seen.{seen, AreSeen};
 ghost use Rattle.store_versions.specs.Worked.{worked_directories, worked_rows, first_version, second_version};
 
@@ -45,6 +44,6 @@ pub fn a_table_is_seen()
     ensures seen { AreSeen worked_directories worked_rows shared_base (drop 2 shared) }
     ensures pin { seen 3 worked_rows ≡ first_version ∷ [] }
     ensures now { seen 11 worked_rows ≡ second_version ∷ [] }
-    ensures kept { needed_rows (core_at shared_base (drop 2 shared)).pins worked_rows ≡ worked_rows }
-    ensures forgotten { needed_rows (core_at shared_base shared).pins worked_rows ≡ drop 1 worked_rows }
+    ensures kept { needed_rows (places_at (drop 2 shared)) worked_rows ≡ worked_rows }
+    ensures forgotten { needed_rows (places_at shared) worked_rows ≡ drop 1 worked_rows }
 {}

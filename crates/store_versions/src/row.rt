@@ -1,11 +1,11 @@
 //! The rows of a table of versions.
-ghost use Rattle.std.specs.Prelude.{◌≡◌, ◌<◌, ◌+◌, ◌-◌, ◌^◌, ◌&&◌, nat_eq, nat_lt};
+ghost use Rattle.std.specs.Prelude.{◌≡◌, ◌<◌, ◌+◌, ◌-◌, ◌^◌, ◌&&◌, ◌||◌, nat_eq, nat_lt};
 ghost use Rattle.std.specs.List.{list_any};
-ghost use Rattle.store_versions.specs.Rows.{is_before, is_seen, stands, is_needed, is_row_of, is_row_below, ended};
+ghost use Rattle.store_versions.specs.Rows.{is_before, is_seen, stands, is_row_of, is_row_below, ended};
 
-use cell_values::{List, Name};
+use cell_values::Name;
 use chunk_map::Directory;
-use event_core::CorePin;
+use lean_core::LeanPin;
 use plan_changes::is_same;
 
 /// A version of an array. It is seen at the places from `made` on that are below `gone`.
@@ -41,10 +41,10 @@ fn stands(gone: Option<u64>) -> bool
 }
 
 /// Whether one of these pins sees a version.
-fn is_seen_by(pins: &List<CorePin>, row: &VersionRow) -> bool
+fn is_seen_by(pins: &[LeanPin], row: &VersionRow) -> bool
     ensures { result ≡ list_any (λ pin. is_seen pin.place row.now) pins.now }
 {
-    pins.as_slice().iter().any(|pin| row.is_seen(pin.place))
+    pins.iter().any(|pin| row.is_seen(pin.place))
 }
 
 impl VersionRow {
@@ -56,8 +56,8 @@ impl VersionRow {
     }
 
     /// Whether the version stands, or one of these pins sees it.
-    pub fn is_needed(&self, pins: &List<CorePin>) -> bool
-        ensures { result ≡ is_needed pins.now self.now }
+    pub fn is_needed(&self, pins: &[LeanPin]) -> bool
+        ensures { result ≡ (stands self.now.gone || list_any (λ pin. is_seen pin.place self.now) pins.now) }
     {
         stands(self.gone) || is_seen_by(pins, self)
     }

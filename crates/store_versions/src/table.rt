@@ -10,7 +10,7 @@ use crate::first::first_rows;
 use crate::{ReadyVersion, Room, VersionRow};
 use cell_values::{List, Memory, Name};
 use chunk_map::Directory;
-use event_core::CorePin;
+use lean_core::LeanPin;
 use logical_plan::Names;
 use plan_changes::Change;
 
@@ -53,8 +53,8 @@ fn end_below(rows: &mut [VersionRow], name: &Name, below: u32, place: u64)
 }
 
 /// The rows that are still needed.
-fn needed_rows(rows: List<VersionRow>, pins: &List<CorePin>) -> List<VersionRow>
-    ensures { result ≡ needed_rows pins.now rows }
+fn needed_rows(rows: List<VersionRow>, pins: &[LeanPin]) -> List<VersionRow>
+    ensures { result ≡ needed_rows (map (λ pin. pin.place) pins.now) rows }
 {
     let mut items = rows.into_vec();
     items.retain(|row| row.is_needed(pins));
@@ -187,8 +187,8 @@ impl VersionTable {
     }
 
     /// The versions go that neither stand nor are seen by one of these pins. This takes no memory.
-    pub fn forget(&mut self, pins: &List<CorePin>)
-        ensures { self.new.rows ≡ needed_rows pins.now self.old.rows }
+    pub fn forget(&mut self, pins: &[LeanPin])
+        ensures { self.new.rows ≡ needed_rows (map (λ pin. pin.place) pins.now) self.old.rows }
     {
         let rows = self.rows.take();
         self.rows = needed_rows(rows, pins);

@@ -22,6 +22,10 @@ note_to_come kind notes pin = if has_note kind notes pin then 0 else 1
 abbrev pub notes_to_come : List Note → OpenPin → ℕ
 notes_to_come notes pin = note_to_come Fault notes pin + note_to_come Tried notes pin
 
+-- there is room for the versions that these commits may make
+abbrev pub HasVersionRoom : History → ℕ → Type 0
+HasVersionRoom h room = sum_by (entries_to_come h) (open_pins h) ≤ room
+
 -- the core is that of the history, the notes stand beside it, the number of reserved entries is theirs, all entries are within the limit, and
 -- there is room for what may come without memory
 pub record IsKept (base : Core) (limit : ℕ) (h : History) (notes : List Note) (core : Core) (reserves entry_room note_room pages : ℕ) : Type 0 where

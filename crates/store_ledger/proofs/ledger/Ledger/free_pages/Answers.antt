@@ -8,5 +8,5 @@ returns-clause-count c =
     let i = c.self.inside in
     let ledger : LedgerState = record { base = i.base.value; limit = i.limit; entries = i.entries.items; notes = i.notes.items } in
     c.count_unused.ensures.count
-    ∙ ap length (unused_told ledger i.core i.reserved _ _ _ c.self.invariant)
+    ∙ ap length (unused_told ledger i.core.core i.reserved _ _ _ c.self.invariant.0)
     ∙ ap (λ (l : LedgerState). length (unused_pages l)) c.self.view_is

@@ -1,9 +1,11 @@
-use Rattle.std.proofs.Common.{◌≡◌, ◌∙◌, List, ap}
+use Rattle.std.proofs.Common.{◌≡◌, ◌∙◌, List, ap, sym}
 use Rattle.std.specs.List.{list_any}
-use Rattle.event_core.specs.declared.state.CorePin.{CorePin}
+use Rattle.event_core.proofs.Tests.{any_map}
+use Rattle.lean_core.specs.declared.pin.LeanPin.{LeanPin}
+use Rattle.lean_core.specs.States.{place_of, core_place}
 use Rattle.store_ledger.specs.declared.note.Note.{Note}
 use Rattle.store_ledger.specs.Ledger.{LedgerState}
-use Rattle.store_ledger.proofs.Told.{faulted_told, faulty_pin}
+use Rattle.store_ledger.proofs.Told.{faulted_told, faulty_at}
 use Rattle.store_ledger.proofs.ledger.Ledger.has_fault.Goals as goal
 
 pub returns : goal.returns
@@ -11,8 +13,10 @@ returns c =
     let i = c.self.inside in
     let session = c.args.session in
     let ledger : LedgerState = record { base = i.base.value; limit = i.limit; entries = i.entries.items; notes = i.notes.items } in
-    let told : c.is_faulted.result ≡ list_any (faulty_pin c.as_slice-2.result.now session) c.as_slice.result.now = c.is_faulted.ensures in
+    let told : c.is_faulted.result ≡ list_any (λ (pin : LeanPin). faulty_at c.as_slice.result.now session (place_of pin)) c.pins.result.now = c.is_faulted.ensures in
     told
-    ∙ ap (λ (notes : List Note). list_any (faulty_pin notes session) c.as_slice.result.now) c.as_slice-2.ensures.value
-    ∙ ap (λ (pins : List CorePin). list_any (faulty_pin i.notes.items session) pins) c.as_slice.ensures
-    ∙ faulted_told ledger c.args.self.now session i.core i.reserved _ _ _ c.self.view_is c.self.invariant
+    ∙ ap (λ (notes : List Note). list_any (λ (pin : LeanPin). faulty_at notes session (place_of pin)) c.pins.result.now) c.as_slice.ensures.value
+    ∙ sym (any_map place_of (faulty_at i.notes.items session) c.pins.result.now)
+    ∙ ap (list_any (faulty_at i.notes.items session)) c.pins.ensures
+    ∙ any_map core_place (faulty_at i.notes.items session) i.core.core.pins
+    ∙ faulted_told ledger c.args.self.now session i.core.core i.reserved _ _ _ c.self.view_is c.self.invariant.0

@@ -7,10 +7,12 @@ pub push_reserved-requires : goal.push_reserved-requires
 push_reserved-requires c =
     let i = c.self.inside in
     let ledger : LedgerState = record { base = i.base.value; limit = i.limit; entries = i.entries.items; notes = i.notes.items } in
-    omega (arith, fault_fits ledger c.args.self.now c.args.session i.core i.reserved _ _ _ c.self.view_is c.self.invariant c.requires.pinned c.requires.first, i.notes.ok.0)
+    omega (arith, fault_fits ledger c.args.self.now c.args.session i.core.core i.reserved _ _ _ c.self.view_is c.self.invariant.0 c.requires.pinned c.requires.first, i.notes.ok.0)
 
 pub invariant_of-self : goal.invariant_of-self
 invariant_of-self c =
     let i = c.self.inside in
-    let ledger : LedgerState = record { base = i.base.value; limit = i.limit; entries = i.entries.items; notes = i.notes.items } in
-    fault_keeps ledger c.args.self.now c.args.session i.core i.reserved _ _ _ c.self.view_is c.self.invariant c.requires.pinned c.len-after.result _ c.push_reserved.new.self.items c.requires.first (omega (arith, c.len-after.ensures, i.entries.ok.0)) c.push_reserved.ensures.items c.push_reserved.ensures.capacity
+    let ledger : LedgerState = record { base = i.base.value; limit = i.limit; entries = i.entries.items; notes = i.notes.items } in (
+      fault_keeps ledger c.args.self.now c.args.session i.core.core i.reserved _ _ _ c.self.view_is c.self.invariant.0 c.requires.pinned c.len-after.result _ c.push_reserved.new.self.items c.requires.first (omega (arith, c.len-after.ensures, i.entries.ok.0)) c.push_reserved.ensures.items c.push_reserved.ensures.capacity,
+      c.self.invariant.1,
+    )

@@ -8,25 +8,27 @@ pub push_reserved-requires : goal.push_reserved-requires
 push_reserved-requires c =
     let i = c.self.inside in
     let ledger : LedgerState = record { base = i.base.value; limit = i.limit; entries = i.entries.items; notes = i.notes.items } in
-    omega (arith, tried_fits ledger c.args.self.now c.args.session i.core i.reserved _ _ _ c.self.view_is c.self.invariant c.requires.pinned c.requires.first, i.notes.ok.0)
+    omega (arith, tried_fits ledger c.args.self.now c.args.session i.core.core i.reserved _ _ _ c.self.view_is c.self.invariant.0 c.requires.pinned c.requires.first, i.notes.ok.0)
 
 pub overflow_sub-self : goal.overflow_sub-self
 overflow_sub-self c =
     let i = c.self.inside in
     let ledger : LedgerState = record { base = i.base.value; limit = i.limit; entries = i.entries.items; notes = i.notes.items } in
-    tried_gives ledger c.args.self.now c.args.session i.core i.reserved _ _ _ c.self.view_is c.self.invariant c.requires.pinned c.requires.first
+    tried_gives ledger c.args.self.now c.args.session i.core.core i.reserved _ _ _ c.self.view_is c.self.invariant.0 c.requires.pinned c.requires.first
 
 pub invariant_of-self : goal.invariant_of-self
 invariant_of-self c =
     let i = c.self.inside in
-    let ledger : LedgerState = record { base = i.base.value; limit = i.limit; entries = i.entries.items; notes = i.notes.items } in
-    tried_keeps ledger c.args.self.now c.args.session i.core i.reserved _ _ _ c.self.view_is c.self.invariant c.requires.pinned c.len-after.result _ _ c.push_reserved.new.self.items c.requires.first (omega (arith, c.len-after.ensures, i.entries.ok.0)) c.push_reserved.ensures.items c.push_reserved.ensures.capacity
-    (omega (arith, tried_gives ledger c.args.self.now c.args.session i.core i.reserved _ _ _ c.self.view_is c.self.invariant c.requires.pinned c.requires.first))
+    let ledger : LedgerState = record { base = i.base.value; limit = i.limit; entries = i.entries.items; notes = i.notes.items } in (
+      tried_keeps ledger c.args.self.now c.args.session i.core.core i.reserved _ _ _ c.self.view_is c.self.invariant.0 c.requires.pinned c.len-after.result _ _ c.push_reserved.new.self.items c.requires.first (omega (arith, c.len-after.ensures, i.entries.ok.0)) c.push_reserved.ensures.items c.push_reserved.ensures.capacity
+          (omega (arith, tried_gives ledger c.args.self.now c.args.session i.core.core i.reserved _ _ _ c.self.view_is c.self.invariant.0 c.requires.pinned c.requires.first)),
+      c.self.invariant.1,
+    )
 
 pub returns-clause-room : goal.returns-clause-room
 returns-clause-room c =
     let i = c.self.inside in
     let ledger : LedgerState = record { base = i.base.value; limit = i.limit; entries = i.entries.items; notes = i.notes.items } in
     two_fit ledger c.args.self.now c.args.session c.len-after.result c.push_reserved.new.self.items c.self.view_is
-    (is_ledger ledger c.args.self.now i.core i.reserved _ _ _ c.self.view_is c.self.invariant) c.requires.pinned c.requires.first
+    (is_ledger ledger c.args.self.now i.core.core i.reserved _ _ _ c.self.view_is c.self.invariant.0) c.requires.pinned c.requires.first
     (omega (arith, c.len-after.ensures, i.entries.ok.0)) c.push_reserved.ensures.items

@@ -1,13 +1,18 @@
 use Rattle.std.proofs.Common.{◌∙◌, sym, arith}
 use Rattle.store_ledger.specs.Ledger.{LedgerState}
 use Rattle.store_ledger.proofs.Opened.{pin_keeps}
+use Rattle.store_ledger.proofs.Versions.{pin_room}
 use Rattle.store_ledger.proofs.ledger.Ledger.pin.Goals as goal
 
 pub invariant_of-self-2 : goal.invariant_of-self-2
 invariant_of-self-2 c =
     let i = c.self.inside in
-    let ledger : LedgerState = record { base = i.base.value; limit = i.limit; entries = i.entries.items; notes = i.notes.items } in
-    pin_keeps ledger c.args.self.now c.args.session i.core c.pin_core.new.core i.reserved _ _ _ c.make_room.new.entries.items c.push_reserved.new.self.items c.make_room.new.notes.items _ _
-    c.self.view_is c.self.invariant c.requires (sym c.has_room.ensures ∙ c.if-not-has_room.false)
-    c.make_room.ensures.entries c.push_reserved.ensures.items c.make_room.ensures.notes c.in_ok-pinned.ensures.ok
-    (omega (arith, c.in_ok-make_room.ensures.room.0, c.push_reserved.ensures.capacity)) c.in_ok-make_room.ensures.room.1
+    let ledger : LedgerState = record { base = i.base.value; limit = i.limit; entries = i.entries.items; notes = i.notes.items } in (
+      pin_keeps ledger c.args.self.now c.args.session i.core.core c.pin_core.new.core.core i.reserved _ _ _ c.make_room.new.entries.items c.push_reserved.new.self.items c.make_room.new.notes.items _ _
+          c.self.view_is c.self.invariant.0 c.requires (sym c.has_room.ensures ∙ c.if-not-has_room.false)
+          c.make_room.ensures.entries c.push_reserved.ensures.items c.make_room.ensures.notes c.in_ok-pinned.ensures.ok
+          (omega (arith, c.in_ok-make_room.ensures.room.0, c.push_reserved.ensures.capacity)) c.in_ok-make_room.ensures.room.1,
+      pin_room ledger c.args.self.now c.args.session i.core.core i.reserved _ _ _ c.make_room.new.entries.items c.push_reserved.new.self.items _
+          c.self.view_is c.self.invariant.0 c.requires (sym c.has_room.ensures ∙ c.if-not-has_room.false)
+          c.make_room.ensures.entries c.push_reserved.ensures.items c.in_ok-pinned.ensures.room,
+    )

@@ -12,6 +12,6 @@ returns-then-has_room-clause-comes c =
     let now : LedgerState = c.args.self.now in
     let ledger : LedgerState = record { base = i.base.value; limit = i.limit; entries = i.entries.items; notes = i.notes.items } in
     c.would_free.ensures.some
-    ∙ awaiting_told ledger i.core i.reserved _ _ _ c.self.invariant
+    ∙ awaiting_told ledger i.core.core i.reserved _ _ _ c.self.invariant.0
     ∙ ap (λ (l : LedgerState). list_any (is_awaiting l.base (history l)) (pages_below l.base.limit)) c.self.view_is
     ∙ ap (λ (b : Bool). b && list_any (is_awaiting now.base (history now)) (pages_below now.base.limit)) (sym c.if-has_room.true ∙ c.has_room.ensures)

@@ -1,0 +1,4 @@
+pub mod Lists
+pub mod Marking
+pub mod Seeing
+pub mod States
