@@ -23,7 +23,7 @@ use Rattle.store_ledger.specs.declared.note.NoteKind.TheVariants.{Fault, Tried}
 use Rattle.store_ledger.specs.Ledger.{LedgerState, has_note, history, is_kind, is_noted, is_under, note_now, with_fault}
 use Rattle.store_ledger.proofs.Pins.{one_more}
 use Rattle.store_versions.specs.declared.row.VersionRow.{VersionRow}
-use Rattle.store_versions.specs.Rows.{needed_rows}
+use Rattle.store_versions.specs.Rows.{needed_rows, places_at}
 use Rattle.store_versions.specs.Versions.{Directories}
 use Rattle.store_state.specs.Standings.{Standing, BeganAs, StoodFor, HaveStood, commit_places, given_of, made_at, with_entries, with_notes}
 use Rattle.store_state.specs.Kept.{IsKept}
@@ -102,9 +102,9 @@ module _ {D : Type 0} (moment : D → Moment) (s : Standing D) (k : Keeping) (x 
       (λ db began. cells_pin moment s k db (history s.ledger) (given_of s) (commit_places 0 s.ledger.entries) (x.cells db began) session free)
 
   pub at_unpin : (session : ℕ) → IsTrue (is_pinned session (history s.ledger)) →
-      IsAt moment (with_entries (Unpin session ∷ []) s) (record k { rows = needed_rows (core_at s.ledger.base (Unpin session ∷ history s.ledger)).pins k.rows })
+      IsAt moment (with_entries (Unpin session ∷ []) s) (record k { rows = needed_rows (places_at (Unpin session ∷ history s.ledger)) k.rows })
   at_unpin session pinned =
-      let rows : List VersionRow = needed_rows (core_at s.ledger.base (Unpin session ∷ history s.ledger)).pins k.rows in
+      let rows : List VersionRow = needed_rows (places_at (Unpin session ∷ history s.ledger)) k.rows in
       at_entry moment s (record k { rows = rows }) (Unpin session) refl
       (kept_unpin moment s k (history s.ledger) (given_of s) x.kept session pinned)
       (λ db began. cells_unpin moment s k db (history s.ledger) (given_of s) (commit_places 0 s.ledger.entries) (x.cells db began) session rows pinned)

@@ -14,7 +14,7 @@ use Rattle.store_ledger.specs.declared.note.Note.{Note}
 use Rattle.store_ledger.specs.declared.note.NoteKind.TheVariants.{Tried}
 use Rattle.store_ledger.specs.Ledger.{has_note}
 use Rattle.store_versions.specs.declared.row.VersionRow.{VersionRow}
-use Rattle.store_versions.specs.Rows.{needed_rows}
+use Rattle.store_versions.specs.Rows.{needed_rows, places_at}
 use Rattle.store_versions.specs.Versions.{Directories, versions_at}
 use Rattle.store_versions.proofs.Seen.{tables_follow_entries, forgetting_is_seen}
 use Rattle.store_state.specs.Standings.{Standing}
@@ -61,7 +61,7 @@ module _ {D : Type 0} (moment : D → Moment) (s : Standing D) (k : Keeping) (h 
 
   -- the table forgets what nobody can name any more
   pub kept_unpin : (session : ℕ) → IsTrue (is_pinned session h) →
-      IsKept moment s (record k { rows = needed_rows (core_at s.ledger.base (Unpin session ∷ h)).pins k.rows }) (Unpin session ∷ h) given
+      IsKept moment s (record k { rows = needed_rows (places_at (Unpin session ∷ h)) k.rows }) (Unpin session ∷ h) given
   kept_unpin session pinned = record {
     in_order = record { ordered = (x.in_order.ordered, pinned, tt); own = x.in_order.own; apart = x.in_order.apart };
     catalog = x.catalog;

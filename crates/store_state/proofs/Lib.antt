@@ -6,6 +6,7 @@ pub mod KeptOn
 pub mod Leaves
 pub mod Listings
 pub mod Lists
+pub mod Places
 pub mod ReadLaws
 pub mod Sights
 mod Worked

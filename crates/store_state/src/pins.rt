@@ -37,5 +37,5 @@ pub fn unpin<D: Disk>(parts: &mut StoreParts<D>, pinned: Pinned)
     ensures unpinned { standing D.moment parts.new ≡ with_entries (Unpin pinned.session ∷ []) (standing D.moment parts.old) }
 {
     parts.ledger.unpin(pinned);
-    parts.table.forget(&parts.ledger.core().pins);
+    parts.table.forget(parts.ledger.pins());
 }
