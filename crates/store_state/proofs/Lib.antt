@@ -9,3 +9,4 @@ pub mod Lists
 pub mod ReadLaws
 pub mod Sights
 mod Worked
+mod WorkedCells

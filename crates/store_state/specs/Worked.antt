@@ -1,5 +1,5 @@
 -- A store that was just opened: over the file of one array with two cells, on a disk that tells its bytes.
-use Rattle.std.specs.Prelude.{◌≡◌, ℕ, true, false, List, [], ◌∷◌, codes, None, Some}
+use Rattle.std.specs.Prelude.{◌≡◌, true, false, [], ◌∷◌, codes, None, Some}
 use Rattle.afl_outside.specs.Disk.{Moment}
 use Rattle.chunk_map.specs.declared.directory.Directory.{Directory}
 use Rattle.page_layout.specs.declared.sides.Side.TheVariants.{A}
@@ -40,10 +40,12 @@ abbrev pub worked_directory : Directory
 worked_directory = record { entries = record { at = record { items = 0 ∷ [] }; length = 66; birth = 2; pages = 4 ∷ [] } ∷ [] }
 
 abbrev pub worked_catalog : Catalog
-worked_catalog = record { arrays = record {
-  entry = record { name = codes "A"; schema = schema; next = 2; versions = 1 ∷ [] };
-  directories = record { length = 40; pages = 3 ∷ [] } ∷ [];
-} ∷ [] }
+worked_catalog = record {
+  arrays = record {
+    entry = record { name = codes "A"; schema = schema; next = 2; versions = 1 ∷ [] };
+    directories = record { length = 40; pages = 3 ∷ [] } ∷ [];
+  } ∷ [];
+}
 
 -- as many as 16 pages
 abbrev pub worked_base : Core

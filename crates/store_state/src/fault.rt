@@ -6,8 +6,6 @@ pub enum ReadFault {
     /// The disk failed.
     Disk,
     /// The payload that begins at this page isn't whole.
-    Damaged {
-        page: u32,
-    },
+    Damaged { page: u32 },
     Memory,
 }

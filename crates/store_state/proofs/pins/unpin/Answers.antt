@@ -1,4 +1,4 @@
-use Rattle.std.proofs.Common.{◌≡◌, ◌∙◌, [], ◌∷◌, ap}
+use Rattle.std.proofs.Common.{◌∙◌, [], ◌∷◌, ap}
 use Rattle.event_core.specs.declared.entry.Entry.TheVariants.{Unpin}
 use Rattle.event_core.specs.declared.state.Core.{Core}
 use Rattle.event_core.specs.History.{History}
@@ -22,9 +22,9 @@ returns-clause-at g c =
     let later = with_entries (Unpin session ∷ []) s.ledger in
     let rows = needed_rows (core_at s.ledger.base (Unpin session ∷ history s.ledger)).pins k.rows in
     let same = c.forget.ensures
-        ∙ ap (λ (core : Core). needed_rows core.pins k.rows) c.core.ensures.core
-        ∙ ap (λ (l : LedgerState). needed_rows (core_at l.base (history l)).pins k.rows) c.unpin.ensures
-        ∙ ap (λ (h : History). needed_rows (core_at s.ledger.base h).pins k.rows) (one_more s.ledger.entries (Unpin session)) in
+    ∙ ap (λ (core : Core). needed_rows core.pins k.rows) c.core.ensures.core
+    ∙ ap (λ (l : LedgerState). needed_rows (core_at l.base (history l)).pins k.rows) c.unpin.ensures
+    ∙ ap (λ (h : History). needed_rows (core_at s.ledger.base h).pins k.rows) (one_more s.ledger.entries (Unpin session)) in
     with_ledger moment s (record k { rows = c.forget.new.self.rows }) c.unpin.new.self later c.unpin.ensures
     (with_rows moment (more_entries (Unpin session ∷ []) s) k c.forget.new.self.rows rows same
     (at_unpin moment s k c.requires.at session (pinned_of session (history s.ledger) c.requires.open.before c.requires.open.begun)))
