@@ -42,12 +42,12 @@ remainder a v b h =
     omega arith
 
 -- the parts of a test
-record InGrid (l x : ℤ) (n : ℕ) (more : Bool) : Type 0 where
-  low : l ≤ℤ x
-  high : x <ℤ (l +ℤ pos n)
-  rest : more ≡ true
+pub record InGrid (l x : ℤ) (n : ℕ) (more : Bool) : Type 0 where
+  pub low : l ≤ℤ x
+  pub high : x <ℤ (l +ℤ pos n)
+  pub rest : more ≡ true
 
-in_grid : (l x : ℤ) (n : ℕ) (more : Bool) → (int_le l x && int_lt x (l +ℤ pos n) && more) ≡ true → InGrid l x n more
+pub in_grid : (l x : ℤ) (n : ℕ) (more : Bool) → (int_le l x && int_lt x (l +ℤ pos n) && more) ≡ true → InGrid l x n more
 in_grid l x n more e =
     let a = and_parts (int_le l x && int_lt x (l +ℤ pos n)) more e in
     let b = and_parts (int_le l x) (int_lt x (l +ℤ pos n)) a.0 in

@@ -272,7 +272,7 @@ made_all_bytes schema rows (k ∷ ks) =
     length-append (spell_entry (dir_entry schema rows k)) (flat_map spell_entry (map (dir_entry schema rows) ks))
     ∙ ap (λ (n : ℕ). length (spell_entry (dir_entry schema rows k)) + n) (made_all_bytes schema rows ks)
 
-directory_bytes : (schema : Schema) (rows : List Row) (entries : List DirEntry) → AreRowsOf schema rows → AreListed schema.dimensions (has_cell schema.dimensions rows) (numbers entries)
+pub directory_bytes : (schema : Schema) (rows : List Row) (entries : List DirEntry) → AreRowsOf schema rows → AreListed schema.dimensions (has_cell schema.dimensions rows) (numbers entries)
     → AllByRecursion (HasItsLength schema rows) entries → length (directory_spelling (record { entries = entries })) ≡ (directory_of schema rows).length
 unfolding directory_spelling
 directory_bytes schema rows entries are listed all =

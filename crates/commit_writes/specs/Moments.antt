@@ -12,7 +12,7 @@ use Rattle.page_slots.specs.declared.slots.RootSlot.TheVariants as roots
 use Rattle.page_slots.specs.declared.slots.NextEntry.TheVariants as entries
 use Rattle.commit_writes.specs.declared.placed.Placed.{Placed}
 use Rattle.commit_writes.specs.declared.stopped.Stopped.{Stopped}
-use Rattle.commit_writes.specs.declared.stopped.Stopped.TheVariants.{Closing, Filling, Opening}
+use Rattle.commit_writes.specs.declared.stopped.Stopped.TheVariants as stages
 use Rattle.commit_writes.specs.Commits.{HoldsAll, record_of, root_of, commit_pages, base_pages}
 
 -- an honest disk tells these bytes, and each of its images holds what is known of the slots
@@ -73,12 +73,15 @@ abbrev pub AddsRecord : Slots → Slots → List Placed → Placed → Moment �
 AddsRecord slots later blobs chain old new = Leaves slots later (with_record (record_of chain) (cleared slots))
     (IsOpened (slots.current.root.log ∷ commit_pages blobs chain) (HasRecord slots blobs chain) old.may_leave) old new
 
--- How a commit of a record stops: the entry wasn't closed for sure; or it is closed, and isn't opened; or it may be open.
+-- How the stage tells what a commit of a record left: the entry wasn't closed for sure; it is closed, and wasn't opened; it may be open.
 abbrev pub StopsRecord : Stopped → Slots → Slots → List Placed → Placed → Moment → Moment → Type 0
-StopsRecord Closing slots later blobs chain old new = Leaves slots later (doubted slots) (IsUntouched slots.current.root.log slots old.may_leave) old new
-StopsRecord Filling slots later blobs chain old new = Leaves slots later (record (cleared slots) { next = entries.Closed; doubtful = later.doubtful; zeroed = later.zeroed })
+StopsRecord stages.Closing slots later blobs chain old new =
+    Leaves slots later (doubted slots) (IsUntouched slots.current.root.log slots old.may_leave) old new
+StopsRecord stages.Filling slots later blobs chain old new =
+    Leaves slots later (record (cleared slots) { next = entries.Closed; doubtful = later.doubtful; zeroed = later.zeroed })
     (IsUnopened (slots.current.root.log ∷ commit_pages blobs chain) slots old.may_leave) old new
-StopsRecord Opening slots later blobs chain old new = Leaves slots later (record (cleared slots) { next = entries.Opening (record_of chain); doubtful = true; zeroed = later.zeroed })
+StopsRecord stages.Opening slots later blobs chain old new =
+    Leaves slots later (record (cleared slots) { next = entries.Opening (record_of chain); doubtful = true; zeroed = later.zeroed })
     (λ c. IsUnopened (slots.current.root.log ∷ commit_pages blobs chain) slots old.may_leave c
     ⊎ IsOpened (slots.current.root.log ∷ commit_pages blobs chain) (HasRecord slots blobs chain) old.may_leave c) old new
 
@@ -95,11 +98,14 @@ abbrev pub MakesBase : Slots → Slots → List Placed → Placed → ℕ → �
 MakesBase slots later blobs chain sequence log old new = Leaves slots later (with_root (root_of sequence chain log) slots)
     (IsOpened (0 ∷ base_pages blobs chain log) (HasBase slots blobs chain sequence log) old.may_leave) old new
 
--- How a commit of a new base stops: the root slot wasn't closed for sure; or it is closed, and isn't opened; or it may be open.
+-- How the stage tells what a commit of a new base left: the root slot wasn't closed for sure; it is closed, and wasn't opened; it may be open.
 abbrev pub StopsBase : Stopped → Slots → Slots → List Placed → Placed → ℕ → ℕ → Moment → Moment → Type 0
-StopsBase Closing slots later blobs chain sequence log old new = Leaves slots later (doubted slots) (IsUntouched 0 slots old.may_leave) old new
-StopsBase Filling slots later blobs chain sequence log old new = Leaves slots later (record (cleared slots) { other = roots.Closed; doubtful = later.doubtful; zeroed = later.zeroed })
+StopsBase stages.Closing slots later blobs chain sequence log old new =
+    Leaves slots later (doubted slots) (IsUntouched 0 slots old.may_leave) old new
+StopsBase stages.Filling slots later blobs chain sequence log old new =
+    Leaves slots later (record (cleared slots) { other = roots.Closed; doubtful = later.doubtful; zeroed = later.zeroed })
     (IsUnopened (0 ∷ base_pages blobs chain log) slots old.may_leave) old new
-StopsBase Opening slots later blobs chain sequence log old new = Leaves slots later (record (cleared slots) { other = roots.Opening (root_of sequence chain log); doubtful = true; zeroed = later.zeroed })
+StopsBase stages.Opening slots later blobs chain sequence log old new =
+    Leaves slots later (record (cleared slots) { other = roots.Opening (root_of sequence chain log); doubtful = true; zeroed = later.zeroed })
     (λ c. IsUnopened (0 ∷ base_pages blobs chain log) slots old.may_leave c
     ⊎ IsOpened (0 ∷ base_pages blobs chain log) (MayHaveBase slots blobs chain sequence log) old.may_leave c) old new

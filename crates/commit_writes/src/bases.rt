@@ -1,6 +1,6 @@
 //! The commit of a new base.
 
-ghost use Rattle.std.specs.Prelude.{◌≡◌, ◌<◌, ◌⊎◌, ◌∷◌, [], ◌++◌, ℕ, List, Some, false, true, IfErr, OnOk, MatchResult};
+ghost use Rattle.std.specs.Prelude.{◌≡◌, ◌<◌, ◌⊎◌, ◌∷◌, [], ◌++◌, ℕ, List, Some, false, true, OnOk, IfErr, MatchResult};
 ghost use Rattle.std.specs.List.{AllByRecursion};
 ghost use Rattle.afl_outside.specs.Disk.{DiskGoesOn, FailsWithCause};
 ghost use Rattle.page_layout.specs.Opens.{OpensAs};
@@ -15,8 +15,8 @@ ghost use Rattle.commit_writes.specs.Commits.{root_of, base_pages, commit_pages,
 ghost use Rattle.commit_writes.specs.Moments.{HasBase, IsKnown, LeavesOne, MakesBase, MayHaveBase, PassesBy, Rereads, StaysKnown, StopsBase};
 ghost use Rattle.commit_writes.specs.Inner.Going.{Goes};
 
-use crate::{Placed, Stopped};
 use crate::pages::{close, write_pages};
+use crate::{Placed, Stopped};
 use afl_outside::{Disk, Failed};
 use page_file::PageFile;
 
@@ -156,7 +156,8 @@ pub fn commit_base<D: Disk>(
     requires chain { IsChainSized chain.now }
     requires newer { file.old.slots.current.root.sequence < sequence }
     ensures done { OnOk result (MakesBase file.old.slots file.new.slots blobs.now chain.now sequence log (D.moment file.old.disk) (D.moment file.new.disk)) }
-    ensures failed { IfErr result (λ stage. StopsBase stage file.old.slots file.new.slots blobs.now chain.now sequence log (D.moment file.old.disk) (D.moment file.new.disk)) }
+    ensures failed { IfErr result (λ stage. StopsBase stage file.old.slots file.new.slots blobs.now chain.now sequence log
+        (D.moment file.old.disk) (D.moment file.new.disk)) }
     ensures known { StaysKnown file.old.slots file.new.slots (D.moment file.old.disk) (D.moment file.new.disk) }
     ensures during { PassesBy 0 (base_pages blobs.now chain.now log) file.old.slots
         (MayHaveBase file.old.slots blobs.now chain.now sequence log) (D.moment file.old.disk) (D.moment file.new.disk) }

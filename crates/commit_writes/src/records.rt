@@ -1,6 +1,6 @@
 //! The commit of a record.
 
-ghost use Rattle.std.specs.Prelude.{◌≡◌, ◌≢◌, ◌⊎◌, ◌∷◌, [], ◌++◌, ℕ, List, Some, false, true, IfErr, OnOk, MatchResult};
+ghost use Rattle.std.specs.Prelude.{◌≡◌, ◌≢◌, ◌⊎◌, ◌∷◌, [], ◌++◌, ℕ, List, Some, false, true, OnOk, IfErr, MatchResult};
 ghost use Rattle.std.specs.List.{AllByRecursion};
 ghost use Rattle.afl_outside.specs.Disk.{DiskGoesOn, FailsWithCause};
 ghost use Rattle.page_layout.specs.Opens.{OpensAs};
@@ -14,8 +14,8 @@ ghost use Rattle.commit_writes.specs.Commits.{record_of, commit_pages, IsBlobSiz
 ghost use Rattle.commit_writes.specs.Moments.{AddsRecord, HasRecord, IsKnown, LeavesOne, PassesBy, Rereads, StaysKnown, StopsRecord};
 ghost use Rattle.commit_writes.specs.Inner.Going.{Goes};
 
-use crate::{Placed, Stopped};
 use crate::pages::{close, write_pages};
+use crate::{Placed, Stopped};
 use afl_outside::{Disk, Failed};
 use page_file::PageFile;
 
@@ -103,7 +103,8 @@ pub fn commit_record<D: Disk>(
     requires sized { AllByRecursion IsBlobSized blobs.now }
     requires chain { IsChainSized chain.now }
     ensures done { OnOk result (AddsRecord file.old.slots file.new.slots blobs.now chain.now (D.moment file.old.disk) (D.moment file.new.disk)) }
-    ensures failed { IfErr result (λ stage. StopsRecord stage file.old.slots file.new.slots blobs.now chain.now (D.moment file.old.disk) (D.moment file.new.disk)) }
+    ensures failed { IfErr result (λ stage. StopsRecord stage file.old.slots file.new.slots blobs.now chain.now
+        (D.moment file.old.disk) (D.moment file.new.disk)) }
     ensures known { StaysKnown file.old.slots file.new.slots (D.moment file.old.disk) (D.moment file.new.disk) }
     ensures during { PassesBy file.old.slots.current.root.log (commit_pages blobs.now chain.now) file.old.slots
         (HasRecord file.old.slots blobs.now chain.now) (D.moment file.old.disk) (D.moment file.new.disk) }

@@ -1,12 +1,12 @@
-//! How far a commit that failed has come.
+//! Where a commit stopped.
 
-/// At which stage a commit stopped.
-#[derive(Debug, Clone, Copy, PartialEq, Eq)]
+/// The stage at which a commit failed.
+#[derive(Debug, Clone, Copy)]
 pub enum Stopped {
-    /// While the slot was closed: it may stand as it did.
+    /// The slot wasn't closed for sure, and nothing of the commit was written: what an earlier commit left open may still be open.
     Closing,
-    /// While the pages or the slot's body were written: the slot is closed.
+    /// The slot is closed, and wasn't opened since: the file opens as before.
     Filling,
-    /// While the slot was opened: it may stand open.
+    /// All is written, and the slot may stand open: the file opens as before or has what is new.
     Opening,
 }

@@ -39,20 +39,41 @@ fn push_risen(out: &mut String, before: &str, now: &str) -> Result<(), Memory> {
     Ok(())
 }
 
+/// Adds what an object that never fails answers to calls.
+fn push_sure(out: &mut String, object: &[&str], calls: &[&str]) -> Result<(), Memory> {
+    match object {
+        ["source", content] => push_sure_source(out, content, calls),
+        ["sink", content] => push_sure_sink(out, content, calls),
+        ["disk"] => push_sure_disk(out, calls),
+        _ => Ok(()),
+    }
+}
+
+/// Adds what an object that holds something, and fails at the listed calls, answers to calls.
+fn push_failing(
+    out: &mut String,
+    object: &str,
+    content: &str,
+    fails: List<u64>,
+    calls: &[&str],
+) -> Result<(), Memory> {
+    match object {
+        "source" => push_source(out, content, fails, calls),
+        "sink" => push_sink(out, content, fails, calls),
+        _ => push_disk(out, content, fails, calls),
+    }
+}
+
 /// Adds what an object answers to calls.
 fn push_answers(out: &mut String, object: &[&str], calls: &[&str]) -> Result<(), Memory> {
     let alloc = *out.allocator();
     match object {
-        ["source", content, fails @ ..] => {
-            push_source(out, content, numbers_in(alloc, fails)?, calls)
-        }
-        ["sink", content, fails @ ..] => push_sink(out, content, numbers_in(alloc, fails)?, calls),
-        ["disk", content, fails @ ..] => push_disk(out, content, numbers_in(alloc, fails)?, calls),
-        ["shelf", fails @ ..] => push_shelf(out, numbers_in(alloc, fails)?, calls),
-        ["sure", "source", content] => push_sure_source(out, content, calls),
-        ["sure", "sink", content] => push_sure_sink(out, content, calls),
-        ["sure", "disk"] => push_sure_disk(out, calls),
         ["count", before, now] => push_risen(out, before, now),
+        ["sure", object @ ..] => push_sure(out, object, calls),
+        ["shelf", fails @ ..] => push_shelf(out, numbers_in(alloc, fails)?, calls),
+        [object, content, fails @ ..] => {
+            push_failing(out, object, content, numbers_in(alloc, fails)?, calls)
+        }
         _ => Ok(()),
     }
 }

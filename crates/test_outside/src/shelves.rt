@@ -73,22 +73,49 @@ fn push_failed(out: &mut String) -> Result<(), Memory> {
     Ok(())
 }
 
+fn push_script(
+    out: &mut String,
+    shelf: &mut MemShelf,
+    name: &str,
+    counts: &[&str],
+) -> Result<(), Memory> {
+    match shelf.script(name) {
+        Ok(mut source) => push_reads(out, &mut source, counts),
+        Err(Failed) => push_failed(out),
+    }
+}
+
+fn push_reply(
+    out: &mut String,
+    shelf: &mut MemShelf,
+    name: &str,
+    pieces: &[&str],
+) -> Result<(), Memory> {
+    match shelf.reply(name) {
+        Ok(mut sink) => push_writes(out, &mut sink, pieces),
+        Err(Failed) => push_failed(out),
+    }
+}
+
+fn push_device(
+    out: &mut String,
+    shelf: &mut MemShelf,
+    name: &str,
+    calls: &[&str],
+) -> Result<(), Memory> {
+    match shelf.device(name) {
+        Ok(mut device) => push_answers(out, &mut device, calls),
+        Err(Failed) => push_failed(out),
+    }
+}
+
 /// Opens a file as its word says, and adds what it answers: reads of these lengths, pieces that are written, or calls of a
 /// disk.
 fn push_opened(out: &mut String, shelf: &mut MemShelf, words: &[&str]) -> Result<(), Memory> {
     match words {
-        ["script", name, counts @ ..] => match shelf.script(name) {
-            Ok(mut source) => push_reads(out, &mut source, counts),
-            Err(Failed) => push_failed(out),
-        },
-        ["reply", name, pieces @ ..] => match shelf.reply(name) {
-            Ok(mut sink) => push_writes(out, &mut sink, pieces),
-            Err(Failed) => push_failed(out),
-        },
-        ["device", name, calls @ ..] => match shelf.device(name) {
-            Ok(mut device) => push_answers(out, &mut device, calls),
-            Err(Failed) => push_failed(out),
-        },
+        ["script", name, counts @ ..] => push_script(out, shelf, name, counts),
+        ["reply", name, pieces @ ..] => push_reply(out, shelf, name, pieces),
+        ["device", name, calls @ ..] => push_device(out, shelf, name, calls),
         _ => Ok(()),
     }
 }

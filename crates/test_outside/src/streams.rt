@@ -73,6 +73,13 @@ pub(crate) fn push_held(out: &mut String, bytes: &[u8]) -> Result<(), Memory> {
     Ok(())
 }
 
+/// Adds a line that tells the bytes that a sink holds.
+fn push_held_line(out: &mut String, bytes: &[u8]) -> Result<(), Memory> {
+    push_held(out, bytes)?;
+    out.push('\n')?;
+    Ok(())
+}
+
 /// Adds what a source in memory answers to calls.
 pub(crate) fn push_source(
     out: &mut String,
@@ -94,6 +101,11 @@ pub(crate) fn push_sure_source(
     push_reads(out, &mut SureSource::new(content), calls)
 }
 
+fn push_sink_calls(out: &mut String, sink: &mut MemSink, calls: &[&str]) -> Result<(), Memory> {
+    push_writes(out, sink, calls)?;
+    push_held_line(out, sink.bytes())
+}
+
 /// Adds what a sink in memory answers to calls, and what it holds.
 pub(crate) fn push_sink(
     out: &mut String,
@@ -102,11 +114,12 @@ pub(crate) fn push_sink(
     calls: &[&str],
 ) -> Result<(), Memory> {
     let content = Bytes::from_slice(*out.allocator(), content.as_bytes())?;
-    let mut sink = MemSink::new(content, fails);
-    push_writes(out, &mut sink, calls)?;
-    push_held(out, sink.bytes())?;
-    out.push('\n')?;
-    Ok(())
+    push_sink_calls(out, &mut MemSink::new(content, fails), calls)
+}
+
+fn push_sure_calls(out: &mut String, sink: &mut SureSink, calls: &[&str]) -> Result<(), Memory> {
+    push_writes(out, sink, calls)?;
+    push_held_line(out, sink.bytes())
 }
 
 /// Adds what a sink that never fails answers to calls, and what it holds.
@@ -116,9 +129,5 @@ pub(crate) fn push_sure_sink(
     calls: &[&str],
 ) -> Result<(), Memory> {
     let content = Bytes::from_slice(*out.allocator(), content.as_bytes())?;
-    let mut sink = SureSink::new(content);
-    push_writes(out, &mut sink, calls)?;
-    push_held(out, sink.bytes())?;
-    out.push('\n')?;
-    Ok(())
+    push_sure_calls(out, &mut SureSink::new(content), calls)
 }

@@ -1,0 +1,16 @@
+pub mod Blobs
+pub mod Chains
+pub mod Costs
+pub mod Directories
+pub mod Drafts
+pub mod Fresh
+pub mod Held
+pub mod Kept
+pub mod Lengths
+pub mod Loops
+pub mod Needs
+pub mod Parts
+pub mod Results
+pub mod Rules
+pub mod Same
+pub mod Worked

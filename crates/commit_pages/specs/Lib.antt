@@ -1,0 +1,5 @@
+pub mod Changes
+pub mod Commits
+pub mod Inner
+pub mod Laws
+pub mod Versions
