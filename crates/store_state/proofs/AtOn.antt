@@ -1,6 +1,6 @@
 -- The parts of a store go on over pins, unpins, reaps, notes and reads.
 use Rattle.std.proofs.Common.{◌≡◌, ◌∙◌, ℕ, ◌+◌, ◌-◌, ◌^◌, ◌<◌, ◌≤◌, ◌⊎◌, inl, inr, ⊎_elim, min, Bool, true, false, not, ◌||◌, if◌then◌else◌, List, [], ◌∷◌, ◌++◌, length, reverse, IsTrue, refl, ap, sym, subst, arith, length-append}
-use Rattle.std.specs.List.{filter, list_any, list_all}
+use Rattle.std.specs.List.{filter, list_all}
 use Rattle.std.proofs.Math.Nat.{min-eq_left, min-eq_right}
 use Rattle.std.proofs.lemmas.Bool.{cases_lt}
 use Rattle.std.proofs.lemmas.List.Elements.{filter-append}
@@ -10,11 +10,10 @@ use Rattle.afl_outside.specs.Disk.{LeavesOnly, Moment}
 use Rattle.page_chain.specs.Inner.Runs.{OnlyReads}
 use Rattle.page_slots.specs.Standing.{IsSound as AreSound}
 use Rattle.plan_changes.specs.Databases.{Database}
-use Rattle.commit_writes.specs.Moments.{IsKnown}
 use Rattle.event_core.specs.declared.entry.Entry.{Entry}
 use Rattle.event_core.specs.declared.entry.Entry.TheVariants.{Pin, Unpin, Commit, Reap}
 use Rattle.event_core.specs.Allowed.{is_pinned}
-use Rattle.event_core.specs.History.{History, OpenPin, open_pins}
+use Rattle.event_core.specs.History.{History, open_pins}
 use Rattle.event_core.specs.Legal.{has_committed}
 use Rattle.event_core.specs.Replay.{core_at}
 use Rattle.event_laws.specs.Cores.{is_no_commit}
@@ -27,7 +26,7 @@ use Rattle.store_versions.specs.Rows.{needed_rows, places_at}
 use Rattle.store_versions.specs.Versions.{Directories}
 use Rattle.store_state.specs.Standings.{Standing, BeganAs, StoodFor, HaveStood, commit_places, given_of, made_at, with_entries, with_notes}
 use Rattle.store_state.specs.Kept.{IsKept}
-use Rattle.store_state.specs.Cells.{IsFound, IsImage, HoldsCells}
+use Rattle.store_state.specs.Cells.{HoldsCells}
 use Rattle.store_state.specs.At.{IsAt}
 use Rattle.store_state.specs.Inner.Keeping.{Keeping, is_tried, AreCounted}
 use Rattle.store_state.proofs.Lists.{all_more, zip_map}

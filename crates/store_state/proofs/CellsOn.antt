@@ -1,22 +1,17 @@
 -- What a store keeps on an honest disk that began as a database goes on over pins, unpins and reaps.
-use Rattle.std.proofs.Common.{◌≡◌, ℕ, ◌+◌, ◌≤◌, not, nat_eq, List, [], ◌∷◌, ◌++◌, length, Option, IsTrue, refl, ap, arith}
-use Rattle.std.specs.List.{AllByRecursion}
+use Rattle.std.proofs.Common.{ℕ, ◌+◌, not, nat_eq, List, ◌∷◌, IsTrue, refl, ap, arith}
 use Rattle.afl_outside.specs.Disk.{Moment}
-use Rattle.page_slots.specs.declared.slots.Slots.{Slots}
-use Rattle.plan_changes.specs.declared.change.Change.{Change}
 use Rattle.plan_changes.specs.Databases.{Database}
 use Rattle.plan_changes.specs.Stored.{IsDatabase}
-use Rattle.file_meaning.specs.declared.found.Found.{Found}
 use Rattle.event_core.specs.declared.entry.Entry.{Entry}
 use Rattle.event_core.specs.declared.entry.Entry.TheVariants.{Pin, Unpin, Reap}
-use Rattle.event_core.specs.declared.state.Core.{Core}
 use Rattle.event_core.specs.Allowed.{is_pinned}
 use Rattle.event_core.specs.Cells.{at}
 use Rattle.event_core.specs.History.{History, OpenPin, open_pins}
 use Rattle.store_versions.specs.declared.row.VersionRow.{VersionRow}
 use Rattle.store_versions.specs.Versions.{Directories, versions_at}
 use Rattle.store_state.specs.Standings.{Standing, StoodFor, HaveStood}
-use Rattle.store_state.specs.Cells.{IsFound, IsImage, HoldsCells}
+use Rattle.store_state.specs.Cells.{IsImage, HoldsCells}
 use Rattle.store_state.specs.Inner.Keeping.{Keeping, LieIn}
 use Rattle.store_state.proofs.Lists.{all_push, all_filter, zip_map}
 

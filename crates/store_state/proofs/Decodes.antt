@@ -1,5 +1,5 @@
 -- What reading and decoding a payload answers.
-use Rattle.std.proofs.Common.{◌≡◌, ◌∙◌, ℕ, List, length, slice_index, Option, None, Some, IfSome, Result, Ok, Err, refl, ap, sym, subst}
+use Rattle.std.proofs.Common.{◌≡◌, ◌∙◌, ℕ, List, length, Option, None, Some, IfSome, Result, Ok, Err, refl, ap, sym}
 use Rattle.cell_values.specs.declared.schema.Schema.{Schema}
 use Rattle.array_geom.specs.declared.chunk.Chunk.{Chunk}
 use Rattle.file_items.specs.Items.{wrong_at}

@@ -1,10 +1,9 @@
 -- What a store keeps on every disk goes on over pins, unpins and reaps.
-use Rattle.std.proofs.Common.{◌≡◌, ◌∙◌, ℕ, Bool, true, false, not, ◌&&◌, ◌||◌, nat_eq, List, [], ◌∷◌, ◌++◌, length, IsTrue, refl, ap, sym}
-use Rattle.std.specs.List.{AllByRecursion, list_all}
+use Rattle.std.proofs.Common.{◌≡◌, ℕ, Bool, true, false, not, ◌&&◌, ◌||◌, nat_eq, List, ◌∷◌, IsTrue, refl}
+use Rattle.std.specs.List.{list_all}
 use Rattle.std.proofs.lemmas.Bool.{eq-eqb}
 use Rattle.afl_outside.specs.Disk.{Moment}
 use Rattle.event_core.specs.declared.entry.Entry.TheVariants.{Pin, Unpin, Reap}
-use Rattle.event_core.specs.declared.state.Core.{Core}
 use Rattle.event_core.specs.Allowed.{is_pinned}
 use Rattle.event_core.specs.History.{History, OpenPin, names_at, open_pins}
 use Rattle.event_core.specs.Legal.{has_committed}
@@ -13,12 +12,11 @@ use Rattle.event_core.proofs.Tests.{both_not}
 use Rattle.store_ledger.specs.declared.note.Note.{Note}
 use Rattle.store_ledger.specs.declared.note.NoteKind.TheVariants.{Tried}
 use Rattle.store_ledger.specs.Ledger.{has_note}
-use Rattle.store_versions.specs.declared.row.VersionRow.{VersionRow}
 use Rattle.store_versions.specs.Rows.{needed_rows, places_at}
 use Rattle.store_versions.specs.Versions.{Directories, versions_at}
 use Rattle.store_versions.proofs.Seen.{tables_follow_entries, forgetting_is_seen}
 use Rattle.store_state.specs.Standings.{Standing}
-use Rattle.store_state.specs.Kept.{IsKept, AreVersions}
+use Rattle.store_state.specs.Kept.{IsKept}
 use Rattle.store_state.specs.Inner.Keeping.{Keeping, AreDirectoriesOf, is_tried}
 use Rattle.store_state.proofs.Lists.{all_push, all_filter, all_more, passes_filter, passes_push}
 

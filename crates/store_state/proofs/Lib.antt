@@ -10,3 +10,4 @@ pub mod Places
 pub mod ReadLaws
 pub mod Sights
 mod Worked
+mod WorkedCells

@@ -1,6 +1,5 @@
 -- What a listing tells.
-use Rattle.std.proofs.Common.{◌≡◌, ◌∙◌, ℕ, List, length, reverse, Option, Some, IfSome, IfOk, Result, Ok, Err, refl, ap, sym, subst}
-use Rattle.std.proofs.lemmas.List.{length-reverse}
+use Rattle.std.proofs.Common.{◌≡◌, ◌∙◌, ℕ, List, Option, Some, IfSome, IfOk, Result, Ok, Err, refl, ap, sym, subst}
 use Rattle.afl_outside.specs.Disk.{Moment}
 use Rattle.arrayvec.specs.ArrayVec.{ArrayVec}
 use Rattle.array_geom.specs.Link.{NumbersRise}

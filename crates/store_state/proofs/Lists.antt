@@ -1,5 +1,5 @@
 -- What holds of each item of lists.
-use Rattle.std.proofs.Common.{◌≡◌, ◌∙◌, Bool, true, false, not, ◌&&◌, if◌then◌else◌, List, [], ◌∷◌, ◌++◌, refl, ap}
+use Rattle.std.proofs.Common.{◌≡◌, Bool, true, false, if◌then◌else◌, List, [], ◌∷◌, ◌++◌, refl}
 use Rattle.std.specs.List.{AllByRecursion, AllZip, filter, list_all}
 use Rattle.std.proofs.lemmas.Bool.{and_from, and_parts}
 

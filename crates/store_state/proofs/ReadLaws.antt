@@ -1,21 +1,21 @@
 -- The payload of a leaf's chunk, and what reading it tells.
-use Rattle.std.proofs.Common.{◌≡◌, ◌∙◌, ℕ, zero, suc, ◌+◌, ◌/◌, ◌<◌, ◌≤◌, ◌⊎◌, ⊎_elim, Bool, true, false, List, [], ◌∷◌, length, map, Option, None, Some, IfSome, IfOk, IsTrue, Result, Ok, Err, refl, ap, sym, subst, arith}
-use Rattle.std.specs.List.{AllByRecursion, find, list_any}
+use Rattle.std.proofs.Common.{◌≡◌, ◌∙◌, ℕ, zero, suc, ◌+◌, ◌/◌, ◌<◌, ◌≤◌, ◌⊎◌, ⊎_elim, Bool, true, List, length, Option, None, Some, IfSome, IfOk, IsTrue, Result, Ok, Err, refl, ap, sym, subst, arith}
+use Rattle.std.specs.List.{AllByRecursion, find}
 use Rattle.std.specs.Ordering.{is_eq}
 use Rattle.arrayvec.specs.ArrayVec.{ArrayVec}
 use Rattle.cell_values.specs.Schemas.{IsValid}
 use Rattle.cell_values.specs.declared.datum.Row.{Row}
 use Rattle.cell_values.specs.declared.schema.Schema.{Schema}
 use Rattle.array_geom.specs.declared.chunk.Chunk.{Chunk}
-use Rattle.array_geom.specs.Geometry.{ChunkNumber, has_core, overlaps}
+use Rattle.array_geom.specs.Geometry.{has_core, overlaps}
 use Rattle.array_geom.specs.Link.{number_order, is_listed, IsPart}
 use Rattle.array_geom.proofs.NearLemmas.{stored_frame}
 use Rattle.array_geom.proofs.NumberLaws.{is_equal, same_number}
-use Rattle.file_items.specs.Pages.{LieIn as Lie, pages_needed}
+use Rattle.file_items.specs.Pages.{pages_needed}
 use Rattle.page_chain.specs.Pages.{page_size, pages_for, first_past}
 use Rattle.chunk_map.specs.declared.directory.DirEntry.{DirEntry}
 use Rattle.chunk_map.specs.declared.directory.Directory.{Directory}
-use Rattle.chunk_map.specs.Entries.{numbers, entry_at}
+use Rattle.chunk_map.specs.Entries.{numbers}
 use Rattle.chunk_map.specs.Spelling.{IsEntry}
 use Rattle.chunk_rle.specs.Stored.{IsStored as IsSpelled}
 use Rattle.chunk_source.specs.Source.{is_among, numbers_of, version_chunks, IsChunkIn, IsStored}

@@ -1,11 +1,11 @@
 -- What the present and each open pin see of a store.
-use Rattle.std.proofs.Common.{◌≡◌, ◌∙◌, ℕ, Bool, true, false, ◌&&◌, ◌||◌, if◌then◌else◌, nat_eq, List, [], ◌∷◌, ◌++◌, length, map, Option, None, Some, IfSome, IsTrue, refl, ap, sym, subst}
-use Rattle.std.specs.List.{AllByRecursion, filter, find, list_any}
+use Rattle.std.proofs.Common.{◌≡◌, ◌∙◌, ℕ, Bool, true, false, if◌then◌else◌, nat_eq, [], ◌∷◌, length, Option, None, Some, IsTrue, ap, sym, subst}
+use Rattle.std.specs.List.{AllByRecursion, filter}
 use Rattle.std.proofs.lemmas.List.{length-reverse}
 use Rattle.afl_outside.specs.Disk.{Moment}
 use Rattle.logical_plan.specs.declared.names.Names.{Names}
 use Rattle.logical_plan.specs.declared.parts.Leaf.{Leaf}
-use Rattle.plan_changes.specs.Databases.{Database, names_of}
+use Rattle.plan_changes.specs.Databases.{Database}
 use Rattle.plan_changes.specs.Stored.{IsDatabase}
 use Rattle.plan_changes.proofs.NamesOf.{names_depend_on_no_row}
 use Rattle.commit_costs.specs.Costs.{cost_from}
@@ -22,11 +22,10 @@ use Rattle.event_laws.proofs.Pins.{all_entries_are_the_history, open_pins_are_th
 use Rattle.store_ledger.specs.declared.pinned.Pinned.{Pinned}
 use Rattle.store_ledger.specs.Ledger.{IsOpenPin, history}
 use Rattle.store_versions.specs.Seen.{seen}
-use Rattle.store_versions.specs.Versions.{Directories, HaveDirectories, MadeVersion, versions_at}
 use Rattle.store_versions.proofs.Made.{named_versions_have_directories}
 use Rattle.store_versions.proofs.Seen.{pins_see_their_versions}
 use Rattle.store_state.specs.Standings.{Standing, BeganAs, base_of, commit_places, given_of, versions_after}
-use Rattle.store_state.specs.Cells.{HoldsCells, IsImage}
+use Rattle.store_state.specs.Cells.{HoldsCells}
 use Rattle.store_state.specs.At.{IsAt}
 use Rattle.store_state.specs.Inner.Keeping.{Keeping, AreDirectoriesOf, LieIn}
 use Rattle.store_state.specs.Calls.{history_at, IsLeafOf}

@@ -1,22 +1,18 @@
 -- The worked store is one.
-use Rattle.std.proofs.Common.{◌≡◌, ◌∙◌, ℕ, ◌<◌, ◌≤◌, ◌^◌, Bool, true, false, ◌&&◌, ◌||◌, inl, nat_eq, List, [], ◌∷◌, length, refl, ap, sym, arith}
+use Rattle.std.proofs.Common.{◌≡◌, ℕ, Bool, true, false, ◌&&◌, ◌||◌, inl, nat_eq, [], refl, ap, arith}
 use Rattle.std.specs.Prelude.{codes}
 use Rattle.std.specs.Str.{bytes_eq}
 use Rattle.std.proofs.lemmas.Bool.Decides.{nat_tests}
-use Rattle.plan_changes.specs.Stored.{AreStored, IsDatabase}
+use Rattle.plan_changes.specs.Stored.{AreStored}
 use Rattle.version_catalog.specs.Catalogs.{IsCatalog}
-use Rattle.version_reaper.specs.PageSets.{holds}
-use Rattle.file_laws.specs.Inner.Example.{database, schema}
+use Rattle.file_laws.specs.Inner.Example.{schema}
 use Rattle.file_laws.proofs.Worked.{file_stands}
 use Rattle.event_core.specs.Agree.{HavePages}
 use Rattle.event_core.specs.Allowed.{IsBase}
 use Rattle.event_core.specs.Apart.{AreApart}
-use Rattle.event_core.specs.Legal.{IsOrdered}
-use Rattle.event_core.specs.Pages.{has_page}
-use Rattle.store_versions.specs.Seen.{AreSeen}
 use Rattle.store_versions.specs.Versions.{HaveDirectories}
 use Rattle.store_state.specs.Standings.{given_of}
-use Rattle.store_state.specs.Kept.{IsKept, IsInOrder, AreVersions, AreSlots}
+use Rattle.store_state.specs.Kept.{IsKept, IsInOrder, AreVersions}
 use Rattle.store_state.specs.Inner.Keeping.{IsDirectoryOf}
 use Rattle.store_state.specs.Worked.{worked_moment, worked_base, worked_store, worked_keeping, worked_directory}
 
@@ -24,13 +20,13 @@ or_nothing : (b : Bool) → (b || false) ≡ b
 or_nothing true = refl
 or_nothing false = refl
 
-base_is : IsBase worked_base
+pub base_is : IsBase worked_base
 base_is = record { pins = refl; entries = refl; free = refl }
 
 names_are : AreStored worked_base.names
 names_are = file_stands.database.names
 
-pages_are : HavePages worked_base.names worked_base.pages
+pub pages_are : HavePages worked_base.names worked_base.pages
 pages_are name version = ap (λ (b : Bool). (bytes_eq (codes "A") name && b) || false) (or_nothing (nat_eq 1 version))
 
 directories_are : HaveDirectories worked_base.names worked_store.first

@@ -1,5 +1,5 @@
 -- The parts of a store, and what holds of them whenever a call begins or ends.
-use Rattle.std.specs.Prelude.{ℕ, map}
+use Rattle.std.specs.Prelude.{map}
 use Rattle.afl_outside.specs.Disk.{Moment}
 use Rattle.plan_changes.specs.Databases.{Database}
 use Rattle.store_ledger.specs.Ledger.{history}
@@ -14,7 +14,8 @@ use Rattle.store_state.specs.Inner.Keeping.{Keeping}
 -- 'AT', ON WHICHEVER DISK
 pub record IsAt {D : Type 0} (moment : D → Moment) (s : Standing D) (k : Keeping) : Type 0 where
   pub kept : IsKept moment s k (history s.ledger) (given_of s)
-  pub cells : (db : Database) → BeganAs (moment s.opened.disk).state db → HoldsCells moment s k db (history s.ledger) (given_of s) (commit_places 0 s.ledger.entries)
+  pub cells : (db : Database) → BeganAs (moment s.opened.disk).state db →
+      HoldsCells moment s k db (history s.ledger) (given_of s) (commit_places 0 s.ledger.entries)
 
 -- the parts of a store, as contracts see it, and what it keeps besides
 abbrev pub standing : {D : Type 0} → (D → Moment) → StoreParts D → Standing D

@@ -31,7 +31,8 @@ pub record IsFound (base : Core) (given : Directories) (h : History) (kept : Cat
 
 -- an image has this from the current root on, and in it the database's versions, and what each open pin sees. It stands for the database, or
 -- for the one in doubt
-pub record IsImage (base : Core) (given : Directories) (db : Database) (h : History) (slots : Slots) (doubt : Option Change) (found : Found) (image : List ℕ) : Type 0 where
+pub record IsImage (base : Core) (given : Directories) (db : Database) (h : History) (slots : Slots) (doubt : Option Change) (found : Found)
+    (image : List ℕ) : Type 0 where
   pub opens : found_in image (current_slots slots) ≡ Ok found
   pub holds : HoldsDatabase image (at db h) found
   pub now : LieIn image (at db h) (versions_at base given h)
@@ -39,7 +40,8 @@ pub record IsImage (base : Core) (given : Directories) (db : Database) (h : Hist
   pub stands : StandsFor (at db h) doubt image
 
 -- 'AT', ON AN HONEST DISK THAT BEGAN AS THIS DATABASE: over a history whose commits have these places
-pub record HoldsCells {D : Type 0} (moment : D → Moment) (s : Standing D) (k : Keeping) (db : Database) (h : History) (given : Directories) (places : List ℕ) : Type 0 where
+pub record HoldsCells {D : Type 0} (moment : D → Moment) (s : Standing D) (k : Keeping) (db : Database) (h : History) (given : Directories)
+    (places : List ℕ) : Type 0 where
   pub legal : IsLegal (cost_from (base_of s).records) db s.ledger.base h
   pub database : IsDatabase (at db h)
   pub pinned : AllByRecursion (λ pin. IsDatabase (at db pin.before)) (open_pins h)

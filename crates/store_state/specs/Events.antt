@@ -3,7 +3,6 @@
 use Rattle.std.specs.Prelude.{ℕ, List, [], ◌∷◌, Option}
 use Rattle.array_rows.specs.Boxes.{by_pairs}
 use Rattle.chunk_map.specs.declared.directory.Directory.{Directory}
-use Rattle.event_core.specs.declared.entry.Entry.{Entry}
 use Rattle.event_core.specs.declared.entry.Entry.TheVariants.{Pin, Unpin, Commit, Reap}
 use Rattle.store_ledger.specs.Ledger.{Event as LedgerEvent, entered, noted, events as ledger_events, owner_of as ledger_owner}
 use Rattle.store_state.specs.declared.event.Event.{Event}
@@ -21,7 +20,8 @@ sealed [] seals = []
 sealed (entered (Pin session) ∷ events) seals = Entered (Pin session) ∷ sealed events seals
 sealed (entered (Unpin session) ∷ events) seals = Entered (Unpin session) ∷ sealed events seals
 sealed (entered (Commit session change used) ∷ events) [] = Entered (Commit session change used) ∷ sealed events []
-sealed (entered (Commit session change used) ∷ events) (seal ∷ seals) = Acknowledged (Commit session change used) seal.moment seal.directory ∷ sealed events seals
+sealed (entered (Commit session change used) ∷ events) (seal ∷ seals) =
+    Acknowledged (Commit session change used) seal.moment seal.directory ∷ sealed events seals
 sealed (entered Reap ∷ events) seals = Entered Reap ∷ sealed events seals
 sealed (noted note ∷ events) seals = Noted note ∷ sealed events seals
 

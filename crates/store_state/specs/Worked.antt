@@ -1,5 +1,5 @@
 -- A store that was just opened: over the file of one array with two cells, on a disk that tells its bytes.
-use Rattle.std.specs.Prelude.{◌≡◌, ℕ, true, false, List, [], ◌∷◌, codes, None, Some}
+use Rattle.std.specs.Prelude.{◌≡◌, true, false, [], ◌∷◌, codes, None, Some}
 use Rattle.afl_outside.specs.Disk.{Moment}
 use Rattle.chunk_map.specs.declared.directory.Directory.{Directory}
 use Rattle.page_layout.specs.declared.sides.Side.TheVariants.{A}

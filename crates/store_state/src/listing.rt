@@ -41,7 +41,8 @@ fn numbers_at(
     leaf: &Leaf,
     place: u64,
 ) -> Result<List<ChunkAt>, Memory>
-    ensures { IfOk result (λ numbers. numbers ≡ version_chunks (λ name version. numbers_in (directory_of name version (seen place table.now.rows))) leaf.now.name leaf.now.version) }
+    ensures { IfOk result (λ numbers. numbers ≡
+        version_chunks (λ name version. numbers_in (directory_of name version (seen place table.now.rows))) leaf.now.name leaf.now.version) }
 {
     if leaf.version == 0 {
         return Ok(List::new(alloc));

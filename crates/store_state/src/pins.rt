@@ -18,7 +18,11 @@ pub fn pin<D: Disk>(parts: &mut StoreParts<D>, session: u32) -> Result<Pinned, P
     ensures at { AreParts D.moment parts.new }
     ensures ok { OnOk result (standing D.moment parts.new ≡ with_entries (Pin session ∷ []) (standing D.moment parts.old)) }
     ensures room { OnOk result (IsTrue (has_room parts.old.ledger 4)) }
-    ensures pinned { IfOk result (λ pinned. pinned ≡ record { session = session; place = length parts.old.ledger.entries; names = names_at parts.old.ledger.base (history parts.old.ledger) }) }
+    ensures pinned { IfOk result (λ pinned. pinned ≡ record {
+      session = session;
+      place = length parts.old.ledger.entries;
+      names = names_at parts.old.ledger.base (history parts.old.ledger);
+    }) }
     ensures open { IfOk result (λ pinned. IsOpenPin parts.new.ledger pinned) }
     ensures err { OnErr result (standing D.moment parts.new ≡ standing D.moment parts.old) }
     ensures cause { IfErr result (IsRefused parts.old.ledger) }

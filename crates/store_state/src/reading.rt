@@ -77,7 +77,8 @@ pub(crate) fn read_entry<D: Disk>(
     ensures fault { IsErrOf result ReadFault.Disk → Rose (D.moment file.old.disk).state.faults (D.moment file.new.disk).state.faults }
     ensures slots { file.new.slots ≡ file.old.slots }
     ensures reads { OnlyReads (D.moment file.old.disk) (D.moment file.new.disk) }
-    ensures sound { (seen : List ℕ) → IsSound file.old.slots seen (D.moment file.old.disk).may_leave → IsSound file.new.slots seen (D.moment file.new.disk).may_leave }
+    ensures sound { (seen : List ℕ) → IsSound file.old.slots seen (D.moment file.old.disk).may_leave
+        → IsSound file.new.slots seen (D.moment file.new.disk).may_leave }
 {
     match file.read_blob(alloc, entry.pages.as_slice(), entry.length) {
         Ok(bytes) => decoded(alloc, schema, entry, &bytes),

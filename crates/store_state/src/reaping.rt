@@ -14,7 +14,8 @@ pub fn reap<D: Disk>(parts: &mut StoreParts<D>) -> Result<bool, Memory>
     requires { AreParts D.moment parts.old }
     ensures at { AreParts D.moment parts.new }
     ensures comes { IfOk result (λ comes. comes ≡ reap_comes parts.old.ledger) }
-    ensures ok { IfOk result (λ comes. standing D.moment parts.new ≡ (if comes then with_entries (Reap ∷ []) (standing D.moment parts.old) else standing D.moment parts.old)) }
+    ensures ok { IfOk result (λ comes. standing D.moment parts.new ≡
+        (if comes then with_entries (Reap ∷ []) (standing D.moment parts.old) else standing D.moment parts.old)) }
     ensures err { OnErr result (standing D.moment parts.new ≡ standing D.moment parts.old) }
 {
     match parts.ledger.reap() {

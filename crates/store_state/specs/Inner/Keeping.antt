@@ -1,6 +1,7 @@
 -- What a store keeps besides what contracts see of it, and words for it.
-use Rattle.std.specs.Prelude.{◌≡◌, ℕ, ◌+◌, ◌-◌, ◌^◌, ◌≤◌, ◌⊎◌, Bool, true, false, not, ◌||◌, nat_eq, if◌then◌else◌, List, [], ◌∷◌, ◌++◌, length, map, Option, Some, None, IfSome, IsTrue}
-use Rattle.std.specs.List.{AllByRecursion, filter, flat_map, list_all}
+use Rattle.std.specs.Prelude.{◌≡◌, ℕ, ◌+◌, ◌-◌, ◌^◌, ◌≤◌, ◌⊎◌, Bool, true, false, not, ◌||◌, nat_eq, if◌then◌else◌}
+use Rattle.std.specs.Prelude.{List, [], ◌∷◌, ◌++◌, length, map, IfSome, IsTrue}
+use Rattle.std.specs.List.{AllByRecursion, filter, flat_map}
 use Rattle.cell_values.specs.declared.datum.Row.{Row}
 use Rattle.cell_values.specs.declared.schema.Schema.{Schema}
 use Rattle.array_geom.specs.Geometry.{has_core}
@@ -14,14 +15,12 @@ use Rattle.page_slots.specs.declared.slots.NextEntry.TheVariants as entries
 use Rattle.version_catalog.specs.declared.rules.catalog.Catalog.{Catalog}
 use Rattle.version_reaper.specs.PageSets.{holds}
 use Rattle.logical_plan.specs.declared.names.Names.{Names}
-use Rattle.logical_plan.specs.declared.names.NameEntry.{NameEntry}
 use Rattle.plan_changes.specs.Changes.{entry_named}
 use Rattle.plan_changes.specs.Databases.{Database, names_of, rows_of}
 use Rattle.file_meaning.specs.Opening.{all_of, are_pages}
 use Rattle.file_meaning.specs.Standing.{HoldsVersion}
-use Rattle.file_meaning.specs.declared.found.Found.{Found}
 use Rattle.event_core.specs.declared.state.VersionPages.{VersionPages}
-use Rattle.event_core.specs.History.{History, OpenPin, open_pins}
+use Rattle.event_core.specs.History.{History, OpenPin}
 use Rattle.event_core.specs.Legal.{has_committed}
 use Rattle.store_ledger.specs.declared.note.Note.{Note}
 use Rattle.store_ledger.specs.declared.note.NoteKind.TheVariants.{Fault, Tried}

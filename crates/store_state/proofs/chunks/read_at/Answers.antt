@@ -1,4 +1,4 @@
-use Rattle.std.proofs.Common.{rules, ◌≡◌, ◌∙◌, None, Some, ap, sym}
+use Rattle.std.proofs.Common.{rules, ◌≡◌, None, Some}
 use Rattle.store_versions.specs.Seen.{seen}
 use Rattle.store_versions.specs.Versions.{directory_of}
 use Rattle.store_state.specs.At.{keeping, standing}

@@ -1,4 +1,4 @@
-use Rattle.std.proofs.Common.{◌≡◌, ◌∙◌, ℕ, List, [], ◌∷◌, ap}
+use Rattle.std.proofs.Common.{◌∙◌, ℕ, List, [], ◌∷◌, ap}
 use Rattle.event_core.specs.declared.entry.Entry.TheVariants.{Unpin}
 use Rattle.event_core.specs.History.{History}
 use Rattle.store_ledger.specs.Ledger.{LedgerState, history, with_entries}

@@ -1,4 +1,4 @@
-use Rattle.std.proofs.Common.{◌≡◌, ◌∙◌, ℕ, List, length, slice_index, Err, ap, sym, refl}
+use Rattle.std.proofs.Common.{◌∙◌, ℕ, List, slice_index, ap, sym}
 use Rattle.array_geom.specs.declared.chunk.Chunk.{Chunk}
 use Rattle.chunk_rle.specs.Decoding.{Answers}
 use Rattle.store_state.specs.Calls.{spelled_by}

@@ -1,4 +1,4 @@
-use Rattle.std.proofs.Common.{◌≡◌, ◌∙◌, Bool, true, false, if◌then◌else◌, [], ◌∷◌, ap}
+use Rattle.std.proofs.Common.{if◌then◌else◌, [], ◌∷◌}
 use Rattle.event_core.specs.declared.entry.Entry.TheVariants.{Reap}
 use Rattle.store_ledger.specs.Ledger.{with_entries}
 use Rattle.store_state.specs.At.{standing, keeping}
