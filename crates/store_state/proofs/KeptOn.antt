@@ -7,7 +7,6 @@ use Rattle.event_core.specs.declared.entry.Entry.TheVariants.{Pin, Unpin, Reap}
 use Rattle.event_core.specs.Allowed.{is_pinned}
 use Rattle.event_core.specs.History.{History, OpenPin, names_at, open_pins}
 use Rattle.event_core.specs.Legal.{has_committed}
-use Rattle.event_core.specs.Replay.{core_at}
 use Rattle.event_core.proofs.Tests.{both_not}
 use Rattle.store_ledger.specs.declared.note.Note.{Note}
 use Rattle.store_ledger.specs.declared.note.NoteKind.TheVariants.{Tried}
