@@ -20,7 +20,7 @@ use Rattle.array_geom.specs.Geometry.{ChunkNumber, core}
 use Rattle.array_geom.specs.Link.{NumbersRise, chunk_rows, core_rows, number_order, numbers}
 use Rattle.array_geom.proofs.TestLaws.{and_both, and_parts, le_from_test, le_test, lt_from_test}
 use Rattle.chunk_cells.proofs.MergeLaws.{IsRising-core_rows}
-use Rattle.area_cells.specs.Inner.Apart.{begins_above}
+use Rattle.area_cells.specs.Inner.Apart.{begins_above, first_of}
 
 -- what two boxes have in common is in order where a coordinate lies in both
 between_both : (lo hi lo' hi' : List ℤ) (c : Coordinate) → is_between lo hi c ≡ true → is_between lo' hi' c ≡ true → are_ordered (by_pairs int_max lo lo') (by_pairs int_min hi hi') ≡ true
@@ -76,10 +76,6 @@ no_rows dims margins area (chunk ∷ chunks) a =
 
 -- ---- first numbers
 
-abbrev first_of : ChunkNumber → ℕ
-first_of [] = 0
-first_of (k ∷ ks) = k
-
 by_first : (k l : ℕ) (t : Ordering) → ordering_then (nat_cmp k l) t ≡ Less → k ≤ l
 by_first k l t e = cases (nat_cmp k l) refl e
   where
@@ -88,7 +84,7 @@ by_first k l t e = cases (nat_cmp k l) refl e
     cases Equal h f = let same : k ≡ l = ranked k l Equal h in omega (arith, same)
     cases Greater h f = absurd cc
 
-risen : (a b : ChunkNumber) → number_order a b ≡ Less → first_of a ≤ first_of b
+pub risen : (a b : ChunkNumber) → number_order a b ≡ Less → first_of a ≤ first_of b
 risen [] b e = omega arith
 risen (k ∷ a) [] e = absurd cc
 risen (k ∷ a) (l ∷ b) e = by_first k l (number_order a b) e
@@ -161,7 +157,7 @@ before dims first area (k ∷ ks) a e = (
 )
 
 -- the first of rising chunks begins first, and the last one last
-from_first : (chunks : List Chunk) (first : Chunk) → 0 < length chunks → first ≡ get_or chunks 0 first → NumbersRise (numbers chunks) → AllByRecursion (λ k. first_of first.at.items ≤ first_of k) (numbers chunks)
+pub from_first : (chunks : List Chunk) (first : Chunk) → 0 < length chunks → first ≡ get_or chunks 0 first → NumbersRise (numbers chunks) → AllByRecursion (λ k. first_of first.at.items ≤ first_of k) (numbers chunks)
 from_first [] first l e r = absurd (omega (arith, l))
 from_first (chunk ∷ chunks) first l e r =
     let same : first_of first.at.items ≡ first_of chunk.at.items = ap (λ (z : Chunk). first_of z.at.items) e in

@@ -4,6 +4,7 @@ pub mod JoinSteps
 pub mod MadeLaws
 pub mod MoveLaws
 pub mod PartnerLaws
+pub mod PieceLaws
 pub mod RepartLaws
 pub mod RowsCrossLaws
 pub mod SideLaws

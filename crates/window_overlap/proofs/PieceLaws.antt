@@ -6,33 +6,29 @@ use Rattle.std.specs.List.{AllByRecursion}
 use Rattle.std.proofs.lemmas.Bool.{eqb-true}
 use Rattle.std.proofs.lemmas.Int.{ints}
 use Rattle.std.proofs.lemmas.List.{append-nil, take_all, take_more}
-use Rattle.arrayvec.specs.ArrayVec.{ArrayVec}
 use Rattle.cell_values.specs.declared.datum.Cell.{Cell}
 use Rattle.cell_values.specs.declared.datum.Row.{Row}
 use Rattle.cell_values.specs.declared.schema.Bounds.{Bounds}
 use Rattle.cell_values.specs.declared.schema.Dimension.{Dimension}
 use Rattle.cell_values.specs.declared.schema.Schema.{Schema}
-use Rattle.array_rows.specs.Arrays.{AreRowsOf}
 use Rattle.array_rows.specs.Boxes.{corners, is_between, is_inside, within}
 use Rattle.array_rows.specs.Cellwise.{cell_wise, put_first}
-use Rattle.array_rows.specs.Rows.{Coordinate, placed}
-use Rattle.array_rows.proofs.RowSets.{IsRising-rows_where}
+use Rattle.array_rows.specs.Rows.{Coordinate}
 use Rattle.array_rows.proofs.RowsLemmas.{within-cell_wise}
 use Rattle.array_geom.specs.declared.chunk.Chunk.{Chunk}
-use Rattle.array_geom.specs.Geometry.{ChunkNumber, HasFrame, core, first_in, frame, frame_low, has_core, last_in}
+use Rattle.array_geom.specs.Geometry.{ChunkNumber, HasFrame, first_in, frame, frame_low, has_core, last_in}
 use Rattle.array_geom.specs.Inner.Ranges.{AreLow, AreMargins, AreNear, IsLow, IsNear}
-use Rattle.array_geom.specs.Link.{IsPart, NumbersRise, chunk_rows, core_rows, has_cell, is_listed, is_not_empty, numbers}
+use Rattle.array_geom.specs.Link.{IsPart, NumbersRise, core_rows, numbers}
 use Rattle.array_geom.proofs.NearLemmas.{lows_in_range, margins_of, valid_placed}
 use Rattle.array_geom.proofs.TestLaws.{and_parts, le_from_test}
 use Rattle.array_parts.proofs.PartLemmas.{all_kept}
 use Rattle.array_parts.specs.Cores.{HaveCells}
-use Rattle.array_parts.specs.Made.{IsPlaced}
 use Rattle.array_parts.specs.Parts.{AreParts}
 use Rattle.array_parts.specs.Placed.{HasPlaces}
 use Rattle.chunk_cells.specs.Frames.{HasFrames}
-use Rattle.chunk_cells.specs.Whole.{CoresRise}
 use Rattle.area_cells.proofs.CutLaws.{at_index}
 use Rattle.area_cells.proofs.ListedLaws.{core_listed}
+use Rattle.area_cells.proofs.PieceLaws.{changed_parts}
 use Rattle.logical_plan.specs.declared.parts.Aggregate.{Aggregate}
 use Rattle.logical_plan.specs.declared.parts.Reach.{Reach}
 use Rattle.logical_plan.specs.Groups.{window, window_cell, window_rows}
@@ -62,6 +58,10 @@ next_pushed change rows i row made made' l e h n =
     ∙ ap (λ (z : List Row). z ++ cell_wise change (row ∷ [])) h
     ∙ sym (cell_wise-more change (take i rows) row)
     ∙ ap (cell_wise change) (ap (λ (z : Row). take i rows ++ z ∷ []) e ∙ sym (take_more rows i row l))
+
+pub all_pushed : (area : Bounds) (reach : List Reach) (gs : List Aggregate) (rows items : List Row) (i : ℕ) (made : List Row) → items ≡ rows → length items ≤ i → made ≡ cell_wise (window_within area reach gs rows) (take i items) → made ≡ within area (window_rows reach gs rows)
+all_pushed area reach gs rows items i made e l h =
+    h ∙ ap (cell_wise (window_within area reach gs rows)) (take_all i items l ∙ e) ∙ windows_kept area reach gs rows
 
 -- ---- what windows reach
 
@@ -171,13 +171,6 @@ frame_windows schema margins k area reach gs all some made framed is short each 
     windows_framed schema margins k reach gs all some made framed short each (e ∙ ap (λ (b : Bounds). within (reached reach b) all) is) (m ∙ ap (λ (b : Bounds). within b (window_rows reach gs some)) is)
     ∙ ap (λ (b : Bounds). within b (window_rows reach gs all)) (sym is)
 
-pub rise_in_cores : (schema : Schema) (margins : List ℕ) (chunks : List Chunk) → HaveCells schema margins chunks → CoresRise schema.dimensions margins chunks
-rise_in_cores schema margins chunks h = each chunks h.rows_of
-  where
-    each : (xs : List Chunk) → AllByRecursion (λ chunk. AreRowsOf schema (chunk_rows schema.dimensions margins chunk)) xs → CoresRise schema.dimensions margins xs
-    each [] a = tt
-    each (chunk ∷ xs) a = (IsRising-rows_where (is_inside (core schema.dimensions chunk.at.items)) (chunk_rows schema.dimensions margins chunk) a.0.are_rows.rising, each xs a.1)
-
 -- the rows that are reached
 pub rows_there : (reach : List Reach) (area : Bounds) (dims : List Dimension) (margins : List ℕ) (items chunks : List Chunk) (rows : List Row) (box : Bounds) → items ≡ chunks → box ≡ reached reach area → rows ≡ within box (core_rows dims margins items)
     → rows ≡ within (reached reach area) (core_rows dims margins chunks)
@@ -186,81 +179,15 @@ rows_there reach area dims margins items chunks rows box e b r = r ∙ (λ i. wi
 pub low_within : (area : Bounds) (rows some : List Row) → some ≡ within area rows → HaveLowPlaces rows → HaveLowPlaces some
 low_within area rows some e low = subst HaveLowPlaces (sym e) (all_kept (λ row. AreLow row.at.items) (λ row. is_inside area row.at.items) rows low)
 
-pub all_within : (area : Bounds) (rows made : List Row) → made ≡ within area rows → AllByRecursion (λ row. is_inside area row.at.items ≡ true) made
-all_within area rows made e = subst (AllByRecursion (λ row. is_inside area row.at.items ≡ true)) (sym e) (each rows)
-  where
-    each : (rows : List Row) → AllByRecursion (λ row. is_inside area row.at.items ≡ true) (within area rows)
-    each [] = tt
-    each (row ∷ rows) = cases (is_inside area row.at.items) refl (each rows)
-      where
-        cases : (t : Bool) → is_inside area row.at.items ≡ t → AllByRecursion (λ row. is_inside area row.at.items ≡ true) (within area rows) → AllByRecursion (λ row. is_inside area row.at.items ≡ true) (cond t (row ∷ within area rows) (within area rows))
-        cases true e r = (e, r)
-        cases false e r = r
-
--- ---- the chunks that are made
-
-pub is_part : (dims : List Dimension) (margins : List ℕ) (number : ArrayVec ℕ) (rows made : List Row) (area : Bounds) (chunk : Chunk) → area ≡ frame dims margins number.items → made ≡ within area rows → chunk.at ≡ number → IsPlaced dims margins chunk
-    → chunk_rows dims margins chunk ≡ made → IsPart dims margins rows chunk
-is_part dims margins number rows made area chunk e m n placed same = record {
-  each = placed.each;
-  in_frame = placed.in_frame;
-  cells = same ∙ m ∙ ap (λ (b : Bounds). within b rows) (e ∙ ap (λ (at : ArrayVec ℕ). frame dims margins at.items) (sym n));
-}
-
-pub has_places : (schema : Schema) (margins : List ℕ) (number : ArrayVec ℕ) (chunk : Chunk) → HasFrame schema margins number.items → chunk.at ≡ number → IsPlaced schema.dimensions margins chunk → HasPlaces schema margins chunk
-has_places schema margins number chunk framed n placed = record { framed = subst (λ (at : ArrayVec ℕ). HasFrame schema margins at.items) (sym n) framed; placed = placed }
-
-some_before : (change : Coordinate → Cell → Option Cell) (rows : List Row) → is_not_empty (cell_wise change rows) ≡ true → is_not_empty rows ≡ true
-some_before change [] e = e
-some_before change (row ∷ rows) e = refl
-
--- parts of windows, one for each chunk whose core has a cell
-pub window_parts : (dims : List Dimension) (margins : List ℕ) (reach : List Reach) (gs : List Aggregate) (rows : List Row) (chunks parts : List Chunk) → numbers parts ≡ numbers chunks → NumbersRise (numbers chunks) → AllByRecursion (λ k. length k ≡ length dims) (numbers chunks)
-    → ((k : ChunkNumber) → length k ≡ length dims → has_cell dims rows k ≡ true → is_listed k (numbers chunks) ≡ true) → AllByRecursion (IsPart dims margins (window_rows reach gs rows)) parts → AreParts dims margins (window_rows reach gs rows) parts
-window_parts dims margins reach gs rows chunks parts e rise sized listed each = record {
-  in_order = subst NumbersRise (sym e) rise;
-  sized = subst (AllByRecursion (λ k. length k ≡ length dims)) (sym e) sized;
-  enough = λ k l h. ap (is_listed k) e ∙ listed k l (some_before (window_cell reach gs rows) (within (core dims k) rows) (sym (ap is_not_empty (within-cell_wise (core dims k) (window_cell reach gs rows) rows)) ∙ h));
-  parts = each;
-}
-
-pub all_pushed : (area : Bounds) (reach : List Reach) (gs : List Aggregate) (rows items : List Row) (i : ℕ) (made : List Row) → items ≡ rows → length items ≤ i → made ≡ cell_wise (window_within area reach gs rows) (take i items) → made ≡ within area (window_rows reach gs rows)
-all_pushed area reach gs rows items i made e l h =
-    h ∙ ap (cell_wise (window_within area reach gs rows)) (take_all i items l ∙ e) ∙ windows_kept area reach gs rows
-
+-- the parts of all windows, one for each chunk whose core has a cell
 pub whole_parts : (source target : Schema) (old margins : List ℕ) (reach : List Reach) (gs : List Aggregate) (chunks parts : List Chunk) → target.dimensions ≡ source.dimensions → HaveCells source old chunks → numbers parts ≡ numbers chunks → NumbersRise (numbers chunks)
     → AllByRecursion (λ k. length k ≡ length source.dimensions) (numbers chunks) → AllByRecursion (IsPart target.dimensions margins (window_rows reach gs (core_rows source.dimensions old chunks))) parts
     → AreParts target.dimensions margins (window_rows reach gs (core_rows source.dimensions old chunks)) parts
 whole_parts source target old margins reach gs chunks parts same cells e rise sized each =
     let rows = core_rows source.dimensions old chunks in
     subst (λ (ds : List Dimension). AreParts ds margins (window_rows reach gs rows) parts) (sym same)
-    (window_parts source.dimensions margins reach gs rows chunks parts e rise sized (λ k l h. core_listed source.dimensions old chunks k (valid_placed source cells.placed.valid).near sized l h)
+    (changed_parts source.dimensions margins (window_cell reach gs rows) rows chunks parts e rise sized (λ k l h. core_listed source.dimensions old chunks k (valid_placed source cells.placed.valid).near sized l h)
     (subst (λ (ds : List Dimension). AllByRecursion (IsPart ds margins (window_rows reach gs rows)) parts) same each))
-
--- ---- one chunk after the other
-
-all_push : {X : Type 0} (P : X → Type 0) (xs : List X) (x : X) → AllByRecursion P xs → P x → AllByRecursion P (xs ++ x ∷ [])
-all_push P [] x a p = (p, tt)
-all_push P (y ∷ ys) x a p = (a.0, all_push P ys x a.1 p)
-
-numbers_push : (xs : List Chunk) (x : Chunk) → numbers (xs ++ x ∷ []) ≡ numbers xs ++ x.at.items ∷ []
-numbers_push [] x = refl
-numbers_push (y ∷ xs) x = ap (λ (ks : List ChunkNumber). y.at.items ∷ ks) (numbers_push xs x)
-
-pub next_numbers : (chunks : List Chunk) (i : ℕ) (chunk part : Chunk) (parts parts' : List Chunk) → i < length chunks → chunk ≡ get_or chunks i chunk → part.at ≡ chunk.at → parts' ≡ parts ++ part ∷ [] → numbers parts ≡ numbers (take i chunks)
-    → numbers parts' ≡ numbers (take (i + 1) chunks)
-next_numbers chunks i chunk part parts parts' l e n p h =
-    ap numbers p
-    ∙ numbers_push parts part
-    ∙ (λ j. h j ++ (n j).items ∷ [])
-    ∙ sym (numbers_push (take i chunks) chunk)
-    ∙ ap numbers (ap (λ (z : Chunk). take i chunks ++ z ∷ []) e ∙ sym (take_more chunks i chunk l))
-
-pub all_more : (P : Chunk → Type 0) (part : Chunk) (parts parts' : List Chunk) → parts' ≡ parts ++ part ∷ [] → AllByRecursion P parts → P part → AllByRecursion P parts'
-all_more P part parts parts' e a p = subst (AllByRecursion P) (sym e) (all_push P parts part a p)
-
-pub all_numbers : (items chunks parts : List Chunk) (i : ℕ) → items ≡ chunks → length items ≤ i → numbers parts ≡ numbers (take i items) → numbers parts ≡ numbers chunks
-all_numbers items chunks parts i e l h = h ∙ ap numbers (take_all i items l ∙ e)
 
 pub frame_at : (source target : Schema) (old margins : List ℕ) (chunks items : List Chunk) (i : ℕ) (chunk : Chunk) → target.dimensions ≡ source.dimensions → HasFrames target margins → HaveCells source old chunks → items ≡ chunks → i < length items → chunk ≡ get_or items i chunk
     → HasFrame target margins chunk.at.items

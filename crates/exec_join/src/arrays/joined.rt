@@ -8,7 +8,9 @@ ghost use Rattle.logical_plan.specs.PlanSchema.{join_schema};
 ghost use Rattle.exec_join.specs.Meant.{join_meant};
 
 use crate::arrays::building::rows_of;
+use crate::arrays::pieces::by_parts;
 use crate::rows::join_of_rows;
+use area_cells::are_rising;
 use array_geom::{ChunkedArray, margins_of};
 use cell_values::{Memory, Schema};
 use chunk_cells::{assemble, broken_array};
@@ -35,6 +37,26 @@ fn of_whole(
     assemble(schema, &margins_of(schema), rows.as_slice())
 }
 
+/// The join of two arrays of which none is broken, chunk by chunk where the numbers of their chunks rise, as those of an array do.
+fn of_both(left: ChunkedArray, right: ChunkedArray, schema: &Schema) -> Result<ChunkedArray, Memory>
+    requires left_whole { left.broken ≡ None }
+    requires right_whole { right.broken ≡ None }
+    requires left_cells { HaveCells left.schema left.margins.items left.chunks }
+    requires right_cells { HaveCells right.schema right.margins.items right.chunks }
+    requires schema { schema.now ≡ join_schema left.schema right.schema }
+    requires valid { IsValid schema.now }
+    ensures array { IfOk result (λ made. Is made (join_meant schema.now (meant_by_cores left) (meant_by_cores right))) }
+    ensures margins { IfOk result (λ made. made.margins.items ≡ overlaps schema.now.dimensions) }
+{
+    let rise = are_rising(left.chunks.as_slice(), left.schema.dimensions.len())
+        && are_rising(right.chunks.as_slice(), right.schema.dimensions.len());
+    if rise {
+        by_parts(left, right, schema)
+    } else {
+        of_whole(left, right, schema)
+    }
+}
+
 /// The join of two arrays of which the left one is not broken.
 #[tactic(auto, using(array_geom::proofs::MarginLaws::overlap_each))]
 fn with_right(
@@ -52,7 +74,7 @@ fn with_right(
 {
     match &right.broken {
         Some(broken) => broken_array(schema, &margins_of(schema), broken),
-        None => of_whole(left, right, schema),
+        None => of_both(left, right, schema),
     }
 }
 

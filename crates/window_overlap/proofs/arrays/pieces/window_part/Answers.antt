@@ -4,7 +4,7 @@ use Rattle.array_rows.specs.Boxes.{within}
 use Rattle.array_geom.specs.Geometry.{frame}
 use Rattle.array_parts.specs.Cores.{cores_of}
 use Rattle.logical_plan.specs.Groups.{window_rows}
-use Rattle.window_overlap.proofs.PieceLaws.{all_within, has_places, is_part}
+use Rattle.area_cells.proofs.PieceLaws.{all_within, has_places, is_part}
 use Rattle.window_overlap.proofs.arrays.pieces.window_part.Goals as goal
 
 pub chunk_of_rows-requires-clause-inside : goal.chunk_of_rows-requires-clause-inside

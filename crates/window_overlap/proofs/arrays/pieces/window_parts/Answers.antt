@@ -2,7 +2,8 @@ use Rattle.array_geom.specs.Link.{IsPart}
 use Rattle.array_parts.specs.Cores.{cores_of}
 use Rattle.array_parts.specs.Placed.{HasPlaces}
 use Rattle.logical_plan.specs.Groups.{window_rows}
-use Rattle.window_overlap.proofs.PieceLaws.{all_more, all_numbers, frame_at, next_numbers}
+use Rattle.area_cells.proofs.PieceLaws.{all_more, all_numbers, next_numbers}
+use Rattle.window_overlap.proofs.PieceLaws.{frame_at}
 use Rattle.window_overlap.proofs.arrays.pieces.window_parts.Goals as goal
 
 pub window_part-requires-clause-framed : goal.window_part-requires-clause-framed

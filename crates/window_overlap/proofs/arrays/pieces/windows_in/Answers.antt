@@ -8,7 +8,8 @@ use Rattle.chunk_cells.proofs.MergeLaws.{if_ok}
 use Rattle.window_overlap.specs.Inner.Reached.{reached}
 use Rattle.window_overlap.proofs.ArraysWindowLaws.{can_aggregate, low_rows, short_windows}
 use Rattle.window_overlap.proofs.ChunksWindowLaws.{can_within, rising_within}
-use Rattle.window_overlap.proofs.PieceLaws.{each_reach, frame_windows, low_within, rise_in_cores, rows_there}
+use Rattle.area_cells.proofs.PieceLaws.{rise_in_cores}
+use Rattle.window_overlap.proofs.PieceLaws.{each_reach, frame_windows, low_within, rows_there}
 use Rattle.window_overlap.proofs.arrays.pieces.windows_in.Goals as goal
 
 pub rows_in_area-requires-clause-cores : goal.rows_in_area-requires-clause-cores

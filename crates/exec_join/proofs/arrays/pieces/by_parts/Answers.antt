@@ -1,0 +1,18 @@
+use Rattle.std.proofs.Common.{refl}
+use Rattle.array_parts.specs.Cores.{cores_of}
+use Rattle.logical_plan.specs.Joins.{join_rows}
+use Rattle.exec_join.proofs.MadeLaws.{means_whole, of_cores, stands_for}
+use Rattle.exec_join.proofs.PieceLaws.{joined_parts}
+use Rattle.exec_join.proofs.SideLaws.{join_are_rows}
+use Rattle.exec_join.proofs.arrays.pieces.by_parts.Goals as goal
+
+pub returns-clause-array : goal.returns-clause-array
+returns-clause-array c =
+    let left = c.args.left in
+    let right = c.args.right in
+    let rows = join_rows (cores_of left) (cores_of right) in
+    stands_for c.array_of_parts.result _ _ (means_whole join_rows c.args.schema.now left right (cores_of left) (cores_of right) rows c.requires.left_whole c.requires.right_whole refl refl refl)
+    (c.array_of_parts.ensures.array rows
+    (join_are_rows left.schema right.schema c.args.schema.now (cores_of left) (cores_of right) (of_cores left (cores_of left) refl c.requires.left_cells) (of_cores right (cores_of right) refl c.requires.right_cells) c.requires.schema c.requires.valid)
+    (joined_parts left.schema right.schema c.args.schema.now left.margins.items c.margins_of-margins.result.items (cores_of left) (cores_of right) left.chunks c.in_ok-parts.parts c.requires.schema refl c.requires.left_cells c.in_ok-parts.ensures.numbers
+    c.requires.left_rise c.requires.sized c.in_ok-parts.ensures.parts))

@@ -1,0 +1,101 @@
+//! Joins chunk by chunk: each chunk from the rows that both arrays have in its frame.
+ghost use Rattle.std.specs.Prelude.{◌≡◌, None, length, IsTrue, IfOk};
+ghost use Rattle.std.specs.List.{AllByRecursion};
+ghost use Rattle.cell_values.specs.Schemas.{IsValid};
+ghost use Rattle.array_rows.specs.Boxes.{within};
+ghost use Rattle.array_geom.specs.Geometry.{HasFrame, frame as frame_of, overlaps};
+ghost use Rattle.array_geom.specs.Link.{Is, IsPart, NumbersRise, numbers};
+ghost use Rattle.array_parts.specs.Cores.{HaveCells, cores_of, meant_by_cores};
+ghost use Rattle.array_parts.specs.Placed.{HasPlaces};
+ghost use Rattle.chunk_cells.specs.Frames.{HasFrames};
+ghost use Rattle.logical_plan.specs.Joins.{join_rows};
+ghost use Rattle.logical_plan.specs.PlanSchema.{join_schema};
+ghost use Rattle.exec_join.specs.Meant.{join_meant};
+
+use crate::rows::join_of_rows;
+use area_cells::{array_of_parts, chunk_of_rows, rows_in_area};
+use array_geom::{Chunk, ChunkedArray, frame, margins_of};
+use cell_values::{Bounds, ChunkAt, List, Margins, Memory, Row, Schema};
+
+/// The joined rows in a box.
+fn joined_in(left: &ChunkedArray, right: &ChunkedArray, area: &Bounds) -> Result<List<Row>, Memory>
+    requires left_cells { HaveCells left.now.schema left.now.margins.items left.now.chunks }
+    requires right_cells { HaveCells right.now.schema right.now.margins.items right.now.chunks }
+    requires left_rise { NumbersRise (numbers left.now.chunks) }
+    requires right_rise { NumbersRise (numbers right.now.chunks) }
+    ensures { IfOk result (λ rows. rows ≡ within area.now (join_rows (cores_of left.now) (cores_of right.now))) }
+{
+    let from_left = rows_in_area(&left.schema, &left.margins, left.chunks.as_slice(), area)?;
+    let from_right = rows_in_area(&right.schema, &right.margins, right.chunks.as_slice(), area)?;
+    join_of_rows(from_left, from_right)
+}
+
+/// The join in a chunk's frame.
+fn join_part(
+    left: &ChunkedArray,
+    right: &ChunkedArray,
+    schema: &Schema,
+    margins: &Margins,
+    number: &ChunkAt,
+) -> Result<Chunk, Memory>
+    requires left_cells { HaveCells left.now.schema left.now.margins.items left.now.chunks }
+    requires right_cells { HaveCells right.now.schema right.now.margins.items right.now.chunks }
+    requires left_rise { NumbersRise (numbers left.now.chunks) }
+    requires right_rise { NumbersRise (numbers right.now.chunks) }
+    requires framed { HasFrame schema.now margins.now.items number.now.items }
+    ensures number { IfOk result (λ made. made.at ≡ number.now) }
+    ensures places { IfOk result (HasPlaces schema.now margins.now.items) }
+    ensures part { IfOk result (IsPart schema.now.dimensions margins.now.items (join_rows (cores_of left.now) (cores_of right.now))) }
+{
+    let area = frame(schema, margins, number);
+    let rows = joined_in(left, right, &area)?;
+    let made = chunk_of_rows(schema, margins, number, rows)?;
+    Ok(made)
+}
+
+fn join_parts(
+    left: &ChunkedArray,
+    right: &ChunkedArray,
+    schema: &Schema,
+    margins: &Margins,
+) -> Result<List<Chunk>, Memory>
+    requires left_cells { HaveCells left.now.schema left.now.margins.items left.now.chunks }
+    requires right_cells { HaveCells right.now.schema right.now.margins.items right.now.chunks }
+    requires left_rise { NumbersRise (numbers left.now.chunks) }
+    requires right_rise { NumbersRise (numbers right.now.chunks) }
+    requires schema { schema.now ≡ join_schema left.now.schema right.now.schema }
+    requires frames { HasFrames schema.now margins.now.items }
+    ensures numbers { IfOk result (λ parts. numbers parts ≡ numbers left.now.chunks) }
+    ensures places { IfOk result (AllByRecursion (HasPlaces schema.now margins.now.items)) }
+    ensures parts { IfOk result (AllByRecursion (IsPart schema.now.dimensions margins.now.items (join_rows (cores_of left.now) (cores_of right.now)))) }
+{
+    let mut parts = left.chunks.another();
+    for chunk in left.chunks.as_slice() {
+        parts.push(join_part(left, right, schema, margins, &chunk.at)?)?;
+    }
+    Ok(parts)
+}
+
+/// The join of two arrays of which none is broken, chunk by chunk.
+#[tactic(auto, using(array_geom::proofs::MarginLaws::overlap_each, array_geom::proofs::MarginLaws::overlap_places))]
+pub(crate) fn by_parts(
+    left: ChunkedArray,
+    right: ChunkedArray,
+    schema: &Schema,
+) -> Result<ChunkedArray, Memory>
+    requires left_whole { left.broken ≡ None }
+    requires right_whole { right.broken ≡ None }
+    requires left_cells { HaveCells left.schema left.margins.items left.chunks }
+    requires right_cells { HaveCells right.schema right.margins.items right.chunks }
+    requires left_rise { NumbersRise (numbers left.chunks) }
+    requires right_rise { NumbersRise (numbers right.chunks) }
+    requires sized { AllByRecursion (λ k. length k ≡ length left.schema.dimensions) (numbers left.chunks) }
+    requires schema { schema.now ≡ join_schema left.schema right.schema }
+    requires valid { IsValid schema.now }
+    ensures array { IfOk result (λ made. Is made (join_meant schema.now (meant_by_cores left) (meant_by_cores right))) }
+    ensures margins { IfOk result (λ made. made.margins.items ≡ overlaps schema.now.dimensions) }
+{
+    let margins = margins_of(schema);
+    let parts = join_parts(&left, &right, schema, &margins)?;
+    array_of_parts(schema, &margins, parts)
+}
