@@ -6,7 +6,7 @@ use Rattle.lean_core.specs.declared.pin.LeanPin.{LeanPin}
 use Rattle.lean_core.specs.States.{place_of}
 use Rattle.store_ledger.specs.Ledger.{open_place}
 
-pub places_are : (pins : List LeanPin) (open : List OpenPin) → map place_of pins ≡ map open_place open
-    → map (λ (pin : LeanPin). pin.place) pins ≡ map (λ (pin : OpenPin). length pin.before) open
-places_are pins open e =
-    sym (map-map (λ (x : ℕ × ℕ). x.1) place_of pins) ∙ ap (λ (xs : List (ℕ × ℕ)). map (λ (x : ℕ × ℕ). x.1) xs) e ∙ map-map (λ (x : ℕ × ℕ). x.1) open_place open
+pub places_are : (pins : List LeanPin) (before : List OpenPin) → map place_of pins ≡ map open_place before
+    → map (λ (pin : LeanPin). pin.place) pins ≡ map (λ (pin : OpenPin). length pin.before) before
+places_are pins before e =
+    sym (map-map (λ (x : ℕ × ℕ). x.1) place_of pins) ∙ ap (λ (xs : List (ℕ × ℕ)). map (λ (x : ℕ × ℕ). x.1) xs) e ∙ map-map (λ (x : ℕ × ℕ). x.1) open_place before
