@@ -71,7 +71,8 @@ fn are_pages(taken: &TakenPages, pages: &[u32]) -> bool
 
 /// Whether the core of its chunk holds a coordinate, a commit so far wrote it, and its pages are pages of the file.
 fn is_entry(taken: &TakenPages, base: &Base, schema: &Schema, entry: &DirEntry) -> bool
-    ensures { (file before : List ℕ) → IsTaken file taken.now before → result ≡ is_entry file (base.now.sequence + base.now.records) schema.now.dimensions entry.now }
+    ensures { (file before : List ℕ) → IsTaken file taken.now before
+        → result ≡ is_entry file (base.now.sequence + base.now.records) schema.now.dimensions entry.now }
 {
     has_core(schema, &entry.at)
         && (base.has_commit(entry.birth) && are_pages(taken, entry.pages.as_slice()))

@@ -32,7 +32,8 @@ pub fn read_found<D: Disk>(alloc: Global, file: &mut PageFile<D>) -> Result<Foun
     ensures fault { IsErrOf result OpenCause.Disk → Rose (D.moment file.old.disk).state.faults (D.moment file.new.disk).state.faults }
     ensures slots { file.new.slots ≡ file.old.slots }
     ensures reads { OnlyReads (D.moment file.old.disk) (D.moment file.new.disk) }
-    ensures sound { (seen : List ℕ) → IsSound file.old.slots seen (D.moment file.old.disk).may_leave → IsSound file.new.slots seen (D.moment file.new.disk).may_leave }
+    ensures sound { (seen : List ℕ) → IsSound file.old.slots seen (D.moment file.old.disk).may_leave
+        → IsSound file.new.slots seen (D.moment file.new.disk).may_leave }
 {
     match base_found(alloc, file) {
         Ok(mut found) => match read_behind(alloc, file, &mut found) {
@@ -45,7 +46,8 @@ pub fn read_found<D: Disk>(alloc: Global, file: &mut PageFile<D>) -> Result<Foun
 
 /// Reads the base, with no record and no directory behind it.
 fn base_found<D: Disk>(alloc: Global, file: &mut PageFile<D>) -> Result<Found, OpenCause>
-    ensures exact { (seen : List ℕ) → (D.moment file.old.disk).state.seen ≡ Some seen → Answers result (base_found_in seen file.old.slots.current.root) }
+    ensures exact { (seen : List ℕ) → (D.moment file.old.disk).state.seen ≡ Some seen
+        → Answers result (base_found_in seen file.old.slots.current.root) }
     ensures rules { IfOk result (λ found. IsCatalog found.catalog) }
     ensures logged { IfOk result (λ found. found.logged ≡ []) }
     ensures fault { IsErrOf result OpenCause.Disk → Rose (D.moment file.old.disk).state.faults (D.moment file.new.disk).state.faults }
@@ -72,7 +74,8 @@ fn read_behind<D: Disk>(
     requires few { length file.old.slots.records ≤ 64 }
     requires rules { IsCatalog found.old.catalog }
     requires logged { found.old.logged ≡ [] }
-    ensures exact { (seen : List ℕ) → (D.moment file.old.disk).state.seen ≡ Some seen → GoesOn result (Ok found.new) (found_behind seen (slots_of file.old.slots) found.old) }
+    ensures exact { (seen : List ℕ) → (D.moment file.old.disk).state.seen ≡ Some seen
+        → GoesOn result (Ok found.new) (found_behind seen (slots_of file.old.slots) found.old) }
     ensures rules { OnOk result (IsFound found.new) }
     ensures fault { IsErrOf result OpenCause.Disk → Rose (D.moment file.old.disk).state.faults (D.moment file.new.disk).state.faults }
     ensures slots { file.new.slots ≡ file.old.slots }
@@ -108,7 +111,8 @@ fn read_records<D: Disk>(
     requires few { length file.old.slots.records ≤ 64 }
     requires rules { IsCatalog found.old.catalog }
     requires logged { found.old.logged ≡ [] }
-    ensures exact { (seen : List ℕ) → (D.moment file.old.disk).state.seen ≡ Some seen → IsLogFound result found.new (log_behind seen (slots_of file.old.slots) found.old) }
+    ensures exact { (seen : List ℕ) → (D.moment file.old.disk).state.seen ≡ Some seen
+        → IsLogFound result found.new (log_behind seen (slots_of file.old.slots) found.old) }
     ensures rules { IfOk result (λ taken. IsCatalog found.new.catalog) }
     ensures chain { found.new.chain ≡ found.old.chain }
     ensures fault { IsErrOf result OpenCause.Disk → Rose (D.moment file.old.disk).state.faults (D.moment file.new.disk).state.faults }
@@ -152,7 +156,8 @@ fn read_directories<D: Disk>(
     catalog: &Catalog,
 ) -> Result<List<List<Directory>>, OpenCause>
     requires { IsCatalog catalog.now }
-    ensures exact { (seen : List ℕ) → (D.moment file.old.disk).state.seen ≡ Some seen → Answers result (rows_in seen (rules_in (slots_of file.old.slots)) taken.now catalog.now.arrays) }
+    ensures exact { (seen : List ℕ) → (D.moment file.old.disk).state.seen ≡ Some seen
+        → Answers result (rows_in seen (rules_in (slots_of file.old.slots)) taken.now catalog.now.arrays) }
     ensures rules { IfOk result (AllZip AreDirectories catalog.now.arrays) }
     ensures fault { IsErrOf result OpenCause.Disk → Rose (D.moment file.old.disk).state.faults (D.moment file.new.disk).state.faults }
     ensures slots { file.new.slots ≡ file.old.slots }
