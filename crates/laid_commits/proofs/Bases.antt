@@ -1,5 +1,5 @@
 -- With what is laid of a new base the file stands for the database after the change.
-use Rattle.std.proofs.Common.{◌≡◌, ◌∙◌, ◌+◌, ◌<◌, ℕ, List, [], ◌∷◌, ◌++◌, length, slice_index, Option, refl, sym, ap, subst, arith}
+use Rattle.std.proofs.Common.{◌≡◌, ◌+◌, ◌<◌, ℕ, List, [], ◌∷◌, ◌++◌, length, Option, sym, subst, arith}
 use Rattle.std.specs.List.{AllByRecursion}
 use Rattle.array_geom.specs.declared.chunk.Changed.{Changed}
 use Rattle.page_layout.specs.Places.{IsNone, KeepsPages}
@@ -18,14 +18,14 @@ use Rattle.file_meaning.specs.Opening.{pages_of as found_pages, sequence_of}
 use Rattle.file_meaning.specs.declared.found.Found.{Found}
 use Rattle.next_files.specs.Next.{Made, with_base}
 use Rattle.next_files.specs.Laws.{BasesMakeNext, FreePagesTurn}
-use Rattle.next_files.specs.Premises.{StandsBy, HasChain, HoldsBase, seen_before, root_at, slots_of}
+use Rattle.next_files.specs.Premises.{StandsBy, HasChain, HoldsBase, root_at, slots_of}
 use Rattle.commit_writes.specs.Commits.{base_pages, HoldsAll, root_of}
 use Rattle.commit_pages.specs.declared.laid.Laid.{Laid}
 use Rattle.commit_pages.specs.Versions.{draft_of, new_version}
 use Rattle.commit_pages.specs.Commits.{chain_in, catalog_bytes, rest_of, base_needs, base_laid}
 use Rattle.commit_pages.proofs.Chains.{base_fills, version_has_its}
 use Rattle.laid_commits.specs.Laws.{LaidBasesMakeNext}
-use Rattle.laid_commits.specs.Premises.{IsCommit, IsLaidBase, made_of}
+use Rattle.laid_commits.specs.Premises.{IsCommit, made_of}
 use Rattle.laid_commits.proofs.Made.{Seeing, AreGiven, version_made}
 use Rattle.laid_commits.proofs.Pages.{in_order, found_none, below_all, front_low}
 use Rattle.laid_commits.proofs.Records.{draft_comes, draft_written, allowed, behind_blobs}

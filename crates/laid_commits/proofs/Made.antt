@@ -1,5 +1,5 @@
 -- The new version that is laid, in a file that has its blobs.
-use Rattle.std.proofs.Common.{◌≡◌, ◌∙◌, ◌⊎◌, inl, inr, ◌+◌, ◌-◌, ◌<◌, ◌≤◌, ◌^◌, ℕ, Bool, true, false, cond, not, IfSome, List, [], ◌∷◌, ◌++◌, length, drop, Option, Some, None, refl, sym, ap, subst, arith}
+use Rattle.std.proofs.Common.{◌≡◌, ◌∙◌, inl, inr, ◌+◌, ◌-◌, ◌<◌, ◌≤◌, ◌^◌, ℕ, Bool, true, false, cond, not, List, [], ◌∷◌, ◌++◌, length, drop, Option, Some, None, refl, sym, ap, subst, arith}
 use Rattle.std.specs.Prelude.{nat_le, slice_index}
 use Rattle.std.specs.List.{AllByRecursion, filter, flat_map, list_all}
 use Rattle.std.proofs.lemmas.Bool.{and_parts}
@@ -18,14 +18,13 @@ use Rattle.logical_plan.specs.declared.names.Names.{Names}
 use Rattle.plan_changes.specs.declared.change.Change.{Change}
 use Rattle.plan_changes.specs.declared.change.Change.TheVariants.{Create, Store, Insert, Remove, RemoveVersions}
 use Rattle.plan_changes.specs.Allowed.{has_number}
-use Rattle.plan_changes.specs.Changes.{has_array, is_named, name_of}
-use Rattle.plan_changes.specs.Databases.{Database, entry_of as name_entry, names_of, new_rows, newest_rows}
-use Rattle.version_catalog.specs.declared.rules.catalog.BlobAt.{BlobAt}
+use Rattle.plan_changes.specs.Changes.{has_array, name_of}
+use Rattle.plan_changes.specs.Databases.{Database, names_of, new_rows, newest_rows}
 use Rattle.version_catalog.specs.Catalogs.{names_in}
 use Rattle.catalog_changes.specs.Changed.{IsItsBlob}
 use Rattle.file_meaning.specs.Slots.{Slots}
 use Rattle.file_meaning.specs.Opening.{is_seen, sequence_of, version_pages}
-use Rattle.file_meaning.specs.Standing.{HoldsPart, HoldsVersion}
+use Rattle.file_meaning.specs.Standing.{HoldsVersion}
 use Rattle.file_meaning.specs.declared.found.Found.{Found}
 use Rattle.next_files.specs.Next.{Made, blob_of}
 use Rattle.next_files.specs.Laws.{HadEntriesAreSeen, LaterEntriesAreUnseen, ReplacingEntriesAreUnseen}
@@ -34,11 +33,10 @@ use Rattle.commit_writes.specs.Commits.{pages_of, HoldsBlobs}
 use Rattle.commit_pages.specs.declared.version.NewVersion.{NewVersion}
 use Rattle.commit_pages.specs.declared.written.Written.{Written}
 use Rattle.commit_pages.specs.Versions.{blob_count, placed, all_placed, blob_at, draft, draft_of, settled, entries_of, directory_of, directory_bytes, version_in, new_version, version_needs, put_entries, HasRisingNumbers}
-use Rattle.commit_pages.specs.Changes.{AreValid, IsChangeOf}
 use Rattle.commit_pages.specs.Laws.{IsOver, IsHeld, HoldsNew}
 use Rattle.commit_pages.proofs.Blobs.{length_placed, pages_more}
 use Rattle.commit_pages.proofs.Costs.{map_all, found_has}
-use Rattle.commit_pages.proofs.Directories.{draft_rises, entries_rise, inserts_replace, stores_list_theirs}
+use Rattle.commit_pages.proofs.Directories.{entries_rise, inserts_replace, stores_list_theirs}
 use Rattle.commit_pages.proofs.Drafts.{is_written}
 use Rattle.commit_pages.proofs.Held.{versions_are_held}
 use Rattle.commit_pages.proofs.Lengths.{settled_bytes}

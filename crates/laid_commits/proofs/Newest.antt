@@ -1,17 +1,14 @@
 -- The newest version of an array, as it is found.
-use Rattle.std.proofs.Common.{◌≡◌, ◌∙◌, ◌+◌, ◌-◌, ◌<◌, ◌≤◌, ℕ, suc, Bool, true, false, cond, ◌||◌, List, [], ◌∷◌, length, map, Option, Some, None, refl, sym, ap, subst, arith}
+use Rattle.std.proofs.Common.{◌≡◌, ◌∙◌, ◌-◌, ◌<◌, ℕ, suc, Bool, true, false, cond, ◌||◌, List, [], ◌∷◌, length, map, Some, None, refl, sym, ap, subst, arith}
 use Rattle.std.specs.Prelude.{nat_eq, slice_index_or}
 use Rattle.std.specs.List.{AllByRecursion, AllZip, find}
-use Rattle.std.proofs.lemmas.Bool.{and_parts}
 use Rattle.std.proofs.lemmas.Bool.Decides.{nat_tests}
 use Rattle.cell_values.specs.declared.datum.Row.{Row}
 use Rattle.cell_values.specs.declared.schema.Schema.{Schema}
 use Rattle.chunk_map.specs.declared.directory.Directory.{Directory}
 use Rattle.logical_plan.specs.Query.{Query}
-use Rattle.logical_plan.specs.declared.names.NameEntry.{NameEntry}
-use Rattle.plan_changes.specs.Allowed.{has_number}
 use Rattle.plan_changes.specs.Changes.{is_named, has_array, last_of}
-use Rattle.plan_changes.specs.Databases.{Database, Stored, Version, entry_of, is_array, rows_or, rows_in, newest_in as newest_number}
+use Rattle.plan_changes.specs.Databases.{Database, Version, entry_of, is_array, rows_or, rows_in, newest_in as newest_number}
 use Rattle.plan_changes.specs.Stored.{IsStored, RiseBetween}
 use Rattle.plan_changes.specs.Typed.{FitsInto}
 use Rattle.file_meaning.specs.Standing.{HoldsVersion, HoldsVersions}

@@ -1,5 +1,5 @@
 -- Files that open as the slots by which they stand.
-use Rattle.std.proofs.Common.{◌≡◌, ℕ, List, []}
+use Rattle.std.proofs.Common.{ℕ, List, []}
 use Rattle.page_layout.specs.Opens.{OpensAs}
 use Rattle.page_layout.specs.declared.sides.Format.{Format}
 use Rattle.page_layout.specs.declared.sides.Format.TheVariants.{One, Two}
@@ -8,7 +8,6 @@ use Rattle.page_layout.specs.declared.roots.Root.{Root}
 use Rattle.page_slots.specs.Standing.{root_in}
 use Rattle.plan_changes.specs.Databases.{Database}
 use Rattle.file_meaning.specs.Opening.{Opens}
-use Rattle.file_meaning.specs.Slots.{Slots}
 use Rattle.file_meaning.specs.Standing.{Stands}
 use Rattle.file_meaning.specs.declared.found.Found.{Found}
 use Rattle.file_laws.proofs.SlotLaws.{slots_are}

@@ -1,5 +1,5 @@
 -- The pages that a commit takes.
-use Rattle.std.proofs.Common.{◌≡◌, ◌∙◌, ◌+◌, ◌<◌, ◌≤◌, ◌^◌, ℕ, zero, suc, Bool, true, false, cond, not, List, [], ◌∷◌, ◌++◌, length, refl, sym, ap, subst, arith}
+use Rattle.std.proofs.Common.{◌≡◌, ◌∙◌, ◌+◌, ◌<◌, ◌≤◌, ◌^◌, ℕ, zero, suc, Bool, false, cond, not, List, [], ◌∷◌, ◌++◌, length, refl, sym, ap, subst, arith}
 use Rattle.std.specs.Prelude.{slice_index}
 use Rattle.std.specs.List.{AllByRecursion, filter, flat_map}
 use Rattle.std.proofs.lemmas.List.{append_assoc, length-append}
@@ -27,7 +27,6 @@ in_order turn taken before payloads own chain free =
 
 pub none_later : (q : ℕ) (pages : List ℕ) (p : ℕ) → IsNone (q ∷ pages) p → IsNone pages p
 none_later q pages p none k low = none (suc k) (omega arith)
-
 
 -- what was found is none of the free pages
 pub found_none : (found pages : List ℕ) → ((k : ℕ) → k < length pages → IsNone found (slice_index pages k)) → AllByRecursion (IsNone pages) found

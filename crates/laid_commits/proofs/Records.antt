@@ -1,12 +1,11 @@
 -- With what is laid of a record the file stands for the database after the change.
-use Rattle.std.proofs.Common.{◌≡◌, ◌∙◌, ◌+◌, ◌<◌, ◌≤◌, ℕ, true, IfSome, List, [], ◌∷◌, ◌++◌, length, slice_index, Option, Some, None, refl, sym, ap, subst, arith}
+use Rattle.std.proofs.Common.{◌≡◌, ◌∙◌, ◌+◌, ◌<◌, ℕ, true, IfSome, List, [], ◌∷◌, ◌++◌, length, slice_index, Option, Some, None, refl, sym, ap, subst, arith}
 use Rattle.std.specs.Prelude.{IsTrue}
 use Rattle.std.specs.List.{AllByRecursion}
 use Rattle.std.specs.Option.{is_some}
 use Rattle.std.proofs.lemmas.List.{append_assoc}
 use Rattle.array_geom.specs.declared.chunk.Changed.{Changed}
 use Rattle.page_layout.specs.Places.{IsNone, KeepsPages}
-use Rattle.page_layout.specs.declared.logs.RecordAt.{RecordAt}
 use Rattle.page_chain.specs.Links.{AreFree}
 use Rattle.chunk_map.specs.declared.directory.Directory.{Directory}
 use Rattle.logical_plan.specs.declared.names.Names.{Names}
@@ -28,18 +27,17 @@ use Rattle.file_meaning.specs.Opening.{pages_of as found_pages, sequence_of}
 use Rattle.file_meaning.specs.declared.found.Found.{Found}
 use Rattle.next_files.specs.Next.{Made, with_record}
 use Rattle.next_files.specs.Laws.{RecordsMakeNext, FreePagesTurn}
-use Rattle.next_files.specs.Premises.{StandsBy, HasChain, HoldsRecord, made_pages, seen_before, record_at, slots_with}
+use Rattle.next_files.specs.Premises.{StandsBy, HasChain, HoldsRecord, seen_before, record_at, slots_with}
 use Rattle.commit_writes.specs.Commits.{commit_pages, HoldsAll, record_of}
 use Rattle.commit_pages.specs.declared.laid.Laid.{Laid}
-use Rattle.commit_pages.specs.declared.written.Written.{Written}
-use Rattle.commit_pages.specs.Versions.{draft_of, new_version, version_needs, IsWritten}
+use Rattle.commit_pages.specs.Versions.{draft_of, new_version, IsWritten}
 use Rattle.commit_pages.specs.Changes.{AreValid, ComesWith}
 use Rattle.commit_pages.specs.Commits.{chain_in, spelled, record_bytes, rest_of, record_needs, record_laid}
 use Rattle.commit_pages.proofs.Chains.{record_fills, version_has_its}
 use Rattle.commit_pages.proofs.Drafts.{is_written}
 use Rattle.laid_commits.specs.Laws.{LaidRecordsMakeNext}
-use Rattle.laid_commits.specs.Premises.{IsCommit, IsLaidRecord, made_by, made_of}
-use Rattle.laid_commits.proofs.Made.{Seeing, AreGiven, IsMade, version_made}
+use Rattle.laid_commits.specs.Premises.{IsCommit, made_of}
+use Rattle.laid_commits.proofs.Made.{Seeing, AreGiven, version_made}
 use Rattle.laid_commits.proofs.Pages.{in_order, found_none, none_later, below_all}
 
 -- ---- what comes with a change

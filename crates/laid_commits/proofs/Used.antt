@@ -1,15 +1,10 @@
 -- The pages of what is found after a commit.
 use Rattle.std.proofs.Common.{◌≡◌, ◌∙◌, ◌+◌, ℕ, List, [], ◌∷◌, ◌++◌, Option, Some, None, refl, sym, ap, subst}
-use Rattle.std.specs.List.{flat_map}
 use Rattle.std.proofs.lemmas.List.{append_assoc, append-nil}
-use Rattle.array_geom.specs.declared.chunk.Changed.{Changed}
 use Rattle.chunk_map.specs.declared.directory.Directory.{Directory}
-use Rattle.plan_changes.specs.declared.change.Change.{Change}
-use Rattle.version_catalog.specs.declared.rules.catalog.BlobAt.{BlobAt}
 use Rattle.catalog_changes.specs.Changed.{after_change}
 use Rattle.file_meaning.specs.Opening.{all_of, catalogue_pages, sequence_of}
-use Rattle.file_meaning.specs.declared.found.Found.{Found}
-use Rattle.next_files.specs.Next.{Made, blob_of, with_record, with_base}
+use Rattle.next_files.specs.Next.{blob_of, with_record, with_base}
 use Rattle.commit_pages.specs.declared.laid.Laid.{Laid}
 use Rattle.commit_pages.specs.declared.version.NewVersion.{NewVersion}
 use Rattle.commit_pages.specs.declared.written.Written.{Written}
@@ -42,10 +37,12 @@ records_have slots found change changed newest catalogue pages laid its =
     let is = version_its pages written newest in
     subst (λ (l : Laid). (l.used.catalogue ≡ catalogue ++ l.chain.pages) × (l.used.version ≡ pages_made (made_of l))
     × (catalogue_pages (with_record found l.chain.pages change (made_of l)) ≡ catalogue_pages found ++ l.chain.pages)
-    × ((with_record found l.chain.pages change (made_of l)).catalog ≡ l.catalog)) (sym its.is)
-    (refl, is.pages,
-    ap (λ (ps : List ℕ). found.chain ++ ps) (behind found.logged _) ∙ sym (append_assoc found.chain (all_of found.logged) _),
-    ap (after_change found.catalog change) is.at)
+    × ((with_record found l.chain.pages change (made_of l)).catalog ≡ l.catalog)) (sym its.is) (
+      refl,
+      is.pages,
+      ap (λ (ps : List ℕ). found.chain ++ ps) (behind found.logged _) ∙ sym (append_assoc found.chain (all_of found.logged) _),
+      ap (after_change found.catalog change) is.at,
+    )
 
 pub bases_have : LaidBasesHaveTheirPages
 unfolding base_laid

@@ -10,7 +10,6 @@ use Rattle.page_slots.specs.declared.slots.RootSlot.TheVariants.{Opening}
 use Rattle.chunk_map.specs.declared.directory.Directory.{Directory}
 use Rattle.plan_changes.specs.declared.change.Change.{Change}
 use Rattle.plan_changes.specs.Databases.{Database, after}
-use Rattle.version_catalog.specs.Catalogs.{IsCatalog}
 use Rattle.file_meaning.specs.Slots.{Slots}
 use Rattle.file_meaning.specs.Opening.{Opens, catalogue_pages, sequence_of}
 use Rattle.file_meaning.specs.Standing.{Stands}
@@ -55,7 +54,6 @@ OpenedRootsStand = (file : List ℕ) (side : Side) (root : Root) (db : Database)
     → OpensAsRoot (Opening root) side file → Opens file found × Stands file db
 
 -- ---- pages
-
 
 -- with a record the catalogue's pages are those before and the record's
 abbrev pub LaidRecordsHaveTheirPages : Type 0

@@ -5,8 +5,8 @@ ghost use Rattle.laid_commits.specs.Laws.{LaidRecordsMakeNext, LaidBasesMakeNext
 ghost use Rattle.laid_commits.specs.Laws.{LaidRecordsHaveTheirPages, LaidBasesHaveTheirPages};
 
 use next_files::{
-    bases_make_next, entries_are_seen, files_stand_by_their_slots, free_pages_turn, records_make_next,
-    torn_bases_stand_alike,
+    bases_make_next, entries_are_seen, files_stand_by_their_slots, free_pages_turn,
+    records_make_next, torn_bases_stand_alike,
 };
 
 /// With what is laid of a record the file stands for the database after the change.

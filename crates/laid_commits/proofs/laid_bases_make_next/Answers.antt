@@ -1,4 +1,3 @@
-use Rattle.laid_commits.proofs.Made.{Seeing}
 use Rattle.laid_commits.proofs.Bases.{laid_bases}
 use Rattle.laid_commits.proofs.laid_bases_make_next.Goals as goal
 

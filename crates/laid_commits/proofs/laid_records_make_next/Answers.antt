@@ -1,4 +1,3 @@
-use Rattle.laid_commits.proofs.Made.{Seeing}
 use Rattle.laid_commits.proofs.Records.{laid_records}
 use Rattle.laid_commits.proofs.laid_records_make_next.Goals as goal
 
