@@ -5,3 +5,4 @@ pub mod Opened
 pub mod Pages
 pub mod Records
 pub mod Used
+pub mod Worked

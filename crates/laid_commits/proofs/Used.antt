@@ -3,14 +3,14 @@ use Rattle.std.proofs.Common.{◌≡◌, ◌∙◌, ◌+◌, ℕ, List, [], ◌�
 use Rattle.std.proofs.lemmas.List.{append_assoc, append-nil}
 use Rattle.chunk_map.specs.declared.directory.Directory.{Directory}
 use Rattle.catalog_changes.specs.Changed.{after_change}
-use Rattle.file_meaning.specs.Opening.{all_of, catalogue_pages, sequence_of}
+use Rattle.file_meaning.specs.Opening.{all_of, sequence_of}
 use Rattle.next_files.specs.Next.{blob_of, with_record, with_base}
 use Rattle.commit_pages.specs.declared.laid.Laid.{Laid}
 use Rattle.commit_pages.specs.declared.version.NewVersion.{NewVersion}
 use Rattle.commit_pages.specs.declared.written.Written.{Written}
 use Rattle.commit_pages.specs.Versions.{draft_of, version_in, new_version}
 use Rattle.commit_pages.specs.Commits.{record_laid, base_laid}
-use Rattle.laid_commits.specs.Laws.{LaidRecordsHaveTheirPages, LaidBasesHaveTheirPages}
+use Rattle.laid_commits.specs.Laws.{HasRecordPages, HasBasePages, LaidRecordsHaveTheirPages, LaidBasesHaveTheirPages}
 use Rattle.laid_commits.specs.Premises.{made_by, made_of, pages_made}
 
 -- ---- the version
@@ -33,22 +33,21 @@ behind (list ∷ lists) pages = ap (λ (ps : List ℕ). list ++ ps) (behind list
 pub records_have : LaidRecordsHaveTheirPages
 unfolding record_laid
 records_have slots found change changed newest catalogue pages laid its =
-    let written = draft_of (sequence_of slots + 1) changed in
-    let is = version_its pages written newest in
-    subst (λ (l : Laid). (l.used.catalogue ≡ catalogue ++ l.chain.pages) × (l.used.version ≡ pages_made (made_of l))
-    × (catalogue_pages (with_record found l.chain.pages change (made_of l)) ≡ catalogue_pages found ++ l.chain.pages)
-    × ((with_record found l.chain.pages change (made_of l)).catalog ≡ l.catalog)) (sym its.is) (
-      refl,
-      is.pages,
-      ap (λ (ps : List ℕ). found.chain ++ ps) (behind found.logged _) ∙ sym (append_assoc found.chain (all_of found.logged) _),
-      ap (after_change found.catalog change) is.at,
-    )
+    let is = version_its pages (draft_of (sequence_of slots + 1) changed) newest in
+    subst (λ (l : Laid). HasRecordPages found (with_record found l.chain.pages change (made_of l)) catalogue l) (sym its.is) (record {
+      catalog = ap (after_change found.catalog change) is.at;
+      catalogue = ap (λ (ps : List ℕ). found.chain ++ ps) (behind found.logged _) ∙ sym (append_assoc found.chain (all_of found.logged) _);
+      told = refl;
+      version = is.pages;
+    })
 
 pub bases_have : LaidBasesHaveTheirPages
 unfolding base_laid
 bases_have slots found change changed newest pages log laid its =
-    let written = draft_of (sequence_of slots + 1) changed in
-    let is = version_its pages written newest in
-    subst (λ (l : Laid). (l.used.catalogue ≡ catalogue_pages (with_base found l.chain.pages change (made_of l)) ++ log ∷ []) × (l.used.version ≡ pages_made (made_of l))
-    × ((with_base found l.chain.pages change (made_of l)).catalog ≡ l.catalog)) (sym its.is)
-    (ap (λ (ps : List ℕ). ps ++ log ∷ []) (sym (append-nil _)), is.pages, ap (after_change found.catalog change) is.at)
+    let is = version_its pages (draft_of (sequence_of slots + 1) changed) newest in
+    subst (λ (l : Laid). HasBasePages (with_base found l.chain.pages change (made_of l)) log l) (sym its.is) (record {
+      catalog = ap (after_change found.catalog change) is.at;
+      catalogue = append-nil _;
+      told = refl;
+      version = is.pages;
+    })

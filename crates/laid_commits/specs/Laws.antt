@@ -25,8 +25,8 @@ use Rattle.laid_commits.specs.Premises.{IsCommit, IsLaidRecord, IsLaidBase, made
 -- ONCE THE BLOBS AND THE RECORD OF A COMMIT ARE IN THEIR PAGES, and no page but these and the log page was written, the file stands for the
 -- database after the change, by the slots with one record more
 abbrev pub LaidRecordsMakeNext : Type 0
-LaidRecordsMakeNext = (old new : List ℕ) (slots : Slots) (db : Database) (found : Found) (change : Change) (changed : Option Changed) (newest : Directory)
-    (catalogue pages : List ℕ) (laid : Laid) → IsCommit old slots db found change changed newest
+LaidRecordsMakeNext = (old new : List ℕ) (slots : Slots) (db : Database) (found : Found) (change : Change) (changed : Option Changed)
+    (newest : Directory) (catalogue pages : List ℕ) (laid : Laid) → IsCommit old slots db found change changed newest
     → IsLaidRecord slots found change changed newest catalogue pages laid
     → KeepsPages (slots.current.root.log ∷ commit_pages laid.blobs laid.chain) old new → HoldsAll new laid.blobs laid.chain
     → StandsBy new (slots_with slots (record_of laid.chain)) (after db change) (with_record found laid.chain.pages change (made_of laid))
@@ -35,11 +35,12 @@ LaidRecordsMakeNext = (old new : List ℕ) (slots : Slots) (db : Database) (foun
 
 -- so it does once the blobs and the next catalogue are in their pages, by the new root with an empty log
 abbrev pub LaidBasesMakeNext : Type 0
-LaidBasesMakeNext = (old new : List ℕ) (slots : Slots) (db : Database) (found : Found) (change : Change) (changed : Option Changed) (newest : Directory)
-    (pages : List ℕ) (log : ℕ) (laid : Laid) (side : Side) → IsCommit old slots db found change changed newest
+LaidBasesMakeNext = (old new : List ℕ) (slots : Slots) (db : Database) (found : Found) (change : Change) (changed : Option Changed)
+    (newest : Directory) (pages : List ℕ) (log : ℕ) (laid : Laid) (side : Side) → IsCommit old slots db found change changed newest
     → IsLaidBase slots found change changed newest pages log laid
     → KeepsPages (0 ∷ base_pages laid.blobs laid.chain log) old new → HoldsAll new laid.blobs laid.chain
-    → StandsBy new (slots_of side (root_of (sequence_of slots + 1) laid.chain log)) (after db change) (with_base found laid.chain.pages change (made_of laid))
+    → StandsBy new (slots_of side (root_of (sequence_of slots + 1) laid.chain log)) (after db change)
+    (with_base found laid.chain.pages change (made_of laid))
 
 -- ---- what it opens as
 
@@ -55,17 +56,27 @@ OpenedRootsStand = (file : List ℕ) (side : Side) (root : Root) (db : Database)
 
 -- ---- pages
 
--- with a record the catalogue's pages are those before and the record's
-abbrev pub LaidRecordsHaveTheirPages : Type 0
-LaidRecordsHaveTheirPages = (slots : Slots) (found : Found) (change : Change) (changed : Option Changed) (newest : Directory) (catalogue pages : List ℕ)
-    (laid : Laid) → IsLaidRecord slots found change changed newest catalogue pages laid
-    → (laid.used.catalogue ≡ catalogue ++ laid.chain.pages) × (laid.used.version ≡ pages_made (made_of laid))
-    × (catalogue_pages (with_record found laid.chain.pages change (made_of laid)) ≡ catalogue_pages found ++ laid.chain.pages)
-    × ((with_record found laid.chain.pages change (made_of laid)).catalog ≡ laid.catalog)
+-- with the record of a commit the catalogue that is found is the one laid, and its pages are those before and the record's. The commit tells
+-- so of the catalogue's pages, and for its version those of the new directory and of all its payloads
+pub record HasRecordPages (found next : Found) (before : List ℕ) (laid : Laid) : Type 0 where
+  pub catalog : next.catalog ≡ laid.catalog
+  pub catalogue : catalogue_pages next ≡ catalogue_pages found ++ laid.chain.pages
+  pub told : laid.used.catalogue ≡ before ++ laid.chain.pages
+  pub version : laid.used.version ≡ pages_made (made_of laid)
 
--- with a new base they are those of the next catalogue, and the log page
+abbrev pub LaidRecordsHaveTheirPages : Type 0
+LaidRecordsHaveTheirPages = (slots : Slots) (found : Found) (change : Change) (changed : Option Changed) (newest : Directory)
+    (catalogue pages : List ℕ) (laid : Laid) → IsLaidRecord slots found change changed newest catalogue pages laid
+    → HasRecordPages found (with_record found laid.chain.pages change (made_of laid)) catalogue laid
+
+-- with a new base it is the one laid too, and its pages are those of its chain. The commit tells these and the log page
+pub record HasBasePages (next : Found) (log : ℕ) (laid : Laid) : Type 0 where
+  pub catalog : next.catalog ≡ laid.catalog
+  pub catalogue : catalogue_pages next ≡ laid.chain.pages
+  pub told : laid.used.catalogue ≡ laid.chain.pages ++ log ∷ []
+  pub version : laid.used.version ≡ pages_made (made_of laid)
+
 abbrev pub LaidBasesHaveTheirPages : Type 0
-LaidBasesHaveTheirPages = (slots : Slots) (found : Found) (change : Change) (changed : Option Changed) (newest : Directory) (pages : List ℕ) (log : ℕ)
-    (laid : Laid) → IsLaidBase slots found change changed newest pages log laid
-    → (laid.used.catalogue ≡ catalogue_pages (with_base found laid.chain.pages change (made_of laid)) ++ log ∷ []) × (laid.used.version ≡ pages_made (made_of laid))
-    × ((with_base found laid.chain.pages change (made_of laid)).catalog ≡ laid.catalog)
+LaidBasesHaveTheirPages = (slots : Slots) (found : Found) (change : Change) (changed : Option Changed) (newest : Directory)
+    (pages : List ℕ) (log : ℕ) (laid : Laid) → IsLaidBase slots found change changed newest pages log laid
+    → HasBasePages (with_base found laid.chain.pages change (made_of laid)) log laid

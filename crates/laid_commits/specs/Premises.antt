@@ -44,7 +44,8 @@ pub record IsNewestIn (found : Found) (change : Change) (schema : Schema) (newes
 
 -- WHAT IS COMMITTED over a file that stands for a database by its slots: a change that the database allows, the chunks that come with it,
 -- and, where these are a part of a version, the directory of the newest one
-pub record IsCommit (file : List ℕ) (slots : Slots) (db : Database) (found : Found) (change : Change) (changed : Option Changed) (newest : Directory) : Type 0 where
+pub record IsCommit (file : List ℕ) (slots : Slots) (db : Database) (found : Found) (change : Change) (changed : Option Changed)
+    (newest : Directory) : Type 0 where
   pub stands : StandsBy file slots db found
   pub may : MayChange db change
   pub over : IsOver db change found.catalog changed newest
@@ -53,14 +54,16 @@ pub record IsCommit (file : List ℕ) (slots : Slots) (db : Database) (found : F
   pub sequence : sequence_of slots + 1 < 2 ^ 64
 
 -- a record of it, laid in as many pages as it needs, which are neither the log page nor any that was found
-pub record IsLaidRecord (slots : Slots) (found : Found) (change : Change) (changed : Option Changed) (newest : Directory) (catalogue pages : List ℕ) (laid : Laid) : Type 0 where
+pub record IsLaidRecord (slots : Slots) (found : Found) (change : Change) (changed : Option Changed) (newest : Directory)
+    (catalogue pages : List ℕ) (laid : Laid) : Type 0 where
   pub enough : length pages ≡ record_needs found.catalog newest change (draft_of (sequence_of slots + 1) changed)
   pub few : length pages < 2 ^ 32
   pub free : AreFree (slots.current.root.log ∷ pages_of found) pages
   pub is : laid ≡ record_laid found.catalog catalogue newest change (draft_of (sequence_of slots + 1) changed) pages
 
 -- a new base of it, laid in as many pages as it needs, with a page for the log. None of them was found
-pub record IsLaidBase (slots : Slots) (found : Found) (change : Change) (changed : Option Changed) (newest : Directory) (pages : List ℕ) (log : ℕ) (laid : Laid) : Type 0 where
+pub record IsLaidBase (slots : Slots) (found : Found) (change : Change) (changed : Option Changed) (newest : Directory)
+    (pages : List ℕ) (log : ℕ) (laid : Laid) : Type 0 where
   pub enough : length pages ≡ base_needs found.catalog newest change (draft_of (sequence_of slots + 1) changed)
   pub few : length pages < 2 ^ 32
   pub free : AreFree (pages_of found) (pages ++ log ∷ [])

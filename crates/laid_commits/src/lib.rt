@@ -1,12 +1,13 @@
 //! What a commit lays carries a file from one database to the next. No code has to be run for it.
 #![tactic(auto)]
 
+ghost use Rattle.laid_commits.specs.Inner.Removal.{ARemovalIsLaid};
 ghost use Rattle.laid_commits.specs.Laws.{LaidRecordsMakeNext, LaidBasesMakeNext, OpenedFilesStand, OpenedRootsStand};
 ghost use Rattle.laid_commits.specs.Laws.{LaidRecordsHaveTheirPages, LaidBasesHaveTheirPages};
 
 use next_files::{
-    bases_make_next, entries_are_seen, files_stand_by_their_slots, free_pages_turn,
-    records_make_next, torn_bases_stand_alike,
+    an_array_is_removed, bases_make_next, entries_are_seen, files_stand_by_their_slots,
+    free_pages_turn, records_make_next, torn_bases_stand_alike,
 };
 
 /// With what is laid of a record the file stands for the database after the change.
@@ -41,3 +42,11 @@ pub fn laid_commits_have_their_pages()
     ensures records { LaidRecordsHaveTheirPages }
     ensures bases { LaidBasesHaveTheirPages }
 {}
+
+/// An array that is removed by a new base: what is laid of it is what its file has.
+pub fn a_removal_is_laid()
+    ensures { ARemovalIsLaid }
+{
+    an_array_is_removed();
+    free_pages_turn();
+}
