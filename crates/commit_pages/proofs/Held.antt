@@ -1,7 +1,7 @@
 -- The new version in a file that has its blobs.
-use Rattle.std.proofs.Common.{◌≡◌, ◌∙◌, ◌⊎◌, inl, inr, ℕ, suc, ◌+◌, ◌≤◌, Bool, true, false, ◌&&◌, List, [], ◌∷◌, ◌++◌, length, map, take, drop, Option, Some, None, Ok, refl, sym, ap, subst, arith}
+use Rattle.std.proofs.Common.{◌≡◌, ◌∙◌, inl, inr, ℕ, suc, ◌≤◌, true, false, List, [], ◌∷◌, ◌++◌, length, map, drop, Some, Ok, refl, sym, ap, subst, arith}
 use Rattle.std.specs.List.{AllByRecursion}
-use Rattle.std.proofs.lemmas.List.{length-drop, length-take-le}
+use Rattle.std.proofs.lemmas.List.{length-take-le}
 use Rattle.cell_values.specs.declared.datum.Row.{Row}
 use Rattle.cell_values.specs.declared.schema.Schema.{Schema}
 use Rattle.array_rows.specs.Arrays.{AreRowsOf}
@@ -11,13 +11,12 @@ use Rattle.array_geom.specs.declared.chunk.Chunk.{Chunk}
 use Rattle.array_geom.specs.Geometry.{ChunkNumber, overlaps}
 use Rattle.array_geom.specs.Link.{is_listed, has_cell}
 use Rattle.array_geom.specs.Link as link
-use Rattle.arrayvec.specs.ArrayVec.{ArrayVec}
 use Rattle.array_rows.specs.Boxes.{by_pairs}
 use Rattle.chunk_map.specs.declared.directory.DirEntry.{DirEntry}
 use Rattle.chunk_map.specs.declared.directory.Directory.{Directory}
-use Rattle.chunk_map.specs.Entries.{entry_at, numbers}
+use Rattle.chunk_map.specs.Entries.{numbers}
 use Rattle.chunk_map.specs.Replacing.{AreReplaced}
-use Rattle.page_chain.specs.Pages.{page_size, pages_for, HoldsBlob}
+use Rattle.page_chain.specs.Pages.{page_size, HoldsBlob}
 use Rattle.chunk_rle.specs.Chunks.{spelling as payload_spelling}
 use Rattle.logical_plan.specs.Query.{Query}
 use Rattle.plan_changes.specs.declared.change.Change.TheVariants.{Create, Store, Insert, Remove, RemoveVersions}
@@ -26,9 +25,9 @@ use Rattle.file_meaning.specs.Standing.{HoldsPart, HoldsVersion}
 use Rattle.commit_writes.specs.declared.placed.Placed.{Placed}
 use Rattle.commit_writes.specs.Commits.{pages_of, HoldsBlobs}
 use Rattle.commit_pages.specs.declared.written.Written.{Written}
-use Rattle.commit_pages.specs.Versions.{blob_count, placed, all_placed, drafted, draft, draft_of, settled, entry_of, entries_of, directory_of, directory_bytes, version_in, new_version, version_needs}
+use Rattle.commit_pages.specs.Versions.{blob_count, placed, all_placed, drafted, draft, settled, entry_of, entries_of, directory_of, directory_bytes, version_in, new_version, version_needs}
 use Rattle.commit_pages.specs.Changes.{AreValid, IsChangeOf}
-use Rattle.commit_pages.specs.Laws.{IsOfRows, IsThere, IsHeld, HoldsNew, HoldsVersionOf, VersionsAreHeld}
+use Rattle.commit_pages.specs.Laws.{IsOfRows, IsThere, IsHeld, HoldsVersionOf, VersionsAreHeld}
 use Rattle.commit_pages.proofs.Costs.{IsPutOver, insert_lists, insert_keeps, replaced_has, found_has, map_all, of_entries}
 use Rattle.commit_pages.proofs.Directories.{stores_list_theirs, inserts_replace, draft_rises}
 use Rattle.commit_pages.proofs.Drafts.{is_written}

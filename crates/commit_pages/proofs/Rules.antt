@@ -1,11 +1,11 @@
 -- New directories have a spelling.
-use Rattle.std.proofs.Common.{◌≡◌, ◌∙◌, ℕ, zero, suc, ◌+◌, ◌-◌, ◌*◌, ◌<◌, ◌≤◌, ◌^◌, Bool, true, false, ◌&&◌, List, [], ◌∷◌, ◌++◌, IfSome, Option, Some, None, length, map, take, drop, refl, sym, ap, subst, arith}
+use Rattle.std.proofs.Common.{◌≡◌, ◌∙◌, ℕ, zero, suc, ◌+◌, ◌-◌, ◌*◌, ◌<◌, ◌≤◌, ◌^◌, Bool, true, false, List, [], ◌∷◌, ◌++◌, IfSome, Option, Some, None, length, map, take, drop, refl, sym, ap, subst, arith}
 use Rattle.std.specs.Prelude.{int_le, ◌≤ℤ◌, slice_index}
 use Rattle.std.specs.Int.{w64, to_le_bytes}
 use Rattle.std.specs.List.{AllByRecursion, flat_map}
 use Rattle.std.proofs.lemmas.Bool.{and_parts}
 use Rattle.std.proofs.lemmas.Int.{ints}
-use Rattle.std.proofs.lemmas.List.{length-append, length-drop, length-take, length-take-le}
+use Rattle.std.proofs.lemmas.List.{length-append, length-drop, length-take-le}
 use Rattle.arrayvec.specs.ArrayVec.{ArrayVec}
 use Rattle.cell_values.specs.declared.schema.Dimension.{Dimension}
 use Rattle.cell_values.specs.declared.schema.Schema.{Schema}
@@ -25,14 +25,13 @@ use Rattle.chunk_rle.specs.Chunks.{spelling as payload_spelling, as_runs}
 use Rattle.chunk_rle.specs.Spelling.{spell_runs, spell_position_run, spell_column}
 use Rattle.chunk_rle.specs.Stored.{IsStored}
 use Rattle.file_items.specs.Pages.{LieIn}
-use Rattle.file_items.specs.Items.{spell_counted}
 use Rattle.file_laws.proofs.Counts.{counts_agree}
 use Rattle.version_catalog.specs.declared.rules.catalog.BlobAt.{BlobAt}
 use Rattle.catalog_changes.specs.Changed.{IsItsBlob}
 use Rattle.commit_writes.specs.declared.placed.Placed.{Placed}
 use Rattle.commit_writes.specs.Commits.{pages_of, IsBlobSized}
 use Rattle.commit_pages.specs.declared.written.Written.{Written}
-use Rattle.commit_pages.specs.Versions.{blob_count, placed, all_placed, drafted, draft, settled, entry_of, entries_of, directory_of, directory_bytes, version_in, new_version, version_needs, IsWritten, CanBeListed}
+use Rattle.commit_pages.specs.Versions.{blob_count, all_placed, drafted, draft, settled, entry_of, entries_of, directory_of, directory_bytes, version_in, new_version, version_needs, IsWritten, CanBeListed}
 use Rattle.commit_pages.specs.Changes.{AreValid}
 use Rattle.commit_pages.specs.Commits.{record_needs, base_needs, with_record, with_base}
 use Rattle.commit_pages.specs.declared.laid.Laid.{Laid}
@@ -43,7 +42,7 @@ use Rattle.version_catalog.specs.declared.rules.catalog.Catalog.{Catalog}
 use Rattle.commit_pages.proofs.Blobs.{both_fit, length_placed, sized_placed}
 use Rattle.commit_pages.proofs.Costs.{core_length}
 use Rattle.commit_pages.proofs.Directories.{entries_rise, stores_list_theirs, inserts_replace}
-use Rattle.commit_pages.proofs.Lengths.{Takes, takes, settled_bytes}
+use Rattle.commit_pages.proofs.Lengths.{settled_bytes}
 
 -- ---- pages that four bytes name
 

@@ -1,6 +1,5 @@
 -- The worked insert, computed.
-use Rattle.std.proofs.Common.{◌≡◌, ◌∙◌, ℕ, Bool, true, false, ◌&&◌, ◌||◌, List, [], ◌∷◌, length, map, Some, refl, sym, ap, subst, arith}
-use Rattle.std.specs.List.{AllByRecursion}
+use Rattle.std.proofs.Common.{◌≡◌, ◌∙◌, Bool, true, false, ◌&&◌, ◌||◌, [], ◌∷◌, length, Some, refl, sym, ap, subst, arith}
 use Rattle.std.specs.Ordering.{is_eq}
 use Rattle.array_rows.specs.Arrays.{AreRowsOf}
 use Rattle.array_geom.specs.Geometry.{ChunkNumber}
@@ -11,8 +10,8 @@ use Rattle.chunk_rle.specs.Chunks.{spelling as payload_spelling}
 use Rattle.chunk_rle.specs.Spelling.{spell_runs, spell_value}
 use Rattle.chunk_rle.specs.Table.{is_same}
 use Rattle.chunk_map.specs.Spelling.{spelling as directory_spelling, spell_entry}
-use Rattle.version_catalog.specs.Spelling.{spelling, spell_array, spell_version, spell_blob, spell_record}
-use Rattle.file_items.specs.Spelling.{spell_name, spell_attribute, spell_signed, spell_dimension, spell_schema}
+use Rattle.version_catalog.specs.Spelling.{spell_blob, spell_record}
+use Rattle.file_items.specs.Spelling.{spell_name}
 use Rattle.page_chain.specs.Pages.{page_size}
 use Rattle.logical_plan.specs.Typing.{AreSound}
 use Rattle.plan_changes.specs.Databases.{names_of}

@@ -112,7 +112,8 @@ IsHeld old new schema rows birth before entry =
     IsThere new schema rows birth entry ⊎ ((entry_at before entry.at.items ≡ Some entry) × HoldsPart old schema rows entry)
 
 -- the new file has the directory's bytes where it lies, and it lists a chunk just where its core holds a row
-pub record HoldsNew (old new : List ℕ) (schema : Schema) (rows : List Row) (birth : ℕ) (before : List DirEntry) (directory : Directory) (at : BlobAt) : Type 0 where
+pub record HoldsNew (old new : List ℕ) (schema : Schema) (rows : List Row) (birth : ℕ) (before : List DirEntry) (directory : Directory)
+    (at : BlobAt) : Type 0 where
   pub spelled : HoldsBlob page_size new at.pages (directory_spelling directory)
   pub size : at.length ≡ length (directory_spelling directory)
   pub enough : length at.pages ≡ pages_for page_size at.length
@@ -152,7 +153,8 @@ pub record AreSamePages (a b : List ℕ) : Type 0 where
 -- THE FRESH PAGES of a commit are just those given
 abbrev pub RecordsUseTheGiven : Type 0
 RecordsUseTheGiven = (names : Names) (versions : List VersionPages) (catalog : Catalog) (catalogue : List ℕ) (newest : Directory)
-    (change : Change) (written : Option Written) (pages : List ℕ) → IsApart (is_known names versions catalogue change) newest pages → IfSome written IsWritten → is_some written ≡ makes_version change
+    (change : Change) (written : Option Written) (pages : List ℕ) → IsApart (is_known names versions catalogue change) newest pages
+    → IfSome written IsWritten → is_some written ≡ makes_version change
     → length pages ≡ record_needs catalog newest change written
     → AreSamePages (fresh_of names versions catalogue change (record_laid catalog catalogue newest change written pages).used) pages
 

@@ -10,7 +10,8 @@ ghost use Rattle.commit_writes.specs.Commits.{base_pages, commit_pages, IsBlobSi
 ghost use Rattle.commit_pages.specs.Versions.{new_version, HasRisingNumbers, IsWritten, CanBeListed};
 ghost use Rattle.event_core.specs.Apart.{makes_version};
 ghost use Rattle.std.specs.Option.{is_some};
-ghost use Rattle.commit_pages.specs.Commits.{chain_in, record_bytes, catalog_bytes, rest_of, with_record, with_base, record_needs, base_needs, record_laid, base_laid};
+ghost use Rattle.commit_pages.specs.Commits.{chain_in, record_bytes, catalog_bytes, rest_of, with_record, with_base};
+ghost use Rattle.commit_pages.specs.Commits.{record_needs, base_needs, record_laid, base_laid};
 
 use crate::Written;
 use crate::needed::{catalog_bytes, count_pages, payload_count, record_bytes};
@@ -380,7 +381,8 @@ pub fn lay_record(
     ensures chain { IfOk result (λ laid. IsChainSized laid.chain) }
     ensures pages { IfOk result (λ laid. commit_pages laid.blobs laid.chain ≡ pages.now) }
     ensures at { IfOk result (λ laid. IsItsBlob laid.at) }
-    ensures rules { IfOk result (λ laid. (dims : ℕ) → IsDirectory dims newest.now → IfSome written (CanBeListed dims) → IfSome laid.directory (IsDirectory dims)) }
+    ensures rules { IfOk result (λ laid. (dims : ℕ) → IsDirectory dims newest.now → IfSome written (CanBeListed dims)
+        → IfSome laid.directory (IsDirectory dims)) }
 {
     match placed_version(alloc, written, newest, pages) {
         Ok(version) => {
@@ -414,7 +416,8 @@ pub fn lay_base(
     ensures chain { IfOk result (λ laid. IsChainSized laid.chain) }
     ensures pages { IfOk result (λ laid. base_pages laid.blobs laid.chain log ≡ pages.now ++ log ∷ []) }
     ensures at { IfOk result (λ laid. IsItsBlob laid.at) }
-    ensures rules { IfOk result (λ laid. (dims : ℕ) → IsDirectory dims newest.now → IfSome written (CanBeListed dims) → IfSome laid.directory (IsDirectory dims)) }
+    ensures rules { IfOk result (λ laid. (dims : ℕ) → IsDirectory dims newest.now → IfSome written (CanBeListed dims)
+        → IfSome laid.directory (IsDirectory dims)) }
 {
     match placed_version(alloc, written, newest, pages) {
         Ok(version) => {

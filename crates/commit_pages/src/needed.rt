@@ -8,7 +8,8 @@ ghost use Rattle.catalog_changes.specs.Changed.{has_its_directory};
 ghost use Rattle.commit_writes.specs.Commits.{pages_of};
 ghost use Rattle.event_core.specs.Apart.{makes_version};
 ghost use Rattle.std.specs.Option.{is_some};
-ghost use Rattle.commit_pages.specs.Versions.{blob_count, blob_at, drafted, directory_bytes, draft_at, count_at, version_needs, payload_count, HasRisingNumbers};
+ghost use Rattle.commit_pages.specs.Versions.{blob_at, drafted, directory_bytes, draft_at};
+ghost use Rattle.commit_pages.specs.Versions.{count_at, payload_count, version_needs, HasRisingNumbers};
 ghost use Rattle.commit_pages.specs.Commits.{chain_count, record_bytes, catalog_bytes, record_needs, base_needs};
 
 use crate::Written;

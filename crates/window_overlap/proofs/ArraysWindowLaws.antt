@@ -15,7 +15,6 @@ use Rattle.array_rows.specs.Boxes.{is_inside, within, bounds_of}
 use Rattle.array_rows.specs.Cellwise.{put_first, cell_wise}
 use Rattle.array_rows.specs.Rows.{Coordinate}
 use Rattle.array_rows.proofs.RowsLemmas.{IsRising-cell_wise}
-use Rattle.array_geom.specs.Geometry.{overlaps, frame_lengths, volume}
 use Rattle.array_geom.proofs.NearLemmas.{valid_placed}
 use Rattle.array_geom.proofs.TestLaws.{and_parts, at_most}
 use Rattle.array_parts.proofs.PartLemmas.{all_kept}

@@ -53,7 +53,7 @@ window_made reach gs rows c cell vs values area some e f same made =
 
 -- ---- one row after the other
 
-cell_wise-more : (change : Coordinate → Cell → Option Cell) (rows : List Row) (row : Row) → cell_wise change (rows ++ row ∷ []) ≡ cell_wise change rows ++ cell_wise change (row ∷ [])
+pub cell_wise-more : (change : Coordinate → Cell → Option Cell) (rows : List Row) (row : Row) → cell_wise change (rows ++ row ∷ []) ≡ cell_wise change rows ++ cell_wise change (row ∷ [])
 cell_wise-more change [] row = refl
 cell_wise-more change (first ∷ rows) row =
     ap (put_first first.at.items (change first.at.items first.cell)) (cell_wise-more change rows row) ∙ cases (change first.at.items first.cell)

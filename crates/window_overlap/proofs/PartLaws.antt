@@ -47,7 +47,7 @@ windows_kept area reach gs rows = kept_cells area (window_cell reach gs rows) ro
 -- ---- windows within frames
 
 -- a box in another one has the same rows there
-same_part : (a b : Bounds) (rows : List Row) → ((c : Coordinate) → is_inside a c ≡ true → is_inside b c ≡ true) → within a (within b rows) ≡ within a rows
+pub same_part : (a b : Bounds) (rows : List Row) → ((c : Coordinate) → is_inside a c ≡ true → is_inside b c ≡ true) → within a (within b rows) ≡ within a rows
 same_part a b [] h = refl
 same_part a b (row ∷ rows) h = cases (is_inside a row.at.items) refl (is_inside b row.at.items) refl (same_part a b rows h)
   where
@@ -57,18 +57,18 @@ same_part a b (row ∷ rows) h = cases (is_inside a row.at.items) refl (is_insid
     cases false e true f r = ap (λ (v : Bool). cond v (row ∷ within a (within b rows)) (within a (within b rows))) e ∙ r
     cases false e false f r = r
 
-record IsOnSide (l h x : ℤ) (rest : Bool) : Type 0 where
-  low : l ≤ℤ x
-  high : x ≤ℤ h
-  others : rest ≡ true
+pub record IsOnSide (l h x : ℤ) (rest : Bool) : Type 0 where
+  pub low : l ≤ℤ x
+  pub high : x ≤ℤ h
+  pub others : rest ≡ true
 
-on_side : (l h x : ℤ) (rest : Bool) → (int_le l x && int_le x h && rest) ≡ true → IsOnSide l h x rest
+pub on_side : (l h x : ℤ) (rest : Bool) → (int_le l x && int_le x h && rest) ≡ true → IsOnSide l h x rest
 on_side l h x rest e =
     let parts = and_parts (int_le l x && int_le x h) rest e in
     let first = and_parts (int_le l x) (int_le x h) parts.0 in
     record { low = le_from_test l x first.0; high = le_from_test x h first.1; others = parts.1 }
 
-side : (l h x : ℤ) (rest : Bool) → l ≤ℤ x → x ≤ℤ h → rest ≡ true → (int_le l x && int_le x h && rest) ≡ true
+pub side : (l h x : ℤ) (rest : Bool) → l ≤ℤ x → x ≤ℤ h → rest ≡ true → (int_le l x && int_le x h && rest) ≡ true
 side l h x rest low high r = and_both (int_le l x && int_le x h) rest (and_both (int_le l x) (int_le x h) (le_test l x low) (le_test x h high)) r
 
 reached_low : (first x y : ℤ) (before m : ℕ) → first ≤ℤ x → (x -ℤ pos before) ≤ℤ y → before ≤ m → (first -ℤ pos m) ≤ℤ y
@@ -99,7 +99,7 @@ window_in_frame (d ∷ dims) (m ∷ margins) (q ∷ k) (r ∷ reach) (x ∷ c) (
     (reached_high d.hi (last_in d q) x y r.after m s.high t.high w.0.1)
     (window_in_frame dims margins k reach c at (omega (arith, n)) w.1 s.others t.others)
 
-same_windows : (area : Bounds) (reach : List Reach) (gs : List Aggregate) (some all rows : List Row) → ((c : Coordinate) → is_inside area c ≡ true → within (window reach c) some ≡ within (window reach c) all)
+pub same_windows : (area : Bounds) (reach : List Reach) (gs : List Aggregate) (some all rows : List Row) → ((c : Coordinate) → is_inside area c ≡ true → within (window reach c) some ≡ within (window reach c) all)
     → cell_wise (window_cell reach gs some) (within area rows) ≡ cell_wise (window_cell reach gs all) (within area rows)
 same_windows area reach gs some all [] h = refl
 same_windows area reach gs some all (row ∷ rows) h = cases (is_inside area row.at.items) refl (same_windows area reach gs some all rows h)

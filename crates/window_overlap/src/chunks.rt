@@ -8,4 +8,6 @@ mod states;
 mod windows;
 
 pub use chunks::window_chunk;
+pub(crate) use corners::reach_of;
+pub(crate) use windows::windows_inside;
 pub use windows::windows_of_rows;

@@ -5,7 +5,6 @@ use Rattle.array_geom.specs.declared.chunk.Changed.{Changed}
 use Rattle.chunk_map.specs.declared.directory.DirEntry.{DirEntry}
 use Rattle.chunk_map.specs.declared.directory.Directory.{Directory}
 use Rattle.file_meaning.specs.Standing.{stored_chunk}
-use Rattle.event_core.specs.declared.entry.Used.{Used}
 use Rattle.commit_costs.specs.Costs.{catalog_of, payload_length}
 use Rattle.commit_costs.specs.Inner.Examples.{schema, cell_at, stored, insert_at}
 use Rattle.commit_writes.specs.Commits.{pages_of}

@@ -8,7 +8,9 @@ ghost use Rattle.logical_plan.specs.PlanSchema.{window_schema};
 ghost use Rattle.logical_plan.specs.Typing.{are_aggregates_of, are_windows_of};
 ghost use Rattle.window_overlap.specs.Meant.{window_meant};
 
+use crate::arrays::pieces::by_parts;
 use crate::chunks::windows_of_rows;
+use area_cells::{are_few, are_rising};
 use array_geom::{ChunkedArray, margins_of};
 use cell_values::{Memory, Schema};
 use chunk_cells::{assemble, broken_array};
@@ -38,10 +40,9 @@ fn of_whole(
     assemble(target, &margins, windows.as_slice())
 }
 
-/// The aggregates of the cells in the window around each cell: an array of the target. A cell in doubt stays one. What the array's
-/// margins hold doesn't matter.
+/// The windows of an array, from a list of all its rows.
 #[tactic(auto, using(array_geom::proofs::MarginLaws::overlap_each))]
-pub fn window(
+fn at_once(
     array: ChunkedArray,
     reach: &[Reach],
     aggs: &[Aggregate],
@@ -58,5 +59,31 @@ pub fn window(
     match &array.broken {
         Some(broken) => broken_array(target, &margins_of(target), broken),
         None => of_whole(array, reach, aggs, target),
+    }
+}
+
+/// The aggregates of the cells in the window around each cell: an array of the target, chunk by chunk where the numbers of the chunks
+/// rise, as those of an array do. A cell in doubt stays one. What the array's margins hold doesn't matter.
+pub fn window(
+    array: ChunkedArray,
+    reach: &[Reach],
+    aggs: &[Aggregate],
+    target: &Schema,
+) -> Result<ChunkedArray, Memory>
+    requires cells { HasCells array }
+    requires target { target.now ≡ window_schema aggs.now array.schema }
+    requires valid { IsValid target.now }
+    requires reach { IsTrue (are_windows_of array.schema reach.now) }
+    requires typed { IsTrue (are_aggregates_of array.schema.attributes aggs.now) }
+    ensures array { IfOk result (λ made. Is made (window_meant reach.now aggs.now (meant_by_cores array))) }
+    ensures margins { IfOk result (λ made. made.margins.items ≡ overlaps target.now.dimensions) }
+{
+    let parts = array.broken.is_none()
+        && are_few(array.chunks.as_slice())
+        && are_rising(array.chunks.as_slice(), array.schema.dimensions.len());
+    if parts {
+        by_parts(array, reach, aggs, target)
+    } else {
+        at_once(array, reach, aggs, target)
     }
 }

@@ -1,14 +1,18 @@
 //! The aggregates of the window around each cell.
-ghost use Rattle.std.specs.Prelude.{◌≡◌, ◌<◌, ◌≤◌, ◌^◌, List as Items, Some, length, IfOk};
+ghost use Rattle.std.specs.Prelude.{◌≡◌, ◌<◌, ◌≤◌, ◌^◌, ◌∷◌, ◌++◌, [], List as Items, Some, length, OnOk, IfOk};
 ghost use Rattle.array_geom.specs.Inner.Ranges.{AreLow};
+ghost use Rattle.array_rows.specs.Boxes.{within};
+ghost use Rattle.array_rows.specs.Cellwise.{cell_wise};
 ghost use Rattle.array_rows.specs.Rows.{Coordinate, IsRising};
 ghost use Rattle.logical_plan.specs.declared.parts.Reach.{Reach as Reached};
 ghost use Rattle.logical_plan.specs.Groups.{window, window_cell, window_rows};
+ghost use Rattle.window_overlap.specs.Cores.{window_within};
 ghost use Rattle.window_overlap.specs.Reaches.{AreShort, CanAggregate, HaveLowPlaces};
 
 use crate::chunks::corners::window_of;
 use crate::chunks::runs::runs_within;
 use crate::chunks::states::values_of;
+use array_rows::is_in_box;
 use cell_values::{Bounds, Cell, List, Memory, Row, copy_coord};
 use logical_plan::{Aggregate, Reach};
 
@@ -72,6 +76,50 @@ pub fn windows_of_rows(
     let mut made = List::with_capacity(rows.allocator(), rows.len())?;
     for row in rows.as_slice() {
         made.push(window_row(rows, row, reach, aggs)?)?;
+    }
+    Ok(made)
+}
+
+/// Adds what a row becomes, if the box has it.
+#[tactic(auto, using(crate::proofs::PieceLaws::no_window))]
+fn push_window(
+    made: &mut List<Row>,
+    rows: &List<Row>,
+    row: &Row,
+    area: &Bounds,
+    reach: &[Reach],
+    aggs: &[Aggregate],
+) -> Result<(), Memory>
+    requires few { length rows.now < 2 ^ 63 }
+    requires rising { IsRising rows.now }
+    requires low { AreLow row.now.at.items }
+    requires short { AreShort reach.now }
+    requires typed { CanAggregate aggs.now rows.now }
+    ensures { OnOk result (made.new ≡ made.old ++ cell_wise (window_within area.now reach.now aggs.now rows.now) (row.now ∷ [])) }
+{
+    if is_in_box(area, &row.at) {
+        made.push(window_row(rows, row, reach, aggs)?)?;
+    }
+    Ok(())
+}
+
+/// The aggregates of the window around each cell of a box.
+pub(crate) fn windows_inside(
+    rows: &List<Row>,
+    area: &Bounds,
+    reach: &[Reach],
+    aggs: &[Aggregate],
+) -> Result<List<Row>, Memory>
+    requires few { length rows.now < 2 ^ 63 }
+    requires rising { IsRising rows.now }
+    requires low { HaveLowPlaces rows.now }
+    requires short { AreShort reach.now }
+    requires typed { CanAggregate aggs.now rows.now }
+    ensures { IfOk result (λ made. made ≡ within area.now (window_rows reach.now aggs.now rows.now)) }
+{
+    let mut made = List::with_capacity(rows.allocator(), rows.len())?;
+    for row in rows.as_slice() {
+        push_window(&mut made, rows, row, area, reach, aggs)?;
     }
     Ok(made)
 }

@@ -1,0 +1,6 @@
+pub mod ApartLaws
+pub mod CountLaws
+pub mod CutLaws
+pub mod FillLaws
+pub mod ListedLaws
+pub mod RisingLaws

@@ -1,0 +1,14 @@
+//! The cells of an array in a box, taken from the chunks whose cores meet it, and chunks made of the rows of their frames.
+#![tactic(auto)]
+
+mod counting;
+mod cutting;
+mod framing;
+mod gathering;
+mod rising;
+
+pub use counting::are_few;
+pub use cutting::cut_chunk;
+pub use framing::{array_of_parts, chunk_of_rows};
+pub use gathering::rows_in_area;
+pub use rising::are_rising;

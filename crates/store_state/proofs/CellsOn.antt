@@ -1,0 +1,108 @@
+-- What a store keeps on an honest disk that began as a database goes on over pins, unpins and reaps.
+use Rattle.std.proofs.Common.{◌≡◌, ℕ, ◌+◌, ◌≤◌, not, nat_eq, List, [], ◌∷◌, ◌++◌, length, Option, IsTrue, refl, ap, arith}
+use Rattle.std.specs.List.{AllByRecursion}
+use Rattle.afl_outside.specs.Disk.{Moment}
+use Rattle.page_slots.specs.declared.slots.Slots.{Slots}
+use Rattle.plan_changes.specs.declared.change.Change.{Change}
+use Rattle.plan_changes.specs.Databases.{Database}
+use Rattle.plan_changes.specs.Stored.{IsDatabase}
+use Rattle.file_meaning.specs.declared.found.Found.{Found}
+use Rattle.event_core.specs.declared.entry.Entry.{Entry}
+use Rattle.event_core.specs.declared.entry.Entry.TheVariants.{Pin, Unpin, Reap}
+use Rattle.event_core.specs.declared.state.Core.{Core}
+use Rattle.event_core.specs.Allowed.{is_pinned}
+use Rattle.event_core.specs.Cells.{at}
+use Rattle.event_core.specs.History.{History, OpenPin, open_pins}
+use Rattle.store_versions.specs.declared.row.VersionRow.{VersionRow}
+use Rattle.store_versions.specs.Versions.{Directories, versions_at}
+use Rattle.store_state.specs.Standings.{Standing, StoodFor, HaveStood}
+use Rattle.store_state.specs.Cells.{IsFound, IsImage, HoldsCells}
+use Rattle.store_state.specs.Inner.Keeping.{Keeping, LieIn}
+use Rattle.store_state.proofs.Lists.{all_push, all_filter, zip_map}
+
+stood_on : (entry : Entry) (db : Database) (least : ℕ) (h : History) (image : List ℕ) → StoodFor db least h image → StoodFor db least (entry ∷ h) image
+stood_on entry db least h image x = record {
+  later = entry ∷ x.later;
+  before = x.before;
+  part = ap (λ (rest : History). entry ∷ rest) x.part;
+  enough = x.enough;
+  more = x.more;
+  sound = x.sound;
+  stands = x.stands;
+}
+
+-- one more entry
+pub have_stood_on : (entry : Entry) (now : Moment) (db : Database) (h : History) (least since : ℕ) → HaveStood now db h least since → HaveStood now db (entry ∷ h) least since
+have_stood_on entry now db h least since x = record {
+  gone = x.gone;
+  made = omega (arith, x.made);
+  images = λ image left. stood_on entry db least h image (x.images image left);
+}
+
+module _ {D : Type 0} (moment : D → Moment) (s : Standing D) (k : Keeping) (db : Database) (h : History) (given : Directories) (places : List ℕ)
+    (x : HoldsCells moment s k db h given places) where
+  abbrev Sees : OpenPin → List ℕ → Type 0
+  Sees pin image = LieIn image (at db pin.before) (versions_at s.ledger.base given pin.before)
+
+  pub cells_pin : (session : ℕ) → IsTrue (not (is_pinned session h)) → HoldsCells moment s k db (Pin session ∷ h) given places
+  cells_pin session free = record {
+    legal = (x.legal, free, tt, tt);
+    database = x.database;
+    pinned = all_push (λ (pin : OpenPin). IsDatabase (at db pin.before)) (open_pins h) (record { session = session; before = h }) x.pinned x.database;
+    doubt = x.doubt;
+    bytes = x.bytes;
+    known = x.known;
+    found = x.found;
+    is_found = record { catalog = x.is_found.catalog; directories = x.is_found.directories; catalogue = x.is_found.catalogue; stored = x.is_found.stored };
+    images = λ image left.
+        let i : IsImage s.ledger.base given db h k.slots s.doubt x.found image = x.images image left in
+        record {
+          opens = i.opens;
+          holds = i.holds;
+          now = i.now;
+          pinned = all_push (λ (pin : OpenPin). Sees pin image) (open_pins h) (record { session = session; before = h }) i.pinned i.now;
+          stands = i.stands;
+        };
+    past = have_stood_on (Pin session) (moment s.disk) db h 0 _ x.past;
+    acked = zip_map _ _ (λ place since. have_stood_on (Pin session) (moment s.disk) db h (place + 1) since) places s.acked x.acked;
+  }
+
+  pub cells_unpin : (session : ℕ) (rows : List VersionRow) → IsTrue (is_pinned session h) → HoldsCells moment s (record k { rows = rows }) db (Unpin session ∷ h) given places
+  cells_unpin session rows pinned = record {
+    legal = (x.legal, pinned, tt, tt);
+    database = x.database;
+    pinned = all_filter (λ (pin : OpenPin). IsDatabase (at db pin.before)) (λ pin. not (nat_eq pin.session session)) (open_pins h) x.pinned;
+    doubt = x.doubt;
+    bytes = x.bytes;
+    known = x.known;
+    found = x.found;
+    is_found = record { catalog = x.is_found.catalog; directories = x.is_found.directories; catalogue = x.is_found.catalogue; stored = x.is_found.stored };
+    images = λ image left.
+        let i : IsImage s.ledger.base given db h k.slots s.doubt x.found image = x.images image left in
+        record {
+          opens = i.opens;
+          holds = i.holds;
+          now = i.now;
+          pinned = all_filter (λ (pin : OpenPin). Sees pin image) (λ pin. not (nat_eq pin.session session)) (open_pins h) i.pinned;
+          stands = i.stands;
+        };
+    past = have_stood_on (Unpin session) (moment s.disk) db h 0 _ x.past;
+    acked = zip_map _ _ (λ place since. have_stood_on (Unpin session) (moment s.disk) db h (place + 1) since) places s.acked x.acked;
+  }
+
+  pub cells_reap : HoldsCells moment s k db (Reap ∷ h) given places
+  cells_reap = record {
+    legal = (x.legal, refl, tt, tt);
+    database = x.database;
+    pinned = x.pinned;
+    doubt = x.doubt;
+    bytes = x.bytes;
+    known = x.known;
+    found = x.found;
+    is_found = record { catalog = x.is_found.catalog; directories = x.is_found.directories; catalogue = x.is_found.catalogue; stored = x.is_found.stored };
+    images = λ image left.
+        let i : IsImage s.ledger.base given db h k.slots s.doubt x.found image = x.images image left in
+        record { opens = i.opens; holds = i.holds; now = i.now; pinned = i.pinned; stands = i.stands };
+    past = have_stood_on Reap (moment s.disk) db h 0 _ x.past;
+    acked = zip_map _ _ (λ place since. have_stood_on Reap (moment s.disk) db h (place + 1) since) places s.acked x.acked;
+  }

@@ -1,0 +1,11 @@
+pub mod AtOn
+pub mod CellsOn
+pub mod Decodes
+pub mod Finds
+pub mod KeptOn
+pub mod Leaves
+pub mod Listings
+pub mod Lists
+pub mod ReadLaws
+pub mod Sights
+mod Worked

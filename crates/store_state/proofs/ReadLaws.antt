@@ -1,0 +1,239 @@
+-- The payload of a leaf's chunk, and what reading it tells.
+use Rattle.std.proofs.Common.{◌≡◌, ◌∙◌, ℕ, zero, suc, ◌+◌, ◌/◌, ◌<◌, ◌≤◌, ◌⊎◌, ⊎_elim, Bool, true, false, List, [], ◌∷◌, length, map, Option, None, Some, IfSome, IfOk, IsTrue, Result, Ok, Err, refl, ap, sym, subst, arith}
+use Rattle.std.specs.List.{AllByRecursion, find, list_any}
+use Rattle.std.specs.Ordering.{is_eq}
+use Rattle.arrayvec.specs.ArrayVec.{ArrayVec}
+use Rattle.cell_values.specs.Schemas.{IsValid}
+use Rattle.cell_values.specs.declared.datum.Row.{Row}
+use Rattle.cell_values.specs.declared.schema.Schema.{Schema}
+use Rattle.array_geom.specs.declared.chunk.Chunk.{Chunk}
+use Rattle.array_geom.specs.Geometry.{ChunkNumber, has_core, overlaps}
+use Rattle.array_geom.specs.Link.{number_order, is_listed, IsPart}
+use Rattle.array_geom.proofs.NearLemmas.{stored_frame}
+use Rattle.array_geom.proofs.NumberLaws.{is_equal, same_number}
+use Rattle.file_items.specs.Pages.{LieIn as Lie, pages_needed}
+use Rattle.page_chain.specs.Pages.{page_size, pages_for, first_past}
+use Rattle.chunk_map.specs.declared.directory.DirEntry.{DirEntry}
+use Rattle.chunk_map.specs.declared.directory.Directory.{Directory}
+use Rattle.chunk_map.specs.Entries.{numbers, entry_at}
+use Rattle.chunk_map.specs.Spelling.{IsEntry}
+use Rattle.chunk_rle.specs.Stored.{IsStored as IsSpelled}
+use Rattle.chunk_source.specs.Source.{is_among, numbers_of, version_chunks, IsChunkIn, IsStored}
+use Rattle.file_laws.proofs.Counts.{counts_agree}
+use Rattle.file_laws.proofs.Parts.{pages_there}
+use Rattle.file_laws.proofs.Payloads.{stored_part}
+use Rattle.file_laws.proofs.StoredLaws.{stored_are_given}
+use Rattle.file_meaning.specs.Opening.{are_pages}
+use Rattle.file_meaning.specs.Standing.{HoldsPart, stored_chunk}
+use Rattle.logical_plan.specs.declared.names.NameEntry.{NameEntry}
+use Rattle.logical_plan.specs.declared.names.Names.{Names}
+use Rattle.logical_plan.specs.declared.parts.Leaf.{Leaf}
+use Rattle.logical_plan.specs.Meaning.{version_rows}
+use Rattle.plan_changes.specs.Databases.{Database, names_of, rows_of}
+use Rattle.plan_changes.specs.Changes.{entry_named}
+use Rattle.plan_changes.specs.Changes.{is_named}
+use Rattle.plan_changes.specs.Stored.{IsStored as AreStoredSo}
+use Rattle.afl_outside.specs.Counts.{Rose}
+use Rattle.afl_outside.specs.Disk.{Moment}
+use Rattle.page_chain.specs.Inner.Runs.{OnlyReads}
+use Rattle.page_slots.specs.Standing.{IsSound as AreSound}
+use Rattle.page_slots.specs.declared.slots.Slots.{Slots}
+use Rattle.event_core.specs.Cells.{at as at_history}
+use Rattle.event_core.specs.History.{History, names_at}
+use Rattle.store_ledger.specs.Ledger.{LedgerState, with_fault}
+use Rattle.store_versions.specs.Seen.{seen}
+use Rattle.store_versions.specs.Versions.{HaveDirectories, MadeVersion, directory_of}
+use Rattle.store_state.specs.At.{IsAt}
+use Rattle.store_state.specs.Standings.{Standing, BeganAs, versions_after}
+use Rattle.store_state.specs.Inner.Sights.{Sees, SeesCells}
+use Rattle.store_state.specs.declared.fault.ReadFault.{ReadFault}
+use Rattle.store_state.specs.declared.fault.ReadFault.TheVariants.{Damaged}
+use Rattle.store_state.proofs.AtOn.{at_fault, at_read, with_ledger}
+use Rattle.store_state.proofs.Listings.{as_it_reads}
+use Rattle.store_state.specs.Calls.{entry_in, numbers_in, payload_in, IsLeafOf, IsRead, IsWhole}
+use Rattle.store_state.specs.Inner.Keeping.{Keeping, AreDirectoriesOf, IsDirectoryOf, LiesIn, LieIn}
+use Rattle.store_state.proofs.Finds.{IsFoundIn, found_in_all, any_found, entry_found, listed_any}
+use Rattle.store_state.proofs.Leaves.{IsSeen, is_seen, of_version, directory_is, numbers_are}
+
+-- the entry of a chunk that is listed
+pub record IsListed (names : Names) (versions : List MadeVersion) (leaf : Leaf) (at : ArrayVec ℕ) : Type 0 where
+  pub n : ℕ
+  pub version : leaf.version ≡ suc n
+  pub s : IsSeen names versions leaf n
+  pub entry : DirEntry
+  pub found : find (λ e. is_eq (number_order e.at.items at.items)) s.v.directory.entries ≡ Some entry
+  pub number : entry.at ≡ at
+  pub spelled : IsEntry (length leaf.schema.dimensions) entry
+  pub core : IsTrue (has_core leaf.schema.dimensions entry.at.items)
+
+same_items : (a b : ArrayVec ℕ) → a.items ≡ b.items → a ≡ b
+same_items a b e = ap (λ (items : List ℕ). let x : ArrayVec ℕ = record { items = items } in x) e
+
+listed_by : (names : Names) (versions : List MadeVersion) (leaf : Leaf) (at : ArrayVec ℕ) → IsLeafOf names leaf → HaveDirectories names versions → AreDirectoriesOf names versions →
+    (m : ℕ) → leaf.version ≡ m → is_among at (version_chunks (λ name number. numbers_in (directory_of name number versions)) leaf.name m) ≡ true → IsListed names versions leaf at
+listed_by names versions leaf at is have all zero e among = absurd cc
+listed_by names versions leaf at is have all (suc n) e among =
+    let s : IsSeen names versions leaf n = is_seen names versions leaf n e is have in
+    let d : IsDirectoryOf s.entry.schema s.v.directory = (of_version (λ (entry : NameEntry) (v : MadeVersion). IsDirectoryOf entry.schema v.directory) names versions leaf n s all).0 in
+    let es : List DirEntry = s.v.directory.entries in
+    let t : DirEntry → Bool = λ entry. is_eq (number_order entry.at.items at.items) in
+    let listed : is_listed at.items (numbers es) ≡ true =
+    ap (is_listed at.items) (sym (numbers_are es))
+    ∙ ap (λ (o : Option Directory). is_listed at.items (numbers_of (numbers_in o))) (sym (directory_is names versions leaf n s)) ∙ among in
+    let f : (x : DirEntry) × (find t es ≡ Some x) = any_found t es (sym (listed_any es at.items) ∙ listed) in
+    let spelled : IsFoundIn (IsEntry (length s.entry.schema.dimensions)) t f.0 = found_in_all (IsEntry (length s.entry.schema.dimensions)) t es f.0 d.spelled.each f.1 in
+    let core : IsFoundIn (λ (entry : DirEntry). IsTrue (has_core s.entry.schema.dimensions entry.at.items)) t f.0 =
+    found_in_all (λ (entry : DirEntry). IsTrue (has_core s.entry.schema.dimensions entry.at.items)) t es f.0 d.cores f.1 in
+    record {
+      n = n;
+      version = e;
+      s = s;
+      entry = f.0;
+      found = f.1;
+      number = same_items f.0.at at (same_number f.0.at.items at.items (is_equal (number_order f.0.at.items at.items) spelled.passes));
+      spelled = subst (λ (x : Schema). IsEntry (length x.dimensions) f.0) (sym s.schema) spelled.holds;
+      core = subst (λ (x : Schema). IsTrue (has_core x.dimensions f.0.at.items)) (sym s.schema) core.holds;
+    }
+
+pub listed_is : (names : Names) (versions : List MadeVersion) (leaf : Leaf) (at : ArrayVec ℕ) → IsLeafOf names leaf → HaveDirectories names versions → AreDirectoriesOf names versions →
+    is_among at (version_chunks (λ name number. numbers_in (directory_of name number versions)) leaf.name leaf.version) ≡ true → IsListed names versions leaf at
+listed_is names versions leaf at is have all among = listed_by names versions leaf at is have all leaf.version refl among
+
+-- it is what a look at the directory finds
+pub entry_is : (names : Names) (versions : List MadeVersion) (leaf : Leaf) (at : ArrayVec ℕ) (l : IsListed names versions leaf at) → entry_in (directory_of leaf.name leaf.version versions) at.items ≡ Some l.entry
+entry_is names versions leaf at l =
+    ap (λ (v : ℕ). entry_in (directory_of leaf.name v versions) at.items) l.version
+    ∙ ap (λ (o : Option Directory). entry_in o at.items) (directory_is names versions leaf l.n l.s)
+    ∙ sym (entry_found l.s.v.directory.entries at.items) ∙ l.found
+
+pub entry_pages : (names : Names) (versions : List MadeVersion) (leaf : Leaf) (at : ArrayVec ℕ) (l : IsListed names versions leaf at) → length l.entry.pages ≡ pages_for page_size l.entry.length
+entry_pages names versions leaf at l = l.spelled.payload.count.0 ∙ counts_agree l.entry.length
+
+some_needed : (bytes : ℕ) → 1 ≤ bytes → 1 ≤ (bytes + 4095) / 4096
+some_needed bytes one = omega (arith, one)
+
+pub entry_some : (names : Names) (versions : List MadeVersion) (leaf : Leaf) (at : ArrayVec ℕ) (l : IsListed names versions leaf at) → 0 < length l.entry.pages
+entry_some names versions leaf at l =
+    let one : 1 ≤ pages_needed l.entry.length = some_needed l.entry.length l.spelled.payload.some.0 in
+    omega (arith, one, l.spelled.payload.count.0)
+
+-- ---- what is told
+
+-- in a file in which the versions lie its payload is whole, and is the chunk of the rows
+pub record IsThere (file : List ℕ) (db : Database) (leaf : Leaf) (entry : DirEntry) : Type 0 where
+  pub within : first_past page_size file entry.pages ≡ None
+  pub spells : payload_in file leaf.schema entry ≡ Ok (stored_chunk leaf.schema (version_rows (rows_of db) leaf.name leaf.version) entry.at.items)
+
+pub entry_there : (file : List ℕ) (db : Database) (names : Names) (versions : List MadeVersion) (leaf : Leaf) (at : ArrayVec ℕ) (l : IsListed names versions leaf at) → names_of db ≡ names → LieIn file db versions →
+    IsThere file db leaf l.entry
+entry_there file db names versions leaf at l same all =
+    let of : LiesIn file l.s.entry.schema l.s.v.directory (rows_of db l.s.v.name l.s.v.version) × (l.s.v.name ≡ leaf.name) × (l.s.v.version ≡ suc l.n) =
+    of_version (λ (entry : NameEntry) (v : MadeVersion). LiesIn file entry.schema v.directory (rows_of db v.name v.version)) names versions leaf l.n l.s
+    (subst (λ (ns : Names). AllByRecursion (λ v. IfSome (entry_named ns.arrays v.name) (λ entry. LiesIn file entry.schema v.directory (rows_of db v.name v.version))) versions) same all) in
+    let t : DirEntry → Bool = λ entry. is_eq (number_order entry.at.items at.items) in
+    let part : IsFoundIn (HoldsPart file l.s.entry.schema (rows_of db l.s.v.name l.s.v.version)) t l.entry =
+    found_in_all (HoldsPart file l.s.entry.schema (rows_of db l.s.v.name l.s.v.version)) t l.s.v.directory.entries l.entry of.0.holds.payloads l.found in
+    let pages : IsFoundIn (λ (entry : DirEntry). IsTrue (are_pages file entry.pages)) t l.entry =
+    found_in_all (λ (entry : DirEntry). IsTrue (are_pages file entry.pages)) t l.s.v.directory.entries l.entry of.0.pages l.found in
+    let its : rows_of db l.s.v.name l.s.v.version ≡ rows_of db leaf.name (suc l.n) = ap (λ (name : List ℕ). rows_of db name l.s.v.version) of.1 ∙ ap (rows_of db leaf.name) of.2 in
+    let held : HoldsPart file leaf.schema (rows_of db leaf.name (suc l.n)) l.entry =
+    subst (λ (x : Schema). HoldsPart file x (rows_of db leaf.name (suc l.n)) l.entry) (sym l.s.schema)
+    (subst (λ (rows : List Row). HoldsPart file l.s.entry.schema rows l.entry) its part.holds) in
+    record {
+      within = pages_there file l.entry.pages pages.holds;
+      spells = subst (λ (v : ℕ). payload_in file leaf.schema l.entry ≡ Ok (stored_chunk leaf.schema (version_rows (rows_of db) leaf.name v) l.entry.at.items)) (sym l.version) held;
+    }
+
+same_ok : {A : Type 0} (a b : A) (r : Result A ℕ) → r ≡ Ok a → r ≡ Ok b → a ≡ b
+same_ok a b r e f = let both : Ok a ≡ Ok b = sym e ∙ f in cc
+
+-- the chunk that is read is the part of the rows
+pub read_told : (file : List ℕ) (db : Database) (leaf : Leaf) (entry : DirEntry) (chunk : Chunk) → IsValid leaf.schema → IsTrue (has_core leaf.schema.dimensions entry.at.items) → IsThere file db leaf entry →
+    payload_in file leaf.schema entry ≡ Ok chunk → IsChunkIn (rows_of db) leaf chunk
+read_told file db leaf entry chunk valid core there read =
+    let rows : List Row = version_rows (rows_of db) leaf.name leaf.version in
+    let same : stored_chunk leaf.schema rows entry.at.items ≡ chunk = same_ok (stored_chunk leaf.schema rows entry.at.items) chunk (payload_in file leaf.schema entry) there.spells read in
+    subst (IsPart leaf.schema.dimensions (overlaps leaf.schema.dimensions) rows) same (stored_part leaf.schema rows entry.at.items (stored_frame leaf.schema entry.at.items valid core))
+
+pub there_whole : (file : List ℕ) (db : Database) (leaf : Leaf) (entry : DirEntry) → IsThere file db leaf entry → IsWhole file leaf.schema entry
+there_whole file db leaf entry there = record { within = there.within; chunk = stored_chunk leaf.schema (version_rows (rows_of db) leaf.name leaf.version) entry.at.items; spells = there.spells }
+
+pub read_stored : (schema : Schema) (entry at : ArrayVec ℕ) (chunk : Chunk) → IsSpelled schema chunk → chunk.at ≡ entry → entry ≡ at → IsStored schema at chunk
+read_stored schema entry at chunk stored number same = subst (λ (x : ArrayVec ℕ). IsStored schema x chunk) (number ∙ same) (stored_are_given schema chunk stored)
+
+-- ---- a read at a place
+
+module _ {D : Type 0} (moment : D → Moment) (s : Standing D) (k : Keeping) (place : ℕ) (before : History) (leaf : Leaf) (at : ArrayVec ℕ) (sees : Sees s k place before)
+    (is : IsLeafOf (names_at s.ledger.base before) leaf)
+    (among : is_among at (version_chunks (λ name number. numbers_in (directory_of name number (versions_after s before))) leaf.name leaf.version) ≡ true) where
+  place_lists : IsListed (names_at s.ledger.base before) (versions_after s before) leaf at
+  place_lists = listed_is (names_at s.ledger.base before) (versions_after s before) leaf at is sees.named sees.directories among
+
+  -- what is looked up in the table
+  look_up : entry_in (directory_of leaf.name leaf.version (seen place k.rows)) at.items ≡ Some place_lists.entry
+  look_up = ap (λ (versions : List MadeVersion). entry_in (directory_of leaf.name leaf.version versions) at.items) sees.rows
+      ∙ entry_is (names_at s.ledger.base before) (versions_after s before) leaf at place_lists
+
+  pub never_none : None ≡ entry_in (directory_of leaf.name leaf.version (seen place k.rows)) at.items → ⊥
+  never_none e = let no : None ≡ Some place_lists.entry = e ∙ look_up in cc
+
+  pub read_valid : IsValid leaf.schema
+  read_valid =
+      let l : IsListed (names_at s.ledger.base before) (versions_after s before) leaf at = place_lists in
+      subst IsValid (sym l.s.schema)
+      (found_in_all AreStoredSo (is_named leaf.name) (names_at s.ledger.base before).arrays l.s.entry sees.stored.each l.s.named).holds.schema
+
+  module _ (entry : DirEntry) (found : Some entry ≡ entry_in (directory_of leaf.name leaf.version (seen place k.rows)) at.items) where
+    the_same : place_lists.entry ≡ entry
+    the_same = let both : Some entry ≡ Some place_lists.entry = found ∙ look_up in cc
+
+    pub read_core : IsTrue (has_core leaf.schema.dimensions entry.at.items)
+    read_core = subst (λ (e : DirEntry). IsTrue (has_core leaf.schema.dimensions e.at.items)) the_same place_lists.core
+
+    pub read_pages : length entry.pages ≡ pages_for page_size entry.length
+    read_pages = subst (λ (e : DirEntry). length e.pages ≡ pages_for page_size e.length) the_same
+        (entry_pages (names_at s.ledger.base before) (versions_after s before) leaf at place_lists)
+
+    pub read_some : 0 < length entry.pages
+    read_some = subst (λ (e : DirEntry). 0 < length e.pages) the_same (entry_some (names_at s.ledger.base before) (versions_after s before) leaf at place_lists)
+
+    pub read_number : entry.at ≡ at
+    read_number = subst (λ (e : DirEntry). e.at ≡ at) the_same place_lists.number
+
+    place_there : (db : Database) (cells : SeesCells moment s db before) → IfSome (moment s.disk).state.seen (moment s.disk).may_leave → IsThere cells.file (at_history db before) leaf entry
+    place_there db cells reads = subst (λ (e : DirEntry). IsThere cells.file (at_history db before) leaf e) the_same
+        (entry_there cells.file (at_history db before) (names_at s.ledger.base before) (versions_after s before) leaf at place_lists cells.names
+        (cells.lies cells.file (as_it_reads (moment s.disk) cells.file cells.tells reads)))
+
+    of_file : (r : Result Chunk ReadFault) (db : Database) (cells : SeesCells moment s db before) → IfSome (moment s.disk).state.seen (λ seen. IsRead seen leaf.schema entry r) → IsRead cells.file leaf.schema entry r
+    of_file r db cells exact = let all : IfSome (Some cells.file) (λ seen. IsRead seen leaf.schema entry r) = subst (λ (o : Option (List ℕ)). IfSome o (λ seen. IsRead seen leaf.schema entry r)) cells.tells exact in all
+
+    pub read_tells : (r : Result Chunk ReadFault) → ((db : Database) → BeganAs (moment s.opened.disk).state db → SeesCells moment s db before) → IfSome (moment s.disk).state.seen (moment s.disk).may_leave →
+        IfSome (moment s.disk).state.seen (λ seen. IsRead seen leaf.schema entry r) → IfOk r (λ chunk. (db : Database) → BeganAs (moment s.opened.disk).state db → IsChunkIn (rows_of (at_history db before)) leaf chunk)
+    read_tells (Ok chunk) cells reads exact = λ db began. read_told (cells db began).file (at_history db before) leaf entry chunk read_valid read_core
+        (place_there db (cells db began) reads) (of_file (Ok chunk) db (cells db began) exact).1
+    read_tells (Err fault) cells reads exact = tt
+
+    pub read_whole : (r : Result Chunk ReadFault) → ((db : Database) → BeganAs (moment s.opened.disk).state db → SeesCells moment s db before) → IfSome (moment s.disk).state.seen (moment s.disk).may_leave →
+        IfSome (moment s.disk).state.seen (λ seen. IsRead seen leaf.schema entry r) → (db : Database) (page : ℕ) → BeganAs (moment s.opened.disk).state db → r ≡ Err (Damaged page) → ⊥
+    read_whole r cells reads exact db page began e =
+        let told : IsRead (cells db began).file leaf.schema entry (Err (Damaged page)) = subst (IsRead (cells db began).file leaf.schema entry) e (of_file r db (cells db began) exact) in
+        told.1 (there_whole (cells db began).file (at_history db before) leaf entry (place_there db (cells db began) reads))
+
+    pub read_is_stored : (r : Result Chunk ReadFault) → IfOk r (IsSpelled leaf.schema) → IfOk r (λ chunk. chunk.at ≡ entry.at) → IfOk r (IsStored leaf.schema at)
+    read_is_stored (Ok chunk) stored number = read_stored leaf.schema entry.at at chunk stored number read_number
+    read_is_stored (Err fault) stored number = tt
+
+-- the parts after a read, with a note where the count rose
+pub parts_read : {D : Type 0} (moment : D → Moment) (s : Standing D) (k : Keeping) → IsAt moment s k → (disk : D) (slots : Slots) → slots ≡ k.slots → OnlyReads (moment s.disk) (moment disk) →
+    ((seen : List ℕ) → AreSound k.slots seen (moment s.disk).may_leave → AreSound slots seen (moment disk).may_leave) → (session old new : ℕ) → old ≡ (moment s.disk).state.faults → new ≡ (moment disk).state.faults →
+    (made : LedgerState) → (Rose old new × (made ≡ with_fault session s.ledger)) ⊎ ((¬ Rose old new) × (made ≡ s.ledger)) → IsAt moment (record s { disk = disk; ledger = made }) (record k { slots = slots })
+parts_read moment s k x disk slots same reads sound session old new eo en made noted =
+    let kept : (seen : List ℕ) → AreSound k.slots seen (moment s.disk).may_leave → AreSound k.slots seen (moment disk).may_leave =
+    λ seen a. subst (λ (t : Slots). AreSound t seen (moment disk).may_leave) same (sound seen a) in
+    subst (λ (t : Slots). IsAt moment (record s { disk = disk; ledger = made }) (record k { slots = t })) (sym same)
+    (⊎_elim
+    (λ rose. with_ledger moment (record s { disk = disk }) k made (with_fault session s.ledger) rose.1
+    (at_fault moment s k disk reads kept session (subst (λ (n : ℕ). Rose n (moment disk).state.faults) eo (subst (Rose old) en rose.0)) x))
+    (λ still. with_ledger moment (record s { disk = disk }) k made s.ledger still.1 (at_read moment s k disk reads kept x))
+    noted)

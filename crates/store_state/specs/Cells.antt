@@ -1,0 +1,55 @@
+-- What a store keeps at each moment, on an honest disk that told the bytes of a database.
+use Rattle.std.specs.Prelude.{◌≡◌, ℕ, ◌+◌, List, Option, Ok, IfSome, IsTrue}
+use Rattle.std.specs.List.{AllByRecursion, AllZip}
+use Rattle.afl_outside.specs.Disk.{Moment}
+use Rattle.page_slots.specs.declared.slots.Slots.{Slots}
+use Rattle.plan_changes.specs.declared.change.Change.{Change}
+use Rattle.plan_changes.specs.Databases.{Database}
+use Rattle.plan_changes.specs.Stored.{IsDatabase}
+use Rattle.version_catalog.specs.declared.rules.catalog.Catalog.{Catalog}
+use Rattle.commit_costs.specs.Costs.{cost_from}
+use Rattle.commit_writes.specs.Moments.{IsKnown}
+use Rattle.file_meaning.specs.Opening.{found_in, stored_pages}
+use Rattle.file_meaning.specs.Standing.{HoldsDatabase}
+use Rattle.file_meaning.specs.declared.found.Found.{Found}
+use Rattle.event_core.specs.declared.state.Core.{Core}
+use Rattle.event_core.specs.Cells.{at}
+use Rattle.event_core.specs.History.{History, catalogue_at, open_pins, pages_at}
+use Rattle.event_core.specs.Legal.{IsLegal}
+use Rattle.event_core.specs.Pages.{has_page}
+use Rattle.store_versions.specs.Versions.{Directories, versions_at}
+use Rattle.store_state.specs.Standings.{Standing, base_of, current_slots, IsSound, StandsFor, HaveStood}
+use Rattle.store_state.specs.Inner.Keeping.{Keeping, LieIn, directories_in, pages_of_catalogue}
+
+-- What is found from the current root on: the catalogue that is kept, the directories of the versions that can be named, and pages that are
+-- just those of the history's catalogue, or of such a version
+pub record IsFound (base : Core) (given : Directories) (h : History) (kept : Catalog) (log : ℕ) (found : Found) : Type 0 where
+  pub catalog : found.catalog ≡ kept
+  pub directories : found.directories ≡ directories_in kept (versions_at base given h)
+  pub catalogue : catalogue_at base h ≡ pages_of_catalogue found.chain log found.logged
+  pub stored : AllByRecursion (λ page. IsTrue (has_page (pages_at base h) page)) (stored_pages found)
+
+-- an image has this from the current root on, and in it the database's versions, and what each open pin sees. It stands for the database, or
+-- for the one in doubt
+pub record IsImage (base : Core) (given : Directories) (db : Database) (h : History) (slots : Slots) (doubt : Option Change) (found : Found) (image : List ℕ) : Type 0 where
+  pub opens : found_in image (current_slots slots) ≡ Ok found
+  pub holds : HoldsDatabase image (at db h) found
+  pub now : LieIn image (at db h) (versions_at base given h)
+  pub pinned : AllByRecursion (λ pin. LieIn image (at db pin.before) (versions_at base given pin.before)) (open_pins h)
+  pub stands : StandsFor (at db h) doubt image
+
+-- 'AT', ON AN HONEST DISK THAT BEGAN AS THIS DATABASE: over a history whose commits have these places
+pub record HoldsCells {D : Type 0} (moment : D → Moment) (s : Standing D) (k : Keeping) (db : Database) (h : History) (given : Directories) (places : List ℕ) : Type 0 where
+  pub legal : IsLegal (cost_from (base_of s).records) db s.ledger.base h
+  pub database : IsDatabase (at db h)
+  pub pinned : AllByRecursion (λ pin. IsDatabase (at db pin.before)) (open_pins h)
+  pub doubt : IfSome s.doubt (IsSound (at db h))
+  pub bytes : List ℕ
+  pub known : IsKnown k.slots bytes (moment s.disk)
+  pub found : Found
+  pub is_found : IsFound s.ledger.base given h k.catalog k.slots.current.root.log found
+  pub images : (image : List ℕ) → (moment s.disk).may_leave image → IsImage s.ledger.base given db h k.slots s.doubt found image
+  -- what a crash since the opening might have left
+  pub past : HaveStood (moment s.disk) db h 0 (moment s.opened.disk).state.moment
+  -- since a commit was acknowledged no image is of a shorter history
+  pub acked : AllZip (λ place since. HaveStood (moment s.disk) db h (place + 1) since) places s.acked

@@ -1,0 +1,3 @@
+pub mod Decoded
+pub mod Keeping
+pub mod Sights

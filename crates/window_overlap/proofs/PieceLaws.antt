@@ -1,0 +1,269 @@
+-- Windows chunk by chunk.
+use Rattle.std.proofs.Common.{◌≡◌, ℕ, suc, ◌+◌, ◌*◌, ◌-◌, ◌<◌, ◌≤◌, ◌^◌, ℤ, pos, ◌+ℤ◌, ◌-ℤ◌, ◌≤ℤ◌, negsuc, int_le, min, ◌&&◌, Bool, true, false, cond, IsTrue, List, [], ◌∷◌, ◌++◌, length, get_or, take, Option, Some, None, refl, sym, ap, ◌∙◌, subst, arith}
+use Rattle.std.specs.Prelude.{◌==◌, nat_le}
+use Rattle.std.specs.Int.{w64, saturate_signed}
+use Rattle.std.specs.List.{AllByRecursion}
+use Rattle.std.proofs.lemmas.Bool.{eqb-true}
+use Rattle.std.proofs.lemmas.Int.{ints}
+use Rattle.std.proofs.lemmas.List.{append-nil, take_all, take_more}
+use Rattle.arrayvec.specs.ArrayVec.{ArrayVec}
+use Rattle.cell_values.specs.declared.datum.Cell.{Cell}
+use Rattle.cell_values.specs.declared.datum.Row.{Row}
+use Rattle.cell_values.specs.declared.schema.Bounds.{Bounds}
+use Rattle.cell_values.specs.declared.schema.Dimension.{Dimension}
+use Rattle.cell_values.specs.declared.schema.Schema.{Schema}
+use Rattle.array_rows.specs.Arrays.{AreRowsOf}
+use Rattle.array_rows.specs.Boxes.{corners, is_between, is_inside, within}
+use Rattle.array_rows.specs.Cellwise.{cell_wise, put_first}
+use Rattle.array_rows.specs.Rows.{Coordinate, placed}
+use Rattle.array_rows.proofs.RowSets.{IsRising-rows_where}
+use Rattle.array_rows.proofs.RowsLemmas.{within-cell_wise}
+use Rattle.array_geom.specs.declared.chunk.Chunk.{Chunk}
+use Rattle.array_geom.specs.Geometry.{ChunkNumber, HasFrame, core, first_in, frame, frame_low, has_core, last_in}
+use Rattle.array_geom.specs.Inner.Ranges.{AreLow, AreMargins, AreNear, IsLow, IsNear}
+use Rattle.array_geom.specs.Link.{IsPart, NumbersRise, chunk_rows, core_rows, has_cell, is_listed, is_not_empty, numbers}
+use Rattle.array_geom.proofs.NearLemmas.{lows_in_range, margins_of, valid_placed}
+use Rattle.array_geom.proofs.TestLaws.{and_parts, le_from_test}
+use Rattle.array_parts.proofs.PartLemmas.{all_kept}
+use Rattle.array_parts.specs.Cores.{HaveCells}
+use Rattle.array_parts.specs.Made.{IsPlaced}
+use Rattle.array_parts.specs.Parts.{AreParts}
+use Rattle.array_parts.specs.Placed.{HasPlaces}
+use Rattle.chunk_cells.specs.Frames.{HasFrames}
+use Rattle.chunk_cells.specs.Whole.{CoresRise}
+use Rattle.area_cells.proofs.CutLaws.{at_index}
+use Rattle.area_cells.proofs.ListedLaws.{core_listed}
+use Rattle.logical_plan.specs.declared.parts.Aggregate.{Aggregate}
+use Rattle.logical_plan.specs.declared.parts.Reach.{Reach}
+use Rattle.logical_plan.specs.Groups.{window, window_cell, window_rows}
+use Rattle.logical_plan.specs.Typing.{are_windows_of, reached_size, window_size}
+use Rattle.window_overlap.specs.Cores.{window_within}
+use Rattle.window_overlap.specs.Inner.Reached.{reached}
+use Rattle.window_overlap.specs.Reaches.{AreShort, HaveLowPlaces}
+use Rattle.window_overlap.proofs.ChunksWindowLaws.{cell_wise-more}
+use Rattle.window_overlap.proofs.PartLaws.{on_side, same_part, same_windows, side, windows_kept}
+
+-- ---- one row after the other
+
+pub kept_window : (area : Bounds) (reach : List Reach) (gs : List Aggregate) (rows : List Row) (row new : Row) (made made' : List Row) → is_inside area row.at.items ≡ true → new.at ≡ row.at → Some new.cell ≡ window_cell reach gs rows row.at.items row.cell
+    → made' ≡ made ++ new ∷ [] → made' ≡ made ++ cell_wise (window_within area reach gs rows) (row ∷ [])
+kept_window area reach gs rows row new made made' inside at cell e =
+    let own : new ∷ [] ≡ put_first row.at.items (window_cell reach gs rows row.at.items row.cell) [] = (λ i. record { at = at i; cell = new.cell } ∷ []) ∙ ap (λ (o : Option Cell). put_first row.at.items o []) cell in
+    e ∙ ap (λ (z : List Row). made ++ z) (own ∙ sym (ap (λ (b : Bool). put_first row.at.items (cond b (window_cell reach gs rows row.at.items row.cell) None) []) inside))
+
+pub no_window : (area : Bounds) (reach : List Reach) (gs : List Aggregate) (rows : List Row) (row : Row) (made : List Row) → is_inside area row.at.items ≡ false → made ≡ made ++ cell_wise (window_within area reach gs rows) (row ∷ [])
+no_window area reach gs rows row made outside =
+    sym (ap (λ (b : Bool). made ++ put_first row.at.items (cond b (window_cell reach gs rows row.at.items row.cell) None) []) outside ∙ append-nil made)
+
+pub next_pushed : (change : Coordinate → Cell → Option Cell) (rows : List Row) (i : ℕ) (row : Row) (made made' : List Row) → i < length rows → row ≡ get_or rows i row → made ≡ cell_wise change (take i rows) → made' ≡ made ++ cell_wise change (row ∷ [])
+    → made' ≡ cell_wise change (take (i + 1) rows)
+next_pushed change rows i row made made' l e h n =
+    n
+    ∙ ap (λ (z : List Row). z ++ cell_wise change (row ∷ [])) h
+    ∙ sym (cell_wise-more change (take i rows) row)
+    ∙ ap (cell_wise change) (ap (λ (z : Row). take i rows ++ z ∷ []) e ∙ sym (take_more rows i row l))
+
+-- ---- what windows reach
+
+-- numbers that stay in 64 bits with a window behind them
+abbrev AreHigh : List ℤ → Type 0
+AreHigh = AllByRecursion (λ h. h ≤ℤ pos (2 ^ 62 + 2 ^ 50))
+
+high_number : (d : Dimension) (k m : ℕ) → IsNear d → first_in d k ≤ℤ d.hi → d.chunk + 2 * m ≤ 2 ^ 48 → (last_in d k +ℤ pos m) ≤ℤ pos (2 ^ 62 + 2 ^ 50)
+high_number d k m near first small = let high = near.high in omega (arith, ints, high, first, small)
+
+highs_in_range : (dims : List Dimension) (margins : List ℕ) (k : ChunkNumber) → AreNear dims → has_core dims k ≡ true → AreMargins dims margins → AreHigh (frame dims margins k).hi.items
+highs_in_range [] margins k n e a = tt
+highs_in_range (d ∷ dims) margins [] n e a = tt
+highs_in_range (d ∷ dims) [] (k ∷ ks) n e a = tt
+highs_in_range (d ∷ dims) (m ∷ margins) (k ∷ ks) n e a =
+    let t = and_parts (int_le (first_in d k) d.hi) (has_core dims ks) e in
+    (high_number d k m n.0 (le_from_test (first_in d k) d.hi t.0) a.0, highs_in_range dims margins ks n.1 t.1 a.1)
+
+in_limits : (z : ℤ) → negsuc (2 ^ 63 - 1) ≤ℤ z → z ≤ℤ pos (2 ^ 63 - 1) → saturate_signed w64 z ≡ z
+in_limits (pos n) low high = let few : n ≤ 2 ^ 63 - 1 = omega (arith, ints) in let same : min n (2 ^ 63 - 1) ≡ n = omega arith in ap pos same
+in_limits (negsuc n) low high = let few : n ≤ 2 ^ 63 - 1 = omega (arith, ints) in let same : min n (2 ^ 63 - 1) ≡ n = omega arith in ap negsuc same
+
+low_reached : (l x y : ℤ) (before : ℕ) → IsLow l → before ≤ 2 ^ 48 → l ≤ℤ x → (x -ℤ pos before) ≤ℤ y → saturate_signed w64 (l -ℤ pos before) ≤ℤ y
+low_reached l x y before low short a b =
+    let least = low.0 in
+    let most = low.1 in
+    let same = in_limits (l -ℤ pos before) (omega (arith, ints, least, short)) (omega (arith, ints, most)) in
+    let reach : (l -ℤ pos before) ≤ℤ y = omega (arith, ints, a, b) in
+    subst (λ (z : ℤ). z ≤ℤ y) (sym same) reach
+
+high_reached : (h x y : ℤ) (after : ℕ) → h ≤ℤ pos (2 ^ 62 + 2 ^ 50) → after ≤ 2 ^ 48 → x ≤ℤ h → y ≤ℤ (x +ℤ pos after) → (negsuc (2 ^ 63 - 1)) ≤ℤ x → y ≤ℤ saturate_signed w64 (h +ℤ pos after)
+high_reached h x y after high short a b c =
+    let same = in_limits (h +ℤ pos after) (omega (arith, ints, a, c)) (omega (arith, ints, high, short)) in
+    let reach : y ≤ℤ (h +ℤ pos after) = omega (arith, ints, a, b) in
+    subst (λ (z : ℤ). y ≤ℤ z) (sym same) reach
+
+-- a window around a coordinate of a box lies in what the windows around its coordinates reach
+covers : (lo hi : List ℤ) (reach : List Reach) (c y : Coordinate) → AreLow lo → AreHigh hi → AreShort reach → is_between lo hi c ≡ true → is_inside (window reach c) y ≡ true → is_inside (reached reach (corners lo hi)) y ≡ true
+covers [] [] reach [] y a b s e f = f
+covers [] [] reach (x ∷ c) y a b s e f = absurd cc
+covers [] (h ∷ hi) reach c y a b s e f = absurd cc
+covers (l ∷ lo) [] reach c y a b s e f = absurd cc
+covers (l ∷ lo) (h ∷ hi) reach [] y a b s e f = absurd cc
+covers (l ∷ lo) (h ∷ hi) [] (x ∷ c) y a b s e f = f
+covers (l ∷ lo) (h ∷ hi) (r ∷ reach) (x ∷ c) [] a b s e f = absurd cc
+covers (l ∷ lo) (h ∷ hi) (r ∷ reach) (x ∷ c) (y ∷ ys) a b s e f =
+    let t = on_side l h x (is_between lo hi c) e in
+    let u = on_side (x -ℤ pos r.before) (x +ℤ pos r.after) y (is_inside (window reach c) ys) f in
+    let least = a.0.0 in
+    let low = t.low in
+    let far : (negsuc (2 ^ 63 - 1)) ≤ℤ x = omega (arith, ints, least, low) in
+    side (saturate_signed w64 (l -ℤ pos r.before)) (saturate_signed w64 (h +ℤ pos r.after)) y (is_inside (reached reach (corners lo hi)) ys)
+    (low_reached l x y r.before a.0 s.0.0 t.low u.low) (high_reached h x y r.after b.0 s.0.1 t.high u.high far)
+    (covers lo hi reach c ys a.1 b.1 s.1 t.others u.others)
+
+-- a coordinate lies in its own window
+own_window : (reach : List Reach) (c : Coordinate) → length reach ≡ length c → is_inside (window reach c) c ≡ true
+own_window [] [] e = refl
+own_window [] (x ∷ c) e = absurd (omega (arith, e))
+own_window (r ∷ reach) [] e = absurd (omega (arith, e))
+own_window (r ∷ reach) (x ∷ c) e = side (x -ℤ pos r.before) (x +ℤ pos r.after) x (is_inside (window reach c) c) (omega (arith, ints)) (omega (arith, ints)) (own_window reach c (omega (arith, e)))
+
+as_long : (lo hi : List ℤ) (c : Coordinate) → is_between lo hi c ≡ true → length c ≡ length lo
+as_long [] [] [] e = refl
+as_long [] [] (x ∷ c) e = absurd cc
+as_long [] (h ∷ hi) c e = absurd cc
+as_long (l ∷ lo) [] c e = absurd cc
+as_long (l ∷ lo) (h ∷ hi) [] e = absurd cc
+as_long (l ∷ lo) (h ∷ hi) (x ∷ c) e = let t = and_parts (int_le l x && int_le x h) (is_between lo hi c) e in ap suc (as_long lo hi c t.1)
+
+low_length : (dims : List Dimension) (margins : List ℕ) (k : ChunkNumber) → has_core dims k ≡ true → length margins ≡ length dims → length (frame_low dims margins k) ≡ length dims
+low_length [] margins [] e n = refl
+low_length [] margins (k ∷ ks) e n = absurd cc
+low_length (d ∷ dims) margins [] e n = absurd cc
+low_length (d ∷ dims) [] (k ∷ ks) e n = absurd (omega (arith, n))
+low_length (d ∷ dims) (m ∷ margins) (k ∷ ks) e n = let t = and_parts (int_le (first_in d k) d.hi) (has_core dims ks) e in ap suc (low_length dims margins ks t.1 (omega (arith, n)))
+
+-- as many reaches as there are dimensions
+pub each_reach : (schema : Schema) (reach : List Reach) → IsTrue (are_windows_of schema reach) → length reach ≡ length schema.dimensions
+each_reach schema reach w =
+    let a = and_parts ((length reach == length schema.dimensions) && nat_le (window_size reach) 16777216) (nat_le (reached_size schema.dimensions reach) 281474976710656) w in
+    let b = and_parts (length reach == length schema.dimensions) (nat_le (window_size reach) 16777216) a.0 in
+    eqb-true (length reach) (length schema.dimensions) b.0
+
+-- ---- the windows in a frame
+
+windows_framed : (schema : Schema) (margins : List ℕ) (k : ChunkNumber) (reach : List Reach) (gs : List Aggregate) (all some made : List Row) → HasFrame schema margins k → AreShort reach → length reach ≡ length schema.dimensions
+    → some ≡ within (reached reach (frame schema.dimensions margins k)) all → made ≡ within (frame schema.dimensions margins k) (window_rows reach gs some) → made ≡ within (frame schema.dimensions margins k) (window_rows reach gs all)
+windows_framed schema margins k reach gs all some made framed short each e m =
+    let dims = schema.dimensions in
+    let box = frame dims margins k in
+    let near = (valid_placed schema framed.valid).near in
+    let wide = margins_of dims margins near framed.each framed.places in
+    let low = lows_in_range dims margins k near framed.core wide in
+    let high = highs_in_range dims margins k near framed.core wide in
+    let window_in = λ (c : Coordinate) (h : is_inside box c ≡ true) (y : Coordinate) (f : is_inside (window reach c) y ≡ true). covers box.lo.items box.hi.items reach c y low high short h f in
+    let long = λ (c : Coordinate) (h : is_inside box c ≡ true). each ∙ sym (as_long box.lo.items box.hi.items c h ∙ low_length dims margins k framed.core framed.each) in
+    m
+    ∙ within-cell_wise box (window_cell reach gs some) some
+    ∙ ap (cell_wise (window_cell reach gs some)) (ap (within box) e ∙ same_part box (reached reach box) all (λ c h. window_in c h c (own_window reach c (long c h))))
+    ∙ same_windows box reach gs some all all (λ c h. ap (within (window reach c)) e ∙ same_part (window reach c) (reached reach box) all (λ y f. window_in c h y f))
+    ∙ sym (within-cell_wise box (window_cell reach gs all) all)
+
+pub frame_windows : (schema : Schema) (margins : List ℕ) (k : ChunkNumber) (area : Bounds) (reach : List Reach) (gs : List Aggregate) (all some made : List Row) → HasFrame schema margins k → area ≡ frame schema.dimensions margins k → AreShort reach
+    → length reach ≡ length schema.dimensions → some ≡ within (reached reach area) all → made ≡ within area (window_rows reach gs some) → made ≡ within area (window_rows reach gs all)
+frame_windows schema margins k area reach gs all some made framed is short each e m =
+    windows_framed schema margins k reach gs all some made framed short each (e ∙ ap (λ (b : Bounds). within (reached reach b) all) is) (m ∙ ap (λ (b : Bounds). within b (window_rows reach gs some)) is)
+    ∙ ap (λ (b : Bounds). within b (window_rows reach gs all)) (sym is)
+
+pub rise_in_cores : (schema : Schema) (margins : List ℕ) (chunks : List Chunk) → HaveCells schema margins chunks → CoresRise schema.dimensions margins chunks
+rise_in_cores schema margins chunks h = each chunks h.rows_of
+  where
+    each : (xs : List Chunk) → AllByRecursion (λ chunk. AreRowsOf schema (chunk_rows schema.dimensions margins chunk)) xs → CoresRise schema.dimensions margins xs
+    each [] a = tt
+    each (chunk ∷ xs) a = (IsRising-rows_where (is_inside (core schema.dimensions chunk.at.items)) (chunk_rows schema.dimensions margins chunk) a.0.are_rows.rising, each xs a.1)
+
+-- the rows that are reached
+pub rows_there : (reach : List Reach) (area : Bounds) (dims : List Dimension) (margins : List ℕ) (items chunks : List Chunk) (rows : List Row) (box : Bounds) → items ≡ chunks → box ≡ reached reach area → rows ≡ within box (core_rows dims margins items)
+    → rows ≡ within (reached reach area) (core_rows dims margins chunks)
+rows_there reach area dims margins items chunks rows box e b r = r ∙ (λ i. within (b i) (core_rows dims margins (e i)))
+
+pub low_within : (area : Bounds) (rows some : List Row) → some ≡ within area rows → HaveLowPlaces rows → HaveLowPlaces some
+low_within area rows some e low = subst HaveLowPlaces (sym e) (all_kept (λ row. AreLow row.at.items) (λ row. is_inside area row.at.items) rows low)
+
+pub all_within : (area : Bounds) (rows made : List Row) → made ≡ within area rows → AllByRecursion (λ row. is_inside area row.at.items ≡ true) made
+all_within area rows made e = subst (AllByRecursion (λ row. is_inside area row.at.items ≡ true)) (sym e) (each rows)
+  where
+    each : (rows : List Row) → AllByRecursion (λ row. is_inside area row.at.items ≡ true) (within area rows)
+    each [] = tt
+    each (row ∷ rows) = cases (is_inside area row.at.items) refl (each rows)
+      where
+        cases : (t : Bool) → is_inside area row.at.items ≡ t → AllByRecursion (λ row. is_inside area row.at.items ≡ true) (within area rows) → AllByRecursion (λ row. is_inside area row.at.items ≡ true) (cond t (row ∷ within area rows) (within area rows))
+        cases true e r = (e, r)
+        cases false e r = r
+
+-- ---- the chunks that are made
+
+pub is_part : (dims : List Dimension) (margins : List ℕ) (number : ArrayVec ℕ) (rows made : List Row) (area : Bounds) (chunk : Chunk) → area ≡ frame dims margins number.items → made ≡ within area rows → chunk.at ≡ number → IsPlaced dims margins chunk
+    → chunk_rows dims margins chunk ≡ made → IsPart dims margins rows chunk
+is_part dims margins number rows made area chunk e m n placed same = record {
+  each = placed.each;
+  in_frame = placed.in_frame;
+  cells = same ∙ m ∙ ap (λ (b : Bounds). within b rows) (e ∙ ap (λ (at : ArrayVec ℕ). frame dims margins at.items) (sym n));
+}
+
+pub has_places : (schema : Schema) (margins : List ℕ) (number : ArrayVec ℕ) (chunk : Chunk) → HasFrame schema margins number.items → chunk.at ≡ number → IsPlaced schema.dimensions margins chunk → HasPlaces schema margins chunk
+has_places schema margins number chunk framed n placed = record { framed = subst (λ (at : ArrayVec ℕ). HasFrame schema margins at.items) (sym n) framed; placed = placed }
+
+some_before : (change : Coordinate → Cell → Option Cell) (rows : List Row) → is_not_empty (cell_wise change rows) ≡ true → is_not_empty rows ≡ true
+some_before change [] e = e
+some_before change (row ∷ rows) e = refl
+
+-- parts of windows, one for each chunk whose core has a cell
+pub window_parts : (dims : List Dimension) (margins : List ℕ) (reach : List Reach) (gs : List Aggregate) (rows : List Row) (chunks parts : List Chunk) → numbers parts ≡ numbers chunks → NumbersRise (numbers chunks) → AllByRecursion (λ k. length k ≡ length dims) (numbers chunks)
+    → ((k : ChunkNumber) → length k ≡ length dims → has_cell dims rows k ≡ true → is_listed k (numbers chunks) ≡ true) → AllByRecursion (IsPart dims margins (window_rows reach gs rows)) parts → AreParts dims margins (window_rows reach gs rows) parts
+window_parts dims margins reach gs rows chunks parts e rise sized listed each = record {
+  in_order = subst NumbersRise (sym e) rise;
+  sized = subst (AllByRecursion (λ k. length k ≡ length dims)) (sym e) sized;
+  enough = λ k l h. ap (is_listed k) e ∙ listed k l (some_before (window_cell reach gs rows) (within (core dims k) rows) (sym (ap is_not_empty (within-cell_wise (core dims k) (window_cell reach gs rows) rows)) ∙ h));
+  parts = each;
+}
+
+pub all_pushed : (area : Bounds) (reach : List Reach) (gs : List Aggregate) (rows items : List Row) (i : ℕ) (made : List Row) → items ≡ rows → length items ≤ i → made ≡ cell_wise (window_within area reach gs rows) (take i items) → made ≡ within area (window_rows reach gs rows)
+all_pushed area reach gs rows items i made e l h =
+    h ∙ ap (cell_wise (window_within area reach gs rows)) (take_all i items l ∙ e) ∙ windows_kept area reach gs rows
+
+pub whole_parts : (source target : Schema) (old margins : List ℕ) (reach : List Reach) (gs : List Aggregate) (chunks parts : List Chunk) → target.dimensions ≡ source.dimensions → HaveCells source old chunks → numbers parts ≡ numbers chunks → NumbersRise (numbers chunks)
+    → AllByRecursion (λ k. length k ≡ length source.dimensions) (numbers chunks) → AllByRecursion (IsPart target.dimensions margins (window_rows reach gs (core_rows source.dimensions old chunks))) parts
+    → AreParts target.dimensions margins (window_rows reach gs (core_rows source.dimensions old chunks)) parts
+whole_parts source target old margins reach gs chunks parts same cells e rise sized each =
+    let rows = core_rows source.dimensions old chunks in
+    subst (λ (ds : List Dimension). AreParts ds margins (window_rows reach gs rows) parts) (sym same)
+    (window_parts source.dimensions margins reach gs rows chunks parts e rise sized (λ k l h. core_listed source.dimensions old chunks k (valid_placed source cells.placed.valid).near sized l h)
+    (subst (λ (ds : List Dimension). AllByRecursion (IsPart ds margins (window_rows reach gs rows)) parts) same each))
+
+-- ---- one chunk after the other
+
+all_push : {X : Type 0} (P : X → Type 0) (xs : List X) (x : X) → AllByRecursion P xs → P x → AllByRecursion P (xs ++ x ∷ [])
+all_push P [] x a p = (p, tt)
+all_push P (y ∷ ys) x a p = (a.0, all_push P ys x a.1 p)
+
+numbers_push : (xs : List Chunk) (x : Chunk) → numbers (xs ++ x ∷ []) ≡ numbers xs ++ x.at.items ∷ []
+numbers_push [] x = refl
+numbers_push (y ∷ xs) x = ap (λ (ks : List ChunkNumber). y.at.items ∷ ks) (numbers_push xs x)
+
+pub next_numbers : (chunks : List Chunk) (i : ℕ) (chunk part : Chunk) (parts parts' : List Chunk) → i < length chunks → chunk ≡ get_or chunks i chunk → part.at ≡ chunk.at → parts' ≡ parts ++ part ∷ [] → numbers parts ≡ numbers (take i chunks)
+    → numbers parts' ≡ numbers (take (i + 1) chunks)
+next_numbers chunks i chunk part parts parts' l e n p h =
+    ap numbers p
+    ∙ numbers_push parts part
+    ∙ (λ j. h j ++ (n j).items ∷ [])
+    ∙ sym (numbers_push (take i chunks) chunk)
+    ∙ ap numbers (ap (λ (z : Chunk). take i chunks ++ z ∷ []) e ∙ sym (take_more chunks i chunk l))
+
+pub all_more : (P : Chunk → Type 0) (part : Chunk) (parts parts' : List Chunk) → parts' ≡ parts ++ part ∷ [] → AllByRecursion P parts → P part → AllByRecursion P parts'
+all_more P part parts parts' e a p = subst (AllByRecursion P) (sym e) (all_push P parts part a p)
+
+pub all_numbers : (items chunks parts : List Chunk) (i : ℕ) → items ≡ chunks → length items ≤ i → numbers parts ≡ numbers (take i items) → numbers parts ≡ numbers chunks
+all_numbers items chunks parts i e l h = h ∙ ap numbers (take_all i items l ∙ e)
+
+pub frame_at : (source target : Schema) (old margins : List ℕ) (chunks items : List Chunk) (i : ℕ) (chunk : Chunk) → target.dimensions ≡ source.dimensions → HasFrames target margins → HaveCells source old chunks → items ≡ chunks → i < length items → chunk ≡ get_or items i chunk
+    → HasFrame target margins chunk.at.items
+frame_at source target old margins chunks items i chunk same frames cells e l is =
+    let placed = at_index (HasPlaces source old) items i chunk (subst (AllByRecursion (HasPlaces source old)) (sym e) cells.placed.all) l is in
+    record { valid = frames.valid; core = ap (λ (ds : List Dimension). has_core ds chunk.at.items) same ∙ placed.framed.core; each = frames.each; places = frames.places }

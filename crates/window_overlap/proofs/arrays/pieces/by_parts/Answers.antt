@@ -1,0 +1,22 @@
+use Rattle.std.proofs.Common.{◌≡◌, refl, ap}
+use Rattle.cell_values.specs.declared.schema.Schema.{Schema}
+use Rattle.array_parts.specs.Cores.{cores_of}
+use Rattle.logical_plan.specs.Groups.{window_rows}
+use Rattle.logical_plan.specs.PlanSchema.{window_schema}
+use Rattle.exec_group.proofs.WholeLaws.{means_whole, of_cores, stands_for}
+use Rattle.window_overlap.proofs.ArraysWindowLaws.{windows_are_rows}
+use Rattle.window_overlap.proofs.PieceLaws.{whole_parts}
+use Rattle.window_overlap.proofs.arrays.pieces.by_parts.Goals as goal
+
+pub returns-clause-array : goal.returns-clause-array
+returns-clause-array c =
+    let array = c.args.array in
+    let target = c.args.target.now in
+    let all = cores_of array in
+    let made = window_rows c.args.reach.now c.args.aggs.now all in
+    let same : target.dimensions ≡ array.schema.dimensions = ap (λ (s : Schema). s.dimensions) c.requires.target in
+    stands_for c.array_of_parts.result _ _
+    (means_whole (window_schema c.args.aggs.now) (λ s. window_rows c.args.reach.now c.args.aggs.now) array target made c.requires.whole c.requires.target refl)
+    (c.array_of_parts.ensures.array made
+    (windows_are_rows array.schema target c.args.reach.now c.args.aggs.now all made (of_cores array all refl c.requires.cells) c.requires.target c.requires.valid c.requires.typed (c.requires.few array.schema.dimensions array.margins.items) refl)
+    (whole_parts array.schema target array.margins.items c.margins_of-margins.result.items c.args.reach.now c.args.aggs.now array.chunks c.in_ok-parts.parts same c.requires.cells c.in_ok-parts.ensures.numbers c.requires.rise c.requires.sized c.in_ok-parts.ensures.parts))

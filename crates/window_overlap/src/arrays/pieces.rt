@@ -1,0 +1,127 @@
+//! Windows of an array, chunk by chunk, each from the rows that its windows reach.
+ghost use Rattle.std.specs.Prelude.{◌≡◌, ◌<◌, ◌^◌, ℕ, None, List as Items, length, IsTrue, IfOk};
+ghost use Rattle.std.specs.List.{AllByRecursion};
+ghost use Rattle.cell_values.specs.Schemas.{IsValid};
+ghost use Rattle.cell_values.specs.declared.schema.Dimension.{Dimension};
+ghost use Rattle.array_rows.specs.Boxes.{within};
+ghost use Rattle.array_geom.specs.Geometry.{HasFrame, frame as frame_of, overlaps};
+ghost use Rattle.array_geom.specs.Link.{Is, IsPart, NumbersRise, core_rows, numbers};
+ghost use Rattle.array_parts.specs.Cores.{HaveCells, cores_of, meant_by_cores};
+ghost use Rattle.array_parts.specs.Placed.{HasPlaces};
+ghost use Rattle.chunk_cells.specs.Frames.{HasFrames};
+ghost use Rattle.logical_plan.specs.Groups.{window_rows};
+ghost use Rattle.logical_plan.specs.PlanSchema.{window_schema};
+ghost use Rattle.logical_plan.specs.Typing.{are_aggregates_of, are_windows_of};
+ghost use Rattle.window_overlap.specs.Meant.{window_meant};
+
+use crate::chunks::{reach_of, windows_inside};
+use area_cells::{array_of_parts, chunk_of_rows, rows_in_area};
+use array_geom::{Chunk, ChunkedArray, frame, margins_of};
+use cell_values::{Bounds, ChunkAt, List, Margins, Memory, Row, Schema};
+use logical_plan::{Aggregate, Reach};
+
+/// The windows in a box, from the rows that they reach. More rows than can be counted are as good as no memory.
+fn windows_in(
+    array: &ChunkedArray,
+    reach: &[Reach],
+    aggs: &[Aggregate],
+    target: &Schema,
+    margins: &Margins,
+    number: &ChunkAt,
+    area: &Bounds,
+) -> Result<List<Row>, Memory>
+    requires cells { HaveCells array.now.schema array.now.margins.items array.now.chunks }
+    requires rise { NumbersRise (numbers array.now.chunks) }
+    requires reach { IsTrue (are_windows_of array.now.schema reach.now) }
+    requires typed { IsTrue (are_aggregates_of array.now.schema.attributes aggs.now) }
+    requires same { target.now.dimensions ≡ array.now.schema.dimensions }
+    requires framed { HasFrame target.now margins.now.items number.now.items }
+    requires area { area.now ≡ frame_of target.now.dimensions margins.now.items number.now.items }
+    ensures { IfOk result (λ made. made ≡ within area.now (window_rows reach.now aggs.now (cores_of array.now))) }
+{
+    let reached = reach_of(area, reach);
+    let rows = rows_in_area(
+        &array.schema,
+        &array.margins,
+        array.chunks.as_slice(),
+        &reached,
+    )?;
+    if rows.len() >= 1 << 63 {
+        return Err(Memory);
+    }
+    windows_inside(&rows, area, reach, aggs)
+}
+
+/// The windows in a chunk's frame.
+fn window_part(
+    array: &ChunkedArray,
+    reach: &[Reach],
+    aggs: &[Aggregate],
+    target: &Schema,
+    margins: &Margins,
+    number: &ChunkAt,
+) -> Result<Chunk, Memory>
+    requires cells { HaveCells array.now.schema array.now.margins.items array.now.chunks }
+    requires rise { NumbersRise (numbers array.now.chunks) }
+    requires reach { IsTrue (are_windows_of array.now.schema reach.now) }
+    requires typed { IsTrue (are_aggregates_of array.now.schema.attributes aggs.now) }
+    requires same { target.now.dimensions ≡ array.now.schema.dimensions }
+    requires framed { HasFrame target.now margins.now.items number.now.items }
+    ensures number { IfOk result (λ made. made.at ≡ number.now) }
+    ensures places { IfOk result (HasPlaces target.now margins.now.items) }
+    ensures part { IfOk result (IsPart target.now.dimensions margins.now.items (window_rows reach.now aggs.now (cores_of array.now))) }
+{
+    let area = frame(target, margins, number);
+    let windows = windows_in(array, reach, aggs, target, margins, number, &area)?;
+    let made = chunk_of_rows(target, margins, number, windows)?;
+    Ok(made)
+}
+
+fn window_parts(
+    array: &ChunkedArray,
+    reach: &[Reach],
+    aggs: &[Aggregate],
+    target: &Schema,
+    margins: &Margins,
+) -> Result<List<Chunk>, Memory>
+    requires cells { HaveCells array.now.schema array.now.margins.items array.now.chunks }
+    requires rise { NumbersRise (numbers array.now.chunks) }
+    requires reach { IsTrue (are_windows_of array.now.schema reach.now) }
+    requires typed { IsTrue (are_aggregates_of array.now.schema.attributes aggs.now) }
+    requires same { target.now.dimensions ≡ array.now.schema.dimensions }
+    requires frames { HasFrames target.now margins.now.items }
+    ensures numbers { IfOk result (λ parts. numbers parts ≡ numbers array.now.chunks) }
+    ensures places { IfOk result (AllByRecursion (HasPlaces target.now margins.now.items)) }
+    ensures parts { IfOk result (AllByRecursion (IsPart target.now.dimensions margins.now.items (window_rows reach.now aggs.now (cores_of array.now)))) }
+{
+    let mut parts = array.chunks.another();
+    for chunk in array.chunks.as_slice() {
+        parts.push(window_part(array, reach, aggs, target, margins, &chunk.at)?)?;
+    }
+    Ok(parts)
+}
+
+/// The windows of an array that is not broken, chunk by chunk.
+#[tactic(auto, using(array_geom::proofs::MarginLaws::overlap_each, array_geom::proofs::MarginLaws::overlap_places))]
+pub(crate) fn by_parts(
+    array: ChunkedArray,
+    reach: &[Reach],
+    aggs: &[Aggregate],
+    target: &Schema,
+) -> Result<ChunkedArray, Memory>
+    requires whole { array.broken ≡ None }
+    requires cells { HaveCells array.schema array.margins.items array.chunks }
+    requires target { target.now ≡ window_schema aggs.now array.schema }
+    requires valid { IsValid target.now }
+    requires reach { IsTrue (are_windows_of array.schema reach.now) }
+    requires typed { IsTrue (are_aggregates_of array.schema.attributes aggs.now) }
+    requires few { (dims : Items Dimension) (margins : Items ℕ) → length (core_rows dims margins array.chunks) < 2 ^ 63 }
+    requires rise { NumbersRise (numbers array.chunks) }
+    requires sized { AllByRecursion (λ k. length k ≡ length array.schema.dimensions) (numbers array.chunks) }
+    ensures array { IfOk result (λ made. Is made (window_meant reach.now aggs.now (meant_by_cores array))) }
+    ensures margins { IfOk result (λ made. made.margins.items ≡ overlaps target.now.dimensions) }
+{
+    let margins = margins_of(target);
+    let parts = window_parts(&array, reach, aggs, target, &margins)?;
+    array_of_parts(target, &margins, parts)
+}
