@@ -1,4 +1,5 @@
 pub mod Bases
+pub mod Cores
 pub mod Made
 pub mod Newest
 pub mod Opened

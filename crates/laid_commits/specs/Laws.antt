@@ -1,6 +1,8 @@
 -- What a commit lays carries a file from one database to the next.
-use Rattle.std.specs.Prelude.{◌≡◌, ℕ, ◌+◌, List, [], ◌∷◌, ◌++◌, Option}
+use Rattle.std.specs.Prelude.{◌≡◌, ℕ, ◌+◌, List, [], ◌∷◌, ◌++◌, Option, false, IsTrue}
+use Rattle.std.specs.List.{AllByRecursion}
 use Rattle.array_geom.specs.declared.chunk.Changed.{Changed}
+use Rattle.array_geom.specs.Geometry.{has_core}
 use Rattle.page_layout.specs.Places.{KeepsPages}
 use Rattle.page_layout.specs.Opens.{OpensAs}
 use Rattle.page_layout.specs.declared.sides.Side.{Side}
@@ -8,6 +10,7 @@ use Rattle.page_layout.specs.declared.roots.Root.{Root}
 use Rattle.page_slots.specs.Standing.{OpensAsRoot}
 use Rattle.page_slots.specs.declared.slots.RootSlot.TheVariants.{Opening}
 use Rattle.chunk_map.specs.declared.directory.Directory.{Directory}
+use Rattle.chunk_map.specs.Entries.{AreRising}
 use Rattle.plan_changes.specs.declared.change.Change.{Change}
 use Rattle.plan_changes.specs.Databases.{Database, after}
 use Rattle.file_meaning.specs.Slots.{Slots}
@@ -18,6 +21,8 @@ use Rattle.next_files.specs.Next.{with_record, with_base}
 use Rattle.next_files.specs.Premises.{StandsBy, slots_with, slots_of}
 use Rattle.commit_writes.specs.Commits.{HoldsAll, record_of, root_of, commit_pages, base_pages}
 use Rattle.commit_pages.specs.declared.laid.Laid.{Laid}
+use Rattle.commit_pages.specs.Changes.{AreValid}
+use Rattle.commit_pages.specs.Versions.{draft, settled, directory_of}
 use Rattle.laid_commits.specs.Premises.{IsCommit, IsLaidRecord, IsLaidBase, made_of, pages_made}
 
 -- ---- records
@@ -80,3 +85,11 @@ abbrev pub LaidBasesHaveTheirPages : Type 0
 LaidBasesHaveTheirPages = (slots : Slots) (found : Found) (change : Change) (changed : Option Changed) (newest : Directory)
     (pages : List ℕ) (log : ℕ) (laid : Laid) → IsLaidBase slots found change changed newest pages log laid
     → HasBasePages (with_base found laid.chain.pages change (made_of laid)) log laid
+
+-- ---- directories
+
+-- where that holds of the newest version's directory, the core of each chunk that the new one lists holds a coordinate
+abbrev pub LaidDirectoriesHaveCores : Type 0
+LaidDirectoriesHaveCores = (changed : Changed) (newest : Directory) (birth : ℕ) (pages : List ℕ) → AreValid changed
+    → (changed.whole ≡ false → AreRising newest.entries × AllByRecursion (λ entry. IsTrue (has_core changed.schema.dimensions entry.at.items)) newest.entries)
+    → AllByRecursion (λ entry. IsTrue (has_core changed.schema.dimensions entry.at.items)) (directory_of (settled pages (draft birth changed)) newest).entries

@@ -3,7 +3,7 @@
 
 ghost use Rattle.laid_commits.specs.Inner.Removal.{ARemovalIsLaid};
 ghost use Rattle.laid_commits.specs.Laws.{LaidRecordsMakeNext, LaidBasesMakeNext, OpenedFilesStand, OpenedRootsStand};
-ghost use Rattle.laid_commits.specs.Laws.{LaidRecordsHaveTheirPages, LaidBasesHaveTheirPages};
+ghost use Rattle.laid_commits.specs.Laws.{LaidRecordsHaveTheirPages, LaidBasesHaveTheirPages, LaidDirectoriesHaveCores};
 
 use next_files::{
     an_array_is_removed, bases_make_next, entries_are_seen, files_stand_by_their_slots,
@@ -41,6 +41,11 @@ pub fn opened_files_stand()
 pub fn laid_commits_have_their_pages()
     ensures records { LaidRecordsHaveTheirPages }
     ensures bases { LaidBasesHaveTheirPages }
+{}
+
+/// The core of each chunk that a new directory lists holds a coordinate.
+pub fn laid_directories_have_cores()
+    ensures { LaidDirectoriesHaveCores }
 {}
 
 /// An array that is removed by a new base: what is laid of it is what its file has.
