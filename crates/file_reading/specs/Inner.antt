@@ -1,1 +1,4 @@
-pub mod Claims
+pub mod Found
+pub mod Log
+pub mod Rows
+pub mod Taken

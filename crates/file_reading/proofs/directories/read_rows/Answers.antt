@@ -1,0 +1,54 @@
+use Rattle.std.proofs.Common.{◌≡◌, ◌<◌, ◌≤◌, ◌∙◌, length, get_or, ap, arith}
+use Rattle.page_chain.proofs.RunLemmas.{reads_on}
+use Rattle.file_reading.specs.Inner.Rows.{rules_of}
+use Rattle.file_reading.proofs.CatalogLaws.{stored_at}
+use Rattle.file_reading.proofs.RowLaws.{rows_end, rows_go, rows_stop, zip_ends, zip_goes}
+use Rattle.file_reading.proofs.directories.read_rows.Goals as goal
+
+pub read_row-requires-clause-stored : goal.read_row-requires-clause-stored
+read_row-requires-clause-stored g c =
+    let arrays = c.args.catalog.now.arrays in
+    let i = c.loop-array.array-index in
+    let array = c.array-item.result in
+    let low : i < length arrays = omega (arith, c.loop-array-test.true, ap length c.as_slice-array-items.ensures) in
+    let is : array ≡ get_or arrays i array = rw c.as_slice-array-items.ensures at c.array-item.is in
+    stored_at c.args.catalog.now i array low is c.requires
+
+pub returns-in-Err-clause-exact : goal.returns-in-Err-clause-exact
+returns-in-Err-clause-exact g c =
+    let arrays = c.args.catalog.now.arrays in
+    let i = c.loop-array.array-index in
+    let array = c.array-item.result in
+    let low : i < length arrays = omega (arith, c.loop-array-test.true, ap length c.as_slice-array-items.ensures) in
+    let is : array ≡ get_or arrays i array = rw c.as_slice-array-items.ensures at c.array-item.is in
+    rows_stop (rules_of c.args.base.now) arrays (g.D.Disk.moment c.args.file.now.disk).state.seen (g.D.Disk.moment c.loop-array.file.disk).state.seen c.args.taken.now c.loop-array.taken c.read_row.new.taken i c.loop-array.rows array c.in-Err.cause
+    low is c.loop-array.invariant.reads.seen c.in-Err.ensures.exact c.loop-array.invariant.told
+
+pub loop-array-preserved : goal.loop-array-preserved
+loop-array-preserved g c =
+    let arrays = c.args.catalog.now.arrays in
+    let i = c.loop-array.array-index in
+    let array = c.array-item.result in
+    let so_far = c.loop-array.invariant in
+    let low : i < length arrays = omega (arith, c.loop-array-test.true, ap length c.as_slice-array-items.ensures) in
+    let is : array ≡ get_or arrays i array = rw c.as_slice-array-items.ensures at c.array-item.is in
+    let more = c.in_ok-push-in-Ok.ensures.ok in
+    record {
+      slots = c.in-Ok.ensures.slots ∙ so_far.slots;
+      reads = reads_on _ _ _ _ _ _ _ _ _ so_far.reads c.in-Ok.ensures.reads;
+      each = zip_goes arrays i array c.loop-array.rows c.push.new.self c.in-Ok.row low is more c.in-Ok.ensures.rules so_far.each;
+      told = rows_go (rules_of c.args.base.now) arrays (g.D.Disk.moment c.args.file.now.disk).state.seen (g.D.Disk.moment c.loop-array.file.disk).state.seen c.args.taken.now c.loop-array.taken c.read_row.new.taken i c.loop-array.rows c.push.new.self c.in-Ok.row array
+          low is so_far.reads.seen more c.in-Ok.ensures.exact so_far.told;
+    }
+
+pub returns-clause-exact : goal.returns-clause-exact
+returns-clause-exact g c =
+    let arrays = c.args.catalog.now.arrays in
+    let past : length arrays ≤ c.loop-array.array-index = omega (arith, c.loop-array-test.false, ap length c.as_slice-array-items.ensures) in
+    rows_end (rules_of c.args.base.now) arrays (g.D.Disk.moment c.args.file.now.disk).state.seen c.args.taken.now c.loop-array.taken c.loop-array.array-index c.loop-array.rows past c.loop-array.invariant.told
+
+pub returns-clause-rules : goal.returns-clause-rules
+returns-clause-rules g c =
+    let arrays = c.args.catalog.now.arrays in
+    let past : length arrays ≤ c.loop-array.array-index = omega (arith, c.loop-array-test.false, ap length c.as_slice-array-items.ensures) in
+    zip_ends arrays c.loop-array.array-index c.loop-array.rows past c.loop-array.invariant.each
