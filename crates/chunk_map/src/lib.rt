@@ -4,6 +4,7 @@
 mod decoding;
 mod directory;
 mod entry_laws;
+mod finding;
 mod reading;
 mod replacing;
 mod writing;
@@ -11,5 +12,6 @@ mod writing;
 pub use decoding::{BadDirectory, decode_directory};
 pub use directory::{DirEntry, Directory};
 pub use entry_laws::replaced_are_directories;
+pub use finding::entry_of;
 pub use replacing::replaced;
 pub use writing::encode_directory;
