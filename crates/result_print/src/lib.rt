@@ -7,6 +7,6 @@ mod lines;
 mod refusal;
 mod spelling;
 
-pub use array::dcsv;
+pub use array::{dcsv, push_lines, text_header};
 pub use lines::refusal_line;
 pub use refusal::Refusal;

@@ -1,2 +1,3 @@
 pub mod PlanReplies
 pub mod QueryReplies
+pub mod TextLaws

@@ -4,6 +4,7 @@
 mod laws;
 mod queries;
 mod replies;
+mod texts;
 
 pub use laws::replies_have_kinds;
 pub use queries::reply_to_query;
