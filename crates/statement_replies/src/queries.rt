@@ -57,7 +57,11 @@ pub fn reply_to_query<S: ChunkSource, G: Gate>(
     ensures start { S.start source.new ≡ S.start source.old }
 {
     match query_plan(alloc, tree, text, names) {
-        Ok(plan) => reply_to_plan(alloc, &plan, source, workers, session, gate),
+        Ok(plan) => {
+            let answer = reply_to_plan(alloc, &plan, source, workers, session, gate);
+            drop(plan);
+            answer
+        }
         Err(TypeFault::Rule { span, kind }) => Ok(refuse(alloc, Refusal::Typing { span, kind })?),
         Err(TypeFault::Memory) => Err(ExecFault::Memory),
     }

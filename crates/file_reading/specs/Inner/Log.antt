@@ -8,6 +8,7 @@ use Rattle.page_chain.specs.Chains.{chain, chain_bytes}
 use Rattle.page_chain.specs.declared.fault.OpenCause.{OpenCause}
 use Rattle.page_chain.specs.declared.fault.OpenCause.TheVariants.{Disk, NotDatabase, Memory}
 use Rattle.version_catalog.specs.declared.rules.catalog.Catalog.{Catalog}
+use Rattle.version_catalog.specs.declared.rules.catalog_record.CatalogRecord.{CatalogRecord}
 use Rattle.version_catalog.specs.Table.{catalog_in, record_in}
 use Rattle.catalog_changes.specs.Records.{after_record}
 use Rattle.file_meaning.specs.Opening.{blamed, if_allowed, Logged}
@@ -21,12 +22,15 @@ base_in file root = do
 
 -- ---- records
 
+-- the catalogue after a record of a chain that begins with this page
+abbrev pub applied_record : Catalog → ℕ → CatalogRecord → Result Catalog ℕ
+applied_record catalog first spelled = if_allowed catalog first spelled >>= λ entry. Ok (after_record catalog entry)
+
 -- the catalogue after the record that these bytes of a chain spell, which begins with this page
 abbrev pub applied : Catalog → ℕ → List ℕ → Result Catalog ℕ
 applied catalog first bytes = do
   spelled ← blamed first (record_in bytes)
-  entry ← if_allowed catalog first spelled
-  Ok (after_record catalog entry)
+  applied_record catalog first spelled
 
 abbrev pub IsApplied : Result (Unit {0}) OpenCause → Catalog → Result Catalog ℕ → Type 0
 IsApplied (Ok u) now step = step ≡ Ok now
