@@ -6,7 +6,7 @@ use Rattle.std.specs.Io.KnownBytes.{Consumes}
 use Rattle.afl_outside.specs.Counts.{Rose}
 use Rattle.afl_outside.specs.Source.{SourceState, IsNewSource}
 use Rattle.afl_outside.specs.Sink.{SinkState, IsNewSink}
-use Rattle.afl_outside.specs.Shelf.{ShelfState, KeepsWord}
+use Rattle.afl_outside.specs.Shelf.{ShelfState}
 use Rattle.afl_outside.proofs.Streams.{wrote_all}
 use Rattle.afl_run.specs.Answered.{IsAnswered}
 use Rattle.afl_run.specs.Session.{Serves}
@@ -39,24 +39,6 @@ prints asked a b k l marks end source sink serves = record {
   source_fault = λ is. let h = serves.source_fault is in (subst (λ (n : ℕ). Rose n b.faults) source.faults h.0, h.1);
   sink_fault = λ is. subst (λ (n : ℕ). Rose n l.faults) sink.faults (serves.sink_fault is);
   memory = λ is. elim (serves.memory is) [ inl rose ↦ inl (subst (λ (n : ℕ). Rose n l.wants) sink.wants rose) | inr some ↦ inr some ];
-}
-
--- what a shelf told of a name that it opened
-kept_word : {T : Type 0} (told : Option (List ℕ)) (before now : ℕ) (first : T → Option (List ℕ)) (x : T) (later : Option (List ℕ)) → later ≡ first x
-    → KeepsWord told before now first (Ok x) → IfSome told (λ bytes. later ≡ Some bytes)
-kept_word None before now first x later is keeps = tt
-kept_word (Some bytes) before now first x later is keeps = is ∙ keeps
-
-pub opened : {S K : Type 0} (source_of : S → SourceState) (sink_of : K → SinkState) (asked : List ℕ) (shelf next : ShelfState) (w w' v v' : ℕ) (s : S) (k : K) (b : SourceState) (l : SinkState) (marks : List Mark) (end : SessionEnd)
-    → IsNewSource asked (source_of s) → IsNewSink asked (sink_of k) → KeepsWord (shelf.scripts asked) w w' (λ s. (source_of s).first) (Ok s)
-    → KeepsWord (next.replies asked) v v' (λ k. (sink_of k).first) (Ok k) → next.replies asked ≡ shelf.replies asked
-    → Serves IsAnswered (source_of s) b (sink_of k) l marks end → IsOpenedAs asked shelf b l
-opened source_of sink_of asked shelf next w w' v v' s k b l marks end source sink script reply same serves = record {
-  source_name = subst (λ (o : Option (List ℕ)). IfSome o (λ told. told ≡ asked)) (sym serves.gives.name) source.name;
-  sink_name = subst (λ (o : Option (List ℕ)). IfSome o (λ told. told ≡ asked)) (sym serves.takes.name) sink.name;
-  script = kept_word (shelf.scripts asked) w w' (λ s. (source_of s).first) s b.first serves.gives.first script;
-  reply = subst (λ (o : Option (List ℕ)). IfSome o (λ bytes. l.first ≡ Some bytes)) same
-      (kept_word (next.replies asked) v v' (λ k. (sink_of k).first) k l.first serves.takes.first reply);
 }
 
 -- a fact of the one item of a list

@@ -1,8 +1,8 @@
 //! The top call.
-ghost use Rattle.std.specs.Prelude.{◌≡◌, ◌≢◌, ◌↔◌, ◌⊎◌, ◌≤◌, ◌+◌, ◌^◌, length, ℕ, Some, None, All, Any, IsSome, IsTrue, IfOk, [], ◌∷◌, ◌<◌, vec_capacity};
+ghost use Rattle.std.specs.Prelude.{◌≡◌, ◌≢◌, ◌↔◌, ◌⊎◌, ◌≤◌, ◌+◌, ◌^◌, length, ℕ, Some, None, All, Any, IsSome, IsTrue, IfOk, IfErr, IfSome, MatchResult, [], ◌∷◌, ◌<◌, vec_capacity};
 ghost use Rattle.afl_lexer.specs.Inner.Standing.{StandsAfter};
 ghost use Rattle.std.specs.List.{list_any};
-ghost use Rattle.afl_outside.specs.Counts.{Rose};
+ghost use Rattle.afl_outside.specs.Counts.{Rose, risen};
 ghost use Rattle.afl_outside.specs.Sink.{IsNewSink};
 ghost use Rattle.afl_outside.specs.Source.{IsNewSource};
 ghost use Rattle.afl_run.specs.Answered.{IsAnswered};
@@ -100,28 +100,50 @@ fn run_try<F: Shelf>(alloc: Global, shelf: F) -> Report<F>
     ensures handed { (F.state shelf).handed + length result.sessions < 2 ^ 64 → (F.state result.shelf).handed ≡ (F.state shelf).handed + length result.sessions }
     ensures memory { result.notice ≡ Notice.Memory → result.sessions ≡ [] → (result.shelf ≡ shelf) ⊎ Rose (F.state shelf).wants (F.state result.shelf).wants }
 {
-    let (splitter, sessions) = match room(alloc) {
-        Ok(room) => room,
-        Err(Memory) => return unopened(alloc, Notice::Memory, shelf),
-    };
-    let mut shelf = shelf;
+    match room(alloc) {
+        Ok((splitter, sessions)) => {
+            let mut shelf = shelf;
+            match open_streams(&mut shelf) {
+                Ok((source, sink)) => {
+                    report_of(sessions, serve(alloc, source, sink, splitter), shelf)
+                }
+                Err(notice) => {
+                    drop(sessions);
+                    drop(splitter);
+                    unopened(alloc, notice, shelf)
+                }
+            }
+        }
+        Err(Memory) => unopened(alloc, Notice::Memory, shelf),
+    }
+}
+
+/// The standard input and the standard output, or what is told where one of them isn't opened.
+fn open_streams<F: Shelf>(shelf: &mut F) -> Result<(F::S, F::K), Notice>
+    ensures source { IfOk result (λ streams. IsNewSource standard (F.S.state streams.0)) }
+    ensures sink { IfOk result (λ streams. IsNewSink standard (F.K.state streams.1)) }
+    ensures script { IfOk result (λ streams. IfSome ((F.state shelf.old).scripts standard) (λ bytes. (F.S.state streams.0).first ≡ Some bytes)) }
+    ensures reply { IfOk result (λ streams. IfSome ((F.state shelf.old).replies standard) (λ bytes. (F.K.state streams.1).first ≡ Some bytes)) }
+    ensures cause { IfErr result (λ notice. ((notice ≡ Notice.Memory) × Rose (F.state shelf.old).wants (F.state shelf.new).wants)
+        ⊎ ((notice ≡ Notice.Stream 0) × IsUnopened standard (F.state shelf.old) (F.state shelf.new))) }
+    ensures later { (F.state shelf.old).faults ≤ (F.state shelf.new).faults }
+    ensures handed { MatchResult result
+        (λ _. (F.state shelf.new).handed ≡ risen (F.state shelf.old).handed)
+        (λ _. (F.state shelf.new).handed ≡ (F.state shelf.old).handed) }
+{
     let wants = shelf.wants();
     let source = match shelf.script("-") {
         Ok(source) => source,
-        Err(Failed) => {
-            let notice = unopened_notice(wants, shelf.wants());
-            return unopened(alloc, notice, shelf);
-        }
+        Err(Failed) => return Err(unopened_notice(wants, shelf.wants())),
     };
     let wants = shelf.wants();
-    let sink = match shelf.reply("-") {
-        Ok(sink) => sink,
+    match shelf.reply("-") {
+        Ok(sink) => Ok((source, sink)),
         Err(Failed) => {
-            let notice = unopened_notice(wants, shelf.wants());
-            return unopened(alloc, notice, shelf);
+            drop(source);
+            Err(unopened_notice(wants, shelf.wants()))
         }
-    };
-    report_of(sessions, serve(alloc, source, sink, splitter), shelf)
+    }
 }
 
 /// A call of the shelf found no memory, or else it failed.

@@ -73,7 +73,8 @@ abbrev pub AddsRecord : Slots → Slots → List Placed → Placed → Moment �
 AddsRecord slots later blobs chain old new = Leaves slots later (with_record (record_of chain) (cleared slots))
     (IsOpened (slots.current.root.log ∷ commit_pages blobs chain) (HasRecord slots blobs chain) old.may_leave) old new
 
--- How the stage tells what a commit of a record left: the entry wasn't closed for sure; it is closed, and wasn't opened; it may be open.
+-- How the stage tells what a commit of a record left: the entry wasn't closed for sure; it is closed, and wasn't opened; it may be open, and
+-- all that it names is there.
 abbrev pub StopsRecord : Stopped → Slots → Slots → List Placed → Placed → Moment → Moment → Type 0
 StopsRecord stages.Closing slots later blobs chain old new =
     Leaves slots later (doubted slots) (IsUntouched slots.current.root.log slots old.may_leave) old new
@@ -82,8 +83,8 @@ StopsRecord stages.Filling slots later blobs chain old new =
     (IsUnopened (slots.current.root.log ∷ commit_pages blobs chain) slots old.may_leave) old new
 StopsRecord stages.Opening slots later blobs chain old new =
     Leaves slots later (record (cleared slots) { next = entries.Opening (record_of chain); doubtful = true; zeroed = later.zeroed })
-    (λ c. IsUnopened (slots.current.root.log ∷ commit_pages blobs chain) slots old.may_leave c
-    ⊎ IsOpened (slots.current.root.log ∷ commit_pages blobs chain) (HasRecord slots blobs chain) old.may_leave c) old new
+    (λ c. HoldsAll c blobs chain × (IsUnopened (slots.current.root.log ∷ commit_pages blobs chain) slots old.may_leave c
+    ⊎ IsOpened (slots.current.root.log ∷ commit_pages blobs chain) (HasRecord slots blobs chain) old.may_leave c)) old new
 
 -- the file opens as the new root, in one of the two formats, and has the catalogue's bytes and the blobs'
 abbrev pub MayHaveBase : Slots → List Placed → Placed → ℕ → ℕ → List ℕ → Type 0
@@ -98,7 +99,8 @@ abbrev pub MakesBase : Slots → Slots → List Placed → Placed → ℕ → �
 MakesBase slots later blobs chain sequence log old new = Leaves slots later (with_root (root_of sequence chain log) slots)
     (IsOpened (0 ∷ base_pages blobs chain log) (HasBase slots blobs chain sequence log) old.may_leave) old new
 
--- How the stage tells what a commit of a new base left: the root slot wasn't closed for sure; it is closed, and wasn't opened; it may be open.
+-- How the stage tells what a commit of a new base left: the root slot wasn't closed for sure; it is closed, and wasn't opened; it may be open,
+-- and all that it names is there.
 abbrev pub StopsBase : Stopped → Slots → Slots → List Placed → Placed → ℕ → ℕ → Moment → Moment → Type 0
 StopsBase stages.Closing slots later blobs chain sequence log old new =
     Leaves slots later (doubted slots) (IsUntouched 0 slots old.may_leave) old new
@@ -107,5 +109,5 @@ StopsBase stages.Filling slots later blobs chain sequence log old new =
     (IsUnopened (0 ∷ base_pages blobs chain log) slots old.may_leave) old new
 StopsBase stages.Opening slots later blobs chain sequence log old new =
     Leaves slots later (record (cleared slots) { other = roots.Opening (root_of sequence chain log); doubtful = true; zeroed = later.zeroed })
-    (λ c. IsUnopened (0 ∷ base_pages blobs chain log) slots old.may_leave c
-    ⊎ IsOpened (0 ∷ base_pages blobs chain log) (MayHaveBase slots blobs chain sequence log) old.may_leave c) old new
+    (λ c. HoldsAll c blobs chain × (IsUnopened (0 ∷ base_pages blobs chain log) slots old.may_leave c
+    ⊎ IsOpened (0 ∷ base_pages blobs chain log) (MayHaveBase slots blobs chain sequence log) old.may_leave c)) old new

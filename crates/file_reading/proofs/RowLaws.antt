@@ -223,21 +223,22 @@ rows_end rules arrays told old set i rows past going seen seen_is taken has =
     let g = going seen seen_is taken has in
     sym g.2 ∙ ap (λ (as_ : List CatalogArray). behind_rows rows (rows_in seen rules g.0 as_)) (drop_all i arrays past) ∙ ap (λ (rs : List (List Directory)). Ok rs) (append-nil rows)
 
--- the directories of the arrays that are left
-abbrev pub Zipping : List CatalogArray → ℕ → List (List Directory) → Type 0
-Zipping arrays i rows = (later : List (List Directory)) → AllZip AreDirectories (drop i arrays) later → AllZip AreDirectories arrays (rows ++ later)
+-- what is left of two lists that go on together
+abbrev pub Zipping : {A B : Type 0} → (A → B → Type 0) → List A → ℕ → List B → Type 0
+Zipping P xs i ys = (later : List _) → AllZip P (drop i xs) later → AllZip P xs (ys ++ later)
 
-pub zip_begins : (arrays : List CatalogArray) → Zipping arrays 0 []
-zip_begins arrays later zips = zips
+pub zip_begins : {A B : Type 0} (P : A → B → Type 0) (xs : List A) → Zipping P xs 0 []
+zip_begins P xs later zips = zips
 
-pub zip_goes : (arrays : List CatalogArray) (i : ℕ) (array : CatalogArray) (rows more : List (List Directory)) (row : List Directory) → i < length arrays → array ≡ get_or arrays i array → more ≡ rows ++ row ∷ []
-    → AreDirectories array row → Zipping arrays i rows → Zipping arrays (i + 1) more
-zip_goes arrays i array rows more row low is more_is one zipping later zips =
-    let all : AllZip AreDirectories (array ∷ drop (i + 1) arrays) (row ∷ later) = (one, zips) in
-    let behind = zipping (row ∷ later) (subst (λ (as_ : List CatalogArray). AllZip AreDirectories as_ (row ∷ later)) (sym (next_array arrays i array low is)) all) in
-    subst (AllZip AreDirectories arrays) (sym (ap (λ (rs : List (List Directory)). rs ++ later) more_is ∙ append_assoc rows (row ∷ []) later)) behind
+pub zip_goes : {A B : Type 0} (P : A → B → Type 0) (xs : List A) (i : ℕ) (x : A) (ys more : List B) (y : B) → i < length xs → x ≡ get_or xs i x → more ≡ ys ++ y ∷ []
+    → P x y → Zipping P xs i ys → Zipping P xs (i + 1) more
+zip_goes P xs i x ys more y low is more_is one zipping later zips =
+    let left : drop i xs ≡ x ∷ drop (i + 1) xs = drop_more xs i x low ∙ ap (λ (z : _). z ∷ drop (i + 1) xs) (sym is) in
+    let all : AllZip P (x ∷ drop (i + 1) xs) (y ∷ later) = (one, zips) in
+    let behind = zipping (y ∷ later) (subst (λ (zs : List _). AllZip P zs (y ∷ later)) (sym left) all) in
+    subst (AllZip P xs) (sym (ap (λ (zs : List _). zs ++ later) more_is ∙ append_assoc ys (y ∷ []) later)) behind
 
-pub zip_ends : (arrays : List CatalogArray) (i : ℕ) (rows : List (List Directory)) → length arrays ≤ i → Zipping arrays i rows → AllZip AreDirectories arrays rows
-zip_ends arrays i rows past zipping =
-    let none : AllZip AreDirectories [] [] = tt in
-    subst (AllZip AreDirectories arrays) (append-nil rows) (zipping [] (subst (λ (as_ : List CatalogArray). AllZip AreDirectories as_ []) (sym (drop_all i arrays past)) none))
+pub zip_ends : {A B : Type 0} (P : A → B → Type 0) (xs : List A) (i : ℕ) (ys : List B) → length xs ≤ i → Zipping P xs i ys → AllZip P xs ys
+zip_ends P xs i ys past zipping =
+    let none : AllZip P [] [] = tt in
+    subst (AllZip P xs) (append-nil ys) (zipping [] (subst (λ (zs : List _). AllZip P zs []) (sym (drop_all i xs past)) none))

@@ -12,8 +12,8 @@ ghost use Rattle.plan_changes.specs.Stored.{IsStored};
 ghost use Rattle.version_catalog.specs.Catalogs.{HasDirectories, IsBlob, IsCatalog};
 ghost use Rattle.file_meaning.specs.Opening.{blamed, directory_from, row_in, rows_in};
 ghost use Rattle.file_reading.specs.Reading.{Answers, AreDirectories};
-ghost use Rattle.file_reading.specs.Inner.Rows.{entries_of, listed, rowed, rules_of};
-ghost use Rattle.file_reading.specs.Inner.Taken.{IsTaken, Takes};
+ghost use Rattle.file_reading.specs.Inner.Rows.{entries_of, listed, rowed, rules_of, ArePaidBeside, IsBeside, IsRowBeside};
+ghost use Rattle.file_reading.specs.Inner.Taken.{IsTaken, LeavesBeside, Takes};
 
 use crate::base::Base;
 use crate::entries::claim_payloads;
@@ -96,6 +96,8 @@ fn read_version<D: Disk>(
     ensures exact { (seen : List ℕ) → (D.moment file.old.disk).state.seen ≡ Some seen → (taken_before : List ℕ) → IsTaken seen taken.old taken_before
         → Takes seen listed result taken.new (directory_from seen (rules_of base.now) schema.now.dimensions (entries_of [] before.now) taken_before at.now) }
     ensures rules { IfOk result (IsDirectory (length schema.now.dimensions)) }
+    ensures beside { IfOk result (λ directory. (tells others : List ℕ) → LeavesBeside tells taken.old others → ArePaidBeside others (entries_of [] before.now)
+        → LeavesBeside tells taken.new others × IsBeside others schema.now.dimensions at.now directory) }
     ensures fault { IsErrOf result OpenCause.Disk → Rose (D.moment file.old.disk).state.faults (D.moment file.new.disk).state.faults }
     ensures slots { file.new.slots ≡ file.old.slots }
     ensures reads { OnlyReads (D.moment file.old.disk) (D.moment file.new.disk) }
@@ -130,6 +132,8 @@ fn read_row<D: Disk>(
     ensures exact { (seen : List ℕ) → (D.moment file.old.disk).state.seen ≡ Some seen → (taken_before : List ℕ) → IsTaken seen taken.old taken_before
         → Takes seen rowed result taken.new (row_in seen (rules_of base.now) array.now.entry.schema.dimensions [] taken_before array.now.directories) }
     ensures rules { IfOk result (AreDirectories array.now) }
+    ensures beside { IfOk result (λ row. (tells others : List ℕ) → LeavesBeside tells taken.old others
+        → LeavesBeside tells taken.new others × IsRowBeside others array.now row) }
     ensures fault { IsErrOf result OpenCause.Disk → Rose (D.moment file.old.disk).state.faults (D.moment file.new.disk).state.faults }
     ensures slots { file.new.slots ≡ file.old.slots }
     ensures reads { OnlyReads (D.moment file.old.disk) (D.moment file.new.disk) }
@@ -157,6 +161,8 @@ pub(crate) fn read_rows<D: Disk>(
     ensures exact { (seen : List ℕ) → (D.moment file.old.disk).state.seen ≡ Some seen → (taken_before : List ℕ) → IsTaken seen taken.old taken_before
         → Answers result (rows_in seen (rules_of base.now) taken_before catalog.now.arrays) }
     ensures rules { IfOk result (AllZip AreDirectories catalog.now.arrays) }
+    ensures beside { IfOk result (λ rows. (tells others : List ℕ) → LeavesBeside tells taken.old others
+        → AllZip (IsRowBeside others) catalog.now.arrays rows) }
     ensures fault { IsErrOf result OpenCause.Disk → Rose (D.moment file.old.disk).state.faults (D.moment file.new.disk).state.faults }
     ensures slots { file.new.slots ≡ file.old.slots }
     ensures reads { OnlyReads (D.moment file.old.disk) (D.moment file.new.disk) }

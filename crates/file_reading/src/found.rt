@@ -5,11 +5,13 @@ ghost use Rattle.afl_outside.specs.Counts.{Rose};
 ghost use Rattle.page_chain.specs.Inner.Runs.{OnlyReads};
 ghost use Rattle.page_slots.specs.Standing.{IsSound};
 ghost use Rattle.version_catalog.specs.Catalogs.{IsCatalog};
-ghost use Rattle.file_meaning.specs.Opening.{found_in, rows_in};
-ghost use Rattle.file_reading.specs.Reading.{Answers, AreDirectories, IsFound, slots_of};
+ghost use Rattle.version_reaper.specs.PageSets.{holds, is_held};
+ghost use Rattle.file_meaning.specs.Opening.{all_of, catalogue_pages, found_in, rows_in, stored_pages};
+ghost use Rattle.file_reading.specs.Reading.{Answers, AreDirectories, IsFound, LieApart, slots_of};
 ghost use Rattle.file_reading.specs.Inner.Found.{IsLogFound, base_found_in, found_behind, log_behind, rules_in};
 ghost use Rattle.file_reading.specs.Inner.Log.{GoesOn};
-ghost use Rattle.file_reading.specs.Inner.Rows.{rules_of};
+ghost use Rattle.file_reading.specs.Inner.Rows.{AreBeside, IsRowBeside, rules_of};
+ghost use Rattle.file_reading.specs.Inner.Taken.{HaveAll};
 
 use crate::base::{Base, read_base};
 use crate::directories::read_rows;
@@ -22,13 +24,16 @@ use file_meaning::Found;
 use page_file::{OpenCause, PageFile};
 use std::alloc::Global;
 use version_catalog::Catalog;
+use version_reaper::is_in;
 
 /// Reads all that a file keeps from its current root and its log on: the catalogue with its pages, and the directory of each version. A
-/// file that is wrong is told by the first page at which it is.
+/// file that is wrong is told by the first page at which it is. A disk that gives page 0 as one of the catalogue's, as none does that tells
+/// its bytes, is told by page 0.
 pub fn read_found<D: Disk>(alloc: Global, file: &mut PageFile<D>) -> Result<Found, OpenCause>
     requires { length file.old.slots.records ≤ 64 }
     ensures exact { IfSome (D.moment file.old.disk).state.seen (λ seen. Answers result (found_in seen (slots_of file.old.slots))) }
     ensures rules { IfOk result IsFound }
+    ensures apart { IfOk result (LieApart file.old.slots.current.root.log) }
     ensures fault { IsErrOf result OpenCause.Disk → Rose (D.moment file.old.disk).state.faults (D.moment file.new.disk).state.faults }
     ensures slots { file.new.slots ≡ file.old.slots }
     ensures reads { OnlyReads (D.moment file.old.disk) (D.moment file.new.disk) }
@@ -37,11 +42,31 @@ pub fn read_found<D: Disk>(alloc: Global, file: &mut PageFile<D>) -> Result<Foun
 {
     match base_found(alloc, file) {
         Ok(mut found) => match read_behind(alloc, file, &mut found) {
-            Ok(()) => Ok(found),
+            Ok(()) => {
+                if has_front(&found) {
+                    Err(OpenCause::NotDatabase { page: 0 })
+                } else {
+                    Ok(found)
+                }
+            }
             Err(cause) => Err(cause),
         },
         Err(cause) => Err(cause),
     }
+}
+
+/// Whether page 0 is in one of these lists.
+fn any_has_front(lists: &[List<u32>]) -> bool
+    ensures { result ≡ is_held lists.now 0 }
+{
+    lists.iter().any(|pages| is_in(pages, 0))
+}
+
+/// Whether page 0 is one of the catalogue's.
+fn has_front(found: &Found) -> bool
+    ensures { result ≡ holds (catalogue_pages found.now) 0 }
+{
+    is_in(&found.chain, 0) || any_has_front(found.logged.as_slice())
 }
 
 /// Reads the base, with no record and no directory behind it.
@@ -77,6 +102,7 @@ fn read_behind<D: Disk>(
     ensures exact { (seen : List ℕ) → (D.moment file.old.disk).state.seen ≡ Some seen
         → GoesOn result (Ok found.new) (found_behind seen (slots_of file.old.slots) found.old) }
     ensures rules { OnOk result (IsFound found.new) }
+    ensures stored { OnOk result (AreBeside (file.old.slots.current.root.log ∷ catalogue_pages found.new) (stored_pages found.new)) }
     ensures fault { IsErrOf result OpenCause.Disk → Rose (D.moment file.old.disk).state.faults (D.moment file.new.disk).state.faults }
     ensures slots { file.new.slots ≡ file.old.slots }
     ensures reads { OnlyReads (D.moment file.old.disk) (D.moment file.new.disk) }
@@ -115,6 +141,7 @@ fn read_records<D: Disk>(
         → IsLogFound result found.new (log_behind seen (slots_of file.old.slots) found.old) }
     ensures rules { IfOk result (λ taken. IsCatalog found.new.catalog) }
     ensures chain { found.new.chain ≡ found.old.chain }
+    ensures held { IfOk result (λ taken. HaveAll taken ((found.new.chain ++ file.old.slots.current.root.log ∷ []) ++ all_of found.new.logged)) }
     ensures fault { IsErrOf result OpenCause.Disk → Rose (D.moment file.old.disk).state.faults (D.moment file.new.disk).state.faults }
     ensures slots { file.new.slots ≡ file.old.slots }
     ensures reads { OnlyReads (D.moment file.old.disk) (D.moment file.new.disk) }
@@ -159,6 +186,7 @@ fn read_directories<D: Disk>(
     ensures exact { (seen : List ℕ) → (D.moment file.old.disk).state.seen ≡ Some seen
         → Answers result (rows_in seen (rules_in (slots_of file.old.slots)) taken.now catalog.now.arrays) }
     ensures rules { IfOk result (AllZip AreDirectories catalog.now.arrays) }
+    ensures beside { IfOk result (AllZip (IsRowBeside taken.now) catalog.now.arrays) }
     ensures fault { IsErrOf result OpenCause.Disk → Rose (D.moment file.old.disk).state.faults (D.moment file.new.disk).state.faults }
     ensures slots { file.new.slots ≡ file.old.slots }
     ensures reads { OnlyReads (D.moment file.old.disk) (D.moment file.new.disk) }

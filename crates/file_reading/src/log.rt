@@ -4,8 +4,9 @@ ghost use Rattle.afl_outside.specs.Counts.{Rose};
 ghost use Rattle.page_chain.specs.Inner.Runs.{OnlyReads};
 ghost use Rattle.page_layout.specs.declared.logs.RecordAt.{RecordAt};
 ghost use Rattle.version_catalog.specs.Catalogs.{IsCatalog};
-ghost use Rattle.file_meaning.specs.Opening.{logged_in};
+ghost use Rattle.file_meaning.specs.Opening.{all_of, logged_in};
 ghost use Rattle.file_reading.specs.Inner.Log.{GoesOn, behind_log};
+ghost use Rattle.file_reading.specs.Inner.Taken.{HaveAll};
 
 use crate::base::read_record;
 use afl_outside::Disk;
@@ -45,6 +46,7 @@ fn read_logged<D: Disk>(
         (behind_log logged.new (logged_in seen file.old.slots.current.root.log taken.new catalog.new later))
         (behind_log logged.old (logged_in seen file.old.slots.current.root.log taken.old catalog.old (slice_index_or file.old.slots.records number d ∷ later))) }
     ensures rules { OnOk result (IsCatalog catalog.new) }
+    ensures held { OnOk result ((others : List ℕ) → HaveAll taken.old (others ++ all_of logged.old) → HaveAll taken.new (others ++ all_of logged.new)) }
     ensures fault { IsErrOf result OpenCause.Disk → Rose (D.moment file.old.disk).state.faults (D.moment file.new.disk).state.faults }
     ensures slots { file.new.slots ≡ file.old.slots }
     ensures reads { OnlyReads (D.moment file.old.disk) (D.moment file.new.disk) }
@@ -73,6 +75,7 @@ pub(crate) fn read_log<D: Disk>(
         (Ok (record { pages = logged.new; catalog = catalog.new; taken = taken.new }))
         (behind_log logged.old (logged_in seen file.old.slots.current.root.log taken.old catalog.old file.old.slots.records)) }
     ensures rules { OnOk result (IsCatalog catalog.new) }
+    ensures held { OnOk result ((others : List ℕ) → HaveAll taken.old (others ++ all_of logged.old) → HaveAll taken.new (others ++ all_of logged.new)) }
     ensures fault { IsErrOf result OpenCause.Disk → Rose (D.moment file.old.disk).state.faults (D.moment file.new.disk).state.faults }
     ensures slots { file.new.slots ≡ file.old.slots }
     ensures reads { OnlyReads (D.moment file.old.disk) (D.moment file.new.disk) }

@@ -5,7 +5,7 @@ mod BySlots
 mod Cut
 mod Follow
 mod FoundRise
-mod Free
+pub mod Free
 mod Held
 mod Later
 mod Lists
@@ -16,7 +16,7 @@ mod Rows
 mod Same
 mod Seen
 mod Shed
-mod Taken
+pub mod Taken
 mod Torn
 mod Turn
 mod Version

@@ -142,6 +142,13 @@ impl Ledger {
             <= u64::from(self.limit)
     }
 
+    /// The number below which its pages are.
+    pub fn page_limit(&self) -> u32
+        ensures { result ≡ self.now.base.limit }
+    {
+        self.pages.limit()
+    }
+
     /// How many pages from 1 on nobody can name. This takes no memory.
     pub fn free_pages(&mut self) -> u32
         ensures count { result ≡ length (unused_pages self.old) }

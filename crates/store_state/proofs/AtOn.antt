@@ -119,7 +119,7 @@ more_noted c true b e = e
 more_noted false false b e = refl
 more_noted true false b e = cc
 
-tried_on : (h : History) (notes : List Note) (note : Note) → list_all (is_tried h notes) (open_pins h) ≡ true → list_all (is_tried h (notes ++ note ∷ [])) (open_pins h) ≡ true
+pub tried_on : (h : History) (notes : List Note) (note : Note) → list_all (is_tried h notes) (open_pins h) ≡ true → list_all (is_tried h (notes ++ note ∷ [])) (open_pins h) ≡ true
 tried_on h notes note all = all_more (is_tried h notes) (is_tried h (notes ++ note ∷ []))
     (λ pin e. ap (λ (b : Bool). not (has_committed pin.session h) || b) (list_any-append (is_under Tried pin) notes (note ∷ []))
     ∙ more_noted (has_committed pin.session h) (has_note Tried notes pin) _ e) (open_pins h) all
@@ -155,7 +155,7 @@ module _ {D : Type 0} (moment : D → Moment) (s : Standing D) (k : Keeping) (x 
 -- ---- reads
 
 -- a count that doesn't fall
-counted_later : (opened old new : ℕ) (notes : List Note) → old ≤ new → AreCounted opened old notes → AreCounted opened new notes
+pub counted_later : (opened old new : ℕ) (notes : List Note) → old ≤ new → AreCounted opened old notes → AreCounted opened new notes
 counted_later opened old new notes le = ⊎_elim (λ few. inl (omega (arith, few, le))) (λ last. inr (omega (arith, last, le)))
 
 -- a count that rose has room for one more
@@ -175,7 +175,7 @@ counted_last old new rose last =
     let e : min (old + 1) (2 ^ 64 - 1) ≡ 2 ^ 64 - 1 = min-eq_right long in
     omega (arith, e, rose)
 
-counted_more : (opened old new : ℕ) (notes : List Note) (note : Note) → is_fault note ≡ true → Rose old new → AreCounted opened old notes → AreCounted opened new (notes ++ note ∷ [])
+pub counted_more : (opened old new : ℕ) (notes : List Note) (note : Note) → is_fault note ≡ true → Rose old new → AreCounted opened old notes → AreCounted opened new (notes ++ note ∷ [])
 counted_more opened old new notes note e rose (inl few) =
     counted_risen opened old new (length (filter is_fault notes)) (length (filter is_fault (notes ++ note ∷ []))) (faults_more notes note e) rose few (cases_lt old (2 ^ 64 - 1))
 counted_more opened old new notes note e rose (inr last) = inr (counted_last old new rose last)

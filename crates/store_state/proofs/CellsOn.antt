@@ -56,6 +56,7 @@ module _ {D : Type 0} (moment : D → Moment) (s : Standing D) (k : Keeping) (db
           holds = i.holds;
           now = i.now;
           pinned = all_push (λ (pin : OpenPin). Sees pin image) (open_pins h) (record { session = session; before = h }) i.pinned i.now;
+          doubted = i.doubted;
           stands = i.stands;
         };
     past = have_stood_on (Pin session) (moment s.disk) db h 0 _ x.past;
@@ -79,6 +80,7 @@ module _ {D : Type 0} (moment : D → Moment) (s : Standing D) (k : Keeping) (db
           holds = i.holds;
           now = i.now;
           pinned = all_filter (λ (pin : OpenPin). Sees pin image) (λ pin. not (nat_eq pin.session session)) (open_pins h) i.pinned;
+          doubted = i.doubted;
           stands = i.stands;
         };
     past = have_stood_on (Unpin session) (moment s.disk) db h 0 _ x.past;
@@ -97,7 +99,7 @@ module _ {D : Type 0} (moment : D → Moment) (s : Standing D) (k : Keeping) (db
     is_found = record { catalog = x.is_found.catalog; directories = x.is_found.directories; catalogue = x.is_found.catalogue; stored = x.is_found.stored };
     images = λ image left.
         let i : IsImage s.ledger.base given db h k.slots s.doubt x.found image = x.images image left in
-        record { opens = i.opens; holds = i.holds; now = i.now; pinned = i.pinned; stands = i.stands };
+        record { opens = i.opens; holds = i.holds; now = i.now; pinned = i.pinned; doubted = i.doubted; stands = i.stands };
     past = have_stood_on Reap (moment s.disk) db h 0 _ x.past;
     acked = zip_map _ _ (λ place since. have_stood_on Reap (moment s.disk) db h (place + 1) since) places s.acked x.acked;
   }

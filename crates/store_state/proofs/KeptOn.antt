@@ -1,11 +1,11 @@
 -- What a store keeps on every disk goes on over pins, unpins and reaps.
 use Rattle.std.proofs.Common.{◌≡◌, ℕ, Bool, true, false, not, ◌&&◌, ◌||◌, nat_eq, List, ◌∷◌, IsTrue, refl}
-use Rattle.std.specs.List.{list_all}
+use Rattle.std.specs.List.{AllZip, list_all}
 use Rattle.std.proofs.lemmas.Bool.{eq-eqb}
 use Rattle.afl_outside.specs.Disk.{Moment}
 use Rattle.event_core.specs.declared.entry.Entry.TheVariants.{Pin, Unpin, Reap}
 use Rattle.event_core.specs.Allowed.{is_pinned}
-use Rattle.event_core.specs.History.{History, OpenPin, names_at, open_pins}
+use Rattle.event_core.specs.History.{History, OpenPin, names_at, open_pins, pages_at}
 use Rattle.event_core.specs.Legal.{has_committed}
 use Rattle.event_core.proofs.Tests.{both_not}
 use Rattle.store_ledger.specs.declared.note.Note.{Note}
@@ -16,7 +16,7 @@ use Rattle.store_versions.specs.Versions.{Directories, versions_at}
 use Rattle.store_versions.proofs.Seen.{tables_follow_entries, forgetting_is_seen}
 use Rattle.store_state.specs.Standings.{Standing}
 use Rattle.store_state.specs.Kept.{IsKept}
-use Rattle.store_state.specs.Inner.Keeping.{Keeping, AreDirectoriesOf, is_tried}
+use Rattle.store_state.specs.Inner.Keeping.{Keeping, AreDirectoriesOf, HasItsPages, is_tried}
 use Rattle.store_state.proofs.Lists.{all_push, all_filter, all_more, passes_filter, passes_push}
 
 -- a pin makes no commit
@@ -46,7 +46,10 @@ module _ {D : Type 0} (moment : D → Moment) (s : Standing D) (k : Keeping) (h 
       now = x.versions.now;
       pinned = all_push (λ (pin : OpenPin). AreDirectoriesOf (names_at s.ledger.base pin.before) (versions_at s.ledger.base given pin.before)) (open_pins h)
           (record { session = session; before = h }) x.versions.pinned x.versions.now;
+      in_order = x.versions.in_order;
       pages = x.versions.pages;
+      pinned_pages = all_push (λ (pin : OpenPin). AllZip HasItsPages (pages_at s.ledger.base pin.before) (versions_at s.ledger.base given pin.before)) (open_pins h)
+          (record { session = session; before = h }) x.versions.pinned_pages x.versions.pages;
     };
     slots = record { sequence = x.slots.sequence; records = x.slots.records; log = x.slots.log; target = x.slots.target; alone = x.slots.alone };
     doubt = x.doubt;
@@ -69,7 +72,10 @@ module _ {D : Type 0} (moment : D → Moment) (s : Standing D) (k : Keeping) (h 
       now = x.versions.now;
       pinned = all_filter (λ (pin : OpenPin). AreDirectoriesOf (names_at s.ledger.base pin.before) (versions_at s.ledger.base given pin.before))
           (λ pin. not (nat_eq pin.session session)) (open_pins h) x.versions.pinned;
+      in_order = x.versions.in_order;
       pages = x.versions.pages;
+      pinned_pages = all_filter (λ (pin : OpenPin). AllZip HasItsPages (pages_at s.ledger.base pin.before) (versions_at s.ledger.base given pin.before))
+          (λ pin. not (nat_eq pin.session session)) (open_pins h) x.versions.pinned_pages;
     };
     slots = record { sequence = x.slots.sequence; records = x.slots.records; log = x.slots.log; target = x.slots.target; alone = x.slots.alone };
     doubt = x.doubt;
@@ -89,7 +95,9 @@ module _ {D : Type 0} (moment : D → Moment) (s : Standing D) (k : Keeping) (h 
       seen = (tables_follow_entries given k.rows s.ledger.base h x.versions.seen).reap;
       now = x.versions.now;
       pinned = x.versions.pinned;
+      in_order = x.versions.in_order;
       pages = x.versions.pages;
+      pinned_pages = x.versions.pinned_pages;
     };
     slots = record { sequence = x.slots.sequence; records = x.slots.records; log = x.slots.log; target = x.slots.target; alone = x.slots.alone };
     doubt = x.doubt;

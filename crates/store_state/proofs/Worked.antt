@@ -71,7 +71,9 @@ versions_are = record {
   seen = record { now = refl; pinned = tt; past = refl };
   now = (directory_is, tt);
   pinned = tt;
+  in_order = (refl, tt);
   pages = (record { name = refl; version = refl; payloads = (refl, tt) }, tt);
+  pinned_pages = tt;
 }
 
 pub store_is_kept : IsKept worked_moment worked_store worked_keeping [] (given_of worked_store)

@@ -93,7 +93,7 @@ known = record {
 }
 
 is_found : IsFound worked_base (given_of worked_store) [] worked_catalog 2 found
-is_found = record { catalog = refl; directories = refl; catalogue = refl; stored = (refl, (refl, tt)) }
+is_found = record { catalog = refl; directories = refl; catalogue = refl; stored = refl }
 
 image_is : IsImage worked_base (given_of worked_store) database [] worked_slots None found file
 image_is = record {
@@ -101,6 +101,7 @@ image_is = record {
   holds = database_held;
   now = (record { holds = database_held.versions.0.0; pages = (payload_there, tt) }, tt);
   pinned = tt;
+  doubted = tt;
   stands = file_stands;
 }
 

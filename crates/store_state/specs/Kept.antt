@@ -13,6 +13,7 @@ use Rattle.event_core.specs.Apart.{AllShareOwn, AreApart}
 use Rattle.event_core.specs.Bases.{Base, commits, sequence_at, records_at}
 use Rattle.event_core.specs.History.{History, catalogue_at, names_at, open_pins, pages_at}
 use Rattle.event_core.specs.Legal.{IsOrdered}
+use Rattle.found_rows.specs.Rows.{AreInOrder}
 use Rattle.store_versions.specs.declared.row.VersionRow.{VersionRow}
 use Rattle.store_versions.specs.Seen.{AreSeen}
 use Rattle.store_versions.specs.Versions.{Directories, HaveDirectories, versions_at}
@@ -25,14 +26,16 @@ pub record IsInOrder (base : Core) (h : History) : Type 0 where
   pub own : AllShareOwn base h
   pub apart : AreApart base []
 
--- In the table the present and each open pin see just the versions that can be named there. Each has a directory of its array's schema,
--- and those that can be named now have pages with their payloads'
+-- In the table the present and each open pin see just the versions that can be named there. Each has a directory of its array's schema, and
+-- pages with its payloads'. Those that can be named now stand in the order of their numbers
 pub record AreVersions (base : Core) (given : Directories) (h : History) (rows : List VersionRow) : Type 0 where
   pub first : HaveDirectories base.names given.first
   pub seen : AreSeen given rows base h
   pub now : AreDirectoriesOf (names_at base h) (versions_at base given h)
   pub pinned : AllByRecursion (λ pin. AreDirectoriesOf (names_at base pin.before) (versions_at base given pin.before)) (open_pins h)
+  pub in_order : AreInOrder (names_at base h) (versions_at base given h)
   pub pages : AllZip HasItsPages (pages_at base h) (versions_at base given h)
+  pub pinned_pages : AllByRecursion (λ pin. AllZip HasItsPages (pages_at base pin.before) (versions_at base given pin.before)) (open_pins h)
 
 -- The root and its log have the sequence and the records of the history, and the log page is one of the catalogue's. The next commit has
 -- the next entry of the log where there is one, else the other root, and nothing else may stand open

@@ -1,6 +1,6 @@
 -- What a store keeps besides what contracts see of it, and words for it.
 use Rattle.std.specs.Prelude.{◌≡◌, ℕ, ◌+◌, ◌-◌, ◌^◌, ◌≤◌, ◌⊎◌, Bool, true, false, not, ◌||◌, nat_eq, if◌then◌else◌}
-use Rattle.std.specs.Prelude.{List, [], ◌∷◌, ◌++◌, length, map, IfSome, IsTrue}
+use Rattle.std.specs.Prelude.{List, [], ◌∷◌, ◌++◌, length, IfSome, IsTrue}
 use Rattle.std.specs.List.{AllByRecursion, filter, flat_map}
 use Rattle.cell_values.specs.declared.datum.Row.{Row}
 use Rattle.cell_values.specs.declared.schema.Schema.{Schema}
@@ -26,7 +26,7 @@ use Rattle.store_ledger.specs.declared.note.Note.{Note}
 use Rattle.store_ledger.specs.declared.note.NoteKind.TheVariants.{Fault, Tried}
 use Rattle.store_ledger.specs.Ledger.{has_note, is_kind}
 use Rattle.store_versions.specs.declared.row.VersionRow.{VersionRow}
-use Rattle.store_versions.specs.Versions.{MadeVersion, is_of}
+use Rattle.store_versions.specs.Versions.{MadeVersion}
 
 -- what is known of the slots, the catalogue, and the table of versions
 pub record Keeping : Type 0 where
@@ -60,10 +60,6 @@ pub record LiesIn (file : List ℕ) (schema : Schema) (directory : Directory) (r
 abbrev pub LieIn : List ℕ → Database → List MadeVersion → Type 0
 LieIn file db versions = AllByRecursion (λ v. IfSome (entry_named (names_of db).arrays v.name)
     (λ entry. LiesIn file entry.schema v.directory (rows_of db v.name v.version))) versions
-
--- the directories of each array of a catalogue, in the order of its versions
-abbrev pub directories_in : Catalog → List MadeVersion → List (List Directory)
-directories_in catalog versions = map (λ array. map (λ v. v.directory) (filter (is_of array.entry.name) versions)) catalog.arrays
 
 -- ---- pages
 

@@ -1,15 +1,10 @@
 use Rattle.afl_run.specs.Answered.{IsAnswered}
-use Rattle.afl_run.specs.Run.{IsOpenedAs, Prints, standard}
-use Rattle.afl_run.proofs.Reports.{all_of_one, opened, prints}
+use Rattle.afl_run.specs.Run.{Prints}
+use Rattle.afl_run.proofs.Reports.{all_of_one, prints}
 use Rattle.afl_run.proofs.top.run_try.Goals as goal
 
-pub returns-clause-prints : goal.returns-clause-prints
-returns-clause-prints g c =
+pub returns-in-Ok-open_streams-clause-prints : goal.returns-in-Ok-open_streams-clause-prints
+returns-in-Ok-open_streams-clause-prints g c =
+    let streams = c.in-Ok-open_streams.ensures in
     all_of_one (λ r. Prints IsAnswered (g.F.S.Source.state r.source) (g.F.K.Sink.state r.sink) r.marks r.end) c.serve.result c.report_of.result.sessions c.report_of.ensures.sessions
-    (prints _ _ _ _ _ _ _ c.in-Ok-script.ensures.handed c.in-Ok-reply.ensures.handed c.serve.ensures)
-
-pub returns-clause-opened : goal.returns-clause-opened
-returns-clause-opened g c =
-    all_of_one (λ r. IsOpenedAs standard (g.F.Shelf.state c.args.shelf) (g.F.S.Source.state r.source) (g.F.K.Sink.state r.sink)) c.serve.result c.report_of.result.sessions c.report_of.ensures.sessions
-    (opened (λ s. g.F.S.Source.state s) (λ k. g.F.K.Sink.state k) standard (g.F.Shelf.state c.args.shelf) (g.F.Shelf.state c.script.new.self) _ _ _ _ c.in-Ok-script.source c.in-Ok-reply.sink _ _ _ _
-    c.in-Ok-script.ensures.handed c.in-Ok-reply.ensures.handed c.in-Ok-script.ensures.told c.in-Ok-reply.ensures.told (c.in-Ok-script.ensures.replies standard) c.serve.ensures)
+    (prints _ _ _ _ _ _ _ streams.source streams.sink c.serve.ensures)

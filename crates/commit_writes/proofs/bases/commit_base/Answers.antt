@@ -13,7 +13,7 @@ use Rattle.commit_writes.specs.Moments.{HasBase, MayHaveBase, cleared}
 use Rattle.commit_writes.specs.Inner.Going.{Goes}
 use Rattle.page_layout.specs.Places.{KeepsPages}
 use Rattle.page_chain.proofs.Kept.{keeps_more}
-use Rattle.commit_writes.proofs.BlobLemmas.{first_of, may_second}
+use Rattle.commit_writes.proofs.BlobLemmas.{all_on, first_of, may_second}
 use Rattle.commit_writes.proofs.GoingLemmas.{closing_is, during_is, image_of, left_is, reread_then}
 use Rattle.commit_writes.proofs.BaseLemmas.{sealed_goes, shut_base, shut_on}
 use Rattle.commit_writes.proofs.SlotLemmas.{cause_on}
@@ -230,6 +230,7 @@ returns-in-Err-open_base-clause-failed g c =
     let s3 = c.open_base.new.file in
     let m3 = g.D.Disk.moment s3.disk in
     let is2 = c.in-Ok-fill_base.ensures.slots in
+    let apart = first_of (commit_pages blobs chain) (log ∷ []) 0 c.requires.free.apart in
     let is3 = c.in-Err-open_base.ensures.slots in
     record {
       slots_are = is3 ∙ ap (λ (s : Slots). record s { other = roots.Opening (root_of sequence chain log); doubtful = true }) (is2 ∙ ap (λ (s : Slots). record (emptied s) { other = roots.Written (root_of sequence chain log); zeroed = Some log }) is1)
@@ -239,9 +240,11 @@ returns-in-Err-open_base-clause-failed g c =
           let k1 = c.in-Ok.ensures.known seen known in
           let k2 = c.in-Ok-fill_base.ensures.known k1.0 k1.1 in
           let holds = c.in-Ok-fill_base.ensures.holds k1.0 k1.1 in
-          let g3 = sealed_goes old.slots s1.slots s2.slots blobs chain sequence log (Some log) m1 m2 m3 is1 is2 (c.in-Ok-fill_base.ensures.goes k1.0 k1.1) (c.in-Err-open_base.ensures.goes k2.0 k2.1 holds) in
+          let opened = c.in-Err-open_base.ensures.goes k2.0 k2.1 holds in
+          let g3 = sealed_goes old.slots s1.slots s2.slots blobs chain sequence log (Some log) m1 m2 m3 is1 is2 (c.in-Ok-fill_base.ensures.goes k1.0 k1.1) opened in
+          let over = opened.crash x left in
           let h = left_is 0 pages (MayOpen old.slots) (λ y. OpensAs old.slots.current old.slots.records y ⊎ MayHaveBase old.slots blobs chain sequence log y) m0 m1 m3 (g.met.D.Disk.counts_now s3.disk) g1 g3 x left in
-          ⊎_elim (λ o. inl (h.0, o)) (λ n. inr (h.0, n)) h.1;
+          (all_on 0 blobs chain over.0 x apart over.2 (holds over.0 over.1), ⊎_elim (λ o. inl (h.0, o)) (λ n. inr (h.0, n)) h.1);
     }
 
 pub returns-in-Err-open_base-clause-cause : goal.returns-in-Err-open_base-clause-cause

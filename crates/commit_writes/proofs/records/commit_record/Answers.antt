@@ -10,7 +10,7 @@ use Rattle.page_slots.specs.declared.slots.Target.{Target}
 use Rattle.page_slots.specs.declared.slots.NextEntry.TheVariants as entries
 use Rattle.page_file.proofs.Kept.{at_some}
 use Rattle.page_chain.proofs.Kept.{keeps_more}
-use Rattle.commit_writes.proofs.BlobLemmas.{may_second, first_of}
+use Rattle.commit_writes.proofs.BlobLemmas.{all_on, may_second, first_of}
 use Rattle.commit_writes.specs.Commits.{commit_pages, record_of}
 use Rattle.commit_writes.specs.Moments.{HasRecord, cleared}
 use Rattle.commit_writes.specs.Inner.Going.{Goes}
@@ -227,6 +227,8 @@ returns-in-Err-open_record-clause-failed g c =
     let s3 = c.open_record.new.file in
     let m3 = g.D.Disk.moment s3.disk in
     let is2 = c.in-Ok-fill_record.ensures.slots in
+    let P = λ (s : Slots). IsNone pages s.current.root.log in
+    let apart = subst P (sym is2) (subst P (sym is1) c.requires.free.log) in
     let is3 = c.in-Err-open_record.ensures.slots in
     record {
       slots_are = is3 ∙ ap (λ (s : Slots). record s { next = entries.Opening (record_of chain); doubtful = true }) (is2 ∙ ap (λ (s : Slots). record (emptied s) { next = entries.Written (record_of chain); zeroed = s2.slots.zeroed }) is1)
@@ -236,9 +238,11 @@ returns-in-Err-open_record-clause-failed g c =
           let k1 = c.in-Ok.ensures.known seen known in
           let k2 = c.in-Ok-fill_record.ensures.known k1.0 k1.1 in
           let holds = c.in-Ok-fill_record.ensures.holds k1.0 k1.1 in
-          let g3 = sealed_goes old.slots s1.slots s2.slots blobs chain s2.slots.zeroed m1 m2 m3 is1 is2 (c.in-Ok-fill_record.ensures.goes k1.0 k1.1) (c.in-Err-open_record.ensures.goes k2.0 k2.1 holds) in
+          let opened = c.in-Err-open_record.ensures.goes k2.0 k2.1 holds in
+          let g3 = sealed_goes old.slots s1.slots s2.slots blobs chain s2.slots.zeroed m1 m2 m3 is1 is2 (c.in-Ok-fill_record.ensures.goes k1.0 k1.1) opened in
+          let over = opened.crash x left in
           let h = left_is log pages (MayOpen old.slots) (λ y. OpensAs old.slots.current old.slots.records y ⊎ HasRecord old.slots blobs chain y) m0 m1 m3 (g.met.D.Disk.counts_now s3.disk) g1 g3 x left in
-          ⊎_elim (λ o. inl (h.0, o)) (λ n. inr (h.0, n)) h.1;
+          (all_on s2.slots.current.root.log blobs chain over.0 x apart over.2 (holds over.0 over.1), ⊎_elim (λ o. inl (h.0, o)) (λ n. inr (h.0, n)) h.1);
     }
 
 pub returns-in-Err-open_record-clause-cause : goal.returns-in-Err-open_record-clause-cause

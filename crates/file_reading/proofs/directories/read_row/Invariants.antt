@@ -1,8 +1,10 @@
-use Rattle.std.proofs.Common.{◌≡◌, length}
+use Rattle.std.proofs.Common.{◌≡◌, ℕ, List, length}
 use Rattle.std.specs.List.{AllByRecursion}
 use Rattle.page_chain.specs.Inner.Runs.{OnlyReads}
 use Rattle.chunk_map.specs.Spelling.{IsDirectory}
 use Rattle.file_reading.specs.Inner.Rows.{rules_of}
+use Rattle.file_reading.specs.Inner.Taken.{LeavesBeside}
+use Rattle.file_reading.proofs.BesideLaws.{RowGoes}
 use Rattle.file_reading.proofs.RowLaws.{GoingRow}
 use Rattle.file_reading.proofs.directories.read_row.Given as goal
 
@@ -14,4 +16,5 @@ invariant-loop-at g l = record {
   count : length l.row ≡ l.at-index;
   each : AllByRecursion (IsDirectory (length l.array.entry.schema.dimensions)) l.row;
   told : GoingRow (record { rules = rules_of l.base; dims = l.array.entry.schema.dimensions; blobs = l.array.directories }) (g.D.Disk.moment l.fn.file.disk).state.seen l.fn.taken l.at-index l.row l.taken;
+  beside : (tells others : List ℕ) → LeavesBeside tells l.fn.taken others → RowGoes tells others l.array.entry.schema.dimensions l.array.directories l.at-index l.row l.taken;
 }

@@ -1,6 +1,7 @@
 use Rattle.std.proofs.Common.{◌≡◌, ◌<◌, ◌≤◌, ◌∙◌, length, get_or, ap, arith}
 use Rattle.page_chain.proofs.RunLemmas.{reads_on}
-use Rattle.file_reading.specs.Inner.Rows.{rules_of}
+use Rattle.file_reading.specs.Reading.{AreDirectories}
+use Rattle.file_reading.specs.Inner.Rows.{IsRowBeside, rules_of}
 use Rattle.file_reading.proofs.CatalogLaws.{stored_at}
 use Rattle.file_reading.proofs.RowLaws.{rows_end, rows_go, rows_stop, zip_ends, zip_goes}
 use Rattle.file_reading.proofs.directories.read_rows.Goals as goal
@@ -36,7 +37,11 @@ loop-array-preserved g c =
     record {
       slots = c.in-Ok.ensures.slots ∙ so_far.slots;
       reads = reads_on _ _ _ _ _ _ _ _ _ so_far.reads c.in-Ok.ensures.reads;
-      each = zip_goes arrays i array c.loop-array.rows c.push.new.self c.in-Ok.row low is more c.in-Ok.ensures.rules so_far.each;
+      each = zip_goes AreDirectories arrays i array c.loop-array.rows c.push.new.self c.in-Ok.row low is more c.in-Ok.ensures.rules so_far.each;
+      beside = λ tells others has.
+          let before = so_far.beside tells others has in
+          let one = c.in-Ok.ensures.beside tells others before.0 in
+          (one.0, zip_goes (IsRowBeside others) arrays i array c.loop-array.rows c.push.new.self c.in-Ok.row low is more one.1 before.1);
       told = rows_go (rules_of c.args.base.now) arrays (g.D.Disk.moment c.args.file.now.disk).state.seen (g.D.Disk.moment c.loop-array.file.disk).state.seen c.args.taken.now c.loop-array.taken c.read_row.new.taken i c.loop-array.rows c.push.new.self c.in-Ok.row array
           low is so_far.reads.seen more c.in-Ok.ensures.exact so_far.told;
     }
@@ -51,4 +56,10 @@ pub returns-clause-rules : goal.returns-clause-rules
 returns-clause-rules g c =
     let arrays = c.args.catalog.now.arrays in
     let past : length arrays ≤ c.loop-array.array-index = omega (arith, c.loop-array-test.false, ap length c.as_slice-array-items.ensures) in
-    zip_ends arrays c.loop-array.array-index c.loop-array.rows past c.loop-array.invariant.each
+    zip_ends AreDirectories arrays c.loop-array.array-index c.loop-array.rows past c.loop-array.invariant.each
+
+pub returns-clause-beside : goal.returns-clause-beside
+returns-clause-beside g c = λ tells others has.
+    let arrays = c.args.catalog.now.arrays in
+    let past : length arrays ≤ c.loop-array.array-index = omega (arith, c.loop-array-test.false, ap length c.as_slice-array-items.ensures) in
+    zip_ends (IsRowBeside others) arrays c.loop-array.array-index c.loop-array.rows past (c.loop-array.invariant.beside tells others has).1

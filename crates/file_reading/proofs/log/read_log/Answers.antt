@@ -26,6 +26,7 @@ loop-number-preserved g c =
       slots = c.in-Ok.ensures.slots ∙ so_far.slots;
       reads = reads_on _ _ _ _ _ _ _ _ _ so_far.reads c.in-Ok.ensures.reads;
       rules = c.in-Ok.ensures.rules;
+      held = λ others all. c.in-Ok.ensures.held others (so_far.held others all);
       count = so_far.count;
       told = log_goes first.slots c.loop-number.file.slots (g.D.Disk.moment first.disk).state.seen (g.D.Disk.moment c.loop-number.file.disk).state.seen old set now c.loop-number.number
           so_far.slots so_far.reads.seen low c.in-Ok.ensures.exact so_far.told;

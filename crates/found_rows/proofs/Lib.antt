@@ -1,0 +1,8 @@
+pub mod Filters
+pub mod Items
+pub mod Directories
+pub mod PageRows
+pub mod Pages
+pub mod Opening
+pub mod Newest
+mod Worked

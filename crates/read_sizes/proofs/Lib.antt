@@ -1,0 +1,4 @@
+pub mod Directories
+pub mod Payloads
+pub mod Runs
+pub mod Takes

@@ -1,0 +1,10 @@
+mod Commit
+mod Found
+mod Given
+mod Over
+mod Pages
+mod Pass
+mod Rest
+mod Sealed
+mod Stopped
+mod Worked

@@ -1,0 +1,63 @@
+//! What a store holds over a commit, on an honest disk that began as a database. No code has to be run for it.
+#![tactic(auto)]
+
+ghost use Rattle.store_cells.specs.Laws.{SealedCellsAreHeld, StoppedCellsAreHeld, CommitsPassBy, SealedImagesStand};
+ghost use Rattle.store_cells.specs.Worked.{ACommitIsWritten};
+
+use afl_outside::Disk;
+use found_costs::found_files_are_over;
+use laid_commits::opened_files_stand;
+use store_images::{
+    images_have_stood, laid_commits_stand, next_images, opening_images, unopened_images,
+};
+use store_state::a_store_is_kept;
+use store_steps::{a_commit_is_ready, sealed_stores_are_kept};
+
+/// A store holds the next database's cells once a commit is sealed, and each image stands for it.
+pub fn sealed_cells_are_held<D: Disk>()
+    ensures cells { SealedCellsAreHeld D.moment }
+    ensures images { SealedImagesStand D.moment }
+{
+    found_files_are_over();
+    opened_files_stand();
+    unopened_images();
+    opening_images();
+    next_images();
+    laid_commits_stand();
+    images_have_stood();
+    sealed_stores_are_kept::<D>();
+}
+
+/// Where a commit stops it holds those of the database before it.
+pub fn stopped_cells_are_held<D: Disk>()
+    ensures { StoppedCellsAreHeld D.moment }
+{
+    found_files_are_over();
+    opened_files_stand();
+    unopened_images();
+    opening_images();
+    next_images();
+    laid_commits_stand();
+    images_have_stood();
+}
+
+/// Each image of a commit's moments stands for the database before it or after it, or for one that was in doubt.
+pub fn commits_pass_by<D: Disk>()
+    ensures { CommitsPassBy D.moment }
+{
+    found_files_are_over();
+    opened_files_stand();
+    unopened_images();
+    opening_images();
+    next_images();
+    laid_commits_stand();
+    images_have_stood();
+}
+
+/// There is a store over which a commit was written, as far as that its slot wasn't closed for sure.
+pub fn a_commit_is_written()
+    ensures { ACommitIsWritten }
+{
+    a_store_is_kept();
+    a_commit_is_ready();
+}
