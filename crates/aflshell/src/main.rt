@@ -2,17 +2,12 @@
 #![tactic(auto)]
 
 mod help;
-mod host_shelf;
-mod host_sink;
-mod host_source;
-#[cfg(test)]
-mod tests;
 mod words;
 
+use afl_host::HostShelf;
 use afl_outside::OpenGate;
 use afl_run::{Notice, notice_line, run};
 use help::own_answer;
-use host_shelf::HostShelf;
 use std::alloc::Global;
 use std::io::{Eprint, Print};
 use std::process::ExitCode;

@@ -1,7 +1,7 @@
 -- Directories whose pages lie beside others.
 use Rattle.std.proofs.Common.{◌≡◌, ℕ, ◌*◌, ◌/◌, Bool, true, false, List, [], ◌∷◌, ◌++◌, length, replicate, slice_index, Ok, IsTrue, refl, sym, ◌∙◌, ap, subst, append_assoc, append-nil, arith}
 use Rattle.std.proofs.lemmas.List.{length-replicate}
-use Rattle.std.specs.Prelude.{if◌then◌else◌, ◌&&◌, ◌||◌, ◌==◌, not, nat_eq, nat_lt}
+use Rattle.std.specs.Prelude.{if◌then◌else◌, ◌&&◌, ◌||◌, not, nat_eq, nat_lt}
 use Rattle.std.specs.List.{AllByRecursion, AllZip, flat_map, list_any}
 use Rattle.cell_values.specs.declared.schema.Dimension.{Dimension}
 use Rattle.array_rows.specs.Boxes.{by_pairs}
@@ -13,7 +13,7 @@ use Rattle.chunk_map.specs.declared.directory.Directory.{Directory}
 use Rattle.version_catalog.specs.declared.rules.catalog.BlobAt.{BlobAt}
 use Rattle.version_catalog.specs.declared.rules.catalog.CatalogArray.{CatalogArray}
 use Rattle.version_reaper.specs.PageSets.{holds}
-use Rattle.file_meaning.specs.Opening.{all_of, are_pages, claimed, is_same, is_seen, payloads_in, row_pages, version_pages}
+use Rattle.file_meaning.specs.Opening.{all_of, claimed, is_same, is_seen, payloads_in, row_pages, version_pages}
 use Rattle.file_laws.proofs.Apart.{both_all, has_either, same_pages}
 use Rattle.file_laws.proofs.Elsewhere.{entry_steps}
 use Rattle.file_laws.proofs.Parts.{both_true, claim_parts}
@@ -21,7 +21,7 @@ use Rattle.file_reading.specs.Reading.{HaveCores, is_beside}
 use Rattle.file_reading.specs.Inner.Rows.{AreBeside, ArePaidBeside, IsBeside, IsRowBeside, entries_of}
 use Rattle.file_reading.specs.Inner.Taken.{HaveAll, IsTaken, LeaveBeside, LeavesBeside}
 use Rattle.file_reading.proofs.EntryLaws.{entries_push}
-use Rattle.file_reading.proofs.RowLaws.{Asked, Zipping, paid, zip_goes}
+use Rattle.file_reading.proofs.RowLaws.{Asked, Zipping, paid}
 
 -- ---- claims
 

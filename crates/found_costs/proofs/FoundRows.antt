@@ -1,5 +1,5 @@
 -- Each directory that is found is of its version's rows, and lies in a blob like the one that these cost.
-use Rattle.std.proofs.Common.{◌≡◌, ◌<◌, ◌^◌, ℕ, true, List, [], ◌∷◌, ◌++◌, map, length, slice_index, Ok, refl, sym, ap, subst, ◌∙◌, arith}
+use Rattle.std.proofs.Common.{◌≡◌, ◌<◌, ◌^◌, ℕ, true, List, [], ◌∷◌, ◌++◌, map, length, slice_index, Ok, sym, ap, subst, ◌∙◌, arith}
 use Rattle.std.specs.Prelude.{None, ◌&&◌, nat_le}
 use Rattle.std.specs.List.{AllByRecursion, AllZip}
 use Rattle.cell_values.specs.declared.datum.Row.{Row}

@@ -1,5 +1,5 @@
 -- No page is free twice.
-use Rattle.std.proofs.Common.{◌≡◌, ◌≢◌, ◌∙◌, ◌<◌, ◌≤◌, ◌+◌, ◌-◌, inl, inr, ℕ, zero, suc, Bool, true, false, cond, not, ◌&&◌, ◌||◌, List, [], ◌∷◌, length, take, slice_index, refl, sym, ap, subst, arith}
+use Rattle.std.proofs.Common.{◌≡◌, ◌∙◌, ◌<◌, ◌+◌, ◌-◌, ℕ, zero, suc, Bool, true, false, cond, not, ◌&&◌, ◌||◌, List, [], ◌∷◌, length, take, slice_index, refl, sym, ap, subst, arith}
 use Rattle.std.specs.Prelude.{IsTrue, nat_eq}
 use Rattle.std.specs.List.{AllByRecursion, filter}
 use Rattle.std.proofs.lemmas.Bool.{and_from, and_parts, eq-eqb, or_right}
@@ -12,7 +12,7 @@ use Rattle.event_core.specs.Allowed.{IsBase, are_different}
 use Rattle.event_core.specs.History.{History}
 use Rattle.event_core.specs.Pages.{free_at, fresh_at, is_live}
 use Rattle.event_core.proofs.Tests.{holds_filter}
-use Rattle.given_pages.specs.Laws.{AreFirst, FreePagesDiffer}
+use Rattle.given_pages.specs.Laws.{FreePagesDiffer}
 use Rattle.given_pages.proofs.Uses.{all_own}
 
 -- ---- lists without a page twice

@@ -1,5 +1,5 @@
 -- A prepared commit takes as many pages as its change costs.
-use Rattle.std.proofs.Common.{◌≡◌, ◌∙◌, ℕ, ◌+◌, Bool, true, false, cond, not, List, [], ◌∷◌, length, Option, None, Some, IfSome, IsTrue, refl, ap, sym, subst}
+use Rattle.std.proofs.Common.{◌≡◌, ◌∙◌, ℕ, Bool, true, false, List, length, Option, None, Some, IfSome, refl, ap, sym, subst}
 use Rattle.std.specs.Prelude.{nat_lt, if◌then◌else◌}
 use Rattle.afl_outside.specs.Disk.{Moment}
 use Rattle.array_geom.specs.declared.chunk.Changed.{Changed}
@@ -39,7 +39,7 @@ use Rattle.store_state.specs.Standings.{Standing, BeganAs, base_of, commit_place
 use Rattle.store_state.specs.Cells.{HoldsCells, IsFound, IsImage}
 use Rattle.store_state.specs.At.{IsAt}
 use Rattle.store_state.specs.Inner.Keeping.{Keeping, IsDirectoryOf}
-use Rattle.prepared_commits.specs.Needs.{needs, needs_by, newest_now, next_sequence, or_empty, written_now}
+use Rattle.prepared_commits.specs.Needs.{needs, needs_by, newest_now, next_sequence, or_empty}
 use Rattle.prepared_commits.specs.Prepared.{IsAsked, MayBeMade}
 use Rattle.prepared_costs.proofs.Newest.{newest_fits, newest_is_last}
 

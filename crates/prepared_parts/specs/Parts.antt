@@ -1,5 +1,5 @@
 -- What a commit is prepared as over a catalogue, a table of versions and a ledger.
-use Rattle.std.specs.Prelude.{◌≡◌, ◌≤◌, ◌<◌, ◌-◌, ◌^◌, ℕ, Bool, true, min, nat_lt, if◌then◌else◌, List, [], ◌∷◌, length, Option, Some, None, Result, Ok, Err}
+use Rattle.std.specs.Prelude.{◌≡◌, ◌≤◌, ◌<◌, ◌-◌, ◌^◌, ℕ, Bool, min, nat_lt, if◌then◌else◌, List, [], ◌∷◌, length, Option, Result, Ok, Err}
 use Rattle.std.specs.Option.{option_map}
 use Rattle.chunk_map.specs.declared.directory.Directory.{Directory}
 use Rattle.logical_plan.specs.declared.names.Names.{Names}
@@ -20,7 +20,7 @@ use Rattle.commit_pages.specs.declared.written.Written.{Written}
 use Rattle.prepared_commits.specs.declared.fault.PrepareFault.{PrepareFault}
 use Rattle.prepared_commits.specs.declared.fault.PrepareFault.TheVariants.{SequenceEnd, Full, Memory}
 use Rattle.prepared_commits.specs.declared.prepared.Prepared.{Prepared}
-use Rattle.prepared_commits.specs.Needs.{needs_by, or_empty}
+use Rattle.prepared_commits.specs.Needs.{or_empty}
 use Rattle.prepared_parts.specs.Layouts.{IsLayout}
 use Rattle.prepared_parts.specs.declared.laying.Layout.{Layout}
 

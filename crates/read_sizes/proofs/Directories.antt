@@ -1,17 +1,17 @@
 -- The bytes of a directory that is read are as many as its spelling has, whatever they are.
-use Rattle.std.proofs.Common.{◌≡◌, ℕ, zero, suc, true, nat_lt, List, [], ◌∷◌, ◌++◌, length, Option, Some, None, Ok, refl}
+use Rattle.std.proofs.Common.{◌≡◌, ℕ, zero, suc, true, nat_lt, List, [], ◌∷◌, ◌++◌, length, Option, Some, None, refl}
 use Rattle.std.specs.Prelude.{⊤, ◌==◌}
 use Rattle.std.specs.Int.{w32, w64, to_le_bytes}
 use Rattle.std.specs.List.{AllByRecursion, flat_map}
 use Rattle.std.proofs.lemmas.Bool.{eqb-true}
-use Rattle.file_items.specs.Items.{number_at, item, repeat, counted, spell_counted, Are}
+use Rattle.file_items.specs.Items.{number_at, repeat, counted, spell_counted, Are}
 use Rattle.file_items.specs.Pages.{pages_needed, positive_at, page_of, seen_nothing, pages_at, spell_pages}
 use Rattle.file_items.proofs.BytesLaws.{exact32, exact64, Are-length}
 use Rattle.chunk_map.specs.declared.directory.DirEntry.{DirEntry}
 use Rattle.chunk_map.specs.declared.directory.Directory.{Directory}
 use Rattle.chunk_map.specs.Spelling.{spell_entry, spelling}
-use Rattle.chunk_map.specs.Table.{is_number, next_number, number_of, Written, Payload, written_at, payload_at, entry_after, next_entry, number_in, entries_at, directory_in}
-use Rattle.read_sizes.specs.Laws.{IsListedEntry, IsRead, ReadDirectoriesAreAsLong}
+use Rattle.chunk_map.specs.Table.{is_number, next_number, number_of, Written, Payload, written_at, payload_at, entry_after, next_entry, number_in, entries_at}
+use Rattle.read_sizes.specs.Laws.{IsListedEntry, ReadDirectoriesAreAsLong}
 use Rattle.read_sizes.proofs.Takes.{Takes, AreMany, number_takes, item_takes, then_takes, seen_takes, repeat_takes, counted_takes, whole_taken}
 
 -- ---- what the items pass

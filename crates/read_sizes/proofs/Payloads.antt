@@ -1,14 +1,13 @@
 -- The bytes of a payload that is read are as many as the spelling of its chunk has, whatever they are.
-use Rattle.std.proofs.Common.{◌≡◌, ℕ, zero, suc, ◌+◌, ◌^◌, ◌<◌, true, false, ◌&&◌, nat_lt, nat_le, List, [], ◌∷◌, ◌++◌, length, Result, Ok, Err, refl, sym, ap, subst, ◌∙◌, arith, length-append}
+use Rattle.std.proofs.Common.{◌≡◌, ℕ, zero, suc, ◌+◌, true, false, ◌&&◌, nat_lt, nat_le, List, [], ◌∷◌, length, Result, Ok, Err, refl, sym, ap, subst, ◌∙◌, arith, length-append}
 use Rattle.std.specs.Prelude.{◌==◌}
 use Rattle.std.specs.Int.{w16, w64, to_le_bytes, cast_signed, cast_unsigned}
 use Rattle.std.specs.List.{flat_map}
 use Rattle.file_items.specs.Items.{◌>>=◌, number_at, bytes_at, item, counted, spell_counted, Are}
 use Rattle.file_items.proofs.BytesLaws.{bind_ok, test_ok, ok_is, exact16, exact64}
-use Rattle.arrayvec.specs.ArrayVec.{ArrayVec}
 use Rattle.array_geom.specs.declared.chunk.Chunk.{Chunk}
 use Rattle.cell_values.specs.declared.datum.Datum.{Datum}
-use Rattle.cell_values.specs.declared.datum.Datum.TheVariants.{Null, Missing, Int, Text, Truth, Bad}
+use Rattle.cell_values.specs.declared.datum.Datum.TheVariants.{Null, Missing, Int, Text, Truth}
 use Rattle.cell_values.specs.declared.schema.Attribute.{Attribute}
 use Rattle.chunk_rle.specs.Frames.{Frame}
 use Rattle.chunk_rle.specs.declared.runs.Seen.{Seen}
@@ -21,7 +20,7 @@ use Rattle.chunk_rle.specs.Spelling.{spell_value, spell_position_run, spell_run,
 use Rattle.chunk_rle.specs.Table.{Values, no_positions, with_run, is_start, is_length, position_run_at, position_runs_at, count_positions, value_fields, value_at, no_values, with_values, is_run_length, is_run_value, run_at, column_at, next_column_at, others, columns_at, runs_at, payload}
 use Rattle.chunk_rle.specs.Valid.{some_runs}
 use Rattle.read_sizes.specs.Laws.{ReadPayloadsAreAsLong}
-use Rattle.read_sizes.proofs.Runs.{IsTestedPlace, IsTestedRun, IsTestedColumn, IsNextTested, AreTestedRuns, runs_of_chunk}
+use Rattle.read_sizes.proofs.Runs.{IsTestedPlace, IsTestedRun, IsTestedColumn, IsNextTested, runs_of_chunk}
 use Rattle.read_sizes.proofs.Takes.{IsTaken, Takes, AreMany, number_takes, bytes_take, item_takes, one_item_takes, then_takes, seen_takes, repeat_takes, counted_takes, whole_taken}
 
 -- ---- position runs

@@ -1,5 +1,5 @@
 -- Runs that pass the tests of a payload are the longest runs of their chunk, also where no bytes spell their values.
-use Rattle.std.proofs.Common.{◌≡◌, ℕ, zero, suc, ◌+◌, ◌^◌, ◌<◌, ◌≤◌, Bool, true, false, cond, not, ◌&&◌, nat_lt, nat_le, List, [], ◌∷◌, ◌++◌, length, map, replicate, Some, refl, sym, ap, subst, ◌∙◌, append_assoc, arith, length-append}
+use Rattle.std.proofs.Common.{◌≡◌, ℕ, zero, suc, ◌+◌, ◌^◌, ◌<◌, Bool, true, false, not, nat_lt, nat_le, List, [], ◌∷◌, ◌++◌, length, map, replicate, Some, refl, sym, ap, subst, ◌∙◌, append_assoc, arith, length-append}
 use Rattle.std.specs.Prelude.{◌==◌, slice_index_or}
 use Rattle.std.proofs.lemmas.Bool.Decides.{Decides-eqb, Decides-int_eq}
 use Rattle.std.proofs.lemmas.Slice.Eq.{bytes_eq-Decides}
@@ -24,7 +24,7 @@ use Rattle.chunk_rle.specs.Longest.{positions_of, position_runs, values_of, valu
 use Rattle.chunk_rle.specs.Table.{Values, no_positions, with_run, is_start, is_length, count_positions, is_same, is_of, is_allowed, is_new, no_values, with_values, is_run_length, is_run_value, others}
 use Rattle.chunk_rle.specs.Valid.{IsPositionRun, some_runs}
 use Rattle.chunk_rle.proofs.ChunkLaws.{count_is}
-use Rattle.chunk_rle.proofs.PositionLaws.{IsLong, length_parts, start_parts, runs_again as places_again}
+use Rattle.chunk_rle.proofs.PositionLaws.{length_parts, start_parts, runs_again as places_again}
 use Rattle.chunk_rle.proofs.ValueLaws.{FirstDiffers, run_again}
 use Rattle.read_sizes.proofs.Takes.{AreMany}
 

@@ -66,7 +66,8 @@ fn push_first<'a>(
     at: &BlobAt,
     left: &'a [Directory],
 ) -> Result<&'a [Directory], Memory>
-    ensures { IfOk result (λ rest. (blobs : List ABlobAt) → pages.new ++ by_pairs version_pages blobs rest.now ≡ pages.old ++ by_pairs version_pages (at.now ∷ blobs) left.now) }
+    ensures { IfOk result (λ rest. (blobs : List ABlobAt)
+        → pages.new ++ by_pairs version_pages blobs rest.now ≡ pages.old ++ by_pairs version_pages (at.now ∷ blobs) left.now) }
 {
     match left.split_first() {
         Some((directory, rest)) => match push_pages(pages, at, directory) {
@@ -151,7 +152,9 @@ fn push_row<'a>(
     array: &CatalogArray,
     left: &'a [List<Directory>],
 ) -> Result<&'a [List<Directory>], Memory>
-    ensures { IfOk result (λ rest. (arrays : List ACatalogArray) → versions.new ++ all_of (by_pairs array_pages arrays rest.now) ≡ versions.old ++ all_of (by_pairs array_pages (array.now ∷ arrays) left.now)) }
+    ensures { IfOk result (λ rest. (arrays : List ACatalogArray)
+        → versions.new ++ all_of (by_pairs array_pages arrays rest.now)
+        ≡ versions.old ++ all_of (by_pairs array_pages (array.now ∷ arrays) left.now)) }
 {
     match left.split_first() {
         Some((row, rest)) => match push_array(versions, array, row.as_slice()) {
@@ -223,7 +226,8 @@ fn nothing(alloc: Global, limit: u32) -> Core
 
 /// Puts what is found in its place.
 fn put_found(core: &mut Core, found: &Found, log: u32) -> Result<(), Memory>
-    ensures { OnOk result (core.new ≡ record core.old { names = names_in found.now.catalog; pages = versions_pages found.now; catalogue = catalogue_with found.now log }) }
+    ensures { OnOk result (core.new
+        ≡ record core.old { names = names_in found.now.catalog; pages = versions_pages found.now; catalogue = catalogue_with found.now log }) }
 {
     let alloc = core.free.allocator();
     core.names = names_of(alloc, &found.catalog)?;
@@ -244,7 +248,8 @@ fn put_free(core: &mut Core) -> Result<(), Memory>
 
 fn fill(core: &mut Core, found: &Found, log: u32) -> Result<(), Memory>
     requires { core.old.entries ≡ 0 }
-    ensures { OnOk result (core.new ≡ with_free (record core.old { names = names_in found.now.catalog; pages = versions_pages found.now; catalogue = catalogue_with found.now log })) }
+    ensures { OnOk result (core.new
+        ≡ with_free (record core.old { names = names_in found.now.catalog; pages = versions_pages found.now; catalogue = catalogue_with found.now log })) }
 {
     put_found(core, found, log)?;
     put_free(core)

@@ -1,5 +1,5 @@
 -- A commit that is ready over a store, as plain values.
-use Rattle.std.proofs.Common.{◌≡◌, ◌∙◌, ℕ, ◌+◌, ◌<◌, ◌≤◌, ◌^◌, List, [], ◌∷◌, ◌++◌, length, Option, None, Some, IfSome, IsTrue, false, refl, ap, sym, subst}
+use Rattle.std.proofs.Common.{◌≡◌, ◌∙◌, ℕ, ◌+◌, ◌<◌, ◌^◌, List, [], ◌∷◌, ◌++◌, length, Option, None, Some, IfSome, IsTrue, false, refl, ap, sym, subst}
 use Rattle.std.specs.Prelude.{Ok}
 use Rattle.std.specs.List.{AllByRecursion, AllZip}
 use Rattle.afl_outside.specs.Disk.{Moment}
@@ -13,7 +13,6 @@ use Rattle.logical_plan.specs.declared.names.NameEntry.{NameEntry}
 use Rattle.logical_plan.specs.declared.names.Names.{Names}
 use Rattle.plan_changes.specs.declared.change.Change.{Change}
 use Rattle.plan_changes.specs.declared.change.Change.TheVariants.{Create, Store, Insert, Remove, RemoveVersions}
-use Rattle.plan_changes.specs.Allowed.{names_allow}
 use Rattle.plan_changes.specs.Changes.{entry_named, name_of, newest_of}
 use Rattle.plan_changes.specs.Databases.{Database, names_of}
 use Rattle.plan_changes.proofs.NamesOf.{names_depend_on_no_row}
@@ -22,7 +21,6 @@ use Rattle.version_catalog.specs.declared.rules.catalog.Catalog.{Catalog}
 use Rattle.version_catalog.specs.Catalogs.{IsCatalog, names_in}
 use Rattle.version_reaper.specs.PageSets.{holds}
 use Rattle.event_core.specs.declared.state.Core.{Core}
-use Rattle.event_core.specs.declared.state.VersionPages.{VersionPages}
 use Rattle.event_core.specs.declared.entry.Entry.TheVariants.{Pin, Unpin, Commit, Reap}
 use Rattle.event_core.specs.Allowed.{IsBase, is_allowed}
 use Rattle.event_core.specs.Cells.{at}
@@ -33,10 +31,8 @@ use Rattle.event_laws.proofs.Cells.{names_are_of_the_database}
 use Rattle.event_laws.proofs.Legal.{ordered_is_allowed}
 use Rattle.file_meaning.specs.Opening.{found_in, pages_of, sequence_of}
 use Rattle.file_meaning.specs.Standing.{HoldsDatabase}
-use Rattle.file_meaning.specs.declared.found.Found.{Found}
 use Rattle.next_files.specs.Premises.{StandsBy, row_of}
 use Rattle.commit_costs.specs.Costs.{cost_from}
-use Rattle.commit_writes.specs.Commits.{commit_pages}
 use Rattle.commit_pages.specs.declared.laid.Laid.{Laid}
 use Rattle.commit_pages.specs.Changes.{ComesWith}
 use Rattle.commit_pages.specs.Commits.{base_laid, base_needs, record_laid, record_needs}
@@ -48,16 +44,15 @@ use Rattle.found_rows.proofs.Newest.{newest_are_last}
 use Rattle.store_ledger.specs.Ledger.{history}
 use Rattle.store_versions.specs.Versions.{Directories, HaveDirectories, MadeVersion, directory_of, versions_at}
 use Rattle.store_versions.proofs.Made.{named_versions_have_directories}
-use Rattle.store_state.specs.Cells.{HoldsCells, IsFound, IsImage}
+use Rattle.store_state.specs.Cells.{HoldsCells, IsFound}
 use Rattle.store_state.specs.Kept.{AreVersions, IsKept}
 use Rattle.store_state.specs.Standings.{BeganAs, IsSound, Standing, base_of, commit_places, current_slots, given_of}
 use Rattle.store_state.specs.Inner.Keeping.{HasItsPages, IsDirectoryOf, Keeping}
 use Rattle.store_state.proofs.Lists.{zip_map}
-use Rattle.store_images.specs.Premises.{IsStore, MayBeWritten}
 use Rattle.store_images.proofs.Live.{found_live}
 use Rattle.prepared_commits.specs.declared.prepared.NewBase.{NewBase}
 use Rattle.prepared_commits.specs.declared.prepared.Prepared.{Prepared}
-use Rattle.prepared_commits.specs.Needs.{IsLaidBy, all_pages, newest_now, next_sequence, or_empty, written_now}
+use Rattle.prepared_commits.specs.Needs.{IsLaidBy, all_pages, newest_now, next_sequence, or_empty}
 use Rattle.prepared_commits.specs.Prepared.{MayBeMade}
 use Rattle.prepared_costs.proofs.Newest.{newest_fits, newest_is_last}
 use Rattle.store_steps.specs.Laws.{IsReady}

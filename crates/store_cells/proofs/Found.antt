@@ -1,5 +1,5 @@
 -- What is found of the file once a commit is sealed.
-use Rattle.std.proofs.Common.{◌≡◌, ◌∙◌, ℕ, ◌<◌, Bool, if◌then◌else◌, List, [], ◌∷◌, ◌++◌, length, Option, None, Some, IsTrue, refl, ap, sym, subst, arith}
+use Rattle.std.proofs.Common.{◌≡◌, ◌∙◌, ℕ, ◌<◌, Bool, if◌then◌else◌, List, [], ◌∷◌, ◌++◌, length, Option, None, Some, IsTrue, ap, sym, subst, arith}
 use Rattle.std.specs.List.{AllZip}
 use Rattle.std.specs.Option.{option_map}
 use Rattle.std.proofs.lemmas.Bool.{ne_eqb}
@@ -17,7 +17,7 @@ use Rattle.catalog_changes.specs.Changed.{after_change}
 use Rattle.event_core.specs.declared.entry.Entry.TheVariants.{Commit}
 use Rattle.event_core.specs.declared.entry.Used.{Used}
 use Rattle.event_core.specs.declared.state.Core.{Core}
-use Rattle.event_core.specs.History.{History, catalogue_at, names_at, pages_after, pages_at}
+use Rattle.event_core.specs.History.{History, names_at, pages_after, pages_at}
 use Rattle.file_meaning.specs.Opening.{all_of}
 use Rattle.file_meaning.specs.declared.found.Found.{Found}
 use Rattle.next_files.specs.Next.{Made, Rows, blob_of, rows_after}

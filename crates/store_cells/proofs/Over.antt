@@ -1,5 +1,5 @@
 -- A commit over a store, as plain values, and what becomes of an image of the store while it is written.
-use Rattle.std.proofs.Common.{◌≡◌, ◌⊎◌, inl, inr, ⊎_elim, ℕ, ◌+◌, List, [], ◌∷◌, ◌++◌, length, Option, None, Some, IfSome, refl, sym, subst}
+use Rattle.std.proofs.Common.{◌≡◌, ◌⊎◌, inl, inr, ⊎_elim, ℕ, ◌+◌, List, [], ◌∷◌, ◌++◌, length, Option, None, Some, IfSome, refl, subst}
 use Rattle.std.specs.Option.{is_some}
 use Rattle.array_geom.specs.declared.chunk.Changed.{Changed}
 use Rattle.page_layout.specs.Places.{other, KeepsPages}
@@ -20,7 +20,6 @@ use Rattle.file_meaning.specs.Standing.{Stands}
 use Rattle.file_meaning.specs.declared.found.Found.{Found}
 use Rattle.next_files.specs.Next.{with_base, with_record}
 use Rattle.next_files.specs.Premises.{StandsBy, slots_of, slots_with}
-use Rattle.commit_writes.specs.declared.placed.Placed.{Placed}
 use Rattle.commit_writes.specs.declared.stopped.Stopped.{Stopped}
 use Rattle.commit_writes.specs.declared.stopped.Stopped.TheVariants as stages
 use Rattle.commit_writes.specs.Commits.{HoldsAll, record_of, root_of}

@@ -1,11 +1,11 @@
 -- What each image of a commit's moments stands for.
-use Rattle.std.proofs.Common.{inl, inr, ⊎_elim, ◌<◌, ◌≤◌, ◌⊎◌, ◌≡◌, ℕ, Bool, true, false, if◌then◌else◌, List, [], ◌∷◌, ◌++◌, refl, arith}
+use Rattle.std.proofs.Common.{inl, inr, ⊎_elim, ◌<◌, ◌≤◌, ◌⊎◌, ◌≡◌, ℕ, Bool, true, false, if◌then◌else◌, List, [], ◌∷◌, ◌++◌, arith}
 use Rattle.std.proofs.lemmas.Bool.{cases_lt}
-use Rattle.afl_outside.specs.Counts.{Rose, risen}
+use Rattle.afl_outside.specs.Counts.{risen}
 use Rattle.afl_outside.specs.Disk.{DiskState, LeavesOnly, Moment}
 use Rattle.store_ledger.specs.declared.note.Note.{Note}
 use Rattle.store_ledger.specs.declared.note.NoteKind.TheVariants.{Fault}
-use Rattle.store_ledger.specs.Ledger.{LedgerState, history, is_noted, note_now, with_notes}
+use Rattle.store_ledger.specs.Ledger.{LedgerState, is_noted, note_now, with_notes}
 use Rattle.store_state.specs.Calls.{NotesFault}
 use Rattle.store_state.specs.Standings.{given_of}
 use Rattle.store_cells.specs.Laws.{CommitsPassBy}

@@ -1,28 +1,22 @@
 -- What a store holds once a commit is sealed.
-use Rattle.std.proofs.Common.{◌≡◌, ◌∙◌, ℕ, ◌+◌, ◌≤◌, ◌<◌, Bool, if◌then◌else◌, nat_eq, List, [], ◌∷◌, ◌++◌, length, Option, None, Some, IsTrue, refl, ap, sym, subst, arith}
-use Rattle.std.specs.List.{AllByRecursion, AllZip}
+use Rattle.std.proofs.Common.{◌≡◌, ◌∙◌, ℕ, ◌+◌, Bool, if◌then◌else◌, List, [], ◌∷◌, ◌++◌, length, Option, None, Some, IsTrue, refl, ap, sym, subst, arith}
+use Rattle.std.specs.List.{AllByRecursion}
 use Rattle.std.proofs.lemmas.Bool.{eq-eqb, not_from_false}
 use Rattle.std.proofs.lemmas.List.{length-reverse}
 use Rattle.afl_outside.specs.Disk.{Moment}
-use Rattle.array_geom.specs.declared.chunk.Changed.{Changed}
 use Rattle.page_slots.specs.declared.slots.Slots.{Slots}
-use Rattle.chunk_map.specs.declared.directory.Directory.{Directory}
 use Rattle.logical_plan.specs.declared.names.Names.{Names}
-use Rattle.plan_changes.specs.declared.change.Change.{Change}
 use Rattle.plan_changes.specs.Allowed.{names_allow}
-use Rattle.plan_changes.specs.Databases.{Database, after}
+use Rattle.plan_changes.specs.Databases.{Database}
 use Rattle.plan_changes.proofs.DatabaseLaws.{changes_keep_databases}
 use Rattle.version_catalog.specs.Catalogs.{names_in}
 use Rattle.event_core.specs.declared.entry.Entry.{Entry}
 use Rattle.event_core.specs.declared.state.Core.{Core}
-use Rattle.event_core.specs.Bases.{commits}
 use Rattle.event_core.specs.Cells.{at}
-use Rattle.event_core.specs.History.{History, catalogue_at, names_at}
+use Rattle.event_core.specs.History.{History, catalogue_at}
 use Rattle.event_core.specs.Pages.{free_at}
 use Rattle.file_laws.proofs.Parts.{rest_all}
-use Rattle.file_meaning.specs.Standing.{Stands}
 use Rattle.version_reaper.specs.PageSets.{holds}
-use Rattle.commit_writes.specs.declared.placed.Placed.{Placed}
 use Rattle.commit_writes.specs.Moments.{IsKnown, IsOpened}
 use Rattle.commit_pages.specs.declared.laid.Laid.{Laid}
 use Rattle.laid_commits.specs.Premises.{made_of}
@@ -34,7 +28,6 @@ use Rattle.store_ledger.proofs.Pins.{one_more}
 use Rattle.store_versions.specs.Laws.{with_made}
 use Rattle.store_versions.specs.Versions.{Directories}
 use Rattle.store_versions.proofs.Made.{named_versions_have_directories}
-use Rattle.store_state.specs.Calls.{NotesFault}
 use Rattle.store_state.specs.Cells.{HoldsCells, IsFound, IsImage}
 use Rattle.store_state.specs.Kept.{AreVersions, IsKept}
 use Rattle.store_state.specs.Standings.{HaveStood, Standing, commit_places, current_slots, given_of}
@@ -53,7 +46,7 @@ use Rattle.store_steps.proofs.Givens.{count_places, given_more, places_more}
 use Rattle.store_steps.proofs.Lists.{zip_push}
 use Rattle.store_cells.specs.Laws.{IsWritten, SealedCellsAreHeld, SealedImagesStand}
 use Rattle.store_cells.specs.Moves.{IsDone}
-use Rattle.store_cells.proofs.Commit.{are_pages_of, begins, is_over, laid_of, over, stand_in, told, typed}
+use Rattle.store_cells.proofs.Commit.{are_pages_of, begins, is_over, over, stand_in, told, typed}
 use Rattle.store_cells.proofs.Found.{base_catalogue, is_next, made_with, record_catalogue}
 use Rattle.store_cells.proofs.Given.{found_more, image_more, versions_more}
 use Rattle.store_cells.proofs.Over.{HasNew, Image, IsLaidIn, IsOver, May, Over, have_stood, its_pages, new_found, next_image, stands_next}

@@ -1,6 +1,5 @@
 -- What a store holds where a commit stopped.
 use Rattle.std.proofs.Common.{◌≡◌, ℕ, ◌+◌, List, Option, None, Some, IfSome, refl, sym, subst}
-use Rattle.std.specs.List.{AllZip}
 use Rattle.afl_outside.specs.Disk.{Moment}
 use Rattle.page_slots.specs.declared.slots.Slots.{Slots}
 use Rattle.plan_changes.specs.declared.change.Change.{Change}

@@ -1,12 +1,10 @@
 -- The removal that is prepared for the worked store, written as far as that its slot wasn't closed for sure.
-use Rattle.std.proofs.Common.{◌≡◌, inl, ℕ, List, [], ◌∷◌, None, refl, arith}
+use Rattle.std.proofs.Common.{◌≡◌, inl, ℕ, List, [], ◌∷◌, refl, arith}
 use Rattle.page_chain.proofs.Kept.{keeps_self}
-use Rattle.page_chain.specs.Inner.Runs.{Over as OverPages}
 use Rattle.page_slots.specs.Standing.{Holds, IsSound}
 use Rattle.page_slots.specs.Steps.{doubted}
 use Rattle.page_slots.specs.declared.slots.Slots.{Slots}
 use Rattle.page_slots.proofs.Opening.{may_open}
-use Rattle.commit_writes.specs.declared.stopped.Stopped.TheVariants as stages
 use Rattle.commit_writes.specs.Moments.{IsKnown, IsUntouched}
 use Rattle.event_core.specs.declared.entry.Entry.TheVariants.{Pin}
 use Rattle.file_laws.proofs.Worked.{file_stands}

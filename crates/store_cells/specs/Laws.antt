@@ -1,5 +1,5 @@
 -- What a store holds over a commit, on an honest disk that began as a database.
-use Rattle.std.specs.Prelude.{◌≡◌, ℕ, List}
+use Rattle.std.specs.Prelude.{ℕ, List}
 use Rattle.afl_outside.specs.Disk.{LeavesOnly, Moment}
 use Rattle.page_slots.specs.declared.slots.Slots.{Slots}
 use Rattle.plan_changes.specs.Databases.{Database, after}

@@ -11,4 +11,5 @@ use Rattle.store_cells.specs.Moves.{StopsAt}
 -- its disk has one moment, which is that before the commit and that after it
 pub record ACommitIsWritten : Type 0 where
   pub written : IsWritten worked_moment pinned_store worked_keeping prepared_removal database (doubted worked_slots) tt
-  pub stops : StopsAt None stages.Closing worked_slots (doubted worked_slots) prepared_removal.blobs prepared_removal.chain (worked_moment tt) (worked_moment tt)
+  pub stops : StopsAt None stages.Closing worked_slots (doubted worked_slots) prepared_removal.blobs prepared_removal.chain (worked_moment tt)
+      (worked_moment tt)

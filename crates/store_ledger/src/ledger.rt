@@ -127,6 +127,25 @@ impl Ledger {
         self.entries.as_slice()
     }
 
+    /// The entries as a list, the oldest first, where the ledger is needed no more.
+    pub fn into_entries(self) -> List<Entry>
+        ensures { result ≡ self.entries }
+    {
+        let Ledger {
+            base: _,
+            limit: _,
+            entries,
+            notes,
+            core,
+            reserved: _,
+            pages,
+        } = self;
+        drop(notes);
+        drop(core);
+        drop(pages);
+        List::from_vec(entries)
+    }
+
     /// The notes, the oldest first.
     pub fn notes(&self) -> &[Note]
         ensures { result.now ≡ self.now.notes }

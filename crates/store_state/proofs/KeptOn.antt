@@ -51,7 +51,7 @@ module _ {D : Type 0} (moment : D → Moment) (s : Standing D) (k : Keeping) (h 
       pinned_pages = all_push (λ (pin : OpenPin). AllZip HasItsPages (pages_at s.ledger.base pin.before) (versions_at s.ledger.base given pin.before)) (open_pins h)
           (record { session = session; before = h }) x.versions.pinned_pages x.versions.pages;
     };
-    slots = record { sequence = x.slots.sequence; records = x.slots.records; log = x.slots.log; target = x.slots.target; alone = x.slots.alone };
+    slots = record { sequence = x.slots.sequence; records = x.slots.records; fits = x.slots.fits; log = x.slots.log; target = x.slots.target; alone = x.slots.alone };
     doubt = x.doubt;
     acked = x.acked;
     made = x.made;
@@ -77,7 +77,7 @@ module _ {D : Type 0} (moment : D → Moment) (s : Standing D) (k : Keeping) (h 
       pinned_pages = all_filter (λ (pin : OpenPin). AllZip HasItsPages (pages_at s.ledger.base pin.before) (versions_at s.ledger.base given pin.before))
           (λ pin. not (nat_eq pin.session session)) (open_pins h) x.versions.pinned_pages;
     };
-    slots = record { sequence = x.slots.sequence; records = x.slots.records; log = x.slots.log; target = x.slots.target; alone = x.slots.alone };
+    slots = record { sequence = x.slots.sequence; records = x.slots.records; fits = x.slots.fits; log = x.slots.log; target = x.slots.target; alone = x.slots.alone };
     doubt = x.doubt;
     acked = x.acked;
     made = x.made;
@@ -99,7 +99,7 @@ module _ {D : Type 0} (moment : D → Moment) (s : Standing D) (k : Keeping) (h 
       pages = x.versions.pages;
       pinned_pages = x.versions.pinned_pages;
     };
-    slots = record { sequence = x.slots.sequence; records = x.slots.records; log = x.slots.log; target = x.slots.target; alone = x.slots.alone };
+    slots = record { sequence = x.slots.sequence; records = x.slots.records; fits = x.slots.fits; log = x.slots.log; target = x.slots.target; alone = x.slots.alone };
     doubt = x.doubt;
     acked = x.acked;
     made = x.made;

@@ -82,7 +82,7 @@ store_is_kept = record {
   catalog = catalog_is;
   names = refl;
   versions = versions_are;
-  slots = record { sequence = refl; records = refl; log = refl; target = refl; alone = tt };
+  slots = record { sequence = refl; records = refl; fits = omega arith; log = refl; target = refl; alone = tt };
   doubt = refl;
   acked = refl;
   made = refl;

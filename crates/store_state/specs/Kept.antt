@@ -1,5 +1,5 @@
 -- What a store keeps at each moment, on every disk.
-use Rattle.std.specs.Prelude.{◌≡◌, [], ◌∷◌, List, length, IsTrue, is_some}
+use Rattle.std.specs.Prelude.{◌≡◌, ◌≤◌, [], ◌∷◌, List, length, IsTrue, is_some}
 use Rattle.std.specs.List.{AllByRecursion, AllZip, list_all}
 use Rattle.afl_outside.specs.Disk.{Moment}
 use Rattle.page_slots.specs.Standing.{IsAlone}
@@ -42,6 +42,7 @@ pub record AreVersions (base : Core) (given : Directories) (h : History) (rows :
 pub record AreSlots (base : Base) (h : History) (slots : Slots) : Type 0 where
   pub sequence : sequence_of (current_slots slots) ≡ sequence_at base h
   pub records : records_in slots.current.format (length slots.records) ≡ records_at base.records h
+  pub fits : length slots.records ≤ 64
   pub log : IsTrue (holds (0 ∷ catalogue_at base.core h) slots.current.root.log)
   pub target : slots.target ≡ first_target slots.current.format (length slots.records)
   pub alone : IsAlone slots.target slots

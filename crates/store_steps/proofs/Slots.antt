@@ -100,6 +100,7 @@ record_slots base h slots session change used chain is told x =
     record {
       sequence = omega (arith, before, more);
       records = record_records slots.current.format slots.records (record_of chain) (records_at base.records h) room x.records;
+      fits = let few = room.few in omega (arith, more, few);
       log = subst (λ (pages : List ℕ). IsTrue (holds (0 ∷ pages) slots.current.root.log)) (sym told)
           (list_any-append (λ page. nat_eq page slots.current.root.log) (0 ∷ catalogue_at base.core h) chain.pages
           ∙ or_left (holds (0 ∷ catalogue_at base.core h) slots.current.root.log) (holds chain.pages slots.current.root.log) x.log);
@@ -133,6 +134,7 @@ pub base_slots : (base : Base) (h : History) (slots : Slots) (session : ℕ) (ch
 base_slots base h slots session change used new chain few is next told x = record {
   sequence = omega (arith, next);
   records = base_records slots.current.format (length slots.records) few (sym x.target ∙ is) ∙ ap next_records x.records;
+  fits = omega arith;
   log = subst (λ (pages : List ℕ). IsTrue (holds (0 ∷ pages) new.log)) (sym told)
       (list_any-append (λ page. nat_eq page new.log) (0 ∷ chain.pages) (new.log ∷ [])
       ∙ or_right (holds (0 ∷ chain.pages) new.log) (holds (new.log ∷ []) new.log) (or_left (nat_eq new.log new.log) false (eq-eqb new.log new.log refl)));
@@ -157,7 +159,7 @@ target_of (Some base) = targets.Root
 pub stopped_are_slots : (at : Base) (h : History) (stage : Stopped) (base : Option NewBase) (chain : Placed) (slots later : Slots) → slots.target ≡ target_of base → AreSlots at h slots →
     AreSlots at h (stopped_slots stage base chain slots later)
 stopped_are_slots at h stages.Closing base chain slots later is x =
-    record { sequence = x.sequence; records = x.records; log = x.log; target = x.target; alone = same slots.target x.alone }
+    record { sequence = x.sequence; records = x.records; fits = x.fits; log = x.log; target = x.target; alone = same slots.target x.alone }
   where
     same : (target : Target) → IsAlone target slots → IsAlone target (doubted slots)
     same targets.Root alone = alone
@@ -165,6 +167,7 @@ stopped_are_slots at h stages.Closing base chain slots later is x =
 stopped_are_slots at h stages.Filling None chain slots later is x = record {
   sequence = x.sequence;
   records = x.records;
+  fits = x.fits;
   log = x.log;
   target = x.target;
   alone = alone_by slots.target (stopped_slots stages.Filling None chain slots later) (root_still slots.other (root_alone slots is x.alone)) tt;
@@ -172,6 +175,7 @@ stopped_are_slots at h stages.Filling None chain slots later is x = record {
 stopped_are_slots at h stages.Filling (Some base) chain slots later is x = record {
   sequence = x.sequence;
   records = x.records;
+  fits = x.fits;
   log = x.log;
   target = x.target;
   alone = alone_by slots.target (stopped_slots stages.Filling (Some base) chain slots later) tt (entry_still slots.next (entry_alone slots is x.alone));
@@ -179,6 +183,7 @@ stopped_are_slots at h stages.Filling (Some base) chain slots later is x = recor
 stopped_are_slots at h stages.Opening None chain slots later is x = record {
   sequence = x.sequence;
   records = x.records;
+  fits = x.fits;
   log = x.log;
   target = x.target;
   alone = subst (λ (t : Target). IsAlone t (stopped_slots stages.Opening None chain slots later)) (sym is) (root_still slots.other (root_alone slots is x.alone));
@@ -186,6 +191,7 @@ stopped_are_slots at h stages.Opening None chain slots later is x = record {
 stopped_are_slots at h stages.Opening (Some base) chain slots later is x = record {
   sequence = x.sequence;
   records = x.records;
+  fits = x.fits;
   log = x.log;
   target = x.target;
   alone = subst (λ (t : Target). IsAlone t (stopped_slots stages.Opening (Some base) chain slots later)) (sym is) (entry_still slots.next (entry_alone slots is x.alone));

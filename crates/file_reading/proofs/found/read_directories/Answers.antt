@@ -1,4 +1,4 @@
-use Rattle.std.proofs.Common.{◌≡◌, ◌*◌, ◌/◌, ℕ, List, length, replicate}
+use Rattle.std.proofs.Common.{◌*◌, ℕ, List, replicate}
 use Rattle.std.specs.List.{AllZip}
 use Rattle.file_reading.specs.Inner.Rows.{IsRowBeside}
 use Rattle.file_reading.specs.Inner.Taken.{LeavesBeside}

@@ -23,7 +23,7 @@ pub struct HostSource {
 }
 
 impl HostSource {
-    ghost use Rattle.aflshell.specs.Host.{host_source_state, untold_source};
+    ghost use Rattle.afl_host.specs.Host.{host_source_state, untold_source};
 
     pub fn standard(stream: Stdin) -> Self
         ensures { host_source_state result ≡ untold_source 0 0 }
@@ -47,7 +47,7 @@ impl HostSource {
 }
 
 impl Source for HostSource {
-    ghost use Rattle.aflshell.specs.Host.{host_source_state};
+    ghost use Rattle.afl_host.specs.Host.{host_source_state};
 
     ghost state = { host_source_state };
 

@@ -1,11 +1,12 @@
 //! The files of the system.
 ghost use Rattle.std.specs.Prelude.{◌≡◌, None};
 
+use crate::host_disk::HostDisk;
 use crate::host_sink::HostSink;
 use crate::host_source::HostSource;
-use afl_in_memory::SureDisk;
 use afl_outside::{Failed, Shelf};
 use std::fs;
+use std::fs::OpenOptions;
 
 #[derive(Drop)]
 pub struct HostShelf {
@@ -15,7 +16,11 @@ pub struct HostShelf {
 }
 
 impl HostShelf {
-    pub fn new(rt: HostRuntime) -> Self {
+    ghost use Rattle.afl_host.specs.Host.{host_shelf_state, untold_shelf};
+
+    pub fn new(rt: HostRuntime) -> Self
+        ensures { host_shelf_state result ≡ untold_shelf 0 0 }
+    {
         HostShelf {
             rt,
             faults: 0,
@@ -29,9 +34,9 @@ impl Shelf for HostShelf {
 
     type K = HostSink;
 
-    type Device = SureDisk;
+    type Device = HostDisk;
 
-    ghost use Rattle.aflshell.specs.Host.{host_shelf_state};
+    ghost use Rattle.afl_host.specs.Host.{host_shelf_state};
 
     ghost state = { host_shelf_state };
 
@@ -65,10 +70,22 @@ impl Shelf for HostShelf {
         }
     }
 
-    fn device(&mut self, name: &str) -> Result<SureDisk, Failed> {
-        let _ = name;
-        self.faults = self.faults.saturating_add(1);
-        Err(Failed)
+    fn device(&mut self, name: &str) -> Result<HostDisk, Failed> {
+        match OpenOptions::new()
+            .read(true)
+            .write(true)
+            .create(true)
+            .open(&self.rt, name)
+        {
+            Ok(file) => {
+                self.handed = self.handed.saturating_add(1);
+                Ok(HostDisk::new(file))
+            }
+            Err(_) => {
+                self.faults = self.faults.saturating_add(1);
+                Err(Failed)
+            }
+        }
     }
 
     fn wants(&self) -> u64 {

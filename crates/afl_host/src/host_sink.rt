@@ -19,7 +19,7 @@ pub struct HostSink {
 }
 
 impl HostSink {
-    ghost use Rattle.aflshell.specs.Host.{host_sink_state, untold_sink};
+    ghost use Rattle.afl_host.specs.Host.{host_sink_state, untold_sink};
 
     pub fn standard(stream: Stdout) -> Self
         ensures { host_sink_state result ≡ untold_sink 0 }
@@ -41,7 +41,7 @@ impl HostSink {
 }
 
 impl Sink for HostSink {
-    ghost use Rattle.aflshell.specs.Host.{host_sink_state};
+    ghost use Rattle.afl_host.specs.Host.{host_sink_state};
 
     ghost state = { host_sink_state };
 

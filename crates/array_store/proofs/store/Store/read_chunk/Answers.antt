@@ -1,0 +1,22 @@
+use Rattle.std.proofs.Common.{IfErr, sym, subst}
+use Rattle.store_state.specs.At.{standing}
+use Rattle.store_state.specs.Calls.{IsUnread, payload_at}
+use Rattle.store_state.specs.Standings.{BeganAs}
+use Rattle.array_store.proofs.Added.{adds_fault}
+use Rattle.array_store.proofs.store.Store.read_chunk.Goals as goal
+
+pub returns-clause-adds : goal.returns-clause-adds
+returns-clause-adds g c =
+    let moment = g.D.Disk.moment in
+    adds_fault moment c.self.inside.parts c.args.self.now c.self.view_is (standing moment c.read_chunk.new.parts) c.args.pinned.now.session c.read_chunk.ensures.notes c.read_chunk.ensures.same
+
+pub returns-clause-whole : goal.returns-clause-whole
+returns-clause-whole g c = λ db page began.
+    c.read_chunk.ensures.whole db page (subst (λ parts. BeganAs (g.D.Disk.moment parts.opened.value.disk).state db) (sym c.self.view_is) began)
+
+pub returns-clause-cause : goal.returns-clause-cause
+returns-clause-cause g c =
+    let moment = g.D.Disk.moment in
+    subst (λ parts. IfErr c.read_chunk.result (IsUnread (moment parts.file.disk).state (moment c.read_chunk.new.parts.file.disk).state c.args.leaf.now.schema
+    (payload_at (standing moment parts) c.args.pinned.now.place c.args.leaf.now c.args.at.now)))
+    c.self.view_is c.read_chunk.ensures.cause

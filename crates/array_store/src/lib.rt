@@ -1,0 +1,13 @@
+//! A store as one value: an array database in a file, with the history of what was done since it was opened.
+#![tactic(auto)]
+
+mod freshness;
+mod laws;
+mod reading;
+mod start;
+mod stepping;
+mod store;
+
+pub use laws::events_grow;
+pub use start::{FirstVersion, Start};
+pub use store::Store;

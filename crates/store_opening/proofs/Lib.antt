@@ -1,0 +1,7 @@
+pub mod Lies
+pub mod Names
+pub mod NewStores
+pub mod PageRows
+pub mod Parts
+pub mod Read
+pub mod Versions

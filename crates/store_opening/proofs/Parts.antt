@@ -1,0 +1,80 @@
+-- The parts of a store that was just opened.
+use Rattle.std.proofs.Common.{◌≡◌, ℕ, [], List, Option, None, IfSome, Ok, Err, refl, sym, ◌∙◌, ap, subst, map}
+use Rattle.std.specs.Prelude.{IsErrOf}
+use Rattle.afl_outside.specs.Counts.{Rose}
+use Rattle.afl_outside.specs.Disk.{DiskState, Moment}
+use Rattle.page_layout.specs.Opens.{OpensAs}
+use Rattle.page_chain.specs.declared.fault.OpenCause.{OpenCause}
+use Rattle.page_chain.specs.declared.fault.OpenCause.TheVariants.{Disk, NotDatabase, Memory}
+use Rattle.page_chain.specs.Inner.Runs.{OnlyReads}
+use Rattle.page_slots.specs.Standing.{IsSound}
+use Rattle.page_slots.specs.declared.slots.Slots.{Slots}
+use Rattle.page_file.specs.FilesOpened.{OpenFile}
+use Rattle.file_meaning.specs.Opening.{found_in}
+use Rattle.file_reading.specs.Reading.{slots_of}
+use Rattle.store_versions.specs.Seen.{version_of}
+use Rattle.store_state.specs.declared.parts.StoreParts.{StoreParts}
+use Rattle.store_state.specs.Standings.{Standing}
+use Rattle.store_state.specs.Inner.Keeping.{Keeping}
+use Rattle.store_state.specs.At.{AreParts, IsAt, keeping, standing}
+use Rattle.store_opening.specs.declared.opening.Limits.{Limits}
+use Rattle.store_opening.specs.declared.reading.ReadParts.{ReadParts}
+use Rattle.store_opening.specs.Opened.{HasCause, HasFound, IsNew}
+use Rattle.store_opening.specs.Inner.Read.{AreFound, IsOpenFile, IsPutTogether, keeping_with, new_ledger, store_with}
+use Rattle.store_opening.proofs.NewStores.{Gives, keeping_of, store_is_at, store_of}
+use Rattle.store_opening.proofs.Read.{both_some, opens_so}
+
+-- the store that was put together of what was read
+store_read : {D : Type 0} (now file : OpenFile D) (limits : Limits) (read : ReadParts) (tells : Option (List ℕ)) (of : AreFound tells file.slots limits read)
+    → store_with now file read ≡ store_of now.disk file of.found limits
+store_read now file limits read tells of =
+    λ i. record { disk = now.disk; opened = file; first = map version_of (of.of.rows i); ledger = of.of.ledger_is i; doubt = None; acked = []; made = [] }
+
+keeping_read : {D : Type 0} (now file : OpenFile D) (limits : Limits) (read : ReadParts) (tells : Option (List ℕ)) (of : AreFound tells file.slots limits read) → now.slots ≡ file.slots
+    → keeping_with now read ≡ keeping_of file of.found
+keeping_read now file limits read tells of same = λ i. record { slots = same i; catalog = of.of.catalog i; rows = of.of.rows i }
+
+-- what was put together, of a file that was opened and is now so
+module _ {D : Type 0} (moment : D → Moment) (file now : OpenFile D) (limits : Limits) (read : ReadParts) (parts : StoreParts D)
+    (of : AreFound (moment file.disk).state.seen file.slots limits read) (together : IsPutTogether moment now file read parts) where
+  pub standing_of : standing moment parts ≡ store_of now.disk file of.found limits
+  standing_of = together.standing_is ∙ store_read now file limits read (moment file.disk).state.seen of
+
+  pub are_parts : IsOpenFile (moment file.disk) file.slots → now.slots ≡ file.slots → OnlyReads (moment file.disk) (moment now.disk)
+      → ((seen : List ℕ) → IsSound file.slots seen (moment file.disk).may_leave → IsSound now.slots seen (moment now.disk).may_leave) → AreParts moment parts
+  are_parts fresh same reads sound =
+      let given : Gives moment file now.disk of.found = record {
+        file = fresh;
+        reads = reads;
+        sound = λ seen is. subst (λ (s : Slots). IsSound s seen (moment now.disk).may_leave) same (sound seen is);
+        rules = of.rules;
+        apart = of.apart;
+        told = of.told;
+      } in
+      let at : IsAt moment (store_of now.disk file of.found limits) (keeping_of file of.found) = store_is_at moment file now.disk of.found limits given in
+      let keeps : keeping parts ≡ keeping_of file of.found = together.keeping_is ∙ keeping_read now file limits read (moment file.disk).state.seen of same in
+      subst (λ (s : Standing D). IsAt moment s (keeping parts)) (sym standing_of) (subst (IsAt moment (store_of now.disk file of.found limits)) (sym keeps) at)
+
+  pub is_new : IsNew limits (standing moment parts)
+  is_new = subst (IsNew limits) (sym standing_of) (record { entries = refl; notes = refl; history = refl; pages = refl; doubt = refl; acked = refl; made = refl })
+
+  has_found : now.slots ≡ file.slots → (seen : List ℕ) → OpensAs file.slots.current file.slots.records seen → found_in seen (slots_of file.slots) ≡ Ok of.found → HasFound moment limits seen parts
+  has_found same seen opens told = record {
+    found = of.found;
+    opens = opens_so seen file.slots opens ∙ told;
+    catalog = ap (λ (k : Keeping). k.catalog) together.keeping_is ∙ of.of.catalog;
+    versions = ap (λ (s : Standing D). s.first) standing_of;
+    base = ap (λ (s : Standing D). s.ledger.base) standing_of
+        ∙ ap (λ (s : Slots). (new_ledger of.found s.current.root.log limits).base) (sym (ap (λ (f : OpenFile D). f.slots) together.file_is ∙ same));
+  }
+
+  pub have_found : IfSome (moment file.disk).state.seen (OpensAs file.slots.current file.slots.records) → now.slots ≡ file.slots → IfSome (moment file.disk).state.seen (λ seen. HasFound moment limits seen parts)
+  have_found opens same =
+      both_some (OpensAs file.slots.current file.slots.records) (λ seen. found_in seen (slots_of file.slots) ≡ Ok of.found) (λ seen. HasFound moment limits seen parts) (moment file.disk).state.seen opens of.told (has_found same)
+
+-- ---- why a file isn't read
+
+pub read_cause : (cause : OpenCause) (old now : DiskState) → (IsErrOf {T = ReadParts} {E = OpenCause} (Err cause) Disk → Rose old.faults now.faults) → HasCause cause old now
+read_cause Disk old now rose = rose refl
+read_cause (NotDatabase page) old now rose = tt
+read_cause Memory old now rose = tt

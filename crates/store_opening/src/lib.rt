@@ -1,0 +1,7 @@
+//! How a store is opened.
+#![tactic(auto)]
+
+mod opening;
+mod reading;
+
+pub use opening::{Limits, open};
