@@ -1,5 +1,5 @@
 -- Events that are added, one after the other.
-use Rattle.std.proofs.Common.{◌≡◌, ◌∙◌, ℕ, suc, ◌+◌, Bool, true, false, if◌then◌else◌, nat_eq, nat_le, List, [], ◌∷◌, ◌++◌, length, map, reverse, Result, Ok, Err, IfOk, OnOk, IsTrue, refl, ap, sym, subst, arith, append-nil}
+use Rattle.std.proofs.Common.{◌≡◌, ◌∙◌, ℕ, suc, ◌+◌, Bool, true, false, if◌then◌else◌, nat_eq, nat_le, List, [], ◌∷◌, ◌++◌, length, map, reverse, Result, Ok, Err, IfOk, OnOk, refl, ap, sym, subst, arith, append-nil}
 use Rattle.std.specs.List.{filter}
 use Rattle.std.proofs.lemmas.List.{reverse-append}
 use Rattle.array_rows.specs.Boxes.{by_pairs}
@@ -13,10 +13,9 @@ use Rattle.event_core.specs.History.{History}
 use Rattle.event_core.proofs.Tests.{both_not}
 use Rattle.store_ledger.specs.declared.note.Note.{Note}
 use Rattle.store_ledger.specs.declared.note.NoteKind.TheVariants.{Fault}
-use Rattle.store_ledger.specs.Ledger.{Event as LedgerEvent, LedgerState, IsLedger, entered, noted, events_from, events as ledger_events, history, is_noted, note_now, with_fault, with_entries as more_entries, with_notes as more_notes}
+use Rattle.store_ledger.specs.Ledger.{Event as LedgerEvent, LedgerState, IsLedger, entered, noted, events_from, events as ledger_events, is_noted, note_now, with_fault, with_notes as more_notes}
 use Rattle.store_ledger.proofs.Events.{events_grow_by_entries, events_grow_by_notes}
 use Rattle.store_ledger.proofs.Told.{notes_are_within}
-use Rattle.afl_outside.specs.Counts.{Rose}
 use Rattle.afl_outside.specs.Disk.{Moment}
 use Rattle.store_state.specs.declared.event.Event.{Event}
 use Rattle.store_state.specs.declared.event.Event.TheVariants.{Entered, Acknowledged, Noted}
@@ -24,7 +23,7 @@ use Rattle.store_state.specs.declared.parts.StoreParts.{StoreParts}
 use Rattle.store_state.specs.At.{AreParts, standing}
 use Rattle.store_state.specs.Calls.{NotesFault}
 use Rattle.store_state.specs.Events.{Seal, events, sealed}
-use Rattle.store_state.specs.Standings.{Standing, with_entries, with_notes}
+use Rattle.store_state.specs.Standings.{Standing, with_entries}
 use Rattle.array_store.specs.Growth.{AddsEvents, AddsFault, IsCounted, fault_events, is_plain}
 use Rattle.array_store.specs.Laws.{EntriesAddEvents, CommitsAddEvents, NotesAddEvents, FaultsAddEvents}
 

@@ -8,7 +8,7 @@ use Rattle.event_core.specs.declared.entry.Entry.{Entry}
 use Rattle.event_core.specs.declared.entry.Entry.TheVariants.{Pin, Unpin, Commit, Reap}
 use Rattle.event_core.proofs.Tests.{both_not}
 use Rattle.store_ledger.specs.declared.note.Note.{Note}
-use Rattle.store_ledger.specs.Ledger.{Event as LedgerEvent, LedgerState, entered, noted, events_from, events as ledger_events}
+use Rattle.store_ledger.specs.Ledger.{Event as LedgerEvent, entered, noted, events_from, events as ledger_events}
 use Rattle.store_state.specs.Events.{Seal, events, sealed}
 use Rattle.store_state.specs.Standings.{Standing}
 

@@ -3,6 +3,7 @@
 
 mod freshness;
 mod laws;
+mod opening;
 mod reading;
 mod start;
 mod stepping;

@@ -1,5 +1,4 @@
 use Rattle.std.proofs.Common.{◌≡◌, ◌∙◌, ◌+◌, length, ap}
-use Rattle.store_state.specs.declared.parts.StoreParts.{StoreParts}
 use Rattle.store_state.specs.At.{standing}
 use Rattle.store_state.specs.Events.{events}
 use Rattle.array_store.proofs.Counted.{events_count}
