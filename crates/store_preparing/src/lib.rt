@@ -1,0 +1,7 @@
+//! Commits are prepared: with all memory that they need, before anything of them is written.
+#![tactic(auto)]
+
+mod preparing;
+mod slots;
+
+pub use preparing::prepare;
