@@ -1,5 +1,5 @@
 -- A commit is prepared after the note that it is tried.
-use Rattle.std.proofs.Common.{◌≡◌, ◌∙◌, ◌+◌, ◌≤◌, ◌<◌, ◌^◌, ℕ, false, List, length, Option, None, Some, Result, Ok, Err, IfOk, IfSome, OnOk, IsTrue, vec_capacity, refl, sym, ap, subst}
+use Rattle.std.proofs.Common.{◌≡◌, ◌≤◌, ◌<◌, ◌^◌, ℕ, false, length, Option, None, Some, Result, Ok, Err, IfOk, IfSome, OnOk, IsTrue, vec_capacity, sym, subst}
 use Rattle.afl_outside.specs.Disk.{Moment}
 use Rattle.array_geom.specs.declared.chunk.Changed.{Changed}
 use Rattle.plan_changes.specs.declared.change.Change.{Change}
@@ -14,7 +14,6 @@ use Rattle.store_state.specs.At.{IsAt, keeping, standing}
 use Rattle.store_state.specs.Standings.{Standing}
 use Rattle.store_state.specs.Inner.Keeping.{Keeping}
 use Rattle.prepared_commits.specs.declared.fault.PrepareFault.{PrepareFault}
-use Rattle.prepared_commits.specs.declared.fault.PrepareFault.TheVariants.{SequenceEnd, Full, Memory}
 use Rattle.prepared_commits.specs.declared.prepared.Prepared.{Prepared}
 use Rattle.prepared_commits.specs.Needs.{needs_by, newest_now, next_sequence}
 use Rattle.prepared_commits.specs.Prepared.{IsAsked, IsPreparedFor}

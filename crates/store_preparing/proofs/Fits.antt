@@ -9,7 +9,7 @@ use Rattle.event_core.specs.History.{History}
 use Rattle.event_core.specs.Pages.{is_awaiting, is_live, free_at}
 use Rattle.event_laws.proofs.Conserved.{pages_are_conserved}
 use Rattle.event_laws.proofs.Legal.{ordered_is_allowed}
-use Rattle.store_ledger.specs.Ledger.{LedgerState, history, unused_pages}
+use Rattle.store_ledger.specs.Ledger.{history, unused_pages}
 use Rattle.store_state.specs.At.{IsAt}
 use Rattle.store_state.specs.Standings.{Standing}
 use Rattle.store_state.specs.Inner.Keeping.{Keeping}

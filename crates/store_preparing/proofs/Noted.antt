@@ -1,6 +1,6 @@
 -- A store goes on over the note that a commit is tried.
 use Rattle.std.proofs.Common.{◌≡◌, ◌∙◌, ◌⊎◌, ◌+◌, ◌-◌, ◌^◌, ◌≤◌, ◌<◌, ℕ, Bool, true, false, not, ◌&&◌, ◌||◌, nat_eq, nat_lt, List, [], ◌∷◌, ◌++◌, length, Option, None, Some, IfSome, IsTrue, refl, ap, sym, subst, arith}
-use Rattle.std.specs.List.{filter, list_all, list_any}
+use Rattle.std.specs.List.{filter, list_all}
 use Rattle.std.proofs.lemmas.Bool.{and_from, and_parts, eq-eqb, or_right}
 use Rattle.std.proofs.lemmas.Bool.Decides.{nat_tests}
 use Rattle.std.proofs.lemmas.List.{append-nil, length-reverse}
@@ -8,7 +8,7 @@ use Rattle.std.proofs.lemmas.List.Elements.{filter-append}
 use Rattle.std.proofs.lemmas.List.Folds.{list_any-append}
 use Rattle.afl_outside.specs.Disk.{Moment}
 use Rattle.event_core.specs.Allowed.{is_allowed, is_pinned}
-use Rattle.event_core.specs.History.{History, OpenPin, open_pins, pin_before}
+use Rattle.event_core.specs.History.{History, OpenPin, open_pins}
 use Rattle.event_core.specs.Legal.{has_committed}
 use Rattle.event_laws.specs.Pins.{PlaceTells, pins_of}
 use Rattle.event_laws.proofs.Legal.{ordered_is_allowed}

@@ -1,5 +1,5 @@
 -- The parts of a store, with the ledger that preparing leaves.
-use Rattle.std.proofs.Common.{◌≡◌, ◌∙◌, ◌+◌, ◌≤◌, ℕ, Bool, true, false, List, [], ◌∷◌, length, map, Result, Ok, Err, refl, ap, sym, subst}
+use Rattle.std.proofs.Common.{◌≡◌, ◌∙◌, ◌+◌, ℕ, Bool, true, false, List, [], ◌∷◌, length, Result, Ok, Err, refl, ap, sym, subst}
 use Rattle.std.proofs.lemmas.List.{length-reverse}
 use Rattle.afl_outside.specs.Disk.{Moment}
 use Rattle.chunk_map.specs.declared.directory.Directory.{Directory}
@@ -16,7 +16,7 @@ use Rattle.store_ledger.proofs.Pins.{one_more}
 use Rattle.store_versions.specs.Seen.{seen}
 use Rattle.store_versions.specs.Versions.{MadeVersion, directory_of, versions_at}
 use Rattle.store_state.specs.At.{IsAt}
-use Rattle.store_state.specs.Standings.{Standing, base_of, commit_places, given_of, made_at, versions_after, with_entries}
+use Rattle.store_state.specs.Standings.{Standing, base_of, given_of, made_at, versions_after, with_entries}
 use Rattle.store_state.specs.Inner.Keeping.{Keeping}
 use Rattle.store_state.proofs.AtOn.{places_same, reaped_if as reaped_standing}
 use Rattle.prepared_commits.specs.declared.fault.PrepareFault.{PrepareFault}
@@ -24,7 +24,7 @@ use Rattle.prepared_commits.specs.declared.fault.PrepareFault.TheVariants.{Seque
 use Rattle.prepared_commits.specs.Needs.{newest_now, next_sequence, or_empty}
 use Rattle.prepared_costs.proofs.Costs.{have}
 use Rattle.prepared_costs.proofs.Newest.{newest_rises}
-use Rattle.prepared_parts.specs.Parts.{IsLeft as IsLeftBy, is_short, newest_at, reaped}
+use Rattle.prepared_parts.specs.Parts.{IsLeft as IsLeftBy, is_short, newest_at}
 use Rattle.store_preparing.specs.Left.{IsLeft, reaped_if}
 use Rattle.store_preparing.proofs.Reaped.{at_reaped}
 

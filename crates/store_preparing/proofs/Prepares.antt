@@ -1,10 +1,9 @@
 -- What a commit is prepared for.
-use Rattle.std.proofs.Common.{◌≡◌, ◌∙◌, ◌+◌, ◌≤◌, ◌<◌, ◌^◌, ℕ, true, false, Bool, List, [], ◌∷◌, length, Option, None, Some, IfSome, IsTrue, refl, sym, ap, subst, arith}
+use Rattle.std.proofs.Common.{◌≡◌, ◌∙◌, ◌≤◌, ◌<◌, ◌^◌, ℕ, true, false, Bool, List, length, Option, None, Some, IfSome, IsTrue, refl, sym, ap, subst, arith}
 use Rattle.std.specs.List.{AllByRecursion}
 use Rattle.std.specs.Option.{is_some}
 use Rattle.afl_outside.specs.Disk.{Moment}
 use Rattle.array_geom.specs.declared.chunk.Changed.{Changed}
-use Rattle.array_geom.specs.Geometry.{has_core}
 use Rattle.chunk_map.specs.declared.directory.Directory.{Directory}
 use Rattle.chunk_map.specs.Spelling.{IsDirectory}
 use Rattle.logical_plan.specs.declared.names.Names.{Names}
@@ -13,12 +12,10 @@ use Rattle.page_slots.specs.declared.slots.Target.{Target}
 use Rattle.page_slots.specs.declared.slots.Target.TheVariants.{Root, Record}
 use Rattle.plan_changes.specs.declared.change.Change.{Change}
 use Rattle.plan_changes.specs.declared.change.Change.TheVariants.{Create, Store, Insert, Remove, RemoveVersions}
-use Rattle.plan_changes.specs.Changes.{name_of, newest_of}
+use Rattle.plan_changes.specs.Changes.{name_of}
 use Rattle.plan_changes.specs.Databases.{Database}
 use Rattle.version_catalog.specs.declared.rules.catalog.Catalog.{Catalog}
-use Rattle.version_catalog.specs.Catalogs.{names_in}
 use Rattle.version_reaper.specs.PageSets.{holds}
-use Rattle.event_core.specs.declared.entry.Used.{Used}
 use Rattle.event_core.specs.declared.entry.Entry.TheVariants.{Commit}
 use Rattle.event_core.specs.declared.state.Core.{Core}
 use Rattle.event_core.specs.Allowed.{allows, is_pinned}
@@ -41,7 +38,7 @@ use Rattle.store_ledger.specs.declared.note.NoteKind.TheVariants.{Tried}
 use Rattle.store_ledger.specs.Ledger.{LedgerState, has_room, history, is_noted}
 use Rattle.store_versions.specs.Rows.{IsReadyFor}
 use Rattle.store_state.specs.At.{IsAt}
-use Rattle.store_state.specs.Standings.{Standing, BeganAs, base_of, given_of, versions_after}
+use Rattle.store_state.specs.Standings.{Standing, BeganAs, base_of, versions_after}
 use Rattle.store_state.specs.Inner.Keeping.{Keeping, IsDirectoryOf}
 use Rattle.prepared_commits.specs.declared.prepared.NewBase.{NewBase}
 use Rattle.prepared_commits.specs.declared.prepared.Prepared.{Prepared}
@@ -49,7 +46,7 @@ use Rattle.prepared_commits.specs.Needs.{IsLaidBy, all_pages, needs, needs_by, n
 use Rattle.prepared_commits.specs.Prepared.{IsAsked, IsLaid, MayCome}
 use Rattle.prepared_costs.proofs.Costs.{of_chunks}
 use Rattle.prepared_costs.proofs.Newest.{newest_shares}
-use Rattle.prepared_parts.specs.Layouts.{IsLayout, IsSized, base_by, laid_by}
+use Rattle.prepared_parts.specs.Layouts.{IsSized, base_by, laid_by}
 use Rattle.prepared_parts.specs.Parts.{IsPreparedAs, free_pages}
 use Rattle.store_preparing.specs.Left.{reaped_if}
 use Rattle.store_preparing.proofs.Parts.{newest_reaped, next_reaped}

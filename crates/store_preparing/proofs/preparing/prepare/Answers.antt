@@ -1,10 +1,8 @@
-use Rattle.std.proofs.Common.{◌≡◌, ◌∙◌, ◌+◌, ◌≤◌, ◌<◌, ◌^◌, ℕ, Option, length, IfOk, IfSome, sym, ap, subst, arith, rules}
-use Rattle.chunk_map.specs.declared.directory.Directory.{Directory}
+use Rattle.std.proofs.Common.{◌≡◌, ◌∙◌, ◌+◌, ◌≤◌, ◌<◌, ◌^◌, ℕ, Option, length, IfOk, sym, ap, subst, arith, rules}
 use Rattle.commit_pages.specs.declared.written.Written.{Written}
 use Rattle.commit_pages.specs.Versions.{draft_of}
 use Rattle.store_ledger.specs.Ledger.{LedgerState}
 use Rattle.store_state.specs.At.{IsAt, keeping, standing}
-use Rattle.store_state.specs.Standings.{Standing}
 use Rattle.prepared_commits.specs.Needs.{needs, needs_by, newest_now, next_sequence}
 use Rattle.prepared_parts.specs.Parts.{IsFullFor, IsPreparedAs}
 use Rattle.store_preparing.specs.Left.{IsLeft, tried_now}

@@ -1,4 +1,4 @@
-use Rattle.std.proofs.Common.{◌≡◌, ℕ, List, length, map, IfOk, sym, subst}
+use Rattle.std.proofs.Common.{◌≡◌, length, map, IfOk, subst}
 use Rattle.chunk_map.specs.declared.directory.Directory.{Directory}
 use Rattle.page_slots.specs.declared.slots.Target.{Target}
 use Rattle.store_versions.specs.Rows.{directory_in}
