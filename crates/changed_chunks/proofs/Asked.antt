@@ -1,18 +1,15 @@
 -- What is asked for: the chunks of a plan's leaves, and then those of a target.
-use Rattle.std.proofs.Common.{◌≡◌, ℕ, ◌+◌, suc, List, [], ◌∷◌, ◌++◌, length, map, Result, Ok, Err, OnErr, refl, sym, ap, ◌∙◌, subst, append_assoc, arith}
-use Rattle.std.specs.Prelude.{IfOk, OnOk}
+use Rattle.std.proofs.Common.{◌≡◌, ℕ, ◌+◌, suc, List, [], ◌∷◌, ◌++◌, length, map, Result, Ok, Err, OnErr, sym, ap, ◌∙◌, append_assoc, arith}
+use Rattle.std.specs.Prelude.{OnOk}
 use Rattle.std.proofs.lemmas.List.{append-nil}
 use Rattle.arrayvec.specs.ArrayVec.{ArrayVec}
-use Rattle.cell_values.specs.declared.datum.Broken.{Broken}
-use Rattle.cell_values.specs.declared.schema.Schema.{Schema}
-use Rattle.array_geom.specs.declared.chunk.Changed.{Changed}
 use Rattle.logical_plan.specs.declared.parts.Leaf.{Leaf}
 use Rattle.logical_plan.specs.Leaves.{leaves}
 use Rattle.logical_plan.specs.Query.{Query}
 use Rattle.chunk_source.specs.declared.sources.asked.Asked.{Asked}
 use Rattle.chunk_source.specs.Reading.{asked_of}
 use Rattle.chunk_source.specs.Source.{AsksFront, Keeps, SourceState, asks, listed}
-use Rattle.chunk_source.proofs.ReadLemmas.{asked_all, front_after, listed_still}
+use Rattle.chunk_source.proofs.ReadLemmas.{front_after, listed_still}
 
 -- the numbers of later leaves go on behind those of the earlier ones
 asked_of_both : (source : SourceState) (first : ℕ) (left right : List Leaf) → asked_of source first (left ++ right) ≡ asked_of source first left ++ asked_of source (first + length left) right

@@ -1,6 +1,6 @@
 -- The rows of a plan's array, fitted to the schema under which they are stored.
 use Rattle.std.proofs.Common.{◌≡◌, ℕ, suc, ◌+◌, ◌<◌, List, [], ◌∷◌, length, get_or, drop, Option, Some, None, Result, Ok, Err, refl, sym, ap, ◌∙◌, subst, arith}
-use Rattle.std.specs.Prelude.{IfOk, OnOk}
+use Rattle.std.specs.Prelude.{IfOk}
 use Rattle.std.specs.List.{AllByRecursion}
 use Rattle.std.proofs.Math.Seq.{drop-cons}
 use Rattle.std.proofs.lemmas.Bool.{and_parts}
@@ -17,7 +17,7 @@ use Rattle.cell_values.specs.Schemas.{IsValid}
 use Rattle.array_rows.specs.Arrays.{AreRowsOf}
 use Rattle.array_geom.specs.declared.chunk.ChunkedArray.{ChunkedArray}
 use Rattle.array_geom.specs.Link.{HoldsResult, Is}
-use Rattle.array_parts.specs.Cores.{HasCells, HaveCells, cores_of, meant_by_cores, unless_broken}
+use Rattle.array_parts.specs.Cores.{HaveCells, cores_of, unless_broken}
 use Rattle.array_parts.proofs.CoreLaws.{arrays_are_their_cores, cores_are_rows}
 use Rattle.chunk_cells.specs.Fitted.{HasValues}
 use Rattle.logical_plan.specs.declared.names.NameEntry.{NameEntry}
@@ -26,7 +26,7 @@ use Rattle.logical_plan.specs.Faults.{fault_here, fault_in, fault_of, first_faul
 use Rattle.logical_plan.specs.Meaning.{Meant, meaning}
 use Rattle.logical_plan.specs.PlanSchema.{schema_of}
 use Rattle.logical_plan.specs.Query.{Query}
-use Rattle.logical_plan.specs.Typing.{AreSound, same_bounds}
+use Rattle.logical_plan.specs.Typing.{same_bounds}
 use Rattle.logical_plan.proofs.SchemaLaws.{meaning_schema}
 use Rattle.plan_changes.specs.Databases.{Database, fitted, rows_of}
 use Rattle.plan_changes.specs.Kept.{MeansArray}

@@ -1,76 +1,24 @@
 -- The chunks that are written are those of the change, in a database that the source tells.
-use Rattle.std.proofs.Common.{◌≡◌, ℕ, zero, suc, ◌<◌, Bool, true, false, cond, ◌&&◌, nat_eq, List, [], ◌∷◌, length, map, Option, Some, None, Result, Ok, Err, refl, sym, ap, ◌∙◌, subst, arith}
+use Rattle.std.proofs.Common.{◌≡◌, ℕ, zero, suc, ◌<◌, Bool, true, false, cond, nat_eq, List, [], ◌∷◌, map, Option, Some, None, Result, Ok, Err, refl, sym, ap, ◌∙◌, subst, arith}
 use Rattle.std.specs.Prelude.{IfOk}
 use Rattle.std.specs.List.{AllByRecursion, find}
 use Rattle.std.specs.Option.{option_map}
-use Rattle.std.specs.Str.{bytes_eq}
 use Rattle.std.proofs.lemmas.Bool.Decides.{nat_tests}
 use Rattle.cell_values.specs.declared.datum.Broken.{Broken}
-use Rattle.cell_values.specs.declared.datum.Row.{Row}
 use Rattle.cell_values.specs.declared.schema.Schema.{Schema}
-use Rattle.array_rows.specs.Arrays.{AreRowsOf}
-use Rattle.array_rows.specs.Rows.{put_all}
-use Rattle.array_geom.specs.declared.chunk.Chunk.{Chunk}
 use Rattle.array_geom.specs.declared.chunk.Changed.{Changed}
-use Rattle.array_geom.specs.Geometry.{ChunkNumber, overlaps}
-use Rattle.array_geom.specs.Link.{IsPart, has_cell}
-use Rattle.logical_plan.specs.declared.names.NameEntry.{NameEntry}
 use Rattle.logical_plan.specs.declared.parts.Leaf.{Leaf}
 use Rattle.logical_plan.specs.Meaning.{version_rows}
 use Rattle.logical_plan.specs.Query.{Query}
 use Rattle.plan_changes.specs.declared.change.Change.{Change}
 use Rattle.plan_changes.specs.declared.change.Change.TheVariants.{Store, Insert}
 use Rattle.plan_changes.specs.Changes.{is_named, newest_of, newest_or}
-use Rattle.plan_changes.specs.Databases.{Database, Stored, Version, entry_of, fault_of_change, fitted, is_array, names_of, new_rows, newest_in, newest_rows, rows_if_whole, rows_in, rows_of, rows_or}
-use Rattle.plan_changes.specs.Kept.{MeansArray}
+use Rattle.plan_changes.specs.Databases.{Database, Stored, Version, entry_of, is_array, names_of, newest_in, newest_rows, rows_in, rows_of, rows_or}
 use Rattle.plan_changes.specs.Stored.{IsDatabase, IsStored, RiseBetween}
 use Rattle.plan_changes.proofs.Found.{find_image}
-use Rattle.commit_costs.specs.Lengths.{meets}
-use Rattle.commit_pages.specs.Changes.{IsChangeOf, is_written}
 use Rattle.chunk_source.specs.Source.{SourceState}
 use Rattle.chunk_source.specs.declared.reading.fault.ExecFault.{ExecFault}
 use Rattle.changed_chunks.specs.Changing.{IsAnswerOver, IsToldOf}
-use Rattle.changed_chunks.specs.Inner.Input.{IsFound}
-use Rattle.changed_chunks.specs.Inner.Writes.{IsInsertOf, IsStoreOf, Writes}
-
--- ---- a change's chunks
-
-change_told : (db : Database) (change : Change) (schema : Schema) (whole : Bool) (rows : List Row) (chosen : ChunkNumber → Bool) (changed : Changed) → Writes schema whole rows chosen changed
-    → fault_of_change db change ≡ None → new_rows db change ≡ rows → ((k : ChunkNumber) → chosen k ≡ is_written db change k) → IsChangeOf db change changed
-change_told db change schema whole rows chosen changed w none e same =
-    let s : changed.schema ≡ schema = w.is_of.0 in
-    record {
-      fault = none;
-      rows = subst (λ (z : Schema). AreRowsOf z (new_rows db change)) (sym s) (subst (AreRowsOf schema) (sym e) w.rows_of);
-      listed = λ k l. w.listed k (l ∙ ap (λ (z : Schema). length z.dimensions) s) ∙ same k;
-      parts = subst (λ (z : Schema). AllByRecursion (IsPart z.dimensions (overlaps z.dimensions) (new_rows db change)) changed.chunks) (sym s)
-          (subst (λ (rs : List Row). AllByRecursion (IsPart schema.dimensions (overlaps schema.dimensions) rs) changed.chunks) (sym e) w.parts);
-    }
-
-module _ (db : Database) (name : List ℕ) (schema : Schema) (plan : Query) (means : MeansArray db plan) where
-  pub store_fault : (broken : Broken) → IsFound (fitted schema plan db) (Err broken) → IsAnswerOver db (Store name schema plan) (Err broken)
-  store_fault broken found = record { stores = means; answer = found }
-
-  pub insert_fault : (broken : Broken) → IsFound (fitted schema plan db) (Err broken) → IsAnswerOver db (Insert name schema plan) (Err broken)
-  insert_fault broken found = record { stores = means; answer = found }
-
-  pub store_told : (input : List Row) (changed : Changed) → IsFound (fitted schema plan db) (Ok input) → IsStoreOf schema input changed → IsAnswerOver db (Store name schema plan) (Ok changed)
-  store_told input changed found w =
-      let e : rows_if_whole (fitted schema plan db) ≡ input = ap rows_if_whole found.0 in
-      record {
-        stores = means;
-        answer = change_told db (Store name schema plan) schema true input (has_cell schema.dimensions input) changed w found.1 e (λ k. ap (λ (rs : List Row). has_cell schema.dimensions rs k) (sym e));
-      }
-
-  pub insert_told : (input old : List Row) (changed : Changed) → IsFound (fitted schema plan db) (Ok input) → old ≡ newest_rows db name → IsInsertOf schema input old changed → IsAnswerOver db (Insert name schema plan) (Ok changed)
-  insert_told input old changed found n w =
-      let dims = schema.dimensions in
-      let e : rows_if_whole (fitted schema plan db) ≡ input = ap rows_if_whole found.0 in
-      record {
-        stores = means;
-        answer = change_told db (Insert name schema plan) schema false (put_all input old) (λ k. has_cell dims (put_all input old) k && meets dims input k) changed w found.1
-            (λ i. put_all (e i) (sym n i)) (λ k i. has_cell dims (put_all (sym e i) (n i)) k && meets dims (sym e i) k);
-      }
 
 -- ---- the newest version
 

@@ -1,5 +1,5 @@
 -- The chunks that are written of a version.
-use Rattle.std.proofs.Common.{◌≡◌, ℕ, ◌≤◌, ◌^◌, Bool, true, false, not, ◌&&◌, List, [], ◌∷◌, ◌++◌, filter, length, None, Ok, Err, Result, ◌↔◌, refl, sym, ap, ◌∙◌, subst}
+use Rattle.std.proofs.Common.{◌≡◌, ℕ, Bool, true, false, not, ◌&&◌, List, [], ◌∷◌, ◌++◌, filter, length, Ok, Err, Result, ◌↔◌, refl, sym, ap, ◌∙◌, subst}
 use Rattle.std.specs.Prelude.{IfOk}
 use Rattle.std.specs.List.{AllByRecursion}
 use Rattle.arrayvec.specs.ArrayVec.{ArrayVec}
@@ -181,7 +181,7 @@ module _ (put : ChunkedArray) (can : CanBeStored put) where
       let kept : List Chunk = filter (λ chunk. p chunk.at.items) version.chunks in
       let all = all_written version may in
       let of_old : AllByRecursion (IsPart dims (overlaps dims) (put_all (cores_of put) old)) version.chunks
-          = subst (λ (rs : List Row). AllByRecursion (IsPart dims (overlaps dims) rs) version.chunks) c (subst (λ (z : Schema). AllByRecursion (IsPart z.dimensions (overlaps z.dimensions) (cores_of version)) version.chunks) s all.parts) in
+      = subst (λ (rs : List Row). AllByRecursion (IsPart dims (overlaps dims) rs) version.chunks) c (subst (λ (z : Schema). AllByRecursion (IsPart z.dimensions (overlaps z.dimensions) (cores_of version)) version.chunks) s all.parts) in
       record {
         is_of = (s, refl);
         valid = record {

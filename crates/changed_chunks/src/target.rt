@@ -24,7 +24,11 @@ fn count_leaves(alloc: Global, plan: &Plan) -> Result<u32, Memory>
 {
     let found = reads(alloc, plan)?;
     let count = found.len();
-    if count < 1 << 32 { Ok(count as u32) } else { Err(Memory) }
+    if count < 1 << 32 {
+        Ok(count as u32)
+    } else {
+        Err(Memory)
+    }
 }
 
 /// Reads these chunks of a leaf.

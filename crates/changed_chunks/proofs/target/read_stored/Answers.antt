@@ -1,6 +1,4 @@
-use Rattle.std.proofs.Common.{List, sym, ◌∙◌, subst}
-use Rattle.std.specs.List.{AllZip}
-use Rattle.arrayvec.specs.ArrayVec.{ArrayVec}
+use Rattle.std.proofs.Common.{◌∙◌}
 use Rattle.chunk_source.proofs.ReadLemmas.{asked_none, listed_among, on_err}
 use Rattle.changed_chunks.proofs.Asked.{asked_listed, front_listed}
 use Rattle.changed_chunks.proofs.Chunks.{read_stored, read_told}

@@ -9,4 +9,4 @@ use Rattle.changed_chunks.proofs.versions.met_chunks.Given as goal
 abbrev pub invariant-loop-chunk : goal.invariant-loop-chunk
 invariant-loop-chunk l = AllByRecursion (HasPlaces l.put.schema l.put.margins.items) (into_iter_items l.chunk-iterator)
     × (l.met ++ filter (λ chunk. meets l.put.schema.dimensions (cores_of l.put) chunk.at.items) (into_iter_items l.chunk-iterator)
-        ≡ filter (λ chunk. meets l.put.schema.dimensions (cores_of l.put) chunk.at.items) l.fn.chunks)
+    ≡ filter (λ chunk. meets l.put.schema.dimensions (cores_of l.put) chunk.at.items) l.fn.chunks)
