@@ -4,10 +4,13 @@
 mod freshness;
 mod laws;
 mod opening;
+mod preparing;
 mod reading;
+mod sealing;
 mod start;
 mod stepping;
 mod store;
+mod telling;
 
 pub use laws::events_grow;
 pub use start::{FirstVersion, Start};
