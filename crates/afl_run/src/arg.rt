@@ -1,6 +1,6 @@
 //! The words of the command line.
 ghost use Rattle.std.specs.Prelude.{◌≡◌, string_bytes};
-ghost use Rattle.afl_run.specs.Words.{wrong_word};
+ghost use Rattle.afl_run.specs.Words.{wrong_name, wrong_word};
 
 use std::marker::Model;
 
@@ -40,6 +40,19 @@ pub(crate) fn wrong_place(words: &[Arg]) -> Option<u32>
     match words {
         [first] if first.as_str() == "try" => None,
         [first, ..] if first.as_str() == "try" => Some(1),
+        [first, rest @ ..] if first.as_str() == "init" => wrong_name(rest),
         _ => Some(0),
+    }
+}
+
+/// The same, of the words behind `init`.
+fn wrong_name(words: &[Arg]) -> Option<u32>
+    ensures { result ≡ wrong_name words.now }
+{
+    match words {
+        [] => Some(1),
+        [name, ..] if name.as_str().starts_with("--") => Some(1),
+        [_] => None,
+        _ => Some(2),
     }
 }
