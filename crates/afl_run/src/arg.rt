@@ -1,6 +1,6 @@
 //! The words of the command line.
-ghost use Rattle.std.specs.Prelude.{◌≡◌, string_bytes};
-ghost use Rattle.afl_run.specs.Words.{wrong_name, wrong_word};
+ghost use Rattle.std.specs.Prelude.{◌≡◌, option_copied, string_bytes};
+ghost use Rattle.afl_run.specs.Words.{device_of, wrong_name, wrong_word};
 
 use std::marker::Model;
 
@@ -54,5 +54,15 @@ fn wrong_name(words: &[Arg]) -> Option<u32>
         [name, ..] if name.as_str().starts_with("--") => Some(1),
         [_] => None,
         _ => Some(2),
+    }
+}
+
+/// The word that names a device, in words of a form.
+pub(crate) fn device_word(words: &[Arg]) -> Option<&Arg>
+    ensures { option_copied result ≡ device_of words.now }
+{
+    match words {
+        [] | [_] => None,
+        [_, name, ..] => Some(name),
     }
 }

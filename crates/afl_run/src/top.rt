@@ -4,16 +4,17 @@ ghost use Rattle.afl_lexer.specs.Inner.Standing.{StandsAfter};
 ghost use Rattle.std.specs.List.{list_any};
 ghost use Rattle.afl_outside.specs.Counts.{Rose, risen};
 ghost use Rattle.afl_outside.specs.Disk.{DiskGoesOn, IsNewDisk};
+ghost use Rattle.afl_outside.specs.Shelf.{LeavesOthers};
 ghost use Rattle.afl_outside.specs.Sink.{IsNewSink};
 ghost use Rattle.afl_outside.specs.Source.{IsNewSource};
 ghost use Rattle.afl_run.specs.Answered.{IsAnswered};
-ghost use Rattle.afl_run.specs.Init.{IsOpenedDevice, TellsDevice, TellsNoDevice, opened};
+ghost use Rattle.afl_run.specs.Init.{IsOpenedDevice, TellsDevice, TellsNoDevice, notice_by, opened};
 ghost use Rattle.afl_run.specs.Inner.Making.{Makes};
 ghost use Rattle.afl_run.specs.Notice.{is_refusal, is_want, notice_of, status_of};
 ghost use Rattle.afl_run.specs.Run.{IsOpenedAs, IsUnopened, Only, Prints, standard};
 ghost use Rattle.afl_run.specs.Words.{device_of, wrong_word};
 
-use crate::arg::{Arg, wrong_place};
+use crate::arg::{Arg, device_word, wrong_place};
 use crate::report::{Mark, Notice, Report, SessionEnd, SessionReport};
 use crate::session::serve;
 use afl_lexer::Splitter;
@@ -59,22 +60,27 @@ pub fn run<F: Shelf, G: Gate>(alloc: Global, words: &[Arg], shelf: F, _gate: &G)
         All (λ r. (Rose 0 (F.S.state r.source).faults → ⊥) × (Rose 0 (F.K.state r.sink).faults → ⊥)) result.sessions →
         (result.status ≡ 0) ⊎ ((result.status ≡ 1) ⊎ (result.status ≡ 5)) }
 
-    // `init` alone opens a device, with the name that the words give, and no stream.
+    // `init` alone opens a device, with the name that the words give, and nothing else.
     ensures device { IfSome result.disk (λ disk. IfSome (device_of words.now) (λ name. IsOpenedDevice name (F.state shelf) (F.Device.moment disk).state)) }
     ensures no_device { device_of words.now ≡ None → result.disk ≡ None }
     ensures no_stream { IsSome (device_of words.now) → result.sessions ≡ [] }
+    ensures others { wrong_word words.now ≡ None → IfSome (device_of words.now) (λ name. LeavesOthers name (F.state shelf) (F.state result.shelf)) }
 
     // Then the notice tells of the device: it was empty and is a database, or its count or that of the shelf rose, or it had a length.
     ensures init { IfSome result.disk (λ disk. TellsDevice result.notice (F.Device.moment disk)) }
     ensures unopened { wrong_word words.now ≡ None → result.disk ≡ None → IfSome (device_of words.now) (λ name. TellsNoDevice result.notice name (F.state shelf) (F.state result.shelf)) }
     ensures disk { result.notice ≡ Notice.Disk → IsSome (device_of words.now) }
     ensures not_empty { (count : ℕ) → result.notice ≡ Notice.NotEmpty count → IsSome result.disk }
+
+    // Where the shelf tells with which bytes it opens the device, and no call on it failed, these alone decide the notice, but for memory.
+    ensures complete_init { wrong_word words.now ≡ None → IfSome (device_of words.now) (λ name. IfSome ((F.state shelf).devices name) (λ bytes.
+        IfSome result.disk (λ disk. Rose 0 (F.Device.moment disk).state.faults → ⊥) → (result.notice ≡ notice_by bytes) ⊎ (result.notice ≡ Notice.Memory))) }
 {
     match wrong_place(words) {
         Some(word) => unopened(alloc, Notice::Usage { word }, shelf),
-        None => match words {
-            [_, name, ..] => run_init(alloc, name.as_str(), shelf),
-            _ => run_try(alloc, shelf),
+        None => match device_word(words) {
+            Some(name) => run_init(alloc, name.as_str(), shelf),
+            None => run_try(alloc, shelf),
         },
     }
 }
@@ -117,7 +123,7 @@ fn run_init<F: Shelf>(alloc: Global, name: &str, shelf: F) -> Report<F>
     ensures device { IfSome result.disk (λ disk. IsOpenedDevice name.now (F.state shelf) (F.Device.moment disk).state) }
     ensures init { IfSome result.disk (λ disk. TellsDevice result.notice (F.Device.moment disk)) }
     ensures unopened { result.disk ≡ None → TellsNoDevice result.notice name.now (F.state shelf) (F.state result.shelf) }
-    ensures later { (F.state shelf).faults ≤ (F.state result.shelf).faults }
+    ensures others { LeavesOthers name.now (F.state shelf) (F.state result.shelf) }
     ensures handed { (F.state shelf).handed + opened result.disk < 2 ^ 64 → (F.state result.shelf).handed ≡ (F.state shelf).handed + opened result.disk }
 {
     let mut shelf = shelf;
@@ -133,7 +139,7 @@ fn open_device<F: Shelf>(shelf: &mut F, name: &str) -> Result<F::Device, Notice>
     ensures content { IfOk result (λ disk. IfSome ((F.state shelf.old).devices name.now) (λ bytes. (F.Device.moment disk).state.first ≡ Some bytes)) }
     ensures cause { IfErr result (λ notice. ((notice ≡ Notice.Memory) × Rose (F.state shelf.old).wants (F.state shelf.new).wants)
         ⊎ ((notice ≡ Notice.Disk) × (Rose (F.state shelf.old).faults (F.state shelf.new).faults × ((F.state shelf.old).devices name.now ≡ None)))) }
-    ensures later { (F.state shelf.old).faults ≤ (F.state shelf.new).faults }
+    ensures others { LeavesOthers name.now (F.state shelf.old) (F.state shelf.new) }
     ensures handed { MatchResult result
         (λ _. (F.state shelf.new).handed ≡ risen (F.state shelf.old).handed)
         (λ _. (F.state shelf.new).handed ≡ (F.state shelf.old).handed) }

@@ -1,15 +1,16 @@
-//! Runs the script on each line of standard input over streams in memory, and tells what is written, whether a device was opened, and how the run ends.
+//! Runs the script on each line of standard input over streams in memory, and tells what is written, how many bytes the device has
+//! that was opened, and how the run ends.
 //!
 //! In a script `~` stands for a line feed, and `{127 (}` for 127 of `(`. A script behind `reads: ` is run over a source
 //! whose second read fails, one behind `writes: ` over a sink whose second write fails. Behind `words: ` stand the words
 //! of a command line without a script; behind `init: ` a number of zero bytes, of the device that `init db` is run over; behind
-//! `fails: ` the number of that device's call that fails. A line that begins with `##` is a title, and is printed as it is; each other line
-//! is printed behind `> `, above what its run gives.
+//! `fails: ` the number, from 0, of the call of an empty device that fails. A line that begins with `##` is a title, and is printed as
+//! it is; each other line is printed behind `> `, above what its run gives.
 #![tactic(auto)]
 
 mod streams;
 
-use afl_in_memory::MemShelf;
+use afl_in_memory::{MemDisk, MemShelf};
 use afl_outside::OpenGate;
 use afl_run::{Arg, Report, SessionEnd, notice_line, run};
 use anyhow::Result;
@@ -51,14 +52,22 @@ fn end_word(end: SessionEnd) -> &'static str {
     }
 }
 
+/// Prints how many bytes a device has.
+fn tell_length(rt: &impl Print, disk: &MemDisk) -> Result<()> {
+    let calls = disk.calls().len() as u64;
+    let image = disk.image(calls, &[], 0)?;
+    print!(rt; "device of {} bytes, ", image.as_slice().len())?;
+    Ok(())
+}
+
 /// Prints what the sessions have written, how they ended, and the status and line of the run.
 fn tell(rt: &(impl Print + AllocGlobal), report: &Report<MemShelf>) -> Result<()> {
     for session in report.sessions.as_slice() {
         print!(rt; "{}", from_utf8(session.sink.bytes()).unwrap_or("no text"))?;
         print!(rt; "{}, ", end_word(session.end))?;
     }
-    if report.disk.is_some() {
-        print!(rt; "device, ")?;
+    if let Some(disk) = &report.disk {
+        tell_length(rt, disk)?;
     }
     println!(rt; "status {}", report.status)?;
     let line = notice_line(rt.alloc(), &report.notice)?;
