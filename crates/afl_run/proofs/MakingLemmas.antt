@@ -57,10 +57,10 @@ module _ (asked : List ℕ) (old new : Moment) (handed : IsNewDisk asked old.sta
 
   tells : (notice : Notice) → Makes notice old new → TellsDevice notice new
   tells Done makes = (
-      subst (λ (o : Option (List ℕ)). IfSome o (λ bytes. length bytes ≡ 0)) began makes.0,
-      λ honest. subst (λ (o : Option (List ℕ)). IfSome o (λ _. (file : List ℕ) × HoldsNoArrays file new)) began
-          (holds_none new old.state.seen (makes.1 (subst (λ (b : Bool). IsTrue b) goes.honest honest))),
-    )
+    subst (λ (o : Option (List ℕ)). IfSome o (λ bytes. length bytes ≡ 0)) began makes.0,
+    λ honest. subst (λ (o : Option (List ℕ)). IfSome o (λ _. (file : List ℕ) × HoldsNoArrays file new)) began
+        (holds_none new old.state.seen (makes.1 (subst (λ (b : Bool). IsTrue b) goes.honest honest))),
+  )
   tells Disk makes = subst (λ (n : ℕ). Rose n new.state.faults) handed.faults makes
   tells Memory makes = subst (λ (n : ℕ). Rose n new.state.wants) handed.wants makes
   tells (NotEmpty count) makes = (subst (λ (o : Option (List ℕ)). IfSome o (λ bytes. (count ≡ length bytes) × (count ≢ 0))) began makes.0, makes.1 ∙ began)

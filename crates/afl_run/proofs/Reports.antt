@@ -1,5 +1,5 @@
 -- What a session's streams show, and what a run's notice tells of its session.
-use Rattle.std.proofs.Common.{◌≡◌, ℕ, List, [], ◌∷◌, ◌++◌, Option, Some, None, Ok, IsSome, IfSome, true, false, ◌⊎◌, inl, inr, refl, sym, ◌∙◌, ap, subst, arith, All, Any, Bool, ◌||◌, IsTrue, zero, suc}
+use Rattle.std.proofs.Common.{◌≡◌, ℕ, List, [], ◌∷◌, ◌++◌, Option, Some, None, IsSome, IfSome, true, false, ◌⊎◌, inl, inr, refl, sym, ◌∙◌, ap, subst, arith, All, Any, Bool, ◌||◌, IsTrue, zero, suc}
 use Rattle.std.specs.List.{list_any}
 use Rattle.std.proofs.lemmas.List.Folds.{Any-from_list_any}
 use Rattle.std.specs.Io.KnownBytes.{Consumes}
@@ -11,7 +11,7 @@ use Rattle.afl_outside.proofs.Streams.{wrote_all}
 use Rattle.afl_run.specs.Answered.{IsAnswered}
 use Rattle.afl_run.specs.Session.{Serves}
 use Rattle.afl_run.specs.Notice.{is_refusal, is_want, notice_at, notice_of, status_of}
-use Rattle.afl_run.specs.Run.{IsOpenedAs, IsUnopened, Only, Prints, standard}
+use Rattle.afl_run.specs.Run.{IsUnopened, Only, Prints, standard}
 use Rattle.afl_run.specs.declared.report.Mark.{Mark}
 use Rattle.afl_run.specs.declared.report.Notice.{Notice}
 use Rattle.afl_run.specs.declared.report.Notice.TheVariants.{Done, Refused, Usage, Disk, Stream, Memory, NotEmpty}

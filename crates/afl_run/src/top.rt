@@ -232,7 +232,11 @@ fn open_streams<F: Shelf>(shelf: &mut F) -> Result<(F::S, F::K), Notice>
     let wants = shelf.wants();
     let source = match shelf.script("-") {
         Ok(source) => source,
-        Err(Failed) => return Err(unopened_notice(wants, shelf.wants(), Notice::Stream { session: 0 })),
+        Err(Failed) => return Err(unopened_notice(
+            wants,
+            shelf.wants(),
+            Notice::Stream { session: 0 },
+        )),
     };
     let wants = shelf.wants();
     match shelf.reply("-") {

@@ -41,12 +41,7 @@ fn word_at(env: &impl Env, alloc: Global, place: usize) -> Result<Option<String>
     Err(Memory)
 }
 
-fn found_at(
-    env: &impl Env,
-    alloc: Global,
-    place: usize,
-    room: usize,
-) -> Result<Found, Memory> {
+fn found_at(env: &impl Env, alloc: Global, place: usize, room: usize) -> Result<Found, Memory> {
     let mut bytes = vec![in alloc; 0u8; room]?;
     match env.arg(place, &mut bytes) {
         Ok(length) => {

@@ -2,7 +2,7 @@ use Rattle.std.proofs.Common.{◌≡◌, ◌⊎◌, ℕ, length, List, Option, N
 use Rattle.afl_outside.specs.Counts.{Rose}
 use Rattle.afl_outside.specs.Shelf.{LeavesOthers}
 use Rattle.afl_run.specs.Answered.{IsAnswered}
-use Rattle.afl_run.specs.Init.{IsOpenedDevice, TellsDevice, TellsNoDevice, notice_by, opened}
+use Rattle.afl_run.specs.Init.{IsOpenedDevice, TellsNoDevice, notice_by, opened}
 use Rattle.afl_run.specs.Notice.{notice_of}
 use Rattle.afl_run.specs.Run.{IsOpenedAs, Prints, standard}
 use Rattle.afl_run.specs.Words.{device_of, wrong_word}
