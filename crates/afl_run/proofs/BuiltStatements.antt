@@ -1,10 +1,9 @@
 -- Statements whose parts are all built.
-use Rattle.std.proofs.Common.{◌≡◌, ℕ, false, List, Option, Some, refl}
+use Rattle.std.proofs.Common.{◌≡◌, false, List, Option, Some, refl}
 use Rattle.std.proofs.lemmas.Bool.{or_parts}
 use Rattle.cell_values.specs.declared.name.Span.{Span}
-use Rattle.afl_trees.specs.Term.{Term, create, call, Terms}
+use Rattle.afl_trees.specs.Term.{create, call, Terms}
 use Rattle.logical_plan.specs.declared.names.NameEntry.{NameEntry}
-use Rattle.logical_plan.specs.declared.names.Names.{Names}
 use Rattle.check_rules.specs.Checked.{Checked}
 use Rattle.check_rules.specs.Operators.{operator_named}
 use Rattle.check_rules.specs.declared.rules.operator.Operator.{Operator}

@@ -3,8 +3,6 @@ use Rattle.std.proofs.Common.{◌≡◌, ◌≤◌, ℕ, List, [], Some, None, E
 use Rattle.afl_trees.specs.Term.{Term}
 use Rattle.logical_plan.specs.declared.names.NameEntry.{NameEntry}
 use Rattle.logical_plan.specs.declared.names.Names.{Names}
-use Rattle.logical_plan.specs.declared.parts.Leaf.{Leaf}
-use Rattle.logical_plan.specs.Meaning.{Database}
 use Rattle.plan_changes.specs.Typed.{IsVersionOf}
 use Rattle.check_sources.specs.Stored.{entry_named}
 use Rattle.check_queries.specs.Arrays.{AreValid}
@@ -13,7 +11,7 @@ use Rattle.chunk_source.specs.declared.reading.fault.ExecFault.TheVariants.{Sour
 use Rattle.chunk_source.specs.Faults.{Answers}
 use Rattle.chunk_source.specs.Found.{database_of}
 use Rattle.chunk_source.specs.InMemory.{StoredArrays, sure_state}
-use Rattle.chunk_source.specs.Source.{Reads, SourceState}
+use Rattle.chunk_source.specs.Source.{SourceState}
 use Rattle.statement_replies.specs.Kinds.{IsQueryReply}
 use Rattle.statement_replies.specs.Reading.{HoldsVersions}
 use Rattle.statement_replies.specs.Reply.{query_reply}

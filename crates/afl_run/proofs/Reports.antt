@@ -1,5 +1,5 @@
 -- What a session's streams show, and what a run's notice tells of its session.
-use Rattle.std.proofs.Common.{◌≡◌, ℕ, List, [], ◌∷◌, ◌++◌, Option, Some, None, Ok, IsSome, IfSome, true, false, ◌⊎◌, inl, inr, refl, sym, ◌∙◌, ap, subst, arith, All, Any, Bool, IsTrue, zero, suc}
+use Rattle.std.proofs.Common.{◌≡◌, ℕ, List, [], ◌∷◌, ◌++◌, Option, Some, None, IsSome, IfSome, true, false, ◌⊎◌, inl, inr, refl, sym, ◌∙◌, ap, subst, arith, All, Any, Bool, ◌||◌, IsTrue, zero, suc}
 use Rattle.std.specs.List.{list_any}
 use Rattle.std.proofs.lemmas.List.Folds.{Any-from_list_any}
 use Rattle.std.specs.Io.KnownBytes.{Consumes}
@@ -11,12 +11,14 @@ use Rattle.afl_outside.proofs.Streams.{wrote_all}
 use Rattle.afl_run.specs.Answered.{IsAnswered}
 use Rattle.afl_run.specs.Session.{Serves}
 use Rattle.afl_run.specs.Notice.{is_refusal, is_want, notice_at, notice_of, status_of}
-use Rattle.afl_run.specs.Run.{IsOpenedAs, IsUnopened, Only, Prints, standard}
+use Rattle.afl_run.specs.Run.{IsUnopened, Only, Prints, standard}
 use Rattle.afl_run.specs.declared.report.Mark.{Mark}
 use Rattle.afl_run.specs.declared.report.Notice.{Notice}
-use Rattle.afl_run.specs.declared.report.Notice.TheVariants.{Refused, Memory, Stream}
+use Rattle.afl_run.specs.declared.report.Notice.TheVariants.{Done, Refused, Usage, Disk, Stream, Memory, NotEmpty}
 use Rattle.afl_run.specs.declared.report.SessionEnd.{SessionEnd}
 use Rattle.afl_run.specs.declared.report.SessionEnd.TheVariants as ends
+use Rattle.result_print.specs.declared.refusal.Refusal.{Refusal}
+use Rattle.result_print.specs.declared.refusal.Refusal.TheVariants as refusals
 
 -- a source that told its first bytes has left what it did not give
 given_and_left : (l f e : Option (List ℕ)) (bytes : List ℕ) → l ≡ f → Consumes l e bytes → IfSome f (λ script. (left : List ℕ) × (e ≡ Some left) × (script ≡ bytes ++ left))
@@ -49,6 +51,82 @@ all_of_one {R} P x xs is holds = subst (λ (ys : List R). All P ys) (sym is) one
     one zero d within = holds
     one (suc k) d within = absurd (omega (arith, within))
 
+pub all_of_none : {R : Type 0} (P : R → Type 0) (xs : List R) → xs ≡ [] → All P xs
+all_of_none {R} P xs is = subst (λ (ys : List R). All P ys) (sym is) none
+  where
+    none : All P []
+    none k d within = absurd (omega (arith, within))
+
+all_cons : {R : Type 0} (P : R → Type 0) (x : R) (xs : List R) → P x → All P xs → All P (x ∷ xs)
+all_cons P x xs first rest zero d within = first
+all_cons P x xs first rest (suc k) d within = rest k d (omega (arith, within))
+
+-- ---- what a session's notice tells
+
+-- no notice of a session tells of words or of a device
+abbrev pub IsOfSession : Notice → Type 0
+IsOfSession (Usage word) = ⊥
+IsOfSession Disk = ⊥
+IsOfSession (NotEmpty count) = ⊥
+IsOfSession _ = Unit {0}
+
+session_at : (end : SessionEnd) (wants refused : Bool) → IsOfSession (notice_at end wants refused)
+session_at ends.Memory wants refused = tt
+session_at ends.Whole true refused = tt
+session_at ends.Source true refused = tt
+session_at ends.Sink true refused = tt
+session_at ends.Source false refused = tt
+session_at ends.Sink false refused = tt
+session_at ends.Whole false true = tt
+session_at ends.Whole false false = tt
+
+-- a run with the notice Done
+done_at : (end : SessionEnd) (wants refused : Bool) → notice_at end wants refused ≡ Done → (end ≡ ends.Whole) × (wants ≡ false) × (refused ≡ false)
+done_at ends.Whole false false is = (refl, refl, refl)
+done_at ends.Memory wants refused is = absurd (cc (is))
+done_at ends.Whole true refused is = absurd (cc (is))
+done_at ends.Source true refused is = absurd (cc (is))
+done_at ends.Sink true refused is = absurd (cc (is))
+done_at ends.Source false refused is = absurd (cc (is))
+done_at ends.Sink false refused is = absurd (cc (is))
+done_at ends.Whole false true is = absurd (cc (is))
+
+not_refused : (refusal : Option Refusal) → is_want refusal ≡ false → is_refusal refusal ≡ false → refusal ≡ None
+not_refused None want refused = refl
+not_refused (Some refusals.Memory) want refused = absurd (cc (want))
+not_refused (Some (refusals.TooLong bytes)) want refused = absurd (cc (refused))
+not_refused (Some (refusals.Parse at kind)) want refused = absurd (cc (refused))
+not_refused (Some refusals.NotBuilt) want refused = absurd (cc (refused))
+not_refused (Some (refusals.Typing span kind)) want refused = absurd (cc (refused))
+not_refused (Some (refusals.Cell at kind)) want refused = absurd (cc (refused))
+
+both_false : (a b : Bool) → (a || b) ≡ false → (a ≡ false) × (b ≡ false)
+both_false true b is = absurd (cc (is))
+both_false false b is = (refl, is)
+
+none_refused : (marks : List Mark) → list_any (λ m. is_want m.refusal) marks ≡ false → list_any (λ m. is_refusal m.refusal) marks ≡ false → All (λ m. m.refusal ≡ None) marks
+none_refused [] wants refused = all_of_none (λ (m : Mark). m.refusal ≡ None) [] refl
+none_refused (m ∷ marks) wants refused =
+    let w : (is_want m.refusal ≡ false) × (list_any (λ m. is_want m.refusal) marks ≡ false) = both_false _ _ wants in
+    let r : (is_refusal m.refusal ≡ false) × (list_any (λ m. is_refusal m.refusal) marks ≡ false) = both_false _ _ refused in
+    all_cons (λ (m : Mark). m.refusal ≡ None) m marks (not_refused m.refusal w.0 r.0) (none_refused marks w.1 r.1)
+
+done_of : (end : SessionEnd) (marks : List Mark) → notice_of end marks ≡ Done → (end ≡ ends.Whole) × All (λ m. m.refusal ≡ None) marks
+done_of end marks is =
+    let h = done_at end (list_any (λ m. is_want m.refusal) marks) (list_any (λ m. is_refusal m.refusal) marks) is in
+    (h.0, none_refused marks h.1 h.2)
+
+-- a run with the notice Stream
+stream_at : (end : SessionEnd) (wants refused : Bool) (session : ℕ) → notice_at end wants refused ≡ Stream session → (session ≡ 0) × ((end ≡ ends.Source) ⊎ (end ≡ ends.Sink))
+stream_at ends.Source false refused session is = (cc (is), inl refl)
+stream_at ends.Sink false refused session is = (cc (is), inr refl)
+stream_at ends.Memory wants refused session is = absurd (cc (is))
+stream_at ends.Whole true refused session is = absurd (cc (is))
+stream_at ends.Source true refused session is = absurd (cc (is))
+stream_at ends.Sink true refused session is = absurd (cc (is))
+stream_at ends.Whole false true session is = absurd (cc (is))
+stream_at ends.Whole false false session is = absurd (cc (is))
+
 -- a run with the notice Refused
 refused_at : (end : SessionEnd) (wants refused : Bool) → notice_at end wants refused ≡ Refused → (end ≡ ends.Whole) × (refused ≡ true)
 refused_at ends.Whole false true is = (refl, refl)
@@ -77,9 +155,9 @@ finished_at ends.Whole false false source sink = inl refl
 finished_at ends.Source wants refused source sink = absurd (source refl)
 finished_at ends.Sink wants refused source sink = absurd (sink refl)
 
-untold : (o : Option (List ℕ)) → o ≡ None → IsSome o → ⊥
+pub untold : {T : Type 0} (o : Option T) → o ≡ None → IsSome o → ⊥
 untold None is some = absurd (cc (some))
-untold (Some bytes) is some = absurd (cc (is))
+untold (Some x) is some = absurd (cc (is))
 
 module _ {R : Type 0} (end : R → SessionEnd) (marks : R → List Mark) (source : R → SourceState) (sink : R → SinkState) (sessions : List R) (notice : Notice) (shelf shelf' : ShelfState)
     (told : Only (λ r. notice ≡ notice_of (end r) (marks r)) sessions ⊎ ((sessions ≡ []) × ((notice ≡ Memory) ⊎ ((notice ≡ Stream 0) × IsUnopened standard shelf shelf')))) where
@@ -90,6 +168,48 @@ module _ {R : Type 0} (end : R → SessionEnd) (marks : R → List Mark) (source
 
   pub is_refused : notice ≡ Refused → Only (λ r. (end r ≡ ends.Whole) × Any (λ m. IsTrue (is_refusal m.refusal)) (marks r)) sessions
   is_refused is = elim told [ inl only ↦ refused_only sessions is only | inr none ↦ elim (none.1) [ inl m ↦ absurd (cc (is, m)) | inr s ↦ absurd (cc (is, s.0)) ] ]
+
+  session_only : (xs : List R) → Only (λ r. notice ≡ notice_of (end r) (marks r)) xs → All (λ r. notice ≡ notice_of (end r) (marks r)) xs
+  session_only [] only = absurd only
+  session_only (r ∷ []) only = all_of_one (λ r. notice ≡ notice_of (end r) (marks r)) r (r ∷ []) refl only
+  session_only (r ∷ s ∷ xs) only = absurd only
+
+  pub session_told : All (λ r. notice ≡ notice_of (end r) (marks r)) sessions
+  session_told = elim told [ inl only ↦ session_only sessions only | inr none ↦ all_of_none (λ r. notice ≡ notice_of (end r) (marks r)) sessions none.0 ]
+
+  of_session_only : (xs : List R) → Only (λ r. notice ≡ notice_of (end r) (marks r)) xs → IsOfSession notice
+  of_session_only [] only = absurd only
+  of_session_only (r ∷ []) only = subst IsOfSession (sym only) (session_at (end r) _ _)
+  of_session_only (r ∷ s ∷ xs) only = absurd only
+
+  pub is_of_session : IsOfSession notice
+  is_of_session =
+      elim told [
+        | inl only ↦ of_session_only sessions only
+        | inr none ↦ elim (none.1) [ inl m ↦ subst IsOfSession (sym m) tt | inr s ↦ subst IsOfSession (sym s.0) tt ]
+      ]
+
+  done_only : (xs : List R) → notice ≡ Done → Only (λ r. notice ≡ notice_of (end r) (marks r)) xs → Only (λ r. (end r ≡ ends.Whole) × All (λ m. m.refusal ≡ None) (marks r)) xs
+  done_only [] is only = absurd only
+  done_only (r ∷ []) is only = done_of (end r) (marks r) (sym only ∙ is)
+  done_only (r ∷ s ∷ xs) is only = absurd only
+
+  pub is_done : notice ≡ Done → Only (λ r. (end r ≡ ends.Whole) × All (λ m. m.refusal ≡ None) (marks r)) sessions
+  is_done is = elim told [ inl only ↦ done_only sessions is only | inr none ↦ elim (none.1) [ inl m ↦ absurd (cc (is, m)) | inr s ↦ absurd (cc (is, s.0)) ] ]
+
+  stream_only : (xs : List R) (session : ℕ) → notice ≡ Stream session → Only (λ r. notice ≡ notice_of (end r) (marks r)) xs
+      → (session ≡ 0) × Only (λ r. (end r ≡ ends.Source) ⊎ (end r ≡ ends.Sink)) xs
+  stream_only [] session is only = absurd only
+  stream_only (r ∷ []) session is only = stream_at (end r) _ _ session (sym only ∙ is)
+  stream_only (r ∷ s ∷ xs) session is only = absurd only
+
+  pub is_stream : (session : ℕ) → notice ≡ Stream session
+      → (session ≡ 0) × (((sessions ≡ []) × IsUnopened standard shelf shelf') ⊎ Only (λ r. (end r ≡ ends.Source) ⊎ (end r ≡ ends.Sink)) sessions)
+  is_stream session is =
+      elim told [
+        | inl only ↦ let h = stream_only sessions session is only in (h.0, inr h.1)
+        | inr none ↦ elim (none.1) [ inl m ↦ absurd (cc (is, m)) | inr s ↦ (cc (is, s.0), inl (none.0, s.1)) ]
+      ]
 
   complete_only : (xs : List R) → Only (λ r. notice ≡ notice_of (end r) (marks r)) xs → All (λ r. Prints IsAnswered (source r) (sink r) (marks r) (end r)) xs
       → All (λ r. (Rose 0 (source r).faults → ⊥) × (Rose 0 (sink r).faults → ⊥)) xs → Finished notice

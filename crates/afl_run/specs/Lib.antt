@@ -1,4 +1,5 @@
 pub mod Answered
+pub mod Init
 pub mod Inner
 pub mod Laws
 pub mod Notice

@@ -8,21 +8,25 @@ use Rattle.afl_run.specs.declared.report.Mark.{Mark}
 use Rattle.afl_run.specs.declared.report.SessionEnd.{SessionEnd}
 use Rattle.afl_run.specs.declared.report.SessionEnd.TheVariants as ends
 use Rattle.afl_run.specs.declared.report.Notice.{Notice}
-use Rattle.afl_run.specs.declared.report.Notice.TheVariants.{Done, Refused, Usage, Stream, Memory}
+use Rattle.afl_run.specs.declared.report.Notice.TheVariants.{Done, Refused, Usage, Disk, Stream, Memory, NotEmpty}
 
 abbrev pub status_of : Notice → ℕ
 status_of Done = 0
 status_of Refused = 1
 status_of (Usage word) = 2
+status_of Disk = 3
 status_of (Stream session) = 4
 status_of Memory = 5
+status_of (NotEmpty count) = 7
 
 abbrev pub line_of_notice : Notice → List ℕ
 line_of_notice Done = []
 line_of_notice Refused = []
 line_of_notice (Usage word) = codes "aflshell: usage at word " ++ decimal word ++ codes "\n"
+line_of_notice Disk = codes "aflshell: disk fault\n"
 line_of_notice (Stream session) = codes "aflshell: stream fault in session " ++ decimal session ++ codes "\n"
 line_of_notice Memory = codes "aflshell: out of memory\n"
+line_of_notice (NotEmpty count) = codes "aflshell: not empty: " ++ decimal count ++ codes " bytes\n"
 
 -- no memory was found for the reply
 abbrev pub is_want : Option Refusal → Bool

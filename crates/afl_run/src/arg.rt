@@ -1,6 +1,6 @@
 //! The words of the command line.
-ghost use Rattle.std.specs.Prelude.{◌≡◌, string_bytes};
-ghost use Rattle.afl_run.specs.Words.{wrong_word};
+ghost use Rattle.std.specs.Prelude.{◌≡◌, option_copied, string_bytes};
+ghost use Rattle.afl_run.specs.Words.{device_of, wrong_name, wrong_word};
 
 use std::marker::Model;
 
@@ -40,6 +40,29 @@ pub(crate) fn wrong_place(words: &[Arg]) -> Option<u32>
     match words {
         [first] if first.as_str() == "try" => None,
         [first, ..] if first.as_str() == "try" => Some(1),
+        [first, rest @ ..] if first.as_str() == "init" => wrong_name(rest),
         _ => Some(0),
+    }
+}
+
+/// The same, of the words behind `init`.
+fn wrong_name(words: &[Arg]) -> Option<u32>
+    ensures { result ≡ wrong_name words.now }
+{
+    match words {
+        [] => Some(1),
+        [name, ..] if name.as_str().starts_with("--") => Some(1),
+        [_] => None,
+        _ => Some(2),
+    }
+}
+
+/// The word that names a device, in words of a form.
+pub(crate) fn device_word(words: &[Arg]) -> Option<&Arg>
+    ensures { option_copied result ≡ device_of words.now }
+{
+    match words {
+        [] | [_] => None,
+        [_, name, ..] => Some(name),
     }
 }

@@ -1,5 +1,5 @@
 //! What sessions and runs report.
-ghost use Rattle.std.specs.Prelude.{◌≡◌, ◌++◌, IfOk, codes};
+ghost use Rattle.std.specs.Prelude.{◌≡◌, ◌++◌, IfOk};
 ghost use Rattle.std.specs.Fmt.{decimal};
 ghost use Rattle.afl_run.specs.Notice.{line_of_notice};
 
@@ -47,16 +47,20 @@ pub struct SessionReport<S, K> {
 /// How a run ended.
 #[derive(Clone, Copy, Debug, PartialEq, Eq)]
 pub enum Notice {
-    /// Each statement was accepted.
+    /// Each statement was accepted, or the database was made.
     Done,
     /// Some statement was refused.
     Refused,
     /// The words have no form, first at this word.
     Usage { word: u32 },
+    /// The disk failed, or the shelf that was to open it.
+    Disk,
     /// A stream of this session failed.
     Stream { session: u32 },
     /// No memory was found.
     Memory,
+    /// The device that was to be made a database has this many bytes.
+    NotEmpty { length: u64 },
 }
 
 /// A run at its end.
@@ -66,6 +70,8 @@ pub struct Report<F: Shelf> {
     pub status: u8,
     pub notice: Notice,
     pub sessions: List<SessionReport<F::S, F::K>>,
+    /// The disk, wherever it was opened.
+    pub disk: Option<F::Device>,
     pub shelf: F,
 }
 
@@ -75,20 +81,27 @@ pub fn notice_line(alloc: Global, notice: &Notice) -> Result<Bytes, Memory>
 {
     match notice {
         Notice::Done | Notice::Refused => Ok(Bytes::new(alloc)),
-        Notice::Usage { word } => numbered_line(alloc, b"aflshell: usage at word ", *word),
+        Notice::Usage { word } => {
+            numbered_line(alloc, b"aflshell: usage at word ", u64::from(*word), b"\n")
+        }
+        Notice::Disk => Bytes::from_slice(alloc, b"aflshell: disk fault\n"),
         Notice::Stream { session } => {
-            numbered_line(alloc, b"aflshell: stream fault in session ", *session)
+            let words = b"aflshell: stream fault in session ";
+            numbered_line(alloc, words, u64::from(*session), b"\n")
         }
         Notice::Memory => Bytes::from_slice(alloc, b"aflshell: out of memory\n"),
+        Notice::NotEmpty { length } => {
+            numbered_line(alloc, b"aflshell: not empty: ", *length, b" bytes\n")
+        }
     }
 }
 
-fn numbered_line(alloc: Global, words: &[u8], number: u32) -> Result<Bytes, Memory>
-    ensures { IfOk result (λ line. line ≡ words.now ++ decimal number ++ codes "\n") }
+fn numbered_line(alloc: Global, words: &[u8], number: u64, end: &[u8]) -> Result<Bytes, Memory>
+    ensures { IfOk result (λ line. line ≡ words.now ++ decimal number ++ end.now) }
 {
     let mut buffer = Buffer::new();
     let mut line = Bytes::from_slice(alloc, words)?;
     line.extend(buffer.format(number).as_bytes())?;
-    line.extend(b"\n")?;
+    line.extend(end)?;
     Ok(line)
 }

@@ -20,21 +20,43 @@ pub(crate) fn words_of(env: &impl Env, alloc: Global) -> Result<Vec<Arg>, Memory
     Ok(words)
 }
 
+/// What stands at a place behind the program's name.
+#[derive(Drop)]
+enum Found {
+    Word(String),
+    Nothing,
+    /// A word that has no room in so many bytes.
+    Longer,
+}
+
 fn word_at(env: &impl Env, alloc: Global, place: usize) -> Result<Option<String>, Memory> {
     let mut room = 256usize;
     for _ in 0..usize::BITS {
-        let mut bytes = vec![in alloc; 0u8; room]?;
-        match env.arg(place, &mut bytes) {
-            Ok(length) => {
-                bytes.truncate(length);
-                return match String::from_utf8(bytes) {
-                    Ok(word) => Ok(Some(word)),
-                    Err(_) => Ok(Some(String::from_str(alloc, NO_TEXT)?)),
-                };
-            }
-            Err(FillError::NotPresent) => return Ok(None),
-            Err(FillError::TooLong) => room = room.saturating_mul(2),
+        match found_at(env, alloc, place, room)? {
+            Found::Word(word) => return Ok(Some(word)),
+            Found::Nothing => return Ok(None),
+            Found::Longer => room = room.saturating_mul(2),
         }
     }
     Err(Memory)
+}
+
+fn found_at(env: &impl Env, alloc: Global, place: usize, room: usize) -> Result<Found, Memory> {
+    let mut bytes = vec![in alloc; 0u8; room]?;
+    match env.arg(place, &mut bytes) {
+        Ok(length) => {
+            bytes.truncate(length);
+            text_of(alloc, bytes)
+        }
+        Err(FillError::NotPresent) => Ok(Found::Nothing),
+        Err(FillError::TooLong) => Ok(Found::Longer),
+    }
+}
+
+/// A word of these bytes, or what stands for one that is no text.
+fn text_of(alloc: Global, bytes: Vec<u8>) -> Result<Found, Memory> {
+    match String::from_utf8(bytes) {
+        Ok(word) => Ok(Found::Word(word)),
+        Err(_) => Ok(Found::Word(String::from_str(alloc, NO_TEXT)?)),
+    }
 }

@@ -4,11 +4,16 @@ use afl_in_memory::{MemFile, MemShelf};
 use cell_values::{Bytes, List, Memory};
 use std::alloc::Global;
 
-/// A file of the name `-`, whose listed calls fail.
-fn standard_file(alloc: Global, content: &[u8], fails: &[u64]) -> Result<List<MemFile>, Memory> {
+/// A file whose listed calls fail.
+fn file_of(
+    alloc: Global,
+    name: &[u8],
+    content: &[u8],
+    fails: &[u64],
+) -> Result<List<MemFile>, Memory> {
     let mut files = List::new(alloc);
     files.push(MemFile {
-        name: Bytes::from_slice(alloc, b"-")?,
+        name: Bytes::from_slice(alloc, name)?,
         content: Bytes::from_slice(alloc, content)?,
         fails: List::from_slice(alloc, fails)?,
     })?;
@@ -22,7 +27,14 @@ pub(crate) fn shelf_of(
     reads: &[u64],
     writes: &[u64],
 ) -> Result<MemShelf, Memory> {
-    let scripts = standard_file(alloc, script, reads)?;
-    let replies = standard_file(alloc, b"", writes)?;
+    let scripts = file_of(alloc, b"-", script, reads)?;
+    let replies = file_of(alloc, b"-", b"", writes)?;
     Ok(MemShelf::new(scripts, replies, List::new(alloc)))
+}
+
+/// A device of the name `db` with so many zero bytes, whose listed calls fail.
+pub(crate) fn device_of(alloc: Global, length: usize, fails: &[u64]) -> Result<MemShelf, Memory> {
+    let zeros = vec![in alloc; 0u8; length]?;
+    let files = file_of(alloc, b"db", zeros.as_slice(), fails)?;
+    Ok(MemShelf::new(files, List::new(alloc), List::new(alloc)))
 }
