@@ -4,6 +4,7 @@
 mod freshness;
 mod laws;
 mod opening;
+mod preparing;
 mod reading;
 mod start;
 mod stepping;
