@@ -6,6 +6,7 @@ mod laws;
 mod opening;
 mod preparing;
 mod reading;
+mod sealing;
 mod start;
 mod stepping;
 mod store;

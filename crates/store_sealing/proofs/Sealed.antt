@@ -1,26 +1,25 @@
 -- The parts of a store once a commit was sealed, and where it stopped.
-use Rattle.std.proofs.Common.{◌≡◌, ◌∙◌, ◌≤◌, ℕ, Bool, arith, List, [], ◌∷◌, ◌++◌, length, map, Option, None, Some, IsTrue, ap, sym, subst}
-use Rattle.std.specs.Prelude.{true, ◌&&◌}
-use Rattle.std.proofs.lemmas.Bool.{and_parts}
+use Rattle.std.proofs.Common.{◌≡◌, ◌↔◌, ℕ, Bool, true, false, List, [], ◌∷◌, length, map, Option, None, Some, Result, Ok, Err, IfOk, OnOk, OnErr, MatchResult, IsTrue, refl, ap, sym, subst}
+use Rattle.std.specs.Prelude.{◌&&◌}
+use Rattle.std.proofs.lemmas.Bool.{and_parts, false≢true}
+use Rattle.afl_outside.specs.declared.source.Failed.{Failed}
 use Rattle.afl_outside.specs.Counts.{Rose}
-use Rattle.afl_outside.specs.Disk.{DiskGoesOn, DiskState, LeavesOnly, Moment}
-use Rattle.page_file.specs.FilesOpened.{OpenFile}
+use Rattle.afl_outside.specs.Disk.{DiskGoesOn, DiskState, FailsWithCause, LeavesOnly, Moment}
 use Rattle.page_slots.specs.declared.slots.Slots.{Slots}
-use Rattle.chunk_map.specs.declared.directory.Directory.{Directory}
 use Rattle.plan_changes.specs.declared.change.Change.{Change}
 use Rattle.plan_changes.specs.Databases.{Database, after}
-use Rattle.version_catalog.specs.declared.rules.catalog.Catalog.{Catalog}
+use Rattle.event_core.specs.declared.entry.Entry.TheVariants.{Commit}
+use Rattle.event_core.specs.declared.entry.Used.{Used}
 use Rattle.event_core.specs.Cells.{at}
-use Rattle.event_core.specs.Allowed.{is_pinned}
+use Rattle.event_core.specs.Allowed.{allows, is_pinned}
 use Rattle.event_core.specs.History.{History}
 use Rattle.file_meaning.specs.Standing.{Stands}
 use Rattle.commit_writes.specs.declared.placed.Placed.{Placed}
 use Rattle.commit_writes.specs.declared.stopped.Stopped.{Stopped}
 use Rattle.commit_writes.specs.declared.stopped.Stopped.TheVariants as stages
-use Rattle.commit_writes.specs.Moments.{PassesBy, StaysKnown}
-use Rattle.store_ledger.specs.Ledger.{LedgerState, history, with_fault}
+use Rattle.store_ledger.specs.Ledger.{LedgerState, history, with_entries}
 use Rattle.store_ledger.proofs.Pins.{one_more}
-use Rattle.store_versions.specs.declared.row.VersionRow.{VersionRow}
+use Rattle.store_versions.specs.Rows.{directory_in}
 use Rattle.store_versions.specs.Seen.{version_of}
 use Rattle.store_state.specs.declared.parts.StoreParts.{StoreParts}
 use Rattle.store_state.specs.At.{AreParts, IsAt, keeping, standing}
@@ -31,11 +30,13 @@ use Rattle.prepared_commits.specs.declared.prepared.NewBase.{NewBase}
 use Rattle.prepared_commits.specs.declared.prepared.Prepared.{Prepared}
 use Rattle.prepared_commits.specs.Prepared.{IsPreparedFor}
 use Rattle.store_steps.specs.Laws.{IsReady, SealedStoresAreKept, StoppedStoresAreKept}
-use Rattle.store_steps.specs.Steps.{doubt_after, entry_of, made_by, sealed, sealed_keeping, sealed_ledger, sealed_slots, stopped, stopped_keeping, stopped_slots}
+use Rattle.store_steps.specs.Steps.{sealed, sealed_keeping, sealed_ledger, sealed_slots, stopped, stopped_keeping, stopped_slots}
 use Rattle.store_cells.specs.Laws.{IsWritten, CommitsPassBy, SealedCellsAreHeld, SealedImagesStand, StoppedCellsAreHeld}
-use Rattle.store_cells.specs.Moves.{IsDone, MayLeave, NewIn, StopsAt, Writes, own_pages, slot_page}
+use Rattle.store_cells.specs.Moves.{IsDone, MayLeave, StopsAt, Writes}
 use Rattle.store_sealing.proofs.Pages.{may_be_written}
-use Rattle.store_sealing.specs.Inner.Writing.{MayBeWritten}
+use Rattle.store_sealing.specs.Inner.Ends.{EndsSo, Held, held_of, noted_if}
+use Rattle.store_sealing.specs.Inner.Lawful.{CommitsHold}
+use Rattle.store_sealing.specs.Inner.Writing.{CameTo, MayBeWritten, acked_after}
 
 -- ---- the slots
 
@@ -58,52 +59,49 @@ slots_stopped (Some base) stages.Opening slots later blobs chain old new stop = 
 left_of : (a b : Bool) → (a && b) ≡ true → a ≡ true
 left_of a b e = (and_parts a b e).0
 
-pub no_fall : (before now old new : ℕ) → before ≡ old → now ≡ new → old ≤ new → before ≤ now
-no_fall before now old new b n le = omega (arith, b, n, le)
-
 -- the note of a fault, as the call says it
-pub notes : (old new : DiskState) (session before now : ℕ) (ledger noted : LedgerState) → before ≡ old.faults → now ≡ new.faults
-    → (Rose before now → noted ≡ with_fault session ledger) → ((¬ Rose before now) → noted ≡ ledger) → NotesFault old new session ledger noted
-notes old new session before now ledger noted b n rose still = record {
-  rose = λ r. rose (subst (λ (x : ℕ). Rose x now) (sym b) (subst (λ (x : ℕ). Rose old.faults x) (sym n) r));
-  still = λ r. still (λ s. r (subst (λ (x : ℕ). Rose old.faults x) n (subst (λ (x : ℕ). Rose x now) b s)));
-}
+fault_noted : (old new : DiskState) (session : ℕ) (before after : LedgerState) (rose : Bool) → (IsTrue rose ↔ Rose old.faults new.faults)
+    → after ≡ noted_if rose session before → NotesFault old new session before after
+fault_noted old new session before after true count same = record { rose = λ r. same; still = λ none. absurd (none (count.0 refl)) }
+fault_noted old new session before after false count same = record { rose = λ r. absurd (false≢true (count.1 r)); still = λ none. same }
 
--- over a ledger that is another's equal
-pub notes_over : (old new : DiskState) (session : ℕ) (ledger is noted : LedgerState) → ledger ≡ is → NotesFault old new session ledger noted → NotesFault old new session is noted
-notes_over old new session ledger is noted e = subst (λ (l : LedgerState). NotesFault old new session l noted) e
+-- an entry may come next under its session's pin
+pub pinned_before : (ledger : LedgerState) (session : ℕ) (change : Change) (used : Used)
+    → IsTrue (allows ledger.base (history ledger) (Commit session change used)) → IsTrue (is_pinned session (history ledger))
+pinned_before ledger session change used allowed = left_of (is_pinned session (history ledger)) _ allowed
 
--- ---- the parts
+-- and the pin stands behind it
+pub pinned_behind : (ledger later : LedgerState) (session : ℕ) (change : Change) (used : Used)
+    → IsTrue (allows ledger.base (history ledger) (Commit session change used)) → later ≡ with_entries (Commit session change used ∷ []) ledger
+    → IsTrue (is_pinned session (history later))
+pinned_behind ledger later session change used allowed e =
+    subst (λ (l : LedgerState). IsTrue (is_pinned session (history l))) (sym e)
+    (subst (λ (h : History). IsTrue (is_pinned session h)) (sym (one_more ledger.entries (Commit session change used))) (pinned_before ledger session change used allowed))
 
--- what was prepared has come into its place
-pub record IsSettled {D : Type 0} (moment : D → Moment) (old : StoreParts D) (file : OpenFile D) (p : Prepared) (set : StoreParts D) : Type 0 where
-  pub file_is : set.file ≡ file
-  pub opened : set.opened.value ≡ old.opened.value
-  pub first : set.first.value.rows ≡ old.first.value.rows
-  pub ledger : set.ledger ≡ sealed_ledger (standing moment old) p
-  pub catalog : set.catalog ≡ p.catalog
-  pub rows : set.table.rows ≡ (sealed_keeping (standing moment old) (keeping old) p).rows
-  pub doubt : set.doubt ≡ None
-  pub acked : (standing moment set).acked ≡ (standing moment old).acked ++ (moment file.disk).state.moment ∷ []
-  pub made : (standing moment set).made ≡ (standing moment old).made ++ made_by p ∷ []
+-- ---- what the call has come to
 
--- what a commit that is sealed, and one that stopped, has come to
-pub record IsSealedSo {D : Type 0} (moment : D → Moment) (old : StoreParts D) (p : Prepared) (new : StoreParts D) : Type 0 where
+-- what the parts have besides the file
+abbrev pub held : {D : Type 0} → StoreParts D → Held
+held parts = held_of parts.ledger parts.catalog parts.table.rows parts.doubt (map (λ ready. directory_in ready.value) parts.made.items)
+
+-- what was as the store was opened is the same
+pub record BeganAlike {D : Type 0} (old new : StoreParts D) : Type 0 where
+  pub opened : new.opened.value ≡ old.opened.value
+  pub first : new.first.value.rows ≡ old.first.value.rows
+
+pub record HasCome {D : Type 0} (moment : D → Moment) (old : StoreParts D) (p : Prepared) (result : Result ℕ Failed) (new : StoreParts D) : Type 0 where
   pub parts : AreParts moment new
-  pub is : standing moment new ≡ sealed moment (standing moment old) p new.ledger new.file.disk
-  pub noted : NotesFault (moment old.file.disk).state (moment new.file.disk).state p.session (sealed_ledger (standing moment old) p) new.ledger
+  pub ok : IfOk result (λ place. (place ≡ length old.ledger.entries) × (standing moment new ≡ sealed moment (standing moment old) p new.ledger new.file.disk))
+  pub err : OnErr result ((stage : Stopped) × (standing moment new ≡ stopped stage (standing moment old) p new.ledger new.file.disk))
+  pub noted : MatchResult result
+      (λ _. NotesFault (moment old.file.disk).state (moment new.file.disk).state p.session (sealed_ledger (standing moment old) p) new.ledger)
+      (λ _. NotesFault (moment old.file.disk).state (moment new.file.disk).state p.session old.ledger new.ledger)
   pub during : (db : Database) → BeganAs (moment old.opened.value.disk).state db
       → LeavesOnly (moment old.file.disk).state.moment (moment new.file.disk).state.moment (moment old.file.disk).left_since (moment new.file.disk).left_since
       (MayLeave db (standing moment old) (keeping old) p (moment old.file.disk).may_leave)
-  pub durable : (db : Database) → BeganAs (moment old.opened.value.disk).state db → (image : List ℕ) → (moment new.file.disk).may_leave image
-      → Stands image (after (at db (history old.ledger)) p.commit.change)
-
-pub record IsStoppedSo {D : Type 0} (moment : D → Moment) (old : StoreParts D) (p : Prepared) (stage : Stopped) (new : StoreParts D) : Type 0 where
-  pub parts : AreParts moment new
-  pub is : standing moment new ≡ stopped stage (standing moment old) p new.ledger new.file.disk
-  pub during : (db : Database) → BeganAs (moment old.opened.value.disk).state db
-      → LeavesOnly (moment old.file.disk).state.moment (moment new.file.disk).state.moment (moment old.file.disk).left_since (moment new.file.disk).left_since
-      (MayLeave db (standing moment old) (keeping old) p (moment old.file.disk).may_leave)
+  pub durable : OnOk result ((db : Database) → BeganAs (moment old.opened.value.disk).state db → (image : List ℕ) → (moment new.file.disk).may_leave image
+      → Stands image (after (at db (history old.ledger)) p.commit.change))
+  pub cause : FailsWithCause result (moment old.file.disk) (moment new.file.disk)
 
 -- since a moment of a disk there is no other
 abbrev pub OnlyNow : {D : Type 0} → (D → Moment) → Type 0
@@ -129,34 +127,6 @@ module _ {D : Type 0} (moment : D → Moment) (old : StoreParts D) (p : Prepared
 
   pub may_write : MayBeWritten p.base k.slots p.blobs p.chain
   may_write = may_be_written moment s k p is_ready
-
-  pub pinned : IsTrue (is_pinned p.session (history old.ledger))
-  pinned = left_of (is_pinned p.session (history old.ledger)) _ for_it.may_come.allowed
-
-  pub may_write_these : (blobs : List Placed) → blobs ≡ p.blobs → MayBeWritten p.base k.slots blobs p.chain
-  may_write_these blobs same = subst (λ (bs : List Placed). MayBeWritten p.base k.slots bs p.chain) (sym same) may_write
-
-  -- the ledger with the commit has the session's pin
-  pub still_pinned : (ledger : LedgerState) → ledger ≡ sealed_ledger s p → IsTrue (is_pinned p.session (history ledger))
-  still_pinned ledger e = subst (λ (l : LedgerState). IsTrue (is_pinned p.session (history l))) (sym e)
-      (subst (λ (h : History). IsTrue (is_pinned p.session h)) (sym (one_more old.ledger.entries (entry_of p))) pinned)
-
-  pub writes_these : (later : Slots) (disk : D) (blobs : List Placed) → blobs ≡ p.blobs → StaysKnown k.slots later (moment s.disk) (moment disk)
-      → PassesBy (slot_page p.base k.slots) (own_pages p.base blobs p.chain) k.slots (NewIn p.base k.slots blobs p.chain) (moment s.disk) (moment disk)
-      → DiskGoesOn (moment s.disk).state (moment disk).state → Writes k.slots later p (moment s.disk) (moment disk)
-  writes_these later disk blobs same known during on = record {
-    known = known;
-    during = subst (λ (bs : List Placed). PassesBy (slot_page p.base k.slots) (own_pages p.base bs p.chain) k.slots (NewIn p.base k.slots bs p.chain) (moment s.disk) (moment disk)) same during;
-    same = on;
-  }
-
-  pub done_these : (later : Slots) (disk : D) (blobs : List Placed) → blobs ≡ p.blobs → IsDone p.base k.slots later blobs p.chain (moment s.disk) (moment disk)
-      → IsDone p.base k.slots later p.blobs p.chain (moment s.disk) (moment disk)
-  done_these later disk blobs same = subst (λ (bs : List Placed). IsDone p.base k.slots later bs p.chain (moment s.disk) (moment disk)) same
-
-  pub stop_these : (stage : Stopped) (later : Slots) (disk : D) (blobs : List Placed) → blobs ≡ p.blobs → StopsAt p.base stage k.slots later blobs p.chain (moment s.disk) (moment disk)
-      → StopsAt p.base stage k.slots later p.blobs p.chain (moment s.disk) (moment disk)
-  stop_these stage later disk blobs same = subst (λ (bs : List Placed). StopsAt p.base stage k.slots later bs p.chain (moment s.disk) (moment disk)) same
 
   is_written : (db : Database) → BeganAs (moment old.opened.value.disk).state db → (later : Slots) (disk : D) → Writes k.slots later p (moment s.disk) (moment disk)
       → IsWritten moment s k p db later disk
@@ -202,46 +172,46 @@ module _ {D : Type 0} (moment : D → Moment) (old : StoreParts D) (p : Prepared
 
   -- ---- what it has come to
 
-  pub sealed_so : SealedStoresAreKept moment → SealedCellsAreHeld moment → SealedImagesStand moment → CommitsPassBy moment → OnlyNow moment
-      → (file : OpenFile D) (set : StoreParts D) (noted : LedgerState) → Writes k.slots file.slots p (moment s.disk) (moment file.disk)
-      → IsDone p.base k.slots file.slots p.blobs p.chain (moment s.disk) (moment file.disk) → IsSettled moment old file p set
-      → NotesFault (moment s.disk).state (moment file.disk).state p.session set.ledger noted → IsSealedSo moment old p (record set { ledger = noted })
-  sealed_so kept held images pass only file set noted writes done is fault =
-      let here : D = set.file.disk in
-      let later : Slots = set.file.slots in
-      let w : Writes k.slots later p (moment s.disk) (moment here) =
-          subst (λ (f : OpenFile D). Writes k.slots f.slots p (moment s.disk) (moment f.disk)) (sym is.file_is) writes in
-      let d : IsDone p.base k.slots later p.blobs p.chain (moment s.disk) (moment here) =
-          subst (λ (f : OpenFile D). IsDone p.base k.slots f.slots p.blobs p.chain (moment s.disk) (moment f.disk)) (sym is.file_is) done in
-      let acked : (standing moment set).acked ≡ s.acked ++ (moment here).state.moment ∷ [] =
-          is.acked ∙ ap (λ (f : OpenFile D). s.acked ++ (moment f.disk).state.moment ∷ []) (sym is.file_is) in
-      let n : NotesFault (moment s.disk).state (moment here).state p.session (sealed_ledger s p) noted =
-          subst (λ (l : LedgerState). NotesFault (moment s.disk).state (moment here).state p.session l noted) is.ledger
-          (subst (λ (f : OpenFile D). NotesFault (moment s.disk).state (moment f.disk).state p.session set.ledger noted) (sym is.file_is) fault) in
-      let first : map version_of set.first.value.rows ≡ s.first = ap (λ (rows : List VersionRow). map version_of rows) is.first in
-      let slots : later ≡ sealed_slots p.base p.chain k.slots = slots_done p.base k.slots later p.blobs p.chain (moment s.disk) (moment here) d in
-      let e : standing moment (record set { ledger = noted }) ≡ sealed moment s p noted here =
-          λ i. record { disk = here; opened = is.opened i; first = first i; ledger = noted; doubt = is.doubt i; acked = acked i; made = is.made i } in
-      let f : keeping (record set { ledger = noted }) ≡ sealed_keeping s k p = λ i. record { slots = slots i; catalog = is.catalog i; rows = is.rows i } in
+  pub has_come : CommitsHold moment → OnlyNow moment → (new : StoreParts D) → BeganAlike old new → (end : Result (Unit {0}) Stopped) (rose : Bool) (result : Result ℕ Failed)
+      → CameTo p.base k.slots new.file.slots p.blobs p.chain (moment s.disk) (moment new.file.disk) end rose → EndsSo end rose p (held old) result (held new)
+      → (standing moment new).acked ≡ acked_after end s.acked (moment new.file.disk).state.moment → HasCome moment old p result new
+  has_come laws only new same (Ok u) rose (Ok place) came ends acked =
+      let disk : D = new.file.disk in
+      let later : Slots = new.file.slots in
+      let writes : Writes k.slots later p (moment s.disk) (moment disk) = record { known = came.known; during = came.during; same = came.same } in
+      let noted : NotesFault (moment s.disk).state (moment disk).state p.session (sealed_ledger s p) new.ledger =
+          fault_noted (moment s.disk).state (moment disk).state p.session (sealed_ledger s p) new.ledger rose came.count (ap (λ (h : Held). h.ledger) ends.1) in
+      let slots : later ≡ sealed_slots p.base p.chain k.slots = slots_done p.base k.slots later p.blobs p.chain (moment s.disk) (moment disk) came.done in
+      let e : standing moment new ≡ sealed moment s p new.ledger disk =
+          λ i. record { disk = disk; opened = same.opened i; first = map version_of (same.first i); ledger = new.ledger; doubt = (ends.1 i).doubt; acked = acked i; made = (ends.1 i).made } in
+      let f : keeping new ≡ sealed_keeping s k p = λ i. record { slots = slots i; catalog = (ends.1 i).catalog; rows = (ends.1 i).rows } in
       record {
-        parts = at_sealed kept held later here noted w d (only here) n (standing moment (record set { ledger = noted })) (keeping (record set { ledger = noted })) e f;
-        is = e;
-        noted = n;
-        during = passes pass later here w;
-        durable = stands images later here w d;
+        parts = at_sealed laws.kept laws.held later disk new.ledger writes came.done (only disk) noted (standing moment new) (keeping new) e f;
+        ok = (ends.0, e);
+        err = tt;
+        noted = noted;
+        during = passes laws.passes later disk writes;
+        durable = stands laws.stands later disk writes came.done;
+        cause = tt;
       }
-
-  pub stopped_so : StoppedStoresAreKept moment → StoppedCellsAreHeld moment → CommitsPassBy moment
-      → (file : OpenFile D) (stage : Stopped) (doubt : Option Change) (noted : LedgerState) → Writes k.slots file.slots p (moment s.disk) (moment file.disk)
-      → StopsAt p.base stage k.slots file.slots p.blobs p.chain (moment s.disk) (moment file.disk) → doubt ≡ doubt_after stage old.doubt p.commit.change
-      → NotesFault (moment s.disk).state (moment file.disk).state p.session s.ledger noted → IsStoppedSo moment old p stage (record old { file = file; ledger = noted; doubt = doubt })
-  stopped_so kept held pass file stage doubt noted writes stop doubt_is fault =
-      let new : StoreParts D = record old { file = file; ledger = noted; doubt = doubt } in
-      let slots : file.slots ≡ stopped_slots stage p.base p.chain k.slots file.slots = slots_stopped p.base stage k.slots file.slots p.blobs p.chain (moment s.disk) (moment file.disk) stop in
-      let e : standing moment new ≡ stopped stage s p noted file.disk = λ i. record s { disk = file.disk; ledger = noted; doubt = doubt_is i } in
-      let f : keeping new ≡ stopped_keeping stage k p file.slots = λ i. record k { slots = slots i } in
+  has_come laws only new same (Ok u) rose (Err failed) came ends acked = absurd ends
+  has_come laws only new same (Err stage) rose (Ok place) came ends acked = absurd ends
+  has_come laws only new same (Err stage) rose (Err failed) came ends acked =
+      let disk : D = new.file.disk in
+      let later : Slots = new.file.slots in
+      let writes : Writes k.slots later p (moment s.disk) (moment disk) = record { known = came.known; during = came.during; same = came.same } in
+      let noted : NotesFault (moment s.disk).state (moment disk).state p.session s.ledger new.ledger =
+          fault_noted (moment s.disk).state (moment disk).state p.session s.ledger new.ledger rose came.count (ap (λ (h : Held). h.ledger) ends) in
+      let slots : later ≡ stopped_slots stage p.base p.chain k.slots later = slots_stopped p.base stage k.slots later p.blobs p.chain (moment s.disk) (moment disk) came.stopped in
+      let e : standing moment new ≡ stopped stage s p new.ledger disk =
+          λ i. record { disk = disk; opened = same.opened i; first = map version_of (same.first i); ledger = new.ledger; doubt = (ends i).doubt; acked = acked i; made = (ends i).made } in
+      let f : keeping new ≡ stopped_keeping stage k p later = λ i. record { slots = slots i; catalog = (ends i).catalog; rows = (ends i).rows } in
       record {
-        parts = at_stopped kept held file.slots stage file.disk noted writes stop fault (standing moment new) (keeping new) e f;
-        is = e;
-        during = passes pass file.slots file.disk writes;
+        parts = at_stopped laws.stopped_kept laws.stopped_held later stage disk new.ledger writes came.stopped noted (standing moment new) (keeping new) e f;
+        ok = tt;
+        err = (stage, e);
+        noted = noted;
+        during = passes laws.passes later disk writes;
+        durable = tt;
+        cause = came.cause;
       }

@@ -1,6 +1,5 @@
 //! What holds of a commit that is sealed, or stops.
-ghost use Rattle.store_steps.specs.Laws.{SealedStoresAreKept, StoppedStoresAreKept};
-ghost use Rattle.store_cells.specs.Laws.{CommitsPassBy, SealedCellsAreHeld, SealedImagesStand, StoppedCellsAreHeld};
+ghost use Rattle.store_sealing.specs.Inner.Lawful.{CommitsHold};
 
 use afl_outside::Disk;
 use store_cells::{commits_pass_by, sealed_cells_are_held, stopped_cells_are_held};
@@ -8,12 +7,7 @@ use store_steps::{sealed_stores_are_kept, stopped_stores_are_kept};
 
 /// What a store keeps and holds then, and what each image of those moments stands for. No code has to be run for it.
 pub(crate) fn commits_hold<D: Disk>()
-    ensures kept { SealedStoresAreKept D.moment }
-    ensures stopped_kept { StoppedStoresAreKept D.moment }
-    ensures held { SealedCellsAreHeld D.moment }
-    ensures stopped_held { StoppedCellsAreHeld D.moment }
-    ensures stands { SealedImagesStand D.moment }
-    ensures passes { CommitsPassBy D.moment }
+    ensures { CommitsHold D.moment }
 {
     sealed_stores_are_kept::<D>();
     stopped_stores_are_kept::<D>();

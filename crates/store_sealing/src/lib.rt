@@ -1,8 +1,8 @@
 //! The call that commits what was prepared.
 #![tactic(auto)]
 
+mod finishing;
 mod laws;
-mod noting;
 mod sealing;
 mod settling;
 mod stopping;

@@ -13,11 +13,9 @@ ghost use Rattle.prepared_commits.specs.Prepared.{IsPreparedFor};
 ghost use Rattle.store_steps.specs.Steps.{sealed, sealed_ledger, stopped};
 ghost use Rattle.store_cells.specs.Moves.{MayLeave};
 
+use crate::finishing::finish;
 use crate::laws::commits_hold;
-use crate::noting::note_rise;
-use crate::settling::settle;
-use crate::stopping::stop;
-use crate::writing::write;
+use crate::writing::write_prepared;
 use afl_outside::{Disk, Failed};
 use prepared_commits::Prepared;
 use store_state::StoreParts;
@@ -46,19 +44,14 @@ pub fn seal<D: Disk>(parts: &mut StoreParts<D>, prepared: Prepared) -> Result<u6
     ensures cause { FailsWithCause result (D.moment parts.old.file.disk) (D.moment parts.new.file.disk) }
 {
     commits_hold::<D>();
-    let session = prepared.session;
-    let before = parts.file.faults();
-    match write(&mut parts.file, prepared.base, prepared.blobs.as_slice(), &prepared.chain) {
-        Ok(()) => {
-            let now = parts.file.faults();
-            let place = settle(parts, prepared);
-            note_rise(&mut parts.ledger, session, before, now);
-            Ok(place)
-        }
-        Err(stage) => {
-            let then = parts.file.faults();
-            stop(&mut parts.ledger, &mut parts.doubt, prepared, stage, before, then);
-            Err(Failed)
-        }
-    }
+    let outcome = write_prepared(&mut parts.file, &mut parts.acked, &prepared);
+    finish(
+        &mut parts.ledger,
+        &mut parts.catalog,
+        &mut parts.table,
+        &mut parts.doubt,
+        &mut parts.made,
+        prepared,
+        outcome,
+    )
 }

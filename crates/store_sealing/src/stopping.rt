@@ -1,11 +1,11 @@
 //! What was prepared, where writing it stopped.
-ghost use Rattle.std.specs.Prelude.{◌≡◌, ◌≤◌, IsTrue};
-ghost use Rattle.afl_outside.specs.Counts.{Rose};
+ghost use Rattle.std.specs.Prelude.{◌≡◌, IsTrue};
 ghost use Rattle.event_core.specs.Allowed.{is_pinned};
-ghost use Rattle.store_ledger.specs.Ledger.{history, with_fault};
+ghost use Rattle.store_ledger.specs.Ledger.{history};
 ghost use Rattle.store_steps.specs.Steps.{doubt_after};
+ghost use Rattle.store_sealing.specs.Inner.Ends.{noted_if};
 
-use crate::noting::note_rise;
+use crate::settling::note_if;
 use commit_writes::Stopped;
 use plan_changes::Change;
 use prepared_commits::Prepared;
@@ -25,9 +25,9 @@ fn put_doubt(doubt: &mut Option<Change>, change: Change, stage: Stopped)
     }
 }
 
-/// The change in doubt where a commit stopped. What else was prepared goes.
-fn give_up(doubt: &mut Option<Change>, prepared: Prepared, stage: Stopped)
-    ensures { doubt.new ≡ doubt_after stage doubt.old prepared.commit.change }
+/// The change of what was prepared. The rest goes.
+fn change_of(prepared: Prepared) -> Change
+    ensures { result ≡ prepared.commit.change }
 {
     let Prepared {
         session: _,
@@ -42,7 +42,7 @@ fn give_up(doubt: &mut Option<Change>, prepared: Prepared, stage: Stopped)
     drop(chain);
     drop(catalog);
     drop(version);
-    put_doubt(doubt, commit.into_change(), stage);
+    commit.into_change()
 }
 
 /// The change in doubt, and the note of a fault where a count rose.
@@ -51,15 +51,12 @@ pub(crate) fn stop(
     doubt: &mut Option<Change>,
     prepared: Prepared,
     stage: Stopped,
-    before: u64,
-    now: u64,
+    rose: bool,
 )
-    requires later { before ≤ now }
-    requires pinned { IsTrue (is_pinned prepared.session (history ledger.old)) }
+    requires { IsTrue (is_pinned prepared.session (history ledger.old)) }
     ensures doubt { doubt.new ≡ doubt_after stage doubt.old prepared.commit.change }
-    ensures rose { Rose before now → ledger.new ≡ with_fault prepared.session ledger.old }
-    ensures still { (¬ Rose before now) → ledger.new ≡ ledger.old }
+    ensures ledger { ledger.new ≡ noted_if rose prepared.session ledger.old }
 {
-    note_rise(ledger, prepared.session, before, now);
-    give_up(doubt, prepared, stage);
+    note_if(ledger, prepared.session, rose);
+    put_doubt(doubt, change_of(prepared), stage);
 }
