@@ -1,5 +1,6 @@
--- Counts before and after the writes of a commit.
-use Rattle.std.proofs.Common.{◌≡◌, ◌≤◌, ◌↔◌, ℕ, Bool, IsTrue, arith, sym, subst}
+-- Counts before and after the writes of a commit, and what is kept of it.
+use Rattle.std.proofs.Common.{◌≡◌, ◌≤◌, ◌↔◌, ◌∙◌, ℕ, Bool, List, [], ◌∷◌, ◌++◌, map, IsTrue, arith, ap, subst}
+use Rattle.std.proofs.lemmas.List.{map-append}
 use Rattle.afl_outside.specs.Counts.{Rose}
 use Rattle.afl_outside.specs.Disk.{DiskGoesOn, DiskState}
 
@@ -10,3 +11,7 @@ pub count_of : (rose : Bool) (before now : ℕ) (old new : DiskState) → before
     → IsTrue rose ↔ Rose old.faults new.faults
 count_of rose before now old new b n count =
     subst (λ (x : ℕ). IsTrue rose ↔ Rose x new.faults) b (subst (λ (x : ℕ). IsTrue rose ↔ Rose before x) n count)
+
+-- what is made of a list with one item more
+pub map_push : {A B : Type 0} (old new : List A) (x : A) → new ≡ old ++ x ∷ [] → (f : A → B) (y : B) → f x ≡ y → map f new ≡ map f old ++ y ∷ []
+map_push {A} {B} old new x e f y is = ap (map f) e ∙ map-append f old (x ∷ []) ∙ ap (λ (z : B). map f old ++ z ∷ []) is

@@ -43,18 +43,13 @@ pub(crate) fn finish(
         (held_of ledger.old catalog.old table.old.rows doubt.old (map (λ ready. directory_in ready.value) made.old.items)) result
         (held_of ledger.new catalog.new table.new.rows doubt.new (map (λ ready. directory_in ready.value) made.new.items)) }
 {
-    match outcome.end {
+    let Outcome { end, rose } = outcome;
+    match end {
         Ok(()) => Ok(settle(
-            ledger,
-            catalog,
-            table,
-            doubt,
-            made,
-            prepared,
-            outcome.rose,
+            ledger, catalog, table, doubt, made, prepared, rose,
         )),
         Err(stage) => {
-            stop(ledger, doubt, prepared, stage, outcome.rose);
+            stop(ledger, doubt, prepared, stage, rose);
             Err(Failed)
         }
     }

@@ -12,7 +12,6 @@ use prepared_commits::{NewBase, Prepared};
 use std::snapshot::Snapshot;
 
 /// What came of a commit's writes: where they stopped, if they did, and whether the disk's count of faults rose.
-#[derive(Clone, Copy)]
 pub(crate) struct Outcome {
     pub end: Result<(), Stopped>,
     pub rose: bool,
@@ -45,11 +44,11 @@ fn write<D: Disk>(
 fn keep_moment<D: Disk>(
     acked: &mut Vec<Snapshot<PageFile<D>>>,
     file: &PageFile<D>,
-    end: Result<(), Stopped>,
+    end: &Result<(), Stopped>,
 )
     requires { length acked.old.items < vec_capacity acked.old }
     ensures { map (λ file. (D.moment file.value.disk).state.moment) acked.new.items
-        ≡ acked_after end (map (λ file. (D.moment file.value.disk).state.moment) acked.old.items) (D.moment file.now.disk).state.moment }
+        ≡ acked_after end.now (map (λ file. (D.moment file.value.disk).state.moment) acked.old.items) (D.moment file.now.disk).state.moment }
 {
     match end {
         Ok(()) => acked.push_reserved(Snapshot::of(file)),
@@ -74,6 +73,6 @@ pub(crate) fn write_prepared<D: Disk>(
     let end = write(file, prepared.base, prepared.blobs.as_slice(), &prepared.chain);
     let now = file.faults();
     let rose = has_risen(before, now);
-    keep_moment(acked, file, end);
+    keep_moment(acked, file, &end);
     Outcome { end, rose }
 }

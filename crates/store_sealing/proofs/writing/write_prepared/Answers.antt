@@ -15,8 +15,8 @@ has_risen-rose-requires g c =
     no_fall c.faults-before.result c.faults-now.result (moment c.args.file.now.disk).state (moment c.write-end.new.file.disk).state
     c.faults-before.ensures c.faults-now.ensures c.write-end.ensures.same
 
-pub returns-clause-came : goal.returns-clause-came
-returns-clause-came g c =
+pub returns : goal.returns
+returns g c =
     let moment = g.D.Disk.moment in
     let p = c.args.prepared.now in
     let old = c.args.file.now in
@@ -32,4 +32,7 @@ returns-clause-came g c =
       count = count_of c.has_risen-rose.result c.faults-before.result c.faults-now.result (moment old.disk).state (moment new.disk).state
           c.faults-before.ensures c.faults-now.ensures c.has_risen-rose.ensures;
     } in
-    subst (λ (blobs : List Placed). CameTo p.base old.slots new.slots blobs p.chain (moment old.disk) (moment new.disk) c.write-end.result c.has_risen-rose.result) c.as_slice.ensures is
+    record {
+      came = subst (λ (blobs : List Placed). CameTo p.base old.slots new.slots blobs p.chain (moment old.disk) (moment new.disk) c.write-end.result c.has_risen-rose.result) c.as_slice.ensures is;
+      acked = c.keep_moment.ensures;
+    }
