@@ -4,6 +4,7 @@ use Rattle.std.specs.Prelude.{nat_lt}
 use Rattle.std.specs.List.{AllByRecursion}
 use Rattle.std.specs.Option.{is_some}
 use Rattle.std.proofs.lemmas.Bool.{ltb-true, or_left, or_right}
+use Rattle.std.proofs.lemmas.Bool.Decides.{nat_tests}
 use Rattle.afl_outside.specs.Disk.{Moment}
 use Rattle.page_layout.specs.Places.{IsNone}
 use Rattle.page_layout.specs.declared.sides.Format.{Format}
@@ -56,9 +57,16 @@ module _ (base : Core) (h : History) (begins : IsBase base) (allowed : IsTrue (i
   none_live live is [] free = none_empty live
   none_live live is (page ∷ pages) free = none_cons page pages live (differs page live is free.0) (none_live live is pages free.1)
 
+never_zero : (n : ℕ) → nat_eq 0 (suc n) ≡ false
+never_zero n = grind (arith, nat_tests)
+
+rest_of : (a b : Bool) → a ≡ false → (a || b) ≡ true → b ≡ true
+rest_of true b e is = cc
+rest_of false b e is = is
+
 log_is_live : (base : Core) (h : History) (log : ℕ) → IsTrue (holds (0 ∷ catalogue_at base h) log) → is_live base h log ≡ true
 log_is_live base h zero is = refl
-log_is_live base h (suc n) is = or_right (nat_eq (suc n) 0) _ (or_left (holds (catalogue_at base h) (suc n)) _ is)
+log_is_live base h (suc n) is = or_right (nat_eq (suc n) 0) _ (or_left (holds (catalogue_at base h) (suc n)) _ (rest_of (nat_eq 0 (suc n)) _ (never_zero n) is))
 
 -- ---- the pages of what is laid
 

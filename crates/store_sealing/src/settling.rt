@@ -94,7 +94,7 @@ pub(crate) fn settle(
     drop(blobs);
     drop(chain);
     *catalog = next;
-    *doubt = None;
+    drop(doubt.take());
     keep_version(made, &version);
     let place = enter(ledger, table, session, commit, version);
     note_if(ledger, session, rose);

@@ -19,9 +19,9 @@ fn put_doubt(doubt: &mut Option<Change>, change: Change, stage: Stopped)
         Stopped::Closing => drop(change),
         Stopped::Filling => {
             drop(change);
-            *doubt = None;
+            drop(doubt.take());
         }
-        Stopped::Opening => *doubt = Some(change),
+        Stopped::Opening => drop(doubt.replace(change)),
     }
 }
 

@@ -1,4 +1,4 @@
-use Rattle.std.proofs.Common.{◌∙◌, None, ap}
+use Rattle.std.proofs.Common.{◌∙◌, ap}
 use Rattle.store_sealing.specs.Inner.Ends.{noted_if}
 use Rattle.store_sealing.proofs.Sealed.{pinned_behind}
 use Rattle.store_sealing.proofs.settling.settle.Goals as goal
@@ -18,7 +18,7 @@ returns c =
         ledger = ledger i;
         catalog = p.catalog;
         rows = c.enter-place.ensures.rows i;
-        doubt = None;
+        doubt = c.take.ensures.after i;
         made = c.keep_version.ensures i;
       };
     }
