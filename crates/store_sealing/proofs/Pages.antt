@@ -1,5 +1,5 @@
 -- A commit that is prepared may be written.
-use Rattle.std.proofs.Common.{◌≡◌, ◌≢◌, ◌∙◌, ℕ, zero, suc, ◌+◌, ◌<◌, Bool, true, false, ◌||◌, if◌then◌else◌, nat_eq, List, [], ◌∷◌, ◌++◌, length, Option, None, Some, IfSome, IsTrue, refl, ap, sym, subst, arith}
+use Rattle.std.proofs.Common.{◌≡◌, ◌≢◌, ◌∙◌, ℕ, zero, suc, ◌<◌, Bool, true, false, ◌||◌, if◌then◌else◌, nat_eq, List, [], ◌∷◌, ◌++◌, length, Option, None, Some, IfSome, IsTrue, refl, ap, sym, subst, arith}
 use Rattle.std.specs.Prelude.{nat_lt}
 use Rattle.std.specs.List.{AllByRecursion}
 use Rattle.std.specs.Option.{is_some}
@@ -11,7 +11,6 @@ use Rattle.page_layout.specs.declared.sides.Format.{Format}
 use Rattle.page_layout.specs.declared.sides.Format.TheVariants.{One, Two}
 use Rattle.page_chain.specs.Pages.{AreDistinct}
 use Rattle.page_slots.specs.Steps.{first_target}
-use Rattle.page_slots.specs.declared.slots.Slots.{Slots}
 use Rattle.page_slots.specs.declared.slots.Target.TheVariants as targets
 use Rattle.page_file.specs.Written.{MayWrite}
 use Rattle.chunk_map.specs.declared.directory.Directory.{Directory}
@@ -26,7 +25,7 @@ use Rattle.event_core.specs.Pages.{free_at, is_live}
 use Rattle.event_laws.proofs.Free.{no_free_page_is_live}
 use Rattle.event_laws.proofs.Legal.{ordered_is_allowed}
 use Rattle.commit_writes.specs.declared.placed.Placed.{Placed}
-use Rattle.commit_writes.specs.Commits.{base_pages, commit_pages, pages_of, IsBlobSized, IsChainSized}
+use Rattle.commit_writes.specs.Commits.{base_pages, commit_pages, IsBlobSized, IsChainSized}
 use Rattle.commit_pages.specs.declared.written.Written.{Written}
 use Rattle.commit_pages.specs.declared.laid.Laid.{Laid}
 use Rattle.commit_pages.specs.Commits.{record_needs, base_needs, record_laid, base_laid}

@@ -4,7 +4,7 @@ use Rattle.std.specs.Prelude.{◌&&◌}
 use Rattle.std.proofs.lemmas.Bool.{and_parts, false≢true}
 use Rattle.afl_outside.specs.declared.source.Failed.{Failed}
 use Rattle.afl_outside.specs.Counts.{Rose}
-use Rattle.afl_outside.specs.Disk.{DiskGoesOn, DiskState, FailsWithCause, LeavesOnly, Moment}
+use Rattle.afl_outside.specs.Disk.{DiskState, FailsWithCause, LeavesOnly, Moment}
 use Rattle.page_slots.specs.declared.slots.Slots.{Slots}
 use Rattle.plan_changes.specs.declared.change.Change.{Change}
 use Rattle.plan_changes.specs.Databases.{Database, after}
@@ -180,10 +180,10 @@ module _ {D : Type 0} (moment : D → Moment) (old : StoreParts D) (p : Prepared
       let later : Slots = new.file.slots in
       let writes : Writes k.slots later p (moment s.disk) (moment disk) = record { known = came.known; during = came.during; same = came.same } in
       let noted : NotesFault (moment s.disk).state (moment disk).state p.session (sealed_ledger s p) new.ledger =
-          fault_noted (moment s.disk).state (moment disk).state p.session (sealed_ledger s p) new.ledger rose came.count (ap (λ (h : Held). h.ledger) ends.1) in
+      fault_noted (moment s.disk).state (moment disk).state p.session (sealed_ledger s p) new.ledger rose came.count (ap (λ (h : Held). h.ledger) ends.1) in
       let slots : later ≡ sealed_slots p.base p.chain k.slots = slots_done p.base k.slots later p.blobs p.chain (moment s.disk) (moment disk) came.done in
       let e : standing moment new ≡ sealed moment s p new.ledger disk =
-          λ i. record { disk = disk; opened = same.opened i; first = map version_of (same.first i); ledger = new.ledger; doubt = (ends.1 i).doubt; acked = acked i; made = (ends.1 i).made } in
+      λ i. record { disk = disk; opened = same.opened i; first = map version_of (same.first i); ledger = new.ledger; doubt = (ends.1 i).doubt; acked = acked i; made = (ends.1 i).made } in
       let f : keeping new ≡ sealed_keeping s k p = λ i. record { slots = slots i; catalog = (ends.1 i).catalog; rows = (ends.1 i).rows } in
       record {
         parts = at_sealed laws.kept laws.held later disk new.ledger writes came.done (only disk) noted (standing moment new) (keeping new) e f;
@@ -201,10 +201,10 @@ module _ {D : Type 0} (moment : D → Moment) (old : StoreParts D) (p : Prepared
       let later : Slots = new.file.slots in
       let writes : Writes k.slots later p (moment s.disk) (moment disk) = record { known = came.known; during = came.during; same = came.same } in
       let noted : NotesFault (moment s.disk).state (moment disk).state p.session s.ledger new.ledger =
-          fault_noted (moment s.disk).state (moment disk).state p.session s.ledger new.ledger rose came.count (ap (λ (h : Held). h.ledger) ends) in
+      fault_noted (moment s.disk).state (moment disk).state p.session s.ledger new.ledger rose came.count (ap (λ (h : Held). h.ledger) ends) in
       let slots : later ≡ stopped_slots stage p.base p.chain k.slots later = slots_stopped p.base stage k.slots later p.blobs p.chain (moment s.disk) (moment disk) came.stopped in
       let e : standing moment new ≡ stopped stage s p new.ledger disk =
-          λ i. record { disk = disk; opened = same.opened i; first = map version_of (same.first i); ledger = new.ledger; doubt = (ends i).doubt; acked = acked i; made = (ends i).made } in
+      λ i. record { disk = disk; opened = same.opened i; first = map version_of (same.first i); ledger = new.ledger; doubt = (ends i).doubt; acked = acked i; made = (ends i).made } in
       let f : keeping new ≡ stopped_keeping stage k p later = λ i. record { slots = slots i; catalog = (ends i).catalog; rows = (ends i).rows } in
       record {
         parts = at_stopped laws.stopped_kept laws.stopped_held later stage disk new.ledger writes came.stopped noted (standing moment new) (keeping new) e f;

@@ -45,9 +45,7 @@ pub(crate) fn finish(
 {
     let Outcome { end, rose } = outcome;
     match end {
-        Ok(()) => Ok(settle(
-            ledger, catalog, table, doubt, made, prepared, rose,
-        )),
+        Ok(()) => Ok(settle(ledger, catalog, table, doubt, made, prepared, rose)),
         Err(stage) => {
             stop(ledger, doubt, prepared, stage, rose);
             Err(Failed)

@@ -70,7 +70,12 @@ pub(crate) fn write_prepared<D: Disk>(
         ≡ acked_after result.end (map (λ file. (D.moment file.value.disk).state.moment) acked.old.items) (D.moment file.new.disk).state.moment }
 {
     let before = file.faults();
-    let end = write(file, prepared.base, prepared.blobs.as_slice(), &prepared.chain);
+    let end = write(
+        file,
+        prepared.base,
+        prepared.blobs.as_slice(),
+        &prepared.chain,
+    );
     let now = file.faults();
     let rose = has_risen(before, now);
     keep_moment(acked, file, &end);

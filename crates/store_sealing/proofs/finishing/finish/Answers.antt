@@ -33,5 +33,5 @@ returns-in-Err c =
     let old : Held = held_of c.args.ledger.now c.args.catalog.now c.args.table.now.rows c.args.doubt.now made in
     let new : Held = held_of c.stop.new.ledger c.args.catalog.now c.args.table.now.rows c.stop.new.doubt made in
     let same : new ≡ held_stopped c.in-Err.stage p c.args.outcome.rose old =
-        λ i. record { ledger = c.stop.ensures.ledger i; catalog = c.args.catalog.now; rows = c.args.table.now.rows; doubt = c.stop.ensures.doubt i; made = made } in
+    λ i. record { ledger = c.stop.ensures.ledger i; catalog = c.args.catalog.now; rows = c.args.table.now.rows; doubt = c.stop.ensures.doubt i; made = made } in
     ends_stopped c.args.outcome.end c.in-Err.stage c.in-Err.is c.args.outcome.rose p old new _ same

@@ -20,6 +20,6 @@ returns g c =
     let outcome = c.write_prepared-outcome.result in
     let ends = c.finish.new in
     let come = has_come g.D.Disk.moment old c.args.prepared c.requires.at c.requires.prepared c.commits_hold.ensures g.met.D.Disk.only_now
-        (record old { file = file; acked = c.write_prepared-outcome.new.acked; ledger = ends.ledger; catalog = ends.catalog; table = ends.table; doubt = ends.doubt; made = ends.made })
-        (record { opened = refl; first = refl }) outcome.end outcome.rose c.finish.result c.write_prepared-outcome.ensures.came c.finish.ensures c.write_prepared-outcome.ensures.acked in
+    (record old { file = file; acked = c.write_prepared-outcome.new.acked; ledger = ends.ledger; catalog = ends.catalog; table = ends.table; doubt = ends.doubt; made = ends.made })
+    (record { opened = refl; first = refl }) outcome.end outcome.rose c.finish.result c.write_prepared-outcome.ensures.came c.finish.ensures c.write_prepared-outcome.ensures.acked in
     record { at = come.parts; ok = come.ok; err = come.err; noted = come.noted; during = come.during; durable = come.durable; cause = come.cause }
