@@ -1,3 +1,5 @@
 pub mod Added
 pub mod Counted
 pub mod FreshChanges
+pub mod Sealed
+pub mod Tried
