@@ -8,6 +8,7 @@ mod reading;
 mod start;
 mod stepping;
 mod store;
+mod telling;
 
 pub use laws::events_grow;
 pub use start::{FirstVersion, Start};

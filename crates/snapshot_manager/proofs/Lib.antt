@@ -1,0 +1,5 @@
+pub mod Reads
+pub mod Seating
+pub mod Sights
+pub mod Telling
+pub mod Turning
