@@ -1,4 +1,4 @@
-pub mod Reads
+pub mod PinReads
 pub mod Seating
 pub mod Sights
 pub mod Telling

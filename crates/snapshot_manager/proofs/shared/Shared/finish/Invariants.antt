@@ -2,7 +2,7 @@ use Rattle.std.proofs.Common.{◌≡◌, ◌++◌, map, length}
 use Rattle.turn_lock.specs.Closings.{lock_of, claims_of}
 use Rattle.snapshot_manager.specs.Seats.{AreIdleSeats}
 use Rattle.snapshot_manager.proofs.Seating.{seat_claim}
-use Rattle.snapshot_manager.proofs.finish.Shared.finish.Given as goal
+use Rattle.snapshot_manager.proofs.shared.Shared.finish.Given as goal
 
 abbrev pub invariant-loop-last : goal.invariant-loop-last
 invariant-loop-last g l = record {

@@ -3,7 +3,7 @@ use Rattle.store_ledger.specs.Ledger.{IsLedger}
 use Rattle.store_state.specs.At.{standing}
 use Rattle.array_store.specs.Growth.{IsCounted}
 use Rattle.array_store.proofs.Added.{is_counted}
-use Rattle.array_store.proofs.telling.Store.is_counted.Goals as goal
+use Rattle.array_store.proofs.store.Store.is_counted.Goals as goal
 
 pub returns : goal.returns
 returns g c =

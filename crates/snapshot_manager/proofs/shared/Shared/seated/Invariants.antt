@@ -1,6 +1,6 @@
 use Rattle.std.proofs.Common.{◌≡◌, ◌≤◌, length, drop, vec_capacity}
 use Rattle.snapshot_manager.specs.Seats.{AreNewSeats}
-use Rattle.snapshot_manager.proofs.create.Shared.seated.Given as goal
+use Rattle.snapshot_manager.proofs.shared.Shared.seated.Given as goal
 
 abbrev pub invariant-loop : goal.invariant-loop
 invariant-loop g l = record {

@@ -10,7 +10,7 @@ use Rattle.store_state.specs.At.{standing}
 use Rattle.store_state.specs.Events.{events, owner_of}
 use Rattle.snapshot_manager.specs.Seats.{AreIdleSeats, IsIdle, IsSeatOf}
 use Rattle.snapshot_manager.proofs.Seating.{seat_claim}
-use Rattle.snapshot_manager.proofs.finish.Shared.finish.Goals as goal
+use Rattle.snapshot_manager.proofs.shared.Shared.finish.Goals as goal
 
 pub take_back-requires : goal.take_back-requires
 take_back-requires g c =

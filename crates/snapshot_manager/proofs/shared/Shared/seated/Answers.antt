@@ -1,7 +1,7 @@
 use Rattle.std.proofs.Common.{rules, sym, subst}
 use Rattle.snapshot_manager.specs.Seats.{AreNewSeats}
 use Rattle.snapshot_manager.proofs.Seating.{first_of_rest, less_one, seated_more}
-use Rattle.snapshot_manager.proofs.create.Shared.seated.Goals as goal
+use Rattle.snapshot_manager.proofs.shared.Shared.seated.Goals as goal
 
 pub loop-preserved : goal.loop-preserved
 loop-preserved g c =
