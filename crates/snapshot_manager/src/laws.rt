@@ -14,7 +14,7 @@ pub fn turns_are_seen<D: Disk>()
     ensures found { TurnsFind }
     ensures own { TurnsAddOwn }
     ensures others { OthersLeavePins }
-    ensures open { PinsOutlast D }
+    ensures outlast { PinsOutlast D }
     ensures sight { PinsSeeTheSame D }
 {}
 

@@ -7,6 +7,6 @@ returns g c = record {
   found = turns_find;
   own = turns_add_own;
   others = others_leave_pins;
-  open = pins_outlast _;
+  outlast = pins_outlast _;
   sight = pins_see_the_same _;
 }
