@@ -1,3 +1,4 @@
+pub mod InTurn
 pub mod PinReads
 pub mod Seating
 pub mod Sights

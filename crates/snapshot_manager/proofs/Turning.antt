@@ -17,7 +17,7 @@ use Rattle.snapshot_manager.specs.Laws.{TurnsAddOwn, TurnsFind}
 
 -- ---- the laws
 
-before_own : (own xs new : List Event) → new ≡ xs ++ own → found_before own new ≡ xs
+pub before_own : (own xs new : List Event) → new ≡ xs ++ own → found_before own new ≡ xs
 before_own own xs new e =
     let count : length new - length own ≡ length xs = omega (arith, ap length e, length-append xs own) in
     ap (λ (n : ℕ). take n new) count ∙ ap (take (length xs)) e ∙ take-append_seam xs own
