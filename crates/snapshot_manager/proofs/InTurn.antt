@@ -1,11 +1,10 @@
 -- One call in a turn: the store that is in hand, and what its seat has seen before and after.
-use Rattle.std.proofs.Common.{◌≡◌, ◌∙◌, ℕ, ◌⊎◌, Bool, true, false, not, ◌&&◌, List, [], ◌∷◌, ◌++◌, length, reverse, Option, Some, Result, Ok, Err, IfOk, IfErr, OnOk, OnErr, IsTrue, refl, ap, sym, subst, append-nil}
+use Rattle.std.proofs.Common.{◌≡◌, ◌∙◌, ℕ, ◌⊎◌, Bool, true, not, ◌&&◌, List, [], ◌∷◌, ◌++◌, length, reverse, Result, Ok, Err, IfOk, IfErr, OnOk, OnErr, IsTrue, refl, ap, sym, subst, append-nil}
 use Rattle.std.specs.List.{list_all}
 use Rattle.std.proofs.lemmas.Bool.{eq-eqb}
 use Rattle.arrayvec.specs.ArrayVec.{ArrayVec}
 use Rattle.cell_values.specs.declared.schema.Schema.{Schema}
-use Rattle.afl_outside.specs.Disk.{DiskState, Moment}
-use Rattle.chunk_source.specs.Source.{is_among}
+use Rattle.afl_outside.specs.Disk.{Moment}
 use Rattle.logical_plan.specs.declared.parts.Leaf.{Leaf}
 use Rattle.plan_changes.specs.Databases.{Database}
 use Rattle.turn_lock.specs.Owners.{none_of, only_of, ExtendsByOwn}
@@ -13,7 +12,7 @@ use Rattle.event_core.specs.declared.entry.Entry.{Entry}
 use Rattle.event_core.specs.declared.entry.Entry.TheVariants.{Pin, Unpin}
 use Rattle.event_core.specs.Allowed.{is_pinned}
 use Rattle.event_core.specs.Cells.{at}
-use Rattle.event_core.specs.History.{History, names_at, pin_before}
+use Rattle.event_core.specs.History.{names_at, pin_before}
 use Rattle.store_ledger.specs.declared.pinned.Pinned.{Pinned}
 use Rattle.store_ledger.specs.declared.pinned.PinFault.{PinFault}
 use Rattle.store_ledger.specs.Ledger.{IsLedger, IsOpenPin, LedgerState, has_room, history, reap_comes}
@@ -35,7 +34,7 @@ use Rattle.snapshot_manager.specs.Turns.{Adds, AddsAtMostNote, found_before, pin
 use Rattle.snapshot_manager.proofs.PinReads.{AddsSome, adds_some, began_now, chunks_now, open_now, over_pin, payload_now, some_only, told_causes}
 use Rattle.snapshot_manager.proofs.Sights.{same_pinned}
 use Rattle.snapshot_manager.proofs.Telling.{entries_are, stores_are_told}
-use Rattle.snapshot_manager.proofs.Turning.{adds_own, before_own, done_adds, done_events, done_only, extends_own, reap_adds, reap_only, reaped}
+use Rattle.snapshot_manager.proofs.Turning.{adds_own, before_own, done_adds, done_events, done_only, extends_own}
 
 -- ---- a turn that begins or ends
 

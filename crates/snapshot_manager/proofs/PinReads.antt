@@ -1,5 +1,5 @@
 -- What a pin sees and reads in a later turn.
-use Rattle.std.proofs.Common.{◌≡◌, ◌≢◌, ◌∙◌, ℕ, ◌≤◌, ◌<◌, ◌⊎◌, Bool, true, false, not, ◌&&◌, ◌||◌, if◌then◌else◌, nat_eq, nat_le, nat_lt, List, [], ◌∷◌, ◌++◌, length, reverse, inl, inr, Option, None, Some, Result, Ok, Err, IfErr, IsSomeAnd, IsTrue, slice_index, refl, ap, sym, subst, arith, append-nil}
+use Rattle.std.proofs.Common.{◌≡◌, ◌∙◌, ℕ, ◌≤◌, ◌<◌, ◌⊎◌, Bool, true, false, ◌&&◌, ◌||◌, if◌then◌else◌, nat_eq, nat_le, nat_lt, List, [], ◌∷◌, ◌++◌, length, reverse, inl, inr, Option, None, Some, Result, Ok, Err, IfErr, IsSomeAnd, slice_index, refl, ap, sym, subst, arith, append-nil}
 use Rattle.std.specs.List.{list_all, list_any}
 use Rattle.std.proofs.lemmas.Bool.{eq-eqb}
 use Rattle.std.proofs.lemmas.Bool.Decides.{nat_tests}
@@ -22,7 +22,7 @@ use Rattle.event_laws.proofs.Pins.{places_tell_pins}
 use Rattle.store_ledger.specs.declared.note.Note.{Note}
 use Rattle.store_ledger.specs.declared.note.NoteKind.TheVariants.{Fault}
 use Rattle.store_ledger.specs.declared.pinned.Pinned.{Pinned}
-use Rattle.store_ledger.specs.Ledger.{IsOpenPin, LedgerState, has_note, has_under, history, is_noted, is_under, note_now}
+use Rattle.store_ledger.specs.Ledger.{IsOpenPin, LedgerState, has_under, history, is_noted, is_under, note_now}
 use Rattle.store_state.specs.declared.event.Event.{Event}
 use Rattle.store_state.specs.declared.event.Event.TheVariants.{Noted}
 use Rattle.store_state.specs.declared.fault.ReadFault.{ReadFault}

@@ -1,5 +1,5 @@
 -- Seats that are given out, and that come back.
-use Rattle.std.proofs.Common.{◌≡◌, ◌∙◌, ℕ, zero, suc, ◌+◌, ◌<◌, List, [], ◌∷◌, ◌++◌, length, drop, remove, slice_get, slice_index_or, Some, IsTrue, refl, ap, sym, subst, drop-drop}
+use Rattle.std.proofs.Common.{◌≡◌, ◌∙◌, ℕ, zero, suc, ◌+◌, List, [], ◌∷◌, ◌++◌, length, drop, remove, slice_get, Some, refl, ap, sym, subst, drop-drop}
 use Rattle.std.specs.List.{list_all}
 use Rattle.std.proofs.lemmas.Option.{slice_get_within, get_or_from_slice_get}
 use Rattle.turn_lock.specs.Seats.{AreNewSeats as AreNewTurnSeats, IsNewSeat as IsNewTurnSeat, claim_of}

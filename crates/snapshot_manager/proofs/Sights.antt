@@ -1,11 +1,9 @@
 -- What an open pin sees, whatever comes later.
-use Rattle.std.proofs.Common.{◌≡◌, ◌∙◌, ℕ, suc, ◌+◌, ◌-◌, ◌<◌, ◌≤◌, Bool, true, false, not, ◌&&◌, ◌||◌, if◌then◌else◌, nat_eq, List, [], ◌∷◌, ◌++◌, length, drop, reverse, Option, Some, IsTrue, refl, ap, sym, subst, arith, length-append}
+use Rattle.std.proofs.Common.{◌≡◌, ◌∙◌, ℕ, suc, ◌+◌, ◌-◌, ◌<◌, ◌≤◌, Bool, true, false, not, ◌&&◌, ◌||◌, if◌then◌else◌, nat_eq, List, [], ◌∷◌, ◌++◌, length, drop, reverse, refl, ap, sym, arith, length-append}
 use Rattle.std.specs.List.{list_all}
 use Rattle.std.proofs.lemmas.Bool.{and_from, and_parts}
 use Rattle.std.proofs.lemmas.Bool.Decides.{nat_tests}
 use Rattle.std.proofs.lemmas.List.{reverse-append, length-reverse}
-use Rattle.arrayvec.specs.ArrayVec.{ArrayVec}
-use Rattle.logical_plan.specs.declared.parts.Leaf.{Leaf}
 use Rattle.chunk_map.specs.declared.directory.Directory.{Directory}
 use Rattle.chunk_source.specs.Source.{version_chunks}
 use Rattle.turn_lock.specs.Owners.{is_owned_by, none_of}
@@ -17,19 +15,17 @@ use Rattle.event_core.specs.History.{History, leaves_pin, names_at, pin_before, 
 use Rattle.event_core.proofs.Tests.{both_not}
 use Rattle.event_laws.specs.Pins.{PlaceTells}
 use Rattle.event_laws.proofs.Pins.{places_tell_pins}
-use Rattle.store_ledger.specs.declared.pinned.Pinned.{Pinned}
-use Rattle.store_ledger.specs.Ledger.{LedgerState, IsOpenPin, history, with_entries, with_notes}
+use Rattle.store_ledger.specs.Ledger.{IsOpenPin, with_entries, with_notes}
 use Rattle.store_ledger.proofs.Pins.{open_pins_outlast}
 use Rattle.store_versions.specs.Versions.{Directories, MadeVersion, directory_of, versions_after as versions_behind, versions_at}
 use Rattle.store_state.specs.declared.event.Event.{Event}
 use Rattle.store_state.specs.declared.event.Event.TheVariants.{Entered, Acknowledged, Noted}
-use Rattle.store_state.specs.Calls.{chunks_at, entry_in, history_at, numbers_in, payload_at}
+use Rattle.store_state.specs.Calls.{entry_in, history_at, numbers_in}
 use Rattle.store_state.specs.Events.{owner_of}
 use Rattle.store_state.specs.Standings.{Standing, commit_places, given_of, made_at, versions_after}
-use Rattle.array_store.specs.declared.start.Start.{Start}
 use Rattle.snapshot_manager.specs.Told.{entries_in, directories_in, is_sealed, ledger_of, told}
 use Rattle.snapshot_manager.specs.Turns.{leaves_pin_of}
-use Rattle.snapshot_manager.specs.Laws.{OthersLeavePins, PinsOutlast, PinsSeeTheSame, SeesTheSame}
+use Rattle.snapshot_manager.specs.Laws.{OthersLeavePins, PinsOutlast, PinsSeeTheSame}
 use Rattle.snapshot_manager.proofs.Telling.{all_turned, directories_in-append, entries_in-append}
 
 -- ---- others' events

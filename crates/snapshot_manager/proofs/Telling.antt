@@ -1,5 +1,5 @@
 -- What events tell of a store.
-use Rattle.std.proofs.Common.{◌≡◌, ◌∙◌, ℕ, suc, ◌+◌, Bool, true, false, not, ◌&&◌, if◌then◌else◌, nat_eq, nat_le, List, [], ◌∷◌, ◌++◌, length, map, reverse, IsTrue, refl, ap, sym, subst, arith, append-nil}
+use Rattle.std.proofs.Common.{◌≡◌, ◌∙◌, ℕ, ◌+◌, Bool, true, false, ◌&&◌, if◌then◌else◌, nat_eq, nat_le, List, [], ◌∷◌, ◌++◌, length, map, reverse, refl, ap, sym, arith}
 use Rattle.std.specs.List.{filter, list_all}
 use Rattle.std.proofs.lemmas.Bool.{and_from, and_parts}
 use Rattle.std.proofs.lemmas.Bool.Decides.{nat_tests}
@@ -12,19 +12,18 @@ use Rattle.event_core.specs.declared.entry.Entry.TheVariants.{Pin, Unpin, Commit
 use Rattle.event_core.specs.History.{History}
 use Rattle.event_core.proofs.Tests.{both_not}
 use Rattle.store_ledger.specs.declared.note.Note.{Note}
-use Rattle.store_ledger.specs.Ledger.{Event as LedgerEvent, IsLedger, AreNoted, IsNote, LedgerState, entered, noted, events_from, events as ledger_events}
+use Rattle.store_ledger.specs.Ledger.{Event as LedgerEvent, IsLedger, AreNoted, IsNote, entered, noted, events_from, events as ledger_events}
 use Rattle.store_versions.specs.Versions.{MadeVersion}
 use Rattle.store_state.specs.declared.event.Event.{Event}
 use Rattle.store_state.specs.declared.event.Event.TheVariants.{Entered, Acknowledged, Noted}
 use Rattle.store_state.specs.Events.{Seal, events, sealed}
 use Rattle.store_state.specs.Standings.{Standing}
 use Rattle.array_store.specs.declared.start.FirstVersion.{FirstVersion}
-use Rattle.array_store.specs.Growth.{IsCounted}
-use Rattle.array_store.specs.Starts.{first_of, start_of}
+use Rattle.array_store.specs.Starts.{first_of}
 use Rattle.array_store.proofs.Added.{commits_from, count_commits, pairs_count, seal_by, seals_of}
 use Rattle.array_store.proofs.Counted.{all_notes}
 use Rattle.snapshot_manager.specs.Told.{entries_in, notes_in, moments_in, directories_in, is_sealed, version_from}
-use Rattle.snapshot_manager.specs.Laws.{IsToldWhole, StoresAreTold}
+use Rattle.snapshot_manager.specs.Laws.{StoresAreTold}
 
 -- ---- one list behind another
 

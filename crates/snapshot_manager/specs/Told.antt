@@ -1,5 +1,5 @@
 -- What the start and the events of a store tell of it: all but its disk, and a change whose slot may stand open.
-use Rattle.std.specs.Prelude.{◌≡◌, ℕ, Bool, true, not, List, [], ◌∷◌, map, Option, None}
+use Rattle.std.specs.Prelude.{◌≡◌, ℕ, Bool, true, not, List, [], ◌∷◌, map, None}
 use Rattle.chunk_map.specs.declared.directory.Directory.{Directory}
 use Rattle.event_core.specs.declared.entry.Entry.{Entry}
 use Rattle.store_ledger.specs.declared.note.Note.{Note}

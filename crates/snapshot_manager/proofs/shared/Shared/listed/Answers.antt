@@ -1,4 +1,4 @@
-use Rattle.std.proofs.Common.{◌≡◌, ◌∙◌}
+use Rattle.std.proofs.Common.{◌∙◌}
 use Rattle.chunk_source.specs.Source.{AreNumbersIn}
 use Rattle.plan_changes.specs.Databases.{rows_of}
 use Rattle.array_store.proofs.Added.{if_ok}

@@ -1,4 +1,4 @@
-use Rattle.std.proofs.Common.{◌∙◌, IsTrue, subst, sym}
+use Rattle.std.proofs.Common.{IsTrue, subst, sym}
 use Rattle.chunk_source.specs.Source.{IsChunkIn, is_among}
 use Rattle.plan_changes.specs.Databases.{rows_of}
 use Rattle.array_store.proofs.Added.{if_ok}

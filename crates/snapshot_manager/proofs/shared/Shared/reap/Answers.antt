@@ -1,4 +1,3 @@
-use Rattle.std.proofs.Common.{◌∙◌}
 use Rattle.store_state.specs.At.{standing}
 use Rattle.snapshot_manager.specs.Seats.{seen, session_of, start}
 use Rattle.snapshot_manager.proofs.InTurn.{extends_now, reap_is}

@@ -1,4 +1,4 @@
-use Rattle.std.proofs.Common.{◌∙◌, [], ◌∷◌}
+use Rattle.std.proofs.Common.{[], ◌∷◌}
 use Rattle.event_core.specs.declared.entry.Entry.TheVariants.{Unpin}
 use Rattle.store_state.specs.declared.event.Event.TheVariants.{Entered}
 use Rattle.snapshot_manager.specs.Seats.{seen, session_of, start}
