@@ -48,7 +48,7 @@ sealed_behind last event one (entered (Commit session change used) ∷ all) (sea
 sealed_behind last event one (entered Reap ∷ all) seals = ap (λ (es : List Event). Entered Reap ∷ es) (sealed_behind last event one all seals)
 sealed_behind last event one (noted note ∷ all) seals = ap (λ (es : List Event). Noted note ∷ es) (sealed_behind last event one all seals)
 
-abbrev seals_of : {D : Type 0} → Standing D → List Seal
+abbrev pub seals_of : {D : Type 0} → Standing D → List Seal
 seals_of s = by_pairs (λ moment directory. record { moment = moment; directory = directory }) s.acked s.made
 
 pub entries_add_events : (D : Type 0) → EntriesAddEvents D
@@ -76,7 +76,7 @@ faults_add_events D s session = fault_if (is_noted Fault s.ledger session) D s (
 -- ---- a commit
 
 -- how many commits are among events
-abbrev count_commits : List LedgerEvent → ℕ
+abbrev pub count_commits : List LedgerEvent → ℕ
 count_commits [] = 0
 count_commits (entered (Pin session) ∷ all) = count_commits all
 count_commits (entered (Unpin session) ∷ all) = count_commits all
@@ -110,7 +110,7 @@ first_counts (Commit session change used) all = omega arith
 first_counts Reap all = omega arith
 
 -- the commits of a ledger's events are its history's
-commits_from : (place : ℕ) (entries : List Entry) (notes : List Note) → count_commits (events_from place entries notes) ≡ commits (reverse entries)
+pub commits_from : (place : ℕ) (entries : List Entry) (notes : List Note) → count_commits (events_from place entries notes) ≡ commits (reverse entries)
 commits_from place [] notes = no_commits (filter (λ note. nat_le place note.after) notes)
 commits_from place (entry ∷ entries) notes =
     let here : List Note = filter (λ note. nat_eq note.after place) notes in
@@ -145,12 +145,12 @@ pairs_push f x y [] (b ∷ ys) e = absurd (omega (arith, e))
 pairs_push f x y (a ∷ xs) [] e = absurd (omega (arith, e))
 pairs_push {A} {B} {C} f x y (a ∷ xs) (b ∷ ys) e = ap (λ (cs : List C). f a b ∷ cs) (pairs_push f x y xs ys (omega (arith, e)))
 
-pairs_count : {A B C : Type 0} (f : A → B → C) (xs : List A) (ys : List B) → length xs ≡ length ys → length (by_pairs f xs ys) ≡ length xs
+pub pairs_count : {A B C : Type 0} (f : A → B → C) (xs : List A) (ys : List B) → length xs ≡ length ys → length (by_pairs f xs ys) ≡ length xs
 pairs_count f [] ys e = refl
 pairs_count f (x ∷ xs) [] e = absurd (omega (arith, e))
 pairs_count f (x ∷ xs) (y ∷ ys) e = ap suc (pairs_count f xs ys (omega (arith, e)))
 
-abbrev seal_by : ℕ → Directory → Seal
+abbrev pub seal_by : ℕ → Directory → Seal
 seal_by moment directory = record { moment = moment; directory = directory }
 
 pub commits_add_events : (D : Type 0) → CommitsAddEvents D

@@ -64,7 +64,7 @@ kept_one false note xs ys e same = absurd (both_not false refl e)
 from_zero : (n : ℕ) → nat_le 0 n ≡ true
 from_zero n = grind (arith, nat_tests)
 
-all_notes : (notes : List Note) → filter (λ note. nat_le 0 note.after) notes ≡ notes
+pub all_notes : (notes : List Note) → filter (λ note. nat_le 0 note.after) notes ≡ notes
 all_notes [] = refl
 all_notes (note ∷ notes) = kept_one (nat_le 0 note.after) note _ _ (from_zero note.after) (all_notes notes)
 

@@ -10,6 +10,7 @@ mod sealing;
 mod start;
 mod stepping;
 mod store;
+mod telling;
 
 pub use laws::events_grow;
 pub use start::{FirstVersion, Start};

@@ -1,0 +1,6 @@
+pub mod InTurn
+pub mod PinReads
+pub mod Seating
+pub mod Sights
+pub mod Telling
+pub mod Turning

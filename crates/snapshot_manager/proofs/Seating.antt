@@ -1,0 +1,58 @@
+-- Seats that are given out, and that come back.
+use Rattle.std.proofs.Common.{◌≡◌, ◌∙◌, ℕ, zero, suc, ◌+◌, List, [], ◌∷◌, ◌++◌, length, drop, remove, slice_get, Some, refl, ap, sym, subst, drop-drop}
+use Rattle.std.specs.List.{list_all}
+use Rattle.std.proofs.lemmas.Option.{slice_get_within, get_or_from_slice_get}
+use Rattle.turn_lock.specs.Seats.{AreNewSeats as AreNewTurnSeats, IsNewSeat as IsNewTurnSeat, claim_of}
+use Rattle.turn_lock.specs.declared.view.Claim.{Claim}
+use Rattle.turn_lock.specs.declared.seat.LockSeat.{LockSeat}
+use Rattle.turn_lock.proofs.Gathering.{places_more}
+use Rattle.store_state.specs.declared.event.Event.{Event}
+use Rattle.store_state.specs.declared.parts.StoreParts.{StoreParts}
+use Rattle.snapshot_manager.specs.declared.seat.Seat.{Seat}
+use Rattle.snapshot_manager.specs.declared.shared.Shared.{Shared}
+use Rattle.snapshot_manager.specs.Seats.{AreNewSeats, IsNewSeat}
+use Rattle.snapshot_manager.specs.Told.{entries_in, is_sealed}
+
+module _ {A : Type 0} where
+  get_dropped : (xs : List A) (n : ℕ) → slice_get (drop n xs) 0 ≡ slice_get xs n
+  get_dropped xs zero = refl
+  get_dropped [] (suc n) = refl
+  get_dropped (x ∷ xs) (suc n) = get_dropped xs n
+
+  -- what is taken from the front stood at that place of the whole list
+  pub first_of_rest : (xs ys : List A) (n : ℕ) (x : A) → ys ≡ drop n xs → slice_get ys 0 ≡ Some x → slice_get xs n ≡ Some x
+  first_of_rest xs ys n x is e = sym (get_dropped xs n) ∙ ap (λ l. slice_get l 0) (sym is) ∙ e
+
+  pub less_one : (xs ys zs : List A) (n : ℕ) → ys ≡ drop n xs → zs ≡ remove ys 0 → zs ≡ drop (n + 1) xs
+  less_one xs ys zs n is e = e ∙ ap (drop 1) is ∙ drop-drop 1 n xs
+
+-- a seat's session, with what the seat has seen
+abbrev pub seat_claim : {D : Type 0} → Seat D → Claim Event
+seat_claim seat = claim_of seat.turn_seat
+
+module _ {D : Type 0} (shared : Shared D) where
+  new_turn_seat : (seats : List (LockSeat (StoreParts D) Event)) (n : ℕ) (seat : LockSeat (StoreParts D) Event) → AreNewTurnSeats shared.lock seats → slice_get seats n ≡ Some seat →
+      IsNewTurnSeat shared.lock n seat
+  new_turn_seat seats n seat are e = subst (IsNewTurnSeat shared.lock n) (get_or_from_slice_get seats n seat seat e) (are n seat (slice_get_within seats n seat e))
+
+  wrapped : (n : ℕ) (seat : LockSeat (StoreParts D) Event) → IsNewTurnSeat shared.lock n seat → IsNewSeat shared n (record { turn_seat = seat; entries = 0; last = 0; reads = 0 })
+  wrapped n seat is = record {
+    of_store = record {
+      here = is.0;
+      counts = ap (λ (events : List Event). length (entries_in events)) (sym is.3);
+      sealed = ap (list_all is_sealed) is.3;
+    };
+    idle = is.1;
+    session_is = is.2;
+    seen_none = is.3;
+    last_none = refl;
+    read_none = refl;
+  }
+
+  -- the next seat is that of the next session
+  pub seated_more : (seats : List (LockSeat (StoreParts D) Event)) (made : List (Seat D)) (n : ℕ) (seat : LockSeat (StoreParts D) Event) →
+      AreNewTurnSeats shared.lock seats → slice_get seats n ≡ Some seat → length made ≡ n → AreNewSeats shared made →
+      AreNewSeats shared (made ++ record { turn_seat = seat; entries = 0; last = 0; reads = 0 } ∷ [])
+  seated_more seats made n seat are e count new =
+      places_more (IsNewSeat shared) made (record { turn_seat = seat; entries = 0; last = 0; reads = 0 }) new
+      (subst (λ (k : ℕ). IsNewSeat shared k (record { turn_seat = seat; entries = 0; last = 0; reads = 0 })) (sym count) (wrapped n seat (new_turn_seat seats n seat are e)))

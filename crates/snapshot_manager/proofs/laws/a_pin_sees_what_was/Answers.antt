@@ -1,0 +1,18 @@
+use Rattle.std.proofs.Common.{refl, []}
+use Rattle.snapshot_manager.specs.Worked.{worked_others}
+use Rattle.snapshot_manager.proofs.laws.a_pin_sees_what_was.Goals as goal
+
+pub returns : goal.returns
+returns c = record {
+  began = refl;
+  first_told = refl;
+  sealed = refl;
+  open_pin = record { before = []; begun = refl; place = refl; names = refl };
+  open_later = record { before = []; begun = refl; place = refl; names = refl };
+  pinned_chunks = refl;
+  chunks_now = refl;
+  turn = record { others = worked_others; theirs = refl; grown = refl };
+  found = refl;
+  own = refl;
+  unpinned = refl;
+}

@@ -1,0 +1,12 @@
+use Rattle.snapshot_manager.proofs.Sights.{others_leave_pins, pins_outlast, pins_see_the_same}
+use Rattle.snapshot_manager.proofs.Turning.{turns_add_own, turns_find}
+use Rattle.snapshot_manager.proofs.laws.turns_are_seen.Goals as goal
+
+pub returns : goal.returns
+returns g c = record {
+  found = turns_find;
+  own = turns_add_own;
+  others = others_leave_pins;
+  outlast = pins_outlast _;
+  sight = pins_see_the_same _;
+}

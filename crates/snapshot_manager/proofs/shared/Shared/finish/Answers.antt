@@ -1,0 +1,44 @@
+use Rattle.std.proofs.Common.{◌∙◌, ◌++◌, map, ap, sym, subst, length, All}
+use Rattle.std.proofs.lemmas.List.{length-map}
+use Rattle.turn_lock.specs.Closings.{claims_of}
+use Rattle.turn_lock.specs.Owners.{ExtendsByOthers}
+use Rattle.turn_lock.specs.Seats.{seat_count, IsSeatOf as IsLockSeatOf, IsIdle as HasNoTurn}
+use Rattle.turn_lock.specs.declared.view.Claim.{Claim}
+use Rattle.turn_lock.proofs.Gathering.{all_left, all_last, all_unmapped, gathered}
+use Rattle.store_state.specs.declared.event.Event.{Event}
+use Rattle.store_state.specs.At.{standing}
+use Rattle.store_state.specs.Events.{events, owner_of}
+use Rattle.snapshot_manager.specs.Seats.{AreIdleSeats, IsIdle, IsSeatOf}
+use Rattle.snapshot_manager.proofs.Seating.{seat_claim}
+use Rattle.snapshot_manager.proofs.shared.Shared.finish.Goals as goal
+
+pub take_back-requires : goal.take_back-requires
+take_back-requires g c =
+    let i = c.loop-last.invariant in
+    let last = all_last (λ seat. IsSeatOf c.args.self seat × IsIdle seat) c.pop.new.self c.in-Some.last (subst (AreIdleSeats c.args.self) c.in-Some.ensures i.idle) in
+    subst (λ lock. IsLockSeatOf lock c.in-Some.last.turn_seat × HasNoTurn c.in-Some.last.turn_seat) (sym i.same) (last.0.here, last.1)
+
+pub loop-last-preserved : goal.loop-last-preserved
+loop-last-preserved g c =
+    let i = c.loop-last.invariant in
+    let now = c.take_back.ensures in record {
+      same = now.lock ∙ i.same;
+      idle = all_left (λ seat. IsSeatOf c.args.self seat × IsIdle seat) c.pop.new.self c.in-Some.last (subst (AreIdleSeats c.args.self) c.in-Some.ensures i.idle);
+      claimed = ap (λ claims. map seat_claim c.pop.new.self ++ claims) now.claims
+          ∙ sym (gathered seat_claim c.pop.new.self c.in-Some.last (claims_of c.loop-last.closing))
+          ∙ ap (λ seats. map seat_claim seats ++ claims_of c.loop-last.closing) (sym c.in-Some.ensures)
+          ∙ i.claimed;
+    }
+
+pub end-requires : goal.end-requires
+end-requires g c =
+    let i = c.loop-last.invariant in
+    let all = ap (λ seats. map seat_claim seats ++ claims_of c.loop-last.closing) (sym c.in_default.ensures.0) ∙ i.claimed in
+    ap length all ∙ length-map c.args.seats seat_claim ∙ c.requires.count ∙ ap seat_count (sym i.same)
+
+pub returns-clause-events : goal.returns-clause-events
+returns-clause-events g c =
+    let i = c.loop-last.invariant in
+    let all = ap (λ seats. map seat_claim seats ++ claims_of c.loop-last.closing) (sym c.in_default.ensures.0) ∙ i.claimed in
+    let P : Claim Event → Type 0 = λ claim. ExtendsByOthers owner_of claim.number claim.seen (events (standing g.D.Disk.moment c.end.result)) in
+    all_unmapped P seat_claim c.args.seats (subst (All P) all c.end.ensures.entries)

@@ -1,0 +1,15 @@
+use Rattle.std.proofs.Common.{rules, sym, subst}
+use Rattle.snapshot_manager.specs.Seats.{AreNewSeats}
+use Rattle.snapshot_manager.proofs.Seating.{first_of_rest, less_one, seated_more}
+use Rattle.snapshot_manager.proofs.shared.Shared.seated.Goals as goal
+
+pub loop-preserved : goal.loop-preserved
+loop-preserved g c =
+    let i = c.loop.invariant in
+    let at = first_of_rest c.args.turn_seats c.loop.turn_seats c.loop.counter c.remove-turn_seat.result i.seats c.remove-turn_seat.ensures.item in record {
+      seats = less_one c.args.turn_seats c.loop.turn_seats c.remove-turn_seat.new.self c.loop.counter i.seats c.remove-turn_seat.ensures.rest;
+      count = search rules;
+      room = search rules;
+      made = subst (AreNewSeats c.args.self.now) (sym c.push_reserved.ensures.items)
+          (seated_more c.args.self.now c.args.turn_seats c.loop.room.items c.loop.counter c.remove-turn_seat.result c.requires.seats at i.count i.made);
+    }

@@ -1,0 +1,30 @@
+//! How a store is taken back from its sessions.
+ghost use Rattle.std.specs.Prelude.{◌≡◌, length};
+ghost use Rattle.store_state.specs.At.{standing};
+ghost use Rattle.store_state.specs.Events.{events};
+ghost use Rattle.array_store.specs.Starts.{start_of};
+ghost use Rattle.snapshot_manager.specs.Seats.{seats_in_all, start, AreIdleSeats, ExtendEach};
+
+use crate::seat::Seat;
+use crate::shared::Shared;
+use afl_outside::Disk;
+use array_store::Store;
+use cell_values::List;
+
+impl<D: Disk> Shared<D> {
+    /// Hands the store back, once all its seats are. This takes no memory.
+    pub fn finish(self, mut seats: List<Seat<D>>) -> Store<D>
+        requires count { length seats ≡ seats_in_all self }
+        requires seats { AreIdleSeats self seats }
+        ensures start { start_of (standing D.moment result) ≡ start D.moment self }
+        ensures events { ExtendEach seats (events (standing D.moment result)) }
+    {
+        let Shared { lock, bell: _ } = self;
+        let mut closing = lock.closing();
+        while let Some(last) = seats.pop() {
+            let Seat { turn_seat, .. } = last;
+            closing.take_back(turn_seat);
+        }
+        closing.end()
+    }
+}

@@ -1,0 +1,24 @@
+//! What holds of events, of turns, and of what pins see.
+ghost use Rattle.snapshot_manager.specs.Laws.{OthersLeavePins, PinsOutlast, PinsSeeTheSame, StoresAreTold, TurnsAddOwn, TurnsFind};
+ghost use Rattle.snapshot_manager.specs.Worked.{IsWorked};
+
+use afl_outside::Disk;
+
+/// The start and the events of a store tell all of it but its disk, and a change that is in doubt.
+pub fn stores_are_told<D: Disk>()
+    ensures { StoresAreTold D }
+{}
+
+/// What a turn found, and what it added; and what a pin that is open sees, whatever comes later.
+pub fn turns_are_seen<D: Disk>()
+    ensures found { TurnsFind }
+    ensures own { TurnsAddOwn }
+    ensures others { OthersLeavePins }
+    ensures outlast { PinsOutlast D }
+    ensures sight { PinsSeeTheSame D }
+{}
+
+/// A pin sees a chunk that another session's commit has removed.
+pub fn a_pin_sees_what_was()
+    ensures { IsWorked }
+{}

@@ -1,0 +1,16 @@
+//! A store that several threads share.
+
+use afl_outside::Disk;
+use array_store::Store;
+use reap_bell::Bell;
+use turn_lock::{Turn, TurnLock};
+
+/// A store behind a turn lock, and the bell of its reaper.
+#[derive(Drop)]
+pub struct Shared<D: Disk> {
+    pub(crate) lock: TurnLock<Store<D>>,
+    pub(crate) bell: Bell,
+}
+
+/// A turn with the store in hand.
+pub type StoreTurn<D> = Turn<Store<D>>;
