@@ -1,3 +1,4 @@
 pub mod Added
 pub mod Counted
 pub mod FreshChanges
+pub mod Untried

@@ -1,0 +1,3 @@
+pub mod Holding
+pub mod Reads
+pub mod Typed

@@ -1,0 +1,4 @@
+pub mod Cells
+pub mod Holds
+pub mod Quiet
+pub mod Statements
