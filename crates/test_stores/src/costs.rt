@@ -7,54 +7,35 @@ use std::alloc::AllocError;
 /// How many bytes a page has.
 const PAGE: u64 = 4096;
 
-/// How many calls of each kind there are.
-struct Counts {
-    lengths: usize,
-    reads: usize,
-    writes: usize,
-    syncs: usize,
+fn reads_in(calls: &[DeviceCall]) -> usize {
+    calls
+        .iter()
+        .filter(|call| matches!(call, DeviceCall::Read { .. }))
+        .count()
 }
 
-fn counts_of(calls: &[DeviceCall]) -> Counts {
-    let mut counts = Counts {
-        lengths: 0,
-        reads: 0,
-        writes: 0,
-        syncs: 0,
-    };
+/// Adds a write: of a whole page as `p3`, else as `p2+8:1`, which is one byte at byte 8 of page 2.
+fn push_write(out: &mut String, at: u64, length: u64) -> Result<(), AllocError> {
+    let (page, place) = (at / PAGE, at % PAGE);
+    if place == 0 && length == PAGE {
+        write!(out, " p{page}")
+    } else {
+        write!(out, " p{page}+{place}:{length}")
+    }
+}
+
+/// Adds how many reads there are, and then each write and each sync in order.
+fn push_calls(out: &mut String, calls: &[DeviceCall]) -> Result<(), AllocError> {
+    write!(out, "{} reads;", reads_in(calls))?;
     for call in calls {
         match call {
-            DeviceCall::Length => counts.lengths = counts.lengths.saturating_add(1),
-            DeviceCall::Read { .. } => counts.reads = counts.reads.saturating_add(1),
-            DeviceCall::Write { .. } => counts.writes = counts.writes.saturating_add(1),
-            DeviceCall::Sync { .. } => counts.syncs = counts.syncs.saturating_add(1),
-        }
-    }
-    counts
-}
-
-/// Adds where each write is, in order: a whole page as `p3`, else `p2+8:1` for one byte at byte 8 of page 2.
-fn push_writes(out: &mut String, calls: &[DeviceCall]) -> Result<(), AllocError> {
-    for call in calls {
-        if let DeviceCall::Write { at, bytes } = call {
-            write!(out, " p{}", at / PAGE)?;
-            if at % PAGE != 0 || bytes.len() as u64 != PAGE {
-                write!(out, "+{}:{}", at % PAGE, bytes.len())?;
-            }
+            DeviceCall::Write { at, bytes } => push_write(out, *at, bytes.len() as u64)?,
+            DeviceCall::Sync { done: true } => out.push_str(" sync")?,
+            DeviceCall::Sync { done: false } => out.push_str(" failed-sync")?,
+            DeviceCall::Length | DeviceCall::Read { .. } => {}
         }
     }
     Ok(())
-}
-
-/// Adds the reads, and the calls in order from the first write or sync on: a write as its place, a sync as `sync`.
-fn push_calls(out: &mut String, calls: &[DeviceCall]) -> Result<(), AllocError> {
-    let counts = counts_of(calls);
-    write!(
-        out,
-        "{} lengths, {} reads, {} writes, {} syncs:",
-        counts.lengths, counts.reads, counts.writes, counts.syncs
-    )?;
-    push_writes(out, calls)
 }
 
 /// Adds what the calls from one on cost.
