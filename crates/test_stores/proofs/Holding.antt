@@ -7,6 +7,7 @@ use Rattle.afl_outside.specs.Counts.{risen}
 use Rattle.afl_outside.specs.Disk.{DiskState}
 use Rattle.event_core.specs.declared.entry.Entry.{Entry}
 use Rattle.event_core.specs.declared.entry.Entry.TheVariants.{Pin, Unpin, Commit, Reap}
+use Rattle.plan_changes.specs.Stored.{AreStored}
 use Rattle.event_core.specs.Allowed.{is_pinned}
 use Rattle.event_core.specs.History.{History, leaves_pin, pin_before}
 use Rattle.event_core.proofs.Tests.{eq_sym}
@@ -161,3 +162,6 @@ notes_leave_all old new session before after n = elim (cases_lt new.faults (rise
 -- what is left to all is left of each open pin
 pub open_outlasts : (old new : LedgerState) (session : ℕ) (pinned : Pinned) → LeavesAll old new → IsPinOf old session pinned → IsPinOf new session pinned
 open_outlasts old new session pinned f p = f session (hold.Tried pinned) p
+
+pub still_open : (old new : LedgerState) (pinned : Pinned) → LeavesAll old new → IsOpenPin old pinned → AreStored pinned.names → IsOpenPin new pinned
+still_open old new pinned f o stored = (f pinned.session (hold.Tried pinned) (record { its = refl; begun = o; stored = stored })).begun

@@ -1,3 +1,3 @@
 pub mod Holding
-pub mod Reads
-pub mod Typed
+pub mod ReadLemmas
+pub mod Checking

@@ -1,5 +1,5 @@
 -- Versions that can be named, and chunks that are read of them.
-use Rattle.std.proofs.Common.{◌≡◌, ◌∙◌, ℕ, zero, suc, List, [], ◌∷◌, Option, None, Some, true, IsTrue, refl, ap, sym, subst, inl}
+use Rattle.std.proofs.Common.{◌≡◌, ◌∙◌, ℕ, zero, suc, List, [], ◌∷◌, Option, None, Some, IfSome, true, IsTrue, refl, ap, sym, subst, inl}
 use Rattle.std.specs.List.{AllByRecursion, slice_get}
 use Rattle.arrayvec.specs.ArrayVec.{ArrayVec}
 use Rattle.cell_values.specs.declared.schema.Schema.{Schema}
@@ -46,3 +46,7 @@ pub alone_has_places : (schema copy : Schema) (margins : List ℕ) (chunk : Chun
     HavePlaces copy margins (chunk ∷ [])
 alone_has_places schema copy margins chunk e m valid read =
     subst (λ (z : Schema). HavePlaces z margins (chunk ∷ [])) (sym e) (have_places schema margins (chunk.at ∷ []) (chunk ∷ []) m valid (read, tt))
+
+pub if_some : {A : Type 0} (P Q : A → Type 0) (o : Option A) → ((x : A) → P x → Q x) → IfSome o P → IfSome o Q
+if_some P Q None f p = p
+if_some P Q (Some x) f p = f x p
