@@ -1,0 +1,5 @@
+pub mod Asked
+pub mod Chunks
+pub mod Rows
+pub mod Told
+pub mod Written

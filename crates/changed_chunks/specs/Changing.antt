@@ -1,0 +1,85 @@
+-- Changes that store the array of a plan: what is asked of them, what is read for them, and the answer to them.
+use Rattle.std.specs.Prelude.{◌≡◌, List, [], ◌∷◌, ◌++◌, Option, Some, Result, Ok, Err}
+use Rattle.cell_values.specs.declared.datum.Broken.{Broken}
+use Rattle.cell_values.specs.declared.schema.Schema.{Schema}
+use Rattle.cell_values.specs.Schemas.{IsValid}
+use Rattle.array_geom.specs.declared.chunk.Changed.{Changed}
+use Rattle.logical_plan.specs.declared.names.NameEntry.{NameEntry}
+use Rattle.logical_plan.specs.declared.parts.Leaf.{Leaf}
+use Rattle.logical_plan.specs.Leaves.{leaves}
+use Rattle.logical_plan.specs.Query.{Query}
+use Rattle.plan_changes.specs.declared.change.Change.{Change}
+use Rattle.plan_changes.specs.declared.change.Change.TheVariants.{Create, Store, Insert, Remove, RemoveVersions}
+use Rattle.plan_changes.specs.Changes.{newest_of}
+use Rattle.plan_changes.specs.Databases.{Database, fault_of_change, names_of, rows_of}
+use Rattle.plan_changes.specs.Kept.{StoresArray}
+use Rattle.plan_changes.specs.Stored.{IsDatabase}
+use Rattle.plan_changes.specs.Typed.{FitsInto}
+use Rattle.chunk_source.specs.declared.sources.asked.Asked.{Asked}
+use Rattle.chunk_source.specs.Reading.{asked_of}
+use Rattle.chunk_source.specs.Source.{SourceState, Reads}
+use Rattle.chunk_exec.specs.Computed.{CanCompute}
+use Rattle.commit_pages.specs.Changes.{IsChangeOf}
+
+-- a plan that can be computed over the source, and a valid schema under which typing lets its array be stored
+pub record CanStore (source : SourceState) (schema : Schema) (plan : Query) : Type 0 where
+  pub computed : CanCompute source plan
+  pub valid : IsValid schema
+  pub fits : (entry : Option NameEntry) × FitsInto entry schema plan
+
+-- a store or an insert of such a plan. An insert's target is a leaf of its array that the source has, or of version 0
+abbrev pub CanChange : SourceState → Change → Leaf → Type 0
+CanChange source (Create name schema) target = ⊥
+CanChange source (Store name schema plan) target = CanStore source schema plan
+CanChange source (Insert name schema plan) target = CanStore source schema plan × Reads source target × (target.schema ≡ schema)
+CanChange source (Remove name) target = ⊥
+CanChange source (RemoveVersions name below) target = ⊥
+
+-- ---- what is read
+
+-- the leaves of a change's plan
+abbrev pub plan_leaves : Change → List Leaf
+plan_leaves (Create name schema) = []
+plan_leaves (Store name schema plan) = leaves plan
+plan_leaves (Insert name schema plan) = leaves plan
+plan_leaves (Remove name) = []
+plan_leaves (RemoveVersions name below) = []
+
+-- an insert reads its target after them
+abbrev pub all_leaves : Change → Leaf → List Leaf
+all_leaves (Create name schema) target = []
+all_leaves (Store name schema plan) target = leaves plan
+all_leaves (Insert name schema plan) target = leaves plan ++ target ∷ []
+all_leaves (Remove name) target = []
+all_leaves (RemoveVersions name below) target = []
+
+-- each listed chunk of each of these leaves, once; where the plan's array has a fault those of the plan alone
+abbrev pub asked_for : SourceState → Change → Leaf → Result Changed Broken → List Asked
+asked_for source change target (Ok changed) = asked_of source 0 (all_leaves change target)
+asked_for source change target (Err broken) = asked_of source 0 (plan_leaves change)
+
+-- ---- the answer
+
+-- an insert's target is the newest version of its array, or of version 0 where there is none
+abbrev pub IsTargetIn : Database → Change → Leaf → Type 0
+IsTargetIn db (Create name schema) target = Unit {0}
+IsTargetIn db (Store name schema plan) target = Unit {0}
+IsTargetIn db (Insert name schema plan) target = (target.name ≡ name) × (target.version ≡ newest_of (names_of db).arrays name)
+IsTargetIn db (Remove name) target = Unit {0}
+IsTargetIn db (RemoveVersions name below) target = Unit {0}
+
+-- the source tells this database, in which the target is the newest version
+pub record IsToldOf (source : SourceState) (change : Change) (target : Leaf) (db : Database) : Type 0 where
+  pub database : IsDatabase db
+  pub tells : source.tells (rows_of db)
+  pub newest : IsTargetIn db change target
+
+-- the chunks of the change, where it has no fault, or its fault
+abbrev pub IsAnswerIn : Database → Change → Result Changed Broken → Type 0
+IsAnswerIn db change (Ok changed) = IsChangeOf db change changed
+IsAnswerIn db change (Err broken) = fault_of_change db change ≡ Some broken
+
+-- THE ANSWER IS THAT OF THE DATABASE: the plan means an array there, and the chunks or the fault are its change's
+pub record IsAnswerOver (db : Database) (change : Change) (made : Result Changed Broken) : Type 0 where
+  pub stores : StoresArray db change
+  pub answer : IsAnswerIn db change made

@@ -1,0 +1,53 @@
+-- The rows of a plan's array as they are stored, and the arrays and chunks that hold such rows.
+use Rattle.std.specs.Prelude.{◌≡◌, List, None, Some, Result, Ok, Err}
+use Rattle.std.specs.List.{AllByRecursion}
+use Rattle.cell_values.specs.declared.datum.Broken.{Broken}
+use Rattle.cell_values.specs.declared.datum.Datum.{Datum}
+use Rattle.cell_values.specs.declared.datum.Row.{Row}
+use Rattle.cell_values.specs.declared.schema.Schema.{Schema}
+use Rattle.cell_values.specs.Cells.{AreOfKinds}
+use Rattle.array_rows.specs.Arrays.{AreRowsOf}
+use Rattle.array_rows.specs.Boxes.{bounds_of}
+use Rattle.array_geom.specs.declared.chunk.Chunk.{Chunk}
+use Rattle.array_geom.specs.declared.chunk.ChunkedArray.{ChunkedArray}
+use Rattle.array_geom.specs.Geometry.{overlaps}
+use Rattle.array_geom.specs.Link.{HoldsRows, core_rows}
+use Rattle.array_parts.specs.Cores.{HaveCells, cores_of, meant_by_cores}
+use Rattle.logical_plan.specs.CellOps.{fit_rows}
+use Rattle.logical_plan.specs.Faults.{fault_of, if_whole}
+use Rattle.logical_plan.specs.Typing.{AreSound}
+use Rattle.chunk_source.specs.Laws.{HasSoundCells}
+
+-- a schema takes the rows of another one: its bounds are the same, and its attributes take the same values
+pub record TakesRows (schema from : Schema) : Type 0 where
+  pub bounds : bounds_of schema.dimensions ≡ bounds_of from.dimensions
+  pub kinds : (vs : List Datum) → AreOfKinds from.attributes vs → AreOfKinds schema.attributes vs
+
+-- rows that may be stored
+pub record MayBeStored (schema : Schema) (rows : List Row) : Type 0 where
+  pub rows_of : AreRowsOf schema rows
+  pub sound : AreSound schema rows
+
+-- what an array stands for by its cores, fitted to a schema
+abbrev pub fitted_cores : Schema → ChunkedArray → Result (List Row) Broken
+fitted_cores schema array = if_whole (fit_rows schema.attributes) (meant_by_cores array).rows
+
+-- fitted rows without a fault, or the first fault
+abbrev pub IsFound : Result (List Row) Broken → Result (List Row) Broken → Type 0
+IsFound fitted (Ok rows) = (fitted ≡ Ok rows) × (fault_of fitted ≡ None)
+IsFound fitted (Err broken) = fault_of fitted ≡ Some broken
+
+-- an array of rows that may be stored, in chunks with the overlaps as margins
+pub record CanBeStored (array : ChunkedArray) : Type 0 where
+  pub margins : array.margins.items ≡ overlaps array.schema.dimensions
+  pub holds : HoldsRows array.schema array (cores_of array)
+  pub sound : AreSound array.schema (cores_of array)
+
+-- chunks as they are stored, whether or not the margins of one agree with the cores of others
+pub record AreStoredChunks (schema : Schema) (chunks : List Chunk) : Type 0 where
+  pub cells : HaveCells schema (overlaps schema.dimensions) chunks
+  pub sound : AllByRecursion (HasSoundCells schema) chunks
+
+-- the rows of their cores
+abbrev pub stored_rows : Schema → List Chunk → List Row
+stored_rows schema chunks = core_rows schema.dimensions (overlaps schema.dimensions) chunks

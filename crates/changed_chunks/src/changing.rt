@@ -1,0 +1,123 @@
+//! Stores and inserts.
+ghost use Rattle.std.specs.Prelude.{◌≡◌, ◌≤◌, ◌++◌, ◌∷◌, [], ℕ, List as Items, true, false, None, Some, IfOk, OnOk, OnErr};
+ghost use Rattle.chunk_source.specs.Faults.{Answers};
+ghost use Rattle.chunk_source.specs.Reading.{asked_of};
+ghost use Rattle.chunk_source.specs.Source.{AsksFront, Keeps, Reads};
+ghost use Rattle.commit_pages.specs.Changes.{AreValid, ComesWith, IsOf};
+ghost use Rattle.logical_plan.specs.Leaves.{leaves};
+ghost use Rattle.logical_plan.specs.Meaning.{version_rows};
+ghost use Rattle.plan_changes.specs.Databases.{Database, newest_rows, rows_of};
+ghost use Rattle.plan_changes.specs.declared.change.Change.TheVariants.{Store, Insert};
+ghost use Rattle.changed_chunks.specs.Changing.{CanChange, CanStore, IsAnswerOver, IsToldOf, all_leaves, asked_for};
+
+use crate::input::input_of;
+use crate::target::put_over_target;
+use crate::versions::{all_of, stored_array};
+use afl_outside::Gate;
+use array_geom::Changed;
+use cell_values::{Broken, Schema};
+use chunk_exec::ExecFault;
+use chunk_source::ChunkSource;
+use logical_plan::{Leaf, Plan};
+use plan_changes::Change;
+use std::alloc::Global;
+
+/// The chunks that a store writes.
+fn stored<S: ChunkSource, G: Gate>(
+    alloc: Global,
+    plan: &Plan,
+    schema: &Schema,
+    source: &mut S,
+    workers: u32,
+    session: u32,
+    gate: &G,
+) -> Result<Result<Changed, Broken>, ExecFault>
+    requires undamaged { (S.state source.old).damaged ≡ None }
+    requires can { CanStore (S.state source.old) schema.now plan.now }
+    requires workers { (1 ≤ workers) × (workers ≤ 64) }
+    ensures is_of { IfOk result (λ made. IfOk made (IsOf schema.now true)) }
+    ensures valid { IfOk result (λ made. IfOk made AreValid) }
+    ensures told { IfOk result (λ made. (db : Database) → (S.state source.old).tells (rows_of db)
+        → (name : Items ℕ) → IsAnswerOver db (Store name schema.now plan.now) made) }
+    ensures asked { OnOk result ((S.state source.new).asked ≡ (S.state source.old).asked ++ asked_of (S.state source.old) 0 (leaves plan.now)) }
+    ensures front { let old = S.state source.old in OnErr result (AsksFront (asked_of old 0 (leaves plan.now)) old (S.state source.new)) }
+    ensures kept { Keeps (S.state source.old) (S.state source.new) }
+    ensures cause { Answers (S.state source.old) (S.state source.new) result }
+    ensures start { S.start source.new ≡ S.start source.old }
+{
+    match input_of(alloc, plan, schema, source, workers, session, gate)? {
+        Ok(input) => Ok(Ok(all_of(stored_array(schema, input)?))),
+        Err(broken) => Ok(Err(broken)),
+    }
+}
+
+/// The chunks that an insert writes over its target.
+fn inserted<S: ChunkSource, G: Gate>(
+    alloc: Global,
+    plan: &Plan,
+    schema: &Schema,
+    target: &Leaf,
+    source: &mut S,
+    workers: u32,
+    session: u32,
+    gate: &G,
+) -> Result<Result<Changed, Broken>, ExecFault>
+    requires undamaged { (S.state source.old).damaged ≡ None }
+    requires can { CanStore (S.state source.old) schema.now plan.now }
+    requires reads { Reads (S.state source.old) target.now }
+    requires schema { target.now.schema ≡ schema.now }
+    requires workers { (1 ≤ workers) × (workers ≤ 64) }
+    ensures is_of { IfOk result (λ made. IfOk made (IsOf schema.now false)) }
+    ensures valid { IfOk result (λ made. IfOk made AreValid) }
+    ensures told { IfOk result (λ made. (db : Database) → (S.state source.old).tells (rows_of db)
+        → (name : Items ℕ) → version_rows (rows_of db) target.now.name target.now.version ≡ newest_rows db name
+        → IsAnswerOver db (Insert name schema.now plan.now) made) }
+    ensures asked { let old = S.state source.old in
+        IfOk result (λ made. (S.state source.new).asked ≡ old.asked ++ asked_for old (Insert [] schema.now plan.now) target.now made) }
+    ensures front { let old = S.state source.old in
+        OnErr result (AsksFront (asked_of old 0 (leaves plan.now ++ target.now ∷ [])) old (S.state source.new)) }
+    ensures kept { Keeps (S.state source.old) (S.state source.new) }
+    ensures cause { Answers (S.state source.old) (S.state source.new) result }
+    ensures start { S.start source.new ≡ S.start source.old }
+{
+    match input_of(alloc, plan, schema, source, workers, session, gate)? {
+        Ok(input) => Ok(Ok(put_over_target(alloc, plan, schema, input, target, source)?)),
+        Err(broken) => Ok(Err(broken)),
+    }
+}
+
+/// The chunks that a store or an insert writes, or where and why its plan's array has a fault. An insert's target is the newest
+/// version of its array; a store's isn't looked at. The number of workers and the gate change nothing.
+pub fn changed<S: ChunkSource, G: Gate>(
+    alloc: Global,
+    change: &Change,
+    target: &Leaf,
+    source: &mut S,
+    workers: u32,
+    session: u32,
+    gate: &G,
+) -> Result<Result<Changed, Broken>, ExecFault>
+    requires undamaged { (S.state source.old).damaged ≡ None }
+    requires can { CanChange (S.state source.old) change.now target.now }
+    requires workers { (1 ≤ workers) × (workers ≤ 64) }
+    ensures comes { IfOk result (λ made. IfOk made (λ changed. ComesWith change.now (Some changed))) }
+    ensures valid { IfOk result (λ made. IfOk made AreValid) }
+    ensures told { IfOk result (λ made. (db : Database) → IsToldOf (S.state source.old) change.now target.now db → IsAnswerOver db change.now made) }
+    ensures asked { let old = S.state source.old in
+        IfOk result (λ made. (S.state source.new).asked ≡ old.asked ++ asked_for old change.now target.now made) }
+    ensures front { let old = S.state source.old in
+        OnErr result (AsksFront (asked_of old 0 (all_leaves change.now target.now)) old (S.state source.new)) }
+    ensures kept { Keeps (S.state source.old) (S.state source.new) }
+    ensures cause { Answers (S.state source.old) (S.state source.new) result }
+    ensures start { S.start source.new ≡ S.start source.old }
+{
+    match change {
+        Change::Store { schema, plan, .. } => {
+            stored(alloc, plan, schema, source, workers, session, gate)
+        }
+        Change::Insert { schema, plan, .. } => {
+            inserted(alloc, plan, schema, target, source, workers, session, gate)
+        }
+        _ => unreachable!(),
+    }
+}
