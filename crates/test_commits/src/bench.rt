@@ -1,76 +1,67 @@
-//! A disk that is watched, and the store over it, if one is open.
-ghost use Rattle.std.specs.Prelude.{IfOk};
-ghost use Rattle.test_commits.specs.Benches.{IsBench};
+//! A disk that is watched, for one store after the other.
 
-use crate::sessions::Run;
-use cell_values::{Bytes, List, Memory};
-use std::alloc::Global;
+use anyhow::Result;
+use cell_values::{Bytes, Memory};
+use std::alloc::{AllocError, Global};
 use store_opening::Limits;
-use test_files::disk_of;
-use test_stores::{Answer, QuietDisk, Watch, opened, push_costs};
+use test_files::{disk_of, made, of_format_one};
+use test_stores::{QuietDisk, Watch, push_costs};
 
-/// A disk that is watched, and the store over it, if one is open.
+/// A disk that is watched, and how much a store over it may use.
 #[derive(Drop)]
 pub(crate) struct Bench {
-    watch: Watch,
-    limits: Limits,
+    pub(crate) watch: Watch,
+    pub(crate) limits: Limits,
     /// How many calls there were when their costs were told.
     told: usize,
-    pub(crate) run: Option<Run>,
 }
 
-fn watch_over(alloc: Global, bytes: Bytes) -> Result<Watch, Memory> {
-    let (_, watch) = QuietDisk::watched(alloc, disk_of(alloc, bytes, None)?)?;
-    Ok(watch)
+fn number_of(word: &str) -> u32 {
+    word.parse::<u32>().unwrap_or(0)
+}
+
+fn limits_of(pages: &str, history: &str) -> Limits {
+    Limits {
+        pages: number_of(pages),
+        history: number_of(history),
+    }
+}
+
+fn bench_over(alloc: Global, bytes: Bytes, limits: Limits) -> Result<Bench, Memory> {
+    let (disk, watch) = QuietDisk::watched(alloc, disk_of(alloc, bytes, None)?)?;
+    drop(disk);
+    Ok(Bench {
+        watch,
+        limits,
+        told: 0,
+    })
 }
 
 impl Bench {
-    /// A disk with these bytes, over which no store is open.
-    pub(crate) fn new(alloc: Global, bytes: Bytes, limits: Limits) -> Result<Bench, Memory>
-        ensures { IfOk result IsBench }
-    {
-        Ok(Bench {
-            watch: watch_over(alloc, bytes)?,
-            limits,
-            told: 0,
-            run: None,
-        })
-    }
-
-    /// Closes the store, and opens it again over what the disk holds.
-    pub(crate) fn open(&mut self, alloc: Global) -> Answer
-        ensures { IsBench self.new }
-    {
-        self.run = None;
-        let Ok(disk) = QuietDisk::over(&self.watch) else {
-            return Answer::Memory;
-        };
-        match opened(alloc, disk, self.limits) {
-            Ok(store) => {
-                self.run = Some(Run::new(store));
-                Answer::Done
+    /// The disk that a line makes; none where it makes none.
+    pub(crate) fn of(alloc: Global, words: &[&str]) -> Result<Option<Bench>> {
+        match words {
+            ["new", pages, history] => {
+                let bytes = made(alloc)?;
+                Ok(Some(bench_over(alloc, bytes, limits_of(pages, history))?))
             }
-            Err(cause) => Answer::Unopened(cause),
+            ["format1", pages, history] => {
+                let bytes = of_format_one(alloc)?;
+                Ok(Some(bench_over(alloc, bytes, limits_of(pages, history))?))
+            }
+            _ => Ok(None),
         }
     }
 
     /// Adds what the disk's calls cost since that was told.
-    pub(crate) fn push_calls(&mut self, out: &mut String) -> Result<(), Memory>
-        requires { IsBench self.old }
-        ensures { IsBench self.new }
-    {
+    fn push_calls(&mut self, out: &mut String) -> Result<(), AllocError> {
         push_costs(out, &self.watch, self.told)?;
         self.told = self.watch.count();
-        Ok(out.push('\n')?)
-    }
-
-    /// The call of this number from now on fails.
-    pub(crate) fn fail(&self, call: u64) {
-        self.watch.fail(call);
+        out.push('\n')
     }
 
     /// Adds so many bytes of the disk from a place on.
-    pub(crate) fn push_bytes(&self, out: &mut String, at: usize, count: usize) -> Result<(), Memory> {
+    fn push_bytes(&self, out: &mut String, at: usize, count: usize) -> Result<(), Memory> {
         let bytes = self.watch.bytes()?;
         let bytes = bytes.as_slice();
         let from = at.min(bytes.len());
@@ -78,5 +69,18 @@ impl Bench {
             write!(out, "{byte:02x}")?;
         }
         Ok(out.push('\n')?)
+    }
+
+    /// Adds the answer to a line about the disk.
+    pub(crate) fn answer(&mut self, out: &mut String, words: &[&str]) -> Result<(), Memory> {
+        match words {
+            ["calls"] => self.push_calls(out)?,
+            ["fail", call] => self.watch.fail(u64::from(number_of(call))),
+            ["bytes", at, count] => {
+                self.push_bytes(out, number_of(at) as usize, number_of(count) as usize)?
+            }
+            _ => {}
+        }
+        Ok(())
     }
 }

@@ -1,63 +1,14 @@
 //! Lines, and what they are answered.
-ghost use Rattle.test_commits.specs.Benches.{IsBench, IsRun};
+ghost use Rattle.std.specs.Prelude.{IfOk};
+ghost use Rattle.test_commits.specs.Runs.{IsRun};
 
 use crate::bench::Bench;
 use crate::sessions::{Run, Step, answer_to};
 use anyhow::Result;
-use cell_values::{Bytes, Memory};
+use cell_values::Memory;
 use std::alloc::{AllocError, Global};
-use store_opening::Limits;
-use test_files::{made, of_format_one};
-use test_stores::{Answer, reaped};
-
-fn number_of(word: &str) -> u32 {
-    word.parse::<u32>().unwrap_or(0)
-}
-
-fn limits_of(pages: &str, history: &str) -> Limits {
-    Limits {
-        pages: number_of(pages),
-        history: number_of(history),
-    }
-}
-
-/// A store is opened over a disk of these bytes.
-fn begin(alloc: Global, bytes: Bytes, limits: Limits, bench: &mut Bench) -> Result<Answer, Memory>
-    requires { IsBench bench.old }
-    ensures { IsBench bench.new }
-{
-    let next = Bench::new(alloc, bytes, limits)?;
-    *bench = next;
-    Ok(bench.open(alloc))
-}
-
-/// What a step of a session is answered, where a store is open.
-fn told(alloc: Global, bench: &mut Bench, session: &str, step: Step<'_>) -> Answer
-    requires { IsBench bench.old }
-    ensures { IsBench bench.new }
-{
-    match &mut bench.run {
-        Some(run) => answer_to(alloc, run, session, step),
-        None => Answer::Unknown,
-    }
-}
-
-fn reap(run: &mut Run) -> Answer
-    requires { IsRun run.old }
-    ensures { IsRun run.new }
-{
-    reaped(&mut run.store)
-}
-
-fn reap_all(bench: &mut Bench) -> Answer
-    requires { IsBench bench.old }
-    ensures { IsBench bench.new }
-{
-    match &mut bench.run {
-        Some(run) => reap(run),
-        None => Answer::Unknown,
-    }
-}
+use test_kit::begin_answer;
+use test_stores::{Answer, QuietDisk, opened, reaped};
 
 /// Adds how many pages nobody can name, and how many entries and notes there are.
 fn push_counts(out: &mut String, run: &mut Run) -> Result<(), AllocError>
@@ -70,80 +21,118 @@ fn push_counts(out: &mut String, run: &mut Run) -> Result<(), AllocError>
     writeln!(out, "{free} pages free, {entries} entries, {notes} notes")
 }
 
-fn push_all(out: &mut String, bench: &mut Bench) -> Result<(), AllocError>
-    requires { IsBench bench.old }
-    ensures { IsBench bench.new }
-{
-    match &mut bench.run {
-        Some(run) => push_counts(out, run),
-        None => Ok(()),
-    }
-}
-
-/// The answer to the words of a line that begins or opens a store.
-fn answer_opening(alloc: Global, bench: &mut Bench, words: &[&str]) -> Result<Answer>
-    requires { IsBench bench.old }
-    ensures { IsBench bench.new }
-{
-    match words {
-        ["new", pages, history] => {
-            let bytes = made(alloc)?;
-            Ok(begin(alloc, bytes, limits_of(pages, history), bench)?)
-        }
-        ["format1", pages, history] => {
-            let bytes = of_format_one(alloc)?;
-            Ok(begin(alloc, bytes, limits_of(pages, history), bench)?)
-        }
-        ["open"] => Ok(bench.open(alloc)),
-        _ => Ok(Answer::Unknown),
-    }
-}
-
 /// The answer to the words of a line that is a step of a session.
-fn answer_step(alloc: Global, bench: &mut Bench, words: &[&str]) -> Answer
-    requires { IsBench bench.old }
-    ensures { IsBench bench.new }
+fn answer_step(alloc: Global, run: &mut Run, words: &[&str]) -> Answer
+    requires { IsRun run.old }
+    ensures { IsRun run.new }
 {
     match words {
-        ["pin", session] => told(alloc, bench, session, Step::Pin),
-        ["unpin", session] => told(alloc, bench, session, Step::Unpin),
-        ["cells", session, word] => told(alloc, bench, session, Step::Cells(word)),
-        ["versions", session, word] => told(alloc, bench, session, Step::Versions(word)),
-        ["reap"] => reap_all(bench),
+        ["pin", session] => answer_to(alloc, run, session, Step::Pin),
+        ["unpin", session] => answer_to(alloc, run, session, Step::Unpin),
+        ["cells", session, word] => answer_to(alloc, run, session, Step::Cells(word)),
+        ["versions", session, word] => answer_to(alloc, run, session, Step::Versions(word)),
+        ["reap"] => reaped(&mut run.store),
         _ => Answer::Unknown,
     }
 }
 
-fn answer_disk(out: &mut String, bench: &mut Bench, words: &[&str]) -> Result<()>
-    requires { IsBench bench.old }
-    ensures { IsBench bench.new }
+/// Adds the answer to the words of a line.
+fn push_answer(
+    out: &mut String,
+    bench: &mut Bench,
+    run: &mut Run,
+    words: &[&str],
+) -> Result<(), Memory>
+    requires { IsRun run.old }
+    ensures { IsRun run.new }
 {
     match words {
-        ["calls"] => bench.push_calls(out)?,
-        ["fail", call] => bench.fail(u64::from(number_of(call))),
-        ["bytes", at, count] => {
-            bench.push_bytes(out, number_of(at) as usize, number_of(count) as usize)?
-        }
-        _ => push_all(out, bench)?,
+        ["calls"] | ["fail", ..] | ["bytes", ..] => bench.answer(out, words),
+        ["counts"] => Ok(push_counts(out, run)?),
+        words => answer_step(*out.allocator(), run, words).push(out),
     }
+}
+
+/// Whether a line makes a disk, or opens a store anew.
+fn opens(line: &str) -> bool {
+    line.starts_with("new ") || line.starts_with("format1 ") || line == "open"
+}
+
+/// Prints a line with its answer.
+fn tell(
+    rt: &(impl Print + AllocGlobal),
+    bench: &mut Bench,
+    run: &mut Run,
+    line: &str,
+) -> Result<()>
+    requires { IsRun run.old }
+    ensures { IsRun run.new }
+{
+    let mut out = String::new(rt.alloc());
+    if begin_answer(&mut out, line)? {
+        let words: Vec<&str> = line.split_whitespace().collect(rt.alloc())?;
+        push_answer(&mut out, bench, run, words.as_slice())?;
+    }
+    print!(rt; "{out}")?;
     Ok(())
 }
 
-/// Adds the answer to a line.
-pub(crate) fn answer(out: &mut String, bench: &mut Bench, line: &str) -> Result<()>
-    requires { IsBench bench.old }
-    ensures { IsBench bench.new }
+/// Prints the lines from one on with their answers, up to one that opens a store. Its place is the answer.
+fn tell_steps(
+    rt: &(impl Print + AllocGlobal),
+    bench: &mut Bench,
+    run: &mut Run,
+    lines: &[&str],
+    from: usize,
+) -> Result<usize>
+    requires { IsRun run.old }
 {
-    let alloc = *out.allocator();
-    let words: Vec<&str> = line.split_whitespace().collect(alloc)?;
-    match words.as_slice() {
-        ["new", ..] | ["format1", ..] | ["open"] => {
-            let answer = answer_opening(alloc, bench, words.as_slice())?;
-            Ok(answer.push(out)?)
+    for at in from..lines.len() {
+        if opens(lines[at]) {
+            return Ok(at);
         }
-        ["calls"] | ["fail", ..] | ["bytes", ..] | ["counts"] => {
-            answer_disk(out, bench, words.as_slice())
+        tell(rt, bench, run, lines[at])?;
+    }
+    Ok(lines.len())
+}
+
+fn tell_answer(rt: &(impl Print + AllocGlobal), line: &str, answer: &Answer) -> Result<()> {
+    let mut out = String::new(rt.alloc());
+    begin_answer(&mut out, line)?;
+    answer.push(&mut out)?;
+    print!(rt; "{out}")?;
+    Ok(())
+}
+
+/// The store over the disk, as it is opened now.
+fn run_over(alloc: Global, bench: &Bench) -> Result<Run, Answer>
+    ensures { IfOk result IsRun }
+{
+    match QuietDisk::over(&bench.watch) {
+        Ok(disk) => match opened(alloc, disk, bench.limits) {
+            Ok(store) => Ok(Run::new(store)),
+            Err(cause) => Err(Answer::Unopened(cause)),
+        },
+        Err(Memory) => Err(Answer::Memory),
+    }
+}
+
+/// Opens the store for a line, and prints the lines behind it with their answers, up to the next one that opens a store.
+pub(crate) fn tell_store(
+    rt: &(impl Print + AllocGlobal),
+    bench: &mut Bench,
+    lines: &[&str],
+    from: usize,
+    line: &str,
+) -> Result<usize> {
+    match run_over(rt.alloc(), bench) {
+        Ok(mut run) => {
+            tell_answer(rt, line, &Answer::Done)?;
+            tell_steps(rt, bench, &mut run, lines, from)
         }
-        _ => Ok(answer_step(alloc, bench, words.as_slice()).push(out)?),
+        Err(answer) => {
+            tell_answer(rt, line, &answer)?;
+            Ok(from)
+        }
     }
 }

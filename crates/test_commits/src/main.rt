@@ -7,41 +7,58 @@
 //! call from now fails, and `bytes 512 8` which bytes stand at a place.
 #![tactic(auto)]
 
-ghost use Rattle.test_commits.specs.Benches.{IsBench};
-
 mod bench;
 mod lines;
 mod sessions;
 
 use anyhow::Result;
 use bench::Bench;
-use cell_values::Bytes;
-use lines::answer;
-use store_opening::Limits;
-use test_kit::{begin_answer, input};
+use lines::tell_store;
+use test_kit::input;
 
-/// Adds a line, and what it is answered.
-fn tell(out: &mut String, bench: &mut Bench, line: &str) -> Result<()>
-    requires { IsBench bench.old }
-    ensures { IsBench bench.new }
-{
-    if begin_answer(out, line)? {
-        answer(out, bench, line)?;
-    }
+/// Prints a line that isn't about a store that is open.
+fn tell_line(rt: &impl Print, line: &str) -> Result<()> {
+    println!(rt; "{line}")?;
     Ok(())
+}
+
+/// Prints the lines from one on with their answers, as long as they are over one disk. The place of the next one is the answer.
+fn tell_disk(
+    rt: &(impl Print + AllocGlobal),
+    bench: &mut Bench,
+    lines: &[&str],
+    from: usize,
+) -> Result<usize> {
+    let mut at = from;
+    for _ in from..lines.len() {
+        if at >= lines.len() {
+            break;
+        }
+        let line = lines[at];
+        if at > from && line != "open" {
+            break;
+        }
+        at = tell_store(rt, bench, lines, at.saturating_add(1), line)?;
+    }
+    Ok(at)
 }
 
 fn main(rt: HostRuntime) -> Result<()> {
     let text = input(&rt)?;
-    let limits = Limits {
-        pages: 0,
-        history: 0,
-    };
-    let mut bench = Bench::new(rt.alloc(), Bytes::new(rt.alloc()), limits)?;
-    for line in text.lines() {
-        let mut out = String::new(rt.alloc());
-        tell(&mut out, &mut bench, line)?;
-        print!(rt; "{out}")?;
+    let lines: Vec<&str> = text.lines().collect(rt.alloc())?;
+    let mut at = 0;
+    for _ in 0..lines.len() {
+        if at >= lines.len() {
+            break;
+        }
+        let words: Vec<&str> = lines[at].split_whitespace().collect(rt.alloc())?;
+        match Bench::of(rt.alloc(), words.as_slice())? {
+            Some(mut bench) => at = tell_disk(&rt, &mut bench, lines.as_slice(), at)?,
+            None => {
+                tell_line(&rt, lines[at])?;
+                at = at.saturating_add(1);
+            }
+        }
     }
     Ok(())
 }

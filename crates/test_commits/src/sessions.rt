@@ -5,7 +5,7 @@ ghost use Rattle.plan_changes.specs.Stored.{AreStored};
 ghost use Rattle.store_ledger.specs.Ledger.{IsOpenPin};
 ghost use Rattle.store_state.specs.Calls.{IsLeafOf};
 ghost use Rattle.test_stores.specs.Holds.{HasNoPins, IsHold, LeavesAll, LeavesOthers};
-ghost use Rattle.test_commits.specs.Benches.{IsRun};
+ghost use Rattle.test_commits.specs.Runs.{IsRun};
 
 use array_store::Store;
 use cell_values::{Bytes, List, Memory, Name};

@@ -29,6 +29,8 @@ pub enum Answer {
     Unknown,
     /// The statement changes nothing.
     NoChange,
+    /// The change reads stored arrays.
+    Reads,
     Refused(Refusal),
     /// What the change is about, or what it reads, was changed since the pin.
     Stale,
@@ -83,6 +85,7 @@ impl Answer {
             Answer::HasTried => out.push_str("error: the session tried a commit\n")?,
             Answer::Unknown => out.push_str("error: unknown\n")?,
             Answer::NoChange => out.push_str("error: no change\n")?,
+            Answer::Reads => out.push_str("error: reads\n")?,
             Answer::Refused(refusal) => push_refusal(out, refusal)?,
             Answer::Stale => out.push_str("error: stale\n")?,
             Answer::HistoryFull { entries } => writeln!(out, "error: history full, {entries} entries")?,

@@ -52,7 +52,7 @@ fn is_left<D: Disk>(store: &Store<D>, pinned: &Pinned, change: Change) -> bool
 }
 
 /// The change that a text is under a pin, if nothing of it was changed since.
-pub fn change_under<D: Disk>(
+pub(crate) fn change_under<D: Disk>(
     alloc: Global,
     store: &Store<D>,
     pinned: &Pinned,

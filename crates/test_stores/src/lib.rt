@@ -3,6 +3,8 @@
 
 mod answers;
 mod changes;
+mod chunks;
+mod commits;
 mod costs;
 mod holds;
 mod opening;
@@ -14,7 +16,7 @@ mod watch;
 mod versions;
 
 pub use answers::Answer;
-pub use changes::change_under;
+pub use commits::{changed, once};
 pub use costs::push_costs;
 pub use holds::Hold;
 pub use opening::opened;
