@@ -1,4 +1,6 @@
 pub mod Added
 pub mod Counted
 pub mod FreshChanges
+pub mod Sealed
+pub mod Tried
 pub mod Untried

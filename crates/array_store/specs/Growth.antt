@@ -5,10 +5,10 @@ use Rattle.afl_outside.specs.Disk.{Moment}
 use Rattle.event_core.specs.declared.entry.Entry.{Entry}
 use Rattle.event_core.specs.declared.entry.Entry.TheVariants.{Pin, Unpin, Commit, Reap}
 use Rattle.event_core.specs.Bases.{commits}
-use Rattle.store_ledger.specs.declared.note.NoteKind.TheVariants.{Fault}
+use Rattle.store_ledger.specs.declared.note.NoteKind.TheVariants.{Fault, Tried}
 use Rattle.store_ledger.specs.Ledger.{LedgerState, AreWithin, history, is_noted, note_now}
 use Rattle.store_state.specs.declared.event.Event.{Event}
-use Rattle.store_state.specs.declared.event.Event.TheVariants.{Noted}
+use Rattle.store_state.specs.declared.event.Event.TheVariants.{Entered, Noted}
 use Rattle.store_state.specs.Events.{events}
 use Rattle.store_state.specs.Standings.{Standing}
 use Rattle.array_store.specs.Starts.{start_of}
@@ -34,6 +34,10 @@ is_plain Reap = true
 -- the note of a fault under a session's pin, if none was made there yet
 abbrev pub fault_events : LedgerState → ℕ → List Event
 fault_events ledger session = if is_noted Fault ledger session then [] else Noted (note_now Fault ledger session) ∷ []
+
+-- the note that a session tries a commit, and a reap behind it, if one came
+abbrev pub tried_events : Bool → LedgerState → ℕ → List Event
+tried_events comes ledger session = Noted (note_now Tried ledger session) ∷ (if comes then Entered Reap ∷ [] else [])
 
 -- where the disk's count of faults rose this note is added, and else nothing
 pub record AddsFault {D : Type 0} (moment : D → Moment) (session : ℕ) (old new : Standing D) : Type 0 where

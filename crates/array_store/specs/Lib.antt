@@ -1,3 +1,4 @@
 pub mod Growth
 pub mod Laws
+pub mod Sealing
 pub mod Starts

@@ -4,7 +4,9 @@
 mod freshness;
 mod laws;
 mod opening;
+mod preparing;
 mod reading;
+mod sealing;
 mod start;
 mod stepping;
 mod store;

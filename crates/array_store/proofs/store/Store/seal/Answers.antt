@@ -1,0 +1,37 @@
+use Rattle.std.proofs.Common.{MatchResult, sym, subst}
+use Rattle.store_state.specs.At.{standing}
+use Rattle.prepared_commits.specs.Prepared.{IsPreparedFor}
+use Rattle.store_sealing.proofs.Sealed.{HasCome}
+use Rattle.array_store.specs.Growth.{AddsFault}
+use Rattle.array_store.specs.Sealing.{AddsCommit}
+use Rattle.array_store.proofs.Added.{is_counted}
+use Rattle.array_store.proofs.Sealed.{seal_adds}
+use Rattle.array_store.proofs.store.Store.seal.Goals as goal
+
+pub seal-requires : goal.seal-requires
+seal-requires g c = record {
+  at = c.self.invariant;
+  prepared = subst (λ parts. IsPreparedFor g.D.Disk.moment parts c.args.prepared) (sym c.self.view_is) c.requires;
+}
+
+pub returns : goal.returns
+returns g c =
+    let moment = g.D.Disk.moment in
+    let parts = c.self.inside.parts in
+    let new = c.seal.new.parts in
+    let p = c.args.prepared in
+    let e = c.seal.ensures in
+    let come : HasCome moment parts p c.seal.result new = record {
+      parts = e.at;
+      ok = e.ok;
+      err = e.err;
+      noted = e.noted;
+      during = e.during;
+      durable = e.durable;
+      cause = e.cause;
+    } in
+    let is = subst (λ old. HasCome moment old p c.seal.result new) c.self.view_is come in
+    let adds = subst (λ old. MatchResult c.seal.result (λ _. AddsCommit moment p (standing moment old) (standing moment new))
+        (λ _. AddsFault moment p.session (standing moment old) (standing moment new))) c.self.view_is
+        (seal_adds moment (standing moment parts) (standing moment new) p (is_counted moment parts c.self.invariant c.is_ledger.ensures) c.seal.result e.ok e.err e.noted) in
+    record { ok = is.ok; err = is.err; noted = is.noted; adds = adds; during = is.during; durable = is.durable; cause = is.cause }

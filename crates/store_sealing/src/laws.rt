@@ -1,0 +1,17 @@
+//! What holds of a commit that is sealed, or stops.
+ghost use Rattle.store_sealing.specs.Inner.Lawful.{CommitsHold};
+
+use afl_outside::Disk;
+use store_cells::{commits_pass_by, sealed_cells_are_held, stopped_cells_are_held};
+use store_steps::{sealed_stores_are_kept, stopped_stores_are_kept};
+
+/// What a store keeps and holds then, and what each image of those moments stands for. No code has to be run for it.
+pub(crate) fn commits_hold<D: Disk>()
+    ensures { CommitsHold D.moment }
+{
+    sealed_stores_are_kept::<D>();
+    stopped_stores_are_kept::<D>();
+    sealed_cells_are_held::<D>();
+    stopped_cells_are_held::<D>();
+    commits_pass_by::<D>();
+}

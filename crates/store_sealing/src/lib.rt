@@ -1,0 +1,11 @@
+//! The call that commits what was prepared.
+#![tactic(auto)]
+
+mod finishing;
+mod laws;
+mod sealing;
+mod settling;
+mod stopping;
+mod writing;
+
+pub use sealing::seal;
