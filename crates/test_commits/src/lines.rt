@@ -3,7 +3,7 @@ ghost use Rattle.std.specs.Prelude.{IfOk};
 ghost use Rattle.test_commits.specs.Runs.{IsRun};
 
 use crate::bench::Bench;
-use crate::sessions::{Run, Step, answer_to};
+use crate::sessions::{Run, Step, answer_to, create_all};
 use anyhow::Result;
 use cell_values::Memory;
 use std::alloc::{AllocError, Global};
@@ -31,8 +31,20 @@ fn answer_step(alloc: Global, run: &mut Run, words: &[&str]) -> Answer
         ["unpin", session] => answer_to(alloc, run, session, Step::Unpin),
         ["cells", session, word] => answer_to(alloc, run, session, Step::Cells(word)),
         ["versions", session, word] => answer_to(alloc, run, session, Step::Versions(word)),
+        ["create", from, to] => create_all(alloc, run, from, to),
         ["reap"] => reaped(&mut run.store),
         _ => Answer::Unknown,
+    }
+}
+
+/// The text behind the first two words of a line, each with a space.
+fn text_behind(line: &str) -> &str {
+    match line.split_once(' ') {
+        Some((_, rest)) => match rest.split_once(' ') {
+            Some((_, text)) => text,
+            None => "",
+        },
+        None => "",
     }
 }
 
@@ -41,6 +53,7 @@ fn push_answer(
     out: &mut String,
     bench: &mut Bench,
     run: &mut Run,
+    line: &str,
     words: &[&str],
 ) -> Result<(), Memory>
     requires { IsRun run.old }
@@ -49,6 +62,10 @@ fn push_answer(
     match words {
         ["calls"] | ["fail", ..] | ["bytes", ..] => bench.answer(out, words),
         ["counts"] => Ok(push_counts(out, run)?),
+        ["change", session, ..] => {
+            let text = text_behind(line);
+            answer_to(*out.allocator(), run, session, Step::Change(text)).push(out)
+        }
         words => answer_step(*out.allocator(), run, words).push(out),
     }
 }
@@ -71,7 +88,7 @@ fn tell(
     let mut out = String::new(rt.alloc());
     if begin_answer(&mut out, line)? {
         let words: Vec<&str> = line.split_whitespace().collect(rt.alloc())?;
-        push_answer(&mut out, bench, run, words.as_slice())?;
+        push_answer(&mut out, bench, run, line, words.as_slice())?;
     }
     print!(rt; "{out}")?;
     Ok(())

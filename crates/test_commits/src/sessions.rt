@@ -14,7 +14,7 @@ use plan_changes::entry_named;
 use std::alloc::Global;
 use std::mem::replace;
 use store_ledger::Pinned;
-use test_stores::{Answer, Hold, QuietDisk, cells, leaf_of, pinned, unpinned};
+use test_stores::{Answer, Hold, QuietDisk, cells, changed, leaf_of, once, pinned, unpinned};
 
 /// A store, and what two sessions have of it.
 #[derive(Drop)]
@@ -29,6 +29,7 @@ pub(crate) struct Run {
 pub(crate) enum Step<'a> {
     Pin,
     Unpin,
+    Change(&'a str),
     Cells(&'a str),
     Versions(&'a str),
 }
@@ -147,6 +148,7 @@ fn take_step(
             let answer = unpinned(store, session, held);
             (Hold::Free, answer)
         }
+        Step::Change(text) => changed(alloc, store, session, held, text.as_bytes()),
         Step::Cells(word) => {
             let answer = told_cells(alloc, store, session, &held, word);
             (held, answer)
@@ -178,4 +180,32 @@ pub(crate) fn answer_to(alloc: Global, run: &mut Run, session: &str, step: Step<
         }
         _ => Answer::Unknown,
     }
+}
+
+fn create_one(alloc: Global, run: &mut Run, number: u32) -> Answer
+    requires { IsRun run.old }
+    ensures { IsRun run.new }
+{
+    let Ok(text) = format!(in alloc; "create array A{number} <v:int64>[i=0:0,1,0]") else {
+        return Answer::Memory;
+    };
+    match &run.first {
+        Hold::Free => once(alloc, &mut run.store, 0, text.as_bytes()),
+        Hold::Pinned(_) => Answer::HasPin,
+        Hold::Tried(_) => Answer::HasPin,
+    }
+}
+
+/// Creates an array for each number from one up to another, each in a commit of its own, as long as that is done.
+pub(crate) fn create_all(alloc: Global, run: &mut Run, from: &str, to: &str) -> Answer
+    requires { IsRun run.old }
+    ensures { IsRun run.new }
+{
+    for number in from.parse::<u32>().unwrap_or(0)..to.parse::<u32>().unwrap_or(0) {
+        match create_one(alloc, run, number) {
+            Answer::Done => {}
+            answer => return answer,
+        }
+    }
+    Answer::Done
 }
