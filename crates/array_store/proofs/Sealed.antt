@@ -19,7 +19,7 @@ use Rattle.array_store.proofs.Tried.{adds_both}
 
 module _ {D : Type 0} (moment : D → Moment) (s : Standing D) (p : Prepared) (counted : IsCounted s) (ledger : LedgerState) (disk : D)
     (n : NotesFault (moment s.disk).state (moment disk).state p.session (sealed_ledger s p) ledger) where
-  event : Event
+  abbrev event : Event
   event = Acknowledged (entry_of p) (moment disk).state.moment (made_by p)
 
   commit : AddsEvents (event ∷ []) s (sealed moment s p (sealed_ledger s p) disk)

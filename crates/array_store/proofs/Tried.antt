@@ -18,7 +18,7 @@ use Rattle.store_preparing.specs.Left.{IsLeft, reaped_if, tried_now}
 use Rattle.array_store.specs.Growth.{AddsEvents, IsCounted, tried_events}
 use Rattle.array_store.proofs.Added.{entries_add_events, notes_add_events}
 
-adds_both : {D : Type 0} (more rest : List Event) (s t u : Standing D) → AddsEvents more s t → AddsEvents rest t u → AddsEvents (more ++ rest) s u
+pub adds_both : {D : Type 0} (more rest : List Event) (s t u : Standing D) → AddsEvents more s t → AddsEvents rest t u → AddsEvents (more ++ rest) s u
 adds_both more rest s t u a b = record {
   start = b.start ∙ a.start;
   grown = b.grown ∙ ap (λ (es : List Event). es ++ rest) a.grown ∙ append_assoc (events s) more rest;

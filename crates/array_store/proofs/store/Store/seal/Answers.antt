@@ -32,6 +32,6 @@ returns g c =
     } in
     let is = subst (λ old. HasCome moment old p c.seal.result new) c.self.view_is come in
     let adds = subst (λ old. MatchResult c.seal.result (λ _. AddsCommit moment p (standing moment old) (standing moment new))
-        (λ _. AddsFault moment p.session (standing moment old) (standing moment new))) c.self.view_is
-        (seal_adds moment (standing moment parts) (standing moment new) p (is_counted moment parts c.self.invariant c.is_ledger.ensures) c.seal.result e.ok e.err e.noted) in
+    (λ _. AddsFault moment p.session (standing moment old) (standing moment new))) c.self.view_is
+    (seal_adds moment (standing moment parts) (standing moment new) p (is_counted moment parts c.self.invariant c.is_ledger.ensures) c.seal.result e.ok e.err e.noted) in
     record { ok = is.ok; err = is.err; noted = is.noted; adds = adds; during = is.during; durable = is.durable; cause = is.cause }
