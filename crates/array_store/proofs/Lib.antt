@@ -3,3 +3,4 @@ pub mod Counted
 pub mod FreshChanges
 pub mod Sealed
 pub mod Tried
+pub mod Untried

@@ -1,5 +1,6 @@
 //! The store as one value.
 ghost use Rattle.std.specs.Prelude.{◌≡◌, length};
+ghost use Rattle.plan_changes.specs.Stored.{AreStored};
 ghost use Rattle.event_core.specs.History.{names_at};
 ghost use Rattle.store_ledger.specs.Ledger.{IsLedger, history, unused_pages};
 
@@ -66,7 +67,8 @@ pub(crate) fn is_ledger(ledger: &Ledger)
 impl<D: Disk> Store<D> {
     /// What can be named now.
     pub fn names(&self) -> &Names
-        ensures { result.now ≡ names_at self.now.ledger.base (history self.now.ledger) }
+        ensures names { result.now ≡ names_at self.now.ledger.base (history self.now.ledger) }
+        ensures stored { AreStored result.now }
     {
         self.parts.ledger.names()
     }

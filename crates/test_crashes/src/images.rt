@@ -1,11 +1,11 @@
 //! What a crash may leave of a file, and what that opens as.
 
-use afl_in_memory::{DeviceCall, MemDisk};
+use afl_in_memory::MemDisk;
 use afl_outside::Disk;
 use cell_values::{Bytes, List, Memory};
 use page_file::PageFile;
 use std::alloc::Global;
-use test_files::{disk_of, open};
+use test_files::{disk_of, kept_by, open, unsynced};
 
 /// What a file opens as.
 #[derive(Clone, Copy)]
@@ -112,28 +112,6 @@ fn opens_as(alloc: Global, bytes: Bytes, before: u64) -> Result<Opens, Memory> {
             opens
         }
     }
-}
-
-/// How many writes there are behind the last sync that was done.
-fn unsynced(calls: &[DeviceCall]) -> usize {
-    let mut writes = 0usize;
-    for call in calls {
-        match call {
-            DeviceCall::Write { .. } => writes = writes.saturating_add(1),
-            DeviceCall::Sync { done: true } => writes = 0,
-            _ => {}
-        }
-    }
-    writes
-}
-
-/// Which of so many writes stand: all of them by pattern 0, all but one by those up to their number, and none by the next one.
-fn kept_by(alloc: Global, pattern: usize, writes: usize) -> Result<List<bool>, Memory> {
-    let mut kept = List::new(alloc);
-    for write in 0..writes {
-        kept.push(pattern <= writes && pattern != write + 1)?;
-    }
-    Ok(kept)
 }
 
 fn add_images(
