@@ -6,7 +6,7 @@ use Rattle.event_core.specs.declared.entry.Entry.{Entry}
 use Rattle.event_core.specs.declared.entry.Entry.TheVariants.{Pin, Unpin, Commit, Reap}
 use Rattle.event_core.specs.Bases.{commits}
 use Rattle.store_ledger.specs.declared.note.NoteKind.TheVariants.{Fault}
-use Rattle.store_ledger.specs.Ledger.{LedgerState, AreWithin, history, is_noted, note_now}
+use Rattle.store_ledger.specs.Ledger.{LedgerState, AreWithin, history, is_noted, note_now, is_fault}
 use Rattle.store_state.specs.declared.event.Event.{Event}
 use Rattle.store_state.specs.declared.event.Event.TheVariants.{Noted}
 use Rattle.store_state.specs.Events.{events}
@@ -33,7 +33,7 @@ is_plain Reap = true
 
 -- the note of a fault under a session's pin, if none was made there yet
 abbrev pub fault_events : LedgerState → ℕ → List Event
-fault_events ledger session = if is_noted Fault ledger session then [] else Noted (note_now Fault ledger session) ∷ []
+fault_events ledger session = if is_noted is_fault ledger session then [] else Noted (note_now Fault ledger session) ∷ []
 
 -- where the disk's count of faults rose this note is added, and else nothing
 pub record AddsFault {D : Type 0} (moment : D → Moment) (session : ℕ) (old new : Standing D) : Type 0 where

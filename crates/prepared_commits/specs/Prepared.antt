@@ -21,8 +21,7 @@ use Rattle.event_core.specs.Legal.{has_committed}
 use Rattle.event_core.specs.Pages.{free_at, fresh_at}
 use Rattle.event_core.specs.Ready.{IsReadyOver}
 use Rattle.event_core.specs.Replay.{core_at}
-use Rattle.store_ledger.specs.declared.note.NoteKind.TheVariants.{Tried}
-use Rattle.store_ledger.specs.Ledger.{has_room, history, is_noted}
+use Rattle.store_ledger.specs.Ledger.{has_room, history, is_noted, is_tried}
 use Rattle.store_versions.specs.Rows.{IsReadyFor}
 use Rattle.commit_costs.specs.Costs.{cost_from}
 use Rattle.commit_writes.specs.Commits.{IsBlobSized, IsChainSized}
@@ -71,7 +70,7 @@ pub record MayCome {D : Type 0} (moment : D → Moment) (s : Standing D) (k : Ke
   pub allowed : IsTrue (allows s.ledger.base (history s.ledger) (Commit p.session p.commit.change p.commit.used))
   pub own : SharesOwn s.ledger.base (history s.ledger) p.commit.change p.commit.used
   pub first : has_committed p.session (history s.ledger) ≡ false
-  pub noted : IsTrue (is_noted Tried s.ledger p.session)
+  pub noted : IsTrue (is_noted is_tried s.ledger p.session)
   pub room : IsTrue (has_room s.ledger 1)
   pub version : IsReadyFor (names_at s.ledger.base (history s.ledger)) p.commit.change (length k.rows) p.version
   pub sequence : next_sequence s < 2 ^ 64

@@ -5,7 +5,7 @@ use Rattle.afl_outside.specs.Counts.{risen}
 use Rattle.afl_outside.specs.Disk.{DiskState, LeavesOnly, Moment}
 use Rattle.store_ledger.specs.declared.note.Note.{Note}
 use Rattle.store_ledger.specs.declared.note.NoteKind.TheVariants.{Fault}
-use Rattle.store_ledger.specs.Ledger.{LedgerState, is_noted, note_now, with_notes}
+use Rattle.store_ledger.specs.Ledger.{LedgerState, is_noted, note_now, with_notes, is_fault}
 use Rattle.store_state.specs.Calls.{NotesFault}
 use Rattle.store_state.specs.Standings.{given_of}
 use Rattle.store_cells.specs.Laws.{CommitsPassBy}
@@ -40,4 +40,4 @@ noted_is old new session before ledger notes = by_cases (cases_lt new.faults (ri
 
     by_cases : (new.faults < risen old.faults) ⊎ (risen old.faults ≤ new.faults) → (notes : List Note) × (ledger ≡ record before { notes = notes })
     by_cases (inl below) = (before.notes, notes.still (λ rose. omega (arith, below, rose)))
-    by_cases (inr rose) = by_noted (is_noted Fault before session) (notes.rose rose)
+    by_cases (inr rose) = by_noted (is_noted is_fault before session) (notes.rose rose)

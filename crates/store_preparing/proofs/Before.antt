@@ -7,8 +7,7 @@ use Rattle.event_core.specs.Allowed.{is_pinned}
 use Rattle.commit_pages.specs.declared.written.Written.{Written}
 use Rattle.commit_pages.specs.Changes.{AreValid}
 use Rattle.commit_pages.specs.Versions.{CanBeListed, IsWritten, draft, draft_of}
-use Rattle.store_ledger.specs.declared.note.NoteKind.TheVariants.{Tried}
-use Rattle.store_ledger.specs.Ledger.{LedgerState, has_room, history, is_noted}
+use Rattle.store_ledger.specs.Ledger.{LedgerState, has_room, history, is_noted, is_tried}
 use Rattle.store_state.specs.declared.parts.StoreParts.{StoreParts}
 use Rattle.store_state.specs.At.{IsAt, keeping, standing}
 use Rattle.store_state.specs.Standings.{Standing}
@@ -29,7 +28,7 @@ listed_of n None listed valid one = tt
 listed_of n (Some some) listed valid one = listed valid one
 
 pub before : {D : Type 0} (moment : D → Moment) (s : Standing D) (k : Keeping) (change : Change) (changed : Option Changed) (session sequence : ℕ) (written : Option Written) (l : LedgerState) → IsAt moment s k
-    → IsAsked moment s change changed → sequence ≡ next_sequence s → 1 ≤ sequence → sequence < 2 ^ 64 → IsTrue (is_pinned session (history s.ledger)) → is_noted Tried s.ledger session ≡ false
+    → IsAsked moment s change changed → sequence ≡ next_sequence s → 1 ≤ sequence → sequence < 2 ^ 64 → IsTrue (is_pinned session (history s.ledger)) → is_noted is_tried s.ledger session ≡ false
     → l ≡ (tried_now session s).ledger → IsTrue (has_room l 2) → written ≡ draft_of sequence changed → IfSome written IsWritten
     → IfSome changed (λ some. AreValid some → 1 ≤ sequence → CanBeListed (length some.schema.dimensions) (draft sequence some)) → s.ledger.base.limit ≤ 2 ^ 32
     → IsBefore moment (tried_now session s) k change changed session sequence

@@ -37,8 +37,7 @@ use Rattle.commit_pages.specs.Changes.{AreValid, ComesWith}
 use Rattle.commit_pages.specs.Commits.{record_laid, base_laid}
 use Rattle.commit_pages.specs.Versions.{CanBeListed, IsWritten, directory_of as directory_by, draft, draft_of, settled, version_in}
 use Rattle.laid_commits.proofs.Cores.{have_cores}
-use Rattle.store_ledger.specs.declared.note.NoteKind.TheVariants.{Tried}
-use Rattle.store_ledger.specs.Ledger.{LedgerState, has_room, history, is_noted}
+use Rattle.store_ledger.specs.Ledger.{LedgerState, has_room, history, is_noted, is_tried}
 use Rattle.store_versions.specs.Rows.{IsReadyFor}
 use Rattle.store_state.specs.At.{IsAt}
 use Rattle.store_state.specs.Standings.{Standing, BeganAs, base_of, given_of, versions_after}
@@ -152,7 +151,7 @@ module _ {D : Type 0} (moment : D → Moment) (s : Standing D) (k : Keeping) (x 
       }
 
   pub may_come : NeedsAreCosts moment s k → (made : IsPreparedAs k.slots.target (next_sequence s) k.catalog (newest_now s change) (length k.rows) change (written_now s changed) session s.ledger p)
-      → IsTrue (is_pinned session (history s.ledger)) → has_committed session (history s.ledger) ≡ false → IsTrue (is_noted Tried s.ledger session) → IsTrue (has_room s.ledger 1) → next_sequence s < 2 ^ 64 → length k.slots.records ≤ 64 → s.ledger.base.limit ≤ 2 ^ 32
+      → IsTrue (is_pinned session (history s.ledger)) → has_committed session (history s.ledger) ≡ false → IsTrue (is_noted is_tried s.ledger session) → IsTrue (has_room s.ledger 1) → next_sequence s < 2 ^ 64 → length k.slots.records ≤ 64 → s.ledger.base.limit ≤ 2 ^ 32
       → IsUse s.ledger.base (history s.ledger) k.slots.target (next_sequence s) k.catalog (newest_now s change) change (written_now s changed) made.layout.laid made.layout.base
       → MayCome moment s k p
   may_come costs made pinned first noted room small few below uses =
@@ -168,7 +167,7 @@ module _ {D : Type 0} (moment : D → Moment) (s : Standing D) (k : Keeping) (x 
             (subst (λ (c : ReadyFor). IsTrue (allows base h (Commit session c.change c.used))) commit (uses.may.allowed session pinned asked.typed.0));
         own = subst (λ (c : ReadyFor). SharesOwn base h c.change c.used) commit uses.may.own;
         first = subst (λ (n : ℕ). has_committed n h ≡ false) by first;
-        noted = subst (λ (n : ℕ). IsTrue (is_noted Tried s.ledger n)) by noted;
+        noted = subst (λ (n : ℕ). IsTrue (is_noted is_tried s.ledger n)) by noted;
         room = room;
         version = subst (λ (c : ReadyFor). IsReadyFor (names_at base h) c.change (length k.rows) p.version) commit made.ready.version;
         sequence = small;
@@ -210,7 +209,7 @@ pub record IsBefore {D : Type 0} (moment : D → Moment) (s : Standing D) (k : K
   pub small : sequence < 2 ^ 64
   pub pinned : IsTrue (is_pinned session (history s.ledger))
   pub first : has_committed session (history s.ledger) ≡ false
-  pub noted : IsTrue (is_noted Tried s.ledger session)
+  pub noted : IsTrue (is_noted is_tried s.ledger session)
   pub room : IsTrue (has_room s.ledger 2)
   pub written : IfSome (draft_of sequence changed) IsWritten
   pub listed : IfSome changed (λ some. CanBeListed (length some.schema.dimensions) (draft sequence some))
@@ -232,7 +231,7 @@ prepared_still moment s k change changed session sequence p comes is costs made 
     let history_is : history t.ledger ≡ reaped_history comes (history s.ledger) = ap history (ledger_of comes s) ∙ history_of comes s.ledger in
     let pinned : is_pinned session (history t.ledger) ≡ true = ap (is_pinned session) history_is ∙ same_pin comes session (history s.ledger) ∙ is.pinned in
     let first : has_committed session (history t.ledger) ≡ false = ap (has_committed session) history_is ∙ same_committed comes session (history s.ledger) ∙ is.first in
-    let noted : is_noted Tried t.ledger session ≡ true = ap (λ (l : LedgerState). is_noted Tried l session) (ledger_of comes s) ∙ same_noted comes s.ledger session ∙ is.noted in
+    let noted : is_noted is_tried t.ledger session ≡ true = ap (λ (l : LedgerState). is_noted is_tried l session) (ledger_of comes s) ∙ same_noted comes s.ledger session ∙ is.noted in
     let room : IsTrue (has_room t.ledger 1) = subst (λ (l : LedgerState). IsTrue (has_room l 1)) (sym (ledger_of comes s)) (room_left comes s.ledger is.room) in
     let newest : newest_now s change ≡ newest_now t change = sym (newest_reaped comes s change) in
     let next : sequence ≡ next_sequence t = is.next ∙ sym (next_reaped comes s) in

@@ -14,8 +14,7 @@ use Rattle.event_core.specs.Allowed.{is_pinned}
 use Rattle.event_core.specs.Cells.{at}
 use Rattle.event_core.specs.History.{History, names_at, open_pins, pin_before}
 use Rattle.event_core.specs.Legal.{has_committed}
-use Rattle.store_ledger.specs.declared.note.NoteKind.TheVariants.{Tried}
-use Rattle.store_ledger.specs.Ledger.{LedgerState, has_room, has_under, history, is_noted, reserved, reserved_by}
+use Rattle.store_ledger.specs.Ledger.{LedgerState, has_room, has_under, history, is_noted, reserved, reserved_by, is_tried}
 use Rattle.store_ledger.proofs.Pins.{one_more}
 use Rattle.store_state.specs.At.{IsAt}
 use Rattle.store_state.specs.Standings.{Standing}
@@ -56,8 +55,8 @@ pub same_database : (comes : Bool) (db : Database) (h : History) → at db (reap
 same_database true db h = refl
 same_database false db h = refl
 
-pub same_noted : (comes : Bool) (ledger : LedgerState) (session : ℕ) → is_noted Tried (reaped comes ledger) session ≡ is_noted Tried ledger session
-same_noted true ledger session = ap (λ (h : History). has_under Tried ledger.notes session (pin_before session h)) (one_more ledger.entries Reap)
+pub same_noted : (comes : Bool) (ledger : LedgerState) (session : ℕ) → is_noted is_tried (reaped comes ledger) session ≡ is_noted is_tried ledger session
+same_noted true ledger session = ap (λ (h : History). has_under is_tried ledger.notes session (pin_before session h)) (one_more ledger.entries Reap)
 same_noted false ledger session = refl
 
 -- ---- room

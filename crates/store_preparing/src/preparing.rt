@@ -9,8 +9,7 @@ ghost use Rattle.event_core.specs.Bases.{sequence_at};
 ghost use Rattle.event_core.specs.History.{names_at};
 ghost use Rattle.commit_pages.specs.Changes.{AreValid};
 ghost use Rattle.commit_pages.specs.Versions.{CanBeListed, IsWritten, draft, draft_of};
-ghost use Rattle.store_ledger.specs.declared.note.NoteKind.TheVariants.{Tried};
-ghost use Rattle.store_ledger.specs.Ledger.{has_room, history, is_noted};
+ghost use Rattle.store_ledger.specs.Ledger.{has_room, history, is_noted, is_tried};
 ghost use Rattle.store_state.specs.At.{AreParts, keeping, standing};
 ghost use Rattle.store_state.specs.Standings.{base_of};
 ghost use Rattle.prepared_commits.specs.Needs.{needs, needs_by, newest_now};
@@ -122,7 +121,7 @@ pub fn prepare<D: Disk>(
 ) -> Result<Prepared, PrepareFault>
     requires at { AreParts D.moment parts.old }
     requires pinned { IsTrue (is_pinned session (history parts.old.ledger)) }
-    requires tried { is_noted Tried parts.old.ledger session ≡ false }
+    requires tried { is_noted is_tried parts.old.ledger session ≡ false }
     requires asked { IsAsked D.moment (standing D.moment parts.old) change changed }
     ensures at { AreParts D.moment parts.new }
     ensures left { IsLeft (needs (standing D.moment parts.old) (keeping parts.old) change changed) (tried_now session (standing D.moment parts.old))

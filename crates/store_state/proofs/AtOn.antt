@@ -17,8 +17,8 @@ use Rattle.event_core.specs.History.{History, open_pins}
 use Rattle.event_core.specs.Legal.{has_committed}
 use Rattle.event_laws.specs.Cores.{is_no_commit}
 use Rattle.store_ledger.specs.declared.note.Note.{Note}
-use Rattle.store_ledger.specs.declared.note.NoteKind.TheVariants.{Fault, Tried}
-use Rattle.store_ledger.specs.Ledger.{LedgerState, has_note, history, is_kind, is_noted, is_under, note_now, with_fault}
+use Rattle.store_ledger.specs.declared.note.NoteKind.TheVariants.{Fault}
+use Rattle.store_ledger.specs.Ledger.{LedgerState, has_note, history, is_noted, is_under, note_now, with_fault, is_tried, is_fault}
 use Rattle.store_ledger.proofs.Pins.{one_more}
 use Rattle.store_versions.specs.declared.row.VersionRow.{VersionRow}
 use Rattle.store_versions.specs.Rows.{needed_rows, places_at}
@@ -27,7 +27,7 @@ use Rattle.store_state.specs.Standings.{Standing, BeganAs, StoodFor, HaveStood, 
 use Rattle.store_state.specs.Kept.{IsKept}
 use Rattle.store_state.specs.Cells.{HoldsCells}
 use Rattle.store_state.specs.At.{IsAt}
-use Rattle.store_state.specs.Inner.Keeping.{Keeping, is_tried, AreCounted}
+use Rattle.store_state.specs.Inner.Keeping.{Keeping, tried_if_committed, AreCounted}
 use Rattle.store_state.proofs.Lists.{all_more, zip_map}
 use Rattle.store_state.proofs.KeptOn.{kept_pin, kept_unpin, kept_reap}
 use Rattle.store_state.proofs.CellsOn.{cells_pin, cells_unpin, cells_reap}
@@ -119,13 +119,13 @@ more_noted c true b e = e
 more_noted false false b e = refl
 more_noted true false b e = cc
 
-pub tried_on : (h : History) (notes : List Note) (note : Note) → list_all (is_tried h notes) (open_pins h) ≡ true → list_all (is_tried h (notes ++ note ∷ [])) (open_pins h) ≡ true
-tried_on h notes note all = all_more (is_tried h notes) (is_tried h (notes ++ note ∷ []))
-    (λ pin e. ap (λ (b : Bool). not (has_committed pin.session h) || b) (list_any-append (is_under Tried pin) notes (note ∷ []))
-    ∙ more_noted (has_committed pin.session h) (has_note Tried notes pin) _ e) (open_pins h) all
+pub tried_on : (h : History) (notes : List Note) (note : Note) → list_all (tried_if_committed h notes) (open_pins h) ≡ true → list_all (tried_if_committed h (notes ++ note ∷ [])) (open_pins h) ≡ true
+tried_on h notes note all = all_more (tried_if_committed h notes) (tried_if_committed h (notes ++ note ∷ []))
+    (λ pin e. ap (λ (b : Bool). not (has_committed pin.session h) || b) (list_any-append (is_under is_tried pin) notes (note ∷ []))
+    ∙ more_noted (has_committed pin.session h) (has_note is_tried notes pin) _ e) (open_pins h) all
 
 abbrev is_fault : Note → Bool
-is_fault note = is_kind Fault note.kind
+is_fault note = is_fault note.kind
 
 -- one more note of a fault
 faults_more : (notes : List Note) (note : Note) → is_fault note ≡ true → length (filter is_fault (notes ++ note ∷ [])) ≡ length (filter is_fault notes) + 1
@@ -247,7 +247,7 @@ module _ {D : Type 0} (moment : D → Moment) (s : Standing D) (k : Keeping) (di
   pub at_fault : (session : ℕ) → Rose (moment s.disk).state.faults (moment disk).state.faults → IsAt moment s k →
       IsAt moment (record s { disk = disk; ledger = with_fault session s.ledger }) k
   at_fault session rose x =
-      fault_if (is_noted Fault s.ledger session)
+      fault_if (is_noted is_fault s.ledger session)
     where
       fault_if : (b : Bool) → IsAt moment (record s { disk = disk; ledger = if b then s.ledger else (with_notes (note_now Fault s.ledger session ∷ []) s).ledger }) k
       fault_if true = at_read x
