@@ -124,16 +124,17 @@ pub fn prepare<D: Disk>(
     requires tried { is_noted is_tried parts.old.ledger session ≡ false }
     requires asked { IsAsked D.moment (standing D.moment parts.old) change changed }
     ensures at { AreParts D.moment parts.new }
-    ensures left { IsLeft (needs (standing D.moment parts.old) (keeping parts.old) change changed) (tried_now session (standing D.moment parts.old))
+    ensures left { IsLeft (needs (standing D.moment parts.old) (keeping parts.old) change changed) (tried_now session change (standing D.moment parts.old))
         result (standing D.moment parts.new) }
-    ensures ok { IfOk result (IsPreparedFor D.moment parts.new) }
+    ensures ok { IfOk result (IsPreparedFor D.moment parts.new changed) }
+    ensures kept { keeping parts.new ≡ keeping parts.old }
     ensures of { IfOk result (λ p. (p.session ≡ session) × (p.commit.change ≡ change)) }
     ensures fits { FitsIn (needs (standing D.moment parts.old) (keeping parts.old) change changed) result parts.new.ledger }
     ensures end { HasNext (sequence_at (base_of (standing D.moment parts.old)) (history parts.old.ledger)) result }
 {
     commits_need_what_they_cost::<D>();
     let _limit = parts.ledger.page_limit();
-    parts.ledger.note_tried(session);
+    parts.ledger.note_tried(session, &change);
     match next_sequence(&parts.file) {
         Some(sequence) => match written_of(alloc, changed, sequence) {
             Ok(written) => prepared_of(alloc, parts, session, change, written, sequence),
