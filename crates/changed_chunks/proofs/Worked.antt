@@ -1,8 +1,7 @@
 -- A worked insert: one cell put into an array of four, whose chunks the source lists and whose database it tells.
-use Rattle.std.proofs.Common.{◌≡◌, List, [], ◌∷◌, Some, None, Ok, refl, inr, arith}
+use Rattle.std.proofs.Common.{◌≡◌, [], ◌∷◌, Some, None, Ok, refl, inr, arith}
 use Rattle.std.specs.Prelude.{codes}
 use Rattle.array_rows.specs.Arrays.{AreRowsOf}
-use Rattle.array_geom.specs.declared.chunk.Changed.{Changed}
 use Rattle.logical_plan.specs.declared.parts.Leaf.{Leaf}
 use Rattle.logical_plan.specs.Typing.{AreSound}
 use Rattle.plan_changes.specs.Databases.{rows_of}

@@ -3,7 +3,7 @@ use Rattle.std.specs.Prelude.{ℕ, pos, codes}
 use Rattle.cell_values.specs.declared.datum.CompareOp.TheVariants.{More}
 use Rattle.cell_values.specs.declared.datum.Datum.TheVariants.{Int}
 use Rattle.expr_nulls.specs.declared.expr.ArithOp.TheVariants.{Sub, Div}
-use Rattle.expr_nulls.specs.Expr.{attribute_value, calculation, literal, relation}
+use Rattle.expr_nulls.specs.Expr.{Expr, attribute_value, calculation, literal, relation}
 use Rattle.logical_plan.specs.declared.parts.Leaf.{Leaf}
 use Rattle.logical_plan.specs.Query.{Query, filtered, scanned}
 use Rattle.plan_changes.specs.declared.change.Change.{Change}
@@ -13,10 +13,13 @@ use Rattle.test_sources.specs.declared.changes.Case.{Case}
 use Rattle.test_sources.specs.declared.changes.Case.TheVariants.{Stores, Inserts, Begins, Faults}
 use Rattle.test_sources.specs.declared.layout.Layout.{Layout}
 
+-- `1/(v-5)`
+abbrev pub share : Expr
+share = calculation Div (literal (Int (pos 1))) (calculation Sub (attribute_value 0) (literal (Int (pos 5))))
+
 -- `filter(a, 1/(v-5)>0)`, whose test has a fault where v is 5
 abbrev pub by_zero : Layout → Query
-by_zero layout =
-    filtered (scanned (leaf layout)) (relation More (calculation Div (literal (Int (pos 1))) (calculation Sub (attribute_value 0) (literal (Int (pos 5))))) (literal (Int (pos 0))))
+by_zero layout = filtered (scanned (leaf layout)) (relation More share (literal (Int (pos 0))))
 
 abbrev pub plan_of : Case → Layout → Query
 plan_of Stores layout = above_five layout

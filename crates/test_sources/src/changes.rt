@@ -1,12 +1,9 @@
 //! Changes of the array: the chunks that they write.
-ghost use Rattle.std.specs.Prelude.{◌≡◌, pos, None, IfOk, codes};
-ghost use Rattle.cell_values.specs.declared.datum.Datum.TheVariants.{Int};
-ghost use Rattle.expr_nulls.specs.declared.expr.ArithOp.TheVariants.{Sub, Div};
-ghost use Rattle.expr_nulls.specs.Expr.{attribute_value, calculation, literal};
+ghost use Rattle.std.specs.Prelude.{◌≡◌, None, IfOk, codes};
 ghost use Rattle.plan_changes.specs.declared.change.Change.TheVariants.{Insert};
 ghost use Rattle.chunk_source.specs.Source.{Reads};
 ghost use Rattle.changed_chunks.specs.Changing.{CanChange};
-ghost use Rattle.test_sources.specs.Changed.{by_zero, change_of, plan_of, target_of, version_of};
+ghost use Rattle.test_sources.specs.Changed.{by_zero, change_of, plan_of, share, target_of, version_of};
 ghost use Rattle.test_sources.specs.Example.{leaf, schema};
 ghost use Rattle.test_sources.specs.declared.changes.Case.TheVariants.{Stores};
 
@@ -71,7 +68,7 @@ fn target_of(alloc: Global, case: Case, layout: Layout) -> Result<Leaf, Memory>
 
 /// `1/(v-5)`
 fn share(alloc: Global) -> Result<TypedExpr, Memory>
-    ensures { IfOk result (λ made. made ≡ calculation Div (literal (Int (pos 1))) (calculation Sub (attribute_value 0) (literal (Int (pos 5))))) }
+    ensures { IfOk result (λ made. made ≡ share) }
 {
     let five = TypedExpr::lit(Datum::Int(5));
     let less = TypedExpr::arith(alloc, ArithOp::Sub, TypedExpr::attr(0), five)?;
