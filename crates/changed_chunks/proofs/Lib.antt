@@ -2,4 +2,5 @@ pub mod Asked
 pub mod Chunks
 pub mod Rows
 pub mod Told
+mod Worked
 pub mod Written

@@ -52,7 +52,7 @@ by_number : (db : Database) (name : List ℕ) (n : ℕ) → IsDatabase db → ve
 by_number db name zero is = sym (no_rows name db is.names.each)
 by_number db name (suc n) is = refl
 
-pub newest_told : (db : Database) (name : List ℕ) (target : Leaf) → IsDatabase db → target.name ≡ name → target.version ≡ newest_of (names_of db).arrays name → version_rows (rows_of db) target.name target.version ≡ newest_rows db name
+newest_told : (db : Database) (name : List ℕ) (target : Leaf) → IsDatabase db → target.name ≡ name → target.version ≡ newest_of (names_of db).arrays name → version_rows (rows_of db) target.name target.version ≡ newest_rows db name
 newest_told db name target is n v =
     (λ i. version_rows (rows_of db) (n i) ((v ∙ newest_number db name) i))
     ∙ by_number db name (newest_in (find (is_array name) db)) is

@@ -84,7 +84,7 @@ module _ (put : ChunkedArray) (can : CanBeStored put) where
   its_sound : AllByRecursion (HasSoundCells put.schema) put.chunks
   its_sound = sound_chunks put.schema put (cores_of put) can.holds can.sound
 
-  pub its_stored : AllByRecursion (IsStored put.schema) put.chunks
+  its_stored : AllByRecursion (IsStored put.schema) put.chunks
   its_stored = stored_chunks put.schema put.chunks its_valid its_sound
 
   its_parts : AllByRecursion (IsPart put.schema.dimensions (overlaps put.schema.dimensions) (cores_of put)) put.chunks

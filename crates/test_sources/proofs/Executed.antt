@@ -8,7 +8,7 @@ use Rattle.test_sources.specs.Example.{above_five, leaf}
 use Rattle.test_sources.specs.declared.layout.Layout.{Layout}
 use Rattle.test_sources.specs.declared.layout.Layout.TheVariants.{Singles, Pairs, Whole}
 
-typed : (layout : Layout) → IsTyped (above_five layout)
+pub typed : (layout : Layout) → IsTyped (above_five layout)
 typed Singles = (refl, refl)
 typed Pairs = (refl, refl)
 typed Whole = (refl, refl)

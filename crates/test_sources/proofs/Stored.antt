@@ -27,7 +27,7 @@ placed_at at c cell e = ap (λ (items : List ℤ). placed items cell) e
 
 -- ---- what `assemble` asks for
 
-valid : (layout : Layout) → IsValid (schema layout)
+pub valid : (layout : Layout) → IsValid (schema layout)
 valid Singles = refl
 valid Pairs = refl
 valid Whole = refl

@@ -22,7 +22,7 @@ use logical_plan::Leaf;
 use std::alloc::Global;
 
 /// A text that is no name counts as want of memory: the texts here are names.
-fn name(alloc: Global, bytes: &[u8]) -> Result<Name, Memory>
+pub(crate) fn name(alloc: Global, bytes: &[u8]) -> Result<Name, Memory>
     ensures { IfOk result (λ name. name ≡ bytes.now) }
 {
     match Name::new(List::from_slice(alloc, bytes)?) {
@@ -57,7 +57,7 @@ fn dimensions(alloc: Global, layout: Layout) -> Result<List<Dimension>, Memory>
     Ok(dimensions)
 }
 
-fn schema(alloc: Global, layout: Layout) -> Result<Schema, Memory>
+pub(crate) fn schema(alloc: Global, layout: Layout) -> Result<Schema, Memory>
     ensures { IfOk result (λ made. made ≡ schema layout) }
 {
     Ok(Schema {

@@ -2,9 +2,11 @@
 //!
 //! `leaf` and `filter` read the array from a source in memory whose calls with these numbers, from 0, fail, or, behind
 //! `sure`, from one that never fails: alone in chunks of two places, and under a filter in chunks of one place, of two and of
-//! all. They tell the chunks, and which chunks were asked for.
+//! all. `store`, `insert`, `begin` and `fault` store an array, and put one into the array, into one without versions, and one
+//! with a fault into the array. They tell the chunks, and which chunks were asked for.
 #![tactic(auto)]
 
+mod changes;
 mod example;
 mod layout;
 mod leaves;
@@ -13,6 +15,7 @@ mod show;
 
 use anyhow::Result;
 use cell_values::Memory;
+use changes::{case_of, push_change};
 use layout::layout_of;
 use leaves::{push_failing, push_sure};
 use plans::{push_failing_filter, push_sure_filter};
@@ -35,6 +38,10 @@ fn push_answer(out: &mut String, words: &[&str]) -> Result<(), Memory> {
             push_failing_filter(out, layout_of(layout), &numbers_in(out, fails)?)
         }
         ["sure", "filter", layout] => push_sure_filter(out, layout_of(layout)),
+        [case, layout, fails @ ..] => {
+            let numbers = numbers_in(out, fails)?;
+            push_change(out, case_of(case), layout_of(layout), &numbers)
+        }
         _ => Ok(()),
     }
 }

@@ -16,7 +16,7 @@ use logical_plan::{Plan, let_go};
 use std::alloc::Global;
 
 /// `filter(a, v>5)`
-fn above_five(alloc: Global, layout: Layout) -> Result<Plan, Memory>
+pub(crate) fn above_five(alloc: Global, layout: Layout) -> Result<Plan, Memory>
     ensures { IfOk result (λ plan. plan ≡ above_five layout) }
 {
     let leaf = example_leaf(alloc, layout)?;

@@ -18,12 +18,16 @@ fn push_one(out: &mut String, chunk: &Chunk) -> Result<(), Memory> {
     Ok(())
 }
 
-/// Adds the chunks of an array.
-pub(crate) fn push_array(out: &mut String, array: &ChunkedArray) -> Result<(), Memory> {
-    for chunk in array.chunks.as_slice() {
+pub(crate) fn push_chunks(out: &mut String, chunks: &[Chunk]) -> Result<(), Memory> {
+    for chunk in chunks {
         push_one(out, chunk)?;
     }
     Ok(())
+}
+
+/// Adds the chunks of an array.
+pub(crate) fn push_array(out: &mut String, array: &ChunkedArray) -> Result<(), Memory> {
+    push_chunks(out, array.chunks.as_slice())
 }
 
 fn push_rows(out: &mut String, rows: &List<Row>) -> Result<(), Memory> {
@@ -36,7 +40,7 @@ fn push_rows(out: &mut String, rows: &List<Row>) -> Result<(), Memory> {
     Ok(())
 }
 
-fn push_broken(out: &mut String, broken: &Broken) -> Result<(), Memory> {
+pub(crate) fn push_broken(out: &mut String, broken: &Broken) -> Result<(), Memory> {
     out.push_str("broken at ")?;
     push_coord(out, &broken.at)?;
     out.push_str(": ")?;

@@ -1,0 +1,61 @@
+-- A worked insert: one cell put into an array of four, whose chunks the source lists and whose database it tells.
+use Rattle.std.proofs.Common.{◌≡◌, [], ◌∷◌, Some, None, Ok, refl, inr, arith}
+use Rattle.std.specs.Prelude.{codes}
+use Rattle.array_rows.specs.Arrays.{AreRowsOf}
+use Rattle.logical_plan.specs.declared.parts.Leaf.{Leaf}
+use Rattle.logical_plan.specs.Typing.{AreSound}
+use Rattle.plan_changes.specs.Databases.{rows_of}
+use Rattle.plan_changes.specs.Stored.{IsDatabase}
+use Rattle.chunk_source.specs.Source.{SourceState}
+use Rattle.commit_costs.specs.Inner.Examples.{schema, cell_at, stored, insert_at}
+use Rattle.commit_costs.proofs.Sharing.{four_rows}
+use Rattle.commit_pages.specs.Inner.Example.{four, changed}
+use Rattle.changed_chunks.specs.Changing.{CanChange, IsToldOf, asked_for}
+
+abbrev source : SourceState
+source = record {
+  stored = λ name version. Some (schema 0);
+  chunks = λ name version. record { items = 0 ∷ [] } ∷ record { items = 1 ∷ [] } ∷ [];
+  tells = λ db. db ≡ rows_of (stored 0);
+  asked = [];
+  damaged = None;
+  faults = 0;
+}
+
+abbrev target : Leaf
+target = record { name = codes "A"; version = 1; schema = schema 0 }
+
+sound : AreSound (schema 0) four
+sound = (refl, (refl, (refl, (refl, tt))))
+
+one_row : AreRowsOf (schema 0) (cell_at 2 ∷ [])
+one_row = record { valid = refl; are_rows = record { rising = (tt, tt); in_bounds = (refl, tt) }; kinds = ((refl, tt), tt) }
+
+database : IsDatabase (stored 0)
+database = record {
+  names = record {
+    count = omega arith;
+    rising = tt;
+    each = (
+      record {
+        name = refl;
+        schema = refl;
+        named = record { attributes = (refl, tt); dimensions = (refl, tt) };
+        next = (omega arith, omega arith);
+        versions = (omega arith, omega arith, tt);
+      },
+      tt,
+    );
+  };
+  rows = (((four_rows, sound), tt), tt);
+}
+
+can : CanChange source (insert_at 0 2) target
+can = (record { computed = record { typed = (refl, one_row, (refl, tt)); reads = tt }; valid = refl; fits = (None, refl) }, inr refl, refl)
+
+told : IsToldOf source (insert_at 0 2) target (stored 0)
+told = record { database = database; tells = refl; newest = (refl, refl) }
+
+-- the plan reads no array, so the target has the number 0
+asked : asked_for source (insert_at 0 2) target (Ok changed) ≡ record { leaf = 0; at = record { items = 0 ∷ [] } } ∷ record { leaf = 0; at = record { items = 1 ∷ [] } } ∷ []
+asked = refl
