@@ -37,11 +37,7 @@ fn has_try(notes: &[Note], session: u32, place: u64) -> bool
 pub(crate) fn reserved_under(notes: &[Note], session: u32, place: u64) -> u32
     ensures { result ≡ (if list_any (λ note. nat_eq note.session session && (is_tried note.kind && nat_lt place note.after)) notes.now then 1 else 3) }
 {
-    if has_try(notes, session, place) {
-        1
-    } else {
-        3
-    }
+    if has_try(notes, session, place) { 1 } else { 3 }
 }
 
 impl Ledger {
