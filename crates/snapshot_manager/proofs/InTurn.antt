@@ -190,9 +190,20 @@ module _ {D : Type 0} (moment : D → Moment) (start : Start D) (session : ℕ) 
       pub payload_in_turn : (leaf : Leaf) (k : ArrayVec ℕ) → payload_at (standing moment parts) pinned.place leaf k ≡ payload_at (told start old) pinned.place leaf k
       payload_in_turn = payload_now moment start old found.others (standing moment parts) pinned is_behind theirs_now o sealed
 
-      pub over_in_turn : (P : Database → Type 0) → ((db : Database) → BeganAs (moment parts.opened.value.disk).state db → P (at db (history_at (standing moment parts) pinned.place))) →
+      over_in_turn : (P : Database → Type 0) → ((db : Database) → BeganAs (moment parts.opened.value.disk).state db → P (at db (history_at (standing moment parts) pinned.place))) →
           (db : Database) → BeganAs (moment start.opened.disk).state db → P (at db (history_at (told start old) pinned.place))
       over_in_turn = over_pin moment start old found.others (standing moment parts) pinned is_behind theirs_now o sealed
+
+      pub listed_ok : {F : Type 0} (leaf : Leaf) (result : Result (List (ArrayVec ℕ)) F) → IfOk result (λ chunks. chunks ≡ chunks_at (standing moment parts) pinned.place leaf) →
+          IfOk result (λ chunks. chunks ≡ chunks_at (told start old) pinned.place leaf)
+      listed_ok leaf (Ok chunks) e = e ∙ chunks_in_turn leaf
+      listed_ok leaf (Err fault) e = e
+
+      pub over_ok : {A F : Type 0} (P : A → Database → Type 0) (result : Result A F) →
+          IfOk result (λ value. (db : Database) → BeganAs (moment parts.opened.value.disk).state db → P value (at db (history_at (standing moment parts) pinned.place))) →
+          IfOk result (λ value. (db : Database) → BeganAs (moment start.opened.disk).state db → P value (at db (history_at (told start old) pinned.place)))
+      over_ok P (Ok value) holds = over_in_turn (P value) holds
+      over_ok P (Err fault) holds = holds
 
     -- a read
     module _ (events_are : events (standing moment value) ≡ seen) (next : StoreParts D) (fault : AddsFault moment pinned.session (standing moment parts) (standing moment next)) where
