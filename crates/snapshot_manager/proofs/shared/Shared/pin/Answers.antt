@@ -6,7 +6,7 @@ use Rattle.store_state.specs.declared.event.Event.TheVariants.{Entered}
 use Rattle.store_state.specs.At.{standing}
 use Rattle.array_store.specs.Starts.{start_of}
 use Rattle.snapshot_manager.specs.Seats.{HoldsPin, ledger_seen, seen, session_of, start}
-use Rattle.snapshot_manager.proofs.InTurn.{extends_now, if_both, pin_done, pin_is, pin_only, pin_open, pin_room, unpinned_now}
+use Rattle.snapshot_manager.proofs.InTurn.{extends_now, if_both, pin_done, pin_is, pin_none, pin_only, pin_open, pin_room, unpinned_now}
 use Rattle.snapshot_manager.proofs.Turning.{done_events}
 use Rattle.snapshot_manager.proofs.shared.Shared.pin.Goals as goal
 
@@ -14,8 +14,16 @@ pub pin-answer-requires : goal.pin-answer-requires
 pin-answer-requires g c =
     let b = c.begin-turn.ensures in record {
       unpinned = unpinned_now g.D.Disk.moment (start g.D.Disk.moment c.args.self.now) (session_of c.args.seat.now) (seen c.args.seat.now) (seen c.begin-turn.new.seat)
-          c.value.result.now c.begin-turn.result.value b.found c.value.ensures.value b.told c.session.result (c.session.ensures ∙ b.same.session) c.requires.unpinned;
+          c.value.result.now c.begin-turn.result.value b.found c.value.ensures.value b.told c.session.result (c.session.ensures ∙ b.same.session) c.requires.none;
     }
+
+pub returns-clause-none : goal.returns-clause-none
+returns-clause-none g c =
+    let b = c.begin-turn.ensures in
+    pin_none g.D.Disk.moment (start g.D.Disk.moment c.args.self.now) (session_of c.args.seat.now) (seen c.args.seat.now) (seen c.begin-turn.new.seat)
+    c.value.result.now c.begin-turn.result.value b.found c.value.ensures.value b.told b.events c.pin-answer.new.self
+    c.session.result (c.session.ensures ∙ b.same.session) c.pin-answer.result (seen c.end.new.seat) c.end.ensures.seen c.pin-answer.ensures.adds
+    (session_of c.end.new.seat) (c.end.ensures.same.session ∙ b.same.session) c.pin-answer.ensures.err c.requires.none
 
 pub end-requires-clause-events : goal.end-requires-clause-events
 end-requires-clause-events g c =
