@@ -30,9 +30,9 @@ use Rattle.array_store.specs.Starts.{start_of}
 use Rattle.snapshot_manager.specs.Faults.{IsUnreadUnder}
 use Rattle.snapshot_manager.specs.Laws.{IsToldWhole}
 use Rattle.snapshot_manager.specs.Told.{IsTold, entries_in, is_sealed, ledger_of, told}
-use Rattle.snapshot_manager.specs.Turns.{Adds, AddsAtMostNote, found_before, pin_event, reap_events}
-use Rattle.snapshot_manager.proofs.PinReads.{AddsSome, adds_some, began_now, chunks_now, open_now, over_pin, payload_now, some_only, told_causes}
-use Rattle.snapshot_manager.proofs.Sights.{same_pinned}
+use Rattle.snapshot_manager.specs.Turns.{Adds, AddsAtMostNote, found_before, pin_event, reap_events, leaves_pin_of}
+use Rattle.snapshot_manager.proofs.PinReads.{AddsSome, adds_some, began_now, chunks_now, open_now, over_pin, payload_now, some_leaves, some_only, told_causes}
+use Rattle.snapshot_manager.proofs.Sights.{none_later, none_unpinned, open_later, same_pinned}
 use Rattle.snapshot_manager.proofs.Telling.{entries_are, stores_are_told}
 use Rattle.snapshot_manager.proofs.Turning.{adds_own, before_own, done_adds, done_events, done_only, extends_own}
 
@@ -68,6 +68,10 @@ if_both (Err fault) P Q R f p q = tt
 pub on_both : {A F : Type 0} (result : Result A F) (P Q R : Type 0) → (P → Q → R) → OnOk result P → OnOk result Q → OnOk result R
 on_both (Ok value) P Q R f p q = f p q
 on_both (Err fault) P Q R f p q = tt
+
+on_err : {A F : Type 0} (result : Result A F) (P Q : Type 0) → (P → Q) → OnErr result P → OnErr result Q
+on_err (Ok value) P Q f p = tt
+on_err (Err fault) P Q f p = f p
 
 -- an open pin is told by the base and the entries alone
 open_as : (ledger other : LedgerState) (pinned : Pinned) → other.base ≡ ledger.base → other.entries ≡ ledger.entries → IsOpenPin ledger pinned → IsOpenPin other pinned
@@ -163,6 +167,22 @@ module _ {D : Type 0} (moment : D → Moment) (start : Start D) (session : ℕ) 
           o)
           opened adds
 
+      -- where it was refused there is none still
+      pub pin_none : (m : ℕ) → m ≡ session → OnErr result (standing moment next ≡ standing moment parts) → IsTrue (not (is_pinned session (history (ledger_of start old)))) →
+          OnErr result (IsTrue (not (is_pinned m (reverse (entries_in new)))))
+      pin_none m e err free =
+          on_err result _ _
+          (λ left.
+          ap (λ (k : ℕ). not (is_pinned k (reverse (entries_in new)))) e
+          ∙ none_later session old found.others new found.theirs (seen_new ∙ ap events left ∙ events_now ∙ seen_is) free)
+          err
+
+    pub unpin_none : (n m : ℕ) → n ≡ m → (new : List Event) → new ≡ events (standing moment next) → AddsEvents (Entered (Unpin m) ∷ []) (standing moment parts) (standing moment next) →
+        IsTrue (not (is_pinned n (reverse (entries_in new))))
+    unpin_none n m e new seen_new adds =
+        ap (λ (k : ℕ). not (is_pinned k (reverse (entries_in new)))) e
+        ∙ none_unpinned m seen new (seen_new ∙ adds.grown ∙ ap (λ (es : List Event). es ++ Entered (Unpin m) ∷ []) events_now)
+
     -- a reap
     pub reap_is : {F : Type 0} (result : Result Bool F) (new : List Event) → new ≡ events (standing moment next) → IfOk result (λ comes. comes ≡ reap_comes parts.ledger) →
         IfOk result (λ comes. AddsEvents (reap_events comes) (standing moment parts) (standing moment next)) →
@@ -183,6 +203,13 @@ module _ {D : Type 0} (moment : D → Moment) (start : Start D) (session : ℕ) 
     pub began_in_turn : (db : Database) → BeganAs (moment start.opened.disk).state db → BeganAs (moment parts.opened.value.disk).state db
     began_in_turn = began_now moment start old found.others (standing moment parts) pinned is_behind theirs_now o
 
+    -- it is still open, where its session added neither a pin nor an unpin
+    pub open_after : (own new : List Event) → list_all (leaves_pin_of pinned.session) own ≡ true → new ≡ seen ++ own → IsOpenPin (ledger_of start new) pinned
+    open_after own new leave e = open_later start old found.others own new pinned theirs_now leave (e ∙ ap (λ (es : List Event). es ++ own) seen_is) o
+
+    pub open_left : events (standing moment value) ≡ seen → (new : List Event) → new ≡ events (standing moment parts) → IsOpenPin (ledger_of start new) pinned
+    open_left events_are new e = open_after [] new refl (e ∙ events_now events_are parts ∙ sym (append-nil seen))
+
     module _ (sealed : list_all is_sealed old ≡ true) where
       pub chunks_in_turn : (leaf : Leaf) → chunks_at (standing moment parts) pinned.place leaf ≡ chunks_at (told start old) pinned.place leaf
       chunks_in_turn = chunks_now moment start old found.others (standing moment parts) pinned is_behind theirs_now o sealed
@@ -190,9 +217,20 @@ module _ {D : Type 0} (moment : D → Moment) (start : Start D) (session : ℕ) 
       pub payload_in_turn : (leaf : Leaf) (k : ArrayVec ℕ) → payload_at (standing moment parts) pinned.place leaf k ≡ payload_at (told start old) pinned.place leaf k
       payload_in_turn = payload_now moment start old found.others (standing moment parts) pinned is_behind theirs_now o sealed
 
-      pub over_in_turn : (P : Database → Type 0) → ((db : Database) → BeganAs (moment parts.opened.value.disk).state db → P (at db (history_at (standing moment parts) pinned.place))) →
+      over_in_turn : (P : Database → Type 0) → ((db : Database) → BeganAs (moment parts.opened.value.disk).state db → P (at db (history_at (standing moment parts) pinned.place))) →
           (db : Database) → BeganAs (moment start.opened.disk).state db → P (at db (history_at (told start old) pinned.place))
       over_in_turn = over_pin moment start old found.others (standing moment parts) pinned is_behind theirs_now o sealed
+
+      pub listed_ok : {F : Type 0} (leaf : Leaf) (result : Result (List (ArrayVec ℕ)) F) → IfOk result (λ chunks. chunks ≡ chunks_at (standing moment parts) pinned.place leaf) →
+          IfOk result (λ chunks. chunks ≡ chunks_at (told start old) pinned.place leaf)
+      listed_ok leaf (Ok chunks) e = e ∙ chunks_in_turn leaf
+      listed_ok leaf (Err fault) e = e
+
+      pub over_ok : {A F : Type 0} (P : A → Database → Type 0) (result : Result A F) →
+          IfOk result (λ value. (db : Database) → BeganAs (moment parts.opened.value.disk).state db → P value (at db (history_at (standing moment parts) pinned.place))) →
+          IfOk result (λ value. (db : Database) → BeganAs (moment start.opened.disk).state db → P value (at db (history_at (told start old) pinned.place)))
+      over_ok P (Ok value) holds = over_in_turn (P value) holds
+      over_ok P (Err fault) holds = holds
 
     -- a read
     module _ (events_are : events (standing moment value) ≡ seen) (next : StoreParts D) (fault : AddsFault moment pinned.session (standing moment parts) (standing moment next)) where
@@ -216,6 +254,11 @@ module _ {D : Type 0} (moment : D → Moment) (start : Start D) (session : ℕ) 
         adds = adds_own some.adds session old seen new found (events_now events_are next) e;
         note = subst (λ (es : List Event). (some.own ≡ []) ⊎ (some.own ≡ es)) (faults_are session (found_before some.own new) (found_now events_are next some.own new e some.adds)) some.note;
       }
+
+      pub read_open : (new : List Event) → new ≡ events (standing moment next) → IsOpenPin (ledger_of start new) pinned
+      read_open new e =
+          open_after some.own new (some_leaves moment pinned.session (standing moment parts) (standing moment next) some)
+          (e ∙ some.adds.grown ∙ ap (λ (es : List Event). es ++ some.own) (events_now events_are next))
 
       pub read_causes : {A : Type 0} (new : List Event) (schema : Schema) (leaf : Leaf) (k : ArrayVec ℕ) (result : Result A ReadFault) → list_all is_sealed old ≡ true → new ≡ events (standing moment next) →
           IfErr result (IsUnread (moment parts.file.disk).state (moment next.file.disk).state schema (payload_at (standing moment parts) pinned.place leaf k)) →

@@ -34,6 +34,7 @@ use Rattle.array_store.specs.declared.start.Start.{Start}
 use Rattle.array_store.specs.Growth.{AddsEvents, AddsFault, fault_events}
 use Rattle.snapshot_manager.specs.Faults.{IsUnreadUnder}
 use Rattle.snapshot_manager.specs.Told.{IsTold, entries_in, is_sealed, ledger_of, notes_in, told}
+use Rattle.snapshot_manager.specs.Turns.{leaves_pin_of}
 use Rattle.snapshot_manager.specs.Laws.{SeesTheSame}
 use Rattle.snapshot_manager.proofs.Sights.{others_leave_pins, pins_outlast, pins_see_the_same}
 use Rattle.snapshot_manager.proofs.Telling.{entries_in-append, notes_in-append}
@@ -107,6 +108,18 @@ only_by session ledger own (inr e) = ap (only_of owner_of session) e ∙ fault_i
 
 pub some_only : {D : Type 0} (moment : D → Moment) (session : ℕ) (s t : Standing D) (a : AddsSome moment session s t) → only_of owner_of session a.own ≡ true
 some_only moment session s t a = only_by session s.ledger a.own a.note
+
+-- none of them is a pin or an unpin
+fault_leaves : (b : Bool) (session : ℕ) (note : Note) → list_all (leaves_pin_of session) (if b then [] else Noted note ∷ []) ≡ true
+fault_leaves true session note = refl
+fault_leaves false session note = refl
+
+leaves_by : (session : ℕ) (ledger : LedgerState) (own : List Event) → (own ≡ []) ⊎ (own ≡ fault_events ledger session) → list_all (leaves_pin_of session) own ≡ true
+leaves_by session ledger own (inl e) = ap (list_all (leaves_pin_of session)) e
+leaves_by session ledger own (inr e) = ap (list_all (leaves_pin_of session)) e ∙ fault_leaves (is_noted Fault ledger session) session (note_now Fault ledger session)
+
+pub some_leaves : {D : Type 0} (moment : D → Moment) (session : ℕ) (s t : Standing D) (a : AddsSome moment session s t) → list_all (leaves_pin_of session) a.own ≡ true
+some_leaves moment session s t a = leaves_by session s.ledger a.own a.note
 
 -- ---- the note of a fault is then seen
 

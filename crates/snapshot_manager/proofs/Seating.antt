@@ -50,9 +50,10 @@ module _ {D : Type 0} (shared : Shared D) where
   }
 
   -- the next seat is that of the next session
-  pub seated_more : (seats : List (LockSeat (StoreParts D) Event)) (made : List (Seat D)) (n : ℕ) (seat : LockSeat (StoreParts D) Event) →
+  pub seated_more : (seats : List (LockSeat (StoreParts D) Event)) (made items : List (Seat D)) (n : ℕ) (seat : LockSeat (StoreParts D) Event) →
       AreNewTurnSeats shared.lock seats → slice_get seats n ≡ Some seat → length made ≡ n → AreNewSeats shared made →
-      AreNewSeats shared (made ++ record { turn_seat = seat; entries = 0; last = 0; reads = 0 } ∷ [])
-  seated_more seats made n seat are e count new =
-      places_more (IsNewSeat shared) made (record { turn_seat = seat; entries = 0; last = 0; reads = 0 }) new
-      (subst (λ (k : ℕ). IsNewSeat shared k (record { turn_seat = seat; entries = 0; last = 0; reads = 0 })) (sym count) (wrapped n seat (new_turn_seat seats n seat are e)))
+      items ≡ made ++ record { turn_seat = seat; entries = 0; last = 0; reads = 0 } ∷ [] → AreNewSeats shared items
+  seated_more seats made items n seat are at count new e =
+      subst (AreNewSeats shared) (sym e)
+      (places_more (IsNewSeat shared) made (record { turn_seat = seat; entries = 0; last = 0; reads = 0 }) new
+      (subst (λ (k : ℕ). IsNewSeat shared k (record { turn_seat = seat; entries = 0; last = 0; reads = 0 })) (sym count) (wrapped n seat (new_turn_seat seats n seat are at))))

@@ -1,7 +1,7 @@
 -- What an open pin sees, whatever comes later.
-use Rattle.std.proofs.Common.{◌≡◌, ◌∙◌, ℕ, suc, ◌+◌, ◌-◌, ◌<◌, ◌≤◌, Bool, true, false, not, ◌&&◌, ◌||◌, if◌then◌else◌, nat_eq, List, [], ◌∷◌, ◌++◌, length, drop, reverse, refl, ap, sym, arith, length-append}
+use Rattle.std.proofs.Common.{◌≡◌, ◌∙◌, ℕ, suc, ◌+◌, ◌-◌, ◌<◌, ◌≤◌, Bool, true, false, not, ◌&&◌, ◌||◌, if◌then◌else◌, nat_eq, List, [], ◌∷◌, ◌++◌, length, drop, reverse, IsTrue, refl, ap, sym, subst, arith, length-append}
 use Rattle.std.specs.List.{list_all}
-use Rattle.std.proofs.lemmas.Bool.{and_from, and_parts}
+use Rattle.std.proofs.lemmas.Bool.{and_from, and_parts, eq-eqb}
 use Rattle.std.proofs.lemmas.Bool.Decides.{nat_tests}
 use Rattle.std.proofs.lemmas.List.{reverse-append, length-reverse}
 use Rattle.chunk_map.specs.declared.directory.Directory.{Directory}
@@ -23,6 +23,8 @@ use Rattle.store_state.specs.declared.event.Event.TheVariants.{Entered, Acknowle
 use Rattle.store_state.specs.Calls.{entry_in, history_at, numbers_in}
 use Rattle.store_state.specs.Events.{owner_of}
 use Rattle.store_state.specs.Standings.{Standing, commit_places, given_of, made_at, versions_after}
+use Rattle.array_store.specs.declared.start.Start.{Start}
+use Rattle.store_ledger.specs.declared.pinned.Pinned.{Pinned}
 use Rattle.snapshot_manager.specs.Told.{entries_in, directories_in, is_sealed, ledger_of, told}
 use Rattle.snapshot_manager.specs.Turns.{leaves_pin_of}
 use Rattle.snapshot_manager.specs.Laws.{OthersLeavePins, PinsOutlast, PinsSeeTheSame}
@@ -201,3 +203,30 @@ pins_see_the_same D start old more pinned sealed o =
       chunks = λ leaf. ap (λ (vs : List MadeVersion). version_chunks (λ name version. numbers_in (directory_of name version vs)) leaf.name leaf.version) versions;
       payloads = λ leaf at. ap (λ (vs : List MadeVersion). entry_in (directory_of leaf.name leaf.version vs) at.items) versions;
     }
+
+-- ---- pins over one turn
+
+-- a session that has no pin has none once others have added theirs
+pub none_later : (session : ℕ) (old others new : List Event) → none_of owner_of session others ≡ true → new ≡ old ++ others →
+    IsTrue (not (is_pinned session (reverse (entries_in old)))) → IsTrue (not (is_pinned session (reverse (entries_in new))))
+none_later session old others new theirs e free =
+    ap (λ (es : List Event). not (is_pinned session (reverse (entries_in es)))) e ∙ ap not (same_pinned session old others theirs) ∙ free
+
+none_if : (b p : Bool) → b ≡ true → not (not b && p) ≡ true
+none_if true p e = refl
+none_if false p e = absurd (both_not false refl e)
+
+-- a session has none behind its unpin
+pub none_unpinned : (session : ℕ) (seen new : List Event) → new ≡ seen ++ Entered (Unpin session) ∷ [] → IsTrue (not (is_pinned session (reverse (entries_in new))))
+none_unpinned session seen new e =
+    ap (λ (es : List Event). not (is_pinned session (reverse (entries_in es)))) e
+    ∙ ap (λ (es : List Entry). not (is_pinned session (reverse es))) (entries_in-append seen (Entered (Unpin session) ∷ []))
+    ∙ ap (λ (h : History). not (is_pinned session h)) (reverse-append (entries_in seen) (Unpin session ∷ []))
+    ∙ none_if (nat_eq session session) (is_pinned session (reverse (entries_in seen))) (eq-eqb session session refl)
+
+-- a pin that is open stays so, where others have added theirs and its session no pin and no unpin
+pub open_later : {D : Type 0} (start : Start D) (old others own new : List Event) (pinned : Pinned) → none_of owner_of pinned.session others ≡ true →
+    list_all (leaves_pin_of pinned.session) own ≡ true → new ≡ (old ++ others) ++ own → IsOpenPin (ledger_of start old) pinned → IsOpenPin (ledger_of start new) pinned
+open_later {D} start old others own new pinned theirs leave e o =
+    subst (λ (es : List Event). IsOpenPin (ledger_of start es) pinned) (sym e)
+    (pins_outlast D start (old ++ others) own pinned leave (pins_outlast D start old others pinned (others_leave_pins pinned.session others theirs) o))

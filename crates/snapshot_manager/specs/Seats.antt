@@ -1,13 +1,14 @@
 -- A store that is shared, and its seats, as contracts see them.
-use Rattle.std.specs.Prelude.{◌≡◌, ◌<◌, ℕ, List, [], length, slice_index_or, All, IsTrue}
+use Rattle.std.specs.Prelude.{◌≡◌, ◌<◌, ℕ, not, List, [], length, slice_index_or, All, IsTrue}
 use Rattle.std.specs.List.{list_all}
 use Rattle.afl_outside.specs.Disk.{Moment}
 use Rattle.turn_lock.specs.Owners.{ExtendsByOthers}
 use Rattle.turn_lock.specs.Inner.Lent.{value_of}
 use Rattle.turn_lock.specs.Seats.{first_value, seat_count, seat_number, seen_by, IsSeatOf as IsLockSeatOf, IsIdle as HasNoTurn, HasTurn as HasLockTurn}
 use Rattle.turn_lock.specs.declared.seat.Turn.{Turn}
+use Rattle.event_core.specs.Allowed.{is_pinned}
 use Rattle.store_ledger.specs.declared.pinned.Pinned.{Pinned}
-use Rattle.store_ledger.specs.Ledger.{LedgerState, IsOpenPin}
+use Rattle.store_ledger.specs.Ledger.{LedgerState, history, IsOpenPin}
 use Rattle.store_state.specs.declared.event.Event.{Event}
 use Rattle.store_state.specs.declared.parts.StoreParts.{StoreParts}
 use Rattle.store_state.specs.At.{standing}
@@ -121,3 +122,7 @@ module _ {D : Type 0} where
   pub record HoldsPin (moment : D → Moment) (shared : Shared D) (seat : Seat D) (pinned : Pinned) : Type 0 where
     pub own : pinned.session ≡ session_of seat
     pub open_pin : IsOpenPin (ledger_seen moment shared seat) pinned
+
+  -- it holds none, as far as its seat has seen
+  abbrev pub HoldsNone : (D → Moment) → Shared D → Seat D → Type 0
+  HoldsNone moment shared seat = IsTrue (not (is_pinned (session_of seat) (history (ledger_seen moment shared seat))))

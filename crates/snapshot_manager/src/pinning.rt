@@ -1,11 +1,10 @@
 //! Pins, unpins and reaps.
-ghost use Rattle.std.specs.Prelude.{◌≡◌, not, [], ◌∷◌, length, IfOk, IfErr, OnOk, OnErr, IsTrue};
+ghost use Rattle.std.specs.Prelude.{◌≡◌, [], ◌∷◌, length, IfOk, IfErr, OnOk, OnErr, IsTrue};
 ghost use Rattle.event_core.specs.declared.entry.Entry.TheVariants.{Pin, Unpin};
-ghost use Rattle.event_core.specs.Allowed.{is_pinned};
 ghost use Rattle.event_core.specs.History.{names_at};
 ghost use Rattle.store_ledger.specs.Ledger.{has_room, history, reap_comes, IsRefused};
 ghost use Rattle.store_state.specs.declared.event.Event.TheVariants.{Entered};
-ghost use Rattle.snapshot_manager.specs.Seats.{ledger_found, ledger_seen, read_count, seen, session_of, HoldsPin, IsIdle, IsSameSeat, IsSeatOf};
+ghost use Rattle.snapshot_manager.specs.Seats.{ledger_found, ledger_seen, read_count, seen, session_of, HoldsNone, HoldsPin, IsIdle, IsSameSeat, IsSeatOf};
 ghost use Rattle.snapshot_manager.specs.Turns.{pin_event, reap_events, Adds};
 
 use crate::seat::Seat;
@@ -19,7 +18,7 @@ impl<D: Disk> Shared<D> {
     /// The seat's session begins to see what can be named now.
     pub fn pin<R: Wait>(&self, rt: &R, seat: &mut Seat<D>) -> Result<Pinned, PinFault>
         requires seat { IsSeatOf self.now seat.old × IsIdle seat.old }
-        requires unpinned { IsTrue (not (is_pinned (session_of seat.old) (history (ledger_seen D.moment self.now seat.old)))) }
+        requires none { HoldsNone D.moment self.now seat.old }
         ensures seat { IsSeatOf self.now seat.new × IsIdle seat.new }
         ensures same { IsSameSeat seat.old seat.new }
         ensures reads { read_count seat.new ≡ read_count seat.old }
@@ -29,6 +28,7 @@ impl<D: Disk> Shared<D> {
         ensures room { OnOk result (IsTrue (has_room (ledger_found D.moment self.now (pin_event (session_of seat.old) ∷ []) seat.new) 4)) }
         ensures open { IfOk result (λ pinned. HoldsPin D.moment self.now seat.new pinned) }
         ensures err { OnErr result (Adds (session_of seat.old) [] (seen seat.old) (seen seat.new)) }
+        ensures none { OnErr result (HoldsNone D.moment self.now seat.new) }
         ensures cause { IfErr result (IsRefused (ledger_seen D.moment self.now seat.new)) }
     {
         let mut turn = self.begin(rt, seat);
@@ -45,6 +45,7 @@ impl<D: Disk> Shared<D> {
         ensures same { IsSameSeat seat.old seat.new }
         ensures reads { read_count seat.new ≡ read_count seat.old }
         ensures adds { Adds (session_of seat.old) (Entered (Unpin (session_of seat.old)) ∷ []) (seen seat.old) (seen seat.new) }
+        ensures none { HoldsNone D.moment self.now seat.new }
     {
         let mut turn = self.begin(rt, seat);
         turn.value().unpin(pinned);

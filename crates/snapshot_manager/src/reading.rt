@@ -39,6 +39,7 @@ impl<D: Disk> Shared<D> {
         ensures same { IsSameSeat seat.old seat.new }
         ensures reads { read_count seat.new ≡ read_count seat.old }
         ensures adds { Adds (session_of seat.old) [] (seen seat.old) (seen seat.new) }
+        ensures pin { HoldsPin D.moment self.now seat.new pinned.now }
         ensures listed { IfOk result (λ chunks. chunks ≡ chunks_at (store_seen D.moment self.now seat.old) pinned.now.place leaf.now) }
         ensures rising { IfOk result (λ chunks. NumbersRise (numbers_of chunks)) }
         ensures told { IfOk result (λ chunks. (db : Database) → BeganAs (D.moment (start D.moment self.now).opened.disk).state db
@@ -68,6 +69,7 @@ impl<D: Disk> Shared<D> {
         ensures same { IsSameSeat seat.old seat.new }
         ensures reads { read_count seat.new ≡ risen (read_count seat.old) }
         ensures adds { AddsAtMostNote (start D.moment self.now) (session_of seat.old) (seen seat.old) (seen seat.new) }
+        ensures pin { HoldsPin D.moment self.now seat.new pinned.now }
         ensures stored { IfOk result (IsStored leaf.now.schema at.now) }
         ensures told { IfOk result (λ chunk. (db : Database) → BeganAs (D.moment (start D.moment self.now).opened.disk).state db
             → IsChunkIn (rows_of (database_with db (store_seen D.moment self.now seat.old) pinned.now.place)) leaf.now chunk) }

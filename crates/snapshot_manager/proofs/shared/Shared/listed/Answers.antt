@@ -1,9 +1,8 @@
-use Rattle.std.proofs.Common.{◌∙◌}
+use Rattle.std.proofs.Common.{◌∙◌, sym}
 use Rattle.chunk_source.specs.Source.{AreNumbersIn}
 use Rattle.plan_changes.specs.Databases.{rows_of}
-use Rattle.array_store.proofs.Added.{if_ok}
 use Rattle.snapshot_manager.specs.Seats.{seen, session_of, start}
-use Rattle.snapshot_manager.proofs.InTurn.{chunks_in_turn, open_pin_now, over_in_turn}
+use Rattle.snapshot_manager.proofs.InTurn.{listed_ok, open_left, open_pin_now, over_ok}
 use Rattle.snapshot_manager.proofs.shared.Shared.listed.Goals as goal
 
 pub listed-answer-requires-clause-open : goal.listed-answer-requires-clause-open
@@ -17,16 +16,23 @@ pub returns-clause-listed : goal.returns-clause-listed
 returns-clause-listed g c =
     let b = c.begin-turn.ensures in
     let p = c.requires.pin in
-    let same = chunks_in_turn g.D.Disk.moment (start g.D.Disk.moment c.args.self.now) (session_of c.args.seat.now) (seen c.args.seat.now) (seen c.begin-turn.new.seat)
-    c.value.result.now c.begin-turn.result.value b.found c.value.ensures.value b.told c.args.pinned.now p.own p.open_pin c.requires.seat.0.sealed c.args.leaf.now in
-    if_ok _ _ c.listed-answer.result (λ chunks e. e ∙ same) c.listed-answer.ensures.listed
+    listed_ok g.D.Disk.moment (start g.D.Disk.moment c.args.self.now) (session_of c.args.seat.now) (seen c.args.seat.now) (seen c.begin-turn.new.seat)
+    c.value.result.now c.begin-turn.result.value b.found c.value.ensures.value b.told c.args.pinned.now p.own p.open_pin c.requires.seat.0.sealed c.args.leaf.now
+    c.listed-answer.result c.listed-answer.ensures.listed
 
 pub returns-clause-told : goal.returns-clause-told
 returns-clause-told g c =
     let b = c.begin-turn.ensures in
     let p = c.requires.pin in
-    if_ok _ _ c.listed-answer.result
-    (λ chunks told. over_in_turn g.D.Disk.moment (start g.D.Disk.moment c.args.self.now) (session_of c.args.seat.now) (seen c.args.seat.now) (seen c.begin-turn.new.seat)
+    over_ok g.D.Disk.moment (start g.D.Disk.moment c.args.self.now) (session_of c.args.seat.now) (seen c.args.seat.now) (seen c.begin-turn.new.seat)
     c.value.result.now c.begin-turn.result.value b.found c.value.ensures.value b.told c.args.pinned.now p.own p.open_pin c.requires.seat.0.sealed
-    (λ db. AreNumbersIn (rows_of db) c.args.leaf.now chunks) told)
-    c.listed-answer.ensures.told
+    (λ chunks db. AreNumbersIn (rows_of db) c.args.leaf.now chunks) c.listed-answer.result c.listed-answer.ensures.told
+
+pub returns-clause-pin : goal.returns-clause-pin
+returns-clause-pin g c =
+    let b = c.begin-turn.ensures in
+    let p = c.requires.pin in record {
+      own = p.own ∙ sym b.same.session ∙ sym c.end.ensures.same.session;
+      open_pin = open_left g.D.Disk.moment (start g.D.Disk.moment c.args.self.now) (session_of c.args.seat.now) (seen c.args.seat.now) (seen c.begin-turn.new.seat)
+          c.value.result.now c.begin-turn.result.value b.found c.value.ensures.value b.told c.args.pinned.now p.own p.open_pin b.events (seen c.end.new.seat) c.end.ensures.seen;
+    }

@@ -1,11 +1,12 @@
-use Rattle.std.proofs.Common.{◌∙◌, [], ◌∷◌, ap, sym}
+use Rattle.std.proofs.Common.{◌≡◌, ◌∙◌, [], ◌∷◌, ap, length, sym}
 use Rattle.event_core.specs.declared.entry.Entry.TheVariants.{Pin}
-use Rattle.store_ledger.specs.Ledger.{IsOpenPin}
+use Rattle.event_core.specs.History.{names_at}
+use Rattle.store_ledger.specs.Ledger.{IsOpenPin, history}
 use Rattle.store_state.specs.declared.event.Event.TheVariants.{Entered}
 use Rattle.store_state.specs.At.{standing}
 use Rattle.array_store.specs.Starts.{start_of}
 use Rattle.snapshot_manager.specs.Seats.{HoldsPin, ledger_seen, seen, session_of, start}
-use Rattle.snapshot_manager.proofs.InTurn.{extends_now, if_both, pin_done, pin_is, pin_only, pin_open, pin_room, unpinned_now}
+use Rattle.snapshot_manager.proofs.InTurn.{extends_now, if_both, pin_done, pin_is, pin_none, pin_only, pin_open, pin_room, unpinned_now}
 use Rattle.snapshot_manager.proofs.Turning.{done_events}
 use Rattle.snapshot_manager.proofs.shared.Shared.pin.Goals as goal
 
@@ -13,8 +14,16 @@ pub pin-answer-requires : goal.pin-answer-requires
 pin-answer-requires g c =
     let b = c.begin-turn.ensures in record {
       unpinned = unpinned_now g.D.Disk.moment (start g.D.Disk.moment c.args.self.now) (session_of c.args.seat.now) (seen c.args.seat.now) (seen c.begin-turn.new.seat)
-          c.value.result.now c.begin-turn.result.value b.found c.value.ensures.value b.told c.session.result (c.session.ensures ∙ b.same.session) c.requires.unpinned;
+          c.value.result.now c.begin-turn.result.value b.found c.value.ensures.value b.told c.session.result (c.session.ensures ∙ b.same.session) c.requires.none;
     }
+
+pub returns-clause-none : goal.returns-clause-none
+returns-clause-none g c =
+    let b = c.begin-turn.ensures in
+    pin_none g.D.Disk.moment (start g.D.Disk.moment c.args.self.now) (session_of c.args.seat.now) (seen c.args.seat.now) (seen c.begin-turn.new.seat)
+    c.value.result.now c.begin-turn.result.value b.found c.value.ensures.value b.told b.events c.pin-answer.new.self
+    c.session.result (c.session.ensures ∙ b.same.session) c.pin-answer.result (seen c.end.new.seat) c.end.ensures.seen c.pin-answer.ensures.adds
+    (session_of c.end.new.seat) (c.end.ensures.same.session ∙ b.same.session) c.pin-answer.ensures.err c.requires.none
 
 pub end-requires-clause-events : goal.end-requires-clause-events
 end-requires-clause-events g c =
@@ -47,6 +56,12 @@ returns-clause-open g c =
     let opened = pin_open moment (start moment c.args.self.now) (session_of c.args.seat.now) (seen c.args.seat.now) (seen c.begin-turn.new.seat)
     c.value.result.now c.begin-turn.result.value b.found c.value.ensures.value b.told b.events c.pin-answer.new.self
     c.session.result (c.session.ensures ∙ b.same.session) c.pin-answer.result (seen c.end.new.seat) c.end.ensures.seen c.pin-answer.ensures.adds began c.pin-answer.ensures.open in
-    if_both c.pin-answer.result _ (λ pinned. IsOpenPin (ledger_seen moment c.args.self.now c.end.new.seat) pinned) (λ pinned. HoldsPin moment c.args.self.now c.end.new.seat pinned)
+    if_both c.pin-answer.result
+    (λ pinned. pinned ≡ record {
+      session = c.session.result;
+      place = length c.value.result.now.ledger.entries;
+      names = names_at c.value.result.now.ledger.base (history c.value.result.now.ledger);
+    })
+    (λ pinned. IsOpenPin (ledger_seen moment c.args.self.now c.end.new.seat) pinned) (λ pinned. HoldsPin moment c.args.self.now c.end.new.seat pinned)
     (λ pinned p o. record { own = ap (λ q. q.session) p ∙ c.session.ensures ∙ sym c.end.ensures.same.session; open_pin = o })
     c.pin-answer.ensures.pinned opened

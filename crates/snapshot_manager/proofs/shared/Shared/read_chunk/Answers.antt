@@ -1,9 +1,8 @@
-use Rattle.std.proofs.Common.{IsTrue, subst, sym}
+use Rattle.std.proofs.Common.{◌∙◌, IsTrue, subst, sym}
 use Rattle.chunk_source.specs.Source.{IsChunkIn, is_among}
 use Rattle.plan_changes.specs.Databases.{rows_of}
-use Rattle.array_store.proofs.Added.{if_ok}
 use Rattle.snapshot_manager.specs.Seats.{seen, session_of, start}
-use Rattle.snapshot_manager.proofs.InTurn.{began_in_turn, chunks_in_turn, open_pin_now, over_in_turn, read_adds, read_causes, read_extends}
+use Rattle.snapshot_manager.proofs.InTurn.{began_in_turn, chunks_in_turn, open_pin_now, over_ok, read_adds, read_causes, read_extends, read_open}
 use Rattle.snapshot_manager.proofs.shared.Shared.read_chunk.Goals as goal
 
 pub read_chunk-answer-requires-clause-open : goal.read_chunk-answer-requires-clause-open
@@ -42,11 +41,9 @@ pub returns-clause-told : goal.returns-clause-told
 returns-clause-told g c =
     let b = c.begin-turn.ensures in
     let p = c.requires.pin in
-    if_ok _ _ c.read_chunk-answer.result
-    (λ chunk told. over_in_turn g.D.Disk.moment (start g.D.Disk.moment c.args.self.now) (session_of c.args.seat.now) (seen c.args.seat.now) (seen c.begin-turn.new.seat)
+    over_ok g.D.Disk.moment (start g.D.Disk.moment c.args.self.now) (session_of c.args.seat.now) (seen c.args.seat.now) (seen c.begin-turn.new.seat)
     c.value.result.now c.begin-turn.result.value b.found c.value.ensures.value b.told c.args.pinned.now p.own p.open_pin c.requires.seat.0.sealed
-    (λ db. IsChunkIn (rows_of db) c.args.leaf.now chunk) told)
-    c.read_chunk-answer.ensures.told
+    (λ chunk db. IsChunkIn (rows_of db) c.args.leaf.now chunk) c.read_chunk-answer.result c.read_chunk-answer.ensures.told
 
 pub returns-clause-whole : goal.returns-clause-whole
 returns-clause-whole g c = λ db page began.
@@ -64,3 +61,13 @@ returns-clause-cause g c =
     c.value.result.now c.begin-turn.result.value b.found c.value.ensures.value b.told c.args.pinned.now p.own p.open_pin b.events
     c.read_chunk-answer.new.self c.read_chunk-answer.ensures.adds (seen c.end.new.seat) c.args.leaf.now.schema c.args.leaf.now c.args.at.now c.read_chunk-answer.result
     c.requires.seat.0.sealed c.end.ensures.seen c.read_chunk-answer.ensures.cause
+
+pub returns-clause-pin : goal.returns-clause-pin
+returns-clause-pin g c =
+    let b = c.begin-turn.ensures in
+    let p = c.requires.pin in record {
+      own = p.own ∙ sym b.same.session ∙ sym c.end.ensures.same.session;
+      open_pin = read_open g.D.Disk.moment (start g.D.Disk.moment c.args.self.now) (session_of c.args.seat.now) (seen c.args.seat.now) (seen c.begin-turn.new.seat)
+          c.value.result.now c.begin-turn.result.value b.found c.value.ensures.value b.told c.args.pinned.now p.own p.open_pin b.events
+          c.read_chunk-answer.new.self c.read_chunk-answer.ensures.adds (seen c.end.new.seat) c.end.ensures.seen;
+    }

@@ -1,5 +1,4 @@
-use Rattle.std.proofs.Common.{rules, sym, subst}
-use Rattle.snapshot_manager.specs.Seats.{AreNewSeats}
+use Rattle.std.proofs.Common.{rules}
 use Rattle.snapshot_manager.proofs.Seating.{first_of_rest, less_one, seated_more}
 use Rattle.snapshot_manager.proofs.shared.Shared.seated.Goals as goal
 
@@ -10,6 +9,6 @@ loop-preserved g c =
       seats = less_one c.args.turn_seats c.loop.turn_seats c.remove-turn_seat.new.self c.loop.counter i.seats c.remove-turn_seat.ensures.rest;
       count = search rules;
       room = search rules;
-      made = subst (AreNewSeats c.args.self.now) (sym c.push_reserved.ensures.items)
-          (seated_more c.args.self.now c.args.turn_seats c.loop.room.items c.loop.counter c.remove-turn_seat.result c.requires.seats at i.count i.made);
+      made = seated_more c.args.self.now c.args.turn_seats c.loop.room.items c.push_reserved.new.self.items c.loop.counter c.remove-turn_seat.result c.requires.seats at i.count i.made
+          c.push_reserved.ensures.items;
     }
