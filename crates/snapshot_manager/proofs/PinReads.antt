@@ -116,7 +116,7 @@ fault_leaves false session note = refl
 
 leaves_by : (session : ℕ) (ledger : LedgerState) (own : List Event) → (own ≡ []) ⊎ (own ≡ fault_events ledger session) → list_all (leaves_pin_of session) own ≡ true
 leaves_by session ledger own (inl e) = ap (list_all (leaves_pin_of session)) e
-leaves_by session ledger own (inr e) = ap (list_all (leaves_pin_of session)) e ∙ fault_leaves (is_noted Fault ledger session) session (note_now Fault ledger session)
+leaves_by session ledger own (inr e) = ap (list_all (leaves_pin_of session)) e ∙ fault_leaves (is_noted is_fault ledger session) session (note_now Fault ledger session)
 
 pub some_leaves : {D : Type 0} (moment : D → Moment) (session : ℕ) (s t : Standing D) (a : AddsSome moment session s t) → list_all (leaves_pin_of session) a.own ≡ true
 some_leaves moment session s t a = leaves_by session s.ledger a.own a.note
