@@ -75,6 +75,7 @@ impl Bench {
     pub(crate) fn answer(&mut self, out: &mut String, words: &[&str]) -> Result<(), Memory> {
         match words {
             ["calls"] => self.push_calls(out)?,
+            ["mark"] => self.told = self.watch.count(),
             ["fail", call] => self.watch.fail(u64::from(number_of(call))),
             ["bytes", at, count] => {
                 self.push_bytes(out, number_of(at) as usize, number_of(count) as usize)?

@@ -60,7 +60,7 @@ fn push_answer(
     ensures { IsRun run.new }
 {
     match words {
-        ["calls"] | ["fail", ..] | ["bytes", ..] => bench.answer(out, words),
+        ["calls"] | ["mark"] | ["fail", ..] | ["bytes", ..] => bench.answer(out, words),
         ["counts"] => Ok(push_counts(out, run)?),
         ["change", session, ..] => {
             let text = text_behind(line);
@@ -76,12 +76,7 @@ fn opens(line: &str) -> bool {
 }
 
 /// Prints a line with its answer.
-fn tell(
-    rt: &(impl Print + AllocGlobal),
-    bench: &mut Bench,
-    run: &mut Run,
-    line: &str,
-) -> Result<()>
+fn tell(rt: &(impl Print + AllocGlobal), bench: &mut Bench, run: &mut Run, line: &str) -> Result<()>
     requires { IsRun run.old }
     ensures { IsRun run.new }
 {
@@ -134,6 +129,21 @@ fn run_over(alloc: Global, bench: &Bench) -> Result<Run, Answer>
     }
 }
 
+/// Prints the line that opened a store, and the lines behind it with their answers, up to the next one that opens a store.
+fn tell_run(
+    rt: &(impl Print + AllocGlobal),
+    bench: &mut Bench,
+    run: &mut Run,
+    lines: &[&str],
+    from: usize,
+    line: &str,
+) -> Result<usize>
+    requires { IsRun run.old }
+{
+    tell_answer(rt, line, &Answer::Done)?;
+    tell_steps(rt, bench, run, lines, from)
+}
+
 /// Opens the store for a line, and prints the lines behind it with their answers, up to the next one that opens a store.
 pub(crate) fn tell_store(
     rt: &(impl Print + AllocGlobal),
@@ -144,11 +154,14 @@ pub(crate) fn tell_store(
 ) -> Result<usize> {
     match run_over(rt.alloc(), bench) {
         Ok(mut run) => {
-            tell_answer(rt, line, &Answer::Done)?;
-            tell_steps(rt, bench, &mut run, lines, from)
+            let next = tell_run(rt, bench, &mut run, lines, from, line);
+            drop(run);
+            next
         }
         Err(answer) => {
-            tell_answer(rt, line, &answer)?;
+            let told = tell_answer(rt, line, &answer);
+            drop(answer);
+            told?;
             Ok(from)
         }
     }

@@ -4,7 +4,7 @@
 //! format 1. `open` closes the store and opens it again over what the disk holds. `pin 0`, `unpin 0`, `change 0 TEXT`, `cells 0 A@1` and
 //! `versions 0 A` are steps of a session, 0 or 1; `create 5 9` are a pin of session 0, a
 //! change that creates `A5`, and an unpin, and so on up to `A8`.
-//! `reap` and `counts` are about all. `calls` tells what the disk's calls since the last such line cost, `fail 3` that the third
+//! `reap` and `counts` are about all. `calls` tells what the disk's calls since the last such line, or `mark`, cost, `fail 3` that the third
 //! call from now fails, and `bytes 512 8` which bytes stand at a place.
 #![tactic(auto)]
 

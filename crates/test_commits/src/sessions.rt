@@ -64,12 +64,7 @@ fn leaf_in(alloc: Global, names: &Names, word: &str) -> Option<Leaf>
     leaf_of(names, &name, version.parse::<u32>().unwrap_or(0))
 }
 
-fn cells_under(
-    alloc: Global,
-    store: &mut Store<QuietDisk>,
-    pinned: &Pinned,
-    word: &str,
-) -> Answer
+fn cells_under(alloc: Global, store: &mut Store<QuietDisk>, pinned: &Pinned, word: &str) -> Answer
     requires open { IsOpenPin store.old.ledger pinned.now }
     requires stored { AreStored pinned.now.names }
     ensures { LeavesAll store.old.ledger store.new.ledger }

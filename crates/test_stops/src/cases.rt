@@ -1,9 +1,7 @@
 //! Changes of stores, and what comes of them where a call of the disk fails.
-ghost use Rattle.test_stores.specs.Holds.{HasNoPins};
 
 use crate::moments::{Versions, held, push_moments};
 use anyhow::Result;
-use array_store::Store;
 use cell_values::{Bytes, Memory};
 use std::alloc::Global;
 use store_opening::Limits;
@@ -142,7 +140,11 @@ fn tell_base(rt: &(impl Print + AllocGlobal)) -> Result<()> {
 
 fn tell_format_one(rt: &(impl Print + AllocGlobal)) -> Result<()> {
     let file = of_format_one(rt.alloc())?;
-    tell_case(rt, "the first commit to a file of format 1", &case_of(rt.alloc(), file, CREATED)?)
+    tell_case(
+        rt,
+        "the first commit to a file of format 1",
+        &case_of(rt.alloc(), file, CREATED)?,
+    )
 }
 
 /// Prints each case.

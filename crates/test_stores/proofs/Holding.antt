@@ -12,9 +12,9 @@ use Rattle.event_core.specs.Allowed.{is_pinned}
 use Rattle.event_core.specs.History.{History, leaves_pin, pin_before}
 use Rattle.event_core.proofs.Tests.{eq_sym}
 use Rattle.store_ledger.specs.declared.note.Note.{Note}
-use Rattle.store_ledger.specs.declared.note.NoteKind.TheVariants.{Fault, Tried}
+use Rattle.store_ledger.specs.declared.note.NoteKind.TheVariants.{Fault}
 use Rattle.store_ledger.specs.declared.pinned.Pinned.{Pinned}
-use Rattle.store_ledger.specs.Ledger.{LedgerState, IsOpenPin, has_note, has_under, history, is_kind, is_noted, is_under, note_now, with_entries, with_fault, with_notes}
+use Rattle.store_ledger.specs.Ledger.{LedgerState, IsOpenPin, has_note, has_under, history, is_noted, is_under, note_now, with_entries, with_fault, with_notes, is_tried, is_fault}
 use Rattle.store_ledger.proofs.Pins.{one_more}
 use Rattle.store_state.specs.Calls.{NotesFault}
 use Rattle.test_stores.specs.declared.holds.Hold.{Hold}
@@ -65,36 +65,36 @@ module _ (ledger : LedgerState) (entry : Entry) (session : ℕ) (leaves : leaves
 
   pub held_over_entry : (held : Hold) → IsHold ledger session held → IsHold (with_entries (entry ∷ []) ledger) session held
   held_over_entry hold.Free free = ap (is_pinned session) (one_more ledger.entries entry) ∙ pinned_before session entry (reverse ledger.entries) leaves ∙ free
-  held_over_entry (hold.Pinned pinned) held = record { pin = open_more pinned held.pin; first = ap (has_under Tried ledger.notes session) begun_more ∙ held.first }
+  held_over_entry (hold.Pinned pinned) held = record { pin = open_more pinned held.pin; first = ap (has_under is_tried ledger.notes session) begun_more ∙ held.first }
   held_over_entry (hold.Tried pinned) held = open_more pinned held
 
 -- ---- one more note
 
 noted_behind : (notes : List Note) (note : Note) (session : ℕ) (begun : Option History) →
-    ((before : History) → is_under Tried (record { session = session; before = before }) note ≡ false) →
-    has_under Tried notes session begun ≡ false → has_under Tried (notes ++ note ∷ []) session begun ≡ false
+    ((before : History) → is_under is_tried (record { session = session; before = before }) note ≡ false) →
+    has_under is_tried notes session begun ≡ false → has_under is_tried (notes ++ note ∷ []) session begun ≡ false
 noted_behind notes note session None other none = refl
 noted_behind notes note session (Some before) other none =
-    list_any-append (is_under Tried (record { session = session; before = before })) notes (note ∷ [])
-    ∙ or_from (has_note Tried notes (record { session = session; before = before })) (is_under Tried (record { session = session; before = before }) note || false) none
-    (or_from (is_under Tried (record { session = session; before = before }) note) false (other before) refl)
+    list_any-append (is_under is_tried (record { session = session; before = before })) notes (note ∷ [])
+    ∙ or_from (has_note is_tried notes (record { session = session; before = before })) (is_under is_tried (record { session = session; before = before }) note || false) none
+    (or_from (is_under is_tried (record { session = session; before = before }) note) false (other before) refl)
+
+pub noted_pin : (ledger : LedgerState) (note : Note) (session : ℕ) (pinned : Pinned) → IsPinOf ledger session pinned → IsPinOf (with_notes (note ∷ []) ledger) session pinned
+noted_pin ledger note session pinned p = record {
+  its = p.its;
+  begun = record { before = p.begun.before; begun = p.begun.begun; place = p.begun.place; names = p.begun.names };
+  stored = p.stored;
+}
 
 module _ (ledger : LedgerState) (note : Note) (session : ℕ)
-    (other : (before : History) → is_under Tried (record { session = session; before = before }) note ≡ false) where
-  pub noted_pin : (pinned : Pinned) → IsPinOf ledger session pinned → IsPinOf (with_notes (note ∷ []) ledger) session pinned
-  noted_pin pinned p = record {
-    its = p.its;
-    begun = record { before = p.begun.before; begun = p.begun.begun; place = p.begun.place; names = p.begun.names };
-    stored = p.stored;
-  }
-
+    (other : (before : History) → is_under is_tried (record { session = session; before = before }) note ≡ false) where
   pub held_over_note : (held : Hold) → IsHold ledger session held → IsHold (with_notes (note ∷ []) ledger) session held
   held_over_note hold.Free free = free
   held_over_note (hold.Pinned pinned) held = record {
-    pin = noted_pin pinned held.pin;
+    pin = noted_pin ledger note session pinned held.pin;
     first = noted_behind ledger.notes note session (pin_before session (history ledger)) other held.first;
   }
-  held_over_note (hold.Tried pinned) held = noted_pin pinned held
+  held_over_note (hold.Tried pinned) held = noted_pin ledger note session pinned held
 
 -- ---- steps
 
@@ -103,15 +103,15 @@ never true = refl
 never false = refl
 
 -- a note of a fault is none of a try
-fault_is_none : (session after : ℕ) (s : ℕ) (before : History) → is_under Tried (record { session = s; before = before }) (record { session = session; kind = Fault; after = after }) ≡ false
+fault_is_none : (session after : ℕ) (s : ℕ) (before : History) → is_under is_tried (record { session = s; before = before }) (record { session = session; kind = Fault; after = after }) ≡ false
 fault_is_none session after s before = never (nat_eq session s)
 
 not_ours : (a b : Bool) → a ≡ false → (a && b) ≡ false
 not_ours a b e = ap (λ (x : Bool). x && b) e
 
 -- a note of another session is none of ours
-pub others_is_none : (note : Note) (s : ℕ) (before : History) → nat_eq s note.session ≡ false → is_under Tried (record { session = s; before = before }) note ≡ false
-others_is_none note s before e = not_ours (nat_eq note.session s) (is_kind Tried note.kind && nat_lt (length before) note.after) (eq_sym note.session s ∙ e)
+pub others_is_none : (note : Note) (s : ℕ) (before : History) → nat_eq s note.session ≡ false → is_under is_tried (record { session = s; before = before }) note ≡ false
+others_is_none note s before e = not_ours (nat_eq note.session s) (is_tried note.kind && nat_lt (length before) note.after) (eq_sym note.session s ∙ e)
 
 pub nothing_leaves : (ledger : LedgerState) → LeavesAll ledger ledger
 nothing_leaves ledger session held h = h
@@ -131,7 +131,7 @@ fault_if true ledger session = nothing_leaves ledger
 fault_if false ledger session = λ s held h. held_over_note ledger (note_now Fault ledger session) s (fault_is_none session (length ledger.entries) s) held h
 
 pub fault_leaves_all : (ledger : LedgerState) (session : ℕ) → LeavesAll ledger (with_fault session ledger)
-fault_leaves_all ledger session = fault_if (is_noted Fault ledger session) ledger session
+fault_leaves_all ledger session = fault_if (is_noted is_fault ledger session) ledger session
 
 -- a reap leaves all
 pub reap_leaves_all : (ledger : LedgerState) → LeavesAll ledger (with_entries (Reap ∷ []) ledger)
@@ -156,8 +156,9 @@ unpin_frees ledger own =
 -- a read leaves all, whether the disk failed in it or not
 pub notes_leave_all : (old new : DiskState) (session : ℕ) (before after : LedgerState) → NotesFault old new session before after → LeavesAll before after
 notes_leave_all old new session before after n = elim (cases_lt new.faults (risen old.faults)) [
-  inl less ↦ subst (LeavesAll before) (sym (n.still (λ rose. omega (arith, less, rose)))) (nothing_leaves before)
-  | inr rose ↦ subst (LeavesAll before) (sym (n.rose rose)) (fault_leaves_all before session) ]
+  | inl less ↦ subst (LeavesAll before) (sym (n.still (λ rose. omega (arith, less, rose)))) (nothing_leaves before)
+  | inr rose ↦ subst (LeavesAll before) (sym (n.rose rose)) (fault_leaves_all before session)
+]
 
 -- what is left to all is left of each open pin
 pub open_outlasts : (old new : LedgerState) (session : ℕ) (pinned : Pinned) → LeavesAll old new → IsPinOf old session pinned → IsPinOf new session pinned

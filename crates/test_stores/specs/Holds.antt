@@ -2,9 +2,8 @@
 use Rattle.std.specs.Prelude.{◌≡◌, ℕ, false, nat_eq}
 use Rattle.plan_changes.specs.Stored.{AreStored}
 use Rattle.event_core.specs.Allowed.{is_pinned}
-use Rattle.store_ledger.specs.declared.note.NoteKind.TheVariants.{Tried}
 use Rattle.store_ledger.specs.declared.pinned.Pinned.{Pinned}
-use Rattle.store_ledger.specs.Ledger.{LedgerState, IsOpenPin, history, is_noted}
+use Rattle.store_ledger.specs.Ledger.{LedgerState, IsOpenPin, history, is_noted, is_tried}
 use Rattle.test_stores.specs.declared.holds.Hold.{Hold}
 use Rattle.test_stores.specs.declared.holds.Hold.TheVariants as hold
 
@@ -17,7 +16,7 @@ pub record IsPinOf (ledger : LedgerState) (session : ℕ) (pinned : Pinned) : Ty
 -- one under which no commit was tried
 pub record IsUntried (ledger : LedgerState) (session : ℕ) (pinned : Pinned) : Type 0 where
   pub pin : IsPinOf ledger session pinned
-  pub first : is_noted Tried ledger session ≡ false
+  pub first : is_noted is_tried ledger session ≡ false
 
 -- what a session has
 abbrev pub IsHold : LedgerState → ℕ → Hold → Type 0

@@ -12,10 +12,7 @@ use store_state::ReadFault;
 pub enum Answer {
     Done,
     /// A version was made.
-    Made {
-        name: Name,
-        version: u32,
-    },
+    Made { name: Name, version: u32 },
     /// Lines, each with its line feed.
     Lines(Bytes),
     /// A reap came, or none.
@@ -34,13 +31,8 @@ pub enum Answer {
     Refused(Refusal),
     /// What the change is about, or what it reads, was changed since the pin.
     Stale,
-    HistoryFull {
-        entries: u32,
-    },
-    Full {
-        needed: u32,
-        free: u32,
-    },
+    HistoryFull { entries: u32 },
+    Full { needed: u32, free: u32 },
     SequenceEnd,
     Unread(ReadFault),
     Unopened(OpenCause),
@@ -88,8 +80,14 @@ impl Answer {
             Answer::Reads => out.push_str("error: reads\n")?,
             Answer::Refused(refusal) => push_refusal(out, refusal)?,
             Answer::Stale => out.push_str("error: stale\n")?,
-            Answer::HistoryFull { entries } => writeln!(out, "error: history full, {entries} entries")?,
-            Answer::Full { needed, free } => writeln!(out, "error: full: needs {needed} pages, {free} free")?,
+            Answer::HistoryFull { entries } => writeln!(
+                out,
+                "error: history full, {entries} entries"
+            )?,
+            Answer::Full { needed, free } => writeln!(
+                out,
+                "error: full: needs {needed} pages, {free} free"
+            )?,
             Answer::SequenceEnd => out.push_str("error: no sequence number is left\n")?,
             Answer::Unread(fault) => push_read_fault(out, *fault)?,
             Answer::Unopened(cause) => writeln!(out, "error: {cause}")?,

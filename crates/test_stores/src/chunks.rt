@@ -41,7 +41,11 @@ fn refused(broken: Broken) -> Answer {
 }
 
 /// The chunks of a change over no arrays.
-fn chunks_over_none(alloc: Global, change: &Change, target: &Leaf) -> Result<Option<Changed>, Answer>
+fn chunks_over_none(
+    alloc: Global,
+    change: &Change,
+    target: &Leaf,
+) -> Result<Option<Changed>, Answer>
     requires { CanBeMade change.now target.now }
     ensures comes { IfOk result (ComesWith change.now) }
     ensures valid { IfOk result (λ some. IfSome some AreValid) }

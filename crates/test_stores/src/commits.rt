@@ -1,18 +1,18 @@
 //! Commits under a session's pin.
-ghost use Rattle.std.specs.Prelude.{◌≡◌, false, IfSome, IsTrue};
+ghost use Rattle.std.specs.Prelude.{◌≡◌, false, IfSome, IsTrue, Option};
+ghost use Rattle.array_geom.specs.declared.chunk.Changed.{Changed};
 ghost use Rattle.event_core.specs.Allowed.{is_pinned};
 ghost use Rattle.event_core.specs.History.{names_at};
 ghost use Rattle.plan_changes.specs.Typed.{IsTypedFor};
 ghost use Rattle.commit_pages.specs.Changes.{AreValid, ComesWith};
 ghost use Rattle.prepared_commits.specs.Prepared.{IsPreparedFor};
-ghost use Rattle.store_ledger.specs.declared.note.NoteKind.TheVariants.{Tried};
-ghost use Rattle.store_ledger.specs.Ledger.{history, is_noted};
+ghost use Rattle.store_ledger.specs.Ledger.{history, is_noted, is_tried};
 ghost use Rattle.test_stores.specs.Holds.{IsHold, LeavesOthers, LeavesTried};
+ghost use Rattle.test_stores.specs.Offers.{IsOffer};
 ghost use Rattle.test_stores.specs.Quiet.{quiet_moment};
 
 use crate::answers::Answer;
-use crate::changes::change_under;
-use crate::chunks::chunks_of;
+use crate::changes::{Offer, offer_under};
 use crate::holds::Hold;
 use crate::pins::{pinned, unpinned};
 use crate::quiet_disk::QuietDisk;
@@ -20,7 +20,7 @@ use afl_outside::Failed;
 use array_geom::Changed;
 use array_store::Store;
 use cell_values::Name;
-use plan_changes::{Change, changed_name, has_its_names, let_go_change, newest_of};
+use plan_changes::{Change, changed_name, has_its_names, newest_of};
 use prepared_commits::{PrepareFault, Prepared};
 use std::alloc::Global;
 
@@ -36,7 +36,7 @@ fn done(store: &Store<QuietDisk>, made: Option<Name>) -> Answer {
 }
 
 fn sealed(store: &mut Store<QuietDisk>, prepared: Prepared, made: Option<Name>) -> Answer
-    requires { IsPreparedFor quiet_moment store.old prepared }
+    requires { (changed : Option Changed) × IsPreparedFor quiet_moment store.old changed prepared }
     ensures tried { LeavesTried prepared.session store.old.ledger store.new.ledger }
     ensures others { LeavesOthers prepared.session store.old.ledger store.new.ledger }
 {
@@ -67,7 +67,7 @@ fn committed(
     made: Option<Name>,
 ) -> Answer
     requires pinned { IsTrue (is_pinned session (history store.old.ledger)) }
-    requires tried { is_noted Tried store.old.ledger session ≡ false }
+    requires tried { is_noted is_tried store.old.ledger session ≡ false }
     requires typed { IsTypedFor (names_at store.old.ledger.base (history store.old.ledger)) change }
     requires comes { ComesWith change changed }
     requires valid { IfSome changed AreValid }
@@ -92,29 +92,22 @@ fn made_by(change: &Change, changed: &Option<Changed>) -> Option<Name> {
     }
 }
 
-/// Commits a change under a session's pin, with the chunks that come with it.
-fn committed_with_chunks(
+/// Commits what is offered under a session's pin.
+fn committed_offer(
     alloc: Global,
     store: &mut Store<QuietDisk>,
     session: u32,
-    change: Change,
+    offer: Offer,
 ) -> Answer
     requires pinned { IsTrue (is_pinned session (history store.old.ledger)) }
-    requires tried { is_noted Tried store.old.ledger session ≡ false }
-    requires typed { IsTypedFor (names_at store.old.ledger.base (history store.old.ledger)) change }
+    requires tried { is_noted is_tried store.old.ledger session ≡ false }
+    requires offer { IsOffer (names_at store.old.ledger.base (history store.old.ledger)) offer }
     ensures tried { LeavesTried session store.old.ledger store.new.ledger }
     ensures others { LeavesOthers session store.old.ledger store.new.ledger }
 {
-    match chunks_of(alloc, &change, store.names()) {
-        Ok(changed) => {
-            let made = made_by(&change, &changed);
-            committed(alloc, store, session, change, changed, made)
-        }
-        Err(answer) => {
-            let_go_change(change);
-            answer
-        }
-    }
+    let Offer { change, changed } = offer;
+    let made = made_by(&change, &changed);
+    committed(alloc, store, session, change, changed, made)
 }
 
 /// The change that a text is, committed under a session's pin, if nothing of it was changed since.
@@ -132,9 +125,9 @@ pub fn changed(
     match held {
         Hold::Free => (Hold::Free, Answer::HasNoPin),
         Hold::Tried(pinned) => (Hold::Tried(pinned), Answer::HasTried),
-        Hold::Pinned(pinned) => match change_under(alloc, store, &pinned, text) {
-            Ok(change) => {
-                let answer = committed_with_chunks(alloc, store, session, change);
+        Hold::Pinned(pinned) => match offer_under(alloc, store, &pinned, text) {
+            Ok(offer) => {
+                let answer = committed_offer(alloc, store, session, offer);
                 (Hold::Tried(pinned), answer)
             }
             Err(answer) => (Hold::Pinned(pinned), answer),

@@ -12,8 +12,8 @@ mod pins;
 mod quiet_disk;
 mod reading;
 mod statements;
-mod watch;
 mod versions;
+mod watch;
 
 pub use answers::Answer;
 pub use commits::{changed, once};
@@ -24,5 +24,5 @@ pub use pins::{pinned, reaped, unpinned};
 pub use quiet_disk::QuietDisk;
 pub use reading::{cells, leaf_of};
 pub use statements::{Refused, statement};
-pub use watch::Watch;
 pub use versions::whole;
+pub use watch::Watch;

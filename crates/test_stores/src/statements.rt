@@ -29,7 +29,10 @@ fn checked(alloc: Global, text: &[u8], tree: &Tree, names: &Names) -> Result<Typ
 {
     match check(alloc, tree, text, names) {
         Ok(typed) => Ok(typed),
-        Err(TypeFault::Rule { span, kind }) => Err(Refused::Because(Refusal::Typing { span, kind })),
+        Err(TypeFault::Rule { span, kind }) => Err(Refused::Because(Refusal::Typing {
+            span,
+            kind,
+        })),
         Err(TypeFault::Memory) => Err(Refused::Memory),
     }
 }
