@@ -13,7 +13,7 @@ use Rattle.event_core.specs.History.{History}
 use Rattle.event_core.proofs.Tests.{both_not}
 use Rattle.store_ledger.specs.declared.note.Note.{Note}
 use Rattle.store_ledger.specs.declared.note.NoteKind.TheVariants.{Fault}
-use Rattle.store_ledger.specs.Ledger.{Event as LedgerEvent, LedgerState, IsLedger, entered, noted, events_from, events as ledger_events, is_noted, note_now, with_fault, with_notes as more_notes}
+use Rattle.store_ledger.specs.Ledger.{Event as LedgerEvent, LedgerState, IsLedger, entered, noted, events_from, events as ledger_events, is_noted, note_now, with_fault, with_notes as more_notes, is_fault}
 use Rattle.store_ledger.proofs.Events.{events_grow_by_entries, events_grow_by_notes}
 use Rattle.store_ledger.proofs.Told.{notes_are_within}
 use Rattle.afl_outside.specs.Disk.{Moment}
@@ -71,7 +71,7 @@ fault_if true D s note at_end = record { start = refl; grown = sym (append-nil (
 fault_if false D s note at_end = notes_add_events D s note at_end
 
 pub faults_add_events : (D : Type 0) → FaultsAddEvents D
-faults_add_events D s session = fault_if (is_noted Fault s.ledger session) D s (note_now Fault s.ledger session) refl
+faults_add_events D s session = fault_if (is_noted is_fault s.ledger session) D s (note_now Fault s.ledger session) refl
 
 -- ---- a commit
 

@@ -5,8 +5,9 @@ use Rattle.afl_outside.specs.Disk.{Moment}
 use Rattle.event_core.specs.declared.entry.Entry.{Entry}
 use Rattle.event_core.specs.declared.entry.Entry.TheVariants.{Pin, Unpin, Commit, Reap}
 use Rattle.event_core.specs.Bases.{commits}
-use Rattle.store_ledger.specs.declared.note.NoteKind.TheVariants.{Fault, Tried}
-use Rattle.store_ledger.specs.Ledger.{LedgerState, AreWithin, history, is_noted, note_now}
+use Rattle.plan_changes.specs.declared.change.Change.{Change}
+use Rattle.store_ledger.specs.declared.note.NoteKind.TheVariants.{Fault}
+use Rattle.store_ledger.specs.Ledger.{LedgerState, AreWithin, attempt, history, is_fault, is_noted, note_now}
 use Rattle.store_state.specs.declared.event.Event.{Event}
 use Rattle.store_state.specs.declared.event.Event.TheVariants.{Entered, Noted}
 use Rattle.store_state.specs.Events.{events}
@@ -33,11 +34,11 @@ is_plain Reap = true
 
 -- the note of a fault under a session's pin, if none was made there yet
 abbrev pub fault_events : LedgerState → ℕ → List Event
-fault_events ledger session = if is_noted Fault ledger session then [] else Noted (note_now Fault ledger session) ∷ []
+fault_events ledger session = if is_noted is_fault ledger session then [] else Noted (note_now Fault ledger session) ∷ []
 
 -- the note that a session tries a commit, and a reap behind it, if one came
-abbrev pub tried_events : Bool → LedgerState → ℕ → List Event
-tried_events comes ledger session = Noted (note_now Tried ledger session) ∷ (if comes then Entered Reap ∷ [] else [])
+abbrev pub tried_events : Bool → LedgerState → ℕ → Change → List Event
+tried_events comes ledger session change = Noted (note_now (attempt change) ledger session) ∷ (if comes then Entered Reap ∷ [] else [])
 
 -- where the disk's count of faults rose this note is added, and else nothing
 pub record AddsFault {D : Type 0} (moment : D → Moment) (session : ℕ) (old new : Standing D) : Type 0 where

@@ -1,4 +1,4 @@
--- What a commit is prepared for: the store as it is, until the next entry.
+-- What a commit is prepared for: the store as it is, until the next entry or note.
 use Rattle.std.specs.Prelude.{◌≡◌, ℕ, ◌<◌, ◌≤◌, ◌^◌, List, length, vec_capacity, false, Option, None, IfSome, IsTrue}
 use Rattle.std.specs.List.{AllByRecursion}
 use Rattle.std.specs.Option.{option_map}
@@ -21,8 +21,7 @@ use Rattle.event_core.specs.Legal.{has_committed}
 use Rattle.event_core.specs.Pages.{free_at, fresh_at}
 use Rattle.event_core.specs.Ready.{IsReadyOver}
 use Rattle.event_core.specs.Replay.{core_at}
-use Rattle.store_ledger.specs.declared.note.NoteKind.TheVariants.{Tried}
-use Rattle.store_ledger.specs.Ledger.{has_room, history, is_noted}
+use Rattle.store_ledger.specs.Ledger.{has_room, history, is_noted, is_tried}
 use Rattle.store_versions.specs.Rows.{IsReadyFor}
 use Rattle.commit_costs.specs.Costs.{cost_from}
 use Rattle.commit_writes.specs.Commits.{IsBlobSized, IsChainSized}
@@ -30,7 +29,7 @@ use Rattle.commit_pages.specs.declared.laid.Laid.{Laid}
 use Rattle.commit_pages.specs.Changes.{ComesWith, AreValid, IsChangeOf}
 use Rattle.store_state.specs.declared.parts.StoreParts.{StoreParts}
 use Rattle.store_state.specs.At.{keeping, standing}
-use Rattle.store_state.specs.Standings.{Standing, BeganAs, base_of}
+use Rattle.store_state.specs.Standings.{Standing, BeganAs, WasTriedBy, base_of}
 use Rattle.store_state.specs.Inner.Keeping.{Keeping, IsDirectoryOf}
 use Rattle.prepared_commits.specs.declared.prepared.Prepared.{Prepared}
 use Rattle.prepared_commits.specs.Needs.{IsLaidBy, all_pages, next_sequence}
@@ -71,7 +70,9 @@ pub record MayCome {D : Type 0} (moment : D → Moment) (s : Standing D) (k : Ke
   pub allowed : IsTrue (allows s.ledger.base (history s.ledger) (Commit p.session p.commit.change p.commit.used))
   pub own : SharesOwn s.ledger.base (history s.ledger) p.commit.change p.commit.used
   pub first : has_committed p.session (history s.ledger) ≡ false
-  pub noted : IsTrue (is_noted Tried s.ledger p.session)
+  pub noted : IsTrue (is_noted is_tried s.ledger p.session)
+  -- it is this change that the session tried, and no commit came since
+  pub tried : WasTriedBy p.session s.ledger.notes (history s.ledger) p.commit.change
   pub room : IsTrue (has_room s.ledger 1)
   pub version : IsReadyFor (names_at s.ledger.base (history s.ledger)) p.commit.change (length k.rows) p.version
   pub sequence : next_sequence s < 2 ^ 64
@@ -83,9 +84,8 @@ pub record MayCome {D : Type 0} (moment : D → Moment) (s : Standing D) (k : Ke
       → length (fresh_at s.ledger.base (history s.ledger) p.commit.change p.commit.used)
       ≡ cost_from (base_of s).records (at db (history s.ledger)) (history s.ledger) p.commit.change
 
--- WHAT A COMMIT IS PREPARED FOR
-pub record IsPreparedFor {D : Type 0} (moment : D → Moment) (parts : StoreParts D) (p : Prepared) : Type 0 where
-  pub changed : Option Changed
+-- WHAT A COMMIT IS PREPARED FOR, of its change with the chunks that were handed in
+pub record IsPreparedFor {D : Type 0} (moment : D → Moment) (parts : StoreParts D) (changed : Option Changed) (p : Prepared) : Type 0 where
   pub asked : IsAsked moment (standing moment parts) p.commit.change changed
   pub pages : List ℕ
   pub laid : Laid

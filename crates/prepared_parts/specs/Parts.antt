@@ -1,5 +1,5 @@
 -- What a commit is prepared as over a catalogue, a table of versions and a ledger.
-use Rattle.std.specs.Prelude.{◌≡◌, ◌≤◌, ◌<◌, ◌-◌, ◌^◌, ℕ, Bool, min, nat_lt, if◌then◌else◌, List, [], ◌∷◌, length, Option, Result, Ok, Err}
+use Rattle.std.specs.Prelude.{◌≡◌, ◌≤◌, ◌<◌, ◌-◌, ◌^◌, ℕ, Bool, ◌&&◌, min, nat_lt, if◌then◌else◌, List, [], ◌∷◌, length, Option, Result, Ok, Err}
 use Rattle.std.specs.Option.{option_map}
 use Rattle.chunk_map.specs.declared.directory.Directory.{Directory}
 use Rattle.logical_plan.specs.declared.names.Names.{Names}
@@ -39,12 +39,12 @@ free_pages ledger = free_at ledger.base (history ledger)
 abbrev pub is_short : ℕ → LedgerState → Bool
 is_short needed ledger = nat_lt (length (free_pages ledger)) needed
 
--- A reap comes where free pages are short. Where memory is, it may be missing
+-- A reap comes just where free pages are short. Where memory is short too, it may be missing
 abbrev pub IsLeft : {A : Type 0} → ℕ → LedgerState → Result A PrepareFault → LedgerState → Type 0
 IsLeft needed old (Ok x) new = new ≡ reaped (is_short needed old) old
 IsLeft needed old (Err SequenceEnd) new = ⊥
 IsLeft needed old (Err (Full most free)) new = new ≡ reaped (is_short needed old) old
-IsLeft needed old (Err Memory) new = (comes : Bool) × (new ≡ reaped comes old)
+IsLeft needed old (Err Memory) new = (comes : Bool) × (new ≡ reaped (comes && is_short needed old) old)
 
 -- too few pages can be given: a commit takes more than nobody can name
 pub record IsFull (count most rest : ℕ) (ledger : LedgerState) : Type 0 where

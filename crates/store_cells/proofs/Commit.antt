@@ -111,6 +111,7 @@ module _ (rest : Rest) {D : Type 0} (moment : D → Moment) (s : Standing D) (k 
     base = base_of s;
     given = given;
     db = db;
+    notes = s.ledger.notes;
     h = h;
     slots = k.slots;
     doubt = s.doubt;
@@ -275,7 +276,7 @@ module _ (rest : Rest) {D : Type 0} (moment : D → Moment) (s : Standing D) (k 
     target = target_is p.base ready.is_laid.by;
     same = kept.doubt;
     doubtful = cells.doubt;
-    sound = is_sound;
+    sound = record { sound = is_sound; tried = (p.session, ready.may_come.tried) };
     commit = λ image i. commit_over image i.opens i.holds;
     laid_in = laid_in given p.base ready.is_laid.by ready.is_laid.free ready.is_laid.distinct;
   }

@@ -31,9 +31,10 @@ use Rattle.event_core.specs.Bases.{Base}
 use Rattle.event_core.specs.Cells.{at}
 use Rattle.event_core.specs.History.{History}
 use Rattle.laid_commits.specs.Premises.{IsCommit, IsLaidBase, IsLaidRecord, made_of}
+use Rattle.store_ledger.specs.declared.note.Note.{Note}
 use Rattle.store_versions.specs.Versions.{Directories}
 use Rattle.store_state.specs.Cells.{IsImage}
-use Rattle.store_state.specs.Standings.{IsSound, StandsFor, StoodFor, current_slots}
+use Rattle.store_state.specs.Standings.{IsAttempt, StandsFor, StoodFor, current_slots}
 use Rattle.store_state.specs.Inner.Keeping.{is_opening}
 use Rattle.store_images.specs.Premises.{IsStore, MayBeWritten, IsFoundInOrder}
 use Rattle.prepared_commits.specs.declared.prepared.NewBase.{NewBase}
@@ -46,6 +47,7 @@ pub record Over : Type 0 where
   pub base : Base
   pub given : Directories
   pub db : Database
+  pub notes : List Note
   pub h : History
   pub slots : Slots
   pub doubt : Option Change
@@ -78,8 +80,8 @@ pub record IsOver (v : Over) (o : Option NewBase) : Type 0 where
   pub may : MayBeWritten v.base.core v.h v.slots (slot_page o v.slots) (own_pages o v.laid.blobs v.laid.chain)
   pub target : v.slots.target ≡ target_of o
   pub same : is_opening v.slots ≡ is_some v.doubt
-  pub doubtful : IfSome v.doubt (IsSound (now v))
-  pub sound : IsSound (now v) v.change
+  pub doubtful : IfSome v.doubt (IsAttempt v.db v.notes v.h)
+  pub sound : IsAttempt v.db v.notes v.h v.change
   pub commit : (image : List ℕ) → Image v image → IsCommit image (current_slots v.slots) (now v) v.found v.change v.changed v.newest
   pub laid_in : IsLaidIn v o
 
@@ -139,15 +141,15 @@ module _ (rest : Rest) (v : Over) (o : Option NewBase) (x : IsOver v o) (before 
   in_images c (inr (inl is)) = inr (inl (over_images _ c is.0, is.1))
   in_images c (inr (inr is)) = inr (inr (over_images _ c is.0, opens_new rest v o x is.0.0 c (images is.0.0 is.0.1) is.0.2 is.1))
 
-  pub have_stood : (c : List ℕ) → May c → StoodFor v.db (length v.h) v.h c
-  have_stood c is = rest.stood v.base v.given v.db v.h v.slots v.doubt v.found (slot_page o v.slots) (own_pages o v.laid.blobs v.laid.chain) v.change c
+  pub have_stood : (c : List ℕ) → May c → StoodFor v.db v.notes (length v.h) v.h c
+  have_stood c is = rest.stood v.base v.given v.db v.notes v.h v.slots v.doubt v.found (slot_page o v.slots) (own_pages o v.laid.blobs v.laid.chain) v.change c
       x.store x.may x.same x.doubtful x.sound (in_images c is)
 
   pub may_leave : (c : List ℕ) → May c
-      → (StandsFor (now v) v.doubt c × OverPages (slot_page o v.slots ∷ []) before c) ⊎ StandsFor (now v) (Some v.change) c
+      → (StandsFor (now v) v.doubt c × OverPages (slot_page o v.slots ∷ []) before c) ⊎ (StandsFor (now v) (Some v.change) c × OverPages (its_pages v o) before c)
   may_leave c (inl is) = inl ((untouched_on rest v o x is.0.0 c (images is.0.0 is.0.1) is.0.2 is.1).stands, is.0)
-  may_leave c (inr (inl is)) = inr (inl (unopened_on rest v o x v.slots is.0.0 c (images is.0.0 is.0.1) is.0.2 is.1 refl).stands)
-  may_leave c (inr (inr is)) = inr (inr (opens_new rest v o x is.0.0 c (images is.0.0 is.0.1) is.0.2 is.1))
+  may_leave c (inr (inl is)) = inr (inl (unopened_on rest v o x v.slots is.0.0 c (images is.0.0 is.0.1) is.0.2 is.1 refl).stands, is.0)
+  may_leave c (inr (inr is)) = inr (inr (opens_new rest v o x is.0.0 c (images is.0.0 is.0.1) is.0.2 is.1), is.0)
 
 -- ---- once it is open
 

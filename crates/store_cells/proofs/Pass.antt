@@ -1,11 +1,11 @@
 -- What each image of a commit's moments stands for.
-use Rattle.std.proofs.Common.{inl, inr, ⊎_elim, ◌<◌, ◌≤◌, ◌⊎◌, ◌≡◌, ℕ, Bool, true, false, if◌then◌else◌, List, [], ◌∷◌, ◌++◌, arith}
+use Rattle.std.proofs.Common.{inl, inr, ⊎_elim, ◌<◌, ◌≤◌, ◌⊎◌, ◌≡◌, ℕ, Bool, true, false, if◌then◌else◌, List, [], ◌∷◌, ◌++◌, ◌∙◌, ap, sym, arith, append-nil}
 use Rattle.std.proofs.lemmas.Bool.{cases_lt}
 use Rattle.afl_outside.specs.Counts.{risen}
 use Rattle.afl_outside.specs.Disk.{DiskState, LeavesOnly, Moment}
 use Rattle.store_ledger.specs.declared.note.Note.{Note}
 use Rattle.store_ledger.specs.declared.note.NoteKind.TheVariants.{Fault}
-use Rattle.store_ledger.specs.Ledger.{LedgerState, is_noted, note_now, with_notes}
+use Rattle.store_ledger.specs.Ledger.{LedgerState, is_fault, is_noted, note_now, with_notes}
 use Rattle.store_state.specs.Calls.{NotesFault}
 use Rattle.store_state.specs.Standings.{given_of}
 use Rattle.store_cells.specs.Laws.{CommitsPassBy}
@@ -30,14 +30,17 @@ commits_pass rest moment s k p db later disk w =
 
 -- ---- notes of faults
 
--- a ledger to which a fault was noted, or not, has other notes at most
-pub noted_is : (old new : DiskState) (session : ℕ) (before ledger : LedgerState) → NotesFault old new session before ledger → (notes : List Note) × (ledger ≡ record before { notes = notes })
+-- a ledger to which a fault was noted, or not, has more notes at most
+pub noted_is : (old new : DiskState) (session : ℕ) (before ledger : LedgerState) → NotesFault old new session before ledger → (more : List Note) × (ledger ≡ with_notes more before)
 noted_is old new session before ledger notes = by_cases (cases_lt new.faults (risen old.faults))
   where
-    by_noted : (b : Bool) → ledger ≡ (if b then before else with_notes (note_now Fault before session ∷ []) before) → (notes : List Note) × (ledger ≡ record before { notes = notes })
-    by_noted true is = (before.notes, is)
-    by_noted false is = (before.notes ++ note_now Fault before session ∷ [], is)
+    unchanged : ledger ≡ before → ledger ≡ with_notes [] before
+    unchanged is = is ∙ ap (λ (ns : List Note). record before { notes = ns }) (sym (append-nil before.notes))
 
-    by_cases : (new.faults < risen old.faults) ⊎ (risen old.faults ≤ new.faults) → (notes : List Note) × (ledger ≡ record before { notes = notes })
-    by_cases (inl below) = (before.notes, notes.still (λ rose. omega (arith, below, rose)))
-    by_cases (inr rose) = by_noted (is_noted Fault before session) (notes.rose rose)
+    by_noted : (b : Bool) → ledger ≡ (if b then before else with_notes (note_now Fault before session ∷ []) before) → (more : List Note) × (ledger ≡ with_notes more before)
+    by_noted true is = ([], unchanged is)
+    by_noted false is = (note_now Fault before session ∷ [], is)
+
+    by_cases : (new.faults < risen old.faults) ⊎ (risen old.faults ≤ new.faults) → (more : List Note) × (ledger ≡ with_notes more before)
+    by_cases (inl below) = ([], unchanged (notes.still (λ rose. omega (arith, below, rose))))
+    by_cases (inr rose) = by_noted (is_noted is_fault before session) (notes.rose rose)

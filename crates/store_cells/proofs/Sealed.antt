@@ -32,7 +32,7 @@ use Rattle.store_state.specs.Cells.{HoldsCells, IsFound, IsImage}
 use Rattle.store_state.specs.Kept.{AreVersions, IsKept}
 use Rattle.store_state.specs.Standings.{HaveStood, Standing, commit_places, current_slots, given_of}
 use Rattle.store_state.specs.Inner.Keeping.{Keeping}
-use Rattle.store_state.proofs.CellsOn.{have_stood_on}
+use Rattle.store_state.proofs.Attempts.{have_stood_noted, have_stood_on}
 use Rattle.store_state.proofs.Lists.{zip_map}
 use Rattle.store_images.specs.Premises.{IsFoundInOrder}
 use Rattle.store_images.proofs.Moments.{have_stood_by, have_stood_now}
@@ -145,9 +145,9 @@ module _ (rest : Rest) {D : Type 0} (moment : D → Moment) (s : Standing D) (k 
   -- ---- all of it, with other notes
 
   module _ (done : IsDone p.base k.slots later p.blobs p.chain (moment s.disk) (moment disk))
-      (only : (image : List ℕ) → (moment disk).left_since (moment disk).state.moment image → (moment disk).may_leave image) (notes : List Note) where
+      (only : (image : List ℕ) → (moment disk).left_since (moment disk).state.moment image → (moment disk).may_leave image) (noted : List Note) where
     abbrev ledger : LedgerState
-    ledger = record (sealed_ledger s p) { notes = notes }
+    ledger = record (sealed_ledger s p) { notes = s.ledger.notes ++ noted }
 
     abbrev next : Standing D
     next = sealed moment s p ledger disk
@@ -182,16 +182,17 @@ module _ (rest : Rest) {D : Type 0} (moment : D → Moment) (s : Standing D) (k 
         let op = opened more p.base done image left in
         next_image rest its p.base is_its p.session p.commit.used (order_in kept) op.0.0 image (its_image op.0.0 op.0.1) op.0.2 op.1
 
-    stood_on : (least since : ℕ) → HaveStood (moment s.disk) db h least since → HaveStood (moment disk) db (entry ∷ h) least since
-    stood_on least since x = have_stood_on entry (moment disk) db h least since
-        (have_stood_by (May rest its p.base is_its (moment s.disk).may_leave its_image) (moment s.disk) (moment disk) db h least since
-        (have_stood rest its p.base is_its (moment s.disk).may_leave its_image) (w.writes.during w.cells.bytes w.cells.known) x)
+    stood_on : (least since : ℕ) → HaveStood (moment s.disk) db s.ledger.notes h least since → HaveStood (moment disk) db (s.ledger.notes ++ noted) (entry ∷ h) least since
+    stood_on least since x = have_stood_noted (moment disk) db s.ledger.notes noted (entry ∷ h) least since
+        (have_stood_on entry (moment disk) db s.ledger.notes h least since
+        (have_stood_by (May rest its p.base is_its (moment s.disk).may_leave its_image) (moment s.disk) (moment disk) db s.ledger.notes h least since
+        (have_stood rest its p.base is_its (moment s.disk).may_leave its_image) (w.writes.during w.cells.bytes w.cells.known) x))
 
-    stood_now : Keeps (entry ∷ h) more → HaveStood (moment disk) db (entry ∷ h) (length s.ledger.entries + 1) (moment disk).state.moment
+    stood_now : Keeps (entry ∷ h) more → HaveStood (moment disk) db (s.ledger.notes ++ noted) (entry ∷ h) (length s.ledger.entries + 1) (moment disk).state.moment
     stood_now kept =
         let same : length h ≡ length s.ledger.entries = length-reverse s.ledger.entries in
-        subst (λ (n : ℕ). HaveStood (moment disk) db (entry ∷ h) n (moment disk).state.moment) (omega (arith, same))
-        (have_stood_now (moment disk) only db (entry ∷ h) (λ image left. (image_next kept image left).stands))
+        subst (λ (n : ℕ). HaveStood (moment disk) db (s.ledger.notes ++ noted) (entry ∷ h) n (moment disk).state.moment) (omega (arith, same))
+        (have_stood_now (moment disk) only db (s.ledger.notes ++ noted) (entry ∷ h) (λ image left. (image_next kept image left).stands))
 
     abbrev Holds : History → Directories → List ℕ → Type 0
     Holds h' given places = HoldsCells moment next (sealed_keeping s k p) db h' given places
@@ -211,9 +212,9 @@ module _ (rest : Rest) {D : Type 0} (moment : D → Moment) (s : Standing D) (k 
           is_found = next_is p.base is_its.laid_in w.ready.is_laid.free;
           images = image_next kept;
           past = stood_on 0 _ w.cells.past;
-          acked = zip_push (λ place since. HaveStood (moment disk) db (entry ∷ h) (place + 1) since) (commit_places 0 s.ledger.entries) s.acked (length s.ledger.entries)
+          acked = zip_push (λ place since. HaveStood (moment disk) db (s.ledger.notes ++ noted) (entry ∷ h) (place + 1) since) (commit_places 0 s.ledger.entries) s.acked (length s.ledger.entries)
               (moment disk).state.moment
-              (zip_map (λ place since. HaveStood (moment s.disk) db h (place + 1) since) (λ place since. HaveStood (moment disk) db (entry ∷ h) (place + 1) since)
+              (zip_map (λ place since. HaveStood (moment s.disk) db s.ledger.notes h (place + 1) since) (λ place since. HaveStood (moment disk) db (s.ledger.notes ++ noted) (entry ∷ h) (place + 1) since)
               (λ place since x. stood_on (place + 1) since x) (commit_places 0 s.ledger.entries) s.acked w.cells.acked)
               (stood_now kept);
         }

@@ -11,11 +11,11 @@ use Rattle.commit_writes.specs.Moments.{IsKnown}
 use Rattle.event_core.specs.declared.state.Core.{Core}
 use Rattle.event_core.specs.Cells.{at}
 use Rattle.event_core.specs.History.{History}
-use Rattle.store_ledger.specs.declared.note.Note.{Note}
 use Rattle.store_ledger.specs.Ledger.{LedgerState, history}
 use Rattle.store_state.specs.Cells.{HoldsCells, IsFound}
-use Rattle.store_state.specs.Standings.{HaveStood, IsSound, Standing, commit_places, given_of}
+use Rattle.store_state.specs.Standings.{HaveStood, IsAttempt, Standing, commit_places, given_of}
 use Rattle.store_state.specs.Inner.Keeping.{Keeping}
+use Rattle.store_state.proofs.AtOn.{cells_noted}
 use Rattle.store_state.proofs.Lists.{zip_map}
 use Rattle.store_images.proofs.Moments.{have_stood_by}
 use Rattle.prepared_commits.specs.declared.prepared.NewBase.{NewBase}
@@ -35,10 +35,10 @@ same_log stages.Filling (Some base) chain slots later = refl
 same_log stages.Opening None chain slots later = refl
 same_log stages.Opening (Some base) chain slots later = refl
 
-sound_after : (stage : Stopped) (doubt : Option Change) (change : Change) (db : Database) → IfSome doubt (IsSound db) → IsSound db change → IfSome (doubt_after stage doubt change) (IsSound db)
-sound_after stages.Closing doubt change db before its = before
-sound_after stages.Filling doubt change db before its = tt
-sound_after stages.Opening doubt change db before its = its
+tried_after : (P : Change → Type 0) (stage : Stopped) (doubt : Option Change) (change : Change) → IfSome doubt P → P change → IfSome (doubt_after stage doubt change) P
+tried_after P stages.Closing doubt change before its = before
+tried_after P stages.Filling doubt change before its = tt
+tried_after P stages.Opening doubt change before its = its
 
 module _ (rest : Rest) {D : Type 0} (moment : D → Moment) (s : Standing D) (k : Keeping) (p : Prepared) (db : Database) (later : Slots) (disk : D)
     (w : IsWritten moment s k p db later disk) where
@@ -71,26 +71,26 @@ module _ (rest : Rest) {D : Type 0} (moment : D → Moment) (s : Standing D) (k 
   stops_in stages.Opening None stops c left = stops.images w.cells.bytes w.cells.known c left
   stops_in stages.Opening (Some base) stops c left = stops.images w.cells.bytes w.cells.known c left
 
-  stood_on : (least since : ℕ) → HaveStood (moment s.disk) db h least since → HaveStood (moment disk) db h least since
-  stood_on least since x = have_stood_by (May rest its p.base is_its (moment s.disk).may_leave w.cells.images) (moment s.disk) (moment disk) db h least since
+  stood_on : (least since : ℕ) → HaveStood (moment s.disk) db s.ledger.notes h least since → HaveStood (moment disk) db s.ledger.notes h least since
+  stood_on least since x = have_stood_by (May rest its p.base is_its (moment s.disk).may_leave w.cells.images) (moment s.disk) (moment disk) db s.ledger.notes h least since
       (have_stood rest its p.base is_its (moment s.disk).may_leave w.cells.images) (w.writes.during w.cells.bytes w.cells.known) x
 
-  holds_stopped : (stage : Stopped) → StopsAt p.base stage k.slots later p.blobs p.chain (moment s.disk) (moment disk) → (notes : List Note)
-      → HoldsCells moment (stopped stage s p (record (s.ledger) { notes = notes }) disk) (stopped_keeping stage k p later) db h (given_of s) (commit_places 0 s.ledger.entries)
-  holds_stopped stage stops notes =
+  holds_stopped : (stage : Stopped) → StopsAt p.base stage k.slots later p.blobs p.chain (moment s.disk) (moment disk)
+      → HoldsCells moment (stopped stage s p s.ledger disk) (stopped_keeping stage k p later) db h (given_of s) (commit_places 0 s.ledger.entries)
+  holds_stopped stage stops =
       let known = w.writes.known w.cells.bytes w.cells.known in
       record {
         legal = w.cells.legal;
         database = w.cells.database;
         pinned = w.cells.pinned;
-        doubt = sound_after stage s.doubt p.commit.change (at db h) w.cells.doubt is_its.sound;
+        doubt = tried_after (IsAttempt db s.ledger.notes h) stage s.doubt p.commit.change w.cells.doubt is_its.sound;
         bytes = known.0;
         known = subst (λ (slots : Slots). IsKnown slots known.0 (moment disk)) (slots_are stage p.base stops) known.1;
         found = w.cells.found;
         is_found = subst (λ (log : ℕ). IsFound core (given_of s) h k.catalog log w.cells.found) (same_log stage p.base p.chain k.slots later) w.cells.is_found;
         images = λ image left. stopped_image rest its p.base is_its (moment s.disk).may_leave w.cells.images stage later image (stops_in stage p.base stops image left);
         past = stood_on 0 _ w.cells.past;
-        acked = zip_map (λ place since. HaveStood (moment s.disk) db h (place + 1) since) (λ place since. HaveStood (moment disk) db h (place + 1) since)
+        acked = zip_map (λ place since. HaveStood (moment s.disk) db s.ledger.notes h (place + 1) since) (λ place since. HaveStood (moment disk) db s.ledger.notes h (place + 1) since)
             (λ place since x. stood_on (place + 1) since x) (commit_places 0 s.ledger.entries) s.acked w.cells.acked;
       }
 
@@ -98,4 +98,6 @@ pub stopped_cells : Rest → {D : Type 0} (moment : D → Moment) → StoppedCel
 stopped_cells rest moment s k p db later stage ledger disk w stops notes =
     let noted = noted_is (moment s.disk).state (moment disk).state p.session s.ledger ledger notes in
     subst (λ (l : LedgerState). HoldsCells moment (stopped stage s p l disk) (stopped_keeping stage k p later) db (history l) (given_of (stopped stage s p l disk)) (commit_places 0 l.entries))
-    (sym noted.1) (holds_stopped rest moment s k p db later disk w stage stops noted.0)
+    (sym noted.1)
+    (cells_noted moment (stopped stage s p s.ledger disk) (stopped_keeping stage k p later) (history s.ledger) (given_of s) noted.0 db (commit_places 0 s.ledger.entries)
+    (holds_stopped rest moment s k p db later disk w stage stops))

@@ -9,19 +9,19 @@ use Rattle.commit_writes.specs.Moments.{IsKnown, IsUntouched}
 use Rattle.event_core.specs.declared.entry.Entry.TheVariants.{Pin}
 use Rattle.file_laws.proofs.Worked.{file_stands}
 use Rattle.file_laws.specs.Inner.Example.{database, file}
-use Rattle.store_ledger.specs.declared.note.NoteKind.TheVariants.{Tried}
+use Rattle.store_ledger.specs.Ledger.{attempt}
 use Rattle.store_state.specs.At.{IsAt}
 use Rattle.store_state.specs.Standings.{BeganAs, with_entries}
 use Rattle.store_state.specs.Worked.{worked_keeping, worked_moment, worked_slots, worked_store}
 use Rattle.store_state.proofs.AtOn.{at_noted, at_pin}
 use Rattle.store_steps.specs.Laws.{IsReady}
-use Rattle.store_steps.specs.Worked.{pinned_store, prepared_removal}
+use Rattle.store_steps.specs.Worked.{pinned_store, prepared_removal, removal}
 use Rattle.store_cells.specs.Moves.{Writes}
 use Rattle.store_cells.specs.Worked.{ACommitIsWritten}
 
 at_pinned : IsAt worked_moment worked_store worked_keeping → IsAt worked_moment pinned_store worked_keeping
 at_pinned x = at_noted worked_moment (with_entries (Pin 7 ∷ []) worked_store) worked_keeping (at_pin worked_moment worked_store worked_keeping x 7 refl)
-    (record { session = 7; kind = Tried; after = 1 }) (inl (omega arith))
+    (record { session = 7; kind = attempt removal; after = 1 }) (inl (omega arith))
 
 began : BeganAs (worked_moment tt).state database
 began = record { honest = refl; file = file; tells = refl; stands = file_stands }

@@ -47,7 +47,8 @@ StopsAt None stage slots later blobs chain old new = StopsRecord stage slots lat
 StopsAt (Some base) stage slots later blobs chain old new = StopsBase stage slots later blobs chain base.sequence base.log old new
 
 -- AN IMAGE AT SOME MOMENT OF A COMMIT: while an earlier change may be in doubt, none of the commit's own pages is written; from then on the
--- image stands for the database before the change or after it
+-- image stands for the database before the change or after it, and no other pages are written than its own and the slot's
 abbrev pub MayLeave : {D : Type 0} → Database → Standing D → Keeping → Prepared → (List ℕ → Type 0) → List ℕ → Type 0
 MayLeave db s k p before image = (StandsFor (at db (history s.ledger)) s.doubt image × Over (slot_page p.base k.slots ∷ []) before image)
-    ⊎ StandsFor (at db (history s.ledger)) (Some p.commit.change) image
+    ⊎ (StandsFor (at db (history s.ledger)) (Some p.commit.change) image
+    × Over (slot_page p.base k.slots ∷ own_pages p.base p.blobs p.chain) before image)

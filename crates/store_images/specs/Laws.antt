@@ -29,10 +29,11 @@ use Rattle.commit_writes.specs.Commits.{HoldsAll, base_pages, commit_pages, reco
 use Rattle.commit_writes.specs.Moments.{HasRecord, MayBe, MayHaveBase, cleared}
 use Rattle.commit_pages.specs.declared.laid.Laid.{Laid}
 use Rattle.laid_commits.specs.Premises.{IsCommit, IsLaidBase, IsLaidRecord, made_of}
+use Rattle.store_ledger.specs.declared.note.Note.{Note}
 use Rattle.store_versions.specs.Versions.{Directories, versions_at}
 use Rattle.store_state.specs.Cells.{IsImage, StandsByOpening}
 use Rattle.store_state.specs.Inner.Keeping.{LieIn, is_opening}
-use Rattle.store_state.specs.Standings.{HaveStood, IsSound, StandsFor, StoodFor, current_slots}
+use Rattle.store_state.specs.Standings.{HaveStood, IsAttempt, StandsFor, StoodFor, WasTried, current_slots}
 use Rattle.store_images.specs.Premises.{IsStore, MayBeWritten, IsFoundInOrder}
 
 -- ---- what an image stands for
@@ -127,43 +128,45 @@ LaidBasesStand = (base : Base) (given : Directories) (db : Database) (h : Histor
 -- ---- at any moment
 
 -- AN IMAGE OF ANY MOMENT OF A COMMIT, which stands for the database after the change where it has what is new, stands for the whole history,
--- or for that and one change more: the one in doubt, or the commit's
+-- or for that and one change more that was tried: the one in doubt, or the commit's
 abbrev pub ImagesHaveStood : Type 0
-ImagesHaveStood = (base : Base) (given : Directories) (db : Database) (h : History) (slots : Slots) (doubt : Option Change) (found : Found)
+ImagesHaveStood = (base : Base) (given : Directories) (db : Database) (notes : List Note) (h : History) (slots : Slots) (doubt : Option Change) (found : Found)
     (page : ℕ) (pages : List ℕ) (change : Change) (image : List ℕ) → IsStore base given db h slots found
-    → MayBeWritten base.core h slots page pages → is_opening slots ≡ is_some doubt → IfSome doubt (IsSound (at db h)) → IsSound (at db h) change
+    → MayBeWritten base.core h slots page pages → is_opening slots ≡ is_some doubt → IfSome doubt (IsAttempt db notes h) → IsAttempt db notes h change
     → MayBe page pages slots (λ c. Stands c (after (at db h) change)) (IsImage base.core given db h slots doubt found) image
-    → StoodFor db (length h) h image
+    → StoodFor db notes (length h) h image
 
 -- so does one of a commit of what is laid of a record
 abbrev pub RecordsHaveStood : Type 0
-RecordsHaveStood = (base : Base) (given : Directories) (db : Database) (h : History) (slots : Slots) (doubt : Option Change) (found : Found)
+RecordsHaveStood = (base : Base) (given : Directories) (db : Database) (notes : List Note) (h : History) (slots : Slots) (doubt : Option Change) (found : Found)
     (any : List ℕ) (change : Change) (changed : Option Changed) (newest : Directory) (catalogue pages : List ℕ) (laid : Laid) (image : List ℕ)
     → IsStore base given db h slots found → MayBeWritten base.core h slots slots.current.root.log (commit_pages laid.blobs laid.chain)
-    → is_opening slots ≡ is_some doubt → IfSome doubt (IsSound (at db h)) → IsCommit any (current_slots slots) (at db h) found change changed newest
+    → is_opening slots ≡ is_some doubt → IfSome doubt (IsAttempt db notes h) → WasTried notes h change
+    → IsCommit any (current_slots slots) (at db h) found change changed newest
     → IsLaidRecord (current_slots slots) found change changed newest catalogue pages laid
     → MayBe slots.current.root.log (commit_pages laid.blobs laid.chain) slots (HasRecord slots laid.blobs laid.chain)
     (IsImage base.core given db h slots doubt found) image
-    → StoodFor db (length h) h image
+    → StoodFor db notes (length h) h image
 
 -- and of a new base
 abbrev pub BasesHaveStood : Type 0
-BasesHaveStood = (base : Base) (given : Directories) (db : Database) (h : History) (slots : Slots) (doubt : Option Change) (found : Found)
+BasesHaveStood = (base : Base) (given : Directories) (db : Database) (notes : List Note) (h : History) (slots : Slots) (doubt : Option Change) (found : Found)
     (any : List ℕ) (change : Change) (changed : Option Changed) (newest : Directory) (pages : List ℕ) (log : ℕ) (laid : Laid) (image : List ℕ)
     → IsStore base given db h slots found → MayBeWritten base.core h slots 0 (base_pages laid.blobs laid.chain log)
-    → is_opening slots ≡ is_some doubt → IfSome doubt (IsSound (at db h)) → IsCommit any (current_slots slots) (at db h) found change changed newest
+    → is_opening slots ≡ is_some doubt → IfSome doubt (IsAttempt db notes h) → WasTried notes h change
+    → IsCommit any (current_slots slots) (at db h) found change changed newest
     → IsLaidBase (current_slots slots) found change changed newest pages log laid
     → MayBe 0 (base_pages laid.blobs laid.chain log) slots (MayHaveBase slots laid.blobs laid.chain (sequence_of (current_slots slots) + 1) log)
     (IsImage base.core given db h slots doubt found) image
-    → StoodFor db (length h) h image
+    → StoodFor db notes (length h) h image
 
 -- WHAT HAS STOOD GOES ON TO, where each image of the moments since then stands for the whole history, or for that and one change more
 abbrev pub HaveStoodOver : Moment → Moment → Type 0
-HaveStoodOver old new = (db : Database) (h : History) (least since : ℕ)
-    → LeavesOnly old.state.moment new.state.moment old.left_since new.left_since (StoodFor db (length h) h)
-    → HaveStood old db h least since → HaveStood new db h least since
+HaveStoodOver old new = (db : Database) (notes : List Note) (h : History) (least since : ℕ)
+    → LeavesOnly old.state.moment new.state.moment old.left_since new.left_since (StoodFor db notes (length h) h)
+    → HaveStood old db notes h least since → HaveStood new db notes h least since
 
 -- from the moment on at which each image stands for the whole history, no image is of a shorter one
 abbrev pub HaveStoodNow : Moment → Type 0
-HaveStoodNow now = (db : Database) (h : History) → ((image : List ℕ) → now.may_leave image → Stands image (at db h))
-    → HaveStood now db h (length h) now.state.moment
+HaveStoodNow now = (db : Database) (notes : List Note) (h : History) → ((image : List ℕ) → now.may_leave image → Stands image (at db h))
+    → HaveStood now db notes h (length h) now.state.moment

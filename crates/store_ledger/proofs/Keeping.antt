@@ -16,8 +16,7 @@ use Rattle.event_core.proofs.Tests.{both_not, eq_sym}
 use Rattle.event_laws.specs.Pins.{pins_of}
 use Rattle.event_laws.proofs.Pins.{open_pins_are_these}
 use Rattle.store_ledger.specs.declared.note.Note.{Note}
-use Rattle.store_ledger.specs.declared.note.NoteKind.TheVariants.{Fault, Tried}
-use Rattle.store_ledger.specs.Ledger.{has_note, is_under, reserved_by}
+use Rattle.store_ledger.specs.Ledger.{has_note, is_under, reserved_by, is_tried, is_fault}
 use Rattle.store_ledger.specs.Inner.Kept.{IsKept, entries_to_come, notes_to_come}
 use Rattle.store_ledger.proofs.Notes.{noted_on, within_all, any_reverse}
 use Rattle.store_ledger.proofs.Pins.{unnoted, split}
@@ -81,7 +80,7 @@ entries_at false true = omega arith
 entries_at false false = omega arith
 
 entries_fit : (h : History) (notes : List Note) (pin : OpenPin) → entries_to_come h pin ≤ 2 * reserved_by notes pin
-entries_fit h notes pin = entries_at (has_committed pin.session h) (has_note Tried notes pin)
+entries_fit h notes pin = entries_at (has_committed pin.session h) (has_note is_tried notes pin)
 
 notes_at : (a b : Bool) → (if a then 0 else 1) + (if b then 0 else 1) ≤ 2 * (if b then 1 else 3)
 notes_at true true = omega arith
@@ -90,7 +89,7 @@ notes_at false true = omega arith
 notes_at false false = omega arith
 
 notes_fit : (notes : List Note) (pin : OpenPin) → notes_to_come notes pin ≤ 2 * reserved_by notes pin
-notes_fit notes pin = notes_at (has_note Fault notes pin) (has_note Tried notes pin)
+notes_fit notes pin = notes_at (has_note is_fault notes pin) (has_note is_tried notes pin)
 
 -- ---- pins
 
@@ -101,7 +100,7 @@ pub kept_pin : (base : Core) (limit : ℕ) (h : History) (notes : List Note) (co
 kept_pin base limit h notes core r er nr p session er2 nr2 k free room re rn =
     let begun : OpenPin = record { session = session; before = h } in
     let all : list_all (λ note. nat_le note.after (length h)) (reverse notes) ≡ true = within_all h (reverse notes) k.noted in
-    let none : has_note Tried notes begun ≡ false = sym (any_reverse (is_under Tried begun) notes) ∙ unnoted Tried begun (length h) (reverse notes) refl all in
+    let none : has_note is_tried notes begun ≡ false = sym (any_reverse (is_under is_tried begun) notes) ∙ unnoted is_tried begun (length h) (reverse notes) refl all in
     let three : reserved_by notes begun ≡ 3 = ap (λ (b : Bool). if b then 1 else 3) none in
     let sum : sum_by (reserved_by notes) (open_pins h ++ begun ∷ []) ≡ sum_by (reserved_by notes) (open_pins h) + reserved_by notes begun =
     sum_by_push (reserved_by notes) (open_pins h) begun in
@@ -200,7 +199,7 @@ kept_unpin base limit h notes core r er nr p session before left k begun took =
     let ns : sum_by (notes_to_come notes) (open_pins h) ≡ sum_by (notes_to_come notes) (filter (λ pin. not (nat_eq pin.session session)) (open_pins h)) + notes_to_come notes own =
     own_sum (notes_to_come notes) base session h before k.allowed begun in
     let one : 1 ≤ entries_to_come h own = one_at (has_committed session h) in
-    let some : 1 ≤ reserved_by notes own = some_at (has_note Tried notes own) in
+    let some : 1 ≤ reserved_by notes own = some_at (has_note is_tried notes own) in
     let res : left ≡ sum_by (reserved_by notes) (filter (λ pin. not (nat_eq pin.session session)) (open_pins h)) = omega (arith, k.reserved, rs, took) in
     let all_within : suc (length h) + left ≤ limit = omega (arith, k.within, took, some) in
     let fe : suc (length h) + sum_by (entries_to_come h) (filter (λ pin. not (nat_eq pin.session session)) (open_pins h)) ≤ er = omega (arith, k.for_entries, es, one) in

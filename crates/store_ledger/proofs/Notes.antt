@@ -9,7 +9,7 @@ use Rattle.event_core.specs.declared.entry.Entry.{Entry}
 use Rattle.event_core.specs.Allowed.{is_pinned}
 use Rattle.event_core.specs.History.{History, pin_before, up_to}
 use Rattle.store_ledger.specs.declared.note.Note.{Note}
-use Rattle.store_ledger.specs.Ledger.{AreNoted, IsNote, has_note}
+use Rattle.store_ledger.specs.Ledger.{AreNoted, IsNote, has_note, is_kind}
 
 later_same : (place : ℕ) (entry : Entry) (h : History) → place ≤ length h → up_to place (entry ∷ h) ≡ up_to place h
 later_same place entry h within =
@@ -28,7 +28,7 @@ noted_on entry h (note ∷ others) k =
         within = more;
         rising = n.rising;
         pinned = subst (λ (before : History). IsTrue (is_pinned note.session before)) same n.pinned;
-        once = subst (λ (before : History). IfSome (pin_before note.session before) (λ b. has_note note.kind others (record { session = note.session; before = b }) ≡ false)) same n.once;
+        once = subst (λ (before : History). IfSome (pin_before note.session before) (λ b. has_note (is_kind note.kind) others (record { session = note.session; before = b }) ≡ false)) same n.once;
       },
     )
 

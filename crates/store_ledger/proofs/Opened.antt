@@ -19,9 +19,8 @@ use Rattle.event_core.specs.Replay.{core_at, core_after, is_core_live, is_core_a
 use Rattle.event_core.proofs.Tests.{filter_agrees}
 use Rattle.event_laws.proofs.Cores.{core_tells_pages}
 use Rattle.store_ledger.specs.declared.note.Note.{Note}
-use Rattle.store_ledger.specs.declared.note.NoteKind.TheVariants.{Tried}
 use Rattle.store_ledger.specs.declared.pinned.Pinned.{Pinned}
-use Rattle.store_ledger.specs.Ledger.{LedgerState, IsOpenPin, is_kind, reserved_by, history, reserved, has_room, unused_pages}
+use Rattle.store_ledger.specs.Ledger.{LedgerState, IsOpenPin, reserved_by, history, reserved, has_room, unused_pages, is_tried}
 use Rattle.store_ledger.specs.Inner.Kept.{IsKept}
 use Rattle.store_ledger.proofs.Pins.{one_more}
 use Rattle.store_ledger.proofs.Keeping.{kept_as, kept_pin, kept_reap, kept_unpin, kept_commit, begun_of, one_fits, given_back}
@@ -88,10 +87,10 @@ unused_told ledger core r er nr p k =
 
 -- what an unpin gives back, by its pin's place
 given_by : (now : LedgerState) (pinned : Pinned) (o : IsOpenPin now pinned) (notes : List Note) (given : ℕ) →
-    given ≡ (if list_any (λ note. nat_eq note.session pinned.session && (is_kind Tried note.kind && nat_lt pinned.place note.after)) notes then 1 else 3) →
+    given ≡ (if list_any (λ note. nat_eq note.session pinned.session && (is_tried note.kind && nat_lt pinned.place note.after)) notes then 1 else 3) →
     given ≡ reserved_by notes (record { session = pinned.session; before = o.before })
 given_by now pinned o notes given e =
-    e ∙ ap (λ (place : ℕ). if list_any (λ note. nat_eq note.session pinned.session && (is_kind Tried note.kind && nat_lt place note.after)) notes then 1 else 3) o.place
+    e ∙ ap (λ (place : ℕ). if list_any (λ note. nat_eq note.session pinned.session && (is_tried note.kind && nat_lt place note.after)) notes then 1 else 3) o.place
 
 begun_in : (ledger now : LedgerState) (pinned : Pinned) (o : IsOpenPin now pinned) → ledger ≡ now → pin_before pinned.session (reverse ledger.entries) ≡ Some o.before
 begun_in ledger now pinned o same = ap (λ (l : LedgerState). pin_before pinned.session (history l)) same ∙ o.begun
@@ -104,7 +103,7 @@ unpin_fits ledger now pinned core r er nr p same k o =
 
 pub unpin_gives : (ledger now : LedgerState) (pinned : Pinned) (core : Core) (r er nr p given : ℕ) → ledger ≡ now →
     IsKept ledger.base ledger.limit (reverse ledger.entries) ledger.notes core r er nr p → IsOpenPin now pinned →
-    given ≡ (if list_any (λ note. nat_eq note.session pinned.session && (is_kind Tried note.kind && nat_lt pinned.place note.after)) ledger.notes then 1 else 3) → given ≤ r
+    given ≡ (if list_any (λ note. nat_eq note.session pinned.session && (is_tried note.kind && nat_lt pinned.place note.after)) ledger.notes then 1 else 3) → given ≤ r
 unpin_gives ledger now pinned core r er nr p given same k o e =
     let back : reserved_by ledger.notes (record { session = pinned.session; before = o.before }) ≤ r =
     given_back ledger.base ledger.limit (reverse ledger.entries) ledger.notes core r er nr p pinned.session o.before k (begun_in ledger now pinned o same) in
@@ -113,7 +112,7 @@ unpin_gives ledger now pinned core r er nr p given same k o e =
 
 pub unpin_keeps : (ledger now : LedgerState) (pinned : Pinned) (core core2 : Core) (r er er2 nr p given : ℕ) (fs : List Entry) → ledger ≡ now →
     IsKept ledger.base ledger.limit (reverse ledger.entries) ledger.notes core r er nr p → IsOpenPin now pinned →
-    given ≡ (if list_any (λ note. nat_eq note.session pinned.session && (is_kind Tried note.kind && nat_lt pinned.place note.after)) ledger.notes then 1 else 3) →
+    given ≡ (if list_any (λ note. nat_eq note.session pinned.session && (is_tried note.kind && nat_lt pinned.place note.after)) ledger.notes then 1 else 3) →
     fs ≡ ledger.entries ++ Unpin pinned.session ∷ [] → core2 ≡ core_after core (Unpin pinned.session) → er2 ≡ er →
     IsKept ledger.base ledger.limit (reverse fs) ledger.notes core2 (r - given) er2 nr p
 unpin_keeps ledger now pinned core core2 r er er2 nr p given fs same k o e ef ec room =

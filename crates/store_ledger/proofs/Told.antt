@@ -13,9 +13,9 @@ use Rattle.event_core.proofs.Tests.{any_map}
 use Rattle.event_laws.specs.Pins.{pins_of}
 use Rattle.event_laws.proofs.Pins.{open_pins_are_these}
 use Rattle.store_ledger.specs.declared.note.Note.{Note}
-use Rattle.store_ledger.specs.declared.note.NoteKind.TheVariants.{Fault, Tried}
-use Rattle.store_ledger.specs.Ledger.{LedgerState, IsLedger, has_note, has_room, has_under, history, is_kind, is_noted, reserved, with_notes}
-use Rattle.store_ledger.specs.Laws.{NotesAreWithin, tried_now}
+use Rattle.plan_changes.specs.declared.change.Change.{Change}
+use Rattle.store_ledger.specs.Ledger.{LedgerState, IsLedger, attempt, note_now, has_note, has_room, has_under, history, is_noted, reserved, with_notes, is_tried, is_fault}
+use Rattle.store_ledger.specs.Laws.{NotesAreWithin}
 use Rattle.store_ledger.specs.Inner.Kept.{IsKept}
 use Rattle.store_ledger.proofs.Keeping.{begun_of}
 use Rattle.store_ledger.proofs.Notes.{within_all}
@@ -54,17 +54,17 @@ notes_are_within ledger is =
     ∙ within_all (reverse ledger.entries) (reverse ledger.notes) is.notes
 
 -- the two entries that are given back have room
-pub tried_room : (ledger : LedgerState) (session : ℕ) → IsLedger ledger → IsTrue (is_pinned session (history ledger)) →
-    IfSome (pin_before session (history ledger)) (λ before. has_note Tried ledger.notes (record { session = session; before = before }) ≡ false) →
-    has_room (with_notes (tried_now ledger session ∷ []) ledger) 2 ≡ true
-tried_room ledger session is pinned first =
+pub tried_room : (ledger : LedgerState) (session : ℕ) (change : Change) → IsLedger ledger → IsTrue (is_pinned session (history ledger)) →
+    IfSome (pin_before session (history ledger)) (λ before. has_note is_tried ledger.notes (record { session = session; before = before }) ≡ false) →
+    has_room (with_notes (note_now (attempt change) ledger session ∷ []) ledger) 2 ≡ true
+tried_room ledger session change is pinned first =
     let b : (before : History) × (pin_before session (history ledger) ≡ Some before) = begun_of session (history ledger) pinned in
-    let none : has_note Tried ledger.notes (record { session = session; before = b.0 }) ≡ false =
-    subst (λ (o : Option History). IfSome o (λ before. has_note Tried ledger.notes (record { session = session; before = before }) ≡ false)) b.1 first in
-    let back : reserved ledger ≡ reserved (with_notes (tried_now ledger session ∷ []) ledger) + 2 = tried_gives_two_back ledger session b.0 is.allowed b.1 none in
+    let none : has_note is_tried ledger.notes (record { session = session; before = b.0 }) ≡ false =
+    subst (λ (o : Option History). IfSome o (λ before. has_note is_tried ledger.notes (record { session = session; before = before }) ≡ false)) b.1 first in
+    let back : reserved ledger ≡ reserved (with_notes (note_now (attempt change) ledger session ∷ []) ledger) + 2 = tried_gives_two_back ledger session change b.0 is.allowed b.1 none in
     let within : length ledger.entries + reserved ledger + 0 ≤ ledger.limit = le_from (length ledger.entries + reserved ledger + 0) ledger.limit is.room in
-    let fits : length ledger.entries + reserved (with_notes (tried_now ledger session ∷ []) ledger) + 2 ≤ ledger.limit = omega (arith, within, back) in
-    le_test (length ledger.entries + reserved (with_notes (tried_now ledger session ∷ []) ledger) + 2) ledger.limit fits
+    let fits : length ledger.entries + reserved (with_notes (note_now (attempt change) ledger session ∷ []) ledger) + 2 ≤ ledger.limit = omega (arith, within, back) in
+    le_test (length ledger.entries + reserved (with_notes (note_now (attempt change) ledger session ∷ []) ledger) + 2) ledger.limit fits
 
 -- ---- faults under a pin
 
@@ -80,34 +80,34 @@ or_nothing : (b : Bool) → (b || false) ≡ b
 or_nothing true = refl
 or_nothing false = refl
 
-under_pin : (notes : List Note) (session : ℕ) (o : Option History) → list_any (has_note Fault notes) (pins_of session o) ≡ has_under Fault notes session o
+under_pin : (notes : List Note) (session : ℕ) (o : Option History) → list_any (has_note is_fault notes) (pins_of session o) ≡ has_under is_fault notes session o
 under_pin notes session None = refl
-under_pin notes session (Some before) = or_nothing (has_note Fault notes (record { session = session; before = before }))
+under_pin notes session (Some before) = or_nothing (has_note is_fault notes (record { session = session; before = before }))
 
 abbrev pub faulty_at : List Note → ℕ → ℕ × ℕ → Bool
-faulty_at notes session at = nat_eq at.0 session && list_any (λ note. nat_eq note.session at.0 && (is_kind Fault note.kind && nat_lt at.1 note.after)) notes
+faulty_at notes session at = nat_eq at.0 session && list_any (λ note. nat_eq note.session at.0 && (is_fault note.kind && nat_lt at.1 note.after)) notes
 
 abbrev faulty_pin : List Note → ℕ → CorePin → Bool
-faulty_pin notes session pin = nat_eq pin.session session && list_any (λ note. nat_eq note.session pin.session && (is_kind Fault note.kind && nat_lt pin.place note.after)) notes
+faulty_pin notes session pin = nat_eq pin.session session && list_any (λ note. nat_eq note.session pin.session && (is_fault note.kind && nat_lt pin.place note.after)) notes
 
 -- the core's pins and the notes tell whether a fault was noted under a session's pin
 pub faulted_told : (ledger now : LedgerState) (session : ℕ) (core : Core) (r er nr p : ℕ) → ledger ≡ now → IsKept ledger.base ledger.limit (reverse ledger.entries) ledger.notes core r er nr p →
-    list_any (λ pin. nat_eq pin.session session && list_any (λ note. nat_eq note.session pin.session && (is_kind Fault note.kind && nat_lt pin.place note.after)) ledger.notes) core.pins
-    ≡ is_noted Fault now session
+    list_any (λ pin. nat_eq pin.session session && list_any (λ note. nat_eq note.session pin.session && (is_fault note.kind && nat_lt pin.place note.after)) ledger.notes) core.pins
+    ≡ is_noted is_fault now session
 faulted_told ledger now session core r er nr p same k =
     ap (λ (c : Core). list_any (faulty_pin ledger.notes session) c.pins) k.made
     ∙ any_map (pin_at ledger.base) (faulty_pin ledger.notes session) (open_pins (reverse ledger.entries))
-    ∙ any_passed (λ pin. nat_eq pin.session session) (has_note Fault ledger.notes) (open_pins (reverse ledger.entries))
-    ∙ ap (list_any (has_note Fault ledger.notes)) (open_pins_are_these ledger.base session (reverse ledger.entries) k.allowed)
+    ∙ any_passed (λ pin. nat_eq pin.session session) (has_note is_fault ledger.notes) (open_pins (reverse ledger.entries))
+    ∙ ap (list_any (has_note is_fault ledger.notes)) (open_pins_are_these ledger.base session (reverse ledger.entries) k.allowed)
     ∙ under_pin ledger.notes session (pin_before session (reverse ledger.entries))
-    ∙ ap (λ (l : LedgerState). is_noted Fault l session) same
+    ∙ ap (λ (l : LedgerState). is_noted is_fault l session) same
 
 -- the same, as the note's call leaves the ledger
-pub two_fit : (ledger now : LedgerState) (session after : ℕ) (ns : List Note) → ledger ≡ now → IsLedger now → IsTrue (is_pinned session (history now)) →
-    IfSome (pin_before session (history now)) (λ before. has_note Tried now.notes (record { session = session; before = before }) ≡ false) →
-    after ≡ length ledger.entries → ns ≡ ledger.notes ++ record { session = session; kind = Tried; after = after } ∷ [] → has_room (record ledger { notes = ns }) 2 ≡ true
-two_fit ledger now session after ns same is pinned first e f =
-    let room : has_room (with_notes (tried_now ledger session ∷ []) ledger) 2 ≡ true =
-    subst (λ (l : LedgerState). has_room (with_notes (tried_now l session ∷ []) l) 2 ≡ true) (sym same) (tried_room now session is pinned first) in
-    let notes : ns ≡ ledger.notes ++ tried_now ledger session ∷ [] = f ∙ ap (λ (n : ℕ). ledger.notes ++ record { session = session; kind = Tried; after = n } ∷ []) e in
+pub two_fit : (ledger now : LedgerState) (session : ℕ) (change : Change) (after : ℕ) (ns : List Note) → ledger ≡ now → IsLedger now → IsTrue (is_pinned session (history now)) →
+    IfSome (pin_before session (history now)) (λ before. has_note is_tried now.notes (record { session = session; before = before }) ≡ false) →
+    after ≡ length ledger.entries → ns ≡ ledger.notes ++ record { session = session; kind = attempt change; after = after } ∷ [] → has_room (record ledger { notes = ns }) 2 ≡ true
+two_fit ledger now session change after ns same is pinned first e f =
+    let room : has_room (with_notes (note_now (attempt change) ledger session ∷ []) ledger) 2 ≡ true =
+    subst (λ (l : LedgerState). has_room (with_notes (note_now (attempt change) l session ∷ []) l) 2 ≡ true) (sym same) (tried_room now session change is pinned first) in
+    let notes : ns ≡ ledger.notes ++ note_now (attempt change) ledger session ∷ [] = f ∙ ap (λ (n : ℕ). ledger.notes ++ record { session = session; kind = attempt change; after = n } ∷ []) e in
     subst (λ (xs : List Note). has_room (record ledger { notes = xs }) 2 ≡ true) (sym notes) room

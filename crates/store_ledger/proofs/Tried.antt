@@ -11,9 +11,8 @@ use Rattle.event_core.proofs.Tests.{both_not, eq_sym}
 use Rattle.event_laws.specs.Pins.{pins_of, PlaceTells}
 use Rattle.event_laws.proofs.Pins.{open_pins_are_these, places_tell_pins}
 use Rattle.store_ledger.specs.declared.note.Note.{Note}
-use Rattle.store_ledger.specs.declared.note.NoteKind.TheVariants.{Tried}
-use Rattle.store_ledger.specs.Ledger.{is_under, has_note, reserved_by}
-use Rattle.store_ledger.specs.Laws.{TriedGivesTwoBack, tried_now}
+use Rattle.store_ledger.specs.Ledger.{attempt, is_tried, is_under, has_note, note_now, reserved_by}
+use Rattle.store_ledger.specs.Laws.{TriedGivesTwoBack}
 use Rattle.store_ledger.proofs.Pins.{split}
 
 nothing_more : (a b c : Bool) → b ≡ false → (a || ((b && c) || false)) ≡ a
@@ -25,7 +24,7 @@ nothing_more false false c e = refl
 same_reserve : (notes : List Note) (note : Note) (pin : OpenPin) → nat_eq note.session pin.session ≡ false → reserved_by notes pin ≡ reserved_by (notes ++ note ∷ []) pin
 same_reserve notes note pin other =
     ap (λ (b : Bool). if b then 1 else 3)
-    (sym (list_any-append (is_under Tried pin) notes (note ∷ []) ∙ nothing_more (has_note Tried notes pin) (nat_eq note.session pin.session) _ other))
+    (sym (list_any-append (is_under is_tried pin) notes (note ∷ []) ∙ nothing_more (has_note is_tried notes pin) (nat_eq note.session pin.session) _ other))
 
 same_at : (f g : OpenPin → ℕ) (pin : OpenPin) (b : Bool) (pins : List OpenPin) → (b ≡ false → f pin ≡ g pin) → sum_by f pins ≡ sum_by g pins →
     sum_by f (if not b then pin ∷ pins else pins) ≡ sum_by g (if not b then pin ∷ pins else pins)
@@ -48,9 +47,9 @@ found false false c e f = absurd (both_not false refl e)
 found false true false e f = absurd (both_not false refl f)
 
 pub tried_gives_two_back : TriedGivesTwoBack
-tried_gives_two_back ledger session before ok begun none =
+tried_gives_two_back ledger session change before ok begun none =
     let h : History = reverse ledger.entries in
-    let note : Note = tried_now ledger session in
+    let note : Note = note_now (attempt change) ledger session in
     let own : OpenPin = record { session = session; before = before } in
     let t : OpenPin → Bool = λ pin. nat_eq pin.session session in
     let f : OpenPin → ℕ = reserved_by ledger.notes in
@@ -60,8 +59,8 @@ tried_gives_two_back ledger session before ok begun none =
     let one : f own ≡ 3 = ap (λ (b : Bool). if b then 1 else 3) none in
     let later : nat_lt (length before) (length ledger.entries) ≡ true = earlier (length before) (length ledger.entries) (omega (arith, place.within, length-reverse ledger.entries)) in
     let two : g own ≡ 1 = ap (λ (b : Bool). if b then 1 else 3)
-    (list_any-append (is_under Tried own) ledger.notes (note ∷ [])
-    ∙ found (has_note Tried ledger.notes own) (nat_eq session session) (nat_lt (length before) (length ledger.entries)) (eq-eqb session session refl) later) in
+    (list_any-append (is_under is_tried own) ledger.notes (note ∷ [])
+    ∙ found (has_note is_tried ledger.notes own) (nat_eq session session) (nat_lt (length before) (length ledger.entries)) (eq-eqb session session refl) later) in
     let all_f : sum_by f (open_pins h) ≡ sum_by f (filter (λ pin. not (t pin)) (open_pins h)) + f own =
     split f t (open_pins h) ∙ ap (λ (n : ℕ). sum_by f (filter (λ pin. not (t pin)) (open_pins h)) + n) (ap (sum_by f) these ∙ sum_by_push f [] own ∙ zero-add (f own)) in
     let all_g : sum_by g (open_pins h) ≡ sum_by g (filter (λ pin. not (t pin)) (open_pins h)) + g own =

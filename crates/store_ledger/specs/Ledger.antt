@@ -1,6 +1,7 @@
 -- The ledger of a store: a history, notes, and the entries that open pins reserve.
 use Rattle.std.specs.Prelude.{◌≡◌, ◌≤◌, ◌+◌, ℕ, Bool, true, false, not, ◌&&◌, if◌then◌else◌, nat_eq, nat_le, nat_lt, List, [], ◌∷◌, ◌++◌, length, map, reverse, Option, None, Some, IfSome, IsTrue}
 use Rattle.std.specs.List.{filter, list_all, list_any, sum_by}
+use Rattle.plan_changes.specs.declared.change.Change.{Change}
 use Rattle.event_core.specs.declared.entry.Entry.{Entry}
 use Rattle.event_core.specs.declared.entry.Entry.TheVariants.{Pin, Unpin, Commit, Reap}
 use Rattle.event_core.specs.declared.state.Core.{Core}
@@ -34,33 +35,44 @@ with_notes more ledger = record ledger { notes = ledger.notes ++ more }
 
 -- ---- notes
 
+-- a commit of this change was tried
+abbrev pub attempt : Change → NoteKind
+attempt change = Tried (record { marker = record {}; value = change })
+
+abbrev pub is_fault : NoteKind → Bool
+is_fault Fault = true
+is_fault (Tried change) = false
+
+abbrev pub is_tried : NoteKind → Bool
+is_tried Fault = false
+is_tried (Tried change) = true
+
+-- whether a kind is like another, whichever change was tried
 abbrev pub is_kind : NoteKind → NoteKind → Bool
-is_kind Fault Fault = true
-is_kind Fault Tried = false
-is_kind Tried Fault = false
-is_kind Tried Tried = true
+is_kind Fault kind = is_fault kind
+is_kind (Tried change) kind = is_tried kind
 
--- whether a note of a kind was made under a pin: by its session, after the pin
-abbrev pub is_under : NoteKind → OpenPin → Note → Bool
-is_under kind pin note = nat_eq note.session pin.session && (is_kind kind note.kind && nat_lt (length pin.before) note.after)
+-- whether a note of some kinds was made under a pin: by its session, after the pin
+abbrev pub is_under : (NoteKind → Bool) → OpenPin → Note → Bool
+is_under kinds pin note = nat_eq note.session pin.session && (kinds note.kind && nat_lt (length pin.before) note.after)
 
-abbrev pub has_note : NoteKind → List Note → OpenPin → Bool
-has_note kind notes pin = list_any (is_under kind pin) notes
+abbrev pub has_note : (NoteKind → Bool) → List Note → OpenPin → Bool
+has_note kinds notes pin = list_any (is_under kinds pin) notes
 
 -- a note behind others: none of them has more entries before it, its session was pinned, and had no note of this kind under this pin
 pub record IsNote (h : History) (others : List Note) (note : Note) : Type 0 where
   pub within : note.after ≤ length h
   pub rising : IsTrue (list_all (λ other. nat_le other.after note.after) others)
   pub pinned : IsTrue (is_pinned note.session (up_to note.after h))
-  pub once : IfSome (pin_before note.session (up_to note.after h)) (λ before. has_note note.kind others (record { session = note.session; before = before }) ≡ false)
+  pub once : IfSome (pin_before note.session (up_to note.after h)) (λ before. has_note (is_kind note.kind) others (record { session = note.session; before = before }) ≡ false)
 
--- whether a note of a kind was made under the open pin of a session, if it has one
-abbrev pub has_under : NoteKind → List Note → ℕ → Option History → Bool
-has_under kind notes session None = false
-has_under kind notes session (Some before) = has_note kind notes (record { session = session; before = before })
+-- whether a note of some kinds was made under the open pin of a session, if it has one
+abbrev pub has_under : (NoteKind → Bool) → List Note → ℕ → Option History → Bool
+has_under kinds notes session None = false
+has_under kinds notes session (Some before) = has_note kinds notes (record { session = session; before = before })
 
-abbrev pub is_noted : NoteKind → LedgerState → ℕ → Bool
-is_noted kind ledger session = has_under kind ledger.notes session (pin_before session (history ledger))
+abbrev pub is_noted : (NoteKind → Bool) → LedgerState → ℕ → Bool
+is_noted kinds ledger session = has_under kinds ledger.notes session (pin_before session (history ledger))
 
 -- the note of a kind that a session makes now
 abbrev pub note_now : NoteKind → LedgerState → ℕ → Note
@@ -68,7 +80,7 @@ note_now kind ledger session = record { session = session; kind = kind; after = 
 
 -- the ledger with the note of a fault under a session's pin, if none was made there yet
 abbrev pub with_fault : ℕ → LedgerState → LedgerState
-with_fault session ledger = if is_noted Fault ledger session then ledger else with_notes (note_now Fault ledger session ∷ []) ledger
+with_fault session ledger = if is_noted is_fault ledger session then ledger else with_notes (note_now Fault ledger session ∷ []) ledger
 
 -- notes, the newest first, that may stand beside a history
 abbrev pub AreNoted : History → List Note → Type 0
@@ -83,7 +95,7 @@ AreWithin count notes = IsTrue (list_all (λ note. nat_le note.after count) note
 
 -- a pin reserves three entries: those of a reap, of its commit and of its unpin. Once a commit was tried under it, one
 abbrev pub reserved_by : List Note → OpenPin → ℕ
-reserved_by notes pin = if has_note Tried notes pin then 1 else 3
+reserved_by notes pin = if has_note is_tried notes pin then 1 else 3
 
 abbrev pub reserved : LedgerState → ℕ
 reserved ledger = sum_by (reserved_by ledger.notes) (open_pins (history ledger))

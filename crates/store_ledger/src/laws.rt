@@ -1,5 +1,5 @@
 //! What holds of ledgers.
-ghost use Rattle.store_ledger.specs.Laws.{EventsGrowByEntries, EventsGrowByNotes, NotesAreWithin, OpenPinsOutlast, PinsReserveThree, TriedGivesTwoBack, UnpinsGiveBack};
+ghost use Rattle.store_ledger.specs.Laws.{EventsGrowByEntries, EventsGrowByNotes, NotesAreWithin, NotesOutlast, OpenPinsOutlast, PinsReserveThree, TriedGivesTwoBack, UnpinsGiveBack};
 
 /// One more entry, or one more note, comes behind all events before.
 pub fn events_only_grow()
@@ -10,6 +10,11 @@ pub fn events_only_grow()
 /// An open pin stays one over all entries but its session's pins and unpins, and over all notes.
 pub fn open_pins_outlast()
     ensures { OpenPinsOutlast }
+{}
+
+/// So does what was noted under it, over all notes but its session's.
+pub fn notes_outlast()
+    ensures { NotesOutlast }
 {}
 
 /// A pin reserves three entries more.

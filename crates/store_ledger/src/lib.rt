@@ -12,7 +12,7 @@ mod reaping;
 
 pub use commits::ReadyCommit;
 pub use laws::{
-    events_only_grow, notes_are_within, open_pins_outlast, pins_reserve_three,
+    events_only_grow, notes_are_within, notes_outlast, open_pins_outlast, pins_reserve_three,
     tried_gives_two_back, unpins_give_back,
 };
 pub use ledger::Ledger;

@@ -1,10 +1,11 @@
 //! Pins and unpins.
-ghost use Rattle.std.specs.Prelude.{◌≡◌, ◌≤◌, ◌<◌, ◌+◌, ◌-◌, ◌^◌, not, [], ◌∷◌, ◌++◌, length, vec_capacity, IfOk, IfErr, OnOk, OnErr, IsTrue};
+ghost use Rattle.std.specs.Prelude.{◌≡◌, ◌≤◌, ◌<◌, ◌+◌, ◌-◌, ◌^◌, Bool, false, not, [], ◌∷◌, ◌++◌, length, vec_capacity, IfOk, IfErr, OnOk, OnErr, IsTrue};
 ghost use Rattle.event_core.specs.declared.entry.Entry.TheVariants.{Pin, Unpin};
 ghost use Rattle.event_core.specs.Allowed.{is_pinned};
 ghost use Rattle.event_core.specs.History.{names_at};
 ghost use Rattle.event_core.specs.Replay.{core_after};
-ghost use Rattle.store_ledger.specs.Ledger.{IsOpenPin, IsRefused, has_room, history, with_entries};
+ghost use Rattle.store_ledger.specs.Ledger.{IsOpenPin, IsRefused, has_room, history, is_noted, with_entries};
+ghost use Rattle.store_ledger.specs.declared.note.NoteKind.{NoteKind};
 
 use crate::noting::reserved_under;
 use crate::{Ledger, Note, PinFault, Pinned};
@@ -63,6 +64,7 @@ impl Ledger {
         ensures room { OnOk result (IsTrue (has_room self.old 4)) }
         ensures pinned { IfOk result (λ pinned. pinned ≡ record { session = session; place = length self.old.entries; names = names_at self.old.base (history self.old) }) }
         ensures open { IfOk result (λ pinned. IsOpenPin self.new pinned) }
+        ensures untried { OnOk result ((kinds : NoteKind → Bool) → is_noted kinds self.new session ≡ false) }
         ensures err { OnErr result (self.new ≡ self.old) }
         ensures cause { IfErr result (IsRefused self.old) }
     {

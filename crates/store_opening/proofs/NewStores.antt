@@ -191,7 +191,7 @@ module _ {D : Type 0} (moment : D → Moment) (file : OpenFile D) (disk : D) (fo
       stands = began.stands;
     }
 
-    stood : HaveStood (moment disk) db [] 0 (moment file.disk).state.moment
+    stood : HaveStood (moment disk) db [] [] 0 (moment file.disk).state.moment
     stood = record {
       gone = given.reads.time.later;
       made = omega arith;
@@ -201,7 +201,7 @@ module _ {D : Type 0} (moment : D → Moment) (file : OpenFile D) (disk : D) (fo
         part = refl;
         enough = omega arith;
         more = None;
-        sound = tt;
+        tried = tt;
         stands = subst (λ (c : List ℕ). Stands c db) (sym (only image (given.reads.time.each image left))) began.stands;
       };
     }

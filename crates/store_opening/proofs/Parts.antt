@@ -1,12 +1,13 @@
 -- The parts of a store that was just opened.
 use Rattle.std.proofs.Common.{◌≡◌, ℕ, [], List, Option, None, IfSome, Ok, Err, refl, sym, ◌∙◌, ap, subst, map}
-use Rattle.std.specs.Prelude.{IsErrOf}
+use Rattle.std.specs.Prelude.{IfOk, IsErrOf, IsTrue, MatchResult, Result}
 use Rattle.afl_outside.specs.Counts.{Rose}
-use Rattle.afl_outside.specs.Disk.{DiskState, Moment}
+use Rattle.afl_outside.specs.Disk.{DiskState, Moment, Only}
 use Rattle.page_layout.specs.Opens.{OpensAs}
 use Rattle.page_chain.specs.declared.fault.OpenCause.{OpenCause}
 use Rattle.page_chain.specs.declared.fault.OpenCause.TheVariants.{Disk, NotDatabase, Memory}
 use Rattle.page_chain.specs.Inner.Runs.{OnlyReads}
+use Rattle.page_slots.specs.Puts.{OnlySyncs}
 use Rattle.page_slots.specs.Standing.{IsSound}
 use Rattle.page_slots.specs.declared.slots.Slots.{Slots}
 use Rattle.page_file.specs.FilesOpened.{OpenFile}
@@ -19,7 +20,7 @@ use Rattle.store_state.specs.Inner.Keeping.{Keeping}
 use Rattle.store_state.specs.At.{AreParts, IsAt, keeping, standing}
 use Rattle.store_opening.specs.declared.opening.Limits.{Limits}
 use Rattle.store_opening.specs.declared.reading.ReadParts.{ReadParts}
-use Rattle.store_opening.specs.Opened.{HasCause, HasFound, IsNew}
+use Rattle.store_opening.specs.Opened.{HasCause, HasFound, IsNew, WasOpened}
 use Rattle.store_opening.specs.Inner.Read.{AreFound, IsOpenFile, IsPutTogether, keeping_with, new_ledger, store_with}
 use Rattle.store_opening.proofs.NewStores.{Gives, keeping_of, store_is_at, store_of}
 use Rattle.store_opening.proofs.Read.{both_some, opens_so}
@@ -62,6 +63,7 @@ module _ {D : Type 0} (moment : D → Moment) (file now : OpenFile D) (limits : 
   has_found same seen opens told = record {
     found = of.found;
     opens = opens_so seen file.slots opens ∙ told;
+    slots = subst (λ (s : Slots). OpensAs s.current s.records seen) (sym (ap (λ (f : OpenFile D). f.slots) together.file_is ∙ same)) opens;
     catalog = ap (λ (k : Keeping). k.catalog) together.keeping_is ∙ of.of.catalog;
     versions = ap (λ (s : Standing D). s.first) standing_of;
     base = ap (λ (s : Standing D). s.ledger.base) standing_of
@@ -71,6 +73,24 @@ module _ {D : Type 0} (moment : D → Moment) (file now : OpenFile D) (limits : 
   pub have_found : IfSome (moment file.disk).state.seen (OpensAs file.slots.current file.slots.records) → now.slots ≡ file.slots → IfSome (moment file.disk).state.seen (λ seen. HasFound moment limits seen parts)
   have_found opens same =
       both_some (OpensAs file.slots.current file.slots.records) (λ seen. found_in seen (slots_of file.slots) ≡ Ok of.found) (λ seen. HasFound moment limits seen parts) (moment file.disk).state.seen opens of.told (has_found same)
+
+-- ---- the file as it was opened
+
+was_opened : {D : Type 0} (moment : D → Moment) (disk : D) (file : OpenFile D) (parts : StoreParts D) → OnlySyncs (moment disk) (moment file.disk)
+    → (IsTrue (moment disk).state.honest → IfSome (moment disk).state.seen (λ seen. Only seen (moment file.disk).may_leave)) → parts.opened.value ≡ file → parts.file.slots ≡ file.slots → OnlySyncs (moment file.disk) (moment parts.file.disk) → WasOpened moment disk parts
+was_opened {D} moment disk file parts syncs durable opened slots reads = record {
+  synced = subst (λ (f : OpenFile D). OnlySyncs (moment disk) (moment f.disk)) (sym opened) syncs;
+  settled = subst (λ (f : OpenFile D). IsTrue (moment f.disk).state.honest → IfSome (moment f.disk).state.seen (λ seen. Only seen (moment f.disk).may_leave)) (sym opened)
+      (λ honest. subst (λ (seen : Option (List ℕ)). IfSome seen (λ bytes. Only bytes (moment file.disk).may_leave)) (sym syncs.seen) (durable (subst IsTrue syncs.same.honest honest)));
+  read = subst (λ (f : OpenFile D). OnlyReads (moment f.disk) (moment parts.file.disk)) (sym opened) (record { same = reads.same; seen = reads.seen; crash = reads.crash; time = reads.time });
+  slots = slots ∙ sym (ap (λ (f : OpenFile D). f.slots) opened);
+}
+
+pub opened_so : {D : Type 0} (moment : D → Moment) (disk : D) (file : OpenFile D) (r : Result (StoreParts D) (OpenCause × D)) → OnlySyncs (moment disk) (moment file.disk)
+    → (IsTrue (moment disk).state.honest → IfSome (moment disk).state.seen (λ seen. Only seen (moment file.disk).may_leave)) → IfOk r (λ parts. parts.opened.value ≡ file) → IfOk r (λ parts. parts.file.slots ≡ file.slots)
+    → MatchResult r (λ parts. OnlySyncs (moment file.disk) (moment parts.file.disk)) (λ x. OnlySyncs (moment file.disk) (moment x.1)) → IfOk r (WasOpened moment disk)
+opened_so moment disk file (Ok parts) syncs durable opened slots reads = was_opened moment disk file parts syncs durable opened slots reads
+opened_so moment disk file (Err x) syncs durable opened slots reads = tt
 
 -- ---- why a file isn't read
 

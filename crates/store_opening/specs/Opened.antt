@@ -1,7 +1,8 @@
 -- What opening a store answers.
-use Rattle.std.specs.Prelude.{◌≡◌, ℕ, List, [], map, None}
+use Rattle.std.specs.Prelude.{◌≡◌, ℕ, List, [], map, None, IfSome, IsTrue}
 use Rattle.afl_outside.specs.Counts.{Rose}
-use Rattle.afl_outside.specs.Disk.{DiskState, Moment}
+use Rattle.afl_outside.specs.Disk.{DiskState, Moment, Only}
+use Rattle.page_layout.specs.Opens.{OpensAs}
 use Rattle.page_chain.specs.Inner.Runs.{OnlyReads}
 use Rattle.page_chain.specs.declared.fault.OpenCause.{OpenCause}
 use Rattle.page_chain.specs.declared.fault.OpenCause.TheVariants.{Disk, NotDatabase, Memory}
@@ -31,6 +32,9 @@ pub record IsNew {D : Type 0} (limits : Limits) (s : Standing D) : Type 0 where
 -- The file as it was opened is that behind its sync. It was only read since
 pub record WasOpened {D : Type 0} (moment : D → Moment) (disk : D) (parts : StoreParts D) : Type 0 where
   pub synced : OnlySyncs (moment disk) (moment parts.opened.value.disk)
+  -- of an honest disk that tells its bytes a crash then left these alone
+  pub settled : IsTrue (moment parts.opened.value.disk).state.honest
+      → IfSome (moment parts.opened.value.disk).state.seen (λ seen. Only seen (moment parts.opened.value.disk).may_leave)
   pub read : OnlyReads (moment parts.opened.value.disk) (moment parts.file.disk)
   pub slots : parts.file.slots ≡ parts.opened.value.slots
 
@@ -38,10 +42,11 @@ pub record WasOpened {D : Type 0} (moment : D → Moment) (disk : D) (parts : St
 abbrev pub versions_of : Found → List MadeVersion
 versions_of found = map version_of (first_rows (names_in found.catalog).arrays found.directories)
 
--- what the store has is what these bytes open as: the catalogue, the versions and the base
+-- what the store has is what these bytes open as: the root and its log, the catalogue, the versions and the base
 pub record HasFound {D : Type 0} (moment : D → Moment) (limits : Limits) (file : List ℕ) (parts : StoreParts D) : Type 0 where
   pub found : Found
   pub opens : Opens file found
+  pub slots : OpensAs parts.file.slots.current parts.file.slots.records file
   pub catalog : parts.catalog ≡ found.catalog
   pub versions : (standing moment parts).first ≡ versions_of found
   pub base : parts.ledger.base ≡ base_core found parts.file.slots.current.root.log limits.pages

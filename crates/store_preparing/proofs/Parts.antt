@@ -1,5 +1,5 @@
 -- The parts of a store, with the ledger that preparing leaves.
-use Rattle.std.proofs.Common.{◌≡◌, ◌∙◌, ◌+◌, ◌≤◌, ℕ, Bool, true, false, List, [], ◌∷◌, length, map, Result, Ok, Err, refl, ap, sym, subst}
+use Rattle.std.proofs.Common.{◌≡◌, ◌∙◌, ◌+◌, ◌≤◌, ℕ, Bool, true, false, ◌&&◌, List, [], ◌∷◌, length, map, Result, Ok, Err, refl, ap, sym, subst}
 use Rattle.std.proofs.lemmas.List.{length-reverse}
 use Rattle.afl_outside.specs.Disk.{Moment}
 use Rattle.chunk_map.specs.declared.directory.Directory.{Directory}
@@ -68,13 +68,13 @@ pub comes_of : {A D : Type 0} (n : ℕ) (s : Standing D) (r : Result A PrepareFa
 comes_of n s (Ok p) l left = record { comes = is_short n s.ledger; is = reaped_standing s l (is_short n s.ledger) left }
 comes_of n s (Err SequenceEnd) l left = absurd left
 comes_of n s (Err (Full most free)) l left = record { comes = is_short n s.ledger; is = reaped_standing s l (is_short n s.ledger) left }
-comes_of n s (Err Memory) l left = record { comes = left.0; is = reaped_standing s l left.0 left.1 }
+comes_of n s (Err Memory) l left = record { comes = left.0 && is_short n s.ledger; is = reaped_standing s l (left.0 && is_short n s.ledger) left.1 }
 
 pub left_of : {A D : Type 0} (n : ℕ) (s : Standing D) (r : Result A PrepareFault) (l : LedgerState) → IsLeftBy n s.ledger r l → IsLeft n s r (record s { ledger = l })
 left_of n s (Ok p) l left = reaped_standing s l (is_short n s.ledger) left
 left_of n s (Err SequenceEnd) l left = absurd left
 left_of n s (Err (Full most free)) l left = reaped_standing s l (is_short n s.ledger) left
-left_of n s (Err Memory) l left = (left.0, reaped_standing s l left.0 left.1)
+left_of n s (Err Memory) l left = (left.0, reaped_standing s l (left.0 && is_short n s.ledger) left.1)
 
 pub at_left : {A D : Type 0} (moment : D → Moment) (n : ℕ) (s : Standing D) (k : Keeping) (r : Result A PrepareFault) (l : LedgerState) → IsAt moment s k → IsLeftBy n s.ledger r l → IsAt moment (record s { ledger = l }) k
 at_left moment n s k r l x left =

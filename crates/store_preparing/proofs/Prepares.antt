@@ -37,11 +37,10 @@ use Rattle.commit_pages.specs.Changes.{AreValid, ComesWith}
 use Rattle.commit_pages.specs.Commits.{record_laid, base_laid}
 use Rattle.commit_pages.specs.Versions.{CanBeListed, IsWritten, directory_of as directory_by, draft, draft_of, settled, version_in}
 use Rattle.laid_commits.proofs.Cores.{have_cores}
-use Rattle.store_ledger.specs.declared.note.NoteKind.TheVariants.{Tried}
-use Rattle.store_ledger.specs.Ledger.{LedgerState, has_room, history, is_noted}
+use Rattle.store_ledger.specs.Ledger.{LedgerState, has_room, history, is_noted, is_tried}
 use Rattle.store_versions.specs.Rows.{IsReadyFor}
 use Rattle.store_state.specs.At.{IsAt}
-use Rattle.store_state.specs.Standings.{Standing, BeganAs, base_of, given_of, versions_after}
+use Rattle.store_state.specs.Standings.{Standing, BeganAs, WasTriedBy, base_of, given_of, versions_after}
 use Rattle.store_state.specs.Inner.Keeping.{Keeping, IsDirectoryOf}
 use Rattle.prepared_commits.specs.declared.prepared.NewBase.{NewBase}
 use Rattle.prepared_commits.specs.declared.prepared.Prepared.{Prepared}
@@ -53,7 +52,7 @@ use Rattle.prepared_parts.specs.Layouts.{IsLayout, IsSized, base_by, laid_by}
 use Rattle.prepared_parts.specs.Parts.{IsPreparedAs, free_pages}
 use Rattle.store_preparing.specs.Left.{reaped_if}
 use Rattle.store_preparing.proofs.Parts.{newest_reaped, next_reaped}
-use Rattle.store_preparing.proofs.Reaped.{asked_still, at_reaped, history_of, ledger_of, reaped_history, room_left, same_committed, same_noted, same_pin}
+use Rattle.store_preparing.proofs.Reaped.{asked_still, at_reaped, history_of, ledger_of, reaped_history, room_left, same_committed, same_noted, same_pin, still_tried}
 use Rattle.store_preparing.proofs.Uses.{IsBy, IsOpen, IsUse, use_by}
 
 -- ---- what is laid
@@ -152,10 +151,10 @@ module _ {D : Type 0} (moment : D → Moment) (s : Standing D) (k : Keeping) (x 
       }
 
   pub may_come : NeedsAreCosts moment s k → (made : IsPreparedAs k.slots.target (next_sequence s) k.catalog (newest_now s change) (length k.rows) change (written_now s changed) session s.ledger p)
-      → IsTrue (is_pinned session (history s.ledger)) → has_committed session (history s.ledger) ≡ false → IsTrue (is_noted Tried s.ledger session) → IsTrue (has_room s.ledger 1) → next_sequence s < 2 ^ 64 → length k.slots.records ≤ 64 → s.ledger.base.limit ≤ 2 ^ 32
+      → IsTrue (is_pinned session (history s.ledger)) → has_committed session (history s.ledger) ≡ false → IsTrue (is_noted is_tried s.ledger session) → WasTriedBy session s.ledger.notes (history s.ledger) change → IsTrue (has_room s.ledger 1) → next_sequence s < 2 ^ 64 → length k.slots.records ≤ 64 → s.ledger.base.limit ≤ 2 ^ 32
       → IsUse s.ledger.base (history s.ledger) k.slots.target (next_sequence s) k.catalog (newest_now s change) change (written_now s changed) made.layout.laid made.layout.base
       → MayCome moment s k p
-  may_come costs made pinned first noted room small few below uses =
+  may_come costs made pinned first noted tried room small few below uses =
       let base : Core = s.ledger.base in
       let h : History = history s.ledger in
       let laid : Laid = made.layout.laid in
@@ -168,7 +167,8 @@ module _ {D : Type 0} (moment : D → Moment) (s : Standing D) (k : Keeping) (x 
             (subst (λ (c : ReadyFor). IsTrue (allows base h (Commit session c.change c.used))) commit (uses.may.allowed session pinned asked.typed.0));
         own = subst (λ (c : ReadyFor). SharesOwn base h c.change c.used) commit uses.may.own;
         first = subst (λ (n : ℕ). has_committed n h ≡ false) by first;
-        noted = subst (λ (n : ℕ). IsTrue (is_noted Tried s.ledger n)) by noted;
+        noted = subst (λ (n : ℕ). IsTrue (is_noted is_tried s.ledger n)) by noted;
+        tried = subst (λ (n : ℕ). WasTriedBy n s.ledger.notes h p.commit.change) by (subst (λ (c : ReadyFor). WasTriedBy session s.ledger.notes h c.change) commit tried);
         room = room;
         version = subst (λ (c : ReadyFor). IsReadyFor (names_at base h) c.change (length k.rows) p.version) commit made.ready.version;
         sequence = small;
@@ -194,8 +194,7 @@ module _ {D : Type 0} (moment : D → Moment) (s : Standing D) (k : Keeping) (x 
 -- ---- all of it
 
 -- what a commit is prepared for, over a store as contracts see it
-pub record IsFor {D : Type 0} (moment : D → Moment) (s : Standing D) (k : Keeping) (p : Prepared) : Type 0 where
-  pub changed : Option Changed
+pub record IsFor {D : Type 0} (moment : D → Moment) (s : Standing D) (k : Keeping) (changed : Option Changed) (p : Prepared) : Type 0 where
   pub asked : IsAsked moment s p.commit.change changed
   pub pages : List ℕ
   pub laid : Laid
@@ -210,7 +209,8 @@ pub record IsBefore {D : Type 0} (moment : D → Moment) (s : Standing D) (k : K
   pub small : sequence < 2 ^ 64
   pub pinned : IsTrue (is_pinned session (history s.ledger))
   pub first : has_committed session (history s.ledger) ≡ false
-  pub noted : IsTrue (is_noted Tried s.ledger session)
+  pub noted : IsTrue (is_noted is_tried s.ledger session)
+  pub tried : WasTriedBy session s.ledger.notes (history s.ledger) change
   pub room : IsTrue (has_room s.ledger 2)
   pub written : IfSome (draft_of sequence changed) IsWritten
   pub listed : IfSome changed (λ some. CanBeListed (length some.schema.dimensions) (draft sequence some))
@@ -224,7 +224,7 @@ base_reaped false s = refl
 prepared_still : {D : Type 0} (moment : D → Moment) (s : Standing D) (k : Keeping) (change : Change) (changed : Option Changed) (session sequence : ℕ) (p : Prepared) (comes : Bool)
     → IsBefore moment s k change changed session sequence → ((t : Standing D) → IsAt moment t k → NeedsAreCosts moment t k)
     → IsPreparedAs k.slots.target sequence k.catalog (newest_now s change) (length k.rows) change (draft_of sequence changed) session (reaped_if comes s).ledger p
-    → needs_by k.slots.target k.catalog (newest_now s change) change (draft_of sequence changed) ≤ length (free_pages (reaped_if comes s).ledger) → IsFor moment (reaped_if comes s) k p
+    → needs_by k.slots.target k.catalog (newest_now s change) change (draft_of sequence changed) ≤ length (free_pages (reaped_if comes s).ledger) → IsFor moment (reaped_if comes s) k changed p
 prepared_still moment s k change changed session sequence p comes is costs made fits =
     let t = reaped_if comes s in
     let x : IsAt moment t k = at_reaped moment s k comes is.at in
@@ -232,7 +232,7 @@ prepared_still moment s k change changed session sequence p comes is costs made 
     let history_is : history t.ledger ≡ reaped_history comes (history s.ledger) = ap history (ledger_of comes s) ∙ history_of comes s.ledger in
     let pinned : is_pinned session (history t.ledger) ≡ true = ap (is_pinned session) history_is ∙ same_pin comes session (history s.ledger) ∙ is.pinned in
     let first : has_committed session (history t.ledger) ≡ false = ap (has_committed session) history_is ∙ same_committed comes session (history s.ledger) ∙ is.first in
-    let noted : is_noted Tried t.ledger session ≡ true = ap (λ (l : LedgerState). is_noted Tried l session) (ledger_of comes s) ∙ same_noted comes s.ledger session ∙ is.noted in
+    let noted : is_noted is_tried t.ledger session ≡ true = ap (λ (l : LedgerState). is_noted is_tried l session) (ledger_of comes s) ∙ same_noted comes s.ledger session ∙ is.noted in
     let room : IsTrue (has_room t.ledger 1) = subst (λ (l : LedgerState). IsTrue (has_room l 1)) (sym (ledger_of comes s)) (room_left comes s.ledger is.room) in
     let newest : newest_now s change ≡ newest_now t change = sym (newest_reaped comes s change) in
     let next : sequence ≡ next_sequence t = is.next ∙ sym (next_reaped comes s) in
@@ -250,19 +250,18 @@ prepared_still moment s k change changed session sequence p comes is costs made 
     let uses = use_of moment t k x change changed asked session p own written enough in
     let same : change ≡ p.commit.change = sym (ap (λ (c : ReadyFor). c.change) own.ready.commit) in
     record {
-      changed = changed;
       asked = subst (λ (c : Change). IsAsked moment t c changed) same asked;
       pages = uses.pages;
       laid = own.layout.laid;
       is_laid = prepared_laid moment t k x change changed asked session p own written listed uses;
-      may_come = may_come moment t k x change changed asked session p (costs t x) own pinned first noted room small is.records below uses;
+      may_come = may_come moment t k x change changed asked session p (costs t x) own pinned first noted (still_tried comes s session change is.tried) room small is.records below uses;
     }
 
 pub prepared_new : {D : Type 0} (moment : D → Moment) (s : Standing D) (k : Keeping) (change : Change) (changed : Option Changed) (session sequence : ℕ) (p : Prepared) (comes : Bool) (new : Standing D)
     → new ≡ reaped_if comes s → IsBefore moment s k change changed session sequence → ((t : Standing D) → IsAt moment t k → NeedsAreCosts moment t k)
     → IsPreparedAs k.slots.target sequence k.catalog (newest_now s change) (length k.rows) change (draft_of sequence changed) session new.ledger p
-    → needs_by k.slots.target k.catalog (newest_now s change) change (draft_of sequence changed) ≤ length (free_pages new.ledger) → IsFor moment new k p
+    → needs_by k.slots.target k.catalog (newest_now s change) change (draft_of sequence changed) ≤ length (free_pages new.ledger) → IsFor moment new k changed p
 prepared_new moment s k change changed session sequence p comes new e is costs made fits =
     let own = subst (λ (t : Standing _). IsPreparedAs k.slots.target sequence k.catalog (newest_now s change) (length k.rows) change (draft_of sequence changed) session t.ledger p) e made in
     let enough = subst (λ (t : Standing _). needs_by k.slots.target k.catalog (newest_now s change) change (draft_of sequence changed) ≤ length (free_pages t.ledger)) e fits in
-    subst (λ (t : Standing _). IsFor moment t k p) (sym e) (prepared_still moment s k change changed session sequence p comes is costs own enough)
+    subst (λ (t : Standing _). IsFor moment t k changed p) (sym e) (prepared_still moment s k change changed session sequence p comes is costs own enough)

@@ -14,13 +14,13 @@ use Rattle.event_core.specs.Allowed.{is_pinned}
 use Rattle.event_core.specs.Cells.{at}
 use Rattle.event_core.specs.History.{History, names_at, open_pins, pin_before}
 use Rattle.event_core.specs.Legal.{has_committed}
-use Rattle.store_ledger.specs.declared.note.NoteKind.TheVariants.{Tried}
-use Rattle.store_ledger.specs.Ledger.{LedgerState, has_room, has_under, history, is_noted, reserved, reserved_by}
+use Rattle.store_ledger.specs.Ledger.{LedgerState, has_room, has_under, history, is_noted, reserved, reserved_by, is_tried}
 use Rattle.store_ledger.proofs.Pins.{one_more}
 use Rattle.store_state.specs.At.{IsAt}
-use Rattle.store_state.specs.Standings.{Standing}
+use Rattle.store_state.specs.Standings.{Standing, WasTriedBy}
 use Rattle.store_state.specs.Inner.Keeping.{Keeping}
 use Rattle.store_state.proofs.AtOn.{at_reap}
+use Rattle.store_state.proofs.Attempts.{tried_on}
 use Rattle.prepared_commits.specs.Prepared.{IsAsked, MayBeMade}
 use Rattle.prepared_parts.specs.Parts.{reaped}
 use Rattle.store_preparing.specs.Left.{reaped_if}
@@ -56,9 +56,15 @@ pub same_database : (comes : Bool) (db : Database) (h : History) → at db (reap
 same_database true db h = refl
 same_database false db h = refl
 
-pub same_noted : (comes : Bool) (ledger : LedgerState) (session : ℕ) → is_noted Tried (reaped comes ledger) session ≡ is_noted Tried ledger session
-same_noted true ledger session = ap (λ (h : History). has_under Tried ledger.notes session (pin_before session h)) (one_more ledger.entries Reap)
+pub same_noted : (comes : Bool) (ledger : LedgerState) (session : ℕ) → is_noted is_tried (reaped comes ledger) session ≡ is_noted is_tried ledger session
+same_noted true ledger session = ap (λ (h : History). has_under is_tried ledger.notes session (pin_before session h)) (one_more ledger.entries Reap)
 same_noted false ledger session = refl
+
+pub still_tried : {D : Type 0} (comes : Bool) (s : Standing D) (session : ℕ) (change : Change) → WasTriedBy session s.ledger.notes (history s.ledger) change
+    → WasTriedBy session (reaped_if comes s).ledger.notes (history (reaped_if comes s).ledger) change
+still_tried true s session change x =
+    subst (λ (h : History). WasTriedBy session s.ledger.notes h change) (sym (one_more s.ledger.entries Reap)) (tried_on session s.ledger.notes change Reap (history s.ledger) refl x)
+still_tried false s session change x = x
 
 -- ---- room
 

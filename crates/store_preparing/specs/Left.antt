@@ -1,27 +1,27 @@
 -- What is left of a store where a commit was prepared, and why it can't be.
-use Rattle.std.specs.Prelude.{◌≡◌, ◌≤◌, ◌<◌, ◌-◌, ◌^◌, ℕ, Bool, if◌then◌else◌, [], ◌∷◌, length, Result, Ok, Err}
+use Rattle.std.specs.Prelude.{◌≡◌, ◌≤◌, ◌<◌, ◌-◌, ◌^◌, ℕ, Bool, ◌&&◌, if◌then◌else◌, [], ◌∷◌, length, Result, Ok, Err}
+use Rattle.plan_changes.specs.declared.change.Change.{Change}
 use Rattle.event_core.specs.declared.entry.Entry.TheVariants.{Reap}
-use Rattle.store_ledger.specs.declared.note.NoteKind.TheVariants.{Tried}
-use Rattle.store_ledger.specs.Ledger.{LedgerState, note_now, unused_pages}
+use Rattle.store_ledger.specs.Ledger.{LedgerState, attempt, note_now, unused_pages}
 use Rattle.store_state.specs.Standings.{Standing, with_entries, with_notes}
 use Rattle.prepared_commits.specs.declared.fault.PrepareFault.{PrepareFault}
 use Rattle.prepared_commits.specs.declared.fault.PrepareFault.TheVariants.{SequenceEnd, Full, Memory}
 use Rattle.prepared_parts.specs.Parts.{IsFull, is_short}
 
--- the store with the note that a session tries a commit now, and with a reap, if one came
-abbrev pub tried_now : {D : Type 0} → ℕ → Standing D → Standing D
-tried_now session s = with_notes (note_now Tried s.ledger session ∷ []) s
+-- the store with the note that a session tries a commit of a change now, and with a reap, if one came
+abbrev pub tried_now : {D : Type 0} → ℕ → Change → Standing D → Standing D
+tried_now session change s = with_notes (note_now (attempt change) s.ledger session ∷ []) s
 
 abbrev pub reaped_if : {D : Type 0} → Bool → Standing D → Standing D
 reaped_if comes s = if comes then with_entries (Reap ∷ []) s else s
 
--- A REAP COMES just where fewer pages are free than the commit needs. Where memory is short, it may be missing, and where there is no next
+-- A REAP COMES just where fewer pages are free than the commit needs. Where memory is short too, it may be missing, and where there is no next
 -- sequence number, there is none
 abbrev pub IsLeft : {A D : Type 0} → ℕ → Standing D → Result A PrepareFault → Standing D → Type 0
 IsLeft needed s (Ok x) new = new ≡ reaped_if (is_short needed s.ledger) s
 IsLeft needed s (Err SequenceEnd) new = new ≡ s
 IsLeft needed s (Err (Full most free)) new = new ≡ reaped_if (is_short needed s.ledger) s
-IsLeft needed s (Err Memory) new = (comes : Bool) × (new ≡ reaped_if comes s)
+IsLeft needed s (Err Memory) new = (comes : Bool) × (new ≡ reaped_if (comes && is_short needed s.ledger) s)
 
 -- a commit is prepared where it takes no more pages than nobody can name, and full is told where it takes more
 abbrev pub FitsIn : {A : Type 0} → ℕ → Result A PrepareFault → LedgerState → Type 0

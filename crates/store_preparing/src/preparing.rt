@@ -9,8 +9,7 @@ ghost use Rattle.event_core.specs.Bases.{sequence_at};
 ghost use Rattle.event_core.specs.History.{names_at};
 ghost use Rattle.commit_pages.specs.Changes.{AreValid};
 ghost use Rattle.commit_pages.specs.Versions.{CanBeListed, IsWritten, draft, draft_of};
-ghost use Rattle.store_ledger.specs.declared.note.NoteKind.TheVariants.{Tried};
-ghost use Rattle.store_ledger.specs.Ledger.{has_room, history, is_noted};
+ghost use Rattle.store_ledger.specs.Ledger.{has_room, history, is_noted, is_tried};
 ghost use Rattle.store_state.specs.At.{AreParts, keeping, standing};
 ghost use Rattle.store_state.specs.Standings.{base_of};
 ghost use Rattle.prepared_commits.specs.Needs.{needs, needs_by, newest_now};
@@ -122,19 +121,20 @@ pub fn prepare<D: Disk>(
 ) -> Result<Prepared, PrepareFault>
     requires at { AreParts D.moment parts.old }
     requires pinned { IsTrue (is_pinned session (history parts.old.ledger)) }
-    requires tried { is_noted Tried parts.old.ledger session ≡ false }
+    requires tried { is_noted is_tried parts.old.ledger session ≡ false }
     requires asked { IsAsked D.moment (standing D.moment parts.old) change changed }
     ensures at { AreParts D.moment parts.new }
-    ensures left { IsLeft (needs (standing D.moment parts.old) (keeping parts.old) change changed) (tried_now session (standing D.moment parts.old))
+    ensures left { IsLeft (needs (standing D.moment parts.old) (keeping parts.old) change changed) (tried_now session change (standing D.moment parts.old))
         result (standing D.moment parts.new) }
-    ensures ok { IfOk result (IsPreparedFor D.moment parts.new) }
+    ensures ok { IfOk result (IsPreparedFor D.moment parts.new changed) }
+    ensures kept { keeping parts.new ≡ keeping parts.old }
     ensures of { IfOk result (λ p. (p.session ≡ session) × (p.commit.change ≡ change)) }
     ensures fits { FitsIn (needs (standing D.moment parts.old) (keeping parts.old) change changed) result parts.new.ledger }
     ensures end { HasNext (sequence_at (base_of (standing D.moment parts.old)) (history parts.old.ledger)) result }
 {
     commits_need_what_they_cost::<D>();
     let _limit = parts.ledger.page_limit();
-    parts.ledger.note_tried(session);
+    parts.ledger.note_tried(session, &change);
     match next_sequence(&parts.file) {
         Some(sequence) => match written_of(alloc, changed, sequence) {
             Ok(written) => prepared_of(alloc, parts, session, change, written, sequence),

@@ -5,6 +5,7 @@ use Rattle.std.proofs.lemmas.Bool.{and_parts, false≢true}
 use Rattle.afl_outside.specs.declared.source.Failed.{Failed}
 use Rattle.afl_outside.specs.Counts.{Rose}
 use Rattle.afl_outside.specs.Disk.{DiskState, FailsWithCause, LeavesOnly, Moment}
+use Rattle.array_geom.specs.declared.chunk.Changed.{Changed}
 use Rattle.page_slots.specs.declared.slots.Slots.{Slots}
 use Rattle.plan_changes.specs.declared.change.Change.{Change}
 use Rattle.plan_changes.specs.Databases.{Database, after}
@@ -93,6 +94,9 @@ pub record HasCome {D : Type 0} (moment : D → Moment) (old : StoreParts D) (p 
   pub parts : AreParts moment new
   pub ok : IfOk result (λ place. (place ≡ length old.ledger.entries) × (standing moment new ≡ sealed moment (standing moment old) p new.ledger new.file.disk))
   pub err : OnErr result ((stage : Stopped) × (standing moment new ≡ stopped stage (standing moment old) p new.ledger new.file.disk))
+  pub kept : MatchResult result
+      (λ _. keeping new ≡ sealed_keeping (standing moment old) (keeping old) p)
+      (λ _. keeping new ≡ record (keeping old) { slots = new.file.slots })
   pub noted : MatchResult result
       (λ _. NotesFault (moment old.file.disk).state (moment new.file.disk).state p.session (sealed_ledger (standing moment old) p) new.ledger)
       (λ _. NotesFault (moment old.file.disk).state (moment new.file.disk).state p.session old.ledger new.ledger)
@@ -107,7 +111,8 @@ pub record HasCome {D : Type 0} (moment : D → Moment) (old : StoreParts D) (p 
 abbrev pub OnlyNow : {D : Type 0} → (D → Moment) → Type 0
 OnlyNow {D} moment = (disk : D) (image : List ℕ) → (moment disk).left_since (moment disk).state.moment image → (moment disk).may_leave image
 
-module _ {D : Type 0} (moment : D → Moment) (old : StoreParts D) (p : Prepared) (x : AreParts moment old) (for_it : IsPreparedFor moment old p) where
+module _ {D : Type 0} (moment : D → Moment) (old : StoreParts D) (p : Prepared) (x : AreParts moment old)
+    (changed : Option Changed) (for_it : IsPreparedFor moment old changed p) where
   abbrev s : Standing D
   s = standing moment old
 
@@ -117,7 +122,7 @@ module _ {D : Type 0} (moment : D → Moment) (old : StoreParts D) (p : Prepared
   pub is_ready : IsReady moment s k p
   is_ready = record {
     kept = x.kept;
-    changed = for_it.changed;
+    changed = changed;
     asked = for_it.asked;
     pages = for_it.pages;
     laid = for_it.laid;
@@ -189,6 +194,7 @@ module _ {D : Type 0} (moment : D → Moment) (old : StoreParts D) (p : Prepared
         parts = at_sealed laws.kept laws.held later disk new.ledger writes came.done (only disk) noted (standing moment new) (keeping new) e f;
         ok = (ends.0, e);
         err = tt;
+        kept = f;
         noted = noted;
         during = passes laws.passes later disk writes;
         durable = stands laws.stands later disk writes came.done;
@@ -210,6 +216,7 @@ module _ {D : Type 0} (moment : D → Moment) (old : StoreParts D) (p : Prepared
         parts = at_stopped laws.stopped_kept laws.stopped_held later stage disk new.ledger writes came.stopped noted (standing moment new) (keeping new) e f;
         ok = tt;
         err = (stage, e);
+        kept = λ i. record { slots = later; catalog = (ends i).catalog; rows = (ends i).rows };
         noted = noted;
         during = passes laws.passes later disk writes;
         durable = tt;

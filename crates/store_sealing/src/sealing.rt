@@ -1,6 +1,7 @@
 //! A commit that was prepared is sealed.
-ghost use Rattle.std.specs.Prelude.{◌≡◌, ℕ, List, length, IfOk, OnOk, OnErr, MatchResult};
+ghost use Rattle.std.specs.Prelude.{◌≡◌, ℕ, List, Option, length, IfOk, OnOk, OnErr, MatchResult};
 ghost use Rattle.afl_outside.specs.Disk.{FailsWithCause, LeavesOnly};
+ghost use Rattle.array_geom.specs.declared.chunk.Changed.{Changed};
 ghost use Rattle.plan_changes.specs.Databases.{Database, after};
 ghost use Rattle.event_core.specs.Cells.{at};
 ghost use Rattle.file_meaning.specs.Standing.{Stands};
@@ -10,7 +11,7 @@ ghost use Rattle.store_state.specs.At.{AreParts, keeping, standing};
 ghost use Rattle.store_state.specs.Calls.{NotesFault};
 ghost use Rattle.store_state.specs.Standings.{BeganAs};
 ghost use Rattle.prepared_commits.specs.Prepared.{IsPreparedFor};
-ghost use Rattle.store_steps.specs.Steps.{sealed, sealed_ledger, stopped};
+ghost use Rattle.store_steps.specs.Steps.{sealed, sealed_keeping, sealed_ledger, stopped};
 ghost use Rattle.store_cells.specs.Moves.{MayLeave};
 
 use crate::finishing::finish;
@@ -24,12 +25,15 @@ use store_state::StoreParts;
 /// they are, and the change may be in doubt.
 pub fn seal<D: Disk>(parts: &mut StoreParts<D>, prepared: Prepared) -> Result<u64, Failed>
     requires at { AreParts D.moment parts.old }
-    requires prepared { IsPreparedFor D.moment parts.old prepared }
+    requires prepared { (changed : Option Changed) × IsPreparedFor D.moment parts.old changed prepared }
     ensures at { AreParts D.moment parts.new }
     ensures ok { IfOk result (λ place. (place ≡ length parts.old.ledger.entries) × (standing D.moment parts.new
         ≡ sealed D.moment (standing D.moment parts.old) prepared parts.new.ledger parts.new.file.disk)) }
     ensures err { OnErr result ((stage : Stopped) × (standing D.moment parts.new
         ≡ stopped stage (standing D.moment parts.old) prepared parts.new.ledger parts.new.file.disk)) }
+    ensures kept { MatchResult result
+        (λ _. keeping parts.new ≡ sealed_keeping (standing D.moment parts.old) (keeping parts.old) prepared)
+        (λ _. keeping parts.new ≡ record (keeping parts.old) { slots = parts.new.file.slots }) }
     ensures noted { MatchResult result
         (λ _. NotesFault (D.moment parts.old.file.disk).state (D.moment parts.new.file.disk).state prepared.session
         (sealed_ledger (standing D.moment parts.old) prepared) parts.new.ledger)

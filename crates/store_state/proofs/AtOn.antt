@@ -17,17 +17,18 @@ use Rattle.event_core.specs.History.{History, open_pins}
 use Rattle.event_core.specs.Legal.{has_committed}
 use Rattle.event_laws.specs.Cores.{is_no_commit}
 use Rattle.store_ledger.specs.declared.note.Note.{Note}
-use Rattle.store_ledger.specs.declared.note.NoteKind.TheVariants.{Fault, Tried}
-use Rattle.store_ledger.specs.Ledger.{LedgerState, has_note, history, is_kind, is_noted, is_under, note_now, with_fault}
+use Rattle.store_ledger.specs.declared.note.NoteKind.TheVariants.{Fault}
+use Rattle.store_ledger.specs.Ledger.{LedgerState, has_note, history, is_noted, is_under, note_now, with_fault, is_tried, is_fault}
 use Rattle.store_ledger.proofs.Pins.{one_more}
 use Rattle.store_versions.specs.declared.row.VersionRow.{VersionRow}
 use Rattle.store_versions.specs.Rows.{needed_rows, places_at}
 use Rattle.store_versions.specs.Versions.{Directories}
-use Rattle.store_state.specs.Standings.{Standing, BeganAs, StoodFor, HaveStood, commit_places, given_of, made_at, with_entries, with_notes}
+use Rattle.store_state.specs.Standings.{Standing, BeganAs, HaveStood, IsAttempt, StoodFor, commit_places, given_of, made_at, with_entries, with_notes}
 use Rattle.store_state.specs.Kept.{IsKept}
 use Rattle.store_state.specs.Cells.{HoldsCells}
 use Rattle.store_state.specs.At.{IsAt}
-use Rattle.store_state.specs.Inner.Keeping.{Keeping, is_tried, AreCounted}
+use Rattle.store_state.specs.Inner.Keeping.{Keeping, tried_if_committed, AreCounted}
+use Rattle.store_state.proofs.Attempts.{attempt_noted, have_stood_noted, some_map}
 use Rattle.store_state.proofs.Lists.{all_more, zip_map}
 use Rattle.store_state.proofs.KeptOn.{kept_pin, kept_unpin, kept_reap}
 use Rattle.store_state.proofs.CellsOn.{cells_pin, cells_unpin, cells_reap}
@@ -58,9 +59,9 @@ module _ {D : Type 0} (moment : D → Moment) (s : Standing D) (k : Keeping) (h 
     noted = x.noted;
   }
 
-  cells_as : (es : List Entry) (ns : List Note) (db : Database) (places : List ℕ) → HoldsCells moment s k db h given places →
-      HoldsCells moment (record s { ledger = record (s.ledger) { entries = es; notes = ns } }) k db h given places
-  cells_as es ns db places x = record {
+  cells_as : (es : List Entry) (db : Database) (places : List ℕ) → HoldsCells moment s k db h given places →
+      HoldsCells moment (record s { ledger = record (s.ledger) { entries = es } }) k db h given places
+  cells_as es db places x = record {
     legal = x.legal;
     database = x.database;
     pinned = x.pinned;
@@ -72,6 +73,22 @@ module _ {D : Type 0} (moment : D → Moment) (s : Standing D) (k : Keeping) (h 
     images = x.images;
     past = x.past;
     acked = x.acked;
+  }
+
+  pub cells_noted : (more : List Note) (db : Database) (places : List ℕ) → HoldsCells moment s k db h given places →
+      HoldsCells moment (with_notes more s) k db h given places
+  cells_noted more db places x = record {
+    legal = x.legal;
+    database = x.database;
+    pinned = x.pinned;
+    doubt = some_map (IsAttempt db s.ledger.notes h) (IsAttempt db (s.ledger.notes ++ more) h) (attempt_noted db s.ledger.notes more h) s.doubt x.doubt;
+    bytes = x.bytes;
+    known = x.known;
+    found = x.found;
+    is_found = x.is_found;
+    images = x.images;
+    past = have_stood_noted (moment s.disk) db s.ledger.notes more h 0 _ x.past;
+    acked = zip_map _ _ (λ place since. have_stood_noted (moment s.disk) db s.ledger.notes more h (place + 1) since) places s.acked x.acked;
   }
 
 -- ---- entries
@@ -90,7 +107,7 @@ module _ {D : Type 0} (moment : D → Moment) (s : Standing D) (k : Keeping) (en
             (kept_as moment s k (entry ∷ history s.ledger) (given_of s) (entry ∷ []) kept));
         cells = λ db began. subst (λ (h : History). HoldsCells moment next k db h (given_of next) (commit_places 0 next.ledger.entries)) (sym later)
             (subst (λ (places : List ℕ). HoldsCells moment next k db (entry ∷ history s.ledger) (record { first = s.first; made = made_at places s.made }) places) (sym same)
-            (cells_as moment s k (entry ∷ history s.ledger) (given_of s) (s.ledger.entries ++ entry ∷ []) s.ledger.notes db (commit_places 0 s.ledger.entries) (cells db began)));
+            (cells_as moment s k (entry ∷ history s.ledger) (given_of s) (s.ledger.entries ++ entry ∷ []) db (commit_places 0 s.ledger.entries) (cells db began)));
       }
 
 module _ {D : Type 0} (moment : D → Moment) (s : Standing D) (k : Keeping) (x : IsAt moment s k) where
@@ -119,20 +136,20 @@ more_noted c true b e = e
 more_noted false false b e = refl
 more_noted true false b e = cc
 
-pub tried_on : (h : History) (notes : List Note) (note : Note) → list_all (is_tried h notes) (open_pins h) ≡ true → list_all (is_tried h (notes ++ note ∷ [])) (open_pins h) ≡ true
-tried_on h notes note all = all_more (is_tried h notes) (is_tried h (notes ++ note ∷ []))
-    (λ pin e. ap (λ (b : Bool). not (has_committed pin.session h) || b) (list_any-append (is_under Tried pin) notes (note ∷ []))
-    ∙ more_noted (has_committed pin.session h) (has_note Tried notes pin) _ e) (open_pins h) all
+pub tried_on : (h : History) (notes : List Note) (note : Note) → list_all (tried_if_committed h notes) (open_pins h) ≡ true → list_all (tried_if_committed h (notes ++ note ∷ [])) (open_pins h) ≡ true
+tried_on h notes note all = all_more (tried_if_committed h notes) (tried_if_committed h (notes ++ note ∷ []))
+    (λ pin e. ap (λ (b : Bool). not (has_committed pin.session h) || b) (list_any-append (is_under is_tried pin) notes (note ∷ []))
+    ∙ more_noted (has_committed pin.session h) (has_note is_tried notes pin) _ e) (open_pins h) all
 
-abbrev is_fault : Note → Bool
-is_fault note = is_kind Fault note.kind
+abbrev notes_fault : Note → Bool
+notes_fault note = is_fault note.kind
 
 -- one more note of a fault
-faults_more : (notes : List Note) (note : Note) → is_fault note ≡ true → length (filter is_fault (notes ++ note ∷ [])) ≡ length (filter is_fault notes) + 1
+faults_more : (notes : List Note) (note : Note) → notes_fault note ≡ true → length (filter notes_fault (notes ++ note ∷ [])) ≡ length (filter notes_fault notes) + 1
 faults_more notes note e =
-    ap (λ (ns : List Note). length ns) (filter-append is_fault notes (note ∷ []))
-    ∙ ap (λ (b : Bool). length (filter is_fault notes ++ (if b then note ∷ [] else []))) e
-    ∙ length-append (filter is_fault notes) (note ∷ [])
+    ap (λ (ns : List Note). length ns) (filter-append notes_fault notes (note ∷ []))
+    ∙ ap (λ (b : Bool). length (filter notes_fault notes ++ (if b then note ∷ [] else []))) e
+    ∙ length-append (filter notes_fault notes) (note ∷ [])
 
 module _ {D : Type 0} (moment : D → Moment) (s : Standing D) (k : Keeping) (x : IsAt moment s k) where
   pub at_noted : (note : Note) → AreCounted (moment s.opened.disk).state.faults (moment s.disk).state.faults (s.ledger.notes ++ note ∷ []) → IsAt moment (with_notes (note ∷ []) s) k
@@ -149,7 +166,7 @@ module _ {D : Type 0} (moment : D → Moment) (s : Standing D) (k : Keeping) (x 
       tried = tried_on (history s.ledger) s.ledger.notes note x.kept.tried;
       noted = counted;
     };
-    cells = λ db began. cells_as moment s k (history s.ledger) (given_of s) s.ledger.entries (s.ledger.notes ++ note ∷ []) db (commit_places 0 s.ledger.entries) (x.cells db began);
+    cells = λ db began. cells_noted moment s k (history s.ledger) (given_of s) (note ∷ []) db (commit_places 0 s.ledger.entries) (x.cells db began);
   }
 
 -- ---- reads
@@ -175,15 +192,15 @@ counted_last old new rose last =
     let e : min (old + 1) (2 ^ 64 - 1) ≡ 2 ^ 64 - 1 = min-eq_right long in
     omega (arith, e, rose)
 
-pub counted_more : (opened old new : ℕ) (notes : List Note) (note : Note) → is_fault note ≡ true → Rose old new → AreCounted opened old notes → AreCounted opened new (notes ++ note ∷ [])
+pub counted_more : (opened old new : ℕ) (notes : List Note) (note : Note) → notes_fault note ≡ true → Rose old new → AreCounted opened old notes → AreCounted opened new (notes ++ note ∷ [])
 counted_more opened old new notes note e rose (inl few) =
-    counted_risen opened old new (length (filter is_fault notes)) (length (filter is_fault (notes ++ note ∷ []))) (faults_more notes note e) rose few (cases_lt old (2 ^ 64 - 1))
+    counted_risen opened old new (length (filter notes_fault notes)) (length (filter notes_fault (notes ++ note ∷ []))) (faults_more notes note e) rose few (cases_lt old (2 ^ 64 - 1))
 counted_more opened old new notes note e rose (inr last) = inr (counted_last old new rose last)
 
 -- images of a disk that was only read are those that it had, and each moment since then had such
-stood_read : (old new : Moment) (db : Database) (h : History) (least since : ℕ) → OnlyReads old new → HaveStood old db h least since →
-    ((image : List ℕ) → old.may_leave image → StoodFor db least h image) → HaveStood new db h least since
-stood_read old new db h least since reads x now =
+stood_read : (old new : Moment) (db : Database) (notes : List Note) (h : History) (least since : ℕ) → OnlyReads old new → HaveStood old db notes h least since →
+    ((image : List ℕ) → old.may_leave image → StoodFor db notes least h image) → HaveStood new db notes h least since
+stood_read old new db notes h least since reads x now =
     let time : LeavesOnly old.state.moment new.state.moment old.left_since new.left_since old.may_leave = reads.time in
     let later : since ≤ new.state.moment = omega (arith, x.gone, time.later) in
     record {
@@ -194,14 +211,14 @@ stood_read old new db h least since reads x now =
 
 -- an image of now stands for the whole history
 stood_now : {D : Type 0} (moment : D → Moment) (s : Standing D) (k : Keeping) (db : Database) (h : History) (given : Directories) (places : List ℕ) →
-    HoldsCells moment s k db h given places → (least : ℕ) → least ≤ length h → (image : List ℕ) → (moment s.disk).may_leave image → StoodFor db least h image
+    HoldsCells moment s k db h given places → (least : ℕ) → least ≤ length h → (image : List ℕ) → (moment s.disk).may_leave image → StoodFor db s.ledger.notes least h image
 stood_now moment s k db h given places x least made image left = record {
   later = [];
   before = h;
   part = refl;
   enough = made;
   more = s.doubt;
-  sound = x.doubt;
+  tried = x.doubt;
   stands = (x.images image left).stands;
 }
 
@@ -222,8 +239,8 @@ module _ {D : Type 0} (moment : D → Moment) (s : Standing D) (k : Keeping) (di
     found = x.found;
     is_found = x.is_found;
     images = λ image left. x.images image (reads.crash image left);
-    past = stood_read (moment s.disk) (moment disk) db h 0 _ reads x.past (λ image left. stood_now moment s k db h given places x 0 x.past.made image left);
-    acked = zip_map _ _ (λ place since a. stood_read (moment s.disk) (moment disk) db h (place + 1) since reads a (λ image left. stood_now moment s k db h given places x (place + 1) a.made image left)) places s.acked x.acked;
+    past = stood_read (moment s.disk) (moment disk) db s.ledger.notes h 0 _ reads x.past (λ image left. stood_now moment s k db h given places x 0 x.past.made image left);
+    acked = zip_map _ _ (λ place since a. stood_read (moment s.disk) (moment disk) db s.ledger.notes h (place + 1) since reads a (λ image left. stood_now moment s k db h given places x (place + 1) a.made image left)) places s.acked x.acked;
   }
 
   pub at_read : IsAt moment s k → IsAt moment (record s { disk = disk }) k
@@ -247,7 +264,7 @@ module _ {D : Type 0} (moment : D → Moment) (s : Standing D) (k : Keeping) (di
   pub at_fault : (session : ℕ) → Rose (moment s.disk).state.faults (moment disk).state.faults → IsAt moment s k →
       IsAt moment (record s { disk = disk; ledger = with_fault session s.ledger }) k
   at_fault session rose x =
-      fault_if (is_noted Fault s.ledger session)
+      fault_if (is_noted is_fault s.ledger session)
     where
       fault_if : (b : Bool) → IsAt moment (record s { disk = disk; ledger = if b then s.ledger else (with_notes (note_now Fault s.ledger session ∷ []) s).ledger }) k
       fault_if true = at_read x

@@ -10,29 +10,11 @@ use Rattle.event_core.specs.Cells.{at}
 use Rattle.event_core.specs.History.{History, OpenPin, open_pins}
 use Rattle.store_versions.specs.declared.row.VersionRow.{VersionRow}
 use Rattle.store_versions.specs.Versions.{Directories, versions_at}
-use Rattle.store_state.specs.Standings.{Standing, StoodFor, HaveStood}
+use Rattle.store_state.specs.Standings.{IsAttempt, Standing}
 use Rattle.store_state.specs.Cells.{IsImage, HoldsCells}
 use Rattle.store_state.specs.Inner.Keeping.{Keeping, LieIn}
+use Rattle.store_state.proofs.Attempts.{attempt_on, have_stood_on, some_map}
 use Rattle.store_state.proofs.Lists.{all_push, all_filter, zip_map}
-
-stood_on : (entry : Entry) (db : Database) (least : ℕ) (h : History) (image : List ℕ) → StoodFor db least h image → StoodFor db least (entry ∷ h) image
-stood_on entry db least h image x = record {
-  later = entry ∷ x.later;
-  before = x.before;
-  part = ap (λ (rest : History). entry ∷ rest) x.part;
-  enough = x.enough;
-  more = x.more;
-  sound = x.sound;
-  stands = x.stands;
-}
-
--- one more entry
-pub have_stood_on : (entry : Entry) (now : Moment) (db : Database) (h : History) (least since : ℕ) → HaveStood now db h least since → HaveStood now db (entry ∷ h) least since
-have_stood_on entry now db h least since x = record {
-  gone = x.gone;
-  made = omega (arith, x.made);
-  images = λ image left. stood_on entry db least h image (x.images image left);
-}
 
 module _ {D : Type 0} (moment : D → Moment) (s : Standing D) (k : Keeping) (db : Database) (h : History) (given : Directories) (places : List ℕ)
     (x : HoldsCells moment s k db h given places) where
@@ -44,7 +26,7 @@ module _ {D : Type 0} (moment : D → Moment) (s : Standing D) (k : Keeping) (db
     legal = (x.legal, free, tt, tt);
     database = x.database;
     pinned = all_push (λ (pin : OpenPin). IsDatabase (at db pin.before)) (open_pins h) (record { session = session; before = h }) x.pinned x.database;
-    doubt = x.doubt;
+    doubt = some_map (IsAttempt db s.ledger.notes h) (IsAttempt db s.ledger.notes (Pin session ∷ h)) (attempt_on db s.ledger.notes (Pin session) h refl) s.doubt x.doubt;
     bytes = x.bytes;
     known = x.known;
     found = x.found;
@@ -59,8 +41,8 @@ module _ {D : Type 0} (moment : D → Moment) (s : Standing D) (k : Keeping) (db
           doubted = i.doubted;
           stands = i.stands;
         };
-    past = have_stood_on (Pin session) (moment s.disk) db h 0 _ x.past;
-    acked = zip_map _ _ (λ place since. have_stood_on (Pin session) (moment s.disk) db h (place + 1) since) places s.acked x.acked;
+    past = have_stood_on (Pin session) (moment s.disk) db s.ledger.notes h 0 _ x.past;
+    acked = zip_map _ _ (λ place since. have_stood_on (Pin session) (moment s.disk) db s.ledger.notes h (place + 1) since) places s.acked x.acked;
   }
 
   pub cells_unpin : (session : ℕ) (rows : List VersionRow) → IsTrue (is_pinned session h) → HoldsCells moment s (record k { rows = rows }) db (Unpin session ∷ h) given places
@@ -68,7 +50,7 @@ module _ {D : Type 0} (moment : D → Moment) (s : Standing D) (k : Keeping) (db
     legal = (x.legal, pinned, tt, tt);
     database = x.database;
     pinned = all_filter (λ (pin : OpenPin). IsDatabase (at db pin.before)) (λ pin. not (nat_eq pin.session session)) (open_pins h) x.pinned;
-    doubt = x.doubt;
+    doubt = some_map (IsAttempt db s.ledger.notes h) (IsAttempt db s.ledger.notes (Unpin session ∷ h)) (attempt_on db s.ledger.notes (Unpin session) h refl) s.doubt x.doubt;
     bytes = x.bytes;
     known = x.known;
     found = x.found;
@@ -83,8 +65,8 @@ module _ {D : Type 0} (moment : D → Moment) (s : Standing D) (k : Keeping) (db
           doubted = i.doubted;
           stands = i.stands;
         };
-    past = have_stood_on (Unpin session) (moment s.disk) db h 0 _ x.past;
-    acked = zip_map _ _ (λ place since. have_stood_on (Unpin session) (moment s.disk) db h (place + 1) since) places s.acked x.acked;
+    past = have_stood_on (Unpin session) (moment s.disk) db s.ledger.notes h 0 _ x.past;
+    acked = zip_map _ _ (λ place since. have_stood_on (Unpin session) (moment s.disk) db s.ledger.notes h (place + 1) since) places s.acked x.acked;
   }
 
   pub cells_reap : HoldsCells moment s k db (Reap ∷ h) given places
@@ -92,7 +74,7 @@ module _ {D : Type 0} (moment : D → Moment) (s : Standing D) (k : Keeping) (db
     legal = (x.legal, refl, tt, tt);
     database = x.database;
     pinned = x.pinned;
-    doubt = x.doubt;
+    doubt = some_map (IsAttempt db s.ledger.notes h) (IsAttempt db s.ledger.notes (Reap ∷ h)) (attempt_on db s.ledger.notes Reap h refl) s.doubt x.doubt;
     bytes = x.bytes;
     known = x.known;
     found = x.found;
@@ -100,6 +82,6 @@ module _ {D : Type 0} (moment : D → Moment) (s : Standing D) (k : Keeping) (db
     images = λ image left.
         let i : IsImage s.ledger.base given db h k.slots s.doubt x.found image = x.images image left in
         record { opens = i.opens; holds = i.holds; now = i.now; pinned = i.pinned; doubted = i.doubted; stands = i.stands };
-    past = have_stood_on Reap (moment s.disk) db h 0 _ x.past;
-    acked = zip_map _ _ (λ place since. have_stood_on Reap (moment s.disk) db h (place + 1) since) places s.acked x.acked;
+    past = have_stood_on Reap (moment s.disk) db s.ledger.notes h 0 _ x.past;
+    acked = zip_map _ _ (λ place since. have_stood_on Reap (moment s.disk) db s.ledger.notes h (place + 1) since) places s.acked x.acked;
   }

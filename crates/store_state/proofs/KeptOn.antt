@@ -9,14 +9,13 @@ use Rattle.event_core.specs.History.{History, OpenPin, names_at, open_pins, page
 use Rattle.event_core.specs.Legal.{has_committed}
 use Rattle.event_core.proofs.Tests.{both_not}
 use Rattle.store_ledger.specs.declared.note.Note.{Note}
-use Rattle.store_ledger.specs.declared.note.NoteKind.TheVariants.{Tried}
-use Rattle.store_ledger.specs.Ledger.{has_note}
+use Rattle.store_ledger.specs.Ledger.{has_note, is_tried}
 use Rattle.store_versions.specs.Rows.{needed_rows, places_at}
 use Rattle.store_versions.specs.Versions.{Directories, versions_at}
 use Rattle.store_versions.proofs.Seen.{tables_follow_entries, forgetting_is_seen}
 use Rattle.store_state.specs.Standings.{Standing}
 use Rattle.store_state.specs.Kept.{IsKept}
-use Rattle.store_state.specs.Inner.Keeping.{Keeping, AreDirectoriesOf, HasItsPages, is_tried}
+use Rattle.store_state.specs.Inner.Keeping.{Keeping, AreDirectoriesOf, HasItsPages, tried_if_committed}
 use Rattle.store_state.proofs.Lists.{all_push, all_filter, all_more, passes_filter, passes_push}
 
 -- a pin makes no commit
@@ -28,11 +27,11 @@ not_yet : (a b n : Bool) → a ≡ true → (not (not a && b) || n) ≡ true
 not_yet true b n e = refl
 not_yet false b n e = absurd (both_not false refl e)
 
-tried_pin : (session : ℕ) (h : History) (notes : List Note) → list_all (is_tried h notes) (open_pins h) ≡ true → list_all (is_tried (Pin session ∷ h) notes) (open_pins (Pin session ∷ h)) ≡ true
+tried_pin : (session : ℕ) (h : History) (notes : List Note) → list_all (tried_if_committed h notes) (open_pins h) ≡ true → list_all (tried_if_committed (Pin session ∷ h) notes) (open_pins (Pin session ∷ h)) ≡ true
 tried_pin session h notes all =
-    passes_push (is_tried (Pin session ∷ h) notes) (open_pins h) (record { session = session; before = h })
-    (all_more (is_tried h notes) (is_tried (Pin session ∷ h) notes) (λ pin. less_committed (nat_eq session pin.session) (has_committed pin.session h) (has_note Tried notes pin)) (open_pins h) all)
-    (not_yet (nat_eq session session) (has_committed session h) (has_note Tried notes (record { session = session; before = h })) (eq-eqb session session refl))
+    passes_push (tried_if_committed (Pin session ∷ h) notes) (open_pins h) (record { session = session; before = h })
+    (all_more (tried_if_committed h notes) (tried_if_committed (Pin session ∷ h) notes) (λ pin. less_committed (nat_eq session pin.session) (has_committed pin.session h) (has_note is_tried notes pin)) (open_pins h) all)
+    (not_yet (nat_eq session session) (has_committed session h) (has_note is_tried notes (record { session = session; before = h })) (eq-eqb session session refl))
 
 module _ {D : Type 0} (moment : D → Moment) (s : Standing D) (k : Keeping) (h : History) (given : Directories) (x : IsKept moment s k h given) where
   pub kept_pin : (session : ℕ) → IsTrue (not (is_pinned session h)) → IsKept moment s k (Pin session ∷ h) given
@@ -81,7 +80,7 @@ module _ {D : Type 0} (moment : D → Moment) (s : Standing D) (k : Keeping) (h 
     doubt = x.doubt;
     acked = x.acked;
     made = x.made;
-    tried = passes_filter (is_tried h s.ledger.notes) (λ pin. not (nat_eq pin.session session)) (open_pins h) x.tried;
+    tried = passes_filter (tried_if_committed h s.ledger.notes) (λ pin. not (nat_eq pin.session session)) (open_pins h) x.tried;
     noted = x.noted;
   }
 

@@ -1,4 +1,5 @@
 pub mod AtOn
+pub mod Attempts
 pub mod CellsOn
 pub mod Decodes
 pub mod Finds

@@ -105,7 +105,7 @@ image_is = record {
   stands = file_stands;
 }
 
-stood : HaveStood (worked_moment tt) database [] 0 0
+stood : HaveStood (worked_moment tt) database [] [] 0 0
 stood = record {
   gone = omega arith;
   made = omega arith;
@@ -115,7 +115,7 @@ stood = record {
     part = refl;
     enough = omega arith;
     more = None;
-    sound = tt;
+    tried = tt;
     stands = subst (λ (c : List ℕ). Stands c database) (sym same) file_stands;
   };
 }

@@ -26,7 +26,7 @@ use Rattle.event_core.specs.Legal.{IsLegal}
 use Rattle.next_files.specs.Premises.{StandsBy, slots_of, slots_with}
 use Rattle.found_rows.specs.Rows.{directories_in, pages_in, pages_of_rows}
 use Rattle.store_versions.specs.Versions.{Directories, versions_at}
-use Rattle.store_state.specs.Standings.{Standing, base_of, current_slots, IsSound, StandsFor, HaveStood}
+use Rattle.store_state.specs.Standings.{Standing, base_of, current_slots, HaveStood, IsAttempt, StandsFor}
 use Rattle.store_state.specs.Inner.Keeping.{Keeping, LieIn, pages_of_catalogue}
 
 -- What is found from the current root on: the catalogue that is kept, the directories of the versions that can be named, and pages that are
@@ -79,13 +79,13 @@ pub record HoldsCells {D : Type 0} (moment : D → Moment) (s : Standing D) (k :
   pub legal : IsLegal (cost_from (base_of s).records) db s.ledger.base h
   pub database : IsDatabase (at db h)
   pub pinned : AllByRecursion (λ pin. IsDatabase (at db pin.before)) (open_pins h)
-  pub doubt : IfSome s.doubt (IsSound (at db h))
+  pub doubt : IfSome s.doubt (IsAttempt db s.ledger.notes h)
   pub bytes : List ℕ
   pub known : IsKnown k.slots bytes (moment s.disk)
   pub found : Found
   pub is_found : IsFound s.ledger.base given h k.catalog k.slots.current.root.log found
   pub images : (image : List ℕ) → (moment s.disk).may_leave image → IsImage s.ledger.base given db h k.slots s.doubt found image
   -- what a crash since the opening might have left
-  pub past : HaveStood (moment s.disk) db h 0 (moment s.opened.disk).state.moment
+  pub past : HaveStood (moment s.disk) db s.ledger.notes h 0 (moment s.opened.disk).state.moment
   -- since a commit was acknowledged no image is of a shorter history
-  pub acked : AllZip (λ place since. HaveStood (moment s.disk) db h (place + 1) since) places s.acked
+  pub acked : AllZip (λ place since. HaveStood (moment s.disk) db s.ledger.notes h (place + 1) since) places s.acked

@@ -1,5 +1,5 @@
 -- A store as contracts see it, and the databases that an image of its disk may stand for.
-use Rattle.std.specs.Prelude.{◌≡◌, ℕ, ◌+◌, ◌≤◌, ◌⊎◌, nat_eq, if◌then◌else◌, List, [], ◌∷◌, ◌++◌, length, Option, Some, None, IfSome, IsTrue}
+use Rattle.std.specs.Prelude.{◌≡◌, ℕ, ◌+◌, ◌≤◌, ◌⊎◌, nat_eq, if◌then◌else◌, List, [], ◌∷◌, ◌++◌, length, Contains, Option, Some, None, IfSome, IsTrue}
 use Rattle.afl_outside.specs.Disk.{DiskState, Moment}
 use Rattle.page_layout.specs.declared.sides.Format.{Format}
 use Rattle.page_layout.specs.declared.sides.Format.TheVariants.{One, Two}
@@ -15,11 +15,11 @@ use Rattle.chunk_map.specs.declared.directory.Directory.{Directory}
 use Rattle.event_core.specs.declared.entry.Entry.{Entry}
 use Rattle.event_core.specs.declared.entry.Entry.TheVariants.{Pin, Unpin, Commit, Reap}
 use Rattle.event_core.specs.declared.state.Core.{Core}
-use Rattle.event_core.specs.Bases.{Base}
+use Rattle.event_core.specs.Bases.{Base, commits}
 use Rattle.event_core.specs.Cells.{at}
 use Rattle.event_core.specs.History.{History}
 use Rattle.store_ledger.specs.declared.note.Note.{Note}
-use Rattle.store_ledger.specs.Ledger.{LedgerState, history, with_entries as more_entries, with_notes as more_notes}
+use Rattle.store_ledger.specs.Ledger.{LedgerState, attempt, history, with_entries as more_entries, with_notes as more_notes}
 use Rattle.store_versions.specs.Versions.{Directories, MadeVersion, versions_at}
 
 -- A STORE: its disk; the file as it was opened, and the versions that it had; its ledger; the change whose slot may stand open, if one may;
@@ -105,19 +105,36 @@ pub record IsSound (db : Database) (change : Change) : Type 0 where
   pub typed : IsTypedFor (names_of db) change
   pub whole : fault_of_change db change ≡ None
 
+-- a session tried to commit this change when the history had these commits: its note comes behind so many entries that no commit is among
+-- those since
+pub record WasTriedBy (session : ℕ) (notes : List Note) (before : History) (change : Change) : Type 0 where
+  pub since : History
+  pub start : History
+  pub part : before ≡ since ++ start
+  pub noted : Contains notes (record { session = session; kind = attempt change; after = length start })
+  pub still : commits since ≡ 0
+
+abbrev pub WasTried : List Note → History → Change → Type 0
+WasTried notes before change = (session : ℕ) × WasTriedBy session notes before change
+
+-- an attempt of a change: it was tried, and it may be made of the database
+pub record IsAttempt (db : Database) (notes : List Note) (before : History) (change : Change) : Type 0 where
+  pub sound : IsSound (at db before) change
+  pub tried : WasTried notes before change
+
 -- AN IMAGE OF ANY MOMENT stands for the database after some beginning of the history, which has so many entries at least, or for that
--- after one more change, which that database allows
-pub record StoodFor (db : Database) (least : ℕ) (h : History) (image : List ℕ) : Type 0 where
+-- after one more change, which a session tried to commit there
+pub record StoodFor (db : Database) (notes : List Note) (least : ℕ) (h : History) (image : List ℕ) : Type 0 where
   pub later : History
   pub before : History
   pub part : h ≡ later ++ before
   pub enough : least ≤ length before
   pub more : Option Change
-  pub sound : IfSome more (IsSound (at db before))
+  pub tried : IfSome more (IsAttempt db notes before)
   pub stands : StandsFor (at db before) more image
 
 -- so does each image that a crash might have left since some moment
-pub record HaveStood (now : Moment) (db : Database) (h : History) (least since : ℕ) : Type 0 where
+pub record HaveStood (now : Moment) (db : Database) (notes : List Note) (h : History) (least since : ℕ) : Type 0 where
   pub gone : since ≤ now.state.moment
   pub made : least ≤ length h
-  pub images : (image : List ℕ) → now.left_since since image → StoodFor db least h image
+  pub images : (image : List ℕ) → now.left_since since image → StoodFor db notes least h image

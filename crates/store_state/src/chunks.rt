@@ -78,6 +78,7 @@ fn read_at<D: Disk>(
         (payload_at (standing D.moment parts.old) place leaf.now at.now)) }
     ensures notes { NotesFault (D.moment parts.old.file.disk).state (D.moment parts.new.file.disk).state session parts.old.ledger parts.new.ledger }
     ensures same { standing D.moment parts.new ≡ record (standing D.moment parts.old) { disk = parts.new.file.disk; ledger = parts.new.ledger } }
+    ensures kept { keeping parts.new ≡ keeping parts.old }
     ensures reads { OnlyReads (D.moment parts.old.file.disk) (D.moment parts.new.file.disk) }
 {
     let before = parts.file.faults();
@@ -110,6 +111,7 @@ pub fn read_chunk<D: Disk>(
         (payload_at (standing D.moment parts.old) pinned.now.place leaf.now at.now)) }
     ensures notes { NotesFault (D.moment parts.old.file.disk).state (D.moment parts.new.file.disk).state pinned.now.session parts.old.ledger parts.new.ledger }
     ensures same { standing D.moment parts.new ≡ record (standing D.moment parts.old) { disk = parts.new.file.disk; ledger = parts.new.ledger } }
+    ensures kept { keeping parts.new ≡ keeping parts.old }
     ensures reads { OnlyReads (D.moment parts.old.file.disk) (D.moment parts.new.file.disk) }
 {
     read_at(alloc, parts, pinned.session, pinned.place, leaf, at)
@@ -136,6 +138,7 @@ pub fn read_now<D: Disk>(
         (payload_at (standing D.moment parts.old) (length parts.old.ledger.entries) leaf.now at.now)) }
     ensures notes { NotesFault (D.moment parts.old.file.disk).state (D.moment parts.new.file.disk).state session parts.old.ledger parts.new.ledger }
     ensures same { standing D.moment parts.new ≡ record (standing D.moment parts.old) { disk = parts.new.file.disk; ledger = parts.new.ledger } }
+    ensures kept { keeping parts.new ≡ keeping parts.old }
     ensures reads { OnlyReads (D.moment parts.old.file.disk) (D.moment parts.new.file.disk) }
 {
     let place = parts.ledger.entries().len() as u64;

@@ -1,10 +1,12 @@
 //! Pins and unpins.
-ghost use Rattle.std.specs.Prelude.{◌≡◌, not, [], ◌∷◌, length, IfOk, IfErr, OnOk, OnErr, IsTrue};
+ghost use Rattle.std.specs.Prelude.{◌≡◌, Bool, false, not, [], ◌∷◌, length, IfOk, IfErr, OnOk, OnErr, IsTrue};
 ghost use Rattle.event_core.specs.declared.entry.Entry.TheVariants.{Pin, Unpin};
 ghost use Rattle.event_core.specs.Allowed.{is_pinned};
 ghost use Rattle.event_core.specs.History.{names_at};
-ghost use Rattle.store_ledger.specs.Ledger.{IsOpenPin, IsRefused, has_room, history};
-ghost use Rattle.store_state.specs.At.{AreParts, standing};
+ghost use Rattle.store_ledger.specs.Ledger.{IsOpenPin, IsRefused, has_room, history, is_noted};
+ghost use Rattle.store_ledger.specs.declared.note.NoteKind.{NoteKind};
+ghost use Rattle.store_versions.specs.Rows.{needed_rows, places_at};
+ghost use Rattle.store_state.specs.At.{AreParts, keeping, standing};
 ghost use Rattle.store_state.specs.Standings.{with_entries};
 
 use crate::StoreParts;
@@ -24,6 +26,8 @@ pub fn pin<D: Disk>(parts: &mut StoreParts<D>, session: u32) -> Result<Pinned, P
       names = names_at parts.old.ledger.base (history parts.old.ledger);
     }) }
     ensures open { IfOk result (λ pinned. IsOpenPin parts.new.ledger pinned) }
+    ensures untried { OnOk result ((kinds : NoteKind → Bool) → is_noted kinds parts.new.ledger session ≡ false) }
+    ensures kept { keeping parts.new ≡ keeping parts.old }
     ensures err { OnErr result (standing D.moment parts.new ≡ standing D.moment parts.old) }
     ensures cause { IfErr result (IsRefused parts.old.ledger) }
 {
@@ -38,6 +42,7 @@ pub fn unpin<D: Disk>(parts: &mut StoreParts<D>, pinned: Pinned)
     requires at { AreParts D.moment parts.old }
     requires open { IsOpenPin parts.old.ledger pinned }
     ensures at { AreParts D.moment parts.new }
+    ensures kept { keeping parts.new ≡ record (keeping parts.old) { rows = needed_rows (places_at (history parts.new.ledger)) parts.old.table.rows } }
     ensures unpinned { standing D.moment parts.new ≡ with_entries (Unpin pinned.session ∷ []) (standing D.moment parts.old) }
 {
     parts.ledger.unpin(pinned);

@@ -7,17 +7,17 @@ use Rattle.afl_outside.specs.Disk.{DiskGoesOn, Moment}
 use Rattle.event_core.specs.History.{History, open_pins}
 use Rattle.store_ledger.specs.declared.note.Note.{Note}
 use Rattle.store_ledger.specs.declared.note.NoteKind.TheVariants.{Fault}
-use Rattle.store_ledger.specs.Ledger.{LedgerState, history, is_noted, note_now, with_notes}
+use Rattle.store_ledger.specs.Ledger.{LedgerState, history, is_noted, note_now, with_notes, is_fault}
 use Rattle.store_versions.specs.Versions.{Directories}
 use Rattle.store_state.specs.Calls.{NotesFault}
 use Rattle.store_state.specs.Standings.{Standing, given_of}
 use Rattle.store_state.specs.Kept.{IsKept}
-use Rattle.store_state.specs.Inner.Keeping.{Keeping, is_tried, AreCounted}
+use Rattle.store_state.specs.Inner.Keeping.{Keeping, tried_if_committed, AreCounted}
 use Rattle.store_state.proofs.AtOn.{counted_later, counted_more, tried_on}
 
 -- with another disk, and other notes
 kept_with : {D : Type 0} (moment : D → Moment) (s : Standing D) (k : Keeping) (h : History) (given : Directories) (disk : D) (notes : List Note) → IsKept moment s k h given →
-    IsTrue (list_all (is_tried h notes) (open_pins h)) → AreCounted (moment s.opened.disk).state.faults (moment disk).state.faults notes →
+    IsTrue (list_all (tried_if_committed h notes) (open_pins h)) → AreCounted (moment s.opened.disk).state.faults (moment disk).state.faults notes →
     IsKept moment (record s { disk = disk; ledger = record (s.ledger) { notes = notes } }) k h given
 kept_with moment s k h given disk notes x tried counted = record {
   in_order = x.in_order;
@@ -55,4 +55,4 @@ module _ {D : Type 0} (moment : D → Moment) (s : Standing D) (k : Keeping) (di
     where
       by_cases : ((moment disk).state.faults < risen (moment s.disk).state.faults) ⊎ (risen (moment s.disk).state.faults ≤ (moment disk).state.faults) → Keeps ledger
       by_cases (inl below) = subst Keeps (sym (notes.still (λ rose. omega (arith, below, rose)))) still
-      by_cases (inr rose) = subst Keeps (sym (notes.rose rose)) (fault_if (is_noted Fault s.ledger session) rose)
+      by_cases (inr rose) = subst Keeps (sym (notes.rose rose)) (fault_if (is_noted is_fault s.ledger session) rose)

@@ -13,9 +13,8 @@ use Rattle.event_core.proofs.Tests.{eq_sym}
 use Rattle.event_laws.specs.Pins.{pins_of}
 use Rattle.event_laws.proofs.Pins.{open_pins_are_these}
 use Rattle.store_ledger.specs.declared.note.Note.{Note}
-use Rattle.store_ledger.specs.declared.note.NoteKind.TheVariants.{Tried}
-use Rattle.store_ledger.specs.Ledger.{has_note, has_under}
-use Rattle.store_state.specs.Inner.Keeping.{is_tried}
+use Rattle.store_ledger.specs.Ledger.{has_note, has_under, is_tried}
+use Rattle.store_state.specs.Inner.Keeping.{tried_if_committed}
 
 -- one test of the items that are chosen, another of the rest
 both_pass : {A : Type 0} (t n p q : A → Bool) → ((x : A) → t x ≡ true → n x ≡ true → q x ≡ true) → ((x : A) → t x ≡ false → p x ≡ true → q x ≡ true) →
@@ -32,17 +31,17 @@ both_pass t n p q those other (x ∷ xs) chosen all =
         and_from (q x) (list_all q xs) (those x is both.0) (more both.1)
     by_test false is was more its = and_from (q x) (list_all q xs) (other x is was) (more its)
 
-noted_all : (session : ℕ) (notes : List Note) (o : Option History) → has_under Tried notes session o ≡ true → list_all (has_note Tried notes) (pins_of session o) ≡ true
+noted_all : (session : ℕ) (notes : List Note) (o : Option History) → has_under is_tried notes session o ≡ true → list_all (has_note is_tried notes) (pins_of session o) ≡ true
 noted_all session notes None is = refl
-noted_all session notes (Some before) is = and_from (has_note Tried notes (record { session = session; before = before })) true is refl
+noted_all session notes (Some before) is = and_from (has_note is_tried notes (record { session = session; before = before })) true is refl
 
 pub tried_commit : (base : Core) (h : History) (notes : List Note) (session : ℕ) (change : Change) (used : Used) → IsTrue (is_allowed base h) →
-    has_under Tried notes session (pin_before session h) ≡ true → list_all (is_tried h notes) (open_pins h) ≡ true →
-    list_all (is_tried (Commit session change used ∷ h) notes) (open_pins h) ≡ true
+    has_under is_tried notes session (pin_before session h) ≡ true → list_all (tried_if_committed h notes) (open_pins h) ≡ true →
+    list_all (tried_if_committed (Commit session change used ∷ h) notes) (open_pins h) ≡ true
 tried_commit base h notes session change used ok noted all =
-    both_pass (λ (pin : OpenPin). nat_eq pin.session session) (has_note Tried notes) (is_tried h notes) (is_tried (Commit session change used ∷ h) notes)
-    (λ pin is has. or_right (not (nat_eq session pin.session || has_committed pin.session h)) (has_note Tried notes pin) has)
-    (λ pin is was. ap (λ (b : Bool). not (b || has_committed pin.session h) || has_note Tried notes pin) (eq_sym session pin.session ∙ is) ∙ was)
+    both_pass (λ (pin : OpenPin). nat_eq pin.session session) (has_note is_tried notes) (tried_if_committed h notes) (tried_if_committed (Commit session change used ∷ h) notes)
+    (λ pin is has. or_right (not (nat_eq session pin.session || has_committed pin.session h)) (has_note is_tried notes pin) has)
+    (λ pin is was. ap (λ (b : Bool). not (b || has_committed pin.session h) || has_note is_tried notes pin) (eq_sym session pin.session ∙ is) ∙ was)
     (open_pins h)
-    (ap (list_all (has_note Tried notes)) (open_pins_are_these base session h ok) ∙ noted_all session notes (pin_before session h) noted)
+    (ap (list_all (has_note is_tried notes)) (open_pins_are_these base session h ok) ∙ noted_all session notes (pin_before session h) noted)
     all

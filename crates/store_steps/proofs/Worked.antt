@@ -1,12 +1,13 @@
 -- The commit that removes the worked store's array is prepared for it.
 use Rattle.std.proofs.Common.{inl, [], ◌∷◌, None, refl, arith}
+use Rattle.std.proofs.lemmas.List.Elements.{Contains-push}
 use Rattle.page_chain.specs.Pages.{page_size, AreDistinct}
 use Rattle.file_items.specs.Spelling.{spell_name}
 use Rattle.version_catalog.specs.Spelling.{spell_record}
 use Rattle.file_laws.proofs.Worked.{file_stands}
 use Rattle.event_core.specs.declared.entry.Entry.TheVariants.{Pin}
 use Rattle.commit_pages.specs.Commits.{record_laid, record_needs}
-use Rattle.store_ledger.specs.Ledger.{history}
+use Rattle.store_ledger.specs.Ledger.{attempt, history}
 use Rattle.store_state.specs.Standings.{given_of}
 use Rattle.store_state.specs.Kept.{IsKept}
 use Rattle.store_state.specs.Worked.{worked_keeping, worked_moment, worked_store}
@@ -71,6 +72,7 @@ comes = record {
   own = record { version = refl; catalogue = refl; none = λ e. refl };
   first = refl;
   noted = refl;
+  tried = record { since = []; start = Pin 7 ∷ []; part = refl; noted = Contains-push [] (record { session = 7; kind = attempt removal; after = 1 }); still = refl };
   room = refl;
   version = tt;
   sequence = omega arith;

@@ -6,19 +6,19 @@ use Rattle.event_core.specs.declared.entry.Entry.TheVariants.{Pin}
 use Rattle.event_core.specs.Replay.{core_at}
 use Rattle.commit_pages.specs.declared.laid.Laid.{Laid}
 use Rattle.commit_pages.specs.Commits.{record_laid}
-use Rattle.store_ledger.specs.declared.note.NoteKind.TheVariants.{Tried}
+use Rattle.store_ledger.specs.Ledger.{attempt}
 use Rattle.store_state.specs.Standings.{Standing}
 use Rattle.store_state.specs.Worked.{worked_base, worked_catalog, worked_directory, worked_store}
 use Rattle.prepared_commits.specs.declared.prepared.Prepared.{Prepared}
 
--- session 7 has a pin, under which a commit was tried
-abbrev pub pinned_store : Standing (Unit {0})
-pinned_store = record worked_store {
-  ledger = record { base = worked_base; limit = 100; entries = Pin 7 ∷ []; notes = record { session = 7; kind = Tried; after = 1 } ∷ [] };
-}
-
 abbrev pub removal : Change
 removal = Remove (codes "A")
+
+-- session 7 has a pin, under which the removal was tried
+abbrev pub pinned_store : Standing (Unit {0})
+pinned_store = record worked_store {
+  ledger = record { base = worked_base; limit = 100; entries = Pin 7 ∷ []; notes = record { session = 7; kind = attempt removal; after = 1 } ∷ [] };
+}
 
 abbrev pub removal_laid : Laid
 removal_laid = record_laid worked_catalog (1 ∷ 2 ∷ []) worked_directory removal None (5 ∷ [])

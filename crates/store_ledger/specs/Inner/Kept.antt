@@ -1,5 +1,5 @@
 -- What a ledger keeps.
-use Rattle.std.specs.Prelude.{◌≡◌, ◌≤◌, ◌+◌, ℕ, if◌then◌else◌, List, length, reverse, IsTrue}
+use Rattle.std.specs.Prelude.{◌≡◌, ◌≤◌, ◌+◌, ℕ, Bool, if◌then◌else◌, List, length, reverse, IsTrue}
 use Rattle.std.specs.List.{sum_by}
 use Rattle.event_core.specs.declared.state.Core.{Core}
 use Rattle.event_core.specs.Allowed.{IsBase, is_allowed}
@@ -8,19 +8,18 @@ use Rattle.event_core.specs.Legal.{has_committed}
 use Rattle.event_core.specs.Replay.{core_at}
 use Rattle.store_ledger.specs.declared.note.Note.{Note}
 use Rattle.store_ledger.specs.declared.note.NoteKind.{NoteKind}
-use Rattle.store_ledger.specs.declared.note.NoteKind.TheVariants.{Fault, Tried}
-use Rattle.store_ledger.specs.Ledger.{AreNoted, has_note, reserved_by}
+use Rattle.store_ledger.specs.Ledger.{AreNoted, has_note, reserved_by, is_tried, is_fault}
 
 -- the entries that may still come under an open pin without memory: its commit, if there was none yet, and its unpin
 abbrev pub entries_to_come : History → OpenPin → ℕ
 entries_to_come h pin = if has_committed pin.session h then 1 else 2
 
--- one note of a kind may come under an open pin, if there was none yet
-abbrev pub note_to_come : NoteKind → List Note → OpenPin → ℕ
-note_to_come kind notes pin = if has_note kind notes pin then 0 else 1
+-- one note of some kinds may come under an open pin, if there was none yet
+abbrev pub note_to_come : (NoteKind → Bool) → List Note → OpenPin → ℕ
+note_to_come kinds notes pin = if has_note kinds notes pin then 0 else 1
 
 abbrev pub notes_to_come : List Note → OpenPin → ℕ
-notes_to_come notes pin = note_to_come Fault notes pin + note_to_come Tried notes pin
+notes_to_come notes pin = note_to_come is_fault notes pin + note_to_come is_tried notes pin
 
 -- there is room for the versions that these commits may make
 abbrev pub HasVersionRoom : History → ℕ → Type 0

@@ -23,8 +23,7 @@ use Rattle.event_core.specs.declared.state.VersionPages.{VersionPages}
 use Rattle.event_core.specs.History.{History, OpenPin}
 use Rattle.event_core.specs.Legal.{has_committed}
 use Rattle.store_ledger.specs.declared.note.Note.{Note}
-use Rattle.store_ledger.specs.declared.note.NoteKind.TheVariants.{Fault, Tried}
-use Rattle.store_ledger.specs.Ledger.{has_note, is_kind}
+use Rattle.store_ledger.specs.Ledger.{has_note, is_tried, is_fault}
 use Rattle.store_versions.specs.declared.row.VersionRow.{VersionRow}
 use Rattle.store_versions.specs.Versions.{MadeVersion}
 
@@ -91,9 +90,9 @@ is_opening slots = is_opening_root slots.other || is_opening_entry slots.next
 -- ---- notes
 
 -- a commit under an open pin was tried under it
-abbrev pub is_tried : History → List Note → OpenPin → Bool
-is_tried h notes pin = not (has_committed pin.session h) || has_note Tried notes pin
+abbrev pub tried_if_committed : History → List Note → OpenPin → Bool
+tried_if_committed h notes pin = not (has_committed pin.session h) || has_note is_tried notes pin
 
 -- so many notes of faults are no more than a count has risen by, or it stands at its last value
 abbrev pub AreCounted : ℕ → ℕ → List Note → Type 0
-AreCounted opened now notes = (opened + length (filter (λ note. is_kind Fault note.kind) notes) ≤ now) ⊎ (2 ^ 64 - 1 ≤ now)
+AreCounted opened now notes = (opened + length (filter (λ note. is_fault note.kind) notes) ≤ now) ⊎ (2 ^ 64 - 1 ≤ now)

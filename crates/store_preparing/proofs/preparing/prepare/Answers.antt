@@ -16,7 +16,7 @@ use Rattle.store_preparing.proofs.preparing.prepare.Goals as goal
 pub prepared_of-requires-clause-at : goal.prepared_of-requires-clause-at
 prepared_of-requires-clause-at g c =
     subst (λ (l : LedgerState). IsAt g.D.Disk.moment (standing g.D.Disk.moment (record c.args.parts.now { ledger = l })) (keeping c.args.parts.now)) (sym c.note_tried.ensures.noted)
-    (at_tried g.D.Disk.moment (standing g.D.Disk.moment c.args.parts.now) (keeping c.args.parts.now) c.args.session c.requires.at)
+    (at_tried g.D.Disk.moment (standing g.D.Disk.moment c.args.parts.now) (keeping c.args.parts.now) c.args.session c.args.change c.requires.at)
 
 pub returns-in-Ok-clause-left : goal.returns-in-Ok-clause-left
 returns-in-Ok-clause-left g c =
@@ -24,7 +24,7 @@ returns-in-Ok-clause-left g c =
     let s = standing g.D.Disk.moment parts in
     let next : c.in-Some.sequence ≡ next_sequence s = c.in-Some.ensures.next.0 ∙ ap (λ (n : ℕ). n + 1) c.requires.at.kept.slots.sequence in
     let spelled : c.in-Ok.written ≡ draft_of (next_sequence s) c.args.changed = c.in-Ok.ensures.spelled ∙ ap (λ (n : ℕ). draft_of n c.args.changed) next in
-    subst (λ (w : Option Written). IsLeft (needs_by parts.file.slots.target parts.catalog (newest_now s c.args.change) c.args.change w) (tried_now c.args.session s) c.prepared_of.result (standing g.D.Disk.moment c.prepared_of.new.parts)) spelled
+    subst (λ (w : Option Written). IsLeft (needs_by parts.file.slots.target parts.catalog (newest_now s c.args.change) c.args.change w) (tried_now c.args.session c.args.change s) c.prepared_of.result (standing g.D.Disk.moment c.prepared_of.new.parts)) spelled
     (subst (λ (l : LedgerState). IsLeft (needs_by parts.file.slots.target parts.catalog (newest_now (standing g.D.Disk.moment (record parts { ledger = l })) c.args.change) c.args.change c.in-Ok.written)
     (standing g.D.Disk.moment (record parts { ledger = l })) c.prepared_of.result (standing g.D.Disk.moment c.prepared_of.new.parts)) c.note_tried.ensures.noted c.prepared_of.ensures.left)
 
@@ -33,7 +33,7 @@ returns-in-Ok-clause-ok g c =
     let parts = c.args.parts.now in
     let moment = g.D.Disk.moment in
     let s = standing moment parts in
-    let t = tried_now c.args.session s in
+    let t = tried_now c.args.session c.args.change s in
     let k = keeping parts in
     let next : c.in-Some.sequence ≡ next_sequence s = c.in-Some.ensures.next.0 ∙ ap (λ (n : ℕ). n + 1) c.requires.at.kept.slots.sequence in
     let one : 1 ≤ c.in-Some.sequence = omega (arith, c.in-Some.ensures.next.0) in
@@ -69,9 +69,9 @@ returns-in-Ok-clause-fits g c =
 pub returns-in-Err-clause-at : goal.returns-in-Err-clause-at
 returns-in-Err-clause-at g c =
     subst (λ (l : LedgerState). IsAt g.D.Disk.moment (standing g.D.Disk.moment (record c.args.parts.now { ledger = l })) (keeping c.args.parts.now)) (sym c.note_tried.ensures.noted)
-    (at_tried g.D.Disk.moment (standing g.D.Disk.moment c.args.parts.now) (keeping c.args.parts.now) c.args.session c.requires.at)
+    (at_tried g.D.Disk.moment (standing g.D.Disk.moment c.args.parts.now) (keeping c.args.parts.now) c.args.session c.args.change c.requires.at)
 
 pub returns-in-None-clause-at : goal.returns-in-None-clause-at
 returns-in-None-clause-at g c =
     subst (λ (l : LedgerState). IsAt g.D.Disk.moment (standing g.D.Disk.moment (record c.args.parts.now { ledger = l })) (keeping c.args.parts.now)) (sym c.note_tried.ensures.noted)
-    (at_tried g.D.Disk.moment (standing g.D.Disk.moment c.args.parts.now) (keeping c.args.parts.now) c.args.session c.requires.at)
+    (at_tried g.D.Disk.moment (standing g.D.Disk.moment c.args.parts.now) (keeping c.args.parts.now) c.args.session c.args.change c.requires.at)

@@ -4,6 +4,7 @@ use Rattle.event_core.specs.History.{History}
 use Rattle.store_ledger.specs.Ledger.{LedgerState, history, with_entries}
 use Rattle.store_ledger.proofs.Keeping.{pinned_of}
 use Rattle.store_ledger.proofs.Pins.{one_more}
+use Rattle.store_versions.specs.declared.row.VersionRow.{VersionRow}
 use Rattle.store_versions.specs.Rows.{needed_rows, places_at}
 use Rattle.store_state.specs.At.{standing, keeping}
 use Rattle.store_state.specs.Standings.{with_entries as more_entries}
@@ -27,3 +28,8 @@ returns-clause-at g c =
     with_ledger moment s (record k { rows = c.forget.new.self.rows }) c.unpin.new.self later c.unpin.ensures
     (with_rows moment (more_entries (Unpin session ∷ []) s) k c.forget.new.self.rows rows same
     (at_unpin moment s k c.requires.at session (pinned_of session (history s.ledger) c.requires.open.before c.requires.open.begun)))
+
+pub returns-clause-kept : goal.returns-clause-kept
+returns-clause-kept g c =
+    let k = keeping c.args.parts.now in
+    ap (λ (rows : List VersionRow). record k { rows = rows }) (c.forget.ensures ∙ ap (λ (places : List ℕ). needed_rows places k.rows) (places_are _ _ c.pins.ensures.pins))
