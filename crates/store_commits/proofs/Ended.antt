@@ -1,5 +1,5 @@
 -- How a commit that was prepared ends: what is added then.
-use Rattle.std.proofs.Common.{◌≡◌, ◌∙◌, ℕ, ◌≤◌, ◌⊎◌, Bool, true, false, if◌then◌else◌, nat_eq, nat_le, nat_lt, ◌<◌, ◌&&◌, ◌||◌, List, [], ◌∷◌, ◌++◌, length, reverse, inl, inr, Some, IsTrue, refl, ap, sym, subst, arith}
+use Rattle.std.proofs.Common.{◌≡◌, ◌∙◌, ℕ, ◌≤◌, ◌⊎◌, Bool, true, false, if◌then◌else◌, nat_eq, nat_le, nat_lt, ◌<◌, ◌&&◌, ◌||◌, List, [], ◌∷◌, ◌++◌, length, inl, inr, Some, refl, ap, sym, subst, arith}
 use Rattle.std.specs.List.{list_any}
 use Rattle.std.proofs.lemmas.Bool.{eq-eqb}
 use Rattle.std.proofs.lemmas.Bool.Decides.{nat_tests}

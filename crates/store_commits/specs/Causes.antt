@@ -1,5 +1,5 @@
 -- What a commit needs, and why a change isn't committed.
-use Rattle.std.specs.Prelude.{◌≡◌, ◌≤◌, ◌<◌, ◌-◌, ◌^◌, ℕ, not, List, length, IsTrue, ⊥}
+use Rattle.std.specs.Prelude.{◌≡◌, ◌≤◌, ◌<◌, ◌-◌, ◌^◌, ℕ, not, List, length, IsTrue}
 use Rattle.std.specs.List.{filter}
 use Rattle.afl_outside.specs.Counts.{Rose}
 use Rattle.afl_outside.specs.Disk.{Moment}
