@@ -29,7 +29,7 @@ use fresh_laws::fresh_changes_stay;
 use plan_changes::Change;
 use std::alloc::Global;
 use std::sync::Wait;
-use store_commits::{CommitFault, commit};
+use store_commits::{CommitFault, commit, give_up};
 use store_ledger::Pinned;
 
 /// What came of a commit that wasn't refused.
@@ -96,8 +96,7 @@ impl<D: Disk> Shared<D> {
                 Err(fault) => Err(fault),
             }
         } else {
-            drop(change);
-            drop(changed);
+            give_up(change, changed);
             Ok(Commit::Stale(turn))
         }
     }

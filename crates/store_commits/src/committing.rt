@@ -57,6 +57,12 @@ pub fn commit<D: Disk>(
     }
 }
 
+/// Lets a change go that isn't committed, with the chunks that it writes.
+pub fn give_up(change: Change, changed: Option<Changed>) {
+    drop(change);
+    drop(changed);
+}
+
 /// Why a commit wasn't prepared, with the number of entries.
 fn refused<D: Disk>(store: &Store<D>, fault: PrepareFault) -> CommitFault
     ensures { result ≡ refused_at (length store.now.ledger.entries) fault }

@@ -4,5 +4,5 @@
 mod committing;
 mod fault;
 
-pub use committing::commit;
+pub use committing::{commit, give_up};
 pub use fault::CommitFault;

@@ -1,5 +1,5 @@
 -- Commits in a turn.
-use Rattle.std.proofs.Common.{◌≡◌, ◌∙◌, ℕ, ◌+◌, Bool, true, false, ◌&&◌, if◌then◌else◌, nat_eq, List, [], ◌∷◌, ◌++◌, length, drop, reverse, inl, inr, Option, None, Some, Result, Ok, Err, IfSome, OnOk, OnErr, IsTrue, refl, ap, sym, subst, append-nil, append_assoc}
+use Rattle.std.proofs.Common.{◌≡◌, ◌∙◌, ℕ, ◌+◌, ◌-◌, ◌^◌, ◌≤◌, ◌<◌, Bool, true, false, ◌&&◌, if◌then◌else◌, nat_eq, List, [], ◌∷◌, ◌++◌, length, drop, reverse, inl, inr, Option, None, Some, Result, Ok, Err, IfErr, IfSome, OnOk, OnErr, IsTrue, refl, ap, sym, subst, append-nil, append_assoc}
 use Rattle.std.specs.List.{list_all}
 use Rattle.std.proofs.lemmas.Bool.{eq-eqb, eqb-true}
 use Rattle.std.proofs.lemmas.List.Folds.{list_all-append}
@@ -19,6 +19,7 @@ use Rattle.event_core.specs.declared.entry.Entry.TheVariants.{Commit, Pin, Reap,
 use Rattle.event_core.specs.declared.entry.Used.{Used}
 use Rattle.event_core.specs.declared.state.Core.{Core}
 use Rattle.event_core.specs.Allowed.{is_pinned}
+use Rattle.event_core.specs.Bases.{sequence_at}
 use Rattle.event_core.specs.Cells.{at}
 use Rattle.event_core.specs.History.{History, names_at, pin_before, up_to}
 use Rattle.event_core.proofs.Tests.{both_not}
@@ -29,18 +30,22 @@ use Rattle.fresh_laws.specs.Fresh.{FreshChangesAreTyped}
 use Rattle.fresh_commits.specs.Laws.{FreshChangesMayBeMade}
 use Rattle.store_ledger.specs.declared.note.NoteKind.TheVariants.{Fault}
 use Rattle.store_ledger.specs.declared.pinned.Pinned.{Pinned}
-use Rattle.store_ledger.specs.Ledger.{LedgerState, IsOpenPin, attempt, history, is_noted, is_tried, note_now}
+use Rattle.store_ledger.specs.Ledger.{LedgerState, IsOpenPin, attempt, history, is_fault, is_noted, is_tried, note_now}
 use Rattle.store_ledger.proofs.Keeping.{pinned_of}
 use Rattle.store_state.specs.declared.event.Event.{Event}
 use Rattle.store_state.specs.declared.event.Event.TheVariants.{Acknowledged, Entered, Noted}
 use Rattle.store_state.specs.declared.parts.StoreParts.{StoreParts}
 use Rattle.store_state.specs.At.{standing}
-use Rattle.store_state.specs.Calls.{database_with}
+use Rattle.store_state.specs.Calls.{database_with, history_at}
 use Rattle.store_state.specs.Events.{events, owner_of}
-use Rattle.store_state.specs.Standings.{BeganAs, Standing}
+use Rattle.store_state.specs.Standings.{BeganAs, Standing, base_of}
 use Rattle.prepared_commits.specs.Prepared.{IsAsked, MayBeMade}
+use Rattle.prepared_parts.specs.Parts.{IsFull}
 use Rattle.array_store.specs.declared.start.Start.{Start}
 use Rattle.array_store.specs.Growth.{tried_events}
+use Rattle.store_commits.specs.declared.fault.CommitFault.{CommitFault}
+use Rattle.store_commits.specs.declared.fault.CommitFault.TheVariants as faults
+use Rattle.store_commits.specs.Causes.{FitsAfter, IsFullNow, IsNeeded, IsUncommitted, unused_after}
 use Rattle.store_commits.specs.Tried.{AddsSealed, AddsTried, IsFaultOrNone}
 use Rattle.snapshot_manager.specs.Commits.{AreOfTry, MakesCommit, MakesHere, TriesCommit, TriesHere, is_fresh_since}
 use Rattle.snapshot_manager.specs.Told.{IsTold, entries_in, ledger_of, told}
@@ -52,11 +57,11 @@ use Rattle.snapshot_manager.proofs.Turning.{before_own, extends_own}
 
 -- ---- where an open pin stands
 
-unsome : History → Option History → History
+abbrev unsome : History → Option History → History
 unsome other None = other
 unsome other (Some h) = h
 
-is_there : Option History → Bool
+abbrev is_there : Option History → Bool
 is_there None = false
 is_there (Some h) = true
 
@@ -223,7 +228,7 @@ module _ {D : Type 0} (session : ℕ) (change : Change) (seen : List Event) (s n
 
 module _ {D : Type 0} (start : Start D) (pinned : Pinned) (change : Change) (session : ℕ) (mine : pinned.session ≡ session) (old found new : List Event)
     (turn : Adds session [] old found) (fresh : is_fresh_since pinned change (ledger_of start found) ≡ true) where
-  pub tries_commit : (commit : List Event) → TriesHere start pinned.session change commit found new → TriesCommit start pinned change commit old new
+  tries_commit : (commit : List Event) → TriesHere start pinned.session change commit found new → TriesCommit start pinned change commit old new
   tries_commit commit h =
       let e : found_before h.own new ≡ found = before_own h.own found new h.grown in record {
         own = h.own;
@@ -236,10 +241,76 @@ module _ {D : Type 0} (start : Start D) (pinned : Pinned) (change : Change) (ses
         tried = subst (λ (es : List Event). AreOfTry start pinned.session change commit es h.own new) (sym e) h.tried;
       }
 
-  pub makes_commit : MakesHere start pinned.session change found new → MakesCommit start pinned change old new
+  makes_commit : MakesHere start pinned.session change found new → MakesCommit start pinned change old new
   makes_commit h = record {
     used = h.used;
     moment = h.moment;
     directory = h.directory;
     tries = tries_commit (Acknowledged (Commit pinned.session change h.used) h.moment h.directory ∷ []) h.tries;
   }
+
+-- the same of the turn's store, whose change was found fresh
+module _ {D : Type 0} (moment : D → Moment) (start : Start D) (session : ℕ) (old seen : List Event) (parts value : StoreParts D)
+    (found : Adds session [] old seen) (same : parts ≡ value) (is : IsTold start seen (standing moment value))
+    (pinned : Pinned) (mine : pinned.session ≡ session) (change : Change) (result : Bool) (told_by : result ≡ is_fresh_since pinned change parts.ledger) (ok : result ≡ true) where
+  is_fresh_found : is_fresh_since pinned change (ledger_of start seen) ≡ true
+  is_fresh_found =
+      ap (is_fresh_since pinned change) (sym (ledger_is moment start session old seen parts value found same is))
+      ∙ sym told_by ∙ ok
+
+  pub turn_tries : (new : List Event) → TriesHere start pinned.session change [] seen new → TriesCommit start pinned change [] old new
+  turn_tries new h = tries_commit start pinned change session mine old seen new found is_fresh_found [] h
+
+  pub turn_makes : (new : List Event) → MakesHere start pinned.session change seen new → MakesCommit start pinned change old new
+  turn_makes new h = makes_commit start pinned change session mine old seen new found is_fresh_found h
+
+-- ---- what is told of the store at the end is told of what the seat has then seen
+
+module _ {D : Type 0} (moment : D → Moment) (start : Start D) (change : Change) (new : List Event) (n : Standing D) (after : IsTold start new n) where
+  pub place_told : (place : ℕ) → place + 1 ≡ length n.ledger.entries → place + 1 ≡ length (entries_in new)
+  place_told place = subst (λ (x : Standing D). place + 1 ≡ length x.ledger.entries) after
+
+  pub typed_told : (place : ℕ) → IsTypedFor (names_at n.ledger.base (history_at n place)) change → IsTypedFor (names_at start.base (history_at (told start new) place)) change
+  typed_told place = subst (λ (x : Standing D). IsTypedFor (names_at x.ledger.base (history_at x place)) change) after
+
+  pub may_told : (changed : Option Changed) (place : ℕ) → ((db : Database) → BeganAs (moment n.opened.disk).state db → MayBeMade (database_with db n place) change changed) →
+      (db : Database) → BeganAs (moment start.opened.disk).state db → MayBeMade (database_with db (told start new) place) change changed
+  may_told changed place = subst (λ (x : Standing D). (db : Database) → BeganAs (moment x.opened.disk).state db → MayBeMade (database_with db x place) change changed) after
+
+  pub next_told : (place : ℕ) → sequence_at (base_of n) (history_at n place) < 2 ^ 64 - 1 → sequence_at (base_of (told start new)) (history_at (told start new) place) < 2 ^ 64 - 1
+  next_told place = subst (λ (x : Standing D). sequence_at (base_of x) (history_at x place) < 2 ^ 64 - 1) after
+
+  needed_told : (h : Standing D → History) (count : ℕ) → IsNeeded moment n (h n) change count → IsNeeded moment (record (told start new) { disk = n.disk; doubt = n.doubt }) (h (record (told start new) { disk = n.disk; doubt = n.doubt })) change count
+  needed_told h count = subst (λ (x : Standing D). IsNeeded moment x (h x) change count) after
+
+  pub fits_told : (place : ℕ) → FitsAfter moment n (history_at n place) change → FitsAfter moment (told start new) (history_at (told start new) place) change
+  fits_told place f = record {
+    count = f.count;
+    needed = needed_told (λ x. history_at x place) f.count f.needed;
+    fits = subst (λ (x : Standing D). f.count ≤ length (unused_after x.ledger.base (history_at x place))) after f.fits;
+  }
+
+  pub cause_told : (session : ℕ) (fault : CommitFault) → IsUncommitted moment session change n fault → IsUncommitted moment session change (told start new) fault
+  cause_told session (faults.SequenceEnd place) why =
+      (subst (λ (x : Standing D). place ≡ length x.ledger.entries) after why.0,
+      subst (λ (x : Standing D). 2 ^ 64 - 1 ≤ sequence_at (base_of x) (history x.ledger)) after why.1)
+  cause_told session (faults.Full most free place) why =
+      (subst (λ (x : Standing D). place ≡ length x.ledger.entries) after why.0,
+      subst (λ (x : Standing D). sequence_at (base_of x) (history x.ledger) < 2 ^ 64 - 1) after why.1,
+      record {
+        count = why.2.count;
+        costs = needed_told (λ x. history x.ledger) why.2.count why.2.costs;
+        full = subst (λ (l : LedgerState). IsFull why.2.count most free l) (ap (λ (x : Standing D). x.ledger) after) why.2.full;
+      })
+  cause_told session (faults.Disk place) why =
+      (subst (λ (x : Standing D). place ≡ length x.ledger.entries) after why.0,
+      subst (λ (x : Standing D). is_noted is_fault x.ledger session ≡ true) after why.1)
+  cause_told session faults.Memory why = tt
+
+pub if_err : {A F : Type 0} (P Q : F → Type 0) (result : Result A F) → ((fault : F) → P fault → Q fault) → IfErr result P → IfErr result Q
+if_err P Q (Ok value) f p = tt
+if_err P Q (Err fault) f p = f fault p
+
+pub on_err : {A F : Type 0} (P Q : Type 0) (result : Result A F) → (P → Q) → OnErr result P → OnErr result Q
+on_err P Q (Ok value) f p = tt
+on_err P Q (Err fault) f p = f p
