@@ -1,5 +1,6 @@
 //! What holds of events, of turns, and of what pins see.
-ghost use Rattle.snapshot_manager.specs.Laws.{NotesOutlast, OthersLeaveNotes, OthersLeavePins, PinsOutlast, PinsSeeTheSame, StoresAreTold, TurnsAddOwn, TurnsFind};
+ghost use Rattle.snapshot_manager.specs.Laws.{NotesOutlast, OthersLeaveNotes, OthersLeavePins, PinsOutlast, PinsSeeTheSame, StoresAreTold};
+ghost use Rattle.snapshot_manager.specs.Laws.{TurnsAddOwn, TurnsFind};
 ghost use Rattle.snapshot_manager.specs.Worked.{IsWorked};
 
 use afl_outside::Disk;
