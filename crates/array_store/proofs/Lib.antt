@@ -2,5 +2,5 @@ pub mod Added
 pub mod Counted
 pub mod FreshChanges
 pub mod Sealed
+pub mod Stands
 pub mod Tried
-pub mod Untried

@@ -1,7 +1,6 @@
 -- What a commit that is sealed, or stops, adds to the events.
 use Rattle.std.proofs.Common.{◌≡◌, ℕ, List, [], ◌∷◌, ◌++◌, length, Result, Ok, Err, IfOk, OnErr, MatchResult, refl, sym, subst, append-nil}
 use Rattle.afl_outside.specs.declared.source.Failed.{Failed}
-use Rattle.afl_outside.specs.Counts.{Rose}
 use Rattle.afl_outside.specs.Disk.{Moment}
 use Rattle.commit_writes.specs.declared.stopped.Stopped.{Stopped}
 use Rattle.store_ledger.specs.Ledger.{LedgerState, with_fault}

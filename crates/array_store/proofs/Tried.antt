@@ -1,12 +1,12 @@
 -- What a commit that is tried adds to the events.
-use Rattle.std.proofs.Common.{◌≡◌, ◌∙◌, ℕ, Bool, true, false, ◌&&◌, if◌then◌else◌, nat_le, List, [], ◌∷◌, ◌++◌, length, Result, Ok, Err, refl, ap, sym, subst, arith, append_assoc}
+use Rattle.std.proofs.Common.{◌≡◌, ◌∙◌, ℕ, Bool, true, false, ◌&&◌, nat_le, List, [], ◌∷◌, ◌++◌, length, Result, Ok, Err, refl, ap, sym, subst, arith, append_assoc}
 use Rattle.std.specs.List.{list_all}
 use Rattle.std.proofs.lemmas.Bool.Decides.{nat_tests}
 use Rattle.std.proofs.lemmas.List.Folds.{list_all-append}
 use Rattle.event_core.specs.declared.entry.Entry.TheVariants.{Reap}
 use Rattle.store_ledger.specs.declared.note.Note.{Note}
-use Rattle.store_ledger.specs.declared.note.NoteKind.TheVariants.{Tried}
-use Rattle.store_ledger.specs.Ledger.{note_now}
+use Rattle.plan_changes.specs.declared.change.Change.{Change}
+use Rattle.store_ledger.specs.Ledger.{attempt, note_now}
 use Rattle.store_state.specs.declared.event.Event.{Event}
 use Rattle.store_state.specs.declared.event.Event.TheVariants.{Entered, Noted}
 use Rattle.store_state.specs.Events.{events}
@@ -42,20 +42,20 @@ note_counted s note at_end counted =
       made = counted.made;
     }
 
-module _ {D : Type 0} (session : ℕ) (s : Standing D) (counted : IsCounted s) where
-  adds_try : (comes : Bool) → AddsEvents (tried_events comes s.ledger session) s (reaped_if comes (tried_now session s))
+module _ {D : Type 0} (session : ℕ) (change : Change) (s : Standing D) (counted : IsCounted s) where
+  adds_try : (comes : Bool) → AddsEvents (tried_events comes s.ledger session change) s (reaped_if comes (tried_now session change s))
   adds_try true =
-      let note : Note = note_now Tried s.ledger session in
-      adds_both (Noted note ∷ []) (Entered Reap ∷ []) s (tried_now session s) (reaped_if true (tried_now session s)) (notes_add_events D s note refl)
-      (entries_add_events D (tried_now session s) Reap (note_counted s note refl counted) refl)
-  adds_try false = notes_add_events D s (note_now Tried s.ledger session) refl
+      let note : Note = note_now (attempt change) s.ledger session in
+      adds_both (Noted note ∷ []) (Entered Reap ∷ []) s (tried_now session change s) (reaped_if true (tried_now session change s)) (notes_add_events D s note refl)
+      (entries_add_events D (tried_now session change s) Reap (note_counted s note refl counted) refl)
+  adds_try false = notes_add_events D s (note_now (attempt change) s.ledger session) refl
 
-  adds_so : (comes : Bool) (new : Standing D) → new ≡ reaped_if comes (tried_now session s) → AddsEvents (tried_events comes s.ledger session) s new
-  adds_so comes new e = subst (AddsEvents (tried_events comes s.ledger session) s) (sym e) (adds_try comes)
+  adds_so : (comes : Bool) (new : Standing D) → new ≡ reaped_if comes (tried_now session change s) → AddsEvents (tried_events comes s.ledger session change) s new
+  adds_so comes new e = subst (AddsEvents (tried_events comes s.ledger session change) s) (sym e) (adds_try comes)
 
-  pub left_adds : {A : Type 0} (needed : ℕ) (result : Result A PrepareFault) (new : Standing D) → IsLeft needed (tried_now session s) result new →
-      (comes : Bool) × AddsEvents (tried_events comes s.ledger session) s new
-  left_adds needed (Ok x) new e = let comes : Bool = is_short needed (tried_now session s).ledger in (comes, adds_so comes new e)
-  left_adds needed (Err SequenceEnd) new e = (false, adds_so false new e)
-  left_adds needed (Err (Full most free)) new e = let comes : Bool = is_short needed (tried_now session s).ledger in (comes, adds_so comes new e)
-  left_adds needed (Err Memory) new e = (e.0, adds_so e.0 new e.1)
+  pub left_adds : {A : Type 0} (needed : ℕ) (result : Result A PrepareFault) (new : Standing D) → IsLeft needed (tried_now session change s) result new →
+      (comes : Bool) × (new ≡ reaped_if comes (tried_now session change s)) × AddsEvents (tried_events comes s.ledger session change) s new
+  left_adds needed (Ok x) new e = let comes : Bool = is_short needed (tried_now session change s).ledger in (comes, e, adds_so comes new e)
+  left_adds needed (Err SequenceEnd) new e = (false, e, adds_so false new e)
+  left_adds needed (Err (Full most free)) new e = let comes : Bool = is_short needed (tried_now session change s).ledger in (comes, e, adds_so comes new e)
+  left_adds needed (Err Memory) new e = let comes : Bool = e.0 && is_short needed (tried_now session change s).ledger in (comes, e.1, adds_so comes new e.1)

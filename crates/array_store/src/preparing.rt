@@ -2,13 +2,12 @@
 ghost use Rattle.std.specs.Prelude.{◌≡◌, Bool, false, IfOk, IsTrue};
 ghost use Rattle.event_core.specs.Allowed.{is_pinned};
 ghost use Rattle.event_core.specs.Bases.{sequence_at};
-ghost use Rattle.store_ledger.specs.declared.note.NoteKind.TheVariants.{Tried};
-ghost use Rattle.store_ledger.specs.Ledger.{history, is_noted};
+ghost use Rattle.store_ledger.specs.Ledger.{history, is_noted, is_tried};
 ghost use Rattle.store_state.specs.At.{keeping, standing};
 ghost use Rattle.store_state.specs.Standings.{base_of};
 ghost use Rattle.prepared_commits.specs.Needs.{needs};
 ghost use Rattle.prepared_commits.specs.Prepared.{IsAsked, IsPreparedFor};
-ghost use Rattle.store_preparing.specs.Left.{FitsIn, HasNext, IsLeft, tried_now};
+ghost use Rattle.store_preparing.specs.Left.{FitsIn, HasNext, IsLeft, reaped_if, tried_now};
 ghost use Rattle.array_store.specs.Growth.{AddsEvents, tried_events};
 
 use crate::Store;
@@ -31,12 +30,14 @@ impl<D: Disk> Store<D> {
         changed: Option<Changed>,
     ) -> Result<Prepared, PrepareFault>
         requires pinned { IsTrue (is_pinned session (history self.old.ledger)) }
-        requires tried { is_noted Tried self.old.ledger session ≡ false }
+        requires tried { is_noted is_tried self.old.ledger session ≡ false }
         requires asked { IsAsked D.moment (standing D.moment self.old) change changed }
-        ensures left { IsLeft (needs (standing D.moment self.old) (keeping self.old) change changed) (tried_now session (standing D.moment self.old))
+        ensures left { IsLeft (needs (standing D.moment self.old) (keeping self.old) change changed) (tried_now session change (standing D.moment self.old))
             result (standing D.moment self.new) }
-        ensures adds { (comes : Bool) × AddsEvents (tried_events comes self.old.ledger session) (standing D.moment self.old) (standing D.moment self.new) }
-        ensures ok { IfOk result (IsPreparedFor D.moment self.new) }
+        ensures adds { (comes : Bool) × (standing D.moment self.new ≡ reaped_if comes (tried_now session change (standing D.moment self.old)))
+            × AddsEvents (tried_events comes self.old.ledger session change) (standing D.moment self.old) (standing D.moment self.new) }
+        ensures ok { IfOk result (IsPreparedFor D.moment self.new changed) }
+        ensures kept { keeping self.new ≡ keeping self.old }
         ensures of { IfOk result (λ p. (p.session ≡ session) × (p.commit.change ≡ change)) }
         ensures fits { FitsIn (needs (standing D.moment self.old) (keeping self.old) change changed) result self.new.ledger }
         ensures end { HasNext (sequence_at (base_of (standing D.moment self.old)) (history self.old.ledger)) result }

@@ -1,9 +1,9 @@
 //! Pins, unpins and reaps of a store.
-ghost use Rattle.std.specs.Prelude.{◌≡◌, false, not, [], ◌∷◌, length, if◌then◌else◌, IfOk, IfErr, OnOk, OnErr, IsTrue};
+ghost use Rattle.std.specs.Prelude.{◌≡◌, Bool, false, not, [], ◌∷◌, length, if◌then◌else◌, IfOk, IfErr, OnOk, OnErr, IsTrue};
 ghost use Rattle.event_core.specs.declared.entry.Entry.TheVariants.{Pin, Reap, Unpin};
 ghost use Rattle.event_core.specs.Allowed.{is_pinned};
 ghost use Rattle.event_core.specs.History.{names_at};
-ghost use Rattle.store_ledger.specs.declared.note.NoteKind.TheVariants.{Tried};
+ghost use Rattle.store_ledger.specs.declared.note.NoteKind.{NoteKind};
 ghost use Rattle.store_ledger.specs.Ledger.{IsOpenPin, IsRefused, has_room, history, is_noted, reap_comes};
 ghost use Rattle.store_state.specs.declared.event.Event.TheVariants.{Entered};
 ghost use Rattle.store_state.specs.At.{standing};
@@ -30,7 +30,7 @@ impl<D: Disk> Store<D> {
           names = names_at self.old.ledger.base (history self.old.ledger);
         }) }
         ensures open { IfOk result (λ pinned. IsOpenPin self.new.ledger pinned) }
-        ensures untried { OnOk result (is_noted Tried self.new.ledger session ≡ false) }
+        ensures untried { OnOk result ((kinds : NoteKind → Bool) → is_noted kinds self.new.ledger session ≡ false) }
         ensures err { OnErr result (standing D.moment self.new ≡ standing D.moment self.old) }
         ensures cause { IfErr result (IsRefused self.old.ledger) }
     {

@@ -1,8 +1,11 @@
 //! The store as one value.
-ghost use Rattle.std.specs.Prelude.{◌≡◌, length};
+ghost use Rattle.std.specs.Prelude.{◌≡◌, ℕ, List, length};
+ghost use Rattle.plan_changes.specs.Databases.{Database};
 ghost use Rattle.plan_changes.specs.Stored.{AreStored};
 ghost use Rattle.event_core.specs.History.{names_at};
 ghost use Rattle.store_ledger.specs.Ledger.{IsLedger, history, unused_pages};
+ghost use Rattle.store_state.specs.At.{standing};
+ghost use Rattle.store_state.specs.Standings.{BeganAs, StandsFor, database_at};
 
 use crate::Start;
 use afl_outside::Disk;
@@ -113,6 +116,9 @@ impl<D: Disk> Store<D> {
     pub fn close(self) -> (D, List<Entry>)
         ensures disk { result.0 ≡ self.file.disk }
         ensures entries { result.1 ≡ self.ledger.entries }
+        ensures stands { (db : Database) → BeganAs (D.moment self.opened.value.disk).state db
+            → (image : List ℕ) → (D.moment self.file.disk).may_leave image
+            → StandsFor (database_at db (standing D.moment self)) self.doubt image }
     {
         let StoreParts {
             file,

@@ -1,4 +1,5 @@
 pub mod InTurn
+pub mod Notes
 pub mod PinReads
 pub mod Seating
 pub mod Sights

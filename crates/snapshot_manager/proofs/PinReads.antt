@@ -22,7 +22,7 @@ use Rattle.event_laws.proofs.Pins.{places_tell_pins}
 use Rattle.store_ledger.specs.declared.note.Note.{Note}
 use Rattle.store_ledger.specs.declared.note.NoteKind.TheVariants.{Fault}
 use Rattle.store_ledger.specs.declared.pinned.Pinned.{Pinned}
-use Rattle.store_ledger.specs.Ledger.{IsOpenPin, LedgerState, has_under, history, is_noted, is_under, note_now}
+use Rattle.store_ledger.specs.Ledger.{IsOpenPin, LedgerState, has_under, history, is_fault, is_noted, is_under, note_now}
 use Rattle.store_state.specs.declared.event.Event.{Event}
 use Rattle.store_state.specs.declared.event.Event.TheVariants.{Noted}
 use Rattle.store_state.specs.declared.fault.ReadFault.{ReadFault}
@@ -103,7 +103,7 @@ fault_is_own false session note e = ap (λ (b : Bool). b && true) (eq-eqb note.s
 
 only_by : (session : ℕ) (ledger : LedgerState) (own : List Event) → (own ≡ []) ⊎ (own ≡ fault_events ledger session) → only_of owner_of session own ≡ true
 only_by session ledger own (inl e) = ap (only_of owner_of session) e
-only_by session ledger own (inr e) = ap (only_of owner_of session) e ∙ fault_is_own (is_noted Fault ledger session) session (note_now Fault ledger session) refl
+only_by session ledger own (inr e) = ap (only_of owner_of session) e ∙ fault_is_own (is_noted is_fault ledger session) session (note_now Fault ledger session) refl
 
 pub some_only : {D : Type 0} (moment : D → Moment) (session : ℕ) (s t : Standing D) (a : AddsSome moment session s t) → only_of owner_of session a.own ≡ true
 some_only moment session s t a = only_by session s.ledger a.own a.note
@@ -123,9 +123,9 @@ lt_test : (n m : ℕ) → n < m → nat_lt n m ≡ true
 lt_test n m e = grind (arith, nat_tests)
 
 module _ {D : Type 0} (start : Start D) (seen : List Event) (session : ℕ) (before : History) (begun : pin_before session (history (ledger_of start seen)) ≡ Some before) where
-  noted_by : (b : Bool) → is_noted Fault (ledger_of start seen) session ≡ b →
-      is_noted Fault (ledger_of start (seen ++ (if b then [] else Noted (note_now Fault (ledger_of start seen) session) ∷ []))) session ≡ true
-  noted_by true e = ap (λ (es : List Event). is_noted Fault (ledger_of start es) session) (append-nil seen) ∙ e
+  noted_by : (b : Bool) → is_noted is_fault (ledger_of start seen) session ≡ b →
+      is_noted is_fault (ledger_of start (seen ++ (if b then [] else Noted (note_now Fault (ledger_of start seen) session) ∷ []))) session ≡ true
+  noted_by true e = ap (λ (es : List Event). is_noted is_fault (ledger_of start es) session) (append-nil seen) ∙ e
   noted_by false e =
       let note : Note = note_now Fault (ledger_of start seen) session in
       let pin : OpenPin = record { session = session; before = before } in
@@ -134,15 +134,15 @@ module _ {D : Type 0} (start : Start D) (seen : List Event) (session : ℕ) (bef
       let late : nat_lt (length before) (length (entries_in seen)) ≡ true = lt_test (length before) (length (entries_in seen)) (omega (arith, tells.within, length-reverse (entries_in seen))) in
       let notes : notes_in (seen ++ Noted note ∷ []) ≡ notes_in seen ++ note ∷ [] = notes_in-append seen (Noted note ∷ []) in
       let entries : entries_in (seen ++ Noted note ∷ []) ≡ entries_in seen = entries_in-append seen (Noted note ∷ []) ∙ append-nil (entries_in seen) in
-      ap (λ (ns : List Note). has_under Fault ns session (pin_before session (reverse (entries_in (seen ++ Noted note ∷ []))))) notes
-      ∙ ap (λ (es : List Entry). has_under Fault (notes_in seen ++ note ∷ []) session (pin_before session (reverse es))) entries
-      ∙ ap (has_under Fault (notes_in seen ++ note ∷ []) session) begun
-      ∙ list_any-append (is_under Fault pin) (notes_in seen) (note ∷ [])
-      ∙ or_second (list_any (is_under Fault pin) (notes_in seen)) (list_any (is_under Fault pin) (note ∷ []))
+      ap (λ (ns : List Note). has_under is_fault ns session (pin_before session (reverse (entries_in (seen ++ Noted note ∷ []))))) notes
+      ∙ ap (λ (es : List Entry). has_under is_fault (notes_in seen ++ note ∷ []) session (pin_before session (reverse es))) entries
+      ∙ ap (has_under is_fault (notes_in seen ++ note ∷ []) session) begun
+      ∙ list_any-append (is_under is_fault pin) (notes_in seen) (note ∷ [])
+      ∙ or_second (list_any (is_under is_fault pin) (notes_in seen)) (list_any (is_under is_fault pin) (note ∷ []))
       (under_now (nat_eq session session) false (nat_lt (length before) (length (entries_in seen))) (eq-eqb session session refl) late)
 
-  pub fault_noted : is_noted Fault (ledger_of start (seen ++ fault_events (ledger_of start seen) session)) session ≡ true
-  fault_noted = noted_by (is_noted Fault (ledger_of start seen) session) refl
+  pub fault_noted : is_noted is_fault (ledger_of start (seen ++ fault_events (ledger_of start seen) session)) session ≡ true
+  fault_noted = noted_by (is_noted is_fault (ledger_of start seen) session) refl
 
 -- ---- why a chunk can't be read
 
@@ -154,7 +154,7 @@ told_cause : {D : Type 0} (start : Start D) (seen new : List Event) (session : �
     pin_before session (history (ledger_of start seen)) ≡ Some before → new ≡ seen ++ own → (Rose old.faults now.faults → own ≡ fault_events (ledger_of start seen) session) → o ≡ other →
     IsUnread old now schema o fault → IsUnreadUnder (ledger_of start new) session other fault
 told_cause start seen new session before own old now schema o other Disk begun e rose same cause =
-    ap (λ (es : List Event). is_noted Fault (ledger_of start es) session) (e ∙ ap (λ (es : List Event). seen ++ es) (rose cause))
+    ap (λ (es : List Event). is_noted is_fault (ledger_of start es) session) (e ∙ ap (λ (es : List Event). seen ++ es) (rose cause))
     ∙ fault_noted start seen session before begun
 told_cause start seen new session before own old now schema o other (Damaged page) begun e rose same cause =
     subst (λ (p : Option DirEntry). IsSomeAnd p (λ entry. page ≡ slice_index entry.pages 0)) same (damaged_by page old now schema o cause)

@@ -6,9 +6,8 @@ use Rattle.plan_changes.specs.declared.change.Change.TheVariants.{Remove}
 use Rattle.file_laws.specs.Inner.Example.{schema}
 use Rattle.event_core.specs.declared.entry.Entry.TheVariants.{Pin, Unpin, Commit}
 use Rattle.event_core.specs.Allowed.{is_pinned}
-use Rattle.store_ledger.specs.declared.note.NoteKind.TheVariants.{Tried}
 use Rattle.store_ledger.specs.declared.pinned.Pinned.{Pinned}
-use Rattle.store_ledger.specs.Ledger.{IsOpenPin, history}
+use Rattle.store_ledger.specs.Ledger.{IsOpenPin, attempt, history, is_noted, is_tried}
 use Rattle.store_state.specs.declared.event.Event.{Event}
 use Rattle.store_state.specs.declared.event.Event.TheVariants.{Entered, Acknowledged, Noted}
 use Rattle.store_state.specs.Calls.{chunks_at}
@@ -38,7 +37,7 @@ worked_pinned = record { session = 0; place = 0; names = worked_base.names }
 abbrev pub worked_others : List Event
 worked_others =
     Entered (Pin 1)
-    ∷ Noted (record { session = 1; kind = Tried; after = 2 })
+    ∷ Noted (record { session = 1; kind = attempt (Remove (codes "A")); after = 2 })
     ∷ Acknowledged (Commit 1 (Remove (codes "A")) (record { version = []; catalogue = 5 ∷ 6 ∷ [] })) 7 (record { entries = [] })
     ∷ Entered (Unpin 1)
     ∷ []
@@ -58,6 +57,8 @@ pub record IsWorked : Type 0 where
   -- the pin is open, also after what the other session did
   pub open_pin : IsOpenPin (ledger_of worked_start worked_seen) worked_pinned
   pub open_later : IsOpenPin (ledger_of worked_start (worked_seen ++ worked_others)) worked_pinned
+  -- under it no commit was tried, as one was under the other session's
+  pub untried : is_noted is_tried (ledger_of worked_start (worked_seen ++ worked_others)) 0 ≡ false
   -- it still sees the chunk, which can't be named now
   pub pinned_chunks : chunks_at (told worked_start (worked_seen ++ worked_others)) 0 worked_leaf ≡ record { items = 0 ∷ [] } ∷ []
   pub chunks_now : chunks_at (told worked_start (worked_seen ++ worked_others)) 4 worked_leaf ≡ []

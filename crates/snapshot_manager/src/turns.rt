@@ -28,7 +28,7 @@ impl<D: Disk> Shared<D> {
     {
         let mut turn = self.lock.enter(rt, &mut seat.turn_seat);
         let store = turn.value();
-        store.is_counted();
+        store.is_at();
         seat.entries = store.history().len() as u64;
         turn
     }
@@ -44,7 +44,7 @@ impl<D: Disk> Shared<D> {
         ensures seen { seen seat.new ≡ events (standing D.moment (store_of turn)) }
     {
         let store = turn.value();
-        store.is_counted();
+        store.is_at();
         seat.entries = store.history().len() as u64;
         self.lock.leave(&mut seat.turn_seat, turn);
     }

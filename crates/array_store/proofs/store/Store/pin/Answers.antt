@@ -1,8 +1,7 @@
-use Rattle.std.proofs.Common.{refl, ap}
+use Rattle.std.proofs.Common.{refl}
 use Rattle.event_core.specs.declared.entry.Entry.TheVariants.{Pin}
 use Rattle.store_state.specs.At.{standing}
 use Rattle.array_store.proofs.Added.{adds_entry, on_ok}
-use Rattle.array_store.proofs.Untried.{untried_now}
 use Rattle.array_store.proofs.store.Store.pin.Goals as goal
 
 pub returns-clause-adds : goal.returns-clause-adds
@@ -11,7 +10,3 @@ returns-clause-adds g c =
     let parts = c.self.inside.parts in
     on_ok _ _ c.pin.result (adds_entry moment parts c.args.self.now c.self.view_is (standing moment c.pin.new.parts) (Pin c.args.session) c.self.invariant c.is_ledger.ensures refl)
     c.pin.ensures.ok
-
-pub returns-clause-untried : goal.returns-clause-untried
-returns-clause-untried g c =
-    on_ok _ _ c.pin.result (λ e. untried_now c.self.inside.parts.ledger c.pin.new.parts.ledger c.args.session c.is_ledger.ensures (ap (λ s. s.ledger) e)) c.pin.ensures.ok

@@ -1,13 +1,12 @@
 use Rattle.std.proofs.Common.{◌≡◌, Bool, false, IsTrue, sym, subst}
 use Rattle.event_core.specs.Allowed.{is_pinned}
 use Rattle.event_core.specs.Bases.{sequence_at}
-use Rattle.store_ledger.specs.declared.note.NoteKind.TheVariants.{Tried}
-use Rattle.store_ledger.specs.Ledger.{history, is_noted}
+use Rattle.store_ledger.specs.Ledger.{history, is_noted, is_tried}
 use Rattle.store_state.specs.At.{keeping, standing}
 use Rattle.store_state.specs.Standings.{base_of}
 use Rattle.prepared_commits.specs.Needs.{needs}
 use Rattle.prepared_commits.specs.Prepared.{IsAsked}
-use Rattle.store_preparing.specs.Left.{FitsIn, HasNext, IsLeft, tried_now}
+use Rattle.store_preparing.specs.Left.{FitsIn, HasNext, IsLeft, reaped_if, tried_now}
 use Rattle.array_store.specs.Growth.{AddsEvents, tried_events}
 use Rattle.array_store.proofs.Added.{is_counted}
 use Rattle.array_store.proofs.Tried.{left_adds}
@@ -20,7 +19,7 @@ prepare-requires g c =
     record {
       at = c.self.invariant;
       pinned = subst (λ parts. IsTrue (is_pinned c.args.session (history parts.ledger))) same c.requires.pinned;
-      tried = subst (λ parts. is_noted Tried parts.ledger c.args.session ≡ false) same c.requires.tried;
+      tried = subst (λ parts. is_noted is_tried parts.ledger c.args.session ≡ false) same c.requires.tried;
       asked = subst (λ parts. IsAsked moment (standing moment parts) c.args.change c.args.changed) same c.requires.asked;
     }
 
@@ -36,10 +35,12 @@ returns g c =
     let changed = c.args.changed in
     let session = c.args.session in
     record {
-      left = subst (λ old. IsLeft (needs (standing moment old) (keeping old) change changed) (tried_now session (standing moment old)) c.prepare.result (standing moment new)) same e.left;
-      adds = subst (λ old. (comes : Bool) × AddsEvents (tried_events comes old.ledger session) (standing moment old) (standing moment new)) same
-          (left_adds session s (is_counted moment parts c.self.invariant c.is_ledger.ensures) (needs s (keeping parts) change changed) c.prepare.result (standing moment new) e.left);
+      left = subst (λ old. IsLeft (needs (standing moment old) (keeping old) change changed) (tried_now session change (standing moment old)) c.prepare.result (standing moment new)) same e.left;
+      adds = subst (λ old. (comes : Bool) × (standing moment new ≡ reaped_if comes (tried_now session change (standing moment old)))
+          × AddsEvents (tried_events comes old.ledger session change) (standing moment old) (standing moment new)) same
+          (left_adds session change s (is_counted moment parts c.self.invariant c.is_ledger.ensures) (needs s (keeping parts) change changed) c.prepare.result (standing moment new) e.left);
       ok = e.ok;
+      kept = subst (λ old. keeping new ≡ keeping old) same e.kept;
       of = e.of;
       fits = subst (λ old. FitsIn (needs (standing moment old) (keeping old) change changed) c.prepare.result new.ledger) same e.fits;
       end = subst (λ old. HasNext (sequence_at (base_of (standing moment old)) (history old.ledger)) c.prepare.result) same e.end;

@@ -6,12 +6,13 @@ use Rattle.array_store.specs.Growth.{AddsFault}
 use Rattle.array_store.specs.Sealing.{AddsCommit}
 use Rattle.array_store.proofs.Added.{is_counted}
 use Rattle.array_store.proofs.Sealed.{seal_adds}
+use Rattle.array_store.proofs.Stands.{seal_stands}
 use Rattle.array_store.proofs.store.Store.seal.Goals as goal
 
 pub seal-requires : goal.seal-requires
 seal-requires g c = record {
   at = c.self.invariant;
-  prepared = subst (λ parts. IsPreparedFor g.D.Disk.moment parts c.args.prepared) (sym c.self.view_is) c.requires;
+  prepared = (c.requires.0, subst (λ parts. IsPreparedFor g.D.Disk.moment parts c.requires.0 c.args.prepared) (sym c.self.view_is) c.requires.1);
 }
 
 pub returns : goal.returns
@@ -25,6 +26,7 @@ returns g c =
       parts = e.at;
       ok = e.ok;
       err = e.err;
+      kept = e.kept;
       noted = e.noted;
       during = e.during;
       durable = e.durable;
@@ -34,4 +36,14 @@ returns g c =
     let adds = subst (λ old. MatchResult c.seal.result (λ _. AddsCommit moment p (standing moment old) (standing moment new))
     (λ _. AddsFault moment p.session (standing moment old) (standing moment new))) c.self.view_is
     (seal_adds moment (standing moment parts) (standing moment new) p (is_counted moment parts c.self.invariant c.is_ledger.ensures) c.seal.result e.ok e.err e.noted) in
-    record { ok = is.ok; err = is.err; noted = is.noted; adds = adds; during = is.during; durable = is.durable; cause = is.cause }
+    record {
+      ok = is.ok;
+      err = is.err;
+      kept = is.kept;
+      noted = is.noted;
+      adds = adds;
+      during = is.during;
+      stands = seal_stands moment c.args.self.now new p c.seal.result e.at is.ok is.err;
+      durable = is.durable;
+      cause = is.cause;
+    }

@@ -1,0 +1,6 @@
+//! Changes that were computed under a pin, and may be committed now.
+#![tactic(auto)]
+
+mod laws;
+
+pub use laws::fresh_changes_may_be_made;
