@@ -120,9 +120,11 @@ module _ {D : Type 0} (moment : D → Moment) (start : Start D) (session : ℕ) 
   pub since : Splits pinned.session (history parts.ledger) o.before
   since =
       let first : Splits pinned.session (history (ledger_of start old)) o.before = pin_splits pinned.session (history (ledger_of start old)) o.before o.begun in
-      let others : History = reverse (entries_in found.others) in
-      (others ++ first.0, ap history now ∙ ap (λ (es : List Event). reverse (entries_in es)) behind ∙ more_history old found.others
-      ∙ ap (λ (h : History). others ++ h) first.1 ∙ sym (append_assoc others first.0 (Pin pinned.session ∷ o.before)))
+      let others : History = reverse (entries_in found.others) in (
+        others ++ first.0,
+        ap history now ∙ ap (λ (es : List Event). reverse (entries_in es)) behind ∙ more_history old found.others
+            ∙ ap (λ (h : History). others ++ h) first.1 ∙ sym (append_assoc others first.0 (Pin pinned.session ∷ o.before)),
+      )
 
   began_then : (db : Database) → BeganAs (moment parts.opened.value.disk).state db → BeganAs (moment start.opened.disk).state db
   began_then db = subst (λ (f : OpenFile D). BeganAs (moment f.disk).state db) (ap (λ (s : Standing D). s.opened) (is_now moment start session old seen parts value found same is))
@@ -137,7 +139,7 @@ module _ {D : Type 0} (moment : D → Moment) (start : Start D) (session : ℕ) 
       ComesWith change changed → IfSome changed AreValid →
       ((db : Database) → BeganAs (moment start.opened.disk).state db → MayBeMade (database_with db (told start old) pinned.place) change changed) →
       ((later before : History) → history parts.ledger ≡ later ++ Pin pinned.session ∷ before → length before ≡ pinned.place →
-          IsFresh parts.ledger.base later (Pin pinned.session ∷ before) change) →
+      IsFresh parts.ledger.base later (Pin pinned.session ∷ before) change) →
       IsAsked moment (standing moment parts) change changed
   asked_in_turn are_typed may_be change changed named typed comes valid may fresh =
       let base : Core = parts.ledger.base in
@@ -291,20 +293,23 @@ module _ {D : Type 0} (moment : D → Moment) (start : Start D) (change : Change
   }
 
   pub cause_told : (session : ℕ) (fault : CommitFault) → IsUncommitted moment session change n fault → IsUncommitted moment session change (told start new) fault
-  cause_told session (faults.SequenceEnd place) why =
-      (subst (λ (x : Standing D). place ≡ length x.ledger.entries) after why.0,
-      subst (λ (x : Standing D). 2 ^ 64 - 1 ≤ sequence_at (base_of x) (history x.ledger)) after why.1)
-  cause_told session (faults.Full most free place) why =
-      (subst (λ (x : Standing D). place ≡ length x.ledger.entries) after why.0,
-      subst (λ (x : Standing D). sequence_at (base_of x) (history x.ledger) < 2 ^ 64 - 1) after why.1,
-      record {
-        count = why.2.count;
-        costs = needed_told (λ x. history x.ledger) why.2.count why.2.costs;
-        full = subst (λ (l : LedgerState). IsFull why.2.count most free l) (ap (λ (x : Standing D). x.ledger) after) why.2.full;
-      })
-  cause_told session (faults.Disk place) why =
-      (subst (λ (x : Standing D). place ≡ length x.ledger.entries) after why.0,
-      subst (λ (x : Standing D). is_noted is_fault x.ledger session ≡ true) after why.1)
+  cause_told session (faults.SequenceEnd place) why = (
+    subst (λ (x : Standing D). place ≡ length x.ledger.entries) after why.0,
+    subst (λ (x : Standing D). 2 ^ 64 - 1 ≤ sequence_at (base_of x) (history x.ledger)) after why.1,
+  )
+  cause_told session (faults.Full most free place) why = (
+    subst (λ (x : Standing D). place ≡ length x.ledger.entries) after why.0,
+    subst (λ (x : Standing D). sequence_at (base_of x) (history x.ledger) < 2 ^ 64 - 1) after why.1,
+    record {
+      count = why.2.count;
+      costs = needed_told (λ x. history x.ledger) why.2.count why.2.costs;
+      full = subst (λ (l : LedgerState). IsFull why.2.count most free l) (ap (λ (x : Standing D). x.ledger) after) why.2.full;
+    },
+  )
+  cause_told session (faults.Disk place) why = (
+    subst (λ (x : Standing D). place ≡ length x.ledger.entries) after why.0,
+    subst (λ (x : Standing D). is_noted is_fault x.ledger session ≡ true) after why.1,
+  )
   cause_told session faults.Memory why = tt
 
 pub if_err : {A F : Type 0} (P Q : F → Type 0) (result : Result A F) → ((fault : F) → P fault → Q fault) → IfErr result P → IfErr result Q

@@ -251,9 +251,11 @@ module _ {D : Type 0} (moment : D → Moment) (session : ℕ) (change : Change) 
       IsStoppedSince (moment t.disk).state.faults (moment n.disk).state.faults (length n.ledger.entries) fault → IsUncommitted moment session change n fault
   stopped_by pinned noted (faults.SequenceEnd place) why = absurd why
   stopped_by pinned noted (faults.Full most free place) why = absurd why
-  stopped_by pinned noted (faults.Disk place) why =
-      (why.0, fault_seen (moment t.disk).state (moment n.disk).state session t.ledger n.ledger pinned
-      (subst (λ (k : ℕ). NotesFault (moment t.disk).state (moment n.disk).state k t.ledger n.ledger) mine noted) why.1)
+  stopped_by pinned noted (faults.Disk place) why = (
+    why.0,
+    fault_seen (moment t.disk).state (moment n.disk).state session t.ledger n.ledger pinned
+        (subst (λ (k : ℕ). NotesFault (moment t.disk).state (moment n.disk).state k t.ledger n.ledger) mine noted) why.1,
+  )
   stopped_by pinned noted faults.Memory why = tt
 
   pub stopped_causes : {A : Type 0} (result : Result A CommitFault) → is_pinned session (history s.ledger) ≡ true → Noted result →

@@ -4,7 +4,9 @@
 #[derive(Debug, Clone, Copy)]
 pub enum CommitFault {
     /// The database has the last sequence number that there is.
-    SequenceEnd { place: u64 },
+    SequenceEnd {
+        place: u64,
+    },
     /// The commit takes more pages than nobody can name.
     Full {
         /// How many pages it takes, or 2^32 - 1 where it takes more.
@@ -14,6 +16,8 @@ pub enum CommitFault {
         place: u64,
     },
     /// The disk failed.
-    Disk { place: u64 },
+    Disk {
+        place: u64,
+    },
     Memory,
 }
