@@ -1,6 +1,5 @@
 -- Commits in a turn.
-use Rattle.std.proofs.Common.{◌≡◌, ◌∙◌, ℕ, ◌+◌, ◌-◌, ◌^◌, ◌≤◌, ◌<◌, Bool, true, false, ◌&&◌, if◌then◌else◌, nat_eq, List, [], ◌∷◌, ◌++◌, length, drop, reverse, inl, inr, Option, None, Some, Result, Ok, Err, IfErr, IfSome, OnOk, OnErr, IsTrue, refl, ap, sym, subst, append-nil, append_assoc}
-use Rattle.std.specs.List.{list_all}
+use Rattle.std.proofs.Common.{◌≡◌, ◌∙◌, ℕ, ◌+◌, ◌-◌, ◌^◌, ◌≤◌, ◌<◌, Bool, true, false, ◌&&◌, if◌then◌else◌, nat_eq, List, [], ◌∷◌, ◌++◌, length, reverse, inl, inr, Option, None, Some, Result, Ok, Err, IfErr, IfSome, OnOk, OnErr, refl, ap, sym, subst, append-nil, append_assoc}
 use Rattle.std.proofs.lemmas.Bool.{eq-eqb, eqb-true}
 use Rattle.std.proofs.lemmas.List.Folds.{list_all-append}
 use Rattle.afl_outside.specs.Disk.{Moment}
@@ -28,12 +27,11 @@ use Rattle.event_laws.proofs.Pins.{places_tell_pins}
 use Rattle.fresh_changes.specs.Fresh.{IsFresh}
 use Rattle.fresh_laws.specs.Fresh.{FreshChangesAreTyped}
 use Rattle.fresh_commits.specs.Laws.{FreshChangesMayBeMade}
-use Rattle.store_ledger.specs.declared.note.NoteKind.TheVariants.{Fault}
 use Rattle.store_ledger.specs.declared.pinned.Pinned.{Pinned}
-use Rattle.store_ledger.specs.Ledger.{LedgerState, IsOpenPin, attempt, history, is_fault, is_noted, is_tried, note_now}
+use Rattle.store_ledger.specs.Ledger.{LedgerState, IsOpenPin, history, is_fault, is_noted, is_tried}
 use Rattle.store_ledger.proofs.Keeping.{pinned_of}
 use Rattle.store_state.specs.declared.event.Event.{Event}
-use Rattle.store_state.specs.declared.event.Event.TheVariants.{Acknowledged, Entered, Noted}
+use Rattle.store_state.specs.declared.event.Event.TheVariants.{Acknowledged, Entered}
 use Rattle.store_state.specs.declared.parts.StoreParts.{StoreParts}
 use Rattle.store_state.specs.At.{standing}
 use Rattle.store_state.specs.Calls.{database_with, history_at}
@@ -45,7 +43,7 @@ use Rattle.array_store.specs.declared.start.Start.{Start}
 use Rattle.array_store.specs.Growth.{tried_events}
 use Rattle.store_commits.specs.declared.fault.CommitFault.{CommitFault}
 use Rattle.store_commits.specs.declared.fault.CommitFault.TheVariants as faults
-use Rattle.store_commits.specs.Causes.{FitsAfter, IsFullNow, IsNeeded, IsUncommitted, unused_after}
+use Rattle.store_commits.specs.Causes.{FitsAfter, IsNeeded, IsUncommitted, unused_after}
 use Rattle.store_commits.specs.Tried.{AddsSealed, AddsTried, IsFaultOrNone}
 use Rattle.snapshot_manager.specs.Commits.{AreOfTry, MakesCommit, MakesHere, TriesCommit, TriesHere, is_fresh_since}
 use Rattle.snapshot_manager.specs.Told.{IsTold, entries_in, ledger_of, told}

@@ -1,5 +1,5 @@
 //! Commits of a store that is shared.
-ghost use Rattle.std.specs.Prelude.{◌≡◌, ◌+◌, ◌-◌, ◌^◌, ◌<◌, Option, [], false, length, IfErr, IfOk, IfSome, OnErr, OnOk, IsTrue};
+ghost use Rattle.std.specs.Prelude.{◌≡◌, ◌+◌, ◌-◌, ◌^◌, ◌<◌, [], false, length, IfErr, IfOk, IfSome, OnErr, OnOk, IsTrue};
 ghost use Rattle.commit_pages.specs.Changes.{AreValid, ComesWith};
 ghost use Rattle.plan_changes.specs.Databases.{Database};
 ghost use Rattle.plan_changes.specs.Stored.{HasItsNames};
