@@ -1,5 +1,5 @@
 -- One call in a turn: the store that is in hand, and what its seat has seen before and after.
-use Rattle.std.proofs.Common.{◌≡◌, ◌∙◌, ℕ, ◌⊎◌, Bool, true, not, ◌&&◌, List, [], ◌∷◌, ◌++◌, length, reverse, Result, Ok, Err, IfOk, IfErr, OnOk, OnErr, IsTrue, refl, ap, sym, subst, append-nil}
+use Rattle.std.proofs.Common.{◌≡◌, ◌∙◌, ℕ, ◌⊎◌, Bool, true, false, not, ◌&&◌, List, [], ◌∷◌, ◌++◌, length, reverse, Result, Ok, Err, IfOk, IfErr, OnOk, OnErr, IsTrue, refl, ap, sym, subst, append-nil}
 use Rattle.std.specs.List.{list_all}
 use Rattle.std.proofs.lemmas.Bool.{eq-eqb}
 use Rattle.arrayvec.specs.ArrayVec.{ArrayVec}
@@ -13,9 +13,10 @@ use Rattle.event_core.specs.declared.entry.Entry.TheVariants.{Pin, Unpin}
 use Rattle.event_core.specs.Allowed.{is_pinned}
 use Rattle.event_core.specs.Cells.{at}
 use Rattle.event_core.specs.History.{names_at, pin_before}
+use Rattle.store_ledger.specs.declared.note.NoteKind.{NoteKind}
 use Rattle.store_ledger.specs.declared.pinned.Pinned.{Pinned}
 use Rattle.store_ledger.specs.declared.pinned.PinFault.{PinFault}
-use Rattle.store_ledger.specs.Ledger.{IsLedger, IsOpenPin, LedgerState, has_room, history, reap_comes}
+use Rattle.store_ledger.specs.Ledger.{IsLedger, IsOpenPin, LedgerState, has_room, history, is_noted, reap_comes, with_entries as more_entries}
 use Rattle.store_state.specs.declared.event.Event.{Event}
 use Rattle.store_state.specs.declared.event.Event.TheVariants.{Entered}
 use Rattle.store_state.specs.declared.fault.ReadFault.{ReadFault}
@@ -23,17 +24,17 @@ use Rattle.store_state.specs.declared.parts.StoreParts.{StoreParts}
 use Rattle.store_state.specs.At.{standing}
 use Rattle.store_state.specs.Calls.{IsUnread, chunks_at, history_at, payload_at}
 use Rattle.store_state.specs.Events.{events, owner_of}
-use Rattle.store_state.specs.Standings.{BeganAs, Standing}
+use Rattle.store_state.specs.Standings.{BeganAs, Standing, with_entries}
 use Rattle.array_store.specs.declared.start.Start.{Start}
 use Rattle.array_store.specs.Growth.{AddsEvents, AddsFault, IsCounted, fault_events}
 use Rattle.array_store.specs.Starts.{start_of}
 use Rattle.snapshot_manager.specs.Faults.{IsUnreadUnder}
 use Rattle.snapshot_manager.specs.Laws.{IsToldWhole}
-use Rattle.snapshot_manager.specs.Told.{IsTold, entries_in, is_sealed, ledger_of, told}
+use Rattle.snapshot_manager.specs.Told.{IsTold, entries_in, is_sealed, ledger_of, told, notes_in}
 use Rattle.snapshot_manager.specs.Turns.{Adds, AddsAtMostNote, found_before, pin_event, reap_events, leaves_pin_of}
 use Rattle.snapshot_manager.proofs.PinReads.{AddsSome, adds_some, began_now, chunks_now, open_now, over_pin, payload_now, some_leaves, some_only, told_causes}
 use Rattle.snapshot_manager.proofs.Sights.{none_later, none_unpinned, open_later, same_pinned}
-use Rattle.snapshot_manager.proofs.Telling.{entries_are, stores_are_told}
+use Rattle.snapshot_manager.proofs.Telling.{entries_are, stores_are_told, entries_in-append, notes_in-append}
 use Rattle.snapshot_manager.proofs.Turning.{adds_own, before_own, done_adds, done_events, done_only, extends_own}
 
 -- ---- a turn that begins or ends
@@ -92,16 +93,16 @@ own_unpin n session e = ap (λ (b : Bool). b && true) (eq-eqb n session e)
 
 module _ {D : Type 0} (moment : D → Moment) (start : Start D) (session : ℕ) (old seen : List Event) (parts value : StoreParts D)
     (found : Adds session [] old seen) (same : parts ≡ value) (is : IsTold start seen (standing moment value)) where
-  seen_is : seen ≡ old ++ found.others
+  pub seen_is : seen ≡ old ++ found.others
   seen_is = found.grown ∙ append-nil (old ++ found.others)
 
-  is_now : IsTold start seen (standing moment parts)
+  pub is_now : IsTold start seen (standing moment parts)
   is_now = subst (λ (p : StoreParts D). IsTold start seen (standing moment p)) (sym same) is
 
   is_behind : IsTold start (old ++ found.others) (standing moment parts)
   is_behind = subst (λ (es : List Event). IsTold start es (standing moment parts)) seen_is is_now
 
-  ledger_is : parts.ledger ≡ ledger_of start seen
+  pub ledger_is : parts.ledger ≡ ledger_of start seen
   ledger_is = ap (λ (s : Standing D). s.ledger) is_now
 
   -- the session still has no pin
@@ -167,6 +168,29 @@ module _ {D : Type 0} (moment : D → Moment) (start : Start D) (session : ℕ) 
           o)
           opened adds
 
+      pin_told : ledger_of start (seen ++ Entered (Pin n) ∷ []) ≡ more_entries (Pin n ∷ []) (ledger_of start seen)
+      pin_told = λ i. record {
+        base = start.base;
+        limit = start.limit;
+        entries = entries_in-append seen (Entered (Pin n) ∷ []) i;
+        notes = (notes_in-append seen (Entered (Pin n) ∷ []) ∙ append-nil (notes_in seen)) i;
+      }
+
+      pin_ledger : standing moment next ≡ with_entries (Pin n ∷ []) (standing moment parts) → AddsEvents (Entered (Pin n) ∷ []) (standing moment parts) (standing moment next) →
+          ledger_of start new ≡ next.ledger
+      pin_ledger e a =
+          ap (ledger_of start) (seen_new ∙ a.grown ∙ ap (λ (es : List Event). es ++ Entered (Pin n) ∷ []) events_now)
+          ∙ pin_told
+          ∙ ap (more_entries (Pin n ∷ [])) (sym ledger_is)
+          ∙ sym (ap (λ (s : Standing D). s.ledger) e)
+
+      pub pin_untried : OnOk result (standing moment next ≡ with_entries (Pin n ∷ []) (standing moment parts)) → OnOk result ((kinds : NoteKind → Bool) → is_noted kinds next.ledger n ≡ false) →
+          OnOk result ((kinds : NoteKind → Bool) → is_noted kinds (ledger_of start new) session ≡ false)
+      pin_untried ok none =
+          on_both result _ _ _
+          (λ l u kinds. ap (λ (k : ℕ). is_noted kinds (ledger_of start new) k) (sym mine) ∙ ap (λ (ledger : LedgerState). is_noted kinds ledger n) l ∙ u kinds)
+          (on_both result _ _ (ledger_of start new ≡ next.ledger) pin_ledger ok adds) none
+
       -- where it was refused there is none still
       pub pin_none : (m : ℕ) → m ≡ session → OnErr result (standing moment next ≡ standing moment parts) → IsTrue (not (is_pinned session (history (ledger_of start old)))) →
           OnErr result (IsTrue (not (is_pinned m (reverse (entries_in new)))))
@@ -194,7 +218,7 @@ module _ {D : Type 0} (moment : D → Moment) (start : Start D) (session : ℕ) 
 
   -- what an open pin sees
   module _ (pinned : Pinned) (mine : pinned.session ≡ session) (o : IsOpenPin (ledger_of start old) pinned) where
-    theirs_now : none_of owner_of pinned.session found.others ≡ true
+    pub theirs_now : none_of owner_of pinned.session found.others ≡ true
     theirs_now = subst (λ (k : ℕ). none_of owner_of k found.others ≡ true) (sym mine) found.theirs
 
     pub open_pin_now : IsOpenPin parts.ledger pinned

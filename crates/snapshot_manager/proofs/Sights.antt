@@ -32,7 +32,7 @@ use Rattle.snapshot_manager.proofs.Telling.{all_turned, directories_in-append, e
 
 -- ---- others' events
 
-entry_leaves : (session : ℕ) (entry : Entry) → not (is_owned_by (owner_of (Entered entry)) session) ≡ true → leaves_pin session entry ≡ true
+pub entry_leaves : (session : ℕ) (entry : Entry) → not (is_owned_by (owner_of (Entered entry)) session) ≡ true → leaves_pin session entry ≡ true
 entry_leaves session (Pin other) e = e
 entry_leaves session (Unpin other) e = e
 entry_leaves session (Commit other change used) e = refl

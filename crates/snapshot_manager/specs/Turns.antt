@@ -1,9 +1,10 @@
 -- What a turn adds to the events that a seat has seen.
-use Rattle.std.specs.Prelude.{◌≡◌, ℕ, ◌-◌, ◌⊎◌, Bool, true, if◌then◌else◌, List, [], ◌∷◌, ◌++◌, length, take}
+use Rattle.std.specs.Prelude.{◌≡◌, ℕ, ◌-◌, ◌⊎◌, Bool, true, not, ◌&&◌, nat_eq, if◌then◌else◌, List, [], ◌∷◌, ◌++◌, length, take}
 use Rattle.std.specs.List.{filter}
 use Rattle.turn_lock.specs.Owners.{is_owned_by, none_of}
 use Rattle.event_core.specs.declared.entry.Entry.TheVariants.{Pin, Reap}
 use Rattle.event_core.specs.History.{leaves_pin}
+use Rattle.store_ledger.specs.declared.note.NoteKind.{NoteKind}
 use Rattle.store_state.specs.declared.event.Event.{Event}
 use Rattle.store_state.specs.declared.event.Event.TheVariants.{Entered, Acknowledged, Noted}
 use Rattle.store_state.specs.Events.{owner_of}
@@ -43,3 +44,9 @@ abbrev pub leaves_pin_of : ℕ → Event → Bool
 leaves_pin_of session (Entered entry) = leaves_pin session entry
 leaves_pin_of session (Acknowledged entry moment directory) = leaves_pin session entry
 leaves_pin_of session (Noted note) = true
+
+-- whether it is none of these, and no note of some kinds by the session
+abbrev pub leaves_notes_of : (NoteKind → Bool) → ℕ → Event → Bool
+leaves_notes_of kinds session (Entered entry) = leaves_pin session entry
+leaves_notes_of kinds session (Acknowledged entry moment directory) = leaves_pin session entry
+leaves_notes_of kinds session (Noted note) = not (nat_eq note.session session && kinds note.kind)

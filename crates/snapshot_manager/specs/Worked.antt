@@ -7,7 +7,7 @@ use Rattle.file_laws.specs.Inner.Example.{schema}
 use Rattle.event_core.specs.declared.entry.Entry.TheVariants.{Pin, Unpin, Commit}
 use Rattle.event_core.specs.Allowed.{is_pinned}
 use Rattle.store_ledger.specs.declared.pinned.Pinned.{Pinned}
-use Rattle.store_ledger.specs.Ledger.{IsOpenPin, attempt, history}
+use Rattle.store_ledger.specs.Ledger.{IsOpenPin, attempt, history, is_noted, is_tried}
 use Rattle.store_state.specs.declared.event.Event.{Event}
 use Rattle.store_state.specs.declared.event.Event.TheVariants.{Entered, Acknowledged, Noted}
 use Rattle.store_state.specs.Calls.{chunks_at}
@@ -57,6 +57,8 @@ pub record IsWorked : Type 0 where
   -- the pin is open, also after what the other session did
   pub open_pin : IsOpenPin (ledger_of worked_start worked_seen) worked_pinned
   pub open_later : IsOpenPin (ledger_of worked_start (worked_seen ++ worked_others)) worked_pinned
+  -- under it no commit was tried, as one was under the other session's
+  pub untried : is_noted is_tried (ledger_of worked_start (worked_seen ++ worked_others)) 0 ≡ false
   -- it still sees the chunk, which can't be named now
   pub pinned_chunks : chunks_at (told worked_start (worked_seen ++ worked_others)) 0 worked_leaf ≡ record { items = 0 ∷ [] } ∷ []
   pub chunks_now : chunks_at (told worked_start (worked_seen ++ worked_others)) 4 worked_leaf ≡ []

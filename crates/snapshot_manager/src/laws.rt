@@ -1,5 +1,6 @@
 //! What holds of events, of turns, and of what pins see.
-ghost use Rattle.snapshot_manager.specs.Laws.{OthersLeavePins, PinsOutlast, PinsSeeTheSame, StoresAreTold, TurnsAddOwn, TurnsFind};
+ghost use Rattle.snapshot_manager.specs.Laws.{NotesOutlast, OthersLeaveNotes, OthersLeavePins, PinsOutlast, PinsSeeTheSame, StoresAreTold};
+ghost use Rattle.snapshot_manager.specs.Laws.{TurnsAddOwn, TurnsFind};
 ghost use Rattle.snapshot_manager.specs.Worked.{IsWorked};
 
 use afl_outside::Disk;
@@ -9,12 +10,14 @@ pub fn stores_are_told<D: Disk>()
     ensures { StoresAreTold D }
 {}
 
-/// What a turn found, and what it added; and what a pin that is open sees, whatever comes later.
+/// What a turn found, and what it added; and what a pin that is open sees, and which notes stand under it, whatever others do.
 pub fn turns_are_seen<D: Disk>()
     ensures found { TurnsFind }
     ensures own { TurnsAddOwn }
     ensures others { OthersLeavePins }
     ensures outlast { PinsOutlast D }
+    ensures notes { OthersLeaveNotes }
+    ensures noted { NotesOutlast D }
     ensures sight { PinsSeeTheSame D }
 {}
 

@@ -42,6 +42,7 @@ impl<D: Disk> Shared<D> {
         ensures same { IsSameSeat seat.old seat.new }
         ensures reads { read_count seat.new ≡ read_count seat.old }
         ensures seen { seen seat.new ≡ events (standing D.moment (store_of turn)) }
+        ensures told { IsTold (start D.moment self.now) (seen seat.new) (standing D.moment (store_of turn)) }
     {
         let store = turn.value();
         store.is_at();

@@ -9,6 +9,7 @@ returns c = record {
   sealed = refl;
   open_pin = record { before = []; begun = refl; place = refl; names = refl };
   open_later = record { before = []; begun = refl; place = refl; names = refl };
+  untried = refl;
   pinned_chunks = refl;
   chunks_now = refl;
   turn = record { others = worked_others; theirs = refl; grown = refl };

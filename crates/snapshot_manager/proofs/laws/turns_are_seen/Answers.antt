@@ -1,3 +1,4 @@
+use Rattle.snapshot_manager.proofs.Notes.{notes_outlast, others_leave_notes}
 use Rattle.snapshot_manager.proofs.Sights.{others_leave_pins, pins_outlast, pins_see_the_same}
 use Rattle.snapshot_manager.proofs.Turning.{turns_add_own, turns_find}
 use Rattle.snapshot_manager.proofs.laws.turns_are_seen.Goals as goal
@@ -8,5 +9,7 @@ returns g c = record {
   own = turns_add_own;
   others = others_leave_pins;
   outlast = pins_outlast _;
+  notes = others_leave_notes;
+  noted = notes_outlast _;
   sight = pins_see_the_same _;
 }

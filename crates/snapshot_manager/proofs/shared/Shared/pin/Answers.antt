@@ -6,7 +6,7 @@ use Rattle.store_state.specs.declared.event.Event.TheVariants.{Entered}
 use Rattle.store_state.specs.At.{standing}
 use Rattle.array_store.specs.Starts.{start_of}
 use Rattle.snapshot_manager.specs.Seats.{HoldsPin, ledger_seen, seen, session_of, start}
-use Rattle.snapshot_manager.proofs.InTurn.{extends_now, if_both, pin_done, pin_is, pin_none, pin_only, pin_open, pin_room, unpinned_now}
+use Rattle.snapshot_manager.proofs.InTurn.{extends_now, if_both, pin_done, pin_is, pin_none, pin_only, pin_open, pin_room, unpinned_now, pin_untried}
 use Rattle.snapshot_manager.proofs.Turning.{done_events}
 use Rattle.snapshot_manager.proofs.shared.Shared.pin.Goals as goal
 
@@ -65,3 +65,10 @@ returns-clause-open g c =
     (λ pinned. IsOpenPin (ledger_seen moment c.args.self.now c.end.new.seat) pinned) (λ pinned. HoldsPin moment c.args.self.now c.end.new.seat pinned)
     (λ pinned p o. record { own = ap (λ q. q.session) p ∙ c.session.ensures ∙ sym c.end.ensures.same.session; open_pin = o })
     c.pin-answer.ensures.pinned opened
+
+pub returns-clause-untried : goal.returns-clause-untried
+returns-clause-untried g c =
+    let b = c.begin-turn.ensures in
+    pin_untried g.D.Disk.moment (start g.D.Disk.moment c.args.self.now) (session_of c.args.seat.now) (seen c.args.seat.now) (seen c.begin-turn.new.seat)
+    c.value.result.now c.begin-turn.result.value b.found c.value.ensures.value b.told b.events c.pin-answer.new.self
+    c.session.result (c.session.ensures ∙ b.same.session) c.pin-answer.result (seen c.end.new.seat) c.end.ensures.seen c.pin-answer.ensures.adds c.pin-answer.ensures.ok c.pin-answer.ensures.untried
