@@ -1,1 +1,0 @@
-while true; do for p in $(pgrep -f "bin/rt "); do c=$(readlink /proc/$p/cwd); case "$c" in /work/clones/mend*|/work/clones/shared*) n=15;; /tmp/tmp*) n=17;; /tmp/rt-copy*|/work/clones/warm*|/work/clones/land*) n=-18;; /work/clones/integrate*) n=10;; /work/clones/commit*) n=8;; *) n=0;; esac; echo $n > /proc/$p/autogroup 2>/dev/null; done; sleep 5; done
