@@ -97,13 +97,13 @@ module _ (names : Names) (stands : Database → Type 0) (named : (db : Database)
       → ((db : Database) → stands db → fault_of_change db change ≡ Some broken) → IsReply (without_change reply)
   of_fault change broken reply is kind e found =
       subst (λ (r : Reply). IsReply (without_change r)) (sym e)
-          (by_check (Ok (AChange change)) (without_change (cell_reply broken)) is kind (λ db there. ap (changed_or_broken (names_of db) change) (sym (found db there))))
+      (by_check (Ok (AChange change)) (without_change (cell_reply broken)) is kind (λ db there. ap (changed_or_broken (names_of db) change) (sym (found db there))))
 
   -- of a change that has none
   pub of_accepted : (change : Change) → check_of tree text names ≡ Ok (AChange change) → ((db : Database) → stands db → fault_of_change db change ≡ None) → IsReply (accepted names change)
   of_accepted change is none =
       by_check (Ok (AChange change)) (accepted names change) is (accepted_kind change) (λ db there.
-          ap (λ n. accepted n change) (sym (named db there)) ∙ ap (changed_or_broken (names_of db) change) (sym (none db there)))
+      ap (λ n. accepted n change) (sym (named db there)) ∙ ap (changed_or_broken (names_of db) change) (sym (none db there)))
     where
       accepted_kind : (c : Change) → HasChangeKind names c (accepted names c)
       accepted_kind (Create name schema) = refl
