@@ -322,9 +322,14 @@ fn is_refused(mark: &Mark) -> bool
         Some(
             Refusal::TooLong { .. }
             | Refusal::Parse { .. }
+            | Refusal::HistoryFull
             | Refusal::NotBuilt
             | Refusal::Typing { .. }
-            | Refusal::Cell { .. },
+            | Refusal::Disk
+            | Refusal::Damaged { .. }
+            | Refusal::Cell { .. }
+            | Refusal::SequenceEnd
+            | Refusal::Full { .. },
         ) => true,
     }
 }

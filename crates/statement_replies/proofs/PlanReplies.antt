@@ -36,7 +36,7 @@ array_kind : (schema : Schema) (rows : Result (List Row) Broken) → IsRowsReply
 array_kind schema (Ok rows) = fault_or_rows schema rows (first_fault rows)
 array_kind schema (Err broken) = inr (broken, refl)
 
-checked_kind : (db : Database) (checked : Checked Query) → HasKind checked (checked_reply db checked)
+pub checked_kind : (db : Database) (checked : Checked Query) → HasKind checked (checked_reply db checked)
 checked_kind db (Ok query) = subst (λ (z : Schema). IsRowsReply z (meant_reply (meaning db query))) (meaning_schema db query) (array_kind (meaning db query).schema (meaning db query).rows)
 checked_kind db (Err breach) = refl
 
