@@ -1,0 +1,1 @@
+use Rattle.statement_answers.proofs.changes.chunks_of.Goals as goal
