@@ -1,6 +1,7 @@
 //! Replies to listings and to changes that are accepted.
 ghost use Rattle.std.specs.Prelude.{◌≡◌, IfOk, IsTrue};
-ghost use Rattle.plan_changes.specs.Changes.{has_array};
+ghost use Rattle.plan_changes.specs.Changes.{has_array, next_of};
+ghost use Rattle.result_print.specs.Listings.{stored_line};
 ghost use Rattle.statement_replies.specs.Statements.{change_reply, list_reply, show_reply, text_alone, versions_reply};
 
 use crate::replies::Reply;
@@ -51,15 +52,23 @@ pub fn list_reply(alloc: Global, names: &Names) -> Result<Reply, Memory>
     Ok(told(list_text(alloc, names)?))
 }
 
-/// The reply to a change that is accepted over the names before it: of a store or an insert the number that its version has.
+/// The reply to a change that stores one more version of an array.
+fn stored_reply(alloc: Global, name: &Name, names: &Names) -> Result<Reply, Memory>
+    ensures { IfOk result (λ reply. reply ≡ text_alone (stored_line name.now (next_of names.now.arrays name.now))) }
+{
+    let number = next_of(&names.arrays, name);
+    Ok(told(stored_line(alloc, name, number)?))
+}
+
+/// The reply to a change that is accepted over the names before it. A new version is told with its number.
 pub fn accepted_line(alloc: Global, change: &Change, names: &Names) -> Result<Reply, Memory>
     ensures { IfOk result (λ reply. reply ≡ change_reply names.now change.now) }
 {
     match change {
-        Change::Store { name, .. } | Change::Insert { name, .. } => {
-            let number = next_of(&names.arrays, name);
-            Ok(told(stored_line(alloc, name, number)?))
+        Change::Store { name, .. } => stored_reply(alloc, name, names),
+        Change::Insert { name, .. } => stored_reply(alloc, name, names),
+        Change::Create { .. } | Change::Remove { .. } | Change::RemoveVersions { .. } => {
+            Ok(told(ok_line(alloc)?))
         }
-        _ => Ok(told(ok_line(alloc)?)),
     }
 }
