@@ -4,14 +4,14 @@ ghost use Rattle.chunk_source.specs.Faults.{Answers};
 ghost use Rattle.chunk_source.specs.Reading.{asked_of};
 ghost use Rattle.chunk_source.specs.Source.{AsksFront, Keeps};
 ghost use Rattle.plan_changes.specs.Databases.{Database};
-ghost use Rattle.plan_changes.specs.Stored.{AreStored, HasItsNames};
+ghost use Rattle.plan_changes.specs.Stored.{AreStored};
 ghost use Rattle.plan_changes.specs.Typed.{IsTypedFor};
 ghost use Rattle.afl_types.specs.declared.statements.checking.Typed.TheVariants.{Change as AChange};
 ghost use Rattle.statement_replies.specs.Reading.{HoldsVersions};
 ghost use Rattle.statement_replies.specs.Reply.{cell_reply};
 ghost use Rattle.statement_replies.specs.Statements.{change_reply, reply_to_typed};
 ghost use Rattle.statement_answers.specs.Inner.Made.{HasChunks, IsMadeIn, IsPutUnder, leaves_made, outcome_with};
-ghost use Rattle.statement_answers.specs.Outcomes.{HasOutcomeKind, IsOutcomeOf, IsToldBy, asked_for, change_leaves, leaves_for, newest_leaf};
+ghost use Rattle.statement_answers.specs.Outcomes.{HasOutcomeKind, IsOutcomeOf, IsToldBy, asked_for, change_leaves, newest_leaf};
 
 use crate::outcome::{Offer, Outcome, outcome_with};
 use afl_outside::Gate;
