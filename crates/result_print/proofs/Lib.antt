@@ -1,3 +1,2 @@
 mod Joined
 mod Numbered
-mod Worked

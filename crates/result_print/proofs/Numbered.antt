@@ -11,21 +11,21 @@ numbered_append line k (x ∷ xs) ys =
     ∙ sym (append_assoc (line k x) (numbered line (k + 1) xs) (numbered line (k + suc (length xs)) ys))
 
 -- one more line
-numbered_step : {A : Type 0} (line : ℕ → A → List ℕ) (k : ℕ) (items : List A) (at number : ℕ) (item : A) → at < length items → number ≡ k + at
-    → item ≡ slice_index_or items at item → numbered line k (take (at + 1) items) ≡ numbered line k (take at items) ++ line number item
-numbered_step line k items at number item h same is =
+numbered_step : {A : Type 0} (line : ℕ → A → List ℕ) (k : ℕ) (items : List A) (at number : ℕ) (item d : A) → at < length items → number ≡ k + at
+    → item ≡ slice_index_or items at d → numbered line k (take (at + 1) items) ≡ numbered line k (take at items) ++ line number item
+numbered_step line k items at number item d h same is =
     let before = numbered line k (take at items) in
     let place : k + length (take at items) ≡ number = omega (arith, length-take at items) in
-    ap (numbered line k) (take_more items at item h)
-    ∙ numbered_append line k (take at items) (slice_index_or items at item ∷ [])
-    ∙ ap (λ n. before ++ (line n (slice_index_or items at item) ++ [])) place
-    ∙ ap (λ l. before ++ l) (append-nil (line number (slice_index_or items at item)))
+    ap (numbered line k) (take_more items at d h)
+    ∙ numbered_append line k (take at items) (slice_index_or items at d ∷ [])
+    ∙ ap (λ n. before ++ (line n (slice_index_or items at d) ++ [])) place
+    ∙ ap (λ l. before ++ l) (append-nil (line number (slice_index_or items at d)))
     ∙ ap (λ x. before ++ line number x) (sym is)
 
 -- a loop's step: the text before, and a line
-pub numbered_after : {A : Type 0} (line : ℕ → A → List ℕ) (k : ℕ) (items : List A) (at number : ℕ) (item : A) (start before after : List ℕ) → at < length items → number ≡ k + at
-    → item ≡ slice_index_or items at item → before ≡ start ++ numbered line k (take at items) → after ≡ before ++ line number item
+pub numbered_after : {A : Type 0} (line : ℕ → A → List ℕ) (k : ℕ) (items : List A) (at number : ℕ) (item d : A) (start before after : List ℕ) → at < length items → number ≡ k + at
+    → item ≡ slice_index_or items at d → before ≡ start ++ numbered line k (take at items) → after ≡ before ++ line number item
     → after ≡ start ++ numbered line k (take (at + 1) items)
-numbered_after line k items at number item start before after h same is p q =
+numbered_after line k items at number item d start before after h same is p q =
     q ∙ ap (λ l. l ++ line number item) p ∙ append_assoc start (numbered line k (take at items)) (line number item)
-    ∙ ap (λ l. start ++ l) (sym (numbered_step line k items at number item h same is))
+    ∙ ap (λ l. start ++ l) (sym (numbered_step line k items at number item d h same is))

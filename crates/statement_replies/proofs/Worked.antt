@@ -13,11 +13,13 @@ use Rattle.cell_values.specs.declared.schema.Kind.TheVariants.{Int64}
 use Rattle.schema_grammar.specs.declared.kinds.TypeKind.TheVariants.{UnknownArray}
 use Rattle.afl_trees.specs.Term.{Term, reference, text, call, no_terms, and_term}
 use Rattle.logical_plan.specs.Query.{Query, scanned}
+use Rattle.logical_plan.specs.declared.names.NameEntry.{NameEntry}
 use Rattle.plan_changes.specs.Databases.{Database}
 use Rattle.plan_changes.specs.declared.change.Change.TheVariants.{Store, Remove}
 use Rattle.check_rules.specs.Operators.{query_named, change_named}
+use Rattle.result_print.specs.Listings.{list_text, show_text, stored_line, versions_text}
 use Rattle.result_print.specs.declared.refusal.Refusal.TheVariants.{Cell, Typing}
-use Rattle.statement_replies.specs.Reply.{refused}
+use Rattle.statement_replies.specs.Reply.{refused, text_reply}
 use Rattle.statement_replies.specs.Statements.{reply_to, text_alone, without_change}
 
 abbrev at : ℕ → ℕ → Span
@@ -29,11 +31,20 @@ line nullable = record { attributes = record { name = codes "v"; kind = Int64; n
 abbrev row : ℕ → Datum → Row
 row n value = record { at = record { items = pos n ∷ [] }; cell = Full (value ∷ []) }
 
+abbrev rows : List Row
+rows = row 1 (Int (pos 7)) ∷ row 3 Null ∷ []
+
 abbrev db : Database
 db =
-    record { name = codes "A"; schema = line true; next = 4; versions = record { number = 3; rows = row 1 (Int (pos 7)) ∷ row 3 Null ∷ [] } ∷ [] }
+    record { name = codes "A"; schema = line true; next = 4; versions = record { number = 3; rows = rows } ∷ [] }
     ∷ record { name = codes "N"; schema = line false; next = 1; versions = [] }
     ∷ []
+
+abbrev a : NameEntry
+a = record { name = codes "A"; schema = line true; next = 4; versions = 3 ∷ [] }
+
+abbrev n : NameEntry
+n = record { name = codes "N"; schema = line false; next = 1; versions = [] }
 
 abbrev plan : Query
 plan = scanned (record { name = codes "A"; version = 3; schema = line true })
@@ -48,17 +59,17 @@ abbrev store_in : List ℕ → Term
 store_in target = call (at 0 11) (codes "store") (and_term (name 6 7 (codes "A")) (and_term (name 9 10 target) no_terms))
 
 -- A
-queried : reply_to db [] (name 0 1 (codes "A")) ≡ without_change (text_alone (codes "{i} v\n{1} 7\n{3} null\n"))
+queried : reply_to db [] (name 0 1 (codes "A")) ≡ without_change (text_reply (line true) rows)
 unfolding query_named change_named
 queried = refl
 
 -- store(A, A)
-stored : reply_to db [] (store_in (codes "A")) ≡ record { reply = text_alone (codes "ok A@4\n"); change = Some (Store (codes "A") (line true) plan) }
+stored : reply_to db [] (store_in (codes "A")) ≡ record { reply = text_alone (stored_line (codes "A") 4); change = Some (Store (codes "A") (line true) plan) }
 unfolding query_named change_named
 stored = refl
 
 -- store(A, B)
-stored_anew : reply_to db [] (store_in (codes "B")) ≡ record { reply = text_alone (codes "ok B@1\n"); change = Some (Store (codes "B") (line true) plan) }
+stored_anew : reply_to db [] (store_in (codes "B")) ≡ record { reply = text_alone (stored_line (codes "B") 1); change = Some (Store (codes "B") (line true) plan) }
 unfolding query_named change_named
 stored_anew = refl
 
@@ -73,18 +84,18 @@ unfolding query_named change_named
 removed = refl
 
 -- versions(A)
-versions : reply_to db [] (one (codes "versions") 11 (name 9 10 (codes "A"))) ≡ without_change (text_alone (codes "{VersionNo} version_id\n{1} 3\n"))
+versions : reply_to db [] (one (codes "versions") 11 (name 9 10 (codes "A"))) ≡ without_change (text_alone (versions_text a))
 unfolding query_named change_named
 versions = refl
 
 -- show(N)
-shown : reply_to db [] (one (codes "show") 7 (name 5 6 (codes "N"))) ≡ without_change (text_alone (codes "N<v:int64 not null>[i=0:4,5,0]\n"))
+shown : reply_to db [] (one (codes "show") 7 (name 5 6 (codes "N"))) ≡ without_change (text_alone (show_text n))
 unfolding query_named change_named
 shown = refl
 
 -- list('arrays')
 listed : reply_to db [] (one (codes "list") 14 (text (at 5 13) (codes "arrays")))
-    ≡ without_change (text_alone (codes "{No} name,schema\n{0} 'A','<v:int64>[i=0:4,5,0]'\n{1} 'N','<v:int64 not null>[i=0:4,5,0]'\n"))
+    ≡ without_change (text_alone (list_text (record { arrays = a ∷ n ∷ [] })))
 unfolding query_named change_named
 listed = refl
 
