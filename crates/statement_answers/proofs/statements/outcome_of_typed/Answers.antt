@@ -16,10 +16,10 @@ pub outcome_of_change-requires-clause-typed : goal.outcome_of_change-requires-cl
 outcome_of_change-requires-clause-typed g c κs within = subst (CanAnswer c.args.names.now (g.S.ChunkSource.state c.args.source.now)) c.in-Change.is c.requires.can
 
 pub versions_reply-requires : goal.versions_reply-requires
-versions_reply-requires g c κs within = subst (CanAnswer c.args.names.now (g.S.ChunkSource.state c.args.source.now)) c.in-Versions.is c.requires.can
+versions_reply-requires g c = subst (CanAnswer c.args.names.now (g.S.ChunkSource.state c.args.source.now)) c.in-Versions.is c.requires.can
 
 pub show_reply-requires : goal.show_reply-requires
-show_reply-requires g c κs within = subst (CanAnswer c.args.names.now (g.S.ChunkSource.state c.args.source.now)) c.in-Show.is c.requires.can
+show_reply-requires g c = subst (CanAnswer c.args.names.now (g.S.ChunkSource.state c.args.source.now)) c.in-Show.is c.requires.can
 
 pub returns-in-Query-clause-kind : goal.returns-in-Query-clause-kind
 returns-in-Query-clause-kind g c =

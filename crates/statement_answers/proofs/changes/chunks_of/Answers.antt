@@ -1,1 +1,0 @@
-use Rattle.statement_answers.proofs.changes.chunks_of.Goals as goal
