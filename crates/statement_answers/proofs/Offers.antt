@@ -29,38 +29,6 @@ use Rattle.statement_answers.specs.Outcomes.{HasOutcomeKind, IsMadeOf, IsOutcome
 pub some_made : (db : Database) (change : Change) (changed : Changed) → IsAnswerOver db change (Ok changed) → IsMadeIn db change (Ok (Some changed))
 some_made db change changed is = record { stores = is.stores; whole = is.answer.fault; chunks = is.answer }
 
--- one that makes no version
-abbrev pub MakesNone : Change → Type 0
-MakesNone (Create name schema) = Unit {0}
-MakesNone (Store name schema plan) = ⊥
-MakesNone (Insert name schema plan) = ⊥
-MakesNone (Remove name) = Unit {0}
-MakesNone (RemoveVersions name below) = Unit {0}
-
-pub none_kind : (change : Change) → MakesNone change → HasChunks change (Ok None)
-none_kind (Create name schema) none = (refl, tt)
-none_kind (Store name schema plan) none = absurd none
-none_kind (Insert name schema plan) none = absurd none
-none_kind (Remove name) none = (refl, tt)
-none_kind (RemoveVersions name below) none = (refl, tt)
-
-pub none_made : (db : Database) (change : Change) → MakesNone change → IsMadeIn db change (Ok None)
-none_made db (Create name schema) none = record { stores = tt; whole = refl; chunks = tt }
-none_made db (Store name schema plan) none = absurd none
-none_made db (Insert name schema plan) none = absurd none
-none_made db (Remove name) none = record { stores = tt; whole = refl; chunks = tt }
-none_made db (RemoveVersions name below) none = record { stores = tt; whole = refl; chunks = tt }
-
-none_leaves : (names : Names) (change : Change) → MakesNone change → change_leaves names change ≡ []
-none_leaves names (Create name schema) none = refl
-none_leaves names (Store name schema plan) none = absurd none
-none_leaves names (Insert name schema plan) none = absurd none
-none_leaves names (Remove name) none = refl
-none_leaves names (RemoveVersions name below) none = refl
-
-pub none_asked : (names : Names) (change : Change) (old : SourceState) → MakesNone change → old.asked ≡ old.asked ++ asked_of old 0 (change_leaves names change)
-none_asked names change old none = sym (append-nil old.asked) ∙ ap (λ ls. old.asked ++ asked_of old 0 ls) (sym (none_leaves names change none))
-
 -- ---- an offer
 
 pub offer_kind : (names : Names) (change : Change) (changed : Option Changed) (offer : Offer) → HasItsNames change → IsTypedFor names change → HasChunks change (Ok changed) → offer.changed ≡ changed

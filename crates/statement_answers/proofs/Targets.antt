@@ -22,10 +22,10 @@ use Rattle.check_laws.proofs.Agreeing.{any_is_found, is_some}
 use Rattle.check_laws.proofs.StoredNames.{schemas_valid}
 use Rattle.chunk_exec.specs.Computed.{CanCompute}
 use Rattle.chunk_source.specs.Source.{SourceState, Reads}
-use Rattle.changed_chunks.specs.Changing.{CanChange, IsTargetIn, IsToldOf, all_leaves}
+use Rattle.changed_chunks.specs.Changing.{CanChange, IsTargetIn, IsToldOf}
 use Rattle.statement_replies.specs.Reading.{HoldsVersions}
-use Rattle.statement_answers.specs.Inner.Made.{HasPlan, IsPutUnder}
-use Rattle.statement_answers.specs.Outcomes.{IsToldBy, change_leaves, newest_leaf}
+use Rattle.statement_answers.specs.Inner.Made.{IsPutUnder}
+use Rattle.statement_answers.specs.Outcomes.{IsToldBy, newest_leaf}
 
 -- ---- the last of some versions is one of them
 
@@ -104,26 +104,12 @@ module _ (names : Names) (source : SourceState) (holds : HoldsVersions names sou
 
 -- ---- its target
 
-pub has_plan : (change : Change) (name : List ℕ) (schema : Schema) → IsPutUnder name schema change → HasPlan change
-has_plan (Create other shape) name schema put = put
-has_plan (Store other shape plan) name schema put = tt
-has_plan (Insert other shape plan) name schema put = tt
-has_plan (Remove other) name schema put = put
-has_plan (RemoveVersions other below) name schema put = put
-
 newest_put : (names : Names) (db : Database) (change : Change) (name : List ℕ) (schema : Schema) → names_of db ≡ names → IsPutUnder name schema change → IsTargetIn db change (newest_leaf names name schema)
 newest_put names db (Create other shape) name schema named put = tt
 newest_put names db (Store other shape plan) name schema named put = tt
 newest_put names db (Insert other shape plan) name schema named put = (sym put.0, λ i. newest_of (sym named i).arrays (sym put.0 i))
 newest_put names db (Remove other) name schema named put = tt
 newest_put names db (RemoveVersions other below) name schema named put = tt
-
-leaves_put : (names : Names) (change : Change) (name : List ℕ) (schema : Schema) → IsPutUnder name schema change → change_leaves names change ≡ all_leaves change (newest_leaf names name schema)
-leaves_put names (Create other shape) name schema put = refl
-leaves_put names (Store other shape plan) name schema put = refl
-leaves_put names (Insert other shape plan) name schema put = λ i. leaves plan ++ newest_leaf names (put.0 i) (put.1 i) ∷ []
-leaves_put names (Remove other) name schema put = refl
-leaves_put names (RemoveVersions other below) name schema put = refl
 
 module _ (names : Names) (change : Change) (name : List ℕ) (schema : Schema) (target : Leaf) (is : target ≡ newest_leaf names name schema) (put : IsPutUnder name schema change) where
   pub told_of : (source : SourceState) (db : Database) → IsToldBy names source db → IsToldOf source change target db
@@ -132,6 +118,3 @@ module _ (names : Names) (change : Change) (name : List ℕ) (schema : Schema) (
     tells = told.tells;
     newest = subst (IsTargetIn db change) (sym is) (newest_put names db change name schema told.named put);
   }
-
-  pub leaves_are : all_leaves change target ≡ change_leaves names change
-  leaves_are = ap (all_leaves change) is ∙ sym (leaves_put names change name schema put)
