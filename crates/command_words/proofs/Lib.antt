@@ -6,4 +6,5 @@ pub mod Options
 pub mod Places
 pub mod ReadingLemmas
 pub mod ScriptLemmas
+pub mod Slices
 pub mod Verbs

@@ -17,18 +17,11 @@ all_digits : (w : Word) → list_all is_ascii_digit w ≡ all_ascii_digits w
 all_digits [] = refl
 all_digits (c ∷ w) = ap (λ b. is_ascii_digit c && b) (all_digits w)
 
--- a number that is within the limits
-abbrev pub chosen : ℕ → Option ℕ
-chosen n = cond (nat_le 16 n && nat_le n 1048576) (Some n) None
-
 module _ (w : Word) where
   pub no_number : is_number w ≡ false → number_of w ≡ None
   no_number e =
       cond-false (is_setting_number w) (Some (digits_value 10 w)) None
       (and_left (is_number w && nat_le 16 (digits_value 10 w)) (nat_le (digits_value 10 w) 1048576) (and_left (is_number w) (nat_le 16 (digits_value 10 w)) e))
-
-  is_chosen : is_number w ≡ true → number_of w ≡ chosen (digits_value 10 w)
-  is_chosen e = ap (λ b. cond ((b && nat_le 16 (digits_value 10 w)) && nat_le (digits_value 10 w) 1048576) (Some (digits_value 10 w)) None) e
 
   parts : is_number w ≡ true → (0 < length w) × (all_ascii_digits w ≡ true)
   parts e =
@@ -38,10 +31,6 @@ module _ (w : Word) where
 
   parsed : is_number w ≡ true → {E : Type 0} → (r : Result ℕ E) → ParsesUnsigned 32 10 w r → OkIff r ((0 < length w) × (digits_value 10 w < 2 ^ 32)) (digits_value 10 w)
   parsed e r h = parse_digits own 32 w r h (parts e).1
-
-  pub number_parsed : is_number w ≡ true → {E : Type 0} → (r : Result ℕ E) (n : ℕ) → r ≡ Ok n → ParsesUnsigned 32 10 w r → number_of w ≡ chosen n
-  number_parsed e (Ok m) n is h = let same : m ≡ n = cc in is_chosen e ∙ ap chosen (sym (parsed e (Ok m) h).1 ∙ same)
-  number_parsed e (Err x) n is h = absurd (let none : ⊥ = cc in none)
 
   out_of_range : (x : Bool) → nat_le (digits_value 10 w) 1048576 ≡ x → (digits_value 10 w ≤ 1048576 → ⊥) → number_of w ≡ None
   out_of_range false out above =
