@@ -1,5 +1,5 @@
 -- What is read is the answer: the only form, or the only place.
-use Rattle.std.proofs.Common.{◌≡◌, ◌↔◌, ℕ, suc, ◌+◌, ◌<◌, ◌≤◌, Result, Ok, Err, List, [], ◌∷◌, ◌++◌, length, take, drop, refl, sym, ap, subst, ◌∙◌, arith, add-one, append_assoc, take-append-drop, take-take, ◌⊎◌, inl, inr}
+use Rattle.std.proofs.Common.{◌≡◌, ◌↔◌, ℕ, ◌+◌, ◌<◌, ◌≤◌, Result, Ok, Err, List, [], ◌∷◌, ◌++◌, length, take, drop, refl, sym, ap, subst, ◌∙◌, arith, add-one, append_assoc, take-append-drop, take-take, ◌⊎◌, inl, inr}
 use Rattle.std.proofs.lemmas.Bool.{cases_order}
 use Rattle.command_words.specs.declared.forms.Form.{Form}
 use Rattle.command_words.specs.Forms.{Word, IsForm}
@@ -87,5 +87,11 @@ faults_of : (wrongs : List Wrong) → AreRefused wrongs → AreFaults wrongs
 faults_of [] read = tt
 faults_of (wrong ∷ more) (is, others) = ((fault_read wrong.words wrong.place).0 is, faults_of more others)
 
+-- the words compute
 pub worked : WorkedWords
-worked = (forms_of right_words (refl, (refl, (refl, (refl, (refl, (refl, (refl, (refl, (refl, tt))))))))), faults_of wrong_words (refl, (refl, (refl, (refl, (refl, (refl, (refl, (refl, (refl, (refl, (refl, (refl, (refl, (refl, (refl, (refl, (refl, (refl, (refl, (refl, (refl, (refl, (refl, (refl, (refl, (refl, (refl, (refl, (refl, (refl, tt)))))))))))))))))))))))))))))))
+worked = (forms_of right_words rights, faults_of wrong_words wrongs) where
+  rights : AreRead right_words
+  rights = (refl, (refl, (refl, (refl, (refl, (refl, (refl, (refl, (refl, tt)))))))))
+
+  wrongs : AreRefused wrong_words
+  wrongs = (refl, (refl, (refl, (refl, (refl, (refl, (refl, (refl, (refl, (refl, (refl, (refl, (refl, (refl, (refl, (refl, (refl, (refl, (refl, (refl, (refl, (refl, (refl, (refl, (refl, (refl, (refl, (refl, (refl, (refl, tt))))))))))))))))))))))))))))))

@@ -3,6 +3,7 @@ pub mod Heads
 pub mod Names
 pub mod Numbers
 pub mod Options
+pub mod PlaceLaws
 pub mod Places
 pub mod ReadingLemmas
 pub mod ScriptLemmas

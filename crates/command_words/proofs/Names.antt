@@ -1,10 +1,10 @@
 -- Names that differ: one more script, behind some.
-use Rattle.std.proofs.Common.{◌≡◌, ℕ, suc, ◌+◌, ◌<◌, ◌≤◌, Bool, true, false, cond, not, ◌&&◌, ◌||◌, List, [], ◌∷◌, ◌++◌, length, take, refl, sym, ap, ap₂, subst, ◌∙◌, arith, append_assoc, append-nil, length-append, true≢false, lit≤}
+use Rattle.std.proofs.Common.{◌≡◌, ◌+◌, ◌<◌, ◌≤◌, Bool, true, false, cond, not, ◌&&◌, ◌||◌, List, [], ◌∷◌, ◌++◌, length, refl, sym, ap, ap₂, subst, ◌∙◌, arith, append_assoc, append-nil, length-append, lit≤}
 use Rattle.std.specs.Prelude.{nat_lt, codes, flat_map}
 use Rattle.std.specs.List.{list_any}
 use Rattle.std.specs.Str.{bytes_eq}
 use Rattle.std.proofs.lemmas.Bool.Decides.{same_from_decides}
-use Rattle.std.proofs.lemmas.Bool.{and_parts, and_from, or_parts, or_from, not_from_true, not_from_false, not-true, ltb-true, lt-ltb, cond_both, false_from_ne_true, cases_Bool}
+use Rattle.std.proofs.lemmas.Bool.{and_parts, and_from, or_parts, or_from, not_from_false, not-true, ltb-true, lt-ltb, cond_both, false_from_ne_true}
 use Rattle.std.proofs.lemmas.Slice.Eq.{bytes_eq-Decides}
 use Rattle.std.proofs.lemmas.List.{append_cancel_right}
 use Rattle.std.proofs.lemmas.List.Concat.{flat_map-append}
@@ -92,7 +92,7 @@ none_plain false false false = refl
 module _ (t w : Word) where
   two_scripts : (a b : Bool)
       → apart (cond a (t ∷ []) (t ∷ (t ++ codes ".out") ∷ [])) (cond b (w ∷ []) (w ∷ (w ++ codes ".out") ∷ []))
-        ≡ not ((bytes_eq t w || (not a && bytes_eq w (t ++ codes ".out"))) || (not b && bytes_eq t (w ++ codes ".out")))
+      ≡ not ((bytes_eq t w || (not a && bytes_eq w (t ++ codes ".out"))) || (not b && bytes_eq t (w ++ codes ".out")))
   unfolding apart
   two_scripts true true = both_plain (bytes_eq t w)
   two_scripts true false = first_plain (bytes_eq t w) (bytes_eq t (w ++ codes ".out"))

@@ -1,5 +1,5 @@
 -- Which option a word names, and what a form says of its number.
-use Rattle.std.proofs.Common.{◌≡◌, ℕ, suc, ◌+◌, ◌*◌, ◌<◌, ◌≤◌, Bool, true, false, cond, not, Option, None, Some, List, [], ◌∷◌, ◌++◌, length, refl, sym, ap, subst, ◌∙◌, arith, true≢false, is_some, unwrap_or, sum_by, lit≤}
+use Rattle.std.proofs.Common.{◌≡◌, ℕ, suc, ◌+◌, ◌*◌, ◌≤◌, true, false, cond, Option, None, Some, List, [], ◌∷◌, ◌++◌, length, refl, sym, ap, subst, ◌∙◌, arith, true≢false, is_some, unwrap_or, lit≤}
 use Rattle.std.specs.Prelude.{codes, count_by, flat_map}
 use Rattle.std.specs.List.{list_all, list_any}
 use Rattle.std.specs.Str.{bytes_eq}
@@ -12,7 +12,7 @@ use Rattle.command_words.specs.declared.settings.RunOption.{RunOption}
 use Rattle.command_words.specs.declared.settings.RunOption.TheVariants.{Pages, History}
 use Rattle.command_words.specs.declared.settings.Settings.{Settings}
 use Rattle.command_words.specs.Forms.{Word, Setting, is_dashed, option_word, setting_words, is_setting_number, is_option, number_in}
-use Rattle.command_words.specs.Inner.Reading.{given, with_number, words_of, place_of, option_of, if_new, next_option, run_of}
+use Rattle.command_words.specs.Inner.Reading.{given, with_number, words_of, place_of, if_new, next_option, run_of}
 use Rattle.command_words.proofs.Names.{Good, same_bytes}
 use Rattle.command_words.proofs.Heads.{same_head, same_tail, unlike}
 use Rattle.command_words.proofs.ScriptLemmas.{AreScripts}
@@ -50,7 +50,6 @@ if_new_tells settings word option is only = by (given settings option) refl wher
   by None e = (is, e)
   by (Some number) e = λ other same. ap (λ (o : RunOption). count (given settings o)) (only other same) ∙ ap count e
 
-
 option_word-same : (one other : RunOption) → option_word one ≡ option_word other → one ≡ other
 option_word-same Pages Pages e = refl
 option_word-same History History e = refl
@@ -63,8 +62,8 @@ option_names settings word =
     cond_both (bytes_eq word (codes "--pages")) (Some Pages) (cond (bytes_eq word (codes "--history")) (Some History) None) P
     (λ e. if_new_tells settings word Pages (same_bytes word (codes "--pages") e) (λ other same. option_word-same other Pages (sym same ∙ same_bytes word (codes "--pages") e)))
     (λ a. cond_both (bytes_eq word (codes "--history")) (Some History) None P
-      (λ e. if_new_tells settings word History (same_bytes word (codes "--history") e) (λ other same. option_word-same other History (sym same ∙ same_bytes word (codes "--history") e)))
-      (λ b. neither a b))
+    (λ e. if_new_tells settings word History (same_bytes word (codes "--history") e) (λ other same. option_word-same other History (sym same ∙ same_bytes word (codes "--history") e)))
+    (λ b. neither a b))
   where
     neither : bytes_eq word (codes "--pages") ≡ false → bytes_eq word (codes "--history") ≡ false → (option : RunOption) → word ≡ option_word option → count (given settings option) ≡ 1
     neither a b Pages same = absurd (unlike word (codes "--pages") a same)
@@ -162,7 +161,7 @@ module _ (device : Word) (settings : Settings) (word : Word) where
             in_range = others;
             once = λ other.
                 let counted : tally other (s ∷ more) ≡ cond (is_option other option) 1 0 + tally other more =
-                  tally-cons other s more ∙ ap (λ (o : RunOption). cond (is_option other o) 1 0 + tally other more) same in
+                tally-cons other s more ∙ ap (λ (o : RunOption). cond (is_option other o) 1 0 + tally other more) same in
                 once_less option other settings (tally other more) (digits_value 10 s.number) new (subst (λ (n : ℕ). n + count (given settings other) ≤ 1) counted (once other));
             some = tail.some;
             good = tail.good;

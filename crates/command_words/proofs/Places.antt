@@ -1,5 +1,5 @@
 -- Where words leave a relation between words and forms, word by word.
-use Rattle.std.proofs.Common.{◌≡◌, ℕ, zero, suc, ◌+◌, ◌<◌, ◌≤◌, List, [], ◌∷◌, ◌++◌, length, take, Result, Ok, Err, refl, sym, ap, subst, ◌∙◌, arith}
+use Rattle.std.proofs.Common.{◌≡◌, ℕ, suc, ◌+◌, ◌<◌, ◌≤◌, List, [], ◌∷◌, ◌++◌, length, take, Result, Ok, Err, arith}
 use Rattle.command_words.specs.declared.forms.Form.{Form}
 use Rattle.command_words.specs.Forms.{Word}
 
@@ -67,19 +67,27 @@ module _ (base : ℕ) (R : List Word → Form → Type 0) where
 
   -- a word is missing
   pub missing : ((form : Form) → R [] form → ⊥) → (more : List Word) (form : Form) → R more form → Judged base R [] (Err base)
-  missing none more form has = (0, omega arith, record {
-    no_form = none;
-    within = omega arith;
-    goes_on = (more, form, has);
-    longest = λ below. absurd (let no : ⊥ = omega arith in no);
-  })
+  missing none more form has = (
+    0,
+    omega arith,
+    record {
+      no_form = none;
+      within = omega arith;
+      goes_on = (more, form, has);
+      longest = λ below. absurd (let no : ⊥ = omega arith in no);
+    },
+  )
 
   -- the first word can't stand there
   pub refused : (w : Word) (words : List Word) → ((more : List Word) (form : Form) → R (w ∷ more) form → ⊥)
       → (more : List Word) (form : Form) → R more form → Judged base R (w ∷ words) (Err base)
-  refused w words none more form has = (0, omega arith, record {
-    no_form = none words;
-    within = omega arith;
-    goes_on = (more, form, has);
-    longest = λ below front. none front.0 front.1 front.2;
-  })
+  refused w words none more form has = (
+    0,
+    omega arith,
+    record {
+      no_form = none words;
+      within = omega arith;
+      goes_on = (more, form, has);
+      longest = λ below front. none front.0 front.1 front.2;
+    },
+  )

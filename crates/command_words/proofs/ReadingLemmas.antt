@@ -1,19 +1,15 @@
 -- What is read of words is their form, or the place where they leave the forms.
-use Rattle.std.proofs.Common.{◌≡◌, ℕ, zero, suc, ◌+◌, ◌<◌, ◌≤◌, Bool, true, false, cond, not, Option, None, Some, Result, Ok, Err, List, [], ◌∷◌, ◌++◌, length, take, refl, sym, ap, subst, ◌∙◌, arith, true≢false, lit≤}
+use Rattle.std.proofs.Common.{◌≡◌, ℕ, ◌+◌, ◌≤◌, Bool, true, false, cond, Option, None, Some, Result, Err, List, [], ◌∷◌, ◌++◌, length, refl, sym, ap, subst, ◌∙◌, arith, true≢false, lit≤}
 use Rattle.std.specs.Prelude.{codes, flat_map}
-use Rattle.std.specs.List.{list_any}
-use Rattle.std.specs.Str.{bytes_eq}
 use Rattle.std.specs.Str.Parse.{digits_value}
-use Rattle.std.proofs.lemmas.Bool.{cond_both, or_parts}
 use Rattle.command_words.specs.declared.forms.Form.{Form}
-use Rattle.command_words.specs.declared.forms.Form.TheVariants.{Try, Init, Run}
 use Rattle.command_words.specs.declared.settings.RunOption.{RunOption}
 use Rattle.command_words.specs.declared.settings.Settings.{Settings}
-use Rattle.command_words.specs.Forms.{Word, Setting, is_dashed, setting_words, is_setting_number, option_word, IsForm}
-use Rattle.command_words.specs.Inner.Reading.{with_number, no_settings, place_of, given, next_option, number_of, run_of, by_option, read_scripts, read_settings, read_run, read_init, read_try, read_verb, read_words}
-use Rattle.command_words.proofs.Names.{Good, no_scripts, fresh, good_fresh, same_bytes}
+use Rattle.command_words.specs.Forms.{Word, Setting, setting_words, is_setting_number, option_word}
+use Rattle.command_words.specs.Inner.Reading.{with_number, place_of, next_option, number_of, run_of, by_option, read_scripts, read_settings}
+use Rattle.command_words.proofs.Names.{no_scripts, fresh, good_fresh}
 use Rattle.command_words.proofs.Places.{Judged, judged_first, judged_same, judged_step, missing, refused}
-use Rattle.command_words.proofs.Heads.{same_head, same_tail, unlike}
+use Rattle.command_words.proofs.Heads.{same_head, same_tail}
 use Rattle.command_words.proofs.ScriptLemmas.{AreScripts, scripts_judged}
 use Rattle.command_words.proofs.Options.{IsTail, Names, option_names, place_step, Follows, tail_first, first_tail, tail_scripts, scripts_tail}
 
@@ -49,7 +45,6 @@ module _ (device : Word) where
     -- with a number of its own and a script the option goes on
     least_tail : (word : Word) (option : RunOption) → Names settings word (Some option)
         → IsTail device settings (word ∷ codes "16" ∷ fresh device ∷ []) (run_of (with_number settings option 16))
-
     least_tail word option names =
         first_tail device settings word option names.0 names.1 (codes "16") refl (fresh device ∷ []) (run_of (with_number settings option 16))
         (scripts_tail device (with_number settings option 16) (fresh device ∷ []) (run_of (with_number settings option 16)) (record { some = lit≤ tt; good = good_fresh device; is = refl }))
@@ -59,8 +54,8 @@ module _ (device : Word) where
     number_missing word option names =
         judged_step (place_of settings) (IsTail device settings) word [] (Err (place_of settings + 1))
         (missing (place_of settings + 1) (λ rest. IsTail device settings (word ∷ rest))
-          (λ form tail. nothing (tail_first device settings word option names.0 names.1 [] form tail))
-          (codes "16" ∷ fresh device ∷ []) (run_of (with_number settings option 16)) (least_tail word option names))
+        (λ form tail. nothing (tail_first device settings word option names.0 names.1 [] form tail))
+        (codes "16" ∷ fresh device ∷ []) (run_of (with_number settings option 16)) (least_tail word option names))
       where
         nothing : {form : Form} → Follows device settings option [] form → ⊥
         nothing follows = let no : [] ≡ follows.number ∷ follows.rest = follows.spelled in cc
@@ -70,8 +65,8 @@ module _ (device : Word) where
     number_refused word option names number wrong words =
         judged_step (place_of settings) (IsTail device settings) word (number ∷ words) (Err (place_of settings + 1))
         (refused (place_of settings + 1) (λ rest. IsTail device settings (word ∷ rest)) number words
-          (λ more form tail. unfit more form (tail_first device settings word option names.0 names.1 (number ∷ more) form tail))
-          (codes "16" ∷ fresh device ∷ []) (run_of (with_number settings option 16)) (least_tail word option names))
+        (λ more form tail. unfit more form (tail_first device settings word option names.0 names.1 (number ∷ more) form tail))
+        (codes "16" ∷ fresh device ∷ []) (run_of (with_number settings option 16)) (least_tail word option names))
       where
         unfit : (more : List Word) (form : Form) → Follows device settings option (number ∷ more) form → ⊥
         unfit more form follows = true≢false (sym (ap is_setting_number (same_head number follows.number more follows.rest follows.spelled) ∙ follows.fits) ∙ wrong)
@@ -82,13 +77,14 @@ module _ (device : Word) where
     option_read word option names number value tells words result judged =
         judged_step (place_of settings) (IsTail device settings) word (number ∷ words) result
         (judged_step (place_of settings + 1) (λ rest. IsTail device settings (word ∷ rest)) number words result
-          (judged_same (IsTail device (with_number settings option value)) (λ rest. IsTail device settings (word ∷ number ∷ rest)) to from (place_of settings + 1 + 1) words result
-            (subst (λ (n : ℕ). Judged n (IsTail device (with_number settings option value)) words result) (place_step option settings value names.1) judged)))
+        (judged_same (IsTail device (with_number settings option value)) (λ rest. IsTail device settings (word ∷ number ∷ rest)) to from (place_of settings + 1 + 1) words result
+        (subst (λ (n : ℕ). Judged n (IsTail device (with_number settings option value)) words result) (place_step option settings value names.1) judged)))
       where
         to : (rest : List Word) (form : Form) → IsTail device (with_number settings option value) rest form → IsTail device settings (word ∷ number ∷ rest) form
         to rest form tail =
             first_tail device settings word option names.0 names.1 number tells.0 rest form
             (subst (λ (n : ℕ). IsTail device (with_number settings option n) rest form) tells.1 tail)
+
         from : (rest : List Word) (form : Form) → IsTail device settings (word ∷ number ∷ rest) form → IsTail device (with_number settings option value) rest form
         from rest form tail = by (tail_first device settings word option names.0 names.1 (number ∷ rest) form tail) where
           by : Follows device settings option (number ∷ rest) form → IsTail device (with_number settings option value) rest form

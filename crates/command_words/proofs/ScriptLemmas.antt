@@ -1,11 +1,11 @@
 -- The words behind the options: scripts, or where they stop being ones.
-use Rattle.std.proofs.Common.{◌≡◌, ℕ, zero, suc, ◌+◌, ◌<◌, ◌≤◌, Bool, true, false, Option, None, Some, Result, Ok, Err, List, [], ◌∷◌, ◌++◌, length, refl, sym, ap, subst, ◌∙◌, arith, append_assoc, append-nil, length-append, true≢false, lit≤}
+use Rattle.std.proofs.Common.{◌≡◌, ℕ, ◌+◌, ◌≤◌, Option, Some, Result, Ok, List, [], ◌∷◌, ◌++◌, length, refl, sym, subst, ◌∙◌, arith, append_assoc, append-nil, length-append, true≢false, lit≤}
 use Rattle.std.proofs.lemmas.Bool.{cond_both}
 use Rattle.command_words.specs.declared.forms.Form.{Form}
 use Rattle.command_words.specs.declared.settings.Settings.{Settings}
 use Rattle.command_words.specs.Forms.{Word}
 use Rattle.command_words.specs.Inner.Reading.{can_stand, wrong_from, run_of, place_of, scripts_outcome}
-use Rattle.command_words.proofs.Names.{Good, no_scripts, good_next, good_stands, fresh, good_fresh}
+use Rattle.command_words.proofs.Names.{Good, good_next, good_stands, fresh, good_fresh}
 use Rattle.command_words.proofs.Places.{Judged, judged_step, judged_same, refused}
 
 -- the words are the scripts behind some, with these options before them all
@@ -70,9 +70,9 @@ module _ (device : Word) (settings : Settings) where
       cond_both (can_stand device before word) (wrong_from device (before ++ word ∷ []) words) (Some (length before))
       (λ (o : Option ℕ). Judged base (AreScripts device settings before) (word ∷ words) (scripts_outcome settings o))
       (λ can. judged_step base (AreScripts device settings before) word words rest
-        (judged_same (AreScripts device settings (before ++ word ∷ [])) (λ ws. AreScripts device settings before (word ∷ ws))
-          (at_first word before) (past_first word before) (base + 1) words rest
-          (subst (λ (n : ℕ). Judged n (AreScripts device settings (before ++ word ∷ [])) words rest) next (further (good_next device before word good can)))))
+      (judged_same (AreScripts device settings (before ++ word ∷ [])) (λ ws. AreScripts device settings before (word ∷ ws))
+      (at_first word before) (past_first word before) (base + 1) words rest
+      (subst (λ (n : ℕ). Judged n (AreScripts device settings (before ++ word ∷ [])) words rest) next (further (good_next device before word good can)))))
       (λ cannot. refused base (AreScripts device settings before) word words
-        (λ more form are. true≢false (sym (good_stands device before word more are.good) ∙ cannot))
-        (completion before) (run_of settings) (completes before good))
+      (λ more form are. true≢false (sym (good_stands device before word more are.good) ∙ cannot))
+      (completion before) (run_of settings) (completes before good))

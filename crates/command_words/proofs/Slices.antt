@@ -1,6 +1,5 @@
 -- The words of a slice, one after the other.
-use Rattle.std.proofs.Common.{◌≡◌, ℕ, ◌-◌, ◌≤◌, ◌<◌, false, cond, Option, None, Some, Result, Err, List, [], ◌∷◌, length, get_or, take, drop, refl, sym, ap, ap₂, ◌∙◌, arith, take_all}
-use Rattle.command_words.specs.declared.forms.Form.{Form}
+use Rattle.std.proofs.Common.{◌≡◌, ℕ, ◌-◌, ◌≤◌, false, cond, Option, Some, Err, List, [], ◌∷◌, length, get_or, take, drop, sym, ap, ap₂, ◌∙◌, arith, take_all}
 use Rattle.command_words.specs.declared.settings.RunOption.{RunOption}
 use Rattle.command_words.specs.declared.settings.Settings.{Settings}
 use Rattle.command_words.specs.Forms.{Word, is_dashed}
@@ -23,7 +22,7 @@ pub run_first : (words : List Word) (item tested name : Word) (settings : Settin
 run_first words item tested name settings some is tests plain shows begins =
     let same : read_settings name (behind words) settings ≡ read_settings item (behind words) no_settings = λ i. read_settings (shows i) (behind words) (begins i) in
     let kept : read_settings item (behind words) no_settings ≡ read_run (item ∷ behind words) =
-      sym (ap (λ b. cond b (Err 1) (read_settings item (behind words) no_settings)) (ap is_dashed (sym tests) ∙ plain)) in
+    sym (ap (λ b. cond b (Err 1) (read_settings item (behind words) no_settings)) (ap is_dashed (sym tests) ∙ plain)) in
     same ∙ kept ∙ ap read_run (sym (first_word words item some is))
 
 pub settings_two : (device : Word) (words : List Word) (settings next : Settings) (name shown number digits : Word) (option : RunOption) (value : ℕ)
@@ -37,7 +36,7 @@ settings_two device words settings next name shown number digits option value so
     let option_is : next_option settings name ≡ Some option = ap (next_option settings) (sym shows) ∙ chosen in
     let number_is : number_of number ≡ Some value = ap number_of (sym tells) ∙ valued in
     let read : read_settings device words settings ≡ read_settings device rest next =
-      ap (λ (l : List Word). read_settings device l settings) split
-      ∙ ap₂ (λ (o : Option RunOption) (n : Option ℕ). by_option settings o n (read_scripts device settings (name ∷ number ∷ rest)) (read_settings device rest)) option_is number_is
-      ∙ ap (read_settings device rest) (sym goes) in
+    ap (λ (l : List Word). read_settings device l settings) split
+    ∙ ap₂ (λ (o : Option RunOption) (n : Option ℕ). by_option settings o n (read_scripts device settings (name ∷ number ∷ rest)) (read_settings device rest)) option_is number_is
+    ∙ ap (read_settings device rest) (sym goes) in
     sym read

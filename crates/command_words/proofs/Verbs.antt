@@ -1,5 +1,5 @@
 -- The first word decides which form the words may have.
-use Rattle.std.proofs.Common.{◌≡◌, ℕ, suc, ◌+◌, ◌*◌, ◌<◌, ◌≤◌, Bool, true, false, cond, Option, None, Some, Result, Ok, Err, List, [], ◌∷◌, ◌++◌, length, refl, sym, ap, subst, ◌∙◌, arith, true≢false}
+use Rattle.std.proofs.Common.{◌≡◌, ℕ, true, false, cond, Result, Ok, Err, List, [], ◌∷◌, ◌++◌, refl, sym, ap, subst, ◌∙◌, arith, true≢false}
 use Rattle.std.specs.Prelude.{codes, flat_map}
 use Rattle.std.specs.List.{list_any}
 use Rattle.std.specs.Str.{bytes_eq}
@@ -8,12 +8,12 @@ use Rattle.command_words.specs.declared.forms.Form.{Form}
 use Rattle.command_words.specs.declared.forms.Form.TheVariants.{Try, Init, Run}
 use Rattle.command_words.specs.declared.settings.RunOption.{RunOption}
 use Rattle.command_words.specs.declared.settings.RunOption.TheVariants.{Pages, History}
-use Rattle.command_words.specs.Forms.{Word, setting_words, is_dashed, are_different, run_names, IsForm, IsInit, IsRun}
-use Rattle.command_words.specs.Inner.Reading.{no_settings, given, read_run, read_init, read_try, read_verb, read_words, read_settings}
+use Rattle.command_words.specs.Forms.{Word, setting_words, is_dashed, IsForm, IsRun}
+use Rattle.command_words.specs.Inner.Reading.{no_settings, given, read_run, read_init, read_try, read_words, read_settings}
 use Rattle.command_words.proofs.Names.{same_bytes}
 use Rattle.command_words.proofs.Places.{Judged, judged_same, judged_step, missing, refused}
 use Rattle.command_words.proofs.Heads.{same_head, same_tail, unlike}
-use Rattle.command_words.proofs.Options.{IsTail, count, run_with}
+use Rattle.command_words.proofs.Options.{IsTail, count}
 use Rattle.command_words.proofs.ReadingLemmas.{settings_judged}
 
 abbrev verb_word : Form → Word
@@ -86,7 +86,7 @@ init_judged (device ∷ word ∷ words) =
     cond_both (is_dashed device) (Err 1) (Err 2) (λ (r : Result Form ℕ). Judged 1 (λ rest. IsForm (codes "init" ∷ rest)) (device ∷ word ∷ words) r)
     (λ dashed. refused 1 (λ rest. IsForm (codes "init" ∷ rest)) device (word ∷ words) (init_dashed device dashed) (codes "a" ∷ []) (Init 1) (least_init (codes "a") refl))
     (λ named. judged_step 1 (λ rest. IsForm (codes "init" ∷ rest)) device (word ∷ words) (Err 2)
-      (refused 2 (λ rest. IsForm (codes "init" ∷ device ∷ rest)) word words (init_whole device word) [] (Init 1) (least_init device named)))
+    (refused 2 (λ rest. IsForm (codes "init" ∷ device ∷ rest)) word words (init_whole device word) [] (Init 1) (least_init device named)))
 
 -- run
 
@@ -126,21 +126,24 @@ run_tail words (Run device pages history scripts) is =
     }
 
 tail_run : (device : Word) → is_dashed device ≡ false → (words : List Word) (form : Form) → IsTail device no_settings words form → IsForm (codes "run" ∷ device ∷ words) form
-tail_run device named words form tail = subst (IsForm (codes "run" ∷ device ∷ words)) (sym tail.is) (refl, record {
-  device = device;
-  settings = tail.more;
-  scripts = tail.scripts;
-  spelled = ap (λ (l : List Word). codes "run" ∷ device ∷ l) tail.spelled;
-  in_range = tail.in_range;
-  once = λ option. let none : count (given no_settings option) ≡ 0 = none_given option in omega (arith, tail.once option);
-  some = tail.some;
-  most = tail.good.most;
-  named = or_from (is_dashed device) (list_any is_dashed tail.scripts) named tail.good.named;
-  different = tail.good.different;
-  pages_given = refl;
-  history_given = refl;
-  place = refl;
-})
+tail_run device named words form tail = subst (IsForm (codes "run" ∷ device ∷ words)) (sym tail.is) (
+  refl,
+  record {
+    device = device;
+    settings = tail.more;
+    scripts = tail.scripts;
+    spelled = ap (λ (l : List Word). codes "run" ∷ device ∷ l) tail.spelled;
+    in_range = tail.in_range;
+    once = λ option. let none : count (given no_settings option) ≡ 0 = none_given option in omega (arith, tail.once option);
+    some = tail.some;
+    most = tail.good.most;
+    named = or_from (is_dashed device) (list_any is_dashed tail.scripts) named tail.good.named;
+    different = tail.good.different;
+    pages_given = refl;
+    history_given = refl;
+    place = refl;
+  },
+)
 
 run_needs : (form : Form) → IsForm (codes "run" ∷ []) form → ⊥
 run_needs form is = let run : RunTail [] form = run_tail [] form is in let none : [] ≡ run.name ∷ run.rest = run.spelled in cc
@@ -157,21 +160,24 @@ past_device device words form is =
     (subst (λ (l : List Word). IsTail run.name no_settings l form) (sym (same_tail device run.name words run.rest run.spelled)) run.behind)
 
 least_run : IsForm (codes "run" ∷ codes "a" ∷ codes "-" ∷ []) (Run 1 65536 1048576 2)
-least_run = (refl, record {
-  device = codes "a";
-  settings = [];
-  scripts = codes "-" ∷ [];
-  spelled = refl;
-  in_range = refl;
-  once = λ option. omega arith;
-  some = omega arith;
-  most = omega arith;
-  named = refl;
-  different = refl;
-  pages_given = refl;
-  history_given = refl;
-  place = refl;
-})
+least_run = (
+  refl,
+  record {
+    device = codes "a";
+    settings = [];
+    scripts = codes "-" ∷ [];
+    spelled = refl;
+    in_range = refl;
+    once = λ option. omega arith;
+    some = omega arith;
+    most = omega arith;
+    named = refl;
+    different = refl;
+    pages_given = refl;
+    history_given = refl;
+    place = refl;
+  },
+)
 
 run_judged : (words : List Word) → Judged 1 (λ rest. IsForm (codes "run" ∷ rest)) words (read_run words)
 run_judged [] = missing 1 (λ rest. IsForm (codes "run" ∷ rest)) run_needs (codes "a" ∷ codes "-" ∷ []) (Run 1 65536 1048576 2) least_run
@@ -179,8 +185,8 @@ run_judged (device ∷ words) =
     cond_both (is_dashed device) (Err 1) (read_settings device words no_settings) (λ (r : Result Form ℕ). Judged 1 (λ rest. IsForm (codes "run" ∷ rest)) (device ∷ words) r)
     (λ dashed. refused 1 (λ rest. IsForm (codes "run" ∷ rest)) device words (run_dashed device dashed) (codes "a" ∷ codes "-" ∷ []) (Run 1 65536 1048576 2) least_run)
     (λ named. judged_step 1 (λ rest. IsForm (codes "run" ∷ rest)) device words (read_settings device words no_settings)
-      (judged_same (IsTail device no_settings) (λ rest. IsForm (codes "run" ∷ device ∷ rest)) (tail_run device named) (past_device device) 2 words (read_settings device words no_settings)
-        (settings_judged device words no_settings)))
+    (judged_same (IsTail device no_settings) (λ rest. IsForm (codes "run" ∷ device ∷ rest)) (tail_run device named) (past_device device) 2 words (read_settings device words no_settings)
+    (settings_judged device words no_settings)))
 
 -- all
 
@@ -202,7 +208,7 @@ words_judged (verb ∷ words) =
     cond_both (bytes_eq verb (codes "try")) (read_try words) (cond (bytes_eq verb (codes "init")) (read_init words) (cond (bytes_eq verb (codes "run")) (read_run words) (Err 0))) P
     (λ same. at_verb verb (codes "try") same words (read_try words) (try_judged words))
     (λ a. cond_both (bytes_eq verb (codes "init")) (read_init words) (cond (bytes_eq verb (codes "run")) (read_run words) (Err 0)) P
-      (λ same. at_verb verb (codes "init") same words (read_init words) (init_judged words))
-      (λ b. cond_both (bytes_eq verb (codes "run")) (read_run words) (Err 0) P
-        (λ same. at_verb verb (codes "run") same words (read_run words) (run_judged words))
-        (λ c. refused 0 IsForm verb words (no_verb verb a b c) (codes "try" ∷ []) Try refl)))
+    (λ same. at_verb verb (codes "init") same words (read_init words) (init_judged words))
+    (λ b. cond_both (bytes_eq verb (codes "run")) (read_run words) (Err 0) P
+    (λ same. at_verb verb (codes "run") same words (read_run words) (run_judged words))
+    (λ c. refused 0 IsForm verb words (no_verb verb a b c) (codes "try" ∷ []) Try refl)))

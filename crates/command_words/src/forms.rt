@@ -14,12 +14,20 @@ pub enum Form {
     /// `try`
     Try,
     /// `init DB`, with the place of DB
-    Init { device: usize },
+    Init {
+        device: usize,
+    },
     /// `run DB OPTION.. SCRIPT..`, with the places of DB and of the first SCRIPT. All words from there on are scripts.
-    Run { device: usize, pages: u32, history: u32, scripts: usize },
+    Run {
+        device: usize,
+        pages: u32,
+        history: u32,
+        scripts: usize,
+    },
 }
 
 const DEFAULT_PAGES: u32 = 65_536;
+
 const DEFAULT_HISTORY: u32 = 1_048_576;
 
 /// The form of the words, or the place of the first word that no form has there: the number of words where one is missing.

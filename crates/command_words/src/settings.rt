@@ -6,6 +6,7 @@ ghost use Rattle.command_words.specs.Forms.{is_number};
 ghost use Rattle.command_words.specs.Inner.Reading.{next_option, no_settings, number_of, option_of, place_of, with_number, words_of};
 
 const LEAST_NUMBER: u32 = 16;
+
 const MOST_NUMBER: u32 = 1_048_576;
 
 /// An option of `run`.
@@ -44,7 +45,10 @@ impl Settings {
     pub(crate) const fn new() -> Settings
         ensures { result ≡ no_settings }
     {
-        Settings { pages: None, history: None }
+        Settings {
+            pages: None,
+            history: None,
+        }
     }
 
     fn number(self, option: RunOption) -> Option<u32>
@@ -60,8 +64,14 @@ impl Settings {
         ensures { result ≡ with_number self option number }
     {
         match option {
-            RunOption::Pages => Settings { pages: Some(number), ..self },
-            RunOption::History => Settings { history: Some(number), ..self },
+            RunOption::Pages => Settings {
+                pages: Some(number),
+                ..self
+            },
+            RunOption::History => Settings {
+                history: Some(number),
+                ..self
+            },
         }
     }
 
