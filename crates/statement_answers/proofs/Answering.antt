@@ -1,8 +1,7 @@
 -- What comes of a typed statement, and of the tree that it is of.
-use Rattle.std.proofs.Common.{◌≡◌, ℕ, true, List, [], ◌++◌, Option, Some, None, Result, Ok, Err, IfOk, OnErr, refl, sym, ap, subst, ◌∙◌}
+use Rattle.std.proofs.Common.{◌≡◌, ℕ, true, List, [], ◌++◌, Option, Some, Result, Ok, Err, IfOk, OnErr, refl, sym, ap, subst, ◌∙◌}
 use Rattle.std.proofs.lemmas.List.{append-nil}
 use Rattle.cell_values.specs.declared.name.Span.{Span}
-use Rattle.schema_grammar.specs.declared.kinds.TypeKind.{TypeKind}
 use Rattle.afl_trees.specs.Term.{Term, create, call, Terms}
 use Rattle.logical_plan.specs.Meaning.{Database as Rows}
 use Rattle.logical_plan.specs.PlanSchema.{schema_of}
@@ -15,7 +14,6 @@ use Rattle.check_exprs.specs.Laws.{leaves_fit}
 use Rattle.check_queries.specs.Arrays.{AreValid}
 use Rattle.check_queries.specs.Queries.{query_of}
 use Rattle.check_rules.specs.Checked.{Checked}
-use Rattle.check_rules.specs.Checked.{refused as broken_rule}
 use Rattle.check_rules.specs.Operators.{operator_named}
 use Rattle.check_rules.specs.declared.rules.operator.Operator.{Operator}
 use Rattle.check_rules.specs.declared.rules.operator.Operator.TheVariants as operator
@@ -32,17 +30,16 @@ use Rattle.chunk_exec.specs.Computed.{CanCompute}
 use Rattle.chunk_source.specs.Reading.{asked_of}
 use Rattle.chunk_source.specs.Source.{SourceState, AsksFront}
 use Rattle.chunk_source.specs.declared.reading.fault.ExecFault.{ExecFault}
-use Rattle.result_print.specs.declared.refusal.Refusal.TheVariants.{Typing}
 use Rattle.statement_replies.specs.Kinds.{IsRowsReply}
 use Rattle.statement_replies.specs.Reading.{HoldsVersions}
-use Rattle.statement_replies.specs.Reply.{plan_reply, refused}
-use Rattle.statement_replies.specs.StatementKinds.{HasStatementKind, NamesWhatStands}
-use Rattle.statement_replies.specs.Statements.{Accepted, reply_to, reply_to_checked, reply_to_typed, without_change}
+use Rattle.statement_replies.specs.Reply.{plan_reply}
+use Rattle.statement_replies.specs.StatementKinds.{NamesWhatStands}
+use Rattle.statement_replies.specs.Statements.{reply_to, reply_to_checked, reply_to_typed, without_change}
 use Rattle.statement_replies.specs.declared.replies.Reply.{Reply}
 use Rattle.statement_replies.proofs.QueryReplies.{can_compute}
 use Rattle.statement_replies.proofs.Standing.{stand}
 use Rattle.statement_answers.specs.declared.outcome.Outcome.{Outcome}
-use Rattle.statement_answers.specs.declared.outcome.Outcome.TheVariants.{Replied, Changes}
+use Rattle.statement_answers.specs.declared.outcome.Outcome.TheVariants.{Replied}
 use Rattle.statement_answers.specs.Inner.Made.{CanAnswer}
 use Rattle.statement_answers.specs.Outcomes.{HasOutcomeKind, IsOutcomeOf, IsToldBy, asked_for, leaves_for, leaves_read}
 

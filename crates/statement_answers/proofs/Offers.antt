@@ -1,6 +1,5 @@
 -- Changes that are offered or refused, and what is read for them.
-use Rattle.std.proofs.Common.{◌≡◌, ◌⊎◌, inl, inr, ℕ, List, [], ◌++◌, Option, Some, None, Result, Ok, Err, IfSome, refl, sym, ap, subst, ◌∙◌}
-use Rattle.std.proofs.lemmas.List.{append-nil}
+use Rattle.std.proofs.Common.{◌≡◌, inr, ◌++◌, Option, Some, Result, Ok, Err, IfSome, refl, sym, ap, subst, ◌∙◌}
 use Rattle.cell_values.specs.declared.datum.Broken.{Broken}
 use Rattle.array_geom.specs.declared.chunk.Changed.{Changed}
 use Rattle.logical_plan.specs.declared.names.Names.{Names}
@@ -14,7 +13,7 @@ use Rattle.chunk_source.specs.Reading.{asked_of}
 use Rattle.chunk_source.specs.Source.{SourceState, AsksFront}
 use Rattle.chunk_source.proofs.ReadLemmas.{asked_all}
 use Rattle.commit_pages.specs.Changes.{AreValid, ComesWith}
-use Rattle.changed_chunks.specs.Changing.{IsAnswerOver, all_leaves, asked_for, plan_leaves}
+use Rattle.changed_chunks.specs.Changing.{IsAnswerOver, plan_leaves}
 use Rattle.changed_chunks.proofs.Asked.{front_plan}
 use Rattle.statement_replies.specs.Reply.{cell_reply}
 use Rattle.statement_replies.specs.Statements.{Accepted, accepted, change_reply, changed_or_broken, reply_to_typed, without_change}
@@ -22,7 +21,7 @@ use Rattle.statement_replies.specs.declared.replies.Reply.{Reply}
 use Rattle.statement_answers.specs.declared.outcome.Offer.{Offer}
 use Rattle.statement_answers.specs.declared.outcome.Outcome.TheVariants.{Replied}
 use Rattle.statement_answers.specs.Inner.Made.{HasChunks, HasPlan, IsMadeIn, leaves_made, outcome_with}
-use Rattle.statement_answers.specs.Outcomes.{HasOutcomeKind, IsMadeOf, IsOutcomeOf, IsToldBy, change_leaves, newest_leaf}
+use Rattle.statement_answers.specs.Outcomes.{HasOutcomeKind, IsMadeOf, IsOutcomeOf, change_leaves, newest_leaf}
 
 -- ---- the chunks of a change
 

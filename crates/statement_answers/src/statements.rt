@@ -82,8 +82,7 @@ fn outcome_of_typed<S: ChunkSource, G: Gate>(
 {
     match typed {
         Typed::Query(plan) => {
-            let outcome =
-                outcome_of_query(alloc, &plan, names, source, workers, session, gate);
+            let outcome = outcome_of_query(alloc, &plan, names, source, workers, session, gate);
             let_go(plan);
             outcome
         }

@@ -1,4 +1,4 @@
-use Rattle.std.proofs.Common.{Ok, refl, sym, ap, subst}
+use Rattle.std.proofs.Common.{Ok, refl, ap, subst}
 use Rattle.afl_types.specs.declared.statements.checking.Typed.{Typed}
 use Rattle.afl_types.specs.declared.statements.checking.Typed.TheVariants.{Query as AQuery, Change as AChange, Versions, Show, ListArrays}
 use Rattle.chunk_source.proofs.ReadLemmas.{asked_none, on_err}
