@@ -8,7 +8,8 @@ use Rattle.afl_trees.specs.declared.kind.ParseKind.TheVariants as stops
 use Rattle.schema_grammar.specs.declared.kinds.TypeKind.{TypeKind}
 use Rattle.schema_grammar.specs.declared.kinds.TypeKind.TheVariants as types
 use Rattle.result_print.specs.declared.refusal.Refusal.{Refusal}
-use Rattle.result_print.specs.declared.refusal.Refusal.TheVariants.{TooLong, Parse, HistoryFull, NotBuilt, Typing, Disk, Damaged, Cell, SequenceEnd, Full, Memory}
+use Rattle.result_print.specs.declared.refusal.Refusal.TheVariants.{TooLong, Parse, HistoryFull, NotBuilt, Typing, Disk, Damaged}
+use Rattle.result_print.specs.declared.refusal.Refusal.TheVariants.{Cell, SequenceEnd, Full, Memory}
 use Rattle.result_print.specs.Texts.{place_text}
 
 -- The words of a kind are its name's words, with spaces between.

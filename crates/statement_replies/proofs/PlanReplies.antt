@@ -1,11 +1,10 @@
 -- The reply to a plan, of which the first fault or the rows are found.
-use Rattle.std.proofs.Common.{◌≡◌, ◌⊎◌, inl, inr, List, Option, Some, None, Result, Ok, Err, refl, sym, ap, ◌∙◌, subst}
+use Rattle.std.proofs.Common.{◌≡◌, inl, inr, List, Option, Some, None, Result, Ok, Err, refl, sym, ap, ◌∙◌, subst}
 use Rattle.cell_values.specs.declared.datum.Broken.{Broken}
 use Rattle.cell_values.specs.declared.datum.Row.{Row}
 use Rattle.cell_values.specs.declared.schema.Schema.{Schema}
 use Rattle.logical_plan.specs.Faults.{fault_of, first_fault}
-use Rattle.logical_plan.specs.Meaning.{Database, Meant, meaning, whole}
-use Rattle.logical_plan.specs.PlanSchema.{schema_of}
+use Rattle.logical_plan.specs.Meaning.{Database, Meant, meaning}
 use Rattle.logical_plan.specs.Query.{Query}
 use Rattle.logical_plan.proofs.SchemaLaws.{meaning_schema}
 use Rattle.plan_rows.specs.declared.answers.rows.PlanRows.TheVariants.{Fault, Rows}

@@ -1,5 +1,5 @@
 -- An array whose versions or schema are listed stands.
-use Rattle.std.proofs.Common.{◌≡◌, ◌∙◌, ℕ, Bool, true, false, cond, ◌||◌, Option, Some, None, Ok, IfOk, List, [], ◌∷◌, refl, sym, ap}
+use Rattle.std.proofs.Common.{◌≡◌, ◌∙◌, ℕ, Bool, true, false, cond, ◌||◌, Option, Some, None, Ok, IfOk, List, [], ◌∷◌, refl, ap}
 use Rattle.std.specs.List.{find, list_any}
 use Rattle.cell_values.specs.declared.name.Span.{Span}
 use Rattle.afl_trees.specs.Term.{Term, create, reference, call, Terms, no_terms, and_term}
@@ -15,7 +15,6 @@ use Rattle.check_rules.proofs.RulesHolding.{thens, of_answer}
 use Rattle.check_queries.specs.Queries.{query_of}
 use Rattle.check_laws.proofs.StoredNames.{has_found}
 use Rattle.afl_types.specs.Changes.{array_call, created, cut_call, known, list_call, stored_name}
-use Rattle.afl_types.specs.Checking.{check_of}
 use Rattle.afl_types.specs.Place.{created_place}
 use Rattle.afl_types.specs.Statements.{insert_of, queried, said, statement_of, store_of}
 use Rattle.afl_types.specs.declared.statements.checking.Typed.{Typed}

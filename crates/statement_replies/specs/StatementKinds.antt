@@ -52,7 +52,8 @@ pub record IsStatementReply (names : Names) (stands : Database → Type 0) (text
 
 -- what is answered over a database is of that kind
 abbrev pub RepliesHaveStatementKinds : Type 0
-RepliesHaveStatementKinds = (db : Database) (text : List ℕ) (tree : Term) → HasStatementKind (names_of db) (check_of tree text (names_of db)) (reply_to db text tree)
+RepliesHaveStatementKinds = (db : Database) (text : List ℕ) (tree : Term)
+    → HasStatementKind (names_of db) (check_of tree text (names_of db)) (reply_to db text tree)
 
 -- a tree that is checked as a query has the reply to the query
 abbrev pub QueriesHaveTheirReplies : Type 0
