@@ -1,7 +1,7 @@
-//! What a store holds over a commit, on an honest disk that began as a database. No code has to be run for it.
+//! What a store holds over a commit, on an honest disk. No code has to be run for it.
 #![tactic(auto)]
 
-ghost use Rattle.store_cells.specs.Laws.{SealedCellsAreHeld, StoppedCellsAreHeld, CommitsPassBy, SealedImagesStand};
+ghost use Rattle.store_cells.specs.Laws.{SealedCellsAreHeld, SealedPayloadsAreHeld, StoppedCellsAreHeld, StoppedPayloadsAreHeld, CommitsPassBy, SealedImagesStand};
 ghost use Rattle.store_cells.specs.Worked.{ACommitIsWritten};
 
 use afl_outside::Disk;
@@ -53,6 +53,13 @@ pub fn commits_pass_by<D: Disk>()
     laid_commits_stand();
     images_have_stood();
 }
+
+/// Whatever its file stands for, each payload of an honest disk is whole over a commit that is sealed or stops, but for those that weren't
+/// whole as the file was opened: their bytes stay.
+pub fn payloads_are_held<D: Disk>()
+    ensures is_sealed { SealedPayloadsAreHeld D.moment }
+    ensures has_stopped { StoppedPayloadsAreHeld D.moment }
+{}
 
 /// There is a store over which a commit was written, as far as that its slot wasn't closed for sure.
 pub fn a_commit_is_written()
