@@ -2,7 +2,7 @@
 use Rattle.std.proofs.Common.{◌≡◌, ◌∙◌, ◌⊎◌, inl, inr, ⊎_elim, ℕ, Bool, true, false, List, [], ◌∷◌, IsTrue, refl, ap}
 use Rattle.std.specs.List.{AllByRecursion, AllZip, flat_map, list_any}
 use Rattle.cell_values.specs.declared.schema.Schema.{Schema}
-use Rattle.page_layout.specs.Places.{KeepsPages}
+use Rattle.page_layout.specs.Places.{IsNone, KeepsPages}
 use Rattle.page_chain.specs.Pages.{page_size, blob}
 use Rattle.page_slots.specs.Standing.{target_page}
 use Rattle.page_slots.specs.declared.slots.Slots.{Slots}
@@ -32,10 +32,9 @@ use Rattle.store_images.proofs.Carried.{IsBeside, entries_apart, first_beside, f
 
 -- ---- a payload whose pages aren't written
 
-payload_still : (first : List MadeVersion) (file written old new : List ℕ) → KeepsPages written old new → (schema : Schema) (entry : DirEntry) → LieApart written entry.pages
+payload_by : (first : List MadeVersion) (file written old new : List ℕ) → KeepsPages written old new → (schema : Schema) (entry : DirEntry) → AllByRecursion (IsNone written) entry.pages
     → HasPayload first file old schema entry → HasPayload first file new schema entry
-unfolding LieApart
-payload_still first file written old new keeps schema entry apart has = record { pages = there; bytes = ⊎_elim (λ whole. inl (still whole)) (λ was. inr (goes_on was)) has.bytes }
+payload_by first file written old new keeps schema entry apart has = record { pages = there; bytes = ⊎_elim (λ whole. inl (still whole)) (λ was. inr (goes_on was)) has.bytes }
   where
     there : are_pages new entry.pages ≡ true
     there = pages_still old new entry.pages keeps.no_shorter has.pages
@@ -48,6 +47,11 @@ payload_still first file written old new keeps schema entry apart has = record {
 
     goes_on : IsAsOpened first file old entry → IsAsOpened first file new entry
     goes_on was = record { listed = was.listed; same = same ∙ was.same }
+
+payload_still : (first : List MadeVersion) (file written old new : List ℕ) → KeepsPages written old new → (schema : Schema) (entry : DirEntry) → LieApart written entry.pages
+    → HasPayload first file old schema entry → HasPayload first file new schema entry
+unfolding LieApart
+payload_still first file written old new keeps schema entry apart has = payload_by first file written old new keeps schema entry apart has
 
 entries_still : (first : List MadeVersion) (file written old new : List ℕ) → KeepsPages written old new → (schema : Schema) (entries : List DirEntry) → AllByRecursion (λ (entry : DirEntry). LieApart written entry.pages) entries
     → AllByRecursion (HasPayload first file old schema) entries → AllByRecursion (HasPayload first file new schema) entries

@@ -1,3 +1,4 @@
+mod Asked
 mod Commit
 mod Found
 mod Given

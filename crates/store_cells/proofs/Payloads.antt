@@ -1,5 +1,5 @@
 -- What an honest disk has of each payload once a commit is sealed, and where it stopped.
-use Rattle.std.proofs.Common.{◌≡◌, ◌∙◌, ⊎_elim, ℕ, ◌≤◌, Bool, true, false, if◌then◌else◌, List, [], ◌∷◌, ◌++◌, length, Option, None, Some, IfSome, refl, ap, sym, subst}
+use Rattle.std.proofs.Common.{◌≡◌, ◌∙◌, ◌⊎◌, inl, inr, ℕ, ◌≤◌, Bool, true, false, if◌then◌else◌, List, [], ◌∷◌, ◌++◌, length, Option, None, Some, IfSome, refl, ap, sym, subst}
 use Rattle.std.specs.List.{AllByRecursion}
 use Rattle.std.proofs.lemmas.Bool.{eq-eqb}
 use Rattle.std.proofs.lemmas.List.{length-reverse}
@@ -16,7 +16,7 @@ use Rattle.commit_writes.specs.declared.placed.Placed.{Placed}
 use Rattle.commit_writes.specs.declared.stopped.Stopped.{Stopped}
 use Rattle.commit_writes.specs.declared.stopped.Stopped.TheVariants as stages
 use Rattle.commit_writes.specs.Commits.{HoldsAll, HoldsBlobs}
-use Rattle.commit_writes.specs.Moments.{IsKnown}
+use Rattle.commit_writes.specs.Moments.{IsKnown, IsOpened, IsUnopened}
 use Rattle.event_core.specs.declared.entry.Entry.{Entry}
 use Rattle.event_core.specs.declared.state.Core.{Core}
 use Rattle.event_core.specs.History.{History, catalogue_at, names_at}
@@ -44,12 +44,18 @@ use Rattle.store_steps.specs.Steps.{entry_of, made_by, sealed, sealed_keeping, s
 use Rattle.store_steps.proofs.Givens.{count_places, given_more}
 use Rattle.store_steps.proofs.Schemas.{MakesSo, suit_after}
 use Rattle.store_cells.specs.Laws.{IsWrittenOver, SealedPayloadsAreHeld, StoppedPayloadsAreHeld}
-use Rattle.store_cells.specs.Moves.{IsDone, StopsAt, own_pages, slot_page}
+use Rattle.store_cells.specs.Moves.{IsDone, NewIn, StopsAt, own_pages, slot_page}
 use Rattle.store_cells.proofs.Given.{payloads_more, versions_more}
 use Rattle.store_cells.proofs.KeptPayloads.{payloads_kept}
 use Rattle.store_cells.proofs.NewPayloads.{IsMadeSo, LaysVersion, base_lays, base_room, makes_so, new_payloads, record_lays, record_room}
 use Rattle.store_cells.proofs.Own.{given_positive, its_schema, own_unnamed, page_is}
 use Rattle.store_cells.proofs.Pass.{noted_is}
+
+-- of an image of before these pages alone may differ: that of the slot, and some that nobody can name
+record IsOverIn (core : Core) (h : History) (before : List ℕ → Type 0) (slot : ℕ) (c : List ℕ) : Type 0 where
+  pages : List ℕ
+  unnamed : AllByRecursion (λ q. is_live core h q ≡ false) pages
+  over : Over (slot ∷ pages) before c
 
 module _ {D : Type 0} (moment : D → Moment) (s : Standing D) (k : Keeping) (p : Prepared) (file : List ℕ) (later : Slots) (disk : D)
     (w : IsWrittenOver moment s k p file later disk) where
@@ -70,11 +76,8 @@ module _ {D : Type 0} (moment : D → Moment) (s : Standing D) (k : Keeping) (p 
 
   -- ---- what goes on
 
-  -- of an image of before these pages alone may differ: that of the slot, and some that nobody can name
-  record IsOver (c : List ℕ) : Type 0 where
-    pages : List ℕ
-    unnamed : AllByRecursion (λ q. is_live core h q ≡ false) pages
-    over : Over (slot_page p.base k.slots ∷ pages) before c
+  abbrev IsOver : List ℕ → Type 0
+  IsOver c = IsOverIn core h before (slot_page p.base k.slots) c
 
   own : (c : List ℕ) → Over (slot_page p.base k.slots ∷ own_pages p.base p.blobs p.chain) before c → IsOver c
   own c over = record { pages = own_pages p.base p.blobs p.chain; unnamed = own_unnamed moment s k p w.ready; over = over }
@@ -104,13 +107,18 @@ module _ {D : Type 0} (moment : D → Moment) (s : Standing D) (k : Keeping) (p 
   OverAt stages.Filling o c = IsOverOwn o c
   OverAt stages.Opening o c = IsOverOwn o c
 
+  either : (o : Option NewBase) (c : List ℕ) → IsUnopened (slot_page o k.slots ∷ own_pages o p.blobs p.chain) k.slots before c
+      ⊎ IsOpened (slot_page o k.slots ∷ own_pages o p.blobs p.chain) (NewIn o k.slots p.blobs p.chain) before c → IsOverOwn o c
+  either o c (inl un) = un.0
+  either o c (inr op) = op.0
+
   over_at : (stage : Stopped) (o : Option NewBase) → StopsAt o stage k.slots later p.blobs p.chain (moment s.disk) (moment disk) → (c : List ℕ) → (moment disk).may_leave c → OverAt stage o c
   over_at stages.Closing None stops c left = (stops.images w.payloads.bytes w.payloads.known c left).0
   over_at stages.Closing (Some base) stops c left = (stops.images w.payloads.bytes w.payloads.known c left).0
   over_at stages.Filling None stops c left = (stops.images w.payloads.bytes w.payloads.known c left).0
   over_at stages.Filling (Some base) stops c left = (stops.images w.payloads.bytes w.payloads.known c left).0
-  over_at stages.Opening None stops c left = ⊎_elim (λ un. un.0) (λ op. op.0) (stops.images w.payloads.bytes w.payloads.known c left).1
-  over_at stages.Opening (Some base) stops c left = ⊎_elim (λ un. un.0) (λ op. op.0) (stops.images w.payloads.bytes w.payloads.known c left).1
+  over_at stages.Opening None stops c left = either None c (stops.images w.payloads.bytes w.payloads.known c left).1
+  over_at stages.Opening (Some base) stops c left = either (Some base) c (stops.images w.payloads.bytes w.payloads.known c left).1
 
   is_over : (stage : Stopped) (c : List ℕ) → OverAt stage p.base c → IsOver c
   is_over stages.Closing c over = record { pages = []; unnamed = tt; over = over }
