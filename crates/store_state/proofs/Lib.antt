@@ -11,6 +11,7 @@ pub mod Lists
 pub mod PayloadsOn
 pub mod Places
 pub mod ReadLaws
+mod Reaps
 pub mod Sights
 mod Worked
 mod WorkedCells

@@ -1,5 +1,5 @@
--- What a pin sees stays, and stores open again.
-use Rattle.std.specs.Prelude.{◌≡◌, ℕ, ◌≤◌, ◌⊎◌, List, ◌++◌, length, Option, None, Some, IfSome, IsTrue}
+-- What a pin sees stays, reaps are few, and stores open again.
+use Rattle.std.specs.Prelude.{◌≡◌, ℕ, ◌+◌, ◌*◌, ◌≤◌, ◌⊎◌, List, [], ◌∷◌, ◌++◌, length, Option, None, Some, IfSome, IsTrue}
 use Rattle.arrayvec.specs.ArrayVec.{ArrayVec}
 use Rattle.afl_outside.specs.Disk.{DiskState}
 use Rattle.array_geom.specs.declared.chunk.Chunk.{Chunk}
@@ -9,11 +9,13 @@ use Rattle.plan_changes.specs.declared.change.Change.{Change}
 use Rattle.plan_changes.specs.Databases.{Database, after, rows_of}
 use Rattle.file_meaning.specs.Opening.{IsWrongAt}
 use Rattle.event_core.specs.declared.entry.Entry.{Entry}
+use Rattle.event_core.specs.declared.entry.Entry.TheVariants.{Pin, Unpin, Commit, Reap}
 use Rattle.event_core.specs.Cells.{at}
 use Rattle.event_core.specs.History.{History}
+use Rattle.event_core.specs.Legal.{IsOrdered}
 use Rattle.store_ledger.specs.declared.note.Note.{Note}
 use Rattle.store_ledger.specs.declared.pinned.Pinned.{Pinned}
-use Rattle.store_ledger.specs.Ledger.{IsOpenPin}
+use Rattle.store_ledger.specs.Ledger.{LedgerState, IsLedger, IsOpenPin, history, reaps}
 use Rattle.store_state.specs.Calls.{database_with}
 use Rattle.store_state.specs.Standings.{Standing, BeganAs, IsAttempt, StoodFor}
 
@@ -23,6 +25,18 @@ PinnedCellsStay D = (db : Database) (s t : Standing D) (later : List Entry) (pin
     → t.ledger.entries ≡ s.ledger.entries ++ later → IsOpenPin s.ledger pinned
     → IsStored leaf.schema number first → IsChunkIn (rows_of (database_with db s pinned.place)) leaf first
     → IsStored leaf.schema number second → IsChunkIn (rows_of (database_with db t pinned.place)) leaf second → first ≡ second
+
+-- how many pins a history has
+abbrev pub pins : History → ℕ
+pins [] = 0
+pins (Pin session ∷ before) = pins before + 1
+pins (Unpin session ∷ before) = pins before
+pins (Commit session change used ∷ before) = pins before
+pins (Reap ∷ before) = pins before
+
+-- REAPS ARE FEW: at most three a pin
+abbrev pub ReapsAreFew : Type 0
+ReapsAreFew = (ledger : LedgerState) → IsLedger ledger → IsOrdered ledger.base (history ledger) → reaps (history ledger) ≤ 3 * pins (history ledger)
 
 -- a database, or that after one change more, if there is one
 abbrev pub IsNowOf : Database → Option Change → Database → Type 0

@@ -1,6 +1,6 @@
 //! What holds of stores.
 ghost use Rattle.store_state.specs.At.{IsAt};
-ghost use Rattle.store_state.specs.Laws.{PinnedCellsStay, StoresOpenAgain};
+ghost use Rattle.store_state.specs.Laws.{PinnedCellsStay, ReapsAreFew, StoresOpenAgain};
 ghost use Rattle.store_state.specs.Worked.{worked_moment, worked_store, worked_keeping};
 
 use afl_outside::Disk;
@@ -8,6 +8,11 @@ use afl_outside::Disk;
 /// Two chunks of one number that are read under a pin are the same, however many entries come in between.
 pub fn pinned_cells_stay<D: Disk>()
     ensures { PinnedCellsStay D }
+{}
+
+/// A store's history has at most three reaps a pin.
+pub fn reaps_are_few()
+    ensures { ReapsAreFew }
 {}
 
 /// Each image that has stood for a database opens: a store that is opened over it begins as the database after a beginning of the history, or
