@@ -253,7 +253,7 @@ tried_few base h ok (note ∷ others) noted bound le within =
     let here_ok : IsTrue (is_allowed base here) = allowed_drop base (length h - place) h ok in
     let rest : AreTriedFew here others = tried_few base h ok others noted.0 place n.within n.rising in
     let begun = begun_at note.session here (λ before. has_note (is_kind note.kind) others (record { session = note.session; before = before }) ≡ false) n.pinned n.once in
-    let with_it : AreTriedFew here (note ∷ others) = 
+    let with_it : AreTriedFew here (note ∷ others) =
     tried_note base here others note.session place begun.0 here_ok begun.1 (sym (length_up_to place h n.within)) rest note.kind begun.2 in
     let low : place ≤ bound = at_most place bound (and_parts (nat_le place bound) (list_all (λ other. nat_le other.after bound) others) within).0 in
     tried_on base (note ∷ others) (length h - bound) (length h - place) h (omega (arith, low)) (allowed_drop base (length h - bound) h ok) with_it

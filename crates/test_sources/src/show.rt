@@ -83,10 +83,7 @@ pub(crate) fn push_cause(out: &mut String, cause: ExecFault) -> Result<(), Alloc
 }
 
 /// Adds how often a source has failed, and the page that it found damaged.
-pub(crate) fn push_faults<S: ChunkSource>(
-    out: &mut String,
-    source: &S,
-) -> Result<(), AllocError> {
+pub(crate) fn push_faults<S: ChunkSource>(out: &mut String, source: &S) -> Result<(), AllocError> {
     write!(out, "{} failed", source.faults())?;
     if let Some(page) = source.damaged() {
         write!(out, ", page {page} is damaged")?;
