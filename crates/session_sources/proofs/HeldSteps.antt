@@ -36,7 +36,7 @@ use Rattle.session_sources.specs.declared.holding.Holding.{Holding}
 use Rattle.session_sources.specs.declared.holding.LentTurn.{LentTurn}
 use Rattle.session_sources.specs.declared.marks.Marks.{Marks}
 use Rattle.session_sources.specs.Courses.{IsFaultAtMost, IsOneFault}
-use Rattle.session_sources.specs.Held.{held_state, names_now, store_then, GrowsByFault, HasHeld}
+use Rattle.session_sources.specs.Held.{held_state, holding_of, names_now, store_then, unheld, GrowsByFault, HasHeld}
 use Rattle.session_sources.specs.Inner.Marking.{answer_of, marks_after, no_marks}
 use Rattle.session_sources.specs.Stored.{numbers_at, AreRowsAfter, BeginsPayload}
 use Rattle.session_sources.proofs.Answering.{with_asked}
@@ -45,6 +45,9 @@ use Rattle.session_sources.proofs.VersionLaws.{leaf_listed, leaf_unless}
 
 abbrev pub holding : {D : Type 0} → LentTurn D → Turn (StoreParts D) → Marks → Holding D
 holding lent turn marks = record { lent = lent; turn = turn; marks = marks }
+
+abbrev pub lent_of : {D : Type 0} → ℕ → Turn (StoreParts D) → LentTurn D
+lent_of session turn = record { turn = turn; session = session }
 
 -- a store with another disk and other notes
 abbrev pub moved : {D : Type 0} → Standing D → D → List Note → Standing D
@@ -161,6 +164,18 @@ begins moment lent pinned =
       damaged = tt;
       whole = λ db began. refl;
     }
+
+pub begins_at : {D : Type 0} (moment : D → Moment) (session : ℕ) (before turn : Turn (StoreParts D)) (marks : Marks) → before ≡ turn → marks ≡ no_marks →
+    IsTrue (is_pinned session (history (store_of turn).ledger)) → HasHeld moment (holding_of session before turn marks)
+begins_at {D} moment session before turn marks e f pinned =
+    subst (λ (m : Marks). HasHeld moment (holding_of session before turn m)) (sym f)
+    (subst (λ (b : Turn (StoreParts D)). HasHeld moment (holding_of session b turn no_marks)) (sym e)
+    (begins moment (lent_of session turn) pinned))
+
+pub is_unheld : {D : Type 0} (session : ℕ) (before turn : Turn (StoreParts D)) (marks : Marks) → before ≡ turn → marks ≡ no_marks →
+    holding_of session before turn marks ≡ unheld session turn
+is_unheld {D} session before turn marks e f =
+    ap (λ (b : Turn (StoreParts D)). holding_of session b turn marks) e ∙ ap (λ (m : Marks). holding_of session turn turn m) f
 
 -- ---- over a reading
 

@@ -11,6 +11,7 @@ use Rattle.chunk_source.specs.Source.{asks, is_among, listed, AsksFor, Blames, K
 use Rattle.plan_changes.specs.Databases.{Database, rows_of}
 use Rattle.event_core.specs.Cells.{at}
 use Rattle.event_core.specs.History.{History}
+use Rattle.store_ledger.specs.declared.pinned.Pinned.{Pinned}
 use Rattle.store_ledger.specs.Ledger.{is_fault, is_noted}
 use Rattle.store_state.specs.declared.event.Event.{Event}
 use Rattle.store_state.specs.declared.fault.ReadFault.{ReadFault}
@@ -18,6 +19,7 @@ use Rattle.store_state.specs.declared.fault.ReadFault.TheVariants.{Disk, Damaged
 use Rattle.store_state.specs.Calls.{chunks_at, database_with, history_at, payload_at, IsLeafOf}
 use Rattle.store_state.specs.Standings.{BeganAs}
 use Rattle.snapshot_manager.specs.declared.seat.Seat.{Seat}
+use Rattle.snapshot_manager.specs.declared.shared.Shared.{Shared}
 use Rattle.snapshot_manager.specs.Faults.{IsUnreadUnder}
 use Rattle.snapshot_manager.specs.Laws.{SeesTheSame}
 use Rattle.snapshot_manager.specs.Seats.{ledger_seen, read_count, seen, session_of, start, store_seen, HoldsPin, IsIdle, IsSameSeat, IsSeatOf}
@@ -28,7 +30,7 @@ use Rattle.session_sources.specs.declared.marks.Marks.{Marks}
 use Rattle.session_sources.specs.declared.reading.Lent.{Lent}
 use Rattle.session_sources.specs.declared.reading.Reading.{Reading}
 use Rattle.session_sources.specs.Inner.Marking.{answer_of, marks_after, no_marks}
-use Rattle.session_sources.specs.Pinned.{pinned_state, store_lent, HasRead}
+use Rattle.session_sources.specs.Pinned.{pinned_state, reading_of, store_lent, unread, HasRead}
 use Rattle.session_sources.specs.Stored.{numbers_at, AreRowsAfter, BeginsPayload}
 use Rattle.session_sources.proofs.Answering.{asked_count, asks_by, blames, ok_answer, one_counted, same_asked, with_asked}
 use Rattle.session_sources.proofs.NoteSteps.{stepped, Stepped}
@@ -36,6 +38,9 @@ use Rattle.session_sources.proofs.VersionLaws.{leaf_listed, leaf_unless}
 
 abbrev pub reading : {D : Type 0} → Lent D → Seat D → Marks → Reading D
 reading lent seat marks = record { lent = lent; seat = seat; marks = marks }
+
+abbrev pub lent_of : {D : Type 0} → Shared D → Pinned → Seat D → Lent D
+lent_of shared pinned seat = record { shared = shared; seat = seat; pinned = pinned }
 
 -- ---- what a call may ask
 
@@ -63,6 +68,19 @@ begins moment lent seat pin reads = record {
   damaged = tt;
   whole = λ db began. refl;
 }
+
+pub begins_at : {D : Type 0} (moment : D → Moment) (shared : Shared D) (pinned : Pinned) (before seat : Seat D) (marks : Marks) → before ≡ seat → marks ≡ no_marks →
+    IsSeatOf shared seat × IsIdle seat → HoldsPin moment shared seat pinned → read_count seat ≡ min (read_count seat + 0) (2 ^ 64 - 1) →
+    HasRead moment (reading_of shared pinned before seat marks)
+begins_at {D} moment shared pinned before seat marks e f is pin reads =
+    subst (λ (m : Marks). HasRead moment (reading_of shared pinned before seat m)) (sym f)
+    (subst (λ (b : Seat D). HasRead moment (reading_of shared pinned b seat no_marks)) (sym e)
+    (begins moment (lent_of shared pinned seat) is pin reads))
+
+pub is_unread : {D : Type 0} (shared : Shared D) (pinned : Pinned) (before seat : Seat D) (marks : Marks) → before ≡ seat → marks ≡ no_marks →
+    reading_of shared pinned before seat marks ≡ unread shared pinned seat
+is_unread {D} shared pinned before seat marks e f =
+    ap (λ (b : Seat D). reading_of shared pinned b seat marks) e ∙ ap (λ (m : Marks). reading_of shared pinned seat seat m) f
 
 -- ---- over a reading
 

@@ -3,6 +3,7 @@ use Rattle.std.proofs.Common.{◌≡◌, ◌∙◌, ℕ, ◌⊎◌, inl, inr, Bo
 use Rattle.std.specs.List.{list_any}
 use Rattle.arrayvec.specs.ArrayVec.{ArrayVec}
 use Rattle.cell_values.specs.declared.schema.Schema.{Schema}
+use Rattle.afl_outside.specs.Disk.{Moment}
 use Rattle.chunk_source.specs.Source.{is_among, version_chunks}
 use Rattle.logical_plan.specs.declared.names.NameEntry.{NameEntry}
 use Rattle.logical_plan.specs.declared.names.Names.{Names}
@@ -19,8 +20,11 @@ chosen : (b : Bool) (schema : Schema) → b ≡ true → (if b then Some schema 
 chosen true schema e = refl
 chosen false schema e = absurd (both_not false refl e)
 
+same_some : (schema other : Schema) → Some schema ≡ Some other → schema ≡ other
+same_some schema other e = cc
+
 taken : (b : Bool) (schema other : Schema) → (if b then Some schema else None) ≡ Some other → (b ≡ true) × (schema ≡ other)
-taken true schema other e = (refl, cc)
+taken true schema other e = (refl, same_some schema other e)
 taken false schema other e = absurd cc
 
 -- ---- a leaf is read by the source
@@ -38,11 +42,11 @@ version_read (Some entry) leaf e = named_read entry leaf e.0 e.1
 pub leaf_read : (names : Names) (leaf : Leaf) → IsLeafOf names leaf → (leaf.version ≡ 0) ⊎ (schema_of names leaf.name leaf.version ≡ Some leaf.schema)
 leaf_read names leaf e = version_read (entry_named names.arrays leaf.name) leaf e
 
-pub pinned_sources_hold_versions : (D : Type 0) → PinnedSourcesHoldVersions D
-pinned_sources_hold_versions D moment r leaf e = leaf_read r.lent.pinned.names leaf e
+pub pinned_sources_hold_versions : {D : Type 0} (moment : D → Moment) → PinnedSourcesHoldVersions moment
+pinned_sources_hold_versions moment r leaf e = leaf_read r.lent.pinned.names leaf e
 
-pub held_sources_hold_versions : (D : Type 0) → HeldSourcesHoldVersions D
-held_sources_hold_versions D moment h leaf e = leaf_read (names_now (store_then moment h).ledger) leaf e
+pub held_sources_hold_versions : {D : Type 0} (moment : D → Moment) → HeldSourcesHoldVersions moment
+held_sources_hold_versions moment h leaf e = leaf_read (names_now (store_then moment h).ledger) leaf e
 
 -- ---- what is read, but of version 0, is a leaf
 

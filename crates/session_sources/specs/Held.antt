@@ -45,15 +45,14 @@ names_now ledger = names_at ledger.base (history ledger)
 -- THE SOURCE: the versions that can be named, with their chunks. It tells the rows of the database that the store began as, after all its
 -- commits
 abbrev pub held_state : {D : Type 0} → (D → Moment) → Holding D → SourceState
-held_state moment h =
-    let s = store_then moment h in record {
-      stored = schema_of (names_now s.ledger);
-      chunks = numbers_at s (length s.ledger.entries);
-      tells = AreRowsAfter moment s (history s.ledger);
-      asked = h.marks.asked;
-      damaged = h.marks.damaged;
-      faults = h.marks.faults;
-    }
+held_state moment h = record {
+  stored = schema_of (names_now (store_then moment h).ledger);
+  chunks = numbers_at (store_then moment h) (length (store_then moment h).ledger.entries);
+  tells = AreRowsAfter moment (store_then moment h) (history (store_then moment h).ledger);
+  asked = h.marks.asked;
+  damaged = h.marks.damaged;
+  faults = h.marks.faults;
+}
 
 -- behind the events that were there came the note of one fault of a session at most
 pub record GrowsByFault (ledger : LedgerState) (session : ℕ) (old new : List Event) : Type 0 where

@@ -46,9 +46,8 @@ CoursesKeepNotes D = (start : Start D) (kinds : NoteKind → Bool) (session : �
     IsTrue (list_all (leaves_notes_of kinds session) own) → is_noted kinds (ledger_of start new) session ≡ is_noted kinds (ledger_of start old) session
 
 -- each leaf of the names is one of the source's versions, or of version 0
-abbrev pub PinnedSourcesHoldVersions : Type 0 → Type 0
-PinnedSourcesHoldVersions D = (moment : D → Moment) (r : Reading D) (leaf : Leaf) → IsLeafOf r.lent.pinned.names leaf → Reads (pinned_state moment r) leaf
+abbrev pub PinnedSourcesHoldVersions : {D : Type 0} → (D → Moment) → Type 0
+PinnedSourcesHoldVersions {D} moment = (r : Reading D) (leaf : Leaf) → IsLeafOf r.lent.pinned.names leaf → Reads (pinned_state moment r) leaf
 
-abbrev pub HeldSourcesHoldVersions : Type 0 → Type 0
-HeldSourcesHoldVersions D = (moment : D → Moment) (h : Holding D) (leaf : Leaf) → IsLeafOf (names_now (store_then moment h).ledger) leaf →
-    Reads (held_state moment h) leaf
+abbrev pub HeldSourcesHoldVersions : {D : Type 0} → (D → Moment) → Type 0
+HeldSourcesHoldVersions {D} moment = (h : Holding D) (leaf : Leaf) → IsLeafOf (names_now (store_then moment h).ledger) leaf → Reads (held_state moment h) leaf

@@ -18,6 +18,6 @@ pub fn courses_are_told<D: Disk>()
 
 /// The sources have the versions that can be named.
 pub fn sources_hold_their_versions<D: Disk>()
-    ensures pinned { PinnedSourcesHoldVersions D }
-    ensures held { HeldSourcesHoldVersions D }
+    ensures pinned { PinnedSourcesHoldVersions D.moment }
+    ensures held { HeldSourcesHoldVersions D.moment }
 {}
