@@ -22,6 +22,7 @@ use Rattle.snapshot_manager.proofs.PinReads.{fault_noted}
 use Rattle.snapshot_manager.proofs.Sights.{others_leave_pins, pins_outlast}
 use Rattle.snapshot_manager.proofs.Turning.{turns_find}
 use Rattle.session_sources.specs.Courses.{AddsAtMostFault, AddsOwn, IsFaultAtMost, IsOneFault}
+use Rattle.session_sources.specs.Laws.{FaultsAreOwn}
 use Rattle.session_sources.proofs.CourseLaws.{courses_join, none_own}
 
 -- what holds after one more turn, of what was added since the beginning, and of the notes
@@ -35,7 +36,7 @@ pub at_most_later : (ledger later : LedgerState) (session : ℕ) (own : List Eve
 at_most_later ledger later session own more (inl none) = inl none
 at_most_later ledger later session own more (inr one) = inr (record { after = one.after; is = one.is; noted = more one.noted })
 
-no_try : (b : Bool) → not (b && false) ≡ true
+pub no_try : (b : Bool) → not (b && false) ≡ true
 no_try true = refl
 no_try false = refl
 
@@ -45,6 +46,11 @@ kept_own false event e = absurd (both_not false refl e)
 
 pub one_own : (session : ℕ) (note : Note) → note.session ≡ session → own_events session (Noted note ∷ []) ≡ Noted note ∷ []
 one_own session note e = kept_own (is_owned_by (owner_of (Noted note)) session) (Noted note) (eq-eqb note.session session e)
+
+pub faults_are_own : FaultsAreOwn
+faults_are_own ledger session own (inl none) = ap (own_events session) none ∙ sym none
+faults_are_own ledger session own (inr one) =
+    ap (own_events session) one.is ∙ one_own session (record { session = session; kind = Fault; after = one.after }) refl ∙ sym one.is
 
 module _ {D : Type 0} (start : Start D) (session : ℕ) (first : List Event) where
   -- ---- others alone

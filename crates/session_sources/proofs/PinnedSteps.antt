@@ -18,6 +18,7 @@ use Rattle.store_state.specs.declared.fault.ReadFault.{ReadFault}
 use Rattle.store_state.specs.declared.fault.ReadFault.TheVariants.{Disk, Damaged, Memory}
 use Rattle.store_state.specs.Calls.{chunks_at, database_with, history_at, payload_at, IsLeafOf}
 use Rattle.store_state.specs.Standings.{BeganAs}
+use Rattle.array_store.specs.declared.start.Start.{Start}
 use Rattle.snapshot_manager.specs.declared.seat.Seat.{Seat}
 use Rattle.snapshot_manager.specs.declared.shared.Shared.{Shared}
 use Rattle.snapshot_manager.specs.Faults.{IsUnreadUnder}
@@ -81,6 +82,10 @@ pub is_unread : {D : Type 0} (shared : Shared D) (pinned : Pinned) (before seat 
     reading_of shared pinned before seat marks ≡ unread shared pinned seat
 is_unread {D} shared pinned before seat marks e f =
     ap (λ (b : Seat D). reading_of shared pinned b seat marks) e ∙ ap (λ (m : Marks). reading_of shared pinned seat seat m) f
+
+-- a turn that adds nothing adds no more than the note of a fault
+pub adds_nothing : {D : Type 0} (start : Start D) (session : ℕ) (old new : List Event) → Adds session [] old new → AddsAtMostNote start session old new
+adds_nothing start session old new adds = record { own = []; adds = adds; note = inl refl }
 
 -- ---- over a reading
 

@@ -6,7 +6,7 @@ use Rattle.chunk_source.specs.Source.{Reads}
 use Rattle.logical_plan.specs.declared.parts.Leaf.{Leaf}
 use Rattle.store_ledger.specs.declared.note.NoteKind.{NoteKind}
 use Rattle.store_ledger.specs.declared.pinned.Pinned.{Pinned}
-use Rattle.store_ledger.specs.Ledger.{is_noted, IsOpenPin}
+use Rattle.store_ledger.specs.Ledger.{LedgerState, is_noted, IsOpenPin}
 use Rattle.store_state.specs.declared.event.Event.{Event}
 use Rattle.store_state.specs.Calls.{IsLeafOf}
 use Rattle.array_store.specs.declared.start.Start.{Start}
@@ -14,7 +14,7 @@ use Rattle.snapshot_manager.specs.Told.{ledger_of}
 use Rattle.snapshot_manager.specs.Turns.{leaves_notes_of, leaves_pin_of, own_events, Adds}
 use Rattle.session_sources.specs.declared.holding.Holding.{Holding}
 use Rattle.session_sources.specs.declared.reading.Reading.{Reading}
-use Rattle.session_sources.specs.Courses.{AddsOwn}
+use Rattle.session_sources.specs.Courses.{AddsOwn, IsFaultAtMost}
 use Rattle.session_sources.specs.Held.{held_state, names_now, store_then}
 use Rattle.session_sources.specs.Pinned.{pinned_state}
 
@@ -34,6 +34,10 @@ CoursesJoin = (session : ℕ) (first later old between new : List Event) → Add
 -- a course adds its own events to those of the session
 abbrev pub CoursesAddOwn : Type 0
 CoursesAddOwn = (session : ℕ) (own old new : List Event) → AddsOwn session own old new → own_events session new ≡ own_events session old ++ own
+
+-- the note of its fault is its own
+abbrev pub FaultsAreOwn : Type 0
+FaultsAreOwn = (ledger : LedgerState) (session : ℕ) (own : List Event) → IsFaultAtMost ledger session own → own_events session own ≡ own
 
 -- an open pin of the session stays so over a course without a pin or an unpin of its own
 abbrev pub CoursesKeepPins : Type 0 → Type 0

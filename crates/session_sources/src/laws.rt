@@ -1,5 +1,5 @@
 //! What holds of courses, and of the versions of sources.
-ghost use Rattle.session_sources.specs.Laws.{CoursesAddOwn, CoursesJoin, CoursesKeepNotes, CoursesKeepPins, CoursesMayBeEmpty, TurnsAreCourses};
+ghost use Rattle.session_sources.specs.Laws.{CoursesAddOwn, CoursesJoin, CoursesKeepNotes, CoursesKeepPins, CoursesMayBeEmpty, FaultsAreOwn, TurnsAreCourses};
 ghost use Rattle.session_sources.specs.Laws.{HeldSourcesHoldVersions, PinnedSourcesHoldVersions};
 ghost use Rattle.session_sources.specs.Worked.{IsWorked};
 
@@ -11,6 +11,7 @@ pub fn courses_are_told<D: Disk>()
     ensures none { CoursesMayBeEmpty }
     ensures join { CoursesJoin }
     ensures own { CoursesAddOwn }
+    ensures faults { FaultsAreOwn }
     ensures pins { CoursesKeepPins D }
     ensures notes { CoursesKeepNotes D }
     ensures worked { IsWorked }
