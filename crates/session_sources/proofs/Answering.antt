@@ -75,3 +75,20 @@ module _ {A : Type 0} where
       old.damaged ≡ marks.damaged → old.faults ≡ marks.faults →
       new.damaged ≡ (marks_after answer marks).damaged → new.faults ≡ (marks_after answer marks).faults → Blames old new result
   blames answer result old new marks e a b c d = subst (λ (x : Result A SourceFault). Blames old new x) (sym e) (blames_by answer old new marks a b c d)
+
+-- ---- what a source keeps, behind an ask and an answer
+
+pub record Marked {A : Type 0} (answer : Result A ReadFault) (number : ℕ) (at : ArrayVec ℕ) (marks next : Marks) : Type 0 where
+  pub is : next ≡ marks_after answer (with_asked number at marks)
+  pub asked : next.asked ≡ marks.asked ++ asks number at ∷ []
+  pub later : marks.faults ≤ next.faults
+
+pub marked : {A : Type 0} (answer : Result A ReadFault) (number : ℕ) (at : ArrayVec ℕ) (marks between next : Marks) → between ≡ with_asked number at marks →
+    next ≡ marks_after answer between → between.faults ≤ next.faults → Marked answer number at marks next
+marked answer number at marks between next e f later =
+    let is : next ≡ marks_after answer (with_asked number at marks) = f ∙ ap (marks_after answer) e in
+    record {
+      is = is;
+      asked = ap (λ (m : Marks). m.asked) is ∙ same_asked answer (with_asked number at marks);
+      later = subst (λ (m : Marks). m.faults ≤ next.faults) e later;
+    }

@@ -200,7 +200,7 @@ module _ {D : Type 0} (moment : D → Moment) (lent : LentTurn D) (turn : Turn (
       ≡ payload_at (standing moment (store_of lent.turn)) (length (store_of lent.turn).ledger.entries) leaf k
   payload_then leaf k = ap (λ (x : Standing D). payload_at x (length x.ledger.entries) leaf k) was.same
 
-  rows_then : (P : Rows → Type 0) → ((db : Database) → BeganAs (moment parts.opened.value.disk).state db → P (rows_of (database_at db (standing moment parts)))) →
+  pub rows_then : (P : Rows → Type 0) → ((db : Database) → BeganAs (moment parts.opened.value.disk).state db → P (rows_of (database_at db (standing moment parts)))) →
       (rows : Rows) → AreRowsAfter moment (standing moment (store_of lent.turn)) (history (store_of lent.turn).ledger) rows → P rows
   rows_then P holds rows a =
       subst P (sym a.is)

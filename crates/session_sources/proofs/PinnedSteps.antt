@@ -99,7 +99,7 @@ module _ {D : Type 0} (moment : D → Moment) (lent : Lent D) (before : Seat D) 
   pub chunks_lent : (leaf : Leaf) → chunks_at (store_seen moment lent.shared before) lent.pinned.place leaf ≡ chunks_at (store_lent moment lent) lent.pinned.place leaf
   chunks_lent leaf = sees.chunks leaf
 
-  rows_lent : (P : Rows → Type 0) →
+  pub rows_lent : (P : Rows → Type 0) →
       ((db : Database) → BeganAs (moment (start moment lent.shared).opened.disk).state db → P (rows_of (database_with db (store_seen moment lent.shared before) lent.pinned.place))) →
       (rows : Rows) → AreRowsAfter moment (store_lent moment lent) (history_at (store_lent moment lent) lent.pinned.place) rows → P rows
   rows_lent P holds rows a = subst P (sym a.is) (subst (λ (h : History). P (rows_of (at a.db h))) sees.history (holds a.db a.began))
