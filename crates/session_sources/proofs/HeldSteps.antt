@@ -2,8 +2,9 @@
 use Rattle.std.proofs.Common.{◌≡◌, ◌∙◌, ◌≢◌, ℕ, ◌<◌, ◌≤◌, ◌⊎◌, inl, inr, Bool, true, false, not, ◌&&◌, nat_eq, if◌then◌else◌, List, [], ◌∷◌, ◌++◌, length, slice_index, Option, None, Some, IfSome, IsSomeAnd, Result, Ok, Err, IfOk, IfErr, IsTrue, refl, ap, sym, subst, arith, append-nil, append_assoc}
 use Rattle.std.proofs.lemmas.Bool.{eq-eqb}
 use Rattle.arrayvec.specs.ArrayVec.{ArrayVec}
+use Rattle.cell_values.specs.declared.schema.Schema.{Schema}
 use Rattle.afl_outside.specs.Counts.{Rose}
-use Rattle.afl_outside.specs.Disk.{Moment}
+use Rattle.afl_outside.specs.Disk.{DiskState, Moment}
 use Rattle.logical_plan.specs.Meaning.{Database as Rows}
 use Rattle.logical_plan.specs.declared.parts.Leaf.{Leaf}
 use Rattle.chunk_map.specs.declared.directory.DirEntry.{DirEntry}
@@ -107,7 +108,7 @@ module _ {D : Type 0} (moment : D → Moment) (session : ℕ) (s t u : Standing 
   first_fault note is own grown (inl none) free e noted = record {
     own = Noted note ∷ [];
     grown = e ∙ ap (λ (es : List Event). es ++ Noted note ∷ []) (grown ∙ ap (λ (es : List Event). events s ++ es) none ∙ append-nil (events s));
-    note = inr (record { after = note.after; is = ap (λ (n : Note). Noted n ∷ []) is; noted = noted });
+    note = inr (record { after = (note_now Fault t.ledger session).after; is = ap (λ (n : Note). Noted n ∷ []) is; noted = noted });
   }
   first_fault note is own grown (inr one) free e noted = absurd (both_not (is_noted is_fault t.ledger session) free one.noted)
 
@@ -176,6 +177,10 @@ pub is_unheld : {D : Type 0} (session : ℕ) (before turn : Turn (StoreParts D))
     holding_of session before turn marks ≡ unheld session turn
 is_unheld {D} session before turn marks e f =
     ap (λ (b : Turn (StoreParts D)). holding_of session b turn marks) e ∙ ap (λ (m : Marks). holding_of session turn turn m) f
+
+first_page : (old new : DiskState) (schema : Schema) (page : ℕ) (o : Option DirEntry) → IsUnread old new schema o (Damaged page) → IsSomeAnd o (λ entry. page ≡ slice_index entry.pages 0)
+first_page old new schema page None e = absurd e
+first_page old new schema page (Some entry) e = e.0
 
 -- ---- over a reading
 
@@ -253,11 +258,6 @@ module _ {D : Type 0} (moment : D → Moment) (lent : LentTurn D) (turn : Turn (
       noted (Err (Damaged page)) cause some = step.noted (was.faults some)
       noted (Err Memory) cause some = step.noted (was.faults some)
 
-      first_page : (page : ℕ) (o : Option DirEntry) → IsUnread (moment parts.file.disk).state (moment next.file.disk).state leaf.schema o (Damaged page) →
-          IsSomeAnd o (λ entry. page ≡ slice_index entry.pages 0)
-      first_page page None e = absurd e
-      first_page page (Some entry) e = e.0
-
       spoiled : (answer : Result A ReadFault) → IsCause answer → IfSome (marks_after answer (with_asked number k marks)).damaged
           (BeginsPayload (names_now (store_of lent.turn).ledger) (standing moment (store_of lent.turn)) (length (store_of lent.turn).ledger.entries))
       spoiled (Ok value) cause = was.damaged
@@ -268,7 +268,7 @@ module _ {D : Type 0} (moment : D → Moment) (lent : LentTurn D) (turn : Turn (
         of = of;
         listed = among;
         begins = subst (λ (o : Option DirEntry). IsSomeAnd o (λ entry. page ≡ slice_index entry.pages 0)) (payload_then leaf k)
-            (first_page page (payload_at (standing moment parts) (length parts.ledger.entries) leaf k) cause);
+            (first_page (moment parts.file.disk).state (moment next.file.disk).state leaf.schema page (payload_at (standing moment parts) (length parts.ledger.entries) leaf k) cause);
       }
       spoiled (Err Memory) cause = was.damaged
 

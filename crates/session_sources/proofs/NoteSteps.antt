@@ -1,5 +1,5 @@
 -- One more turn of a session under its pin, which notes a fault or nothing.
-use Rattle.std.proofs.Common.{◌≡◌, ◌∙◌, ℕ, ◌⊎◌, inl, inr, Bool, true, false, not, ◌&&◌, cond, nat_eq, if◌then◌else◌, List, [], ◌∷◌, ◌++◌, length, IsTrue, refl, ap, sym, subst, append-nil}
+use Rattle.std.proofs.Common.{◌≡◌, ◌∙◌, ℕ, ◌⊎◌, inl, inr, Bool, true, false, not, ◌&&◌, cond, nat_eq, if◌then◌else◌, List, [], ◌∷◌, ◌++◌, length, Some, IsTrue, refl, ap, sym, subst, append-nil}
 use Rattle.std.specs.List.{list_all}
 use Rattle.std.proofs.lemmas.Bool.{eq-eqb}
 use Rattle.turn_lock.specs.Owners.{is_owned_by, none_of}
@@ -85,7 +85,7 @@ module _ {D : Type 0} (start : Start D) (session : ℕ) (first : List Event) whe
     own = Noted note ∷ [];
     adds = subst (λ (es : List Event). AddsOwn session es first new) (ap (λ (es : List Event). es ++ Noted note ∷ []) none)
         (courses_join session own (Noted note ∷ []) first found new a (record { more = Noted note ∷ []; grown = e; mine = one_own session note mine }));
-    note = inr (record { after = note.after; is = ap (λ (n : Note). Noted n ∷ []) is; noted = noted });
+    note = inr (record { after = (note_now Fault (ledger_of start found) session).after; is = ap (λ (n : Note). Noted n ∷ []) is; noted = noted });
   }
   first_fault found new note own a (inr one) free mine is e noted = absurd (both_not (is_noted is_fault (ledger_of start found) session) free one.noted)
 

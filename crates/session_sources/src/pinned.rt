@@ -59,6 +59,7 @@ impl<'a, D: Disk, R: Wait> PinnedSource<'a, D, R> {
         ensures { result ≡ unread shared.now pinned.now seat }
     {
         let lent = Snapshot::of(&seat);
+        let _read = seat.reads();
         PinnedSource {
             rt,
             alloc,
