@@ -1,13 +1,10 @@
 -- What a source answers, by the answer of the store.
-use Rattle.std.proofs.Common.{◌≡◌, ◌∙◌, ℕ, ◌+◌, ◌-◌, ◌^◌, ◌≤◌, ◌⊎◌, inl, inr, min, List, [], ◌∷◌, ◌++◌, length, Option, None, Some, Result, Ok, Err, IfOk, refl, ap, sym, subst, arith, length-append}
+use Rattle.std.proofs.Common.{◌≡◌, ◌∙◌, ℕ, ◌+◌, ◌-◌, ◌^◌, ◌≤◌, inr, min, List, [], ◌∷◌, ◌++◌, length, Result, Ok, Err, IfOk, refl, ap, sym, subst, arith, length-append}
 use Rattle.arrayvec.specs.ArrayVec.{ArrayVec}
-use Rattle.afl_outside.specs.Counts.{Rose, risen}
-use Rattle.array_rows.specs.Arrays.{AreRowsOf}
+use Rattle.afl_outside.specs.Counts.{risen}
 use Rattle.cell_values.specs.declared.datum.Row.{Row}
-use Rattle.cell_values.specs.Schemas.{IsValid}
 use Rattle.logical_plan.specs.declared.parts.Leaf.{Leaf}
 use Rattle.logical_plan.specs.Meaning.{Database, version_rows}
-use Rattle.chunk_source.specs.declared.sources.asked.Asked.{Asked}
 use Rattle.chunk_source.specs.declared.sources.fault.SourceFault.{SourceFault}
 use Rattle.chunk_source.specs.Source.{SourceState, asks, version_chunks, AreNumbersIn, AsksFor, Blames, HasArray}
 use Rattle.store_state.specs.declared.fault.ReadFault.{ReadFault}

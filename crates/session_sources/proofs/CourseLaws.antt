@@ -1,20 +1,17 @@
 -- Courses of a session.
-use Rattle.std.proofs.Common.{◌≡◌, ◌∙◌, ℕ, Bool, true, false, not, ◌&&◌, cond, List, [], ◌∷◌, ◌++◌, IsTrue, refl, ap, sym, subst, append-nil, append_assoc}
-use Rattle.std.specs.List.{filter, list_all}
+use Rattle.std.proofs.Common.{◌≡◌, ◌∙◌, ℕ, Bool, true, false, not, ◌&&◌, cond, List, [], ◌∷◌, ◌++◌, refl, ap, sym, subst, append-nil, append_assoc}
+use Rattle.std.specs.List.{list_all}
 use Rattle.std.proofs.lemmas.Bool.{and_from, and_parts}
 use Rattle.std.proofs.lemmas.List.Elements.{filter-append}
 use Rattle.turn_lock.specs.Owners.{is_owned_by, none_of}
-use Rattle.store_ledger.specs.declared.pinned.Pinned.{Pinned}
 use Rattle.store_ledger.specs.Ledger.{is_noted, IsOpenPin}
 use Rattle.store_state.specs.declared.event.Event.{Event}
 use Rattle.store_state.specs.Events.{owner_of}
-use Rattle.array_store.specs.declared.start.Start.{Start}
 use Rattle.snapshot_manager.specs.Told.{ledger_of}
-use Rattle.snapshot_manager.specs.Turns.{leaves_notes_of, leaves_pin_of, own_events, Adds}
+use Rattle.snapshot_manager.specs.Turns.{leaves_notes_of, leaves_pin_of, own_events}
 use Rattle.snapshot_manager.proofs.Notes.{notes_outlast, others_leave_notes}
 use Rattle.snapshot_manager.proofs.Sights.{others_leave_pins, pins_outlast}
 use Rattle.snapshot_manager.proofs.Turning.{turns_add_own}
-use Rattle.session_sources.specs.Courses.{AddsOwn}
 use Rattle.session_sources.specs.Laws.{CoursesAddOwn, CoursesJoin, CoursesKeepNotes, CoursesKeepPins, CoursesMayBeEmpty, TurnsAreCourses}
 
 pub own_more : (session : ℕ) (old more : List Event) → own_events session (old ++ more) ≡ own_events session old ++ own_events session more

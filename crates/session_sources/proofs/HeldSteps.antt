@@ -1,5 +1,5 @@
 -- The calls of a held source.
-use Rattle.std.proofs.Common.{◌≡◌, ◌∙◌, ◌≢◌, ℕ, ◌<◌, ◌≤◌, ◌⊎◌, inl, inr, Bool, true, false, not, ◌&&◌, nat_eq, if◌then◌else◌, List, [], ◌∷◌, ◌++◌, length, slice_index, Option, None, Some, IfSome, IsSomeAnd, Result, Ok, Err, IfOk, IfErr, IsTrue, refl, ap, sym, subst, arith, append-nil, append_assoc}
+use Rattle.std.proofs.Common.{◌≡◌, ◌∙◌, ◌≢◌, ℕ, ◌<◌, ◌≤◌, ◌⊎◌, inl, inr, Bool, true, false, ◌&&◌, nat_eq, if◌then◌else◌, List, [], ◌∷◌, ◌++◌, length, slice_index, Option, None, Some, IfSome, IsSomeAnd, Result, Ok, Err, IfOk, IfErr, IsTrue, refl, ap, sym, subst, arith, append-nil}
 use Rattle.std.proofs.lemmas.Bool.{eq-eqb}
 use Rattle.arrayvec.specs.ArrayVec.{ArrayVec}
 use Rattle.cell_values.specs.declared.schema.Schema.{Schema}
@@ -13,12 +13,12 @@ use Rattle.plan_changes.specs.Databases.{Database, rows_of}
 use Rattle.event_core.specs.declared.entry.Entry.{Entry}
 use Rattle.event_core.specs.Allowed.{is_pinned}
 use Rattle.event_core.proofs.Tests.{both_not}
-use Rattle.turn_lock.specs.Owners.{only_of, ExtendsByOwn}
+use Rattle.turn_lock.specs.Owners.{only_of}
 use Rattle.turn_lock.specs.Inner.Lent.{turn_with}
 use Rattle.turn_lock.specs.declared.seat.Turn.{Turn}
 use Rattle.store_ledger.specs.declared.note.Note.{Note}
 use Rattle.store_ledger.specs.declared.note.NoteKind.TheVariants.{Fault}
-use Rattle.store_ledger.specs.Ledger.{LedgerState, history, is_fault, is_noted, is_tried, note_now, with_fault, with_notes}
+use Rattle.store_ledger.specs.Ledger.{LedgerState, history, is_fault, is_noted, is_tried, note_now, with_notes}
 use Rattle.store_ledger.proofs.Pins.{notes_outlast}
 use Rattle.store_state.specs.declared.event.Event.{Event}
 use Rattle.store_state.specs.declared.event.Event.TheVariants.{Noted}
@@ -29,16 +29,16 @@ use Rattle.store_state.specs.At.{standing}
 use Rattle.store_state.specs.Calls.{chunks_at, payload_at, IsLeafOf, IsUnread, NotesFault}
 use Rattle.store_state.specs.Events.{events, owner_of}
 use Rattle.store_state.specs.Standings.{Standing, database_at, BeganAs}
-use Rattle.array_store.specs.Growth.{AddsEvents, AddsFault, fault_events}
+use Rattle.array_store.specs.Growth.{AddsEvents, AddsFault}
 use Rattle.array_store.specs.Starts.{start_of}
 use Rattle.store_commits.proofs.Ended.{fault_seen, rose_or_not}
 use Rattle.snapshot_manager.specs.Seats.{store_of}
 use Rattle.session_sources.specs.declared.holding.Holding.{Holding}
 use Rattle.session_sources.specs.declared.holding.LentTurn.{LentTurn}
 use Rattle.session_sources.specs.declared.marks.Marks.{Marks}
-use Rattle.session_sources.specs.Courses.{IsFaultAtMost, IsOneFault}
+use Rattle.session_sources.specs.Courses.{IsFaultAtMost}
 use Rattle.session_sources.specs.Held.{held_state, holding_of, names_now, store_then, unheld, GrowsByFault, HasHeld}
-use Rattle.session_sources.specs.Inner.Marking.{answer_of, marks_after, no_marks}
+use Rattle.session_sources.specs.Inner.Marking.{marks_after, no_marks}
 use Rattle.session_sources.specs.Stored.{numbers_at, AreRowsAfter, BeginsPayload}
 use Rattle.session_sources.proofs.Answering.{with_asked}
 use Rattle.session_sources.proofs.NoteSteps.{at_most_later, no_try}

@@ -1,9 +1,8 @@
 -- One more turn of a session under its pin, which notes a fault or nothing.
-use Rattle.std.proofs.Common.{◌≡◌, ◌∙◌, ℕ, ◌⊎◌, inl, inr, Bool, true, false, not, ◌&&◌, cond, nat_eq, if◌then◌else◌, List, [], ◌∷◌, ◌++◌, length, Some, IsTrue, refl, ap, sym, subst, append-nil}
-use Rattle.std.specs.List.{list_all}
+use Rattle.std.proofs.Common.{◌≡◌, ◌∙◌, ℕ, ◌⊎◌, inl, inr, Bool, true, false, not, ◌&&◌, cond, nat_eq, if◌then◌else◌, List, [], ◌∷◌, ◌++◌, Some, refl, ap, sym, subst, append-nil}
 use Rattle.std.proofs.lemmas.Bool.{eq-eqb}
 use Rattle.turn_lock.specs.Owners.{is_owned_by, none_of}
-use Rattle.event_core.specs.History.{History, pin_before}
+use Rattle.event_core.specs.History.{pin_before}
 use Rattle.event_core.proofs.Tests.{both_not}
 use Rattle.store_ledger.specs.declared.note.Note.{Note}
 use Rattle.store_ledger.specs.declared.note.NoteKind.{NoteKind}
@@ -16,12 +15,12 @@ use Rattle.store_state.specs.Events.{owner_of}
 use Rattle.array_store.specs.declared.start.Start.{Start}
 use Rattle.array_store.specs.Growth.{fault_events}
 use Rattle.snapshot_manager.specs.Told.{ledger_of}
-use Rattle.snapshot_manager.specs.Turns.{found_before, leaves_notes_of, own_events, Adds, AddsAtMostNote}
+use Rattle.snapshot_manager.specs.Turns.{found_before, own_events, AddsAtMostNote}
 use Rattle.snapshot_manager.proofs.Notes.{notes_outlast, others_leave_notes}
 use Rattle.snapshot_manager.proofs.PinReads.{fault_noted}
 use Rattle.snapshot_manager.proofs.Sights.{others_leave_pins, pins_outlast}
 use Rattle.snapshot_manager.proofs.Turning.{turns_find}
-use Rattle.session_sources.specs.Courses.{AddsAtMostFault, AddsOwn, IsFaultAtMost, IsOneFault}
+use Rattle.session_sources.specs.Courses.{AddsAtMostFault, AddsOwn, IsFaultAtMost}
 use Rattle.session_sources.specs.Laws.{FaultsAreOwn}
 use Rattle.session_sources.proofs.CourseLaws.{courses_join, none_own}
 

@@ -1,13 +1,12 @@
 -- The calls of a pinned source.
-use Rattle.std.proofs.Common.{◌≡◌, ◌∙◌, ◌≢◌, ℕ, ◌+◌, ◌-◌, ◌^◌, ◌<◌, ◌≤◌, min, inl, List, [], ◌∷◌, ◌++◌, length, slice_index, Option, None, Some, IfSome, IsSomeAnd, Result, Ok, Err, IfOk, IfErr, IsTrue, refl, ap, sym, subst, arith, append-nil}
+use Rattle.std.proofs.Common.{◌≡◌, ◌∙◌, ◌≢◌, ℕ, ◌+◌, ◌-◌, ◌^◌, ◌<◌, ◌≤◌, min, inl, List, [], length, slice_index, Option, None, IfSome, IsSomeAnd, Result, Ok, Err, IfOk, IfErr, IsTrue, refl, ap, sym, subst, arith, append-nil}
 use Rattle.arrayvec.specs.ArrayVec.{ArrayVec}
 use Rattle.afl_outside.specs.Counts.{risen}
 use Rattle.afl_outside.specs.Disk.{Moment}
 use Rattle.logical_plan.specs.Meaning.{Database as Rows}
 use Rattle.logical_plan.specs.declared.parts.Leaf.{Leaf}
 use Rattle.chunk_map.specs.declared.directory.DirEntry.{DirEntry}
-use Rattle.chunk_source.specs.declared.sources.fault.SourceFault.{SourceFault}
-use Rattle.chunk_source.specs.Source.{asks, is_among, listed, AsksFor, Blames, Keeps, Reads}
+use Rattle.chunk_source.specs.Source.{is_among, listed, Keeps, Reads}
 use Rattle.plan_changes.specs.Databases.{Database, rows_of}
 use Rattle.event_core.specs.Cells.{at}
 use Rattle.event_core.specs.History.{History}
@@ -30,10 +29,10 @@ use Rattle.snapshot_manager.proofs.Sights.{pins_see_the_same}
 use Rattle.session_sources.specs.declared.marks.Marks.{Marks}
 use Rattle.session_sources.specs.declared.reading.Lent.{Lent}
 use Rattle.session_sources.specs.declared.reading.Reading.{Reading}
-use Rattle.session_sources.specs.Inner.Marking.{answer_of, marks_after, no_marks}
+use Rattle.session_sources.specs.Inner.Marking.{marks_after, no_marks}
 use Rattle.session_sources.specs.Pinned.{pinned_state, reading_of, store_lent, unread, HasRead}
 use Rattle.session_sources.specs.Stored.{numbers_at, AreRowsAfter, BeginsPayload}
-use Rattle.session_sources.proofs.Answering.{asked_count, asks_by, blames, ok_answer, one_counted, same_asked, with_asked}
+use Rattle.session_sources.proofs.Answering.{asked_count, one_counted, with_asked}
 use Rattle.session_sources.proofs.NoteSteps.{stepped, Stepped}
 use Rattle.session_sources.proofs.VersionLaws.{leaf_listed, leaf_unless}
 

@@ -1,5 +1,5 @@
 -- The versions that can be named, as a source has them.
-use Rattle.std.proofs.Common.{◌≡◌, ◌∙◌, ℕ, ◌⊎◌, inl, inr, Bool, true, false, nat_eq, if◌then◌else◌, List, [], Option, None, Some, IsTrue, refl, ap, sym, subst}
+use Rattle.std.proofs.Common.{◌≡◌, ◌∙◌, ℕ, ◌⊎◌, inl, inr, Bool, true, false, nat_eq, if◌then◌else◌, List, [], Option, None, Some, IsTrue, refl, ap, sym}
 use Rattle.std.specs.List.{list_any}
 use Rattle.arrayvec.specs.ArrayVec.{ArrayVec}
 use Rattle.cell_values.specs.declared.schema.Schema.{Schema}

@@ -18,7 +18,6 @@ use Rattle.array_store.specs.Starts.{start_of}
 use Rattle.snapshot_manager.specs.declared.seat.Seat.{Seat}
 use Rattle.snapshot_manager.specs.Seats.{store_of, HasTurn}
 use Rattle.session_sources.specs.declared.holding.Holding.{Holding}
-use Rattle.session_sources.specs.declared.holding.LentTurn.{LentTurn}
 use Rattle.session_sources.specs.declared.marks.Marks.{Marks}
 use Rattle.session_sources.specs.Courses.{IsFaultAtMost}
 use Rattle.session_sources.specs.Inner.Marking.{no_marks}

@@ -1,5 +1,5 @@
 -- The source of what a pin sees: from when its seat is lent to when it is handed back.
-use Rattle.std.specs.Prelude.{◌≡◌, ℕ, ◌+◌, ◌-◌, ◌^◌, ◌<◌, length, min, None, IfSome, IsTrue}
+use Rattle.std.specs.Prelude.{◌≡◌, ◌+◌, ◌-◌, ◌^◌, ◌<◌, length, min, None, IfSome, IsTrue}
 use Rattle.afl_outside.specs.Disk.{Moment}
 use Rattle.chunk_source.specs.Source.{SourceState}
 use Rattle.plan_changes.specs.Databases.{Database}

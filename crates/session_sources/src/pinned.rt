@@ -101,17 +101,17 @@ impl<'a, D: Disk, R: Wait> ChunkSource for PinnedSource<'a, D, R> {
         if leaf.version == 0 {
             return Ok(List::new(self.alloc));
         }
-        let chunks =
-            self.shared
-                .listed(self.rt, self.alloc, &mut self.seat, self.pinned, leaf)?;
+        let chunks = self
+            .shared
+            .listed(self.rt, self.alloc, &mut self.seat, self.pinned, leaf)?;
         Ok(chunks)
     }
 
     fn chunk(&mut self, number: u32, leaf: &Leaf, at: &ChunkAt) -> Result<Chunk, SourceFault> {
         self.marks.ask(number, at)?;
-        let answer =
-            self.shared
-                .read_chunk(self.rt, self.alloc, &mut self.seat, self.pinned, leaf, at);
+        let answer = self
+            .shared
+            .read_chunk(self.rt, self.alloc, &mut self.seat, self.pinned, leaf, at);
         self.marks.answer(answer)
     }
 

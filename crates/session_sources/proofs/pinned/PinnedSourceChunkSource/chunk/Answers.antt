@@ -1,4 +1,4 @@
-use Rattle.std.proofs.Common.{◌≡◌, IfOk, IsTrue, subst, sym, ap, refl}
+use Rattle.std.proofs.Common.{IfOk, IsTrue, subst, sym, ap, refl}
 use Rattle.chunk_source.specs.Source.{is_among, listed, AsksFor, Blames, IsChunkIn, IsStored, Keeps}
 use Rattle.logical_plan.specs.Meaning.{Database as Rows}
 use Rattle.store_state.specs.Calls.{IsLeafOf}
