@@ -1,25 +1,30 @@
 -- One more turn of a session under its pin, which notes a fault or nothing.
-use Rattle.std.proofs.Common.{◌≡◌, ◌∙◌, ℕ, ◌⊎◌, inl, inr, Bool, true, false, not, ◌&&◌, cond, nat_eq, if◌then◌else◌, List, [], ◌∷◌, ◌++◌, Some, refl, ap, sym, subst, append-nil}
+use Rattle.std.proofs.Common.{◌≡◌, ◌∙◌, ℕ, ◌⊎◌, inl, inr, Bool, true, false, not, ◌&&◌, cond, nat_eq, if◌then◌else◌, List, [], ◌∷◌, ◌++◌, None, Some, refl, ap, sym, subst, append-nil, arith}
 use Rattle.std.proofs.lemmas.Bool.{eq-eqb}
 use Rattle.turn_lock.specs.Owners.{is_owned_by, none_of}
+use Rattle.afl_outside.specs.Counts.{Rose}
+use Rattle.afl_outside.specs.Disk.{DiskState}
+use Rattle.event_core.specs.declared.entry.Entry.{Entry}
+use Rattle.event_core.specs.Allowed.{is_pinned}
 use Rattle.event_core.specs.History.{pin_before}
 use Rattle.event_core.proofs.Tests.{both_not}
 use Rattle.store_ledger.specs.declared.note.Note.{Note}
 use Rattle.store_ledger.specs.declared.note.NoteKind.{NoteKind}
 use Rattle.store_ledger.specs.declared.note.NoteKind.TheVariants.{Fault}
 use Rattle.store_ledger.specs.declared.pinned.Pinned.{Pinned}
-use Rattle.store_ledger.specs.Ledger.{LedgerState, history, is_fault, is_noted, is_tried, note_now, IsOpenPin}
+use Rattle.store_ledger.specs.Ledger.{LedgerState, history, is_fault, is_noted, is_tried, note_now, with_fault, with_notes, IsOpenPin}
+use Rattle.store_ledger.proofs.Keeping.{pinned_of}
 use Rattle.store_state.specs.declared.event.Event.{Event}
 use Rattle.store_state.specs.declared.event.Event.TheVariants.{Noted}
 use Rattle.store_state.specs.Events.{owner_of}
+use Rattle.store_commits.proofs.Ended.{fault_seen}
 use Rattle.array_store.specs.declared.start.Start.{Start}
 use Rattle.array_store.specs.Growth.{fault_events}
-use Rattle.snapshot_manager.specs.Told.{ledger_of}
-use Rattle.snapshot_manager.specs.Turns.{found_before, own_events, AddsAtMostNote}
-use Rattle.snapshot_manager.proofs.Notes.{notes_outlast, others_leave_notes}
-use Rattle.snapshot_manager.proofs.PinReads.{fault_noted}
-use Rattle.snapshot_manager.proofs.Sights.{others_leave_pins, pins_outlast}
-use Rattle.snapshot_manager.proofs.Turning.{turns_find}
+use Rattle.told_stores.specs.Told.{ledger_of}
+use Rattle.told_stores.specs.Turns.{found_before, own_events, AddsAtMostNote}
+use Rattle.told_stores.proofs.Notes.{more_ledger, notes_outlast, others_leave_notes}
+use Rattle.told_stores.proofs.Sights.{others_leave_pins, pins_outlast}
+use Rattle.told_stores.proofs.Turning.{turns_find}
 use Rattle.session_sources.specs.Courses.{AddsAtMostFault, AddsOwn, IsFaultAtMost}
 use Rattle.session_sources.specs.Laws.{FaultsAreOwn}
 use Rattle.session_sources.proofs.CourseLaws.{courses_join, none_own}
@@ -45,6 +50,27 @@ kept_own false event e = absurd (both_not false refl e)
 
 pub one_own : (session : ℕ) (note : Note) → note.session ≡ session → own_events session (Noted note ∷ []) ≡ Noted note ∷ []
 one_own session note e = kept_own (is_owned_by (owner_of (Noted note)) session) (Noted note) (eq-eqb note.session session e)
+
+-- ---- the note of a fault is seen under the session's pin
+
+noted_now : (ledger : LedgerState) (session : ℕ) → is_pinned session (history ledger) ≡ true → is_noted is_fault (with_fault session ledger) session ≡ true
+noted_now ledger session pinned =
+    let whole : DiskState = record { name = None; first = None; seen = None; honest = true; moment = 0; faults = 0; wants = 0 } in
+    let failed : DiskState = record { name = None; first = None; seen = None; honest = true; moment = 0; faults = 1; wants = 0 } in
+    let rose : Rose 0 1 = omega arith in
+    fault_seen whole failed session ledger (with_fault session ledger) pinned (record { rose = λ r. refl; still = λ same. absurd (same rose) }) rose
+
+fault_noted : {D : Type 0} (start : Start D) (found : List Event) (session : ℕ) → is_pinned session (history (ledger_of start found)) ≡ true →
+    is_noted is_fault (ledger_of start found) session ≡ false →
+    is_noted is_fault (ledger_of start (found ++ Noted (note_now Fault (ledger_of start found) session) ∷ [])) session ≡ true
+fault_noted start found session pinned free =
+    let ledger : LedgerState = ledger_of start found in
+    let note : Note = note_now Fault ledger session in
+    ap (λ (l : LedgerState). is_noted is_fault l session)
+    (more_ledger start found (Noted note ∷ [])
+    ∙ ap (λ (es : List Entry). record ledger { entries = es; notes = ledger.notes ++ note ∷ [] }) (append-nil ledger.entries)
+    ∙ sym (ap (λ (b : Bool). if b then ledger else with_notes (note ∷ []) ledger) free))
+    ∙ noted_now ledger session pinned
 
 pub faults_are_own : FaultsAreOwn
 faults_are_own ledger session own (inl none) = ap (own_events session) none ∙ sym none
@@ -106,10 +132,9 @@ module _ {D : Type 0} (start : Start D) (session : ℕ) (first : List Event) whe
         let found : List Event = old ++ others in
         let note : Note = note_now Fault (ledger_of start found) session in
         let still : Stepped start session first old found = step_quiet old others found a theirs refl in
-        let faults : fault_events (ledger_of start found) session ≡ Noted note ∷ [] = ap (λ (b : Bool). if b then [] else Noted note ∷ []) was in
         let noted : is_noted is_fault (ledger_of start new) session ≡ true =
-        ap (λ (es : List Event). is_noted is_fault (ledger_of start es) session) (e ∙ ap (λ (es : List Event). found ++ es) (sym faults))
-        ∙ fault_noted start found session found_open.before begun_found in
+        ap (λ (es : List Event). is_noted is_fault (ledger_of start es) session) e
+        ∙ fault_noted start found session (pinned_of session (history (ledger_of start found)) found_open.before begun_found) was in
         record {
           adds = first_fault found new note still.adds.own still.adds.adds still.adds.note was refl refl e noted;
           noted = λ before. noted;

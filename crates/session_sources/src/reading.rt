@@ -6,7 +6,6 @@ use snapshot_manager::{Seat, Shared};
 use store_ledger::Pinned;
 
 /// What a pinned source was made with. No value of it is made: it is what contracts see as the source's start.
-#[derive(Drop)]
 pub struct Lent<D: Disk> {
     pub shared: Shared<D>,
     pub seat: Seat<D>,
@@ -14,7 +13,6 @@ pub struct Lent<D: Disk> {
 }
 
 /// What it was made with, its seat as it is now, and what it keeps of its calls. No value of it is made.
-#[derive(Drop)]
 pub struct Reading<D: Disk> {
     pub lent: Lent<D>,
     pub seat: Seat<D>,
