@@ -57,6 +57,19 @@ impl<D: Disk> Seat<D> {
         self.last = place;
     }
 
+    // Its seat at the lock.
+    pub(crate) fn into_turn_seat(self) -> TurnSeat<Store<D>>
+        ensures { result ≡ self.turn_seat }
+    {
+        let Seat {
+            turn_seat,
+            entries: _,
+            last: _,
+            reads: _,
+        } = self;
+        turn_seat
+    }
+
     /// How many chunks were asked for with it, up to the last value of a `u64`.
     pub fn reads(&self) -> u64
         ensures { result ≡ read_count self.now }
