@@ -79,7 +79,7 @@ module _ {D : Type 0} (moment : D → Moment) (start : Start D) (old more : List
     at = p.at;
     named = subst (λ (names : Names). IsLeafOf names p.leaf) (sym names_stay) p.named;
     begins = subst (λ (found : Option DirEntry). IsSomeAnd found (λ entry. page ≡ slice_index entry.pages 0))
-      (sym ((places_see_the_same start old more place within sealed).payloads p.leaf p.at)) p.begins;
+        (sym ((places_see_the_same start old more place within sealed).payloads p.leaf p.at)) p.begins;
   }
 
 -- ---- the reply

@@ -2,3 +2,4 @@ pub mod Acts
 pub mod Laws
 pub mod Refusals
 pub mod Replies
+pub mod Worked

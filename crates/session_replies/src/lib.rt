@@ -4,5 +4,5 @@
 mod laws;
 mod reply;
 
-pub use laws::replies_stay;
+pub use laws::{a_damaged_page_is_told, replies_stay};
 pub use reply::{Reply, at_place, refusal_at, uncommitted, unread, want};
