@@ -7,7 +7,7 @@ ghost use Rattle.version_catalog.specs.Catalogs.{names_in};
 ghost use Rattle.event_core.specs.Apart.{makes_version};
 ghost use Rattle.event_core.specs.History.{catalogue_at, names_at};
 ghost use Rattle.commit_pages.specs.Versions.{IsWritten};
-ghost use Rattle.store_ledger.specs.Ledger.{has_room, history};
+ghost use Rattle.store_ledger.specs.Ledger.{MayReap, has_room, history};
 ghost use Rattle.prepared_commits.specs.Needs.{needs_by};
 ghost use Rattle.prepared_parts.specs.Layouts.{IsLayout};
 ghost use Rattle.prepared_parts.specs.Parts.{IsFullFor, IsLeft, IsPreparedAs, IsReadyAs, free_pages, newest_at};
@@ -223,6 +223,7 @@ fn roomed_over(
     requires newest { AreRising (newest_at (names_in catalog.now) table.now.rows place change).entries }
     requires needed { needed ≡ needs_by target catalog.now (newest_at (names_in catalog.now) table.now.rows place change) change written }
     requires room { IsTrue (has_room ledger.old 1) }
+    requires cause { MayReap ledger.old }
     ensures left { IsLeft needed ledger.old result ledger.new }
     ensures full { IsFullFor needed result ledger.new }
     ensures ok { IfOk result (IsPreparedAs target sequence catalog.now (newest_at (names_in catalog.now) table.now.rows place change)
@@ -284,6 +285,7 @@ pub fn prepared_over(
     requires written { IfSome written IsWritten }
     requires newest { AreRising (newest_at (names_in catalog.now) table.now.rows (length ledger.old.entries) change).entries }
     requires room { IsTrue (has_room ledger.old 1) }
+    requires cause { MayReap ledger.old }
     ensures left { IsLeft (needs_by target catalog.now (newest_at (names_in catalog.now) table.now.rows (length ledger.old.entries) change) change written)
         ledger.old result ledger.new }
     ensures full { IsFullFor (needs_by target catalog.now (newest_at (names_in catalog.now) table.now.rows (length ledger.old.entries) change) change written)

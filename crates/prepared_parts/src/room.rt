@@ -1,6 +1,6 @@
 //! Room for a commit's pages.
 ghost use Rattle.std.specs.Prelude.{◌≡◌, ◌≤◌, ◌-◌, ◌^◌, length, min, IsTrue};
-ghost use Rattle.store_ledger.specs.Ledger.{has_room};
+ghost use Rattle.store_ledger.specs.Ledger.{MayReap, has_room};
 ghost use Rattle.prepared_parts.specs.Parts.{IsFullFor, IsLeft, free_pages, is_short};
 
 use cell_values::Memory;
@@ -27,6 +27,7 @@ fn is_short(ledger: &Ledger, needed: u64) -> bool
 /// All pages that nobody can name become free. They have to be so many.
 fn reaped(ledger: &mut Ledger, needed: u64) -> Result<(), PrepareFault>
     requires room { IsTrue (has_room ledger.old 1) }
+    requires cause { MayReap ledger.old }
     requires short { IsTrue (is_short needed ledger.old) }
     ensures left { IsLeft needed ledger.old result ledger.new }
     ensures full { IsFullFor needed result ledger.new }
@@ -47,7 +48,8 @@ fn reaped(ledger: &mut Ledger, needed: u64) -> Result<(), PrepareFault>
 
 /// So many pages are free, after a reap where they are short.
 pub(crate) fn make_room(ledger: &mut Ledger, needed: u64) -> Result<(), PrepareFault>
-    requires { IsTrue (has_room ledger.old 1) }
+    requires room { IsTrue (has_room ledger.old 1) }
+    requires cause { MayReap ledger.old }
     ensures left { IsLeft needed ledger.old result ledger.new }
     ensures full { IsFullFor needed result ledger.new }
 {

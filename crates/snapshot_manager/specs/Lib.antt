@@ -1,6 +1,2 @@
-pub mod Faults
-pub mod Laws
+pub mod Commits
 pub mod Seats
-pub mod Told
-pub mod Turns
-pub mod Worked

@@ -1,15 +1,15 @@
 //! A store that several threads share. Each call takes a turn of it, and says what it adds to what the seat has seen.
 #![tactic(auto)]
 
+mod committing;
 mod create;
 mod finish;
-mod laws;
 mod pinning;
 mod reading;
 mod seat;
 mod shared;
 mod turns;
 
-pub use laws::{a_pin_sees_what_was, stores_are_told, turns_are_seen};
+pub use committing::Commit;
 pub use seat::Seat;
 pub use shared::{Shared, StoreTurn};

@@ -1,5 +1,5 @@
 -- What a ledger keeps, entry by entry.
-use Rattle.std.proofs.Common.{◌≡◌, ◌∙◌, ℕ, suc, ◌+◌, ◌*◌, ◌≤◌, Bool, true, false, not, ◌&&◌, ◌||◌, if◌then◌else◌, nat_eq, nat_le, List, [], ◌∷◌, ◌++◌, length, reverse, Option, None, Some, IsTrue, refl, ap, sym, subst, arith, zero-add}
+use Rattle.std.proofs.Common.{◌≡◌, ◌∙◌, ℕ, suc, ◌+◌, ◌*◌, ◌<◌, ◌≤◌, Bool, true, false, not, ◌&&◌, ◌||◌, if◌then◌else◌, nat_eq, nat_le, List, [], ◌∷◌, ◌++◌, length, reverse, Option, None, Some, IsTrue, refl, ap, sym, subst, arith, zero-add}
 use Rattle.std.specs.List.{filter, list_all, sum_by}
 use Rattle.std.proofs.lemmas.Bool.{and_from, and_parts, eq-eqb}
 use Rattle.std.proofs.lemmas.List.Sums.{sum_by-cons, sum_by_push}
@@ -16,11 +16,12 @@ use Rattle.event_core.proofs.Tests.{both_not, eq_sym}
 use Rattle.event_laws.specs.Pins.{pins_of}
 use Rattle.event_laws.proofs.Pins.{open_pins_are_these}
 use Rattle.store_ledger.specs.declared.note.Note.{Note}
-use Rattle.store_ledger.specs.Ledger.{has_note, is_under, reserved_by, is_tried, is_fault}
+use Rattle.store_ledger.specs.Ledger.{causes, has_note, is_fault, is_tried, is_under, reaps, reserved_by}
 use Rattle.store_ledger.specs.Inner.Kept.{IsKept, entries_to_come, notes_to_come}
 use Rattle.store_ledger.proofs.Notes.{noted_on, within_all, any_reverse}
 use Rattle.store_ledger.proofs.Pins.{unnoted, split}
 use Rattle.store_ledger.proofs.Tried.{same_sum}
+use Rattle.store_ledger.proofs.Waiting.{few_commit, few_first, few_pin, few_reap, few_unpin}
 
 -- ---- the same over equal parts, and over more room
 
@@ -47,6 +48,7 @@ kept_wider base limit h notes core r er nr p er2 nr2 p2 k more_entries more_note
       for_entries = fe;
       for_notes = fn;
       marks = same ∙ k.marks;
+      few = k.few;
     }
 
 -- ---- the beginning
@@ -62,6 +64,7 @@ kept_first base limit er nr p b e = record {
   for_entries = omega arith;
   for_notes = omega arith;
   marks = e;
+  few = few_first base b;
 }
 
 -- ---- no pin takes more than twice as many entries or notes as it reserves
@@ -122,6 +125,7 @@ kept_pin base limit h notes core r er nr p session er2 nr2 k free room re rn =
       for_entries = fe;
       for_notes = fn;
       marks = k.marks;
+      few = few_pin base session h notes k.few;
     }
 
 -- ---- the open pin of a session
@@ -214,6 +218,7 @@ kept_unpin base limit h notes core r er nr p session before left k begun took =
       for_entries = fe;
       for_notes = fn;
       marks = k.marks;
+      few = few_unpin base session h notes k.few;
     }
 
 -- there is room for one more entry while a session is pinned
@@ -229,9 +234,9 @@ one_fits base limit h notes core r er nr p session before k begun =
 -- ---- reaps
 
 pub kept_reap : (base : Core) (limit : ℕ) (h : History) (notes : List Note) (core : Core) (r er nr p er2 : ℕ) →
-    IsKept base limit h notes core r er nr p → length h + r + 1 ≤ limit → length h + (2 * r + 1) ≤ er2 →
+    IsKept base limit h notes core r er nr p → length h + r + 1 ≤ limit → reaps h < causes h notes → length h + (2 * r + 1) ≤ er2 →
     IsKept base limit (Reap ∷ h) notes (core_after core Reap) r er2 nr p
-kept_reap base limit h notes core r er nr p er2 k room re =
+kept_reap base limit h notes core r er nr p er2 k room may re =
     let es : sum_by (entries_to_come h) (open_pins h) ≤ 2 * sum_by (reserved_by notes) (open_pins h) =
     sums_below (entries_to_come h) (reserved_by notes) (entries_fit h notes) (open_pins h) in
     let all_within : suc (length h) + r ≤ limit = omega (arith, room) in
@@ -246,6 +251,7 @@ kept_reap base limit h notes core r er nr p er2 k room re =
       for_entries = fe;
       for_notes = k.for_notes;
       marks = k.marks;
+      few = few_reap base h notes may;
     }
 
 -- ---- commits
@@ -279,4 +285,5 @@ kept_commit base limit h notes core r er nr p session change used k ok first roo
       for_entries = fe;
       for_notes = k.for_notes;
       marks = k.marks;
+      few = few_commit base session change used h notes k.few;
     }

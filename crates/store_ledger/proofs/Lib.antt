@@ -7,3 +7,4 @@ pub mod Pins
 pub mod Told
 pub mod Tried
 pub mod Versions
+pub mod Waiting

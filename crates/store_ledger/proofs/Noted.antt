@@ -20,6 +20,7 @@ use Rattle.store_ledger.specs.Inner.Kept.{IsKept, note_to_come, notes_to_come}
 use Rattle.store_ledger.proofs.Keeping.{begun_of, own_sum, pinned_of}
 use Rattle.store_ledger.proofs.Notes.{any_reverse, within_all}
 use Rattle.store_ledger.proofs.Tried.{same_sum}
+use Rattle.store_ledger.proofs.Waiting.{few_fault, few_tried}
 
 -- the note of a session that comes now
 abbrev pub next_note : NoteKind → ℕ → History → Note
@@ -133,6 +134,7 @@ module _ (base : Core) (limit : ℕ) (h : History) (notes : List Note) (core : C
         for_entries = k.for_entries;
         for_notes = fn;
         marks = k.marks;
+        few = few_fault base h notes session (length h) k.few;
       }
 
   -- what the first try gives back is reserved
@@ -172,6 +174,7 @@ module _ (base : Core) (limit : ℕ) (h : History) (notes : List Note) (core : C
         for_entries = k.for_entries;
         for_notes = fn;
         marks = k.marks;
+        few = few_tried base h notes session (length h) change k.few;
       }
 
   -- there is room for a note of a kind that has not come yet

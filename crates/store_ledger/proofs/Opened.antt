@@ -20,7 +20,7 @@ use Rattle.event_core.proofs.Tests.{filter_agrees}
 use Rattle.event_laws.proofs.Cores.{core_tells_pages}
 use Rattle.store_ledger.specs.declared.note.Note.{Note}
 use Rattle.store_ledger.specs.declared.pinned.Pinned.{Pinned}
-use Rattle.store_ledger.specs.Ledger.{LedgerState, IsOpenPin, reserved_by, history, reserved, has_room, unused_pages, is_tried}
+use Rattle.store_ledger.specs.Ledger.{LedgerState, IsOpenPin, MayReap, reserved_by, history, reserved, has_room, unused_pages, is_tried}
 use Rattle.store_ledger.specs.Inner.Kept.{IsKept}
 use Rattle.store_ledger.proofs.Pins.{one_more}
 use Rattle.store_ledger.proofs.Keeping.{kept_as, kept_pin, kept_reap, kept_unpin, kept_commit, begun_of, one_fits, given_back}
@@ -60,14 +60,14 @@ pin_keeps ledger now session core core2 r er nr p es fs ms er2 nr2 same k free f
     (ef ∙ ap (λ (xs : List Entry). xs ++ Pin session ∷ []) ee) em ec
 
 pub reap_keeps : (ledger now : LedgerState) (core core2 : Core) (r er nr p : ℕ) (fs : List Entry) (er2 : ℕ) → ledger ≡ now →
-    IsKept ledger.base ledger.limit (reverse ledger.entries) ledger.notes core r er nr p → has_room now 1 ≡ true →
+    IsKept ledger.base ledger.limit (reverse ledger.entries) ledger.notes core r er nr p → has_room now 1 ≡ true → MayReap now →
     fs ≡ ledger.entries ++ Reap ∷ [] → core2 ≡ core_after core Reap → length ledger.entries + (2 * r + 1) ≤ er2 →
     IsKept ledger.base ledger.limit (reverse fs) ledger.notes core2 r er2 nr p
-reap_keeps ledger now core core2 r er nr p fs er2 same k fits ef ec re =
+reap_keeps ledger now core core2 r er nr p fs er2 same k fits may ef ec re =
     let room : length (reverse ledger.entries) + r + 1 ≤ ledger.limit = room_of ledger core r er nr p 1 k (subst (λ (l : LedgerState). has_room l 1 ≡ true) (sym same) fits) in
     let long : length (reverse ledger.entries) + (2 * r + 1) ≤ er2 = omega (arith, re, length-reverse ledger.entries) in
     next_kept ledger.base ledger.limit ledger.entries fs Reap ledger.notes ledger.notes (core_after core Reap) core2 r er2 nr p
-    (kept_reap ledger.base ledger.limit (reverse ledger.entries) ledger.notes core r er nr p er2 k room long) ef refl ec
+    (kept_reap ledger.base ledger.limit (reverse ledger.entries) ledger.notes core r er nr p er2 k room (subst MayReap (sym same) may) long) ef refl ec
 
 -- the core tells which pages await a reap
 pub awaiting_told : (ledger : LedgerState) (core : Core) (r er nr p : ℕ) → IsKept ledger.base ledger.limit (reverse ledger.entries) ledger.notes core r er nr p →

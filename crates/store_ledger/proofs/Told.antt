@@ -14,12 +14,13 @@ use Rattle.event_laws.specs.Pins.{pins_of}
 use Rattle.event_laws.proofs.Pins.{open_pins_are_these}
 use Rattle.store_ledger.specs.declared.note.Note.{Note}
 use Rattle.plan_changes.specs.declared.change.Change.{Change}
-use Rattle.store_ledger.specs.Ledger.{LedgerState, IsLedger, attempt, note_now, has_note, has_room, has_under, history, is_noted, reserved, with_notes, is_tried, is_fault}
+use Rattle.store_ledger.specs.Ledger.{LedgerState, AreFew, IsLedger, MayReap, attempt, note_now, has_note, has_room, has_under, history, is_noted, reserved, with_notes, is_tried, is_fault}
 use Rattle.store_ledger.specs.Laws.{NotesAreWithin}
 use Rattle.store_ledger.specs.Inner.Kept.{IsKept}
 use Rattle.store_ledger.proofs.Keeping.{begun_of}
 use Rattle.store_ledger.proofs.Notes.{within_all}
 use Rattle.store_ledger.proofs.Tried.{tried_gives_two_back}
+use Rattle.store_ledger.proofs.Waiting.{may_tried}
 
 le_test : (n m : ℕ) → n ≤ m → nat_le n m ≡ true
 le_test n m e = grind (arith, nat_tests)
@@ -31,7 +32,7 @@ pub is_ledger : (ledger now : LedgerState) (core : Core) (r er nr p : ℕ) → l
 is_ledger ledger now core r er nr p same k =
     let all : r ≡ reserved ledger = k.reserved in
     let within : length ledger.entries + reserved ledger + 0 ≤ ledger.limit = omega (arith, k.within, all, length-reverse ledger.entries) in
-    subst IsLedger same (record { base = k.begins; allowed = k.allowed; notes = k.noted; room = le_test (length ledger.entries + reserved ledger + 0) ledger.limit within })
+    subst IsLedger same (record { base = k.begins; allowed = k.allowed; notes = k.noted; room = le_test (length ledger.entries + reserved ledger + 0) ledger.limit within; few = k.few })
 
 swapped : (a b : Bool) → (a && (b && true)) ≡ (b && a)
 swapped true true = refl
@@ -111,3 +112,10 @@ two_fit ledger now session change after ns same is pinned first e f =
     subst (λ (l : LedgerState). has_room (with_notes (note_now (attempt change) l session ∷ []) l) 2 ≡ true) (sym same) (tried_room now session change is pinned first) in
     let notes : ns ≡ ledger.notes ++ note_now (attempt change) ledger session ∷ [] = f ∙ ap (λ (n : ℕ). ledger.notes ++ record { session = session; kind = attempt change; after = n } ∷ []) e in
     subst (λ (xs : List Note). has_room (record ledger { notes = xs }) 2 ≡ true) (sym notes) room
+
+-- a reap may come behind the note, as the note's call leaves the ledger
+pub reap_may : (ledger now : LedgerState) (session : ℕ) (change : Change) (after : ℕ) (ns : List Note) → ledger ≡ now → IsLedger now →
+    ns ≡ ledger.notes ++ record { session = session; kind = attempt change; after = after } ∷ [] → MayReap (record ledger { notes = ns })
+reap_may ledger now session change after ns same is e =
+    subst (λ (xs : List Note). MayReap (record ledger { notes = xs })) (sym e)
+    (may_tried ledger.base (history ledger) ledger.notes session after change (subst (λ (l : LedgerState). AreFew l.base (history l) l.notes) (sym same) is.few))

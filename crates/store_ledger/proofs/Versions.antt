@@ -7,7 +7,7 @@ use Rattle.event_core.specs.declared.entry.Used.{Used}
 use Rattle.event_core.specs.declared.entry.Entry.{Entry}
 use Rattle.event_core.specs.declared.entry.Entry.TheVariants.{Pin, Unpin, Commit, Reap}
 use Rattle.event_core.specs.declared.state.Core.{Core}
-use Rattle.event_core.specs.Allowed.{allows, is_pinned}
+use Rattle.event_core.specs.Allowed.{IsBase, allows, is_pinned}
 use Rattle.event_core.specs.History.{History, OpenPin, open_pins, pin_before}
 use Rattle.event_core.specs.Legal.{has_committed}
 use Rattle.event_core.specs.Replay.{pin_at}
@@ -17,7 +17,7 @@ use Rattle.store_ledger.specs.declared.pinned.Pinned.{Pinned}
 use Rattle.store_ledger.specs.Ledger.{LedgerState, IsOpenPin, has_room, history, open_place, reserved_by}
 use Rattle.store_ledger.specs.Inner.Kept.{IsKept, HasVersionRoom, entries_to_come}
 use Rattle.store_ledger.proofs.Pins.{one_more}
-use Rattle.store_ledger.proofs.Keeping.{kept_pin, kept_unpin, kept_commit, begun_of, one_fits, given_back}
+use Rattle.store_ledger.proofs.Keeping.{kept_as, kept_first, kept_pin, kept_unpin, kept_commit, begun_of, one_fits, given_back}
 use Rattle.store_ledger.proofs.Opened.{room_of}
 
 -- the same with as much room for entries as may come
@@ -35,6 +35,7 @@ tight base limit h notes core r er nr p k =
       for_entries = fe;
       for_notes = k.for_notes;
       marks = k.marks;
+      few = k.few;
     }
 
 -- the same of the entries after one more
@@ -100,3 +101,12 @@ reap_room es fs old new had same ef = room_next es fs Reap new (subst (λ (n : �
 pub places_told : (base : Core) (pins : List OpenPin) → map core_place (map (pin_at base) pins) ≡ map open_place pins
 places_told base [] = refl
 places_told base (pin ∷ pins) = ap (λ (ps : List (ℕ × ℕ)). (pin.session, length pin.before) ∷ ps) (places_told base pins)
+
+-- a ledger without entries, as its parts stand
+pub first_of : (base start : Core) (limit : ℕ) (core : Core) (es : List Entry) (ns : List Note) (er nr p room : ℕ) → IsBase base → p ≡ base.limit → start ≡ base → core ≡ base → es ≡ [] → ns ≡ [] →
+    IsKept start limit (reverse es) ns core 0 er nr p × HasVersionRoom (reverse es) room
+first_of base start limit core es ns er nr p room b marks is_start is_core no_entry no_note = (
+  subst (λ (s : Core). IsKept s limit (reverse es) ns core 0 er nr p) (sym is_start)
+      (kept_as base limit [] (reverse es) [] ns base core 0 0 er nr p (kept_first base limit er nr p b marks) (ap reverse no_entry) no_note is_core refl),
+  subst (λ (xs : List Entry). HasVersionRoom (reverse xs) room) (sym no_entry) (let none : sum_by (entries_to_come []) [] ≡ 0 = refl in omega (arith, none)),
+)

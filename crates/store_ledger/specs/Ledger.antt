@@ -1,5 +1,5 @@
 -- The ledger of a store: a history, notes, and the entries that open pins reserve.
-use Rattle.std.specs.Prelude.{◌≡◌, ◌≤◌, ◌+◌, ℕ, Bool, true, false, not, ◌&&◌, if◌then◌else◌, nat_eq, nat_le, nat_lt, List, [], ◌∷◌, ◌++◌, length, map, reverse, Option, None, Some, IfSome, IsTrue}
+use Rattle.std.specs.Prelude.{◌≡◌, ◌≤◌, ◌<◌, ◌+◌, ℕ, Bool, true, false, not, ◌&&◌, if◌then◌else◌, nat_eq, nat_le, nat_lt, List, [], ◌∷◌, ◌++◌, length, map, reverse, Option, None, Some, IfSome, IsTrue}
 use Rattle.std.specs.List.{filter, list_all, list_any, sum_by}
 use Rattle.plan_changes.specs.declared.change.Change.{Change}
 use Rattle.event_core.specs.declared.entry.Entry.{Entry}
@@ -7,6 +7,7 @@ use Rattle.event_core.specs.declared.entry.Entry.TheVariants.{Pin, Unpin, Commit
 use Rattle.event_core.specs.declared.state.Core.{Core}
 use Rattle.version_reaper.specs.PageSets.{pages_below}
 use Rattle.event_core.specs.Allowed.{IsBase, is_allowed, is_pinned}
+use Rattle.event_core.specs.Bases.{commits}
 use Rattle.event_core.specs.Pages.{is_live, is_awaiting}
 use Rattle.event_core.specs.History.{History, OpenPin, names_at, open_pins, pin_before, up_to}
 use Rattle.store_ledger.specs.declared.note.Note.{Note}
@@ -104,13 +105,47 @@ reserved ledger = sum_by (reserved_by ledger.notes) (open_pins (history ledger))
 abbrev pub has_room : LedgerState → ℕ → Bool
 has_room ledger count = nat_le (length ledger.entries + reserved ledger + count) ledger.limit
 
--- WHAT A LEDGER IS: its entries are allowed over a base, its notes may stand beside them, and what stands and what is reserved is within
--- the limit
+-- ---- how many reaps
+
+abbrev pub reaps : History → ℕ
+reaps [] = 0
+reaps (Pin session ∷ before) = reaps before
+reaps (Unpin session ∷ before) = reaps before
+reaps (Commit session change used ∷ before) = reaps before
+reaps (Reap ∷ before) = reaps before + 1
+
+abbrev pub unpins : History → ℕ
+unpins [] = 0
+unpins (Pin session ∷ before) = unpins before
+unpins (Unpin session ∷ before) = unpins before + 1
+unpins (Commit session change used ∷ before) = unpins before
+unpins (Reap ∷ before) = unpins before
+
+-- how often there was cause for a reap: each commit, each unpin, and each commit that was tried
+abbrev pub causes : History → List Note → ℕ
+causes h notes = commits h + unpins h + length (filter (λ note. is_tried note.kind) notes)
+
+-- whether some page awaits a reap
+abbrev pub is_waiting : Core → History → Bool
+is_waiting base h = list_any (is_awaiting base h) (pages_below base.limit)
+
+-- REAPS ARE FEW: each had a cause of its own, and where a page awaits a reap there is one more. No pin has more than three: its commit, its
+-- unpin, and that a commit was tried under it
+abbrev pub AreFew : Core → History → List Note → Type 0
+AreFew base h notes = reaps h + (if is_waiting base h then 1 else 0) ≤ causes h notes
+
+-- there is a cause for one more
+abbrev pub MayReap : LedgerState → Type 0
+MayReap ledger = reaps (history ledger) < causes (history ledger) ledger.notes
+
+-- WHAT A LEDGER IS: its entries are allowed over a base, its notes may stand beside them, what stands and what is reserved is within the
+-- limit, and reaps are few
 pub record IsLedger (ledger : LedgerState) : Type 0 where
   pub base : IsBase ledger.base
   pub allowed : IsTrue (is_allowed ledger.base (history ledger))
   pub notes : AreNoted (history ledger) (reverse ledger.notes)
   pub room : IsTrue (has_room ledger 0)
+  pub few : AreFew ledger.base (history ledger) ledger.notes
 
 -- ---- open pins
 
@@ -138,7 +173,7 @@ unused_pages ledger = filter (λ page. not (is_live ledger.base (history ledger)
 
 -- whether a reap comes: some page awaits it, and the history has room for it
 abbrev pub reap_comes : LedgerState → Bool
-reap_comes ledger = has_room ledger 1 && list_any (is_awaiting ledger.base (history ledger)) (pages_below ledger.base.limit)
+reap_comes ledger = has_room ledger 1 && is_waiting ledger.base (history ledger)
 
 -- ---- events
 

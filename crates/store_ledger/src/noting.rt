@@ -4,7 +4,7 @@ ghost use Rattle.std.specs.List.{list_any};
 ghost use Rattle.store_ledger.specs.declared.note.NoteKind.TheVariants.{Fault};
 ghost use Rattle.event_core.specs.Allowed.{is_pinned};
 ghost use Rattle.event_core.specs.History.{pin_before};
-ghost use Rattle.store_ledger.specs.Ledger.{attempt, has_note, has_room, history, is_fault, is_noted, is_tried, note_now, with_fault, with_notes};
+ghost use Rattle.store_ledger.specs.Ledger.{MayReap, attempt, has_note, has_room, history, is_fault, is_noted, is_tried, note_now, with_fault, with_notes};
 
 use crate::{Ledger, Note, NoteKind};
 use lean_core::LeanPin;
@@ -78,6 +78,7 @@ impl Ledger {
         requires first { IfSome (pin_before session (history self.old)) (λ before. has_note is_tried self.old.notes (record { session = session; before = before }) ≡ false) }
         ensures noted { self.new ≡ with_notes (note_now (attempt change.now) self.old session ∷ []) self.old }
         ensures room { IsTrue (has_room self.new 2) }
+        ensures cause { MayReap self.new }
     {
         let after = self.entries.len() as u64;
         self.notes.push_reserved(Note {

@@ -2,7 +2,7 @@
 ghost use Rattle.std.specs.Prelude.{◌≡◌, ◌≤◌, ◌<◌, ◌+◌, ◌-◌, ◌^◌, [], ◌∷◌, ◌++◌, length, if◌then◌else◌, vec_capacity, IfOk, OnOk, OnErr, IsTrue};
 ghost use Rattle.event_core.specs.declared.entry.Entry.TheVariants.{Reap};
 ghost use Rattle.event_core.specs.Replay.{core_after};
-ghost use Rattle.store_ledger.specs.Ledger.{has_room, reap_comes, with_entries};
+ghost use Rattle.store_ledger.specs.Ledger.{MayReap, has_room, reap_comes, with_entries};
 
 use crate::Ledger;
 use cell_values::Memory;
@@ -52,7 +52,8 @@ impl Ledger {
 
     /// All pages that nobody can name become free, whether that frees one or not.
     pub fn reap_now(&mut self) -> Result<(), Memory>
-        requires { IsTrue (has_room self.old 1) }
+        requires room { IsTrue (has_room self.old 1) }
+        requires cause { MayReap self.old }
         ensures ok { OnOk result (self.new ≡ with_entries (Reap ∷ []) self.old) }
         ensures err { OnErr result (self.new ≡ self.old) }
     {

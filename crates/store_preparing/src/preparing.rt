@@ -9,7 +9,7 @@ ghost use Rattle.event_core.specs.Bases.{sequence_at};
 ghost use Rattle.event_core.specs.History.{names_at};
 ghost use Rattle.commit_pages.specs.Changes.{AreValid};
 ghost use Rattle.commit_pages.specs.Versions.{CanBeListed, IsWritten, draft, draft_of};
-ghost use Rattle.store_ledger.specs.Ledger.{has_room, history, is_noted, is_tried};
+ghost use Rattle.store_ledger.specs.Ledger.{MayReap, has_room, history, is_noted, is_tried};
 ghost use Rattle.store_state.specs.At.{AreParts, keeping, standing};
 ghost use Rattle.store_state.specs.Standings.{base_of};
 ghost use Rattle.prepared_commits.specs.Needs.{needs, needs_by, newest_now};
@@ -77,6 +77,7 @@ fn prepared_of<D: Disk>(
     requires comes { is_some written ≡ makes_version change }
     requires written { IfSome written IsWritten }
     requires room { IsTrue (has_room parts.old.ledger 1) }
+    requires cause { MayReap parts.old.ledger }
     ensures at { AreParts D.moment parts.new }
     ensures kept { keeping parts.new ≡ keeping parts.old }
     ensures left { IsLeft (needs_by parts.old.file.slots.target parts.old.catalog (newest_now (standing D.moment parts.old) change) change written)

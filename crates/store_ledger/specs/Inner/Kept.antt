@@ -8,7 +8,7 @@ use Rattle.event_core.specs.Legal.{has_committed}
 use Rattle.event_core.specs.Replay.{core_at}
 use Rattle.store_ledger.specs.declared.note.Note.{Note}
 use Rattle.store_ledger.specs.declared.note.NoteKind.{NoteKind}
-use Rattle.store_ledger.specs.Ledger.{AreNoted, has_note, reserved_by, is_tried, is_fault}
+use Rattle.store_ledger.specs.Ledger.{AreFew, AreNoted, has_note, reserved_by, is_tried, is_fault}
 
 -- the entries that may still come under an open pin without memory: its commit, if there was none yet, and its unpin
 abbrev pub entries_to_come : History → OpenPin → ℕ
@@ -26,7 +26,7 @@ abbrev pub HasVersionRoom : History → ℕ → Type 0
 HasVersionRoom h room = sum_by (entries_to_come h) (open_pins h) ≤ room
 
 -- the core is that of the history, the notes stand beside it, the number of reserved entries is theirs, all entries are within the limit, and
--- there is room for what may come without memory
+-- there is room for what may come without memory, and reaps are few
 pub record IsKept (base : Core) (limit : ℕ) (h : History) (notes : List Note) (core : Core) (reserves entry_room note_room pages : ℕ) : Type 0 where
   pub begins : IsBase base
   pub allowed : IsTrue (is_allowed base h)
@@ -37,3 +37,4 @@ pub record IsKept (base : Core) (limit : ℕ) (h : History) (notes : List Note) 
   pub for_entries : length h + sum_by (entries_to_come h) (open_pins h) ≤ entry_room
   pub for_notes : length notes + sum_by (notes_to_come notes) (open_pins h) ≤ note_room
   pub marks : pages ≡ base.limit
+  pub few : AreFew base h notes

@@ -1,0 +1,168 @@
+//! Lines, and what they are answered.
+ghost use Rattle.std.specs.Prelude.{IfOk};
+ghost use Rattle.test_commits.specs.Runs.{IsRun};
+
+use crate::bench::Bench;
+use crate::sessions::{Run, Step, answer_to, create_all};
+use anyhow::Result;
+use cell_values::Memory;
+use std::alloc::{AllocError, Global};
+use test_kit::begin_answer;
+use test_stores::{Answer, QuietDisk, opened, reaped};
+
+/// Adds how many pages nobody can name, and how many entries and notes there are.
+fn push_counts(out: &mut String, run: &mut Run) -> Result<(), AllocError>
+    requires { IsRun run.old }
+    ensures { IsRun run.new }
+{
+    let free = run.store.free_pages();
+    let entries = run.store.history().len();
+    let notes = run.store.notes();
+    writeln!(out, "{free} pages free, {entries} entries, {notes} notes")
+}
+
+/// The answer to the words of a line that is a step of a session.
+fn answer_step(alloc: Global, run: &mut Run, words: &[&str]) -> Answer
+    requires { IsRun run.old }
+    ensures { IsRun run.new }
+{
+    match words {
+        ["pin", session] => answer_to(alloc, run, session, Step::Pin),
+        ["unpin", session] => answer_to(alloc, run, session, Step::Unpin),
+        ["cells", session, word] => answer_to(alloc, run, session, Step::Cells(word)),
+        ["versions", session, word] => answer_to(alloc, run, session, Step::Versions(word)),
+        ["create", from, to] => create_all(alloc, run, from, to),
+        ["reap"] => reaped(&mut run.store),
+        _ => Answer::Unknown,
+    }
+}
+
+/// The text behind the first two words of a line, each with a space.
+fn text_behind(line: &str) -> &str {
+    match line.split_once(' ') {
+        Some((_, rest)) => match rest.split_once(' ') {
+            Some((_, text)) => text,
+            None => "",
+        },
+        None => "",
+    }
+}
+
+/// Adds the answer to the words of a line.
+fn push_answer(
+    out: &mut String,
+    bench: &mut Bench,
+    run: &mut Run,
+    line: &str,
+    words: &[&str],
+) -> Result<(), Memory>
+    requires { IsRun run.old }
+    ensures { IsRun run.new }
+{
+    match words {
+        ["calls"] | ["mark"] | ["fail", ..] | ["bytes", ..] => bench.answer(out, words),
+        ["counts"] => Ok(push_counts(out, run)?),
+        ["change", session, ..] => {
+            let text = text_behind(line);
+            answer_to(*out.allocator(), run, session, Step::Change(text)).push(out)
+        }
+        words => answer_step(*out.allocator(), run, words).push(out),
+    }
+}
+
+/// Whether a line makes a disk, or opens a store anew.
+fn opens(line: &str) -> bool {
+    line.starts_with("new ") || line.starts_with("format1 ") || line == "open"
+}
+
+/// Prints a line with its answer.
+fn tell(rt: &(impl Print + AllocGlobal), bench: &mut Bench, run: &mut Run, line: &str) -> Result<()>
+    requires { IsRun run.old }
+    ensures { IsRun run.new }
+{
+    let mut out = String::new(rt.alloc());
+    if begin_answer(&mut out, line)? {
+        let words: Vec<&str> = line.split_whitespace().collect(rt.alloc())?;
+        push_answer(&mut out, bench, run, line, words.as_slice())?;
+    }
+    print!(rt; "{out}")?;
+    Ok(())
+}
+
+/// Prints the lines from one on with their answers, up to one that opens a store. Its place is the answer.
+fn tell_steps(
+    rt: &(impl Print + AllocGlobal),
+    bench: &mut Bench,
+    run: &mut Run,
+    lines: &[&str],
+    from: usize,
+) -> Result<usize>
+    requires { IsRun run.old }
+{
+    for at in from..lines.len() {
+        if opens(lines[at]) {
+            return Ok(at);
+        }
+        tell(rt, bench, run, lines[at])?;
+    }
+    Ok(lines.len())
+}
+
+fn tell_answer(rt: &(impl Print + AllocGlobal), line: &str, answer: &Answer) -> Result<()> {
+    let mut out = String::new(rt.alloc());
+    begin_answer(&mut out, line)?;
+    answer.push(&mut out)?;
+    print!(rt; "{out}")?;
+    Ok(())
+}
+
+/// The store over the disk, as it is opened now.
+fn run_over(alloc: Global, bench: &Bench) -> Result<Run, Answer>
+    ensures { IfOk result IsRun }
+{
+    match QuietDisk::over(&bench.watch) {
+        Ok(disk) => match opened(alloc, disk, bench.limits) {
+            Ok(store) => Ok(Run::new(store)),
+            Err(cause) => Err(Answer::Unopened(cause)),
+        },
+        Err(Memory) => Err(Answer::Memory),
+    }
+}
+
+/// Prints the line that opened a store, and the lines behind it with their answers, up to the next one that opens a store.
+fn tell_run(
+    rt: &(impl Print + AllocGlobal),
+    bench: &mut Bench,
+    run: &mut Run,
+    lines: &[&str],
+    from: usize,
+    line: &str,
+) -> Result<usize>
+    requires { IsRun run.old }
+{
+    tell_answer(rt, line, &Answer::Done)?;
+    tell_steps(rt, bench, run, lines, from)
+}
+
+/// Opens the store for a line, and prints the lines behind it with their answers, up to the next one that opens a store.
+pub(crate) fn tell_store(
+    rt: &(impl Print + AllocGlobal),
+    bench: &mut Bench,
+    lines: &[&str],
+    from: usize,
+    line: &str,
+) -> Result<usize> {
+    match run_over(rt.alloc(), bench) {
+        Ok(mut run) => {
+            let next = tell_run(rt, bench, &mut run, lines, from, line);
+            drop(run);
+            next
+        }
+        Err(answer) => {
+            let told = tell_answer(rt, line, &answer);
+            drop(answer);
+            told?;
+            Ok(from)
+        }
+    }
+}

@@ -1,0 +1,65 @@
+//! Runs the steps that the lines of standard input are over a store in memory.
+//!
+//! `new 64 100` makes an empty database of so many pages, whose history may have so many entries, and opens it; `format1 64 100` one of
+//! format 1. `open` closes the store and opens it again over what the disk holds. `pin 0`, `unpin 0`, `change 0 TEXT`, `cells 0 A@1` and
+//! `versions 0 A` are steps of a session, 0 or 1; `create 5 9` are a pin of session 0, a
+//! change that creates `A5`, and an unpin, and so on up to `A8`.
+//! `reap` and `counts` are about all. `calls` tells what the disk's calls since the last such line, or `mark`, cost, `fail 3` that the third
+//! call from now fails, and `bytes 512 8` which bytes stand at a place.
+#![tactic(auto)]
+
+mod bench;
+mod lines;
+mod sessions;
+
+use anyhow::Result;
+use bench::Bench;
+use lines::tell_store;
+use test_kit::input;
+
+/// Prints a line that isn't about a store that is open.
+fn tell_line(rt: &impl Print, line: &str) -> Result<()> {
+    println!(rt; "{line}")?;
+    Ok(())
+}
+
+/// Prints the lines from one on with their answers, as long as they are over one disk. The place of the next one is the answer.
+fn tell_disk(
+    rt: &(impl Print + AllocGlobal),
+    bench: &mut Bench,
+    lines: &[&str],
+    from: usize,
+) -> Result<usize> {
+    let mut at = from;
+    for _ in from..lines.len() {
+        if at >= lines.len() {
+            break;
+        }
+        let line = lines[at];
+        if at > from && line != "open" {
+            break;
+        }
+        at = tell_store(rt, bench, lines, at.saturating_add(1), line)?;
+    }
+    Ok(at)
+}
+
+fn main(rt: HostRuntime) -> Result<()> {
+    let text = input(&rt)?;
+    let lines: Vec<&str> = text.lines().collect(rt.alloc())?;
+    let mut at = 0;
+    for _ in 0..lines.len() {
+        if at >= lines.len() {
+            break;
+        }
+        let words: Vec<&str> = lines[at].split_whitespace().collect(rt.alloc())?;
+        match Bench::of(rt.alloc(), words.as_slice())? {
+            Some(mut bench) => at = tell_disk(&rt, &mut bench, lines.as_slice(), at)?,
+            None => {
+                tell_line(&rt, lines[at])?;
+                at = at.saturating_add(1);
+            }
+        }
+    }
+    Ok(())
+}

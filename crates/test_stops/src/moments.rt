@@ -1,0 +1,92 @@
+//! What the images open as that a stop may leave.
+
+use cell_values::{Bytes, Memory};
+use std::alloc::{AllocError, Global};
+use store_opening::Limits;
+use store_state::ReadFault;
+use test_files::disk_of;
+use test_stores::{QuietDisk, Watch, opened, whole};
+
+/// What a store held before a change, and what it holds with it.
+#[derive(Drop)]
+pub(crate) struct Versions {
+    pub(crate) before: Bytes,
+    pub(crate) after: Bytes,
+}
+
+/// What some images open as.
+#[derive(Clone, Copy)]
+struct Seen {
+    old: bool,
+    new: bool,
+    other: bool,
+}
+
+/// All that a file holds as a store; none where it isn't one, or can't be read.
+pub(crate) fn held(alloc: Global, file: Bytes, limits: Limits) -> Result<Option<Bytes>, Memory> {
+    let (disk, watch) = QuietDisk::watched(alloc, disk_of(alloc, file, None)?)?;
+    drop(watch);
+    match opened(alloc, disk, limits) {
+        Ok(mut store) => match whole(alloc, &mut store) {
+            Ok(text) => Ok(Some(text)),
+            Err(ReadFault::Memory) => Err(Memory),
+            Err(_) => Ok(None),
+        },
+        Err(_) => Ok(None),
+    }
+}
+
+fn add(seen: &mut Seen, versions: &Versions, held: Option<Bytes>) {
+    match held {
+        Some(text) if text.as_slice() == versions.before.as_slice() => seen.old = true,
+        Some(text) if text.as_slice() == versions.after.as_slice() => seen.new = true,
+        _ => seen.other = true,
+    }
+}
+
+/// What the images open as that a stop behind so many calls may leave: with every write kept, with none, and with each one alone left out,
+/// where 0, 1 or 255 stands.
+fn seen_behind(
+    alloc: Global,
+    watch: &Watch,
+    versions: &Versions,
+    limits: Limits,
+    calls: usize,
+) -> Result<Seen, Memory> {
+    let mut seen = Seen {
+        old: false,
+        new: false,
+        other: false,
+    };
+    for fill in [0u8, 1, 255] {
+        for pattern in 0..watch.patterns(calls) {
+            let image = watch.image(alloc, calls, pattern, fill)?;
+            add(&mut seen, versions, held(alloc, image, limits)?);
+        }
+    }
+    Ok(seen)
+}
+
+fn push_seen(out: &mut String, seen: Seen) -> Result<(), AllocError> {
+    let old = if seen.old { "o" } else { "" };
+    let new = if seen.new { "n" } else { "" };
+    let other = if seen.other { "x" } else { "" };
+    write!(out, " {old}{new}{other}")
+}
+
+/// Adds what the images open as, before the first call and behind each write and each sync: o as before the change, n with it, x anything
+/// else.
+pub(crate) fn push_moments(
+    out: &mut String,
+    watch: &Watch,
+    versions: &Versions,
+    limits: Limits,
+) -> Result<(), Memory> {
+    let alloc = *out.allocator();
+    for calls in 0..watch.count().saturating_add(1) {
+        if calls == 0 || watch.is_moment(calls) {
+            push_seen(out, seen_behind(alloc, watch, versions, limits, calls)?)?;
+        }
+    }
+    Ok(())
+}

@@ -1,0 +1,99 @@
+//! What a step is answered.
+
+use cell_values::{Bytes, Memory, Name};
+use page_file::OpenCause;
+use result_print::{Refusal, refusal_line};
+use std::alloc::AllocError;
+use std::str::from_utf8;
+use store_state::ReadFault;
+
+/// What a step is answered.
+#[derive(Drop)]
+pub enum Answer {
+    Done,
+    /// A version was made.
+    Made { name: Name, version: u32 },
+    /// Lines, each with its line feed.
+    Lines(Bytes),
+    /// A reap came, or none.
+    Reaped(bool),
+    /// The session has a pin, or has none.
+    HasPin,
+    HasNoPin,
+    /// The session tried a commit under its pin.
+    HasTried,
+    /// No array or version has the name.
+    Unknown,
+    /// The statement changes nothing.
+    NoChange,
+    /// The change reads stored arrays.
+    Reads,
+    Refused(Refusal),
+    /// What the change is about, or what it reads, was changed since the pin.
+    Stale,
+    HistoryFull { entries: u32 },
+    Full { needed: u32, free: u32 },
+    SequenceEnd,
+    Unread(ReadFault),
+    Unopened(OpenCause),
+    Disk,
+    Memory,
+}
+
+fn push_read_fault(out: &mut String, fault: ReadFault) -> Result<(), AllocError> {
+    match fault {
+        ReadFault::Disk => out.push_str("error: disk\n"),
+        ReadFault::Damaged { page } => writeln!(out, "error: damaged page {page}"),
+        ReadFault::Memory => out.push_str("error: memory\n"),
+    }
+}
+
+fn push_lines(out: &mut String, lines: &Bytes) -> Result<(), AllocError> {
+    out.push_str(from_utf8(lines.as_slice()).unwrap_or("no text\n"))
+}
+
+fn push_refusal(out: &mut String, refusal: &Refusal) -> Result<(), Memory> {
+    let line = refusal_line(*out.allocator(), refusal)?;
+    push_lines(out, &line)?;
+    Ok(())
+}
+
+fn push_made(out: &mut String, name: &Name, version: u32) -> Result<(), AllocError> {
+    let name = from_utf8(name.as_slice()).unwrap_or("no text");
+    writeln!(out, "ok {name}@{version}")
+}
+
+impl Answer {
+    /// Adds it in words, as lines.
+    pub fn push(&self, out: &mut String) -> Result<(), Memory> {
+        match self {
+            Answer::Done => out.push_str("ok\n")?,
+            Answer::Made { name, version } => push_made(out, name, *version)?,
+            Answer::Lines(lines) => push_lines(out, lines)?,
+            Answer::Reaped(true) => out.push_str("reaped\n")?,
+            Answer::Reaped(false) => out.push_str("nothing to reap\n")?,
+            Answer::HasPin => out.push_str("error: the session has a pin\n")?,
+            Answer::HasNoPin => out.push_str("error: the session has no pin\n")?,
+            Answer::HasTried => out.push_str("error: the session tried a commit\n")?,
+            Answer::Unknown => out.push_str("error: unknown\n")?,
+            Answer::NoChange => out.push_str("error: no change\n")?,
+            Answer::Reads => out.push_str("error: reads\n")?,
+            Answer::Refused(refusal) => push_refusal(out, refusal)?,
+            Answer::Stale => out.push_str("error: stale\n")?,
+            Answer::HistoryFull { entries } => writeln!(
+                out,
+                "error: history full, {entries} entries"
+            )?,
+            Answer::Full { needed, free } => writeln!(
+                out,
+                "error: full: needs {needed} pages, {free} free"
+            )?,
+            Answer::SequenceEnd => out.push_str("error: no sequence number is left\n")?,
+            Answer::Unread(fault) => push_read_fault(out, *fault)?,
+            Answer::Unopened(cause) => writeln!(out, "error: {cause}")?,
+            Answer::Disk => out.push_str("error: disk\n")?,
+            Answer::Memory => out.push_str("error: memory\n")?,
+        }
+        Ok(())
+    }
+}

@@ -1,0 +1,100 @@
+//! The chunks that come with a change.
+ghost use Rattle.std.specs.Prelude.{◌≡◌, [], IfOk, IfSome, IsTrue};
+ghost use Rattle.logical_plan.specs.Leaves.{leaves};
+ghost use Rattle.plan_changes.specs.Typed.{IsTypedFor};
+ghost use Rattle.commit_pages.specs.Changes.{AreValid, ComesWith};
+ghost use Rattle.test_stores.specs.Chunks.{CanBeMade};
+
+use crate::answers::Answer;
+use afl_outside::OpenGate;
+use array_geom::Changed;
+use cell_values::{Broken, List, Memory, Name, Schema};
+use changed_chunks::changed;
+use chunk_source::{ExecFault, SureChunks};
+use logical_plan::{Leaf, Names, Plan, reads};
+use plan_changes::Change;
+use result_print::Refusal;
+use std::alloc::Global;
+
+/// Whether a plan reads no stored array.
+fn reads_nothing(alloc: Global, plan: &Plan) -> bool
+    ensures { IsTrue result → leaves plan.now ≡ [] }
+{
+    match reads(alloc, plan) {
+        Ok(found) => found.is_empty(),
+        Err(Memory) => false,
+    }
+}
+
+/// An array without versions.
+fn no_version(name: &Name, schema: &Schema) -> Result<Leaf, Memory> {
+    Ok(Leaf {
+        name: name.copy()?,
+        version: 0,
+        schema: schema.copy()?,
+    })
+}
+
+fn refused(broken: Broken) -> Answer {
+    let Broken { at, kind } = broken;
+    Answer::Refused(Refusal::Cell { at, kind })
+}
+
+/// The chunks of a change over no arrays.
+fn chunks_over_none(
+    alloc: Global,
+    change: &Change,
+    target: &Leaf,
+) -> Result<Option<Changed>, Answer>
+    requires { CanBeMade change.now target.now }
+    ensures comes { IfOk result (ComesWith change.now) }
+    ensures valid { IfOk result (λ some. IfSome some AreValid) }
+{
+    let mut source = SureChunks::new(List::new(alloc));
+    match changed(alloc, change, target, &mut source, 1, 0, &OpenGate) {
+        Ok(Ok(changed)) => Ok(Some(changed)),
+        Ok(Err(broken)) => Err(refused(broken)),
+        Err(ExecFault::Memory) => Err(Answer::Memory),
+        Err(ExecFault::Source | ExecFault::Damaged { .. }) => Err(Answer::Disk),
+    }
+}
+
+/// The chunks of a store of a plan that reads nothing.
+fn chunks_stored(
+    alloc: Global,
+    change: &Change,
+    name: &Name,
+    schema: &Schema,
+) -> Result<Option<Changed>, Answer>
+    requires { (target : Leaf) → CanBeMade change.now target }
+    ensures comes { IfOk result (ComesWith change.now) }
+    ensures valid { IfOk result (λ some. IfSome some AreValid) }
+{
+    match no_version(name, schema) {
+        Ok(target) => chunks_over_none(alloc, change, &target),
+        Err(Memory) => Err(Answer::Memory),
+    }
+}
+
+/// The chunks that come with a change. An insert, and a plan that reads stored arrays, are refused: no test needs them.
+pub(crate) fn chunks_of(
+    alloc: Global,
+    change: &Change,
+    names: &Names,
+) -> Result<Option<Changed>, Answer>
+    requires { IsTypedFor names.now change.now }
+    ensures comes { IfOk result (ComesWith change.now) }
+    ensures valid { IfOk result (λ some. IfSome some AreValid) }
+{
+    match change {
+        Change::Store { name, schema, plan } => {
+            if reads_nothing(alloc, plan) {
+                chunks_stored(alloc, change, name, schema)
+            } else {
+                Err(Answer::Reads)
+            }
+        }
+        Change::Insert { .. } => Err(Answer::Reads),
+        Change::Create { .. } | Change::Remove { .. } | Change::RemoveVersions { .. } => Ok(None),
+    }
+}
