@@ -76,7 +76,7 @@ fn sync(disk: &Rc<RefCell<MemDisk>>) -> Result<(), Failed> {
 }
 
 impl Disk for QuietDisk {
-    ghost use Rattle.test_stores.specs.Quiet.{quiet_moment};
+    ghost use Rattle.test_disks.specs.Quiet.{quiet_moment};
 
     ghost moment = { quiet_moment };
 
