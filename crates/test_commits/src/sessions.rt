@@ -15,7 +15,8 @@ use std::alloc::Global;
 use std::mem::replace;
 use store_ledger::Pinned;
 use test_disks::QuietDisk;
-use test_stores::{Answer, Hold, cells, changed, leaf_of, once, pinned, unpinned};
+use test_readings::{cells, leaf_of};
+use test_stores::{Answer, Hold, changed, once, pinned, unpinned};
 
 /// A store, and what two sessions have of it.
 #[derive(Drop)]

@@ -7,7 +7,8 @@ use std::alloc::Global;
 use store_opening::Limits;
 use test_disks::{QuietDisk, Watch};
 use test_files::{disk_of, made, of_format_one};
-use test_stores::{Answer, once, opened};
+use test_readings::answered;
+use test_stores::Answer;
 
 const LIMITS: Limits = Limits {
     pages: 512,
@@ -22,18 +23,6 @@ struct Case<'a> {
     versions: &'a Versions,
 }
 
-/// What a change is answered over the store of a disk.
-fn answered(alloc: Global, disk: QuietDisk, change: &str) -> Answer {
-    match opened(alloc, disk, LIMITS) {
-        Ok(mut store) => {
-            let answer = once(alloc, &mut store, 0, change.as_bytes());
-            drop(store);
-            answer
-        }
-        Err(cause) => Answer::Unopened(cause),
-    }
-}
-
 /// A store is opened and changed, where the call of this number fails.
 fn attempt(
     alloc: Global,
@@ -43,7 +32,7 @@ fn attempt(
 ) -> Result<(Answer, Watch), Memory> {
     let disk = disk_of(alloc, file.copy()?, fails)?;
     let (disk, watch) = QuietDisk::watched(alloc, disk)?;
-    let answer = answered(alloc, disk, change);
+    let answer = answered(alloc, disk, LIMITS, change.as_bytes());
     Ok((answer, watch))
 }
 

@@ -1,4 +1,4 @@
-//! What the programs over stores share: sessions that hold pins, statements, and what versions hold.
+//! What the programs over stores share: sessions that hold pins, statements, and commits of what texts are.
 #![tactic(auto)]
 
 mod answers;
@@ -8,15 +8,11 @@ mod commits;
 mod holds;
 mod opening;
 mod pins;
-mod reading;
 mod statements;
-mod versions;
 
 pub use answers::Answer;
 pub use commits::{changed, once};
 pub use holds::Hold;
 pub use opening::opened;
 pub use pins::{pinned, reaped, unpinned};
-pub use reading::{cells, leaf_of};
 pub use statements::{Refused, statement};
-pub use versions::whole;

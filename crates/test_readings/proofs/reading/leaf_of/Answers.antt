@@ -1,6 +1,6 @@
 use Rattle.std.proofs.Common.{sym}
-use Rattle.test_stores.proofs.ReadLemmas.{if_some, leaf_is_valid}
-use Rattle.test_stores.proofs.reading.leaf_of.Goals as goal
+use Rattle.test_readings.proofs.ReadLemmas.{if_some, leaf_is_valid}
+use Rattle.test_readings.proofs.reading.leaf_of.Goals as goal
 
 pub returns-in-Some-clause-valid : goal.returns-in-Some-clause-valid
 returns-in-Some-clause-valid c =

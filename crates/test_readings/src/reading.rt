@@ -5,7 +5,7 @@ ghost use Rattle.cell_values.specs.Schemas.{IsValid};
 ghost use Rattle.plan_changes.specs.Stored.{AreStored};
 ghost use Rattle.store_ledger.specs.Ledger.{IsOpenPin};
 ghost use Rattle.store_state.specs.Calls.{IsLeafOf};
-ghost use Rattle.test_stores.specs.Cells.{IsRead, IsVersionIn};
+ghost use Rattle.test_readings.specs.Cells.{IsRead, IsVersionIn};
 ghost use Rattle.test_stores.specs.Holds.{LeavesAll};
 
 use afl_outside::Disk;

@@ -1,8 +1,8 @@
 use Rattle.std.proofs.Common.{◌≡◌, ◌∙◌, List, [], ◌∷◌, ◌++◌, ap, sym, subst}
 use Rattle.array_geom.specs.declared.chunk.Chunk.{Chunk}
 use Rattle.array_parts.specs.Placed.{HavePlaces}
-use Rattle.test_stores.proofs.ReadLemmas.{alone_has_places}
-use Rattle.test_stores.proofs.reading.rows_in.Goals as goal
+use Rattle.test_readings.proofs.ReadLemmas.{alone_has_places}
+use Rattle.test_readings.proofs.reading.rows_in.Goals as goal
 
 pub into_rows-requires : goal.into_rows-requires
 into_rows-requires c =

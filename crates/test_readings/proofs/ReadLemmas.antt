@@ -18,7 +18,7 @@ use Rattle.chunk_source.proofs.ReadLemmas.{all_among}
 use Rattle.chunk_source.proofs.ReadingLeafLaws.{have_places}
 use Rattle.store_state.specs.Calls.{IsLeafOf}
 use Rattle.store_state.proofs.Finds.{found_in_all}
-use Rattle.test_stores.specs.Cells.{IsRead, IsVersionIn}
+use Rattle.test_readings.specs.Cells.{IsRead, IsVersionIn}
 
 pub leaf_is : (names : Names) (name : List ℕ) (entry : NameEntry) (leaf : Leaf) → entry_named names.arrays name ≡ Some entry → IsVersionIn entry name leaf → IsLeafOf names leaf
 leaf_is names name entry leaf found v =

@@ -2,8 +2,8 @@ use Rattle.std.proofs.Common.{List, IsTrue, sym, subst}
 use Rattle.arrayvec.specs.ArrayVec.{ArrayVec}
 use Rattle.chunk_source.specs.Source.{is_among}
 use Rattle.test_stores.proofs.Holding.{notes_leave_all}
-use Rattle.test_stores.proofs.ReadLemmas.{among_at}
-use Rattle.test_stores.proofs.reading.chunk_at.Goals as goal
+use Rattle.test_readings.proofs.ReadLemmas.{among_at}
+use Rattle.test_readings.proofs.reading.chunk_at.Goals as goal
 
 pub read_chunk-requires-clause-listed : goal.read_chunk-requires-clause-listed
 read_chunk-requires-clause-listed g c =
