@@ -5,6 +5,7 @@ use Rattle.store_ledger.specs.Ledger.{IsOpenPin, history}
 use Rattle.store_state.specs.declared.event.Event.TheVariants.{Entered}
 use Rattle.store_state.specs.At.{standing}
 use Rattle.array_store.specs.Starts.{start_of}
+use Rattle.told_stores.proofs.Databases.{pin_database, pin_stored}
 use Rattle.told_stores.proofs.InTurn.{extends_now, pin_cause, pin_done, pin_err, pin_is, pin_none, pin_ok, pin_only, pin_open, pin_room, pin_untried, unpinned_now}
 use Rattle.told_stores.proofs.Turning.{done_events, if_both}
 use Rattle.snapshot_manager.specs.Seats.{HoldsPin, ledger_seen, seen, session_of, start}
@@ -57,6 +58,8 @@ returns g c =
           (λ pinned p o. record { own = ap (λ q. q.session) p ∙ c.session.ensures ∙ sym c.end.ensures.same.session; open_pin = o })
           c.pin-answer.ensures.pinned
           (pin_open moment (start moment shared) (seen c.end.new.seat) c.pin-answer.new.self c.end.ensures.told c.pin-answer.result c.pin-answer.ensures.open);
+      stored = pin_stored moment (start moment shared) (seen c.end.new.seat) c.pin-answer.new.self c.end.ensures.told c.end.ensures.at c.pin-answer.result c.pin-answer.ensures.open;
+      database = pin_database moment (start moment shared) (seen c.end.new.seat) c.pin-answer.new.self c.end.ensures.told c.end.ensures.at c.pin-answer.result c.pin-answer.ensures.open;
       untried = pin_untried moment (start moment shared) (seen c.end.new.seat) c.pin-answer.new.self c.end.ensures.told
           c.session.result (session_of c.args.seat.now) (c.session.ensures ∙ b.same.session) c.pin-answer.result c.pin-answer.ensures.untried;
       err = pin_err g.D.Disk.moment (start g.D.Disk.moment c.args.self.now) (session_of c.args.seat.now) (seen c.args.seat.now) (seen c.begin-turn.new.seat)
