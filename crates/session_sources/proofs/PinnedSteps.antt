@@ -98,6 +98,10 @@ module _ {D : Type 0} (moment : D → Moment) (lent : Lent D) (before : Seat D) 
   pub chunks_lent : (leaf : Leaf) → chunks_at (store_seen moment lent.shared before) lent.pinned.place leaf ≡ chunks_at (store_lent moment lent) lent.pinned.place leaf
   chunks_lent leaf = sees.chunks leaf
 
+  pub listed_lent : (leaf : Leaf) (chunks : List (ArrayVec ℕ)) → chunks ≡ chunks_at (store_seen moment lent.shared before) lent.pinned.place leaf →
+      chunks ≡ chunks_at (store_lent moment lent) lent.pinned.place leaf
+  listed_lent leaf chunks e = e ∙ sees.chunks leaf
+
   pub rows_lent : (P : Rows → Type 0) →
       ((db : Database) → BeganAs (moment (start moment lent.shared).opened.disk).state db → P (rows_of (database_with db (store_seen moment lent.shared before) lent.pinned.place))) →
       (rows : Rows) → AreRowsAfter moment (store_lent moment lent) (history_at (store_lent moment lent) lent.pinned.place) rows → P rows

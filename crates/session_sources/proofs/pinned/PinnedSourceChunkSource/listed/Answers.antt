@@ -1,10 +1,10 @@
-use Rattle.std.proofs.Common.{◌≡◌, ◌∙◌, subst, sym}
+use Rattle.std.proofs.Common.{◌≡◌, subst, sym}
 use Rattle.chunk_source.specs.Source.{listed, AreNumbersIn}
 use Rattle.logical_plan.specs.Meaning.{Database as Rows}
 use Rattle.snapshot_manager.specs.Seats.{seen, session_of, start}
 use Rattle.store_state.specs.Calls.{IsLeafOf}
 use Rattle.session_sources.specs.Pinned.{pinned_state}
-use Rattle.session_sources.proofs.PinnedSteps.{adds_nothing, chunks_lent, lent_of, list_keeps, listed_leaf, rows_lent}
+use Rattle.session_sources.proofs.PinnedSteps.{adds_nothing, lent_of, list_keeps, listed_leaf, listed_lent, rows_lent}
 use Rattle.session_sources.proofs.pinned.PinnedSourceChunkSource.listed.Goals as goal
 
 pub listed-requires-clause-leaf : goal.listed-requires-clause-leaf
@@ -33,7 +33,7 @@ returns-clause-listed g c =
     let moment = g.D.Disk.moment in
     let i = c.self.inside in
     subst (λ r. c.in_ok-chunks.chunks ≡ listed (pinned_state moment r) c.args.leaf.now) c.self.view_is
-    (c.in_ok-chunks.ensures.listed ∙ chunks_lent moment (lent_of i.shared.now i.pinned.now i.lent.value) i.seat i.marks c.self.invariant c.args.leaf.now)
+    (listed_lent moment (lent_of i.shared.now i.pinned.now i.lent.value) i.seat i.marks c.self.invariant c.args.leaf.now c.in_ok-chunks.chunks c.in_ok-chunks.ensures.listed)
 
 pub returns-clause-told : goal.returns-clause-told
 returns-clause-told g c =
