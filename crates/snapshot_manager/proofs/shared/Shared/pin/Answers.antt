@@ -15,7 +15,7 @@ pub pin-answer-requires : goal.pin-answer-requires
 pin-answer-requires g c =
     let b = c.begin-turn.ensures in record {
       unpinned = unpinned_now g.D.Disk.moment (start g.D.Disk.moment c.args.self.now) (session_of c.args.seat.now) (seen c.args.seat.now) (seen c.begin-turn.new.seat)
-      c.value.result.now c.begin-turn.result.value b.found c.value.ensures.value b.told c.session.result (c.session.ensures ∙ b.same.session) c.requires.none;
+          c.value.result.now c.begin-turn.result.value b.found c.value.ensures.value b.told c.session.result (c.session.ensures ∙ b.same.session) c.requires.none;
     }
 
 pub end-requires : goal.end-requires
@@ -26,7 +26,7 @@ end-requires g c =
       seat = b.seat;
       start = adds.start ∙ ap (λ p. start_of (standing moment p)) c.value.ensures.value ∙ b.start;
       events = extends_now g.D.Disk.moment (start g.D.Disk.moment c.args.self.now) (session_of c.args.seat.now) (seen c.args.seat.now) (seen c.begin-turn.new.seat)
-      c.value.result.now c.begin-turn.result.value b.found c.value.ensures.value b.told b.events c.pin-answer.new.self
+          c.value.result.now c.begin-turn.result.value b.found c.value.ensures.value b.told b.events c.pin-answer.new.self
           (done_events c.pin-answer.result (Entered (Pin c.session.result) ∷ [])) (session_of c.begin-turn.new.seat) b.same.session
           (pin_only c.session.result (session_of c.args.seat.now) c.pin-answer.result (c.session.ensures ∙ b.same.session)) adds;
     }
@@ -40,13 +40,13 @@ returns g c =
       same = record { session = c.end.ensures.same.session ∙ b.same.session; last = c.end.ensures.same.last ∙ b.same.last };
       reads = c.end.ensures.reads ∙ b.reads;
       ok = pin_ok g.D.Disk.moment (start g.D.Disk.moment c.args.self.now) (session_of c.args.seat.now) (seen c.args.seat.now) (seen c.begin-turn.new.seat)
-      c.value.result.now c.begin-turn.result.value b.found c.value.ensures.value b.told b.events c.pin-answer.new.self
+          c.value.result.now c.begin-turn.result.value b.found c.value.ensures.value b.told b.events c.pin-answer.new.self
           c.session.result (c.session.ensures ∙ b.same.session) c.pin-answer.result (seen c.end.new.seat) c.end.ensures.seen c.pin-answer.ensures.adds;
       pinned = pin_is g.D.Disk.moment (start g.D.Disk.moment c.args.self.now) (session_of c.args.seat.now) (seen c.args.seat.now) (seen c.begin-turn.new.seat)
-      c.value.result.now c.begin-turn.result.value b.found c.value.ensures.value b.told b.events c.pin-answer.new.self
+          c.value.result.now c.begin-turn.result.value b.found c.value.ensures.value b.told b.events c.pin-answer.new.self
           c.session.result (c.session.ensures ∙ b.same.session) c.pin-answer.result (seen c.end.new.seat) c.end.ensures.seen c.pin-answer.ensures.adds c.pin-answer.ensures.pinned;
       room = pin_room g.D.Disk.moment (start g.D.Disk.moment c.args.self.now) (session_of c.args.seat.now) (seen c.args.seat.now) (seen c.begin-turn.new.seat)
-      c.value.result.now c.begin-turn.result.value b.found c.value.ensures.value b.told b.events c.pin-answer.new.self
+          c.value.result.now c.begin-turn.result.value b.found c.value.ensures.value b.told b.events c.pin-answer.new.self
           c.session.result (c.session.ensures ∙ b.same.session) c.pin-answer.result (seen c.end.new.seat) c.end.ensures.seen c.pin-answer.ensures.adds c.pin-answer.ensures.room;
       «open» = if_both c.pin-answer.result
           (λ pinned. pinned ≡ record {
@@ -63,10 +63,10 @@ returns g c =
       untried = pin_untried moment (start moment shared) (seen c.end.new.seat) c.pin-answer.new.self c.end.ensures.told
           c.session.result (session_of c.args.seat.now) (c.session.ensures ∙ b.same.session) c.pin-answer.result c.pin-answer.ensures.untried;
       err = pin_err g.D.Disk.moment (start g.D.Disk.moment c.args.self.now) (session_of c.args.seat.now) (seen c.args.seat.now) (seen c.begin-turn.new.seat)
-      c.value.result.now c.begin-turn.result.value b.found c.value.ensures.value b.told b.events c.pin-answer.new.self
+          c.value.result.now c.begin-turn.result.value b.found c.value.ensures.value b.told b.events c.pin-answer.new.self
           c.session.result (c.session.ensures ∙ b.same.session) c.pin-answer.result (seen c.end.new.seat) c.end.ensures.seen c.pin-answer.ensures.adds c.pin-answer.ensures.err;
       none = pin_none g.D.Disk.moment (start g.D.Disk.moment c.args.self.now) (session_of c.args.seat.now) (seen c.args.seat.now) (seen c.begin-turn.new.seat)
-      c.value.result.now c.begin-turn.result.value b.found c.value.ensures.value b.told b.events c.pin-answer.new.self
+          c.value.result.now c.begin-turn.result.value b.found c.value.ensures.value b.told b.events c.pin-answer.new.self
           c.session.result (c.session.ensures ∙ b.same.session) c.pin-answer.result (seen c.end.new.seat) c.end.ensures.seen c.pin-answer.ensures.adds
           (session_of c.end.new.seat) (c.end.ensures.same.session ∙ b.same.session) c.pin-answer.ensures.err c.requires.none;
       cause = pin_cause moment (start moment shared) (seen c.end.new.seat) c.pin-answer.new.self c.end.ensures.told
