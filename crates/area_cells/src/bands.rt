@@ -50,7 +50,10 @@ fn begins_band(chunks: &[Chunk], at: usize) -> bool
     if at == 0 || at >= chunks.len() {
         return false;
     }
-    first_number(&chunks[at - 1]) != first_number(&chunks[at])
+    let last = at - 1;
+    let before = first_number(&chunks[last]);
+    let next = first_number(&chunks[at]);
+    before != next
 }
 
 /// Where a band begins in the midst of chunks, as near to their middle as there is one; their number, where all are in one band.

@@ -1,6 +1,6 @@
 -- The groups of what lands of some rows and of others behind them.
 use Rattle.std.proofs.Common.{◌≡◌, ℕ, ◌+◌, ◌<◌, ◌≤◌, ◌^◌, false, List, [], ◌∷◌, ◌++◌, map, filter, length, take, drop, Option, Some, None, Result, Ok, Err, refl, sym, ap, ◌∙◌, subst, arith}
-use Rattle.std.proofs.lemmas.List.{append-nil, length-append, map-append}
+use Rattle.std.proofs.lemmas.List.{append-nil, length-append, length-drop, length-take, map-append}
 use Rattle.std.proofs.lemmas.List.Elements.{filter-append}
 use Rattle.std.specs.Ordering.{is_eq}
 use Rattle.std.specs.Prelude.{IfOk}
@@ -10,7 +10,11 @@ use Rattle.cell_values.specs.declared.memory.Memory.{Memory}
 use Rattle.cell_values.specs.declared.schema.Bounds.{Bounds}
 use Rattle.cell_values.specs.declared.schema.Dimension.{Dimension}
 use Rattle.array_geom.specs.declared.chunk.Chunk.{Chunk}
-use Rattle.array_geom.specs.Link.{core_rows}
+use Rattle.cell_values.specs.declared.schema.Schema.{Schema}
+use Rattle.array_geom.specs.Link.{NumbersRise, core_rows, numbers}
+use Rattle.chunk_cells.specs.Whole.{CoresRise}
+use Rattle.area_cells.proofs.CutLaws.{cores_drop, cores_take, rise_drop, rise_take}
+use Rattle.area_cells.proofs.PieceLaws.{places_drop, places_take}
 use Rattle.array_rows.specs.Rows.{Coordinate, row_major, IsRising, put_all}
 use Rattle.logical_plan.specs.declared.parts.Aggregate.{Aggregate}
 use Rattle.logical_plan.specs.Faults.{if_whole}
@@ -21,6 +25,7 @@ use Rattle.exec_group.specs.Counts.{cells_in}
 use Rattle.exec_group.specs.Sets.{AreApartSets, IsApart, Sets, both, both_sets, unless_empty}
 use Rattle.exec_group.proofs.FormLaws.{same_sets}
 use Rattle.exec_group.proofs.RowLemmas.{joined_apart, put_all_joined}
+use Rattle.redimension_exec.specs.Inner.Bands.{AreBands}
 use Rattle.redimension_exec.specs.Inner.Counting.{has_counted}
 use Rattle.redimension_exec.specs.Inner.Grouping.{AreGroupsLanded, landed_sets}
 use Rattle.redimension_exec.proofs.GroupLaws.{at_rises, rising_landed, rows_in}
@@ -61,7 +66,7 @@ module _ (origins : List Origin) (bounds : Bounds) (plain : has_counted origins 
       cases (lands t) g again =
           let split = whole_of (λ (rest : List Landed). (t, row) ∷ rest) (landed origins bounds false a (t ∷ taken)) all g in
           ap (if_whole (λ (rest : List Landed). (t, row) ∷ rest)) (again (t ∷ taken) split.0 split.1)
-          ∙ twice (t, row) split.0 (landed origins bounds false b [])
+          ∙ twice {A = Landed} (t, row) split.0 (landed origins bounds false b [])
           ∙ ap (λ (those : List Landed). if_whole (λ (rest : List Landed). those ++ rest) (landed origins bounds false b [])) split.2
 
   -- of rows of which one breaks the array
@@ -130,13 +135,35 @@ pub cut_rows : (dims : List Dimension) (margins : List ℕ) (n : ℕ) (chunks fr
     → core_rows dims margins chunks ≡ core_rows dims margins front ++ core_rows dims margins back
 cut_rows dims margins n chunks front back e f b = e ∙ (λ i. core_rows dims margins (sym f i) ++ core_rows dims margins (sym b i))
 
+pub front_bands : (source : Schema) (margins : List ℕ) (n : ℕ) (chunks front back : List Chunk) → AreBands source margins chunks → 0 < n → n < length chunks
+    → core_rows source.dimensions margins chunks ≡ core_rows source.dimensions margins front ++ core_rows source.dimensions margins back → front ≡ take n chunks → AreBands source margins front
+front_bands source margins n chunks front back are some less split is =
+    let sum = ap length split ∙ length-append (core_rows source.dimensions margins front) (core_rows source.dimensions margins back) in
+    let counted = are.counted in
+    let long = ap length is ∙ length-take n chunks in
+    record {
+      some = omega (arith, long, some, less);
+      places = places_take source margins n chunks front is are.places;
+      cores = subst (CoresRise source.dimensions margins) (sym is) (cores_take source.dimensions margins n chunks are.cores);
+      rise = subst (λ (cs : List Chunk). NumbersRise (numbers cs)) (sym is) (rise_take n chunks are.rise);
+      counted = omega (arith, sum, counted);
+    }
+
+pub back_bands : (source : Schema) (margins : List ℕ) (n : ℕ) (chunks front back : List Chunk) → AreBands source margins chunks → n < length chunks
+    → core_rows source.dimensions margins chunks ≡ core_rows source.dimensions margins front ++ core_rows source.dimensions margins back → back ≡ drop n chunks → AreBands source margins back
+back_bands source margins n chunks front back are less split is =
+    let sum = ap length split ∙ length-append (core_rows source.dimensions margins front) (core_rows source.dimensions margins back) in
+    let counted = are.counted in
+    let long = ap length is ∙ length-drop n chunks in
+    record {
+      some = omega (arith, long, less);
+      places = places_drop source margins n chunks back is are.places;
+      cores = subst (CoresRise source.dimensions margins) (sym is) (cores_drop source.dimensions margins n chunks are.cores);
+      rise = subst (λ (cs : List Chunk). NumbersRise (numbers cs)) (sym is) (rise_drop n chunks are.rise);
+      counted = omega (arith, sum, counted);
+    }
+
 module _ (whole front back : List Row) (split : whole ≡ front ++ back) where
-  pub few_front : length whole < 2 ^ 63 → length front < 2 ^ 63
-  few_front few = let sum = ap length split ∙ length-append front back in omega (arith, sum, few)
-
-  pub few_back : length whole < 2 ^ 63 → length back < 2 ^ 63
-  few_back few = let sum = ap length split ∙ length-append front back in omega (arith, sum, few)
-
   module _ (left right : Groups) (made_left made_right : Result Groups Broken) (is_left : made_left ≡ Ok left) (is_right : made_right ≡ Ok right)
       (cells_left : IfOk made_left (λ groups. cells_in groups.groups ≤ length front)) (cells_right : IfOk made_right (λ groups. cells_in groups.groups ≤ length back)) where
     pub no_more_cells : cells_in left.groups + cells_in right.groups ≤ length whole

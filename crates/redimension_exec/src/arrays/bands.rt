@@ -1,11 +1,10 @@
 //! Groups of the cells that land at one coordinate, found band by band, so that the rows of one band are there at a time.
-ghost use Rattle.std.specs.Prelude.{◌≡◌, ◌≤◌, ◌<◌, ◌^◌, false, length, map, IfOk};
+ghost use Rattle.std.specs.Prelude.{◌≡◌, ◌≤◌, false, length, map, IfOk};
 ghost use Rattle.array_rows.specs.Boxes.{bounds_of};
-ghost use Rattle.array_geom.specs.Link.{NumbersRise, core_rows, numbers};
-ghost use Rattle.array_parts.specs.Placed.{HavePlaces};
-ghost use Rattle.chunk_cells.specs.Whole.{CoresRise};
+ghost use Rattle.array_geom.specs.Link.{core_rows};
 ghost use Rattle.logical_plan.specs.Redimension.{origin_of};
 ghost use Rattle.exec_group.specs.Counts.{cells_in};
+ghost use Rattle.redimension_exec.specs.Inner.Bands.{AreBands};
 ghost use Rattle.redimension_exec.specs.Inner.Counting.{has_counted};
 ghost use Rattle.redimension_exec.specs.Inner.Grouping.{AreGroupsLanded};
 
@@ -26,9 +25,7 @@ fn groups_in_band(
 ) -> Result<Result<Groups, Broken>, Memory>
     requires few { length target.now.dimensions ≤ 6 }
     requires plain { has_counted (map (origin_of source.now) target.now.dimensions) ≡ false }
-    requires counted { length (core_rows source.now.dimensions margins.now.items chunks.now) < 2 ^ 63 }
-    requires places { HavePlaces source.now margins.now.items chunks.now }
-    requires cores { CoresRise source.now.dimensions margins.now.items chunks.now }
+    requires bands { AreBands source.now margins.now.items chunks.now }
     ensures groups { IfOk result (AreGroupsLanded aggregates.now (map (origin_of source.now) target.now.dimensions) (bounds_of target.now.dimensions) (core_rows source.now.dimensions margins.now.items chunks.now)) }
     ensures cells { IfOk result (λ made. IfOk made (λ groups. cells_in groups.groups ≤ length (core_rows source.now.dimensions margins.now.items chunks.now))) }
 {
@@ -47,11 +44,7 @@ pub(crate) fn groups_in_bands(
 ) -> Result<Result<Groups, Broken>, Memory>
     requires few { length target.now.dimensions ≤ 6 }
     requires plain { has_counted (map (origin_of source.now) target.now.dimensions) ≡ false }
-    requires counted { length (core_rows source.now.dimensions margins.now.items chunks.now) < 2 ^ 63 }
-    requires places { HavePlaces source.now margins.now.items chunks.now }
-    requires cores { CoresRise source.now.dimensions margins.now.items chunks.now }
-    requires rise { NumbersRise (numbers chunks.now) }
-    requires some { 0 < length chunks.now }
+    requires bands { AreBands source.now margins.now.items chunks.now }
     ensures groups { IfOk result (AreGroupsLanded aggregates.now (map (origin_of source.now) target.now.dimensions) (bounds_of target.now.dimensions) (core_rows source.now.dimensions margins.now.items chunks.now)) }
     ensures cells { IfOk result (λ made. IfOk made (λ groups. cells_in groups.groups ≤ length (core_rows source.now.dimensions margins.now.items chunks.now))) }
 {

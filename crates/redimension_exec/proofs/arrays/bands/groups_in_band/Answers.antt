@@ -10,7 +10,7 @@ use Rattle.redimension_exec.specs.Inner.Grouping.{AreGroupsLanded}
 use Rattle.redimension_exec.proofs.arrays.bands.groups_in_band.Goals as goal
 
 pub groups_landed-requires-clause-counted : goal.groups_landed-requires-clause-counted
-groups_landed-requires-clause-counted c = subst (λ (rows : List Row). length rows < 2 ^ 63) (sym c.in_ok-rows.ensures) c.requires.counted
+groups_landed-requires-clause-counted c = subst (λ (rows : List Row). length rows < 2 ^ 63) (sym c.in_ok-rows.ensures) c.requires.bands.counted
 
 pub groups_landed-requires-clause-rising : goal.groups_landed-requires-clause-rising
 groups_landed-requires-clause-rising c = subst IsRising (sym c.in_ok-rows.ensures) (IsRising-core_rows c.args.source.now.dimensions c.args.margins.now.items c.args.chunks.now)
