@@ -208,15 +208,6 @@ earlier_firsts (c ∷ cs) (suc n) last r l e =
     let more = risen c.at.items last.at.items (at_number (λ k. number_order c.at.items k ≡ Less) cs n last r.0 (omega (arith, l)) e) in
     (more, earlier_firsts cs n last r.1 (omega (arith, l)) e)
 
--- the first number at a place is no more than the next one
-next_first : (cs : List Chunk) (n : ℕ) (before next : Chunk) → NumbersRise (numbers cs) → suc n < length cs → before ≡ get_or cs n before → next ≡ get_or cs (suc n) next → first_of before.at.items ≤ first_of next.at.items
-next_first [] n before next r l e f = absurd (omega (arith, l))
-next_first (c ∷ cs) zero before next r l e f =
-    let same : first_of before.at.items ≡ first_of c.at.items = ap (λ (z : Chunk). first_of z.at.items) e in
-    let more = risen c.at.items next.at.items (at_number (λ k. number_order c.at.items k ≡ Less) cs 0 next r.0 (omega (arith, l)) f) in
-    omega (arith, same, more)
-next_first (c ∷ cs) (suc n) before next r l e f = next_first cs n before next r.1 (omega (arith, l)) e f
-
 pub band_begins : (schema : Schema) (margins : List ℕ) (at : ℕ) (chunks : List Chunk) → IsValid schema → AllByRecursion (λ chunk. has_core schema.dimensions chunk.at.items ≡ true) chunks → NumbersRise (numbers chunks) → BeginsBand at chunks
     → core_rows schema.dimensions margins chunks ≡ core_rows schema.dimensions margins (take at chunks) ++ core_rows schema.dimensions margins (drop at chunks)
 band_begins schema margins zero chunks valid cores rise b = absurd (let some = b.some in omega (arith, some))
@@ -226,10 +217,6 @@ band_begins schema margins (suc n) chunks valid cores rise b =
     let place : suc n - 1 ≡ n = omega arith in
     let before_is : b.before ≡ get_or chunks n b.before = b.before_is ∙ ap (λ (k : ℕ). get_or chunks k b.before) place in
     let firsts = earlier_firsts chunks n b.before rise (omega (arith, inside)) before_is in
-    let more = beyond (first_of b.before.at.items) (first_of b.next.at.items) (next_first chunks n b.before b.next rise inside before_is b.next_is) b.other in
     ap (core_rows dims margins) (both_sides (suc n) chunks (take (suc n) chunks) (drop (suc n) chunks) refl refl)
     ∙ bands_apart dims margins (first_of b.before.at.items) (take (suc n) chunks) (drop (suc n) chunks) (all_take (λ chunk. has_core dims chunk.at.items ≡ true) (suc n) chunks cores) (all_drop (λ chunk. has_core dims chunk.at.items ≡ true) (suc n) chunks cores) firsts
-    (above (first_of b.before.at.items) (first_of b.next.at.items) (numbers (drop (suc n) chunks)) more (later_firsts chunks (suc n) b.next rise inside b.next_is)) (λ d ds same. (subst AreNear same (valid_placed schema valid).near).0.some)
-  where
-    beyond : (x y : ℕ) → x ≤ y → (x ≡ y → ⊥) → x < y
-    beyond x y h k = grind (arith, k)
+    (above (first_of b.before.at.items) (first_of b.next.at.items) (numbers (drop (suc n) chunks)) b.rises (later_firsts chunks (suc n) b.next rise inside b.next_is)) (λ d ds same. (subst AreNear same (valid_placed schema valid).near).0.some)

@@ -53,7 +53,7 @@ fn begins_band(chunks: &[Chunk], at: usize) -> bool
     let last = at - 1;
     let before = first_number(&chunks[last]);
     let next = first_number(&chunks[at]);
-    before != next
+    before < next
 }
 
 /// Where a band begins in the midst of chunks, as near to their middle as there is one; their number, where all are in one band.

@@ -13,7 +13,7 @@ abbrev pub first_of : ChunkNumber → ℕ
 first_of [] = 0
 first_of (k ∷ ks) = k
 
--- the chunk at a place has another first number than the one before
+-- the chunk at a place has a higher first number than the one before
 pub record BeginsBand (at : ℕ) (chunks : List Chunk) : Type 0 where
   pub some : 0 < at
   pub within : at < length chunks
@@ -21,4 +21,4 @@ pub record BeginsBand (at : ℕ) (chunks : List Chunk) : Type 0 where
   pub next : Chunk
   pub before_is : before ≡ slice_index_or chunks (at - 1) before
   pub next_is : next ≡ slice_index_or chunks at next
-  pub other : first_of before.at.items ≡ first_of next.at.items → ⊥
+  pub rises : first_of before.at.items < first_of next.at.items

@@ -1,4 +1,5 @@
-use Rattle.std.proofs.Common.{◌≡◌, ◌<◌, length, rules, arith, sym, ◌∙◌}
+use Rattle.std.proofs.Common.{◌<◌, length, rules, arith}
+use borrow.Author.Tests.{ltb-true}
 use Rattle.area_cells.proofs.bands.begins_band.Goals as goal
 
 pub returns : goal.returns
@@ -12,5 +13,5 @@ returns c =
       next = c.index-chunks-at.result;
       before_is = c.index-chunks-last.is;
       next_is = c.index-chunks-at.is;
-      other = λ e. ?;
+      rises = omega (arith, ltb-true, t);
     }
