@@ -16,13 +16,14 @@ mod versions;
 mod watch;
 
 pub use answers::Answer;
+pub use changes::{Offer, offer_over};
 pub use commits::{changed, once};
 pub use costs::push_costs;
 pub use holds::Hold;
 pub use opening::opened;
 pub use pins::{pinned, reaped, unpinned};
 pub use quiet_disk::QuietDisk;
-pub use reading::{cells, leaf_of};
+pub use reading::{add_rows, cells, leaf_of};
 pub use statements::{Refused, statement};
 pub use versions::whole;
 pub use watch::Watch;
