@@ -1,8 +1,1 @@
-pub mod InTurn
-pub mod Notes
-pub mod PinReads
 pub mod Seating
-pub mod Sights
-pub mod Telling
-pub mod TriedTurns
-pub mod Turning

@@ -11,7 +11,7 @@ use Rattle.store_state.specs.declared.parts.StoreParts.{StoreParts}
 use Rattle.snapshot_manager.specs.declared.seat.Seat.{Seat}
 use Rattle.snapshot_manager.specs.declared.shared.Shared.{Shared}
 use Rattle.snapshot_manager.specs.Seats.{AreNewSeats, IsNewSeat}
-use Rattle.snapshot_manager.specs.Told.{entries_in, is_sealed}
+use Rattle.told_stores.specs.Told.{entries_in, is_sealed}
 
 module _ {A : Type 0} where
   get_dropped : (xs : List A) (n : ℕ) → slice_get (drop n xs) 0 ≡ slice_get xs n

@@ -18,8 +18,8 @@ use Rattle.array_store.specs.declared.start.Start.{Start}
 use Rattle.array_store.specs.Starts.{start_of}
 use Rattle.snapshot_manager.specs.declared.shared.Shared.{Shared}
 use Rattle.snapshot_manager.specs.declared.seat.Seat.{Seat}
-use Rattle.snapshot_manager.specs.Told.{entries_in, is_sealed, ledger_of, told}
-use Rattle.snapshot_manager.specs.Turns.{found_before}
+use Rattle.told_stores.specs.Told.{entries_in, is_sealed, ledger_of, told}
+use Rattle.told_stores.specs.Turns.{found_before}
 
 module _ {D : Type 0} where
   -- ---- a shared store

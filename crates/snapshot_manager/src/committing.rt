@@ -15,10 +15,11 @@ ghost use Rattle.store_state.specs.Standings.{base_of, BeganAs};
 ghost use Rattle.prepared_commits.specs.Prepared.{IsAsked, MayBeMade};
 ghost use Rattle.array_store.specs.Starts.{start_of};
 ghost use Rattle.store_commits.specs.Causes.{FitsAfter, IsUncommitted};
-ghost use Rattle.snapshot_manager.specs.Commits.{is_fresh_since, IfDone, IfStale, MakesCommit, MakesHere, OnEnd, TriesCommit, TriesHere};
+ghost use Rattle.snapshot_manager.specs.Commits.{IfDone, IfStale, OnEnd};
+ghost use Rattle.told_stores.specs.Tries.{is_fresh_since, MakesCommit, MakesHere, TriesCommit, TriesHere};
 ghost use Rattle.snapshot_manager.specs.Seats.{ledger_seen, read_count, seen, session_of, start, store_of, store_seen, HasTurn, HoldsPin, IsIdle, IsSameSeat, IsSeatOf};
-ghost use Rattle.snapshot_manager.specs.Told.{IsTold};
-ghost use Rattle.snapshot_manager.specs.Turns.{Adds};
+ghost use Rattle.told_stores.specs.Told.{IsTold};
+ghost use Rattle.told_stores.specs.Turns.{Adds};
 
 use crate::seat::Seat;
 use crate::shared::{Shared, StoreTurn};
@@ -65,6 +66,7 @@ impl<D: Disk> Shared<D> {
         ensures same { IsSameSeat seat.old seat.new }
         ensures reads { read_count seat.new ≡ read_count seat.old }
         ensures idle { OnEnd (IsIdle seat.new) result }
+        ensures pin { HoldsPin D.moment self.now seat.new pinned.now }
         ensures done { IfDone (λ _. MakesCommit (start D.moment self.now) pinned.now change (seen seat.old) (seen seat.new)) result }
         ensures place { IfDone (λ place. place + 1 ≡ length (ledger_seen D.moment self.now seat.new).entries) result }
         ensures typed { IfDone (λ place. IsTypedFor
@@ -87,7 +89,8 @@ impl<D: Disk> Shared<D> {
         fresh_changes_may_be_made();
         fresh_changes_stay();
         let mut turn = self.begin(rt, seat);
-        if turn.value().fresh(pinned, &change) {
+        let is_fresh = turn.value().fresh(pinned, &change);
+        if is_fresh {
             match self.commit_fresh(alloc, seat, pinned, turn, change, changed) {
                 Ok(place) => {
                     self.bell.ring(rt);

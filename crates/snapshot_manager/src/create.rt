@@ -41,7 +41,10 @@ impl<D: Disk> Shared<D> {
                 let seats = shared.seated(turn_seats, room);
                 Ok((shared, seats))
             }
-            Err(failed) => Err(failed),
+            Err(failed) => {
+                drop(room);
+                Err(failed)
+            }
         }
     }
 
@@ -66,6 +69,7 @@ impl<D: Disk> Shared<D> {
                 reads: 0,
             });
         }
+        drop(turn_seats);
         List::from_vec(room)
     }
 }

@@ -25,6 +25,7 @@ impl<D: Disk> Shared<D> {
             let Seat { turn_seat, .. } = last;
             closing.take_back(turn_seat);
         }
+        drop(seats);
         closing.end()
     }
 }

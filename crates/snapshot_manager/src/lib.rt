@@ -4,7 +4,6 @@
 mod committing;
 mod create;
 mod finish;
-mod laws;
 mod pinning;
 mod reading;
 mod seat;
@@ -12,6 +11,5 @@ mod shared;
 mod turns;
 
 pub use committing::Commit;
-pub use laws::{a_pin_sees_what_was, stores_are_told, turns_are_seen};
 pub use seat::Seat;
 pub use shared::{Shared, StoreTurn};

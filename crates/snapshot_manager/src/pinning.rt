@@ -6,7 +6,7 @@ ghost use Rattle.store_ledger.specs.declared.note.NoteKind.{NoteKind};
 ghost use Rattle.store_ledger.specs.Ledger.{has_room, history, is_noted, reap_comes, IsRefused};
 ghost use Rattle.store_state.specs.declared.event.Event.TheVariants.{Entered};
 ghost use Rattle.snapshot_manager.specs.Seats.{ledger_found, ledger_seen, read_count, seen, session_of, HoldsNone, HoldsPin, IsIdle, IsSameSeat, IsSeatOf};
-ghost use Rattle.snapshot_manager.specs.Turns.{pin_event, reap_events, Adds};
+ghost use Rattle.told_stores.specs.Turns.{pin_event, reap_events, Adds};
 
 use crate::seat::Seat;
 use crate::shared::Shared;

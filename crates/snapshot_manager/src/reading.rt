@@ -7,9 +7,9 @@ ghost use Rattle.plan_changes.specs.Databases.{Database, rows_of};
 ghost use Rattle.store_state.specs.Calls.{chunks_at, database_with, payload_at, IsLeafOf};
 ghost use Rattle.store_state.specs.Standings.{BeganAs};
 ghost use Rattle.store_state.specs.declared.fault.ReadFault.TheVariants.{Damaged};
-ghost use Rattle.snapshot_manager.specs.Faults.{IsUnreadUnder};
+ghost use Rattle.told_stores.specs.Faults.{IsUnreadUnder};
 ghost use Rattle.snapshot_manager.specs.Seats.{ledger_seen, read_count, seen, session_of, start, store_seen, HoldsPin, IsIdle, IsSameSeat, IsSeatOf};
-ghost use Rattle.snapshot_manager.specs.Turns.{Adds, AddsAtMostNote};
+ghost use Rattle.told_stores.specs.Turns.{Adds, AddsAtMostNote};
 
 use crate::seat::Seat;
 use crate::shared::Shared;

@@ -5,8 +5,8 @@ ghost use Rattle.store_state.specs.At.{standing};
 ghost use Rattle.store_state.specs.Events.{events, owner_of};
 ghost use Rattle.array_store.specs.Starts.{start_of};
 ghost use Rattle.snapshot_manager.specs.Seats.{read_count, seen, session_of, start, store_of, HasTurn, IsIdle, IsSameSeat, IsSeatOf};
-ghost use Rattle.snapshot_manager.specs.Told.{IsTold};
-ghost use Rattle.snapshot_manager.specs.Turns.{Adds};
+ghost use Rattle.told_stores.specs.Told.{IsTold};
+ghost use Rattle.told_stores.specs.Turns.{Adds};
 
 use crate::seat::Seat;
 use crate::shared::{Shared, StoreTurn};

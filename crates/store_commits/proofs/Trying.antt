@@ -126,51 +126,53 @@ module _ {D : Type 0} (moment : D → Moment) (session : ℕ) (change : Change) 
       adds = adds_both (tried_events tried.comes s.ledger session change) (own ++ ends.faults) s t n tried.adds ends.adds;
     }
 
--- ---- behind a commit
+-- ---- a store that began the same, and a history that was the other's
 
-module _ {D : Type 0} (moment : D → Moment) (t n : Standing D) (entry : Entry) (place : ℕ) (start : start_of n ≡ start_of t)
-    (entries : n.ledger.entries ≡ t.ledger.entries ++ entry ∷ []) (placed : place ≡ length t.ledger.entries) where
-  pub last_place : place + 1 ≡ length n.ledger.entries
-  last_place = omega (arith, ap length entries, length-append t.ledger.entries (entry ∷ []), placed)
-
-  before_is : history_at n place ≡ history t.ledger
-  before_is =
-      ap (λ (es : List Entry). up_to place (reverse es)) entries
-      ∙ ap (up_to place) (reverse-append t.ledger.entries (entry ∷ []))
-      ∙ ap (λ (k : ℕ). up_to k (entry ∷ history t.ledger)) (placed ∙ sym (length-reverse t.ledger.entries))
-      ∙ beginnings_are_kept (entry ∷ []) (history t.ledger)
-
+module _ {D : Type 0} (moment : D → Moment) (t n : Standing D) (start : start_of n ≡ start_of t) (h : History) (same : h ≡ history t.ledger) where
   base_is : n.ledger.base ≡ t.ledger.base
   base_is = ap (λ (x : Start D). x.base) start
 
   file_is : n.opened ≡ t.opened
   file_is = ap (λ (x : Start D). x.opened) start
 
-  pub typed_before : (change : Change) → IsTypedFor (names_at t.ledger.base (history t.ledger)) change → IsTypedFor (names_at n.ledger.base (history_at n place)) change
-  typed_before change typed =
-      subst (λ (b : Core). IsTypedFor (names_at b (history_at n place)) change) (sym base_is)
-      (subst (λ (h : History). IsTypedFor (names_at t.ledger.base h) change) (sym before_is) typed)
+  pub typed_there : (change : Change) → IsTypedFor (names_at t.ledger.base (history t.ledger)) change → IsTypedFor (names_at n.ledger.base h) change
+  typed_there change typed =
+      subst (λ (b : Core). IsTypedFor (names_at b h) change) (sym base_is)
+      (subst (λ (k : History). IsTypedFor (names_at t.ledger.base k) change) (sym same) typed)
 
-  pub may_before : (change : Change) (changed : Option Changed) → ((db : Database) → BeganAs (moment t.opened.disk).state db → MayBeMade (at db (history t.ledger)) change changed) →
-      (db : Database) → BeganAs (moment n.opened.disk).state db → MayBeMade (database_with db n place) change changed
-  may_before change changed may db began =
-      subst (λ (h : History). MayBeMade (at db h) change changed) (sym before_is)
+  pub may_there : (change : Change) (changed : Option Changed) → ((db : Database) → BeganAs (moment t.opened.disk).state db → MayBeMade (at db (history t.ledger)) change changed) →
+      (db : Database) → BeganAs (moment n.opened.disk).state db → MayBeMade (at db h) change changed
+  may_there change changed may db began =
+      subst (λ (k : History). MayBeMade (at db k) change changed) (sym same)
       (may db (subst (λ (o : OpenFile D). BeganAs (moment o.disk).state db) file_is began))
 
-  pub next_before : sequence_at (base_of t) (history t.ledger) < 2 ^ 64 - 1 → sequence_at (base_of n) (history_at n place) < 2 ^ 64 - 1
-  next_before next =
+  pub next_there : sequence_at (base_of t) (history t.ledger) < 2 ^ 64 - 1 → sequence_at (base_of n) h < 2 ^ 64 - 1
+  next_there next =
       subst (λ (k : ℕ). k < 2 ^ 64 - 1)
-      (sym (ap (λ (o : OpenFile D). sequence_in o (history_at n place)) file_is ∙ ap (sequence_in t.opened) before_is)) next
+      (sym (ap (λ (o : OpenFile D). sequence_in o h) file_is ∙ ap (sequence_in t.opened) same)) next
 
-  pub fits_before : (change : Change) (count : ℕ) → IsNeeded moment t (history t.ledger) change count → count ≤ length (unused_pages t.ledger) →
-      FitsAfter moment n (history_at n place) change
-  fits_before change count needed fits = record {
+  pub fits_there : (change : Change) (count : ℕ) → IsNeeded moment t (history t.ledger) change count → count ≤ length (unused_pages t.ledger) → FitsAfter moment n h change
+  fits_there change count needed fits = record {
     count = count;
-    needed = subst (λ (o : OpenFile D). NeededIn moment o (history_at n place) change count) (sym file_is)
-        (subst (λ (h : History). NeededIn moment t.opened h change count) (sym before_is) needed);
-    fits = subst (λ (b : Core). count ≤ length (unused_after b (history_at n place))) (sym base_is)
-        (subst (λ (h : History). count ≤ length (unused_after t.ledger.base h)) (sym before_is) fits);
+    needed = subst (λ (o : OpenFile D). NeededIn moment o h change count) (sym file_is)
+        (subst (λ (k : History). NeededIn moment t.opened k change count) (sym same) needed);
+    fits = subst (λ (b : Core). count ≤ length (unused_after b h)) (sym base_is)
+        (subst (λ (k : History). count ≤ length (unused_after t.ledger.base k)) (sym same) fits);
   }
+
+-- ---- behind a commit
+
+module _ {D : Type 0} (t n : Standing D) (entry : Entry) (place : ℕ)
+    (entries : n.ledger.entries ≡ t.ledger.entries ++ entry ∷ []) (placed : place ≡ length t.ledger.entries) where
+  pub last_place : place + 1 ≡ length n.ledger.entries
+  last_place = omega (arith, ap length entries, length-append t.ledger.entries (entry ∷ []), placed)
+
+  pub before_is : history_at n place ≡ history t.ledger
+  before_is =
+      ap (λ (es : List Entry). up_to place (reverse es)) entries
+      ∙ ap (up_to place) (reverse-append t.ledger.entries (entry ∷ []))
+      ∙ ap (λ (k : ℕ). up_to k (entry ∷ history t.ledger)) (placed ∙ sym (length-reverse t.ledger.entries))
+      ∙ beginnings_are_kept (entry ∷ []) (history t.ledger)
 
 -- ---- a commit that was prepared, and then sealed or stopped
 
@@ -211,12 +213,19 @@ module _ {D : Type 0} (moment : D → Moment) (session : ℕ) (change : Change) 
 
   module _ (asked : IsAsked moment t p.commit.change changed) (count : ℕ) (needed : IsNeeded moment s (history s.ledger) change count)
       (fits : count ≤ length (unused_pages t.ledger)) (next : sequence_at (base_of s) (history s.ledger) < 2 ^ 64 - 1) where
+    next_then : sequence_at (base_of t) (history t.ledger) < 2 ^ 64 - 1
+    next_then = subst (λ (k : ℕ). k < 2 ^ 64 - 1) (sym (sequence_is moment session change s t tried)) next
+
+    needed_now : IsNeeded moment t (history t.ledger) change count
+    needed_now = needed_then moment session change s t tried count needed
+
     made_so : (place : ℕ) → place ≡ length t.ledger.entries → NotesFault (moment t.disk).state (moment n.disk).state p.session (sealed_ledger t p) n.ledger → AddsCommit moment p t n →
         IsMade moment session change changed s n place
     made_so place placed noted a =
         let own : List Event = Acknowledged (Commit session change p.commit.used) (moment n.disk).state.moment (made_by p) ∷ [] in
         let ends : Ends session own (sealed_ledger t p).entries t n = sealed_now noted a in
         let start : start_of n ≡ start_of t = ends.adds.start in
+        let before : history_at n place ≡ history t.ledger = before_is t n (entry_of p) place ends.entries_are placed in
         record {
           done = record {
             used = p.commit.used;
@@ -224,15 +233,13 @@ module _ {D : Type 0} (moment : D → Moment) (session : ℕ) (change : Change) 
             directory = made_by p;
             tried = tried_both moment session change s t tried own (sealed_ledger t p).entries n ends;
           };
-          placed = last_place moment t n (entry_of p) place start ends.entries_are placed;
-          typed = typed_before moment t n (entry_of p) place start ends.entries_are placed change
+          placed = last_place t n (entry_of p) place ends.entries_are placed;
+          typed = typed_there moment t n start (history_at n place) before change
               (subst (λ (x : Change). IsTypedFor (names_at t.ledger.base (history t.ledger)) x) of asked.typed);
-          may = may_before moment t n (entry_of p) place start ends.entries_are placed change changed
+          may = may_there moment t n start (history_at n place) before change changed
               (subst (λ (x : Change). (db : Database) → BeganAs (moment t.opened.disk).state db → MayBeMade (at db (history t.ledger)) x changed) of asked.told);
-          next = next_before moment t n (entry_of p) place start ends.entries_are placed
-              (subst (λ (k : ℕ). k < 2 ^ 64 - 1) (sym (sequence_is moment session change s t tried)) next);
-          fits = fits_before moment t n (entry_of p) place start ends.entries_are placed change count
-              (needed_then moment session change s t tried count needed) fits;
+          next = next_there moment t n start (history_at n place) before next_then;
+          fits = fits_there moment t n start (history_at n place) before change count needed_now fits;
         }
 
     pub made : {F : Type 0} (result : Result ℕ F) → IfOk result (λ place. place ≡ length t.ledger.entries) → Noted result → Added result →
@@ -247,19 +254,27 @@ module _ {D : Type 0} (moment : D → Moment) (session : ℕ) (change : Change) 
   stopped_adds (Ok value) noted a = tt
   stopped_adds (Err fault) noted a = tried_both moment session change s t tried [] t.ledger.entries n (stopped_now noted a)
 
-  stopped_by : is_pinned session (history t.ledger) ≡ true → NotesFault (moment t.disk).state (moment n.disk).state p.session t.ledger n.ledger → (fault : CommitFault) →
-      IsStoppedSince (moment t.disk).state.faults (moment n.disk).state.faults (length n.ledger.entries) fault → IsUncommitted moment session change n fault
-  stopped_by pinned noted (faults.SequenceEnd place) why = absurd why
-  stopped_by pinned noted (faults.Full most free place) why = absurd why
-  stopped_by pinned noted (faults.Disk place) why = (
-    why.0,
-    fault_seen (moment t.disk).state (moment n.disk).state session t.ledger n.ledger pinned
-        (subst (λ (k : ℕ). NotesFault (moment t.disk).state (moment n.disk).state k t.ledger n.ledger) mine noted) why.1,
-  )
-  stopped_by pinned noted faults.Memory why = tt
+  module _ (count : ℕ) (needed : IsNeeded moment s (history s.ledger) change count)
+      (fits : count ≤ length (unused_pages t.ledger)) (next : sequence_at (base_of s) (history s.ledger) < 2 ^ 64 - 1) where
+    stopped_by : is_pinned session (history t.ledger) ≡ true → NotesFault (moment t.disk).state (moment n.disk).state p.session t.ledger n.ledger → AddsFault moment p.session t n →
+        (fault : CommitFault) → IsStoppedSince (moment t.disk).state.faults (moment n.disk).state.faults (length n.ledger.entries) fault →
+        IsUncommitted moment session change n fault
+    stopped_by pinned noted a (faults.SequenceEnd place) why = absurd why
+    stopped_by pinned noted a (faults.Full most free place) why = absurd why
+    stopped_by pinned noted a (faults.Disk place) why =
+        let ends : Ends session [] t.ledger.entries t n = stopped_now noted a in
+        let same : history n.ledger ≡ history t.ledger = ap (λ (es : List Entry). reverse es) ends.entries_are in (
+          why.0,
+          fault_seen (moment t.disk).state (moment n.disk).state session t.ledger n.ledger pinned
+              (subst (λ (k : ℕ). NotesFault (moment t.disk).state (moment n.disk).state k t.ledger n.ledger) mine noted) why.1,
+          next_there moment t n ends.adds.start (history n.ledger) same
+              (subst (λ (k : ℕ). k < 2 ^ 64 - 1) (sym (sequence_is moment session change s t tried)) next),
+          fits_there moment t n ends.adds.start (history n.ledger) same change count (needed_then moment session change s t tried count needed) fits,
+        )
+    stopped_by pinned noted a faults.Memory why = tt
 
-  pub stopped_causes : {A : Type 0} (result : Result A CommitFault) → is_pinned session (history s.ledger) ≡ true → Noted result →
-      IfErr result (IsStoppedSince (moment t.disk).state.faults (moment n.disk).state.faults (length n.ledger.entries)) →
-      IfErr result (IsUncommitted moment session change n)
-  stopped_causes (Ok value) pinned noted why = tt
-  stopped_causes (Err fault) pinned noted why = stopped_by (pinned_then moment session change s t tried pinned) noted fault why
+    pub stopped_causes : {A : Type 0} (result : Result A CommitFault) → is_pinned session (history s.ledger) ≡ true → Noted result → Added result →
+        IfErr result (IsStoppedSince (moment t.disk).state.faults (moment n.disk).state.faults (length n.ledger.entries)) →
+        IfErr result (IsUncommitted moment session change n)
+    stopped_causes (Ok value) pinned noted a why = tt
+    stopped_causes (Err fault) pinned noted a why = stopped_by (pinned_then moment session change s t tried pinned) noted a fault why

@@ -40,14 +40,16 @@ pub record IsFullNow {D : Type 0} (moment : D → Moment) (s : Standing D) (chan
   pub costs : IsNeeded moment s (history s.ledger) change count
   pub full : IsFull count needed free s.ledger
 
--- WHY A CHANGE ISN'T COMMITTED, where the place is the number of entries: the database has the last sequence number; the commit needs too
--- many pages; the disk failed, and a note of it stands under the session's pin; or memory was short
+-- WHY A CHANGE ISN'T COMMITTED, where the place is the number of entries: the database has the last sequence number; it hasn't, and the
+-- commit needs too many pages; neither is so, the disk failed, and a note of it stands under the session's pin; or memory was short
 abbrev pub IsUncommitted : {D : Type 0} → (D → Moment) → ℕ → Change → Standing D → CommitFault → Type 0
 IsUncommitted moment session change s (SequenceEnd place) =
     (place ≡ length s.ledger.entries) × (2 ^ 64 - 1 ≤ sequence_at (base_of s) (history s.ledger))
 IsUncommitted moment session change s (Full needed free place) =
     (place ≡ length s.ledger.entries) × (sequence_at (base_of s) (history s.ledger) < 2 ^ 64 - 1) × IsFullNow moment s change needed free
-IsUncommitted moment session change s (Disk place) = (place ≡ length s.ledger.entries) × IsTrue (is_noted is_fault s.ledger session)
+IsUncommitted moment session change s (Disk place) =
+    (place ≡ length s.ledger.entries) × IsTrue (is_noted is_fault s.ledger session)
+    × (sequence_at (base_of s) (history s.ledger) < 2 ^ 64 - 1) × FitsAfter moment s (history s.ledger) change
 IsUncommitted moment session change s Memory = Unit {0}
 
 -- what is told where a commit wasn't prepared

@@ -120,7 +120,9 @@ returns-in-Ok-clause-cause g c =
     let e = c.in-Ok.ensures in
     let p = c.in-Ok.prepared in
     stopped_causes moment c.args.session c.args.change c.args.changed s t n (record { comes = e.adds.0; is = e.adds.1; adds = e.adds.2 }) p e.of.0 e.of.1
-    c.seal.result c.requires.pinned c.seal.ensures.noted c.seal.ensures.cause
+    (needs s (keeping old) c.args.change c.args.changed)
+    (λ db. c.commits_need_what_they_cost.ensures s (keeping old) c.args.change c.args.changed db c.is_at.ensures.at c.requires.asked)
+    e.fits e.end c.seal.result c.requires.pinned c.seal.ensures.noted c.seal.ensures.adds c.seal.ensures.cause
 
 pub returns-in-Err-clause-cause : goal.returns-in-Err-clause-cause
 returns-in-Err-clause-cause g c =

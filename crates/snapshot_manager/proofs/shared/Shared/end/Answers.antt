@@ -1,24 +1,26 @@
-use Rattle.std.proofs.Common.{◌≡◌, ◌∙◌, ap, length, subst}
+use Rattle.std.proofs.Common.{◌≡◌, ◌∙◌, ap, length, refl, subst}
 use Rattle.store_state.specs.At.{standing}
+use Rattle.store_state.specs.Events.{events}
 use Rattle.array_store.specs.Starts.{start_of}
 use Rattle.turn_lock.specs.Seats.{seen_by}
+use Rattle.told_stores.specs.Told.{IsTold}
+use Rattle.told_stores.proofs.InTurn.{tells}
 use Rattle.snapshot_manager.specs.Seats.{start}
-use Rattle.snapshot_manager.specs.Told.{IsTold}
-use Rattle.snapshot_manager.proofs.InTurn.{tells}
 use Rattle.snapshot_manager.proofs.shared.Shared.end.Goals as goal
 
-pub returns-clause-seat : goal.returns-clause-seat
-returns-clause-seat g c =
-    let now = tells g.D.Disk.moment c.value-store.result.now (seen_by c.leave.new.seat) c.leave.ensures.seen c.is_at.ensures.ledger c.is_at.ensures.counted in (
-      record { here = c.leave.ensures.lock; counts = ap length (c.history.ensures ∙ now.entries); sealed = now.sealed },
-      c.leave.ensures.idle,
-    )
-
-pub returns-clause-told : goal.returns-clause-told
-returns-clause-told g c =
+pub returns : goal.returns
+returns g c =
     let moment = g.D.Disk.moment in
     let parts = c.value-store.result.now in
     let now = tells moment parts (seen_by c.leave.new.seat) c.leave.ensures.seen c.is_at.ensures.ledger c.is_at.ensures.counted in
-    let at : start_of (standing moment parts) ≡ start moment c.args.self.now = ap (λ p. start_of (standing moment p)) c.value-store.ensures.value ∙ c.requires.start in
-    subst (λ p. IsTold (start moment c.args.self.now) (seen_by c.leave.new.seat) (standing moment p)) c.value-store.ensures.value
-    (subst (λ begun. IsTold begun (seen_by c.leave.new.seat) (standing moment parts)) at now.told)
+    let at : start_of (standing moment parts) ≡ start moment c.args.self.now = ap (λ p. start_of (standing moment p)) c.value-store.ensures.value ∙ c.requires.start in record {
+      seat = (
+        record { here = c.leave.ensures.lock; counts = ap length (c.history.ensures ∙ now.entries); sealed = now.sealed },
+        c.leave.ensures.idle,
+      );
+      same = record { session = c.leave.ensures.number; last = refl };
+      reads = refl;
+      seen = c.leave.ensures.seen ∙ ap (λ p. events (standing moment p)) c.value-store.ensures.value;
+      told = subst (λ p. IsTold (start moment c.args.self.now) (seen_by c.leave.new.seat) (standing moment p)) c.value-store.ensures.value
+          (subst (λ begun. IsTold begun (seen_by c.leave.new.seat) (standing moment parts)) at now.told);
+    }

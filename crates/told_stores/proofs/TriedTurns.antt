@@ -1,5 +1,5 @@
 -- Commits in a turn.
-use Rattle.std.proofs.Common.{◌≡◌, ◌∙◌, ℕ, ◌+◌, ◌-◌, ◌^◌, ◌≤◌, ◌<◌, Bool, true, false, ◌&&◌, if◌then◌else◌, nat_eq, List, [], ◌∷◌, ◌++◌, length, reverse, inl, inr, Option, None, Some, Result, Ok, Err, IfErr, IfSome, OnOk, OnErr, refl, ap, sym, subst, append-nil, append_assoc}
+use Rattle.std.proofs.Common.{◌≡◌, ◌∙◌, ℕ, ◌+◌, ◌-◌, ◌^◌, ◌≤◌, ◌<◌, Bool, true, false, ◌&&◌, if◌then◌else◌, nat_eq, List, [], ◌∷◌, ◌++◌, length, reverse, inl, inr, Option, None, Some, Result, Ok, Err, IfSome, OnOk, OnErr, refl, ap, sym, subst, append-nil, append_assoc}
 use Rattle.std.proofs.lemmas.Bool.{eq-eqb, eqb-true}
 use Rattle.std.proofs.lemmas.List.Folds.{list_all-append}
 use Rattle.afl_outside.specs.Disk.{Moment}
@@ -17,7 +17,6 @@ use Rattle.event_core.specs.declared.entry.Entry.{Entry}
 use Rattle.event_core.specs.declared.entry.Entry.TheVariants.{Commit, Pin, Reap, Unpin}
 use Rattle.event_core.specs.declared.entry.Used.{Used}
 use Rattle.event_core.specs.declared.state.Core.{Core}
-use Rattle.event_core.specs.Allowed.{is_pinned}
 use Rattle.event_core.specs.Bases.{sequence_at}
 use Rattle.event_core.specs.Cells.{at}
 use Rattle.event_core.specs.History.{History, names_at, pin_before, up_to}
@@ -29,7 +28,6 @@ use Rattle.fresh_laws.specs.Fresh.{FreshChangesAreTyped}
 use Rattle.fresh_commits.specs.Laws.{FreshChangesMayBeMade}
 use Rattle.store_ledger.specs.declared.pinned.Pinned.{Pinned}
 use Rattle.store_ledger.specs.Ledger.{LedgerState, IsOpenPin, history, is_fault, is_noted, is_tried}
-use Rattle.store_ledger.proofs.Keeping.{pinned_of}
 use Rattle.store_state.specs.declared.event.Event.{Event}
 use Rattle.store_state.specs.declared.event.Event.TheVariants.{Acknowledged, Entered}
 use Rattle.store_state.specs.declared.parts.StoreParts.{StoreParts}
@@ -41,17 +39,18 @@ use Rattle.prepared_commits.specs.Prepared.{IsAsked, MayBeMade}
 use Rattle.prepared_parts.specs.Parts.{IsFull}
 use Rattle.array_store.specs.declared.start.Start.{Start}
 use Rattle.array_store.specs.Growth.{tried_events}
+use Rattle.array_store.specs.Starts.{start_of}
 use Rattle.store_commits.specs.declared.fault.CommitFault.{CommitFault}
 use Rattle.store_commits.specs.declared.fault.CommitFault.TheVariants as faults
 use Rattle.store_commits.specs.Causes.{FitsAfter, IsNeeded, IsUncommitted, unused_after}
 use Rattle.store_commits.specs.Tried.{AddsSealed, AddsTried, IsFaultOrNone}
-use Rattle.snapshot_manager.specs.Commits.{AreOfTry, MakesCommit, MakesHere, TriesCommit, TriesHere, is_fresh_since}
-use Rattle.snapshot_manager.specs.Told.{IsTold, entries_in, ledger_of, told}
-use Rattle.snapshot_manager.specs.Turns.{Adds, found_before}
-use Rattle.snapshot_manager.proofs.InTurn.{is_now, ledger_is, open_pin_now, seen_is, theirs_now}
-use Rattle.snapshot_manager.proofs.Notes.{notes_outlast, others_leave_notes}
-use Rattle.snapshot_manager.proofs.Sights.{more_history}
-use Rattle.snapshot_manager.proofs.Turning.{before_own, extends_own}
+use Rattle.told_stores.specs.Tries.{AreOfTry, MakesCommit, MakesHere, TriesCommit, TriesHere, is_fresh_since}
+use Rattle.told_stores.specs.Told.{IsTold, entries_in, ledger_of, told}
+use Rattle.told_stores.specs.Turns.{Adds, found_before, leaves_pin_of}
+use Rattle.told_stores.proofs.InTurn.{is_now, ledger_is, open_after, seen_is, theirs_now}
+use Rattle.told_stores.proofs.Notes.{notes_outlast, others_leave_notes}
+use Rattle.told_stores.proofs.Sights.{more_history}
+use Rattle.told_stores.proofs.Turning.{before_own, extends_own}
 
 -- ---- where an open pin stands
 
@@ -90,6 +89,49 @@ pin_splits s (Unpin t ∷ rest) before e = splits_unpin (nat_eq t s) s t rest be
 pin_splits s (Commit t change used ∷ rest) before e = splits_more s (Commit t change used) rest before (pin_splits s rest before e)
 pin_splits s (Reap ∷ rest) before e = splits_more s Reap rest before (pin_splits s rest before e)
 
+-- ---- what the session adds is its own, and neither a pin nor an unpin
+
+all_both : (a b : Bool) → a ≡ true → b ≡ true → (a && b) ≡ true
+all_both true b e f = f
+all_both false b e f = absurd (both_not false refl e)
+
+all_append : (p : Event → Bool) (xs ys : List Event) → list_all p xs ≡ true → list_all p ys ≡ true → list_all p (xs ++ ys) ≡ true
+all_append p xs ys e f = list_all-append p xs ys ∙ all_both (list_all p xs) (list_all p ys) e f
+
+both_only : (session : ℕ) (xs ys : List Event) → only_of owner_of session xs ≡ true → only_of owner_of session ys ≡ true → only_of owner_of session (xs ++ ys) ≡ true
+both_only session xs ys e f = all_append (λ event. is_open_to (owner_of event) session) xs ys e f
+
+reaped_only : (comes : Bool) (session : ℕ) → only_of owner_of session (if comes then Entered Reap ∷ [] else []) ≡ true
+reaped_only true session = refl
+reaped_only false session = refl
+
+tried_only : (comes : Bool) (ledger : LedgerState) (session : ℕ) (change : Change) → only_of owner_of session (tried_events comes ledger session change) ≡ true
+tried_only comes ledger session change =
+    all_both (nat_eq session session) (only_of owner_of session (if comes then Entered Reap ∷ [] else [])) (eq-eqb session session refl) (reaped_only comes session)
+
+faults_only : (ledger : LedgerState) (session : ℕ) (faults : List Event) → IsFaultOrNone ledger session faults → only_of owner_of session faults ≡ true
+faults_only ledger session faults (inl e) = ap (only_of owner_of session) e
+faults_only ledger session faults (inr e) = ap (only_of owner_of session) e ∙ all_both (nat_eq session session) true (eq-eqb session session refl) refl
+
+commit_only : (session : ℕ) (change : Change) (used : Used) (moment : ℕ) (directory : Directory) →
+    only_of owner_of session (Acknowledged (Commit session change used) moment directory ∷ []) ≡ true
+commit_only session change used moment directory = all_both (nat_eq session session) true (eq-eqb session session refl) refl
+
+reaped_leave : (comes : Bool) (session : ℕ) → list_all (leaves_pin_of session) (if comes then Entered Reap ∷ [] else []) ≡ true
+reaped_leave true session = refl
+reaped_leave false session = refl
+
+faults_leave : (ledger : LedgerState) (session : ℕ) (faults : List Event) → IsFaultOrNone ledger session faults → list_all (leaves_pin_of session) faults ≡ true
+faults_leave ledger session faults (inl e) = ap (list_all (leaves_pin_of session)) e
+faults_leave ledger session faults (inr e) = ap (list_all (leaves_pin_of session)) e
+
+try_leaves : {D : Type 0} (start : Start D) (session : ℕ) (change : Change) (commit found own new : List Event) → list_all (leaves_pin_of session) commit ≡ true →
+    AreOfTry start session change commit found own new → list_all (leaves_pin_of session) own ≡ true
+try_leaves start session change commit found own new leaves t =
+    ap (list_all (leaves_pin_of session)) t.is
+    ∙ all_append (leaves_pin_of session) (tried_events t.comes (ledger_of start found) session change) (commit ++ t.faults) (reaped_leave t.comes session)
+    (all_append (leaves_pin_of session) commit t.faults leaves (faults_leave (ledger_of start new) session t.faults t.fault))
+
 -- ---- what is asked of a commit in a turn that found its change fresh
 
 module _ {D : Type 0} (moment : D → Moment) (start : Start D) (session : ℕ) (old seen : List Event) (parts value : StoreParts D)
@@ -100,11 +142,6 @@ module _ {D : Type 0} (moment : D → Moment) (start : Start D) (session : ℕ) 
 
   behind : seen ≡ old ++ found.others
   behind = seen_is moment start session old seen parts value found same is
-
-  pub pinned_in_turn : is_pinned pinned.session (history parts.ledger) ≡ true
-  pinned_in_turn =
-      let p : IsOpenPin parts.ledger pinned = open_pin_now moment start session old seen parts value found same is pinned mine o in
-      pinned_of pinned.session (history parts.ledger) p.before p.begun
 
   pub untried_in_turn : is_noted is_tried (ledger_of start old) pinned.session ≡ false → is_noted is_tried parts.ledger pinned.session ≡ false
   untried_in_turn untried =
@@ -158,34 +195,17 @@ module _ {D : Type 0} (moment : D → Moment) (start : Start D) (session : ℕ) 
             (subst (λ (d : Database). MayBeMade d change changed) (at_pin db) (may db (began_then db began))));
       }
 
--- ---- what the session adds is its own
+  -- the pin is still open behind it
+  tried_open : (change : Change) (commit new : List Event) → list_all (leaves_pin_of pinned.session) commit ≡ true → TriesHere start pinned.session change commit seen new →
+      IsOpenPin (ledger_of start new) pinned
+  tried_open change commit new leaves h =
+      open_after moment start session old seen parts value found same is pinned mine o h.own new (try_leaves start pinned.session change commit seen h.own new leaves h.tried) h.grown
 
-pair_only : (a : Bool) (more : List Event) (session : ℕ) → a ≡ true → only_of owner_of session more ≡ true → (a && only_of owner_of session more) ≡ true
-pair_only true more session e f = f
-pair_only false more session e f = absurd (both_not false refl e)
+  pub open_tried : (change : Change) (new : List Event) → TriesHere start pinned.session change [] seen new → IsOpenPin (ledger_of start new) pinned
+  open_tried change new = tried_open change [] new refl
 
-all_both : (a b : Bool) → a ≡ true → b ≡ true → (a && b) ≡ true
-all_both true b e f = f
-all_both false b e f = absurd (both_not false refl e)
-
-both_only : (session : ℕ) (xs ys : List Event) → only_of owner_of session xs ≡ true → only_of owner_of session ys ≡ true → only_of owner_of session (xs ++ ys) ≡ true
-both_only session xs ys e f = list_all-append (λ event. is_open_to (owner_of event) session) xs ys ∙ all_both (only_of owner_of session xs) (only_of owner_of session ys) e f
-
-reaped_only : (comes : Bool) (session : ℕ) → only_of owner_of session (if comes then Entered Reap ∷ [] else []) ≡ true
-reaped_only true session = refl
-reaped_only false session = refl
-
-tried_only : (comes : Bool) (ledger : LedgerState) (session : ℕ) (change : Change) → only_of owner_of session (tried_events comes ledger session change) ≡ true
-tried_only comes ledger session change =
-    pair_only (nat_eq session session) (if comes then Entered Reap ∷ [] else []) session (eq-eqb session session refl) (reaped_only comes session)
-
-faults_only : (ledger : LedgerState) (session : ℕ) (faults : List Event) → IsFaultOrNone ledger session faults → only_of owner_of session faults ≡ true
-faults_only ledger session faults (inl e) = ap (only_of owner_of session) e
-faults_only ledger session faults (inr e) = ap (only_of owner_of session) e ∙ pair_only (nat_eq session session) [] session (eq-eqb session session refl) refl
-
-commit_only : (session : ℕ) (change : Change) (used : Used) (moment : ℕ) (directory : Directory) →
-    only_of owner_of session (Acknowledged (Commit session change used) moment directory ∷ []) ≡ true
-commit_only session change used moment directory = pair_only (nat_eq session session) [] session (eq-eqb session session refl) refl
+  pub open_made : (change : Change) (new : List Event) → MakesHere start pinned.session change seen new → IsOpenPin (ledger_of start new) pinned
+  open_made change new h = tried_open change (Acknowledged (Commit pinned.session change h.used) h.moment h.directory ∷ []) new refl h.tries
 
 -- ---- what was added in a turn, which the seat then sees
 
@@ -201,6 +221,10 @@ module _ {D : Type 0} (session : ℕ) (change : Change) (seen : List Event) (s n
   commit_extends (Ok value) done err =
       tried_extends (Acknowledged (Commit session change done.used) done.moment done.directory ∷ []) (commit_only session change done.used done.moment done.directory) done.tried
   commit_extends (Err fault) done err = tried_extends [] refl err
+
+  pub commit_start : {A F : Type 0} (result : Result A F) → OnOk result (AddsSealed session change s n) → OnErr result (AddsTried session change [] s n) → start_of n ≡ start_of s
+  commit_start (Ok value) done err = done.tried.adds.start
+  commit_start (Err fault) done err = err.adds.start
 
   module _ (start : Start D) (before : IsTold start seen s) (new : List Event) (new_is : new ≡ events n) (after : IsTold start new n) where
     pub tries_here : (commit : List Event) → AddsTried session change commit s n → TriesHere start session change commit seen new
@@ -283,12 +307,15 @@ module _ {D : Type 0} (moment : D → Moment) (start : Start D) (change : Change
   needed_told : (h : Standing D → History) (count : ℕ) → IsNeeded moment n (h n) change count → IsNeeded moment (record (told start new) { disk = n.disk; doubt = n.doubt }) (h (record (told start new) { disk = n.disk; doubt = n.doubt })) change count
   needed_told h count = subst (λ (x : Standing D). IsNeeded moment x (h x) change count) after
 
-  pub fits_told : (place : ℕ) → FitsAfter moment n (history_at n place) change → FitsAfter moment (told start new) (history_at (told start new) place) change
-  fits_told place f = record {
+  fits_then : (h : Standing D → History) → FitsAfter moment n (h n) change → FitsAfter moment (told start new) (h (record (told start new) { disk = n.disk; doubt = n.doubt })) change
+  fits_then h f = record {
     count = f.count;
-    needed = needed_told (λ x. history_at x place) f.count f.needed;
-    fits = subst (λ (x : Standing D). f.count ≤ length (unused_after x.ledger.base (history_at x place))) after f.fits;
+    needed = needed_told h f.count f.needed;
+    fits = subst (λ (x : Standing D). f.count ≤ length (unused_after x.ledger.base (h x))) after f.fits;
   }
+
+  pub fits_told : (place : ℕ) → FitsAfter moment n (history_at n place) change → FitsAfter moment (told start new) (history_at (told start new) place) change
+  fits_told place = fits_then (λ x. history_at x place)
 
   pub cause_told : (session : ℕ) (fault : CommitFault) → IsUncommitted moment session change n fault → IsUncommitted moment session change (told start new) fault
   cause_told session (faults.SequenceEnd place) why = (
@@ -307,13 +334,7 @@ module _ {D : Type 0} (moment : D → Moment) (start : Start D) (change : Change
   cause_told session (faults.Disk place) why = (
     subst (λ (x : Standing D). place ≡ length x.ledger.entries) after why.0,
     subst (λ (x : Standing D). is_noted is_fault x.ledger session ≡ true) after why.1,
+    subst (λ (x : Standing D). sequence_at (base_of x) (history x.ledger) < 2 ^ 64 - 1) after why.2,
+    fits_then (λ x. history x.ledger) why.3,
   )
   cause_told session faults.Memory why = tt
-
-pub if_err : {A F : Type 0} (P Q : F → Type 0) (result : Result A F) → ((fault : F) → P fault → Q fault) → IfErr result P → IfErr result Q
-if_err P Q (Ok value) f p = tt
-if_err P Q (Err fault) f p = f fault p
-
-pub on_err : {A F : Type 0} (P Q : Type 0) (result : Result A F) → (P → Q) → OnErr result P → OnErr result Q
-on_err P Q (Ok value) f p = tt
-on_err P Q (Err fault) f p = f p

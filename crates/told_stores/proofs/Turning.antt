@@ -1,5 +1,5 @@
 -- What turns find and add.
-use Rattle.std.proofs.Common.{◌≡◌, ◌∙◌, ℕ, ◌-◌, Bool, true, false, not, if◌then◌else◌, List, [], ◌∷◌, ◌++◌, length, take, Result, Ok, Err, OnOk, OnErr, IfOk, refl, ap, sym, arith, append-nil, length-append}
+use Rattle.std.proofs.Common.{◌≡◌, ◌∙◌, ℕ, ◌-◌, Bool, true, false, not, if◌then◌else◌, List, [], ◌∷◌, ◌++◌, length, take, Result, Ok, Err, OnOk, OnErr, IfOk, IfErr, refl, ap, sym, arith, append-nil, length-append}
 use Rattle.std.proofs.Math.Seq.{take-append_seam}
 use Rattle.std.proofs.lemmas.Bool.{and_parts, not-true}
 use Rattle.std.proofs.lemmas.List.Elements.{filter-append}
@@ -11,8 +11,8 @@ use Rattle.store_state.specs.Standings.{Standing}
 use Rattle.array_store.specs.declared.start.Start.{Start}
 use Rattle.array_store.specs.Growth.{AddsEvents}
 use Rattle.array_store.specs.Starts.{start_of}
-use Rattle.snapshot_manager.specs.Turns.{found_before, own_events, reap_events, Adds}
-use Rattle.snapshot_manager.specs.Laws.{TurnsAddOwn, TurnsFind}
+use Rattle.told_stores.specs.Turns.{found_before, own_events, reap_events, Adds}
+use Rattle.told_stores.specs.Laws.{TurnsAddOwn, TurnsFind}
 
 -- ---- the laws
 
@@ -65,12 +65,36 @@ module _ {D : Type 0} {own : List Event} {s t : Standing D} (adds : AddsEvents o
 
 -- ---- by the answer of a call
 
+pub if_on : {A F : Type 0} (result : Result A F) (P : A → Type 0) (Q : Type 0) (R : A → Type 0) → ((value : A) → P value → Q → R value) → IfOk result P → OnOk result Q → IfOk result R
+if_on (Ok value) P Q R f p q = f value p q
+if_on (Err fault) P Q R f p q = tt
+
+pub if_both : {A F : Type 0} (result : Result A F) (P Q R : A → Type 0) → ((value : A) → P value → Q value → R value) → IfOk result P → IfOk result Q → IfOk result R
+if_both (Ok value) P Q R f p q = f value p q
+if_both (Err fault) P Q R f p q = tt
+
+pub on_both : {A F : Type 0} (result : Result A F) (P Q R : Type 0) → (P → Q → R) → OnOk result P → OnOk result Q → OnOk result R
+on_both (Ok value) P Q R f p q = f p q
+on_both (Err fault) P Q R f p q = tt
+
+pub on_err : {A F : Type 0} (P Q : Type 0) (result : Result A F) → (P → Q) → OnErr result P → OnErr result Q
+on_err P Q (Ok value) f p = tt
+on_err P Q (Err fault) f p = f p
+
+pub if_left : {A F : Type 0} (result : Result A F) (P : F → Type 0) (Q : Type 0) (R : F → Type 0) → ((fault : F) → P fault → Q → R fault) → IfErr result P → OnErr result Q → IfErr result R
+if_left (Ok value) P Q R f p q = tt
+if_left (Err fault) P Q R f p q = f fault p q
+
+pub if_err : {A F : Type 0} (P Q : F → Type 0) (result : Result A F) → ((fault : F) → P fault → Q fault) → IfErr result P → IfErr result Q
+if_err P Q (Ok value) f p = tt
+if_err P Q (Err fault) f p = f fault p
+
 -- what a call adds that adds these just where it is done
 abbrev pub done_events : {A F : Type 0} → Result A F → List Event → List Event
 done_events (Ok value) own = own
 done_events (Err fault) own = []
 
-nothing_added : {D : Type 0} (s t : Standing D) → t ≡ s → AddsEvents [] s t
+pub nothing_added : {D : Type 0} (s t : Standing D) → t ≡ s → AddsEvents [] s t
 nothing_added s t e = record { start = ap start_of e; grown = ap events e ∙ sym (append-nil (events s)) }
 
 pub done_adds : {A F D : Type 0} (result : Result A F) (own : List Event) (s t : Standing D) → OnOk result (AddsEvents own s t) → OnErr result (t ≡ s) →
@@ -81,14 +105,6 @@ done_adds (Err fault) own s t ok err = nothing_added s t err
 pub done_only : {A F : Type 0} (result : Result A F) (session : ℕ) (own : List Event) → only_of owner_of session own ≡ true → only_of owner_of session (done_events result own) ≡ true
 done_only (Ok value) session own only = only
 done_only (Err fault) session own only = refl
-
-pub done_ok : {A F : Type 0} (result : Result A F) (session : ℕ) (own old new : List Event) → Adds session (done_events result own) old new → OnOk result (Adds session own old new)
-done_ok (Ok value) session own old new adds = adds
-done_ok (Err fault) session own old new adds = tt
-
-pub done_err : {A F : Type 0} (result : Result A F) (session : ℕ) (own old new : List Event) → Adds session (done_events result own) old new → OnErr result (Adds session [] old new)
-done_err (Ok value) session own old new adds = tt
-done_err (Err fault) session own old new adds = adds
 
 -- what a reap adds
 abbrev pub reaped : {F : Type 0} → Result Bool F → List Event

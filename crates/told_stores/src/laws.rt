@@ -1,7 +1,7 @@
 //! What holds of events, of turns, and of what pins see.
-ghost use Rattle.snapshot_manager.specs.Laws.{NotesOutlast, OthersLeaveNotes, OthersLeavePins, PinsOutlast, PinsSeeTheSame, StoresAreTold};
-ghost use Rattle.snapshot_manager.specs.Laws.{TurnsAddOwn, TurnsFind};
-ghost use Rattle.snapshot_manager.specs.Worked.{IsWorked};
+ghost use Rattle.told_stores.specs.Laws.{NotesOutlast, OthersLeaveNotes, OthersLeavePins, PinsOutlast, PinsSeeTheSame, StoresAreTold};
+ghost use Rattle.told_stores.specs.Laws.{TurnsAddOwn, TurnsFind};
+ghost use Rattle.told_stores.specs.Worked.{IsWorked};
 
 use afl_outside::Disk;
 

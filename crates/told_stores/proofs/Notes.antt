@@ -11,11 +11,11 @@ use Rattle.store_state.specs.declared.event.Event.{Event}
 use Rattle.store_state.specs.declared.event.Event.TheVariants.{Entered, Acknowledged, Noted}
 use Rattle.store_state.specs.Events.{owner_of}
 use Rattle.array_store.specs.declared.start.Start.{Start}
-use Rattle.snapshot_manager.specs.Told.{entries_in, ledger_of, notes_in}
-use Rattle.snapshot_manager.specs.Turns.{leaves_notes_of, leaves_pin_of}
-use Rattle.snapshot_manager.specs.Laws.{NotesOutlast, OthersLeaveNotes}
-use Rattle.snapshot_manager.proofs.Sights.{entry_leaves, turned_leave}
-use Rattle.snapshot_manager.proofs.Telling.{entries_in-append, notes_in-append}
+use Rattle.told_stores.specs.Told.{entries_in, ledger_of, notes_in}
+use Rattle.told_stores.specs.Turns.{leaves_notes_of, leaves_pin_of}
+use Rattle.told_stores.specs.Laws.{NotesOutlast, OthersLeaveNotes}
+use Rattle.told_stores.proofs.Sights.{entry_leaves, turned_leave}
+use Rattle.told_stores.proofs.Telling.{entries_in-append, notes_in-append}
 
 not_first : (a b : Bool) → not a ≡ true → not (a && b) ≡ true
 not_first true b e = absurd cc

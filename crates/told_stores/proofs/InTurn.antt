@@ -8,34 +8,36 @@ use Rattle.afl_outside.specs.Disk.{Moment}
 use Rattle.logical_plan.specs.declared.parts.Leaf.{Leaf}
 use Rattle.plan_changes.specs.Databases.{Database}
 use Rattle.turn_lock.specs.Owners.{none_of, only_of, ExtendsByOwn}
-use Rattle.event_core.specs.declared.entry.Entry.{Entry}
 use Rattle.event_core.specs.declared.entry.Entry.TheVariants.{Pin, Unpin}
 use Rattle.event_core.specs.Allowed.{is_pinned}
 use Rattle.event_core.specs.Cells.{at}
-use Rattle.event_core.specs.History.{names_at, pin_before}
+use Rattle.event_core.specs.History.{names_at}
 use Rattle.store_ledger.specs.declared.note.NoteKind.{NoteKind}
 use Rattle.store_ledger.specs.declared.pinned.Pinned.{Pinned}
 use Rattle.store_ledger.specs.declared.pinned.PinFault.{PinFault}
-use Rattle.store_ledger.specs.Ledger.{IsLedger, IsOpenPin, LedgerState, has_room, history, is_noted, reap_comes, with_entries as more_entries}
+use Rattle.store_ledger.specs.Ledger.{IsLedger, IsOpenPin, IsRefused, LedgerState, has_room, history, is_fault, is_noted, reap_comes}
+use Rattle.store_ledger.proofs.Keeping.{pinned_of}
 use Rattle.store_state.specs.declared.event.Event.{Event}
 use Rattle.store_state.specs.declared.event.Event.TheVariants.{Entered}
 use Rattle.store_state.specs.declared.fault.ReadFault.{ReadFault}
 use Rattle.store_state.specs.declared.parts.StoreParts.{StoreParts}
 use Rattle.store_state.specs.At.{standing}
-use Rattle.store_state.specs.Calls.{IsUnread, chunks_at, history_at, payload_at}
+use Rattle.store_state.specs.Calls.{IsUnread, NotesFault, chunks_at, history_at, payload_at}
 use Rattle.store_state.specs.Events.{events, owner_of}
-use Rattle.store_state.specs.Standings.{BeganAs, Standing, with_entries}
+use Rattle.store_state.specs.Standings.{BeganAs, Standing}
 use Rattle.array_store.specs.declared.start.Start.{Start}
 use Rattle.array_store.specs.Growth.{AddsEvents, AddsFault, IsCounted, fault_events}
 use Rattle.array_store.specs.Starts.{start_of}
-use Rattle.snapshot_manager.specs.Faults.{IsUnreadUnder}
-use Rattle.snapshot_manager.specs.Laws.{IsToldWhole}
-use Rattle.snapshot_manager.specs.Told.{IsTold, entries_in, is_sealed, ledger_of, told, notes_in}
-use Rattle.snapshot_manager.specs.Turns.{Adds, AddsAtMostNote, found_before, pin_event, reap_events, leaves_pin_of}
-use Rattle.snapshot_manager.proofs.PinReads.{AddsSome, adds_some, began_now, chunks_now, open_now, over_pin, payload_now, some_leaves, some_only, told_causes}
-use Rattle.snapshot_manager.proofs.Sights.{none_later, none_unpinned, open_later, same_pinned}
-use Rattle.snapshot_manager.proofs.Telling.{entries_are, stores_are_told, entries_in-append, notes_in-append}
-use Rattle.snapshot_manager.proofs.Turning.{adds_own, before_own, done_adds, done_events, done_only, extends_own}
+use Rattle.array_store.proofs.Added.{if_ok, on_ok}
+use Rattle.store_commits.proofs.Ended.{fault_seen}
+use Rattle.told_stores.specs.Faults.{IsUnreadUnder}
+use Rattle.told_stores.specs.Laws.{IsToldWhole}
+use Rattle.told_stores.specs.Told.{IsTold, entries_in, is_sealed, ledger_of, told}
+use Rattle.told_stores.specs.Turns.{Adds, AddsAtMostNote, found_before, pin_event, reap_events, leaves_pin_of}
+use Rattle.told_stores.proofs.PinReads.{AddsSome, adds_some, began_now, chunks_now, open_now, over_pin, payload_now, some_leaves, some_only, told_causes}
+use Rattle.told_stores.proofs.Sights.{none_later, none_unpinned, open_later, same_pinned}
+use Rattle.told_stores.proofs.Telling.{entries_are, stores_are_told}
+use Rattle.told_stores.proofs.Turning.{adds_own, before_own, done_adds, done_events, done_only, extends_own, if_both, if_left, if_on, on_both, on_err}
 
 -- ---- a turn that begins or ends
 
@@ -55,39 +57,6 @@ tells {D} moment parts seen e is counted =
       sealed = ap (list_all is_sealed) e ∙ whole.sealed;
       told = subst (λ (es : List Event). IsTold (start_of s) es s) (sym e) whole.told;
     }
-
--- ---- by the answer of a call
-
-pub if_on : {A F : Type 0} (result : Result A F) (P : A → Type 0) (Q : Type 0) (R : A → Type 0) → ((value : A) → P value → Q → R value) → IfOk result P → OnOk result Q → IfOk result R
-if_on (Ok value) P Q R f p q = f value p q
-if_on (Err fault) P Q R f p q = tt
-
-pub if_both : {A F : Type 0} (result : Result A F) (P Q R : A → Type 0) → ((value : A) → P value → Q value → R value) → IfOk result P → IfOk result Q → IfOk result R
-if_both (Ok value) P Q R f p q = f value p q
-if_both (Err fault) P Q R f p q = tt
-
-pub on_both : {A F : Type 0} (result : Result A F) (P Q R : Type 0) → (P → Q → R) → OnOk result P → OnOk result Q → OnOk result R
-on_both (Ok value) P Q R f p q = f p q
-on_both (Err fault) P Q R f p q = tt
-
-on_err : {A F : Type 0} (result : Result A F) (P Q : Type 0) → (P → Q) → OnErr result P → OnErr result Q
-on_err (Ok value) P Q f p = tt
-on_err (Err fault) P Q f p = f p
-
--- an open pin is told by the base and the entries alone
-open_as : (ledger other : LedgerState) (pinned : Pinned) → other.base ≡ ledger.base → other.entries ≡ ledger.entries → IsOpenPin ledger pinned → IsOpenPin other pinned
-open_as ledger other pinned base entries o = record {
-  before = o.before;
-  begun = ap (λ (es : List Entry). pin_before pinned.session (reverse es)) entries ∙ o.begun;
-  place = o.place;
-  names = o.names ∙ ap (λ b. names_at b o.before) (sym base);
-}
-
-own_entry : (n session : ℕ) → n ≡ session → only_of owner_of session (Entered (Pin n) ∷ []) ≡ true
-own_entry n session e = ap (λ (b : Bool). b && true) (eq-eqb n session e)
-
-own_unpin : (n session : ℕ) → n ≡ session → only_of owner_of session (Entered (Unpin n) ∷ []) ≡ true
-own_unpin n session e = ap (λ (b : Bool). b && true) (eq-eqb n session e)
 
 -- ---- a turn that found `parts`, where `value` is what the lock gave
 
@@ -128,11 +97,27 @@ module _ {D : Type 0} (moment : D → Moment) (start : Start D) (session : ℕ) 
     pub found_now : (own : List Event) (new : List Event) → new ≡ events (standing moment next) → AddsEvents own (standing moment parts) (standing moment next) → found_before own new ≡ seen
     found_now own new e adds = before_own own seen new (e ∙ adds.grown ∙ ap (λ (es : List Event). es ++ own) events_now)
 
+    pub adds_now : (own : List Event) (new : List Event) → new ≡ events (standing moment next) → AddsEvents own (standing moment parts) (standing moment next) → Adds session own old new
+    adds_now own new e adds = adds_own adds session old seen new found events_now e
+
+    pub adds_none : (new : List Event) → new ≡ events (standing moment parts) → Adds session [] old new
+    adds_none new e = subst (λ (es : List Event). Adds session [] old es) (sym (e ∙ events_now)) found
+
     -- a pin
     module _ (n : ℕ) (mine : n ≡ session) (result : Result Pinned PinFault) (new : List Event) (seen_new : new ≡ events (standing moment next))
         (adds : OnOk result (AddsEvents (Entered (Pin n) ∷ []) (standing moment parts) (standing moment next))) where
       found_pin : AddsEvents (Entered (Pin n) ∷ []) (standing moment parts) (standing moment next) → found_before (pin_event session ∷ []) new ≡ seen
       found_pin a = ap (λ (k : ℕ). found_before (pin_event k ∷ []) new) (sym mine) ∙ found_now (Entered (Pin n) ∷ []) new seen_new a
+
+      pub pin_ok : OnOk result (Adds session (pin_event session ∷ []) old new)
+      pin_ok =
+          on_ok (AddsEvents (Entered (Pin n) ∷ []) (standing moment parts) (standing moment next)) (Adds session (pin_event session ∷ []) old new) result
+          (λ a. subst (λ (k : ℕ). Adds session (pin_event k ∷ []) old new) mine (adds_now (Entered (Pin n) ∷ []) new seen_new a)) adds
+
+      pub pin_err : OnErr result (standing moment next ≡ standing moment parts) → OnErr result (Adds session [] old new)
+      pin_err err =
+          on_err (standing moment next ≡ standing moment parts) (Adds session [] old new) result
+          (λ left. adds_none new (seen_new ∙ ap events left)) err
 
       abbrev IsPinnedAt : Pinned → Type 0
       IsPinnedAt pinned =
@@ -158,44 +143,11 @@ module _ {D : Type 0} (moment : D → Moment) (start : Start D) (session : ℕ) 
           (λ r a. ap (λ (es : List Event). has_room (ledger_of start es) 4) (found_pin a) ∙ ap (λ (l : LedgerState). has_room l 4) (sym ledger_is) ∙ r)
           room adds
 
-      pub pin_open : start_of (standing moment parts) ≡ start → IfOk result (λ pinned. IsOpenPin next.ledger pinned) → IfOk result (λ pinned. IsOpenPin (ledger_of start new) pinned)
-      pin_open began opened =
-          if_on result _ _ (λ pinned. IsOpenPin (ledger_of start new) pinned)
-          (λ pinned o a.
-          open_as next.ledger (ledger_of start new) pinned
-          (sym (ap (λ (st : Start D). st.base) (a.start ∙ began)))
-          (ap entries_in seen_new ∙ entries_are (standing moment next))
-          o)
-          opened adds
-
-      pin_told : ledger_of start (seen ++ Entered (Pin n) ∷ []) ≡ more_entries (Pin n ∷ []) (ledger_of start seen)
-      pin_told = λ i. record {
-        base = start.base;
-        limit = start.limit;
-        entries = entries_in-append seen (Entered (Pin n) ∷ []) i;
-        notes = (notes_in-append seen (Entered (Pin n) ∷ []) ∙ append-nil (notes_in seen)) i;
-      }
-
-      pin_ledger : standing moment next ≡ with_entries (Pin n ∷ []) (standing moment parts) → AddsEvents (Entered (Pin n) ∷ []) (standing moment parts) (standing moment next) →
-          ledger_of start new ≡ next.ledger
-      pin_ledger e a =
-          ap (ledger_of start) (seen_new ∙ a.grown ∙ ap (λ (es : List Event). es ++ Entered (Pin n) ∷ []) events_now)
-          ∙ pin_told
-          ∙ ap (more_entries (Pin n ∷ [])) (sym ledger_is)
-          ∙ sym (ap (λ (s : Standing D). s.ledger) e)
-
-      pub pin_untried : OnOk result (standing moment next ≡ with_entries (Pin n ∷ []) (standing moment parts)) → OnOk result ((kinds : NoteKind → Bool) → is_noted kinds next.ledger n ≡ false) →
-          OnOk result ((kinds : NoteKind → Bool) → is_noted kinds (ledger_of start new) session ≡ false)
-      pin_untried ok none =
-          on_both result _ _ _
-          (λ l u kinds. ap (λ (k : ℕ). is_noted kinds (ledger_of start new) k) (sym mine) ∙ ap (λ (ledger : LedgerState). is_noted kinds ledger n) l ∙ u kinds)
-          (on_both result _ _ (ledger_of start new ≡ next.ledger) pin_ledger ok adds) none
-
       -- where it was refused there is none still
       pub pin_none : (m : ℕ) → m ≡ session → OnErr result (standing moment next ≡ standing moment parts) → IsTrue (not (is_pinned session (history (ledger_of start old)))) →
           OnErr result (IsTrue (not (is_pinned m (reverse (entries_in new)))))
       pin_none m e err free =
-          on_err result _ _
+          on_err (standing moment next ≡ standing moment parts) (IsTrue (not (is_pinned m (reverse (entries_in new))))) result
           (λ left.
           ap (λ (k : ℕ). not (is_pinned k (reverse (entries_in new)))) e
           ∙ none_later session old found.others new found.theirs (seen_new ∙ ap events left ∙ events_now ∙ seen_is) free)
@@ -206,6 +158,11 @@ module _ {D : Type 0} (moment : D → Moment) (start : Start D) (session : ℕ) 
     unpin_none n m e new seen_new adds =
         ap (λ (k : ℕ). not (is_pinned k (reverse (entries_in new)))) e
         ∙ none_unpinned m seen new (seen_new ∙ adds.grown ∙ ap (λ (es : List Event). es ++ Entered (Unpin m) ∷ []) events_now)
+
+    pub unpin_adds : (n : ℕ) → n ≡ session → (new : List Event) → new ≡ events (standing moment next) → AddsEvents (Entered (Unpin n) ∷ []) (standing moment parts) (standing moment next) →
+        Adds session (Entered (Unpin session) ∷ []) old new
+    unpin_adds n e new seen_new adds =
+        subst (λ (k : ℕ). Adds session (Entered (Unpin k) ∷ []) old new) e (adds_now (Entered (Unpin n) ∷ []) new seen_new adds)
 
     -- a reap
     pub reap_is : {F : Type 0} (result : Result Bool F) (new : List Event) → new ≡ events (standing moment next) → IfOk result (λ comes. comes ≡ reap_comes parts.ledger) →
@@ -223,6 +180,11 @@ module _ {D : Type 0} (moment : D → Moment) (start : Start D) (session : ℕ) 
 
     pub open_pin_now : IsOpenPin parts.ledger pinned
     open_pin_now = open_now moment start old found.others (standing moment parts) pinned is_behind theirs_now o
+
+    pub pinned_now : is_pinned pinned.session (history parts.ledger) ≡ true
+    pinned_now =
+        let here : IsOpenPin parts.ledger pinned = open_pin_now in
+        pinned_of pinned.session (history parts.ledger) here.before here.begun
 
     pub began_in_turn : (db : Database) → BeganAs (moment start.opened.disk).state db → BeganAs (moment parts.opened.value.disk).state db
     began_in_turn = began_now moment start old found.others (standing moment parts) pinned is_behind theirs_now o
@@ -284,17 +246,43 @@ module _ {D : Type 0} (moment : D → Moment) (start : Start D) (session : ℕ) 
           open_after some.own new (some_leaves moment pinned.session (standing moment parts) (standing moment next) some)
           (e ∙ some.adds.grown ∙ ap (λ (es : List Event). es ++ some.own) (events_now events_are next))
 
-      pub read_causes : {A : Type 0} (new : List Event) (schema : Schema) (leaf : Leaf) (k : ArrayVec ℕ) (result : Result A ReadFault) → list_all is_sealed old ≡ true → new ≡ events (standing moment next) →
+      pub read_causes : {A : Type 0} (new : List Event) (schema : Schema) (leaf : Leaf) (k : ArrayVec ℕ) (result : Result A ReadFault) → list_all is_sealed old ≡ true →
+          IsTold start new (standing moment next) → NotesFault (moment parts.file.disk).state (moment next.file.disk).state pinned.session parts.ledger next.ledger →
           IfErr result (IsUnread (moment parts.file.disk).state (moment next.file.disk).state schema (payload_at (standing moment parts) pinned.place leaf k)) →
           IfErr result (IsUnreadUnder (ledger_of start new) session (payload_at (told start old) pinned.place leaf k))
-      read_causes new schema leaf k result sealed e cause =
-          let open_here : IsOpenPin parts.ledger pinned = open_pin_now in
-          told_causes start seen new session open_here.before some.own (moment parts.file.disk).state (moment next.file.disk).state schema
+      read_causes new schema leaf k result sealed after notes cause =
+          told_causes (ledger_of start new) session (moment parts.file.disk).state (moment next.file.disk).state schema
           (payload_at (standing moment parts) pinned.place leaf k) (payload_at (told start old) pinned.place leaf k) result
-          (ap (λ (n : ℕ). pin_before n (history (ledger_of start seen))) (sym mine) ∙ ap (λ (l : LedgerState). pin_before pinned.session (history l)) (sym ledger_is) ∙ open_here.begun)
-          (e ∙ some.adds.grown ∙ ap (λ (es : List Event). es ++ some.own) (events_now events_are next))
-          (λ rose. some.rose rose ∙ faults_are session seen refl)
+          (λ rose.
+          subst (λ (l : LedgerState). is_noted is_fault l session ≡ true) (ap (λ (s : Standing D). s.ledger) after)
+          (subst (λ (n : ℕ). is_noted is_fault next.ledger n ≡ true) mine
+          (fault_seen (moment parts.file.disk).state (moment next.file.disk).state pinned.session parts.ledger next.ledger pinned_now notes rose)))
           (payload_in_turn sealed leaf k) cause
+
+-- ---- what a pin is told, where its seat has seen these events at the end
+
+module _ {D : Type 0} (moment : D → Moment) (start : Start D) (new : List Event) (next : StoreParts D) (after : IsTold start new (standing moment next)) where
+  ledger_then : next.ledger ≡ ledger_of start new
+  ledger_then = ap (λ (s : Standing D). s.ledger) after
+
+  pub pin_open : (result : Result Pinned PinFault) → IfOk result (λ pinned. IsOpenPin next.ledger pinned) → IfOk result (λ pinned. IsOpenPin (ledger_of start new) pinned)
+  pin_open result opened =
+      if_ok (λ pinned. IsOpenPin next.ledger pinned) (λ pinned. IsOpenPin (ledger_of start new) pinned) result
+      (λ pinned. subst (λ (l : LedgerState). IsOpenPin l pinned) ledger_then) opened
+
+  pub pin_cause : (result : Result Pinned PinFault) (parts : StoreParts D) → IfErr result (IsRefused parts.ledger) → OnErr result (standing moment next ≡ standing moment parts) →
+      IfErr result (IsRefused (ledger_of start new))
+  pin_cause result parts cause err =
+      if_left result (IsRefused parts.ledger) (standing moment next ≡ standing moment parts) (IsRefused (ledger_of start new))
+      (λ fault why left. subst (λ (l : LedgerState). IsRefused l fault) (ap (λ (s : Standing D). s.ledger) (sym left) ∙ ledger_then) why)
+      cause err
+
+  pub pin_untried : (n session : ℕ) → n ≡ session → (result : Result Pinned PinFault) → OnOk result ((kinds : NoteKind → Bool) → is_noted kinds next.ledger n ≡ false) →
+      OnOk result ((kinds : NoteKind → Bool) → is_noted kinds (ledger_of start new) session ≡ false)
+  pin_untried n session mine result none =
+      on_ok ((kinds : NoteKind → Bool) → is_noted kinds next.ledger n ≡ false) ((kinds : NoteKind → Bool) → is_noted kinds (ledger_of start new) session ≡ false) result
+      (λ u kinds. ap (λ (k : ℕ). is_noted kinds (ledger_of start new) k) (sym mine) ∙ ap (λ (l : LedgerState). is_noted kinds l n) (sym ledger_then) ∙ u kinds)
+      none
 
 -- ---- what is added by the answer
 
@@ -304,7 +292,7 @@ module _ {D : Type 0} (moment : D → Moment) (parts next : StoreParts D) where
   pin_done n result ok err = done_adds result (Entered (Pin n) ∷ []) (standing moment parts) (standing moment next) ok err
 
 pub pin_only : (n session : ℕ) (result : Result Pinned PinFault) → n ≡ session → only_of owner_of session (done_events result (Entered (Pin n) ∷ [])) ≡ true
-pin_only n session result e = done_only result session (Entered (Pin n) ∷ []) (own_entry n session e)
+pin_only n session result e = done_only result session (Entered (Pin n) ∷ []) (ap (λ (b : Bool). b && true) (eq-eqb n session e))
 
 pub unpin_only : (n session : ℕ) → n ≡ session → only_of owner_of session (Entered (Unpin n) ∷ []) ≡ true
-unpin_only n session e = own_unpin n session e
+unpin_only n session e = ap (λ (b : Bool). b && true) (eq-eqb n session e)

@@ -14,8 +14,8 @@ use Rattle.store_state.specs.Standings.{Standing, versions_after}
 use Rattle.array_store.specs.declared.start.Start.{Start}
 use Rattle.array_store.specs.Growth.{IsCounted}
 use Rattle.array_store.specs.Starts.{start_of}
-use Rattle.snapshot_manager.specs.Told.{is_sealed, ledger_of, told, IsTold}
-use Rattle.snapshot_manager.specs.Turns.{found_before, leaves_notes_of, leaves_pin_of, own_events, Adds}
+use Rattle.told_stores.specs.Told.{is_sealed, ledger_of, told, IsTold}
+use Rattle.told_stores.specs.Turns.{found_before, leaves_notes_of, leaves_pin_of, own_events, Adds}
 
 -- a store is the one that its start and its events tell, and each of its commits was acknowledged
 pub record IsToldWhole {D : Type 0} (s : Standing D) : Type 0 where

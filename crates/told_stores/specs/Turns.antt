@@ -10,7 +10,7 @@ use Rattle.store_state.specs.declared.event.Event.TheVariants.{Entered, Acknowle
 use Rattle.store_state.specs.Events.{owner_of}
 use Rattle.array_store.specs.declared.start.Start.{Start}
 use Rattle.array_store.specs.Growth.{fault_events}
-use Rattle.snapshot_manager.specs.Told.{ledger_of}
+use Rattle.told_stores.specs.Told.{ledger_of}
 
 -- A TURN OF A SESSION: behind all that its seat had seen it found what others had added, none of it the session's, and then added these
 pub record Adds (session : ℕ) (own old new : List Event) : Type 0 where

@@ -22,8 +22,8 @@ use Rattle.array_store.specs.declared.start.FirstVersion.{FirstVersion}
 use Rattle.array_store.specs.Starts.{first_of}
 use Rattle.array_store.proofs.Added.{commits_from, count_commits, pairs_count, seal_by, seals_of}
 use Rattle.array_store.proofs.Counted.{all_notes}
-use Rattle.snapshot_manager.specs.Told.{entries_in, notes_in, moments_in, directories_in, is_sealed, version_from}
-use Rattle.snapshot_manager.specs.Laws.{StoresAreTold}
+use Rattle.told_stores.specs.Told.{entries_in, notes_in, moments_in, directories_in, is_sealed, version_from}
+use Rattle.told_stores.specs.Laws.{StoresAreTold}
 
 -- ---- one list behind another
 

@@ -1,6 +1,6 @@
 use Rattle.std.proofs.Common.{refl, []}
-use Rattle.snapshot_manager.specs.Worked.{worked_others}
-use Rattle.snapshot_manager.proofs.laws.a_pin_sees_what_was.Goals as goal
+use Rattle.told_stores.specs.Worked.{worked_others}
+use Rattle.told_stores.proofs.laws.a_pin_sees_what_was.Goals as goal
 
 pub returns : goal.returns
 returns c = record {

@@ -25,10 +25,10 @@ use Rattle.store_state.specs.Events.{owner_of}
 use Rattle.store_state.specs.Standings.{Standing, commit_places, given_of, made_at, versions_after}
 use Rattle.array_store.specs.declared.start.Start.{Start}
 use Rattle.store_ledger.specs.declared.pinned.Pinned.{Pinned}
-use Rattle.snapshot_manager.specs.Told.{entries_in, directories_in, is_sealed, ledger_of, told}
-use Rattle.snapshot_manager.specs.Turns.{leaves_pin_of}
-use Rattle.snapshot_manager.specs.Laws.{OthersLeavePins, PinsOutlast, PinsSeeTheSame}
-use Rattle.snapshot_manager.proofs.Telling.{all_turned, directories_in-append, entries_in-append}
+use Rattle.told_stores.specs.Told.{entries_in, directories_in, is_sealed, ledger_of, told}
+use Rattle.told_stores.specs.Turns.{leaves_pin_of}
+use Rattle.told_stores.specs.Laws.{OthersLeavePins, PinsOutlast, PinsSeeTheSame}
+use Rattle.told_stores.proofs.Telling.{all_turned, directories_in-append, entries_in-append}
 
 -- ---- others' events
 

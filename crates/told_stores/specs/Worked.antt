@@ -14,8 +14,8 @@ use Rattle.store_state.specs.Calls.{chunks_at}
 use Rattle.store_state.specs.Worked.{worked_base, worked_directory, worked_slots, worked_store}
 use Rattle.array_store.specs.declared.start.Start.{Start}
 use Rattle.array_store.specs.Starts.{start_of}
-use Rattle.snapshot_manager.specs.Told.{is_sealed, ledger_of, told, IsTold}
-use Rattle.snapshot_manager.specs.Turns.{found_before, own_events, Adds}
+use Rattle.told_stores.specs.Told.{is_sealed, ledger_of, told, IsTold}
+use Rattle.told_stores.specs.Turns.{found_before, own_events, Adds}
 
 -- the array A, of which version 1 has one chunk
 abbrev pub worked_start : Start (Unit {0})

@@ -1,5 +1,0 @@
-use Rattle.snapshot_manager.proofs.Telling.{stores_are_told}
-use Rattle.snapshot_manager.proofs.laws.stores_are_told.Goals as goal
-
-pub returns : goal.returns
-returns g c = stores_are_told _
