@@ -9,6 +9,7 @@ use crate::starts::{opened_over, with_change};
 use crate::tally::push_tally;
 use crate::threads::push_threads;
 use anyhow::Result;
+use array_store::Store;
 use cell_values::{Bytes, Memory};
 use std::alloc::Global;
 use std::sync::Wait;
@@ -64,16 +65,18 @@ fn push_finished(out: &mut String, run: Run) -> Result<(), Memory>
     requires { IsRun run }
 {
     match Vec::with_capacity(*out.allocator(), 4) {
-        Ok(room) => {
-            let (disk, entries) = finished(run, room).close();
-            drop(disk);
-            Ok(push_tally(out, entries.as_slice(), 3)?)
-        }
+        Ok(room) => push_store(out, finished(run, room)),
         Err(_) => {
             drop(run);
             Err(Memory)
         }
     }
+}
+
+fn push_store(out: &mut String, store: Store<SilentDisk>) -> Result<(), Memory> {
+    let (disk, entries) = store.close();
+    drop(disk);
+    Ok(push_tally(out, entries.as_slice(), 3)?)
 }
 
 fn push_end(out: &mut String, run: &mut Option<Run>) -> Result<(), Memory>

@@ -1,6 +1,6 @@
 //! A store that three sessions share, on one thread.
-ghost use Rattle.std.specs.Prelude.{◌≡◌, ◌+◌, ◌<◌, ◌≤◌, [], length, vec_capacity, All, IfOk};
-ghost use Rattle.snapshot_manager.specs.Seats.{seats_in_all, HoldsNone, IsIdle, IsSeatOf};
+ghost use Rattle.std.specs.Prelude.{◌≡◌, ◌+◌, ◌<◌, ◌≤◌, [], length, vec_capacity, vec_len, All, IfOk};
+ghost use Rattle.snapshot_manager.specs.Seats.{seats_in_all, AreIdleSeats, IsIdle, IsSeatOf};
 ghost use Rattle.test_shared.specs.Runs.{IsRun, IsVisitor};
 ghost use Rattle.test_shared.specs.Silent.{silent_moment};
 ghost use Rattle.test_shared.specs.Visits.{IsFree, IsHeld, IsUntold};
@@ -250,8 +250,25 @@ pub(crate) fn shared_by_three(alloc: Global, store: Store<SilentDisk>) -> Result
     }
 }
 
+/// The seats with one more, for which there is room.
+fn with_seat<D: Disk>(
+    shared: &Shared<D>,
+    mut seats: Vec<Seat<D>>,
+    seat: Seat<D>,
+) -> Vec<Seat<D>>
+    requires room { vec_len seats < vec_capacity seats }
+    requires seats { AreIdleSeats shared.now seats.items }
+    requires seat { IsSeatOf shared.now seat × IsIdle seat }
+    ensures room { vec_capacity result ≡ vec_capacity seats }
+    ensures count { vec_len result ≡ vec_len seats + 1 }
+    ensures seats { AreIdleSeats shared.now result.items }
+{
+    seats.push_reserved(seat);
+    seats
+}
+
 /// The store, taken back from all.
-pub(crate) fn finished(run: Run, mut room: Vec<Seat<SilentDisk>>) -> Store<SilentDisk>
+pub(crate) fn finished(run: Run, room: Vec<Seat<SilentDisk>>) -> Store<SilentDisk>
     requires run { IsRun run }
     requires room { (room.items ≡ []) × (4 ≤ vec_capacity room) }
 {
@@ -263,11 +280,11 @@ pub(crate) fn finished(run: Run, mut room: Vec<Seat<SilentDisk>>) -> Store<Silen
         reaper,
     } = run;
     let Visitor { seat, .. } = first;
-    room.push_reserved(seat);
+    let seats = with_seat(&shared, room, seat);
     let Visitor { seat, .. } = second;
-    room.push_reserved(seat);
+    let seats = with_seat(&shared, seats, seat);
     let Visitor { seat, .. } = third;
-    room.push_reserved(seat);
-    room.push_reserved(reaper);
-    shared.finish(List::from_vec(room))
+    let seats = with_seat(&shared, seats, seat);
+    let seats = with_seat(&shared, seats, reaper);
+    shared.finish(List::from_vec(seats))
 }

@@ -1,7 +1,7 @@
 //! Two sessions on threads, beside one that reaps.
 ghost use Rattle.std.specs.Prelude.{◌≡◌, [], vec_len, All};
 ghost use Rattle.snapshot_manager.specs.Seats.{seats_in_all, IsIdle, IsSeatOf};
-ghost use Rattle.store_state.specs.At.{standing};
+ghost use Rattle.test_stores.specs.Holds.{HasNoPins};
 ghost use Rattle.test_shared.specs.Visits.{IsFree, IsUntold};
 
 use crate::runs::taken;
@@ -220,22 +220,60 @@ fn has_all(alloc: Global, store: &mut Store<SilentDisk>, count: u32) -> Result<b
     }
 }
 
+fn held_in_words(alloc: Global, store: &mut Store<SilentDisk>, count: u32) -> &'static str
+    requires { HasNoPins store.old.ledger }
+{
+    match has_all(alloc, store, count) {
+        Ok(true) => "each version has its own number",
+        Ok(false) => "a version is missing",
+        Err(Memory) => "no memory",
+    }
+}
+
 /// Adds whether a store that is opened over the disk holds all versions.
-fn push_held(
+fn push_held(out: &mut String, disk: SilentDisk, limits: Limits, count: u32) -> Result<(), Memory> {
+    match opened_over(*out.allocator(), disk, limits) {
+        Ok(mut store) => {
+            let words = held_in_words(*out.allocator(), &mut store, count);
+            drop(store);
+            Ok(writeln!(out, "{words}")?)
+        }
+        Err(cause) => Answer::Unopened(cause).push(out),
+    }
+}
+
+/// Adds what a store that is taken back tells, and what its disk holds.
+fn push_store(
     out: &mut String,
-    disk: SilentDisk,
+    store: Store<SilentDisk>,
     limits: Limits,
     count: u32,
 ) -> Result<(), Memory> {
-    match opened_over(*out.allocator(), disk, limits) {
-        Ok(mut store) => {
-            let words = if has_all(*out.allocator(), &mut store, count)? {
-                "each version has its own number"
-            } else {
-                "a version is missing"
-            };
-            Ok(writeln!(out, "{words}")?)
+    let (disk, entries) = store.close();
+    let told = push_tally(out, entries.as_slice(), 2);
+    drop(entries);
+    match told {
+        Ok(()) => push_held(out, disk, limits, count),
+        Err(AllocError) => {
+            drop(disk);
+            Err(Memory)
         }
+    }
+}
+
+fn push_run<R: Threads + Wait + Sync>(
+    rt: &R,
+    out: &mut String,
+    file: Bytes,
+    limits: Limits,
+    count: u32,
+) -> Result<(), Memory> {
+    let alloc = *out.allocator();
+    match opened_over(alloc, SilentDisk::new(file), limits) {
+        Ok(store) => match stored_by_two(rt, alloc, store, count) {
+            Ok(store) => push_store(out, store, limits, count),
+            Err(Memory) => Err(Memory),
+        },
         Err(cause) => Answer::Unopened(cause).push(out),
     }
 }
@@ -251,22 +289,4 @@ pub(crate) fn push_threads<R: Threads + Wait + Sync>(
     let file = with_change(alloc, made(alloc)?, "create array A <v:int64>[i=0:0,1,0]")?;
     let file = with_change(alloc, file, "create array B <v:int64>[i=0:0,1,0]")?;
     Ok(push_run(rt, out, file, limits, count)?)
-}
-
-fn push_run<R: Threads + Wait + Sync>(
-    rt: &R,
-    out: &mut String,
-    file: Bytes,
-    limits: Limits,
-    count: u32,
-) -> Result<(), Memory> {
-    let alloc = *out.allocator();
-    match opened_over(alloc, SilentDisk::new(file), limits) {
-        Ok(store) => {
-            let (disk, entries) = stored_by_two(rt, alloc, store, count)?.close();
-            push_tally(out, entries.as_slice(), 2)?;
-            push_held(out, disk, limits, count)
-        }
-        Err(cause) => Answer::Unopened(cause).push(out),
-    }
 }
