@@ -15,6 +15,7 @@ use Rattle.store_state.specs.Worked.{worked_base, worked_directory, worked_slots
 use Rattle.array_store.specs.declared.start.Start.{Start}
 use Rattle.array_store.specs.Starts.{start_of}
 use Rattle.told_stores.specs.Told.{is_sealed, ledger_of, told, IsTold}
+use Rattle.told_stores.specs.Tries.{MakesCommit}
 use Rattle.told_stores.specs.Turns.{found_before, own_events, Adds}
 
 -- the array A, of which version 1 has one chunk
@@ -33,14 +34,21 @@ worked_seen = Entered (Pin 0) ∷ []
 abbrev pub worked_pinned : Pinned
 worked_pinned = record { session = 0; place = 0; names = worked_base.names }
 
--- session 1 removes A
-abbrev pub worked_others : List Event
-worked_others =
-    Entered (Pin 1)
-    ∷ Noted (record { session = 1; kind = attempt (Remove (codes "A")); after = 2 })
+-- session 1 pins too, and removes A
+abbrev pub worked_later : Pinned
+worked_later = record { session = 1; place = 1; names = worked_base.names }
+
+abbrev pub worked_before : List Event
+worked_before = worked_seen ++ Entered (Pin 1) ∷ []
+
+abbrev pub worked_removal : List Event
+worked_removal =
+    Noted (record { session = 1; kind = attempt (Remove (codes "A")); after = 2 })
     ∷ Acknowledged (Commit 1 (Remove (codes "A")) (record { version = []; catalogue = 5 ∷ 6 ∷ [] })) 7 (record { entries = [] })
-    ∷ Entered (Unpin 1)
     ∷ []
+
+abbrev pub worked_others : List Event
+worked_others = Entered (Pin 1) ∷ (worked_removal ++ Entered (Unpin 1) ∷ [])
 
 abbrev pub worked_leaf : Leaf
 worked_leaf = record { name = codes "A"; version = 1; schema = schema }
@@ -62,6 +70,8 @@ pub record IsWorked : Type 0 where
   -- it still sees the chunk, which can't be named now
   pub pinned_chunks : chunks_at (told worked_start (worked_seen ++ worked_others)) 0 worked_leaf ≡ record { items = 0 ∷ [] } ∷ []
   pub chunks_now : chunks_at (told worked_start (worked_seen ++ worked_others)) 4 worked_leaf ≡ []
+  -- the turn that removed A was tried, for the removal was fresh, and made its commit
+  pub made : MakesCommit worked_start worked_later (Remove (codes "A")) worked_before (worked_before ++ worked_removal)
   -- a turn of session 0 finds all that, and adds its unpin
   pub turn : Adds 0 worked_own worked_seen ((worked_seen ++ worked_others) ++ worked_own)
   pub found : found_before worked_own ((worked_seen ++ worked_others) ++ worked_own) ≡ worked_seen ++ worked_others
