@@ -1,5 +1,6 @@
 -- Commits in a turn.
 use Rattle.std.proofs.Common.{◌≡◌, ◌∙◌, ℕ, ◌+◌, ◌-◌, ◌^◌, ◌≤◌, ◌<◌, Bool, true, false, ◌&&◌, if◌then◌else◌, nat_eq, List, [], ◌∷◌, ◌++◌, length, reverse, inl, inr, Option, None, Some, Result, Ok, Err, IfSome, OnOk, OnErr, refl, ap, sym, subst, append-nil, append_assoc}
+use Rattle.std.specs.List.{list_all}
 use Rattle.std.proofs.lemmas.Bool.{eq-eqb, eqb-true}
 use Rattle.std.proofs.lemmas.List.Folds.{list_all-append}
 use Rattle.afl_outside.specs.Disk.{Moment}
