@@ -2,7 +2,6 @@
 ghost use Rattle.std.specs.Prelude.{◌≡◌, [], ◌∷◌, length, IfOk, IfErr, OnOk, OnErr, IsTrue, Bool, false, not};
 ghost use Rattle.event_core.specs.declared.entry.Entry.TheVariants.{Pin, Unpin};
 ghost use Rattle.event_core.specs.History.{names_at};
-ghost use Rattle.plan_changes.specs.Stored.{AreStored};
 ghost use Rattle.store_ledger.specs.declared.note.NoteKind.{NoteKind};
 ghost use Rattle.store_ledger.specs.Ledger.{has_room, history, is_noted, reap_comes, IsRefused};
 ghost use Rattle.store_state.specs.declared.event.Event.TheVariants.{Entered};
@@ -27,7 +26,6 @@ impl<D: Disk> Shared<D> {
         ensures ok { OnOk result (Adds (session_of seat.old) (pin_event (session_of seat.old) ∷ []) (seen seat.old) (seen seat.new)) }
         ensures pinned { IfOk result (λ pinned. let found = ledger_found D.moment self.now (pin_event (session_of seat.old) ∷ []) seat.new in
             pinned ≡ record { session = session_of seat.old; place = length found.entries; names = names_at found.base (history found) }) }
-        ensures stored { IfOk result (λ pinned. AreStored pinned.names) }
         ensures room { OnOk result (IsTrue (has_room (ledger_found D.moment self.now (pin_event (session_of seat.old) ∷ []) seat.new) 4)) }
         ensures open { IfOk result (λ pinned. HoldsPin D.moment self.now seat.new pinned) }
         ensures untried { OnOk result ((kinds : NoteKind → Bool) → is_noted kinds (ledger_seen D.moment self.now seat.new) (session_of seat.old) ≡ false) }

@@ -1,9 +1,6 @@
 //! Turns of the store.
 ghost use Rattle.std.specs.Prelude.{◌≡◌, []};
 ghost use Rattle.turn_lock.specs.Owners.{ExtendsByOwn};
-ghost use Rattle.plan_changes.specs.Stored.{AreStored};
-ghost use Rattle.event_core.specs.History.{names_at};
-ghost use Rattle.store_ledger.specs.Ledger.{history};
 ghost use Rattle.store_state.specs.At.{standing};
 ghost use Rattle.store_state.specs.Events.{events, owner_of};
 ghost use Rattle.array_store.specs.Starts.{start_of};
@@ -28,12 +25,10 @@ impl<D: Disk> Shared<D> {
         ensures start { start_of (standing D.moment (store_of result)) ≡ start D.moment self.now }
         ensures events { events (standing D.moment (store_of result)) ≡ seen seat.new }
         ensures told { IsTold (start D.moment self.now) (seen seat.new) (standing D.moment (store_of result)) }
-        ensures stored { AreStored (names_at (store_of result).ledger.base (history (store_of result).ledger)) }
     {
         let mut turn = self.lock.enter(rt, &mut seat.turn_seat);
         let store = turn.value();
         store.is_at();
-        store.names();
         seat.entries = store.history().len() as u64;
         turn
     }

@@ -1,5 +1,4 @@
 use Rattle.std.proofs.Common.{◌∙◌, ap, length, refl, subst, sym}
-use Rattle.plan_changes.specs.Stored.{AreStored}
 use Rattle.store_state.specs.At.{standing}
 use Rattle.store_state.specs.Events.{events}
 use Rattle.array_store.specs.Starts.{start_of}
@@ -29,5 +28,4 @@ returns g c =
       start = start_is;
       events = sym seen_is;
       told = subst (λ start. IsTold start (seen_by c.enter-turn.new.seat) (standing moment parts)) start_is now.told;
-      stored = subst AreStored c.names.ensures.names c.names.ensures.stored;
     }

@@ -1,11 +1,9 @@
-use Rattle.std.proofs.Common.{◌≡◌, ◌∙◌, [], ◌∷◌, ap, length, subst, sym}
-use Rattle.plan_changes.specs.Stored.{AreStored}
+use Rattle.std.proofs.Common.{◌≡◌, ◌∙◌, [], ◌∷◌, ap, length, sym}
 use Rattle.event_core.specs.declared.entry.Entry.TheVariants.{Pin}
 use Rattle.event_core.specs.History.{names_at}
 use Rattle.store_ledger.specs.Ledger.{IsOpenPin, history}
 use Rattle.store_state.specs.declared.event.Event.TheVariants.{Entered}
 use Rattle.store_state.specs.At.{standing}
-use Rattle.array_store.proofs.Added.{if_ok}
 use Rattle.array_store.specs.Starts.{start_of}
 use Rattle.told_stores.proofs.InTurn.{extends_now, pin_cause, pin_done, pin_err, pin_is, pin_none, pin_ok, pin_only, pin_open, pin_room, pin_untried, unpinned_now}
 use Rattle.told_stores.proofs.Turning.{done_events, if_both}
@@ -46,10 +44,6 @@ returns g c =
       pinned = pin_is g.D.Disk.moment (start g.D.Disk.moment c.args.self.now) (session_of c.args.seat.now) (seen c.args.seat.now) (seen c.begin-turn.new.seat)
       c.value.result.now c.begin-turn.result.value b.found c.value.ensures.value b.told b.events c.pin-answer.new.self
           c.session.result (c.session.ensures ∙ b.same.session) c.pin-answer.result (seen c.end.new.seat) c.end.ensures.seen c.pin-answer.ensures.adds c.pin-answer.ensures.pinned;
-      stored = if_ok _ _ c.pin-answer.result
-          (λ pinned p. subst AreStored
-          (ap (λ store. names_at store.ledger.base (history store.ledger)) (sym c.value.ensures.value) ∙ ap (λ q. q.names) (sym p)) b.stored)
-          c.pin-answer.ensures.pinned;
       room = pin_room g.D.Disk.moment (start g.D.Disk.moment c.args.self.now) (session_of c.args.seat.now) (seen c.args.seat.now) (seen c.begin-turn.new.seat)
       c.value.result.now c.begin-turn.result.value b.found c.value.ensures.value b.told b.events c.pin-answer.new.self
           c.session.result (c.session.ensures ∙ b.same.session) c.pin-answer.result (seen c.end.new.seat) c.end.ensures.seen c.pin-answer.ensures.adds c.pin-answer.ensures.room;
