@@ -80,7 +80,7 @@ fn chunks_made(
 }
 
 /// The chunks that come with a change. A plan that reads stored arrays is refused: no test needs one. Those of an insert are as if its
-/// array had no version, so it puts cells only where the array has no chunk.
+/// array had no version, so it fills each chunk that it touches, or touches those alone that hold no cell.
 pub(crate) fn chunks_of(
     alloc: Global,
     change: &Change,
