@@ -1,5 +1,5 @@
 -- A store that three sessions share, and what each has of it.
-use Rattle.std.specs.Prelude.{◌≡◌}
+use Rattle.std.specs.Prelude.{◌≡◌, ◌≤◌, [], vec_capacity}
 use Rattle.afl_outside.specs.Disk.{Moment}
 use Rattle.snapshot_manager.specs.declared.shared.Shared.{Shared}
 use Rattle.snapshot_manager.specs.Seats.{IsIdle, IsSeatOf, seats_in_all}
@@ -20,3 +20,4 @@ pub record IsRun (run : Run) : Type 0 where
   pub second : IsVisitor silent_moment run.shared run.second
   pub third : IsVisitor silent_moment run.shared run.third
   pub reaper : IsSeatOf run.shared run.reaper × IsIdle run.reaper
+  pub room : (run.room.items ≡ []) × (4 ≤ vec_capacity run.room)

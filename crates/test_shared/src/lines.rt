@@ -1,5 +1,5 @@
 //! Lines, and what they are answered.
-ghost use Rattle.std.specs.Prelude.{IfOk, IfSome};
+ghost use Rattle.std.specs.Prelude.{IfOk};
 ghost use Rattle.test_shared.specs.Runs.{IsRun};
 
 use crate::answers::Answer;
@@ -22,70 +22,14 @@ use test_stores::Answer as StoreAnswer;
 /// The array A at version 1: its first chunk has cells, and its second one has none.
 const FIRST: &str = "store(filter(build(<v:int64>[i=0:3,2,0], i), i < 2), A)";
 
-pub(crate) fn number_of(word: &str) -> u32 {
+fn number_of(word: &str) -> u32 {
     word.parse::<u32>().unwrap_or(0)
 }
 
-pub(crate) fn limits_of(pages: &str, history: &str) -> Limits {
+fn limits_of(pages: &str, history: &str) -> Limits {
     Limits {
         pages: number_of(pages),
         history: number_of(history),
-    }
-}
-
-/// A store over these bytes, that three sessions share.
-fn shared_over(alloc: Global, bytes: Bytes, limits: Limits) -> Result<Run, StoreAnswer>
-    ensures { IfOk result IsRun }
-{
-    match opened_over(alloc, SilentDisk::new(bytes), limits) {
-        Ok(store) => match shared_by_three(alloc, store) {
-            Ok(run) => Ok(run),
-            Err(Memory) => Err(StoreAnswer::Memory),
-        },
-        Err(cause) => Err(StoreAnswer::Unopened(cause)),
-    }
-}
-
-/// Begins to share a store anew.
-fn share(alloc: Global, run: &mut Option<Run>, bytes: Bytes, limits: Limits) -> StoreAnswer
-    requires { IfSome run.old IsRun }
-    ensures { IfSome run.new IsRun }
-{
-    match shared_over(alloc, bytes, limits) {
-        Ok(made) => {
-            *run = Some(made);
-            StoreAnswer::Done
-        }
-        Err(answer) => answer,
-    }
-}
-
-/// Adds what the history of a store tells that is taken back.
-fn push_finished(out: &mut String, run: Run) -> Result<(), Memory>
-    requires { IsRun run }
-{
-    match Vec::with_capacity(*out.allocator(), 4) {
-        Ok(room) => push_store(out, finished(run, room)),
-        Err(_) => {
-            drop(run);
-            Err(Memory)
-        }
-    }
-}
-
-fn push_store(out: &mut String, store: Store<SilentDisk>) -> Result<(), Memory> {
-    let (disk, entries) = store.close();
-    drop(disk);
-    Ok(push_tally(out, entries.as_slice(), 3)?)
-}
-
-fn push_end(out: &mut String, run: &mut Option<Run>) -> Result<(), Memory>
-    requires { IfSome run.old IsRun }
-    ensures { IfSome run.new IsRun }
-{
-    match run.take() {
-        Some(run) => push_finished(out, run),
-        None => Ok(out.push_str("error: nothing is shared\n")?),
     }
 }
 
@@ -120,62 +64,138 @@ fn answer_step<R: Wait>(rt: &R, alloc: Global, run: &mut Run, line: &str, words:
     }
 }
 
-fn push_step<R: Wait>(
-    rt: &R,
-    out: &mut String,
-    run: &mut Option<Run>,
-    line: &str,
-    words: &[&str],
-) -> Result<(), Memory>
-    requires { IfSome run.old IsRun }
-    ensures { IfSome run.new IsRun }
-{
-    match run {
-        Some(run) => answer_step(rt, *out.allocator(), run, line, words).push(out),
-        None => Ok(out.push_str("error: nothing is shared\n")?),
-    }
-}
-
-/// Adds the answer to the words of a line.
-fn push_answer<R: Threads + Wait + Sync>(
-    rt: &R,
-    out: &mut String,
-    run: &mut Option<Run>,
-    line: &str,
-    words: &[&str],
-) -> Result<()>
-    requires { IfSome run.old IsRun }
-    ensures { IfSome run.new IsRun }
-{
-    let alloc = *out.allocator();
-    match words {
-        ["share", pages, history] => {
-            let file = with_change(alloc, made(alloc)?, FIRST)?;
-            share(alloc, run, file, limits_of(pages, history)).push(out)?;
-        }
-        ["threads", pages, history, count] => {
-            push_threads(rt, out, limits_of(pages, history), number_of(count))?
-        }
-        ["finish"] => push_end(out, run)?,
-        words => push_step(rt, out, run, line, words)?,
-    }
-    Ok(())
-}
-
-/// Prints a line with its answer.
-pub(crate) fn tell_line(
-    rt: &(impl Print + AllocGlobal + Threads + Wait + Sync),
-    run: &mut Option<Run>,
-    line: &str,
-) -> Result<()>
-    requires { IfSome run.old IsRun }
-    ensures { IfSome run.new IsRun }
+/// Prints a line that is a step, with its answer.
+fn tell<R: Print + AllocGlobal + Wait>(rt: &R, run: &mut Run, line: &str) -> Result<()>
+    requires { IsRun run.old }
+    ensures { IsRun run.new }
 {
     let mut out = String::new(rt.alloc());
     if begin_answer(&mut out, line)? {
         let words: Vec<&str> = line.split_whitespace().collect(rt.alloc())?;
-        push_answer(rt, &mut out, run, line, words.as_slice())?;
+        answer_step(rt, rt.alloc(), run, line, words.as_slice()).push(&mut out)?;
     }
     print!(rt; "{out}")?;
     Ok(())
+}
+
+/// Prints the lines from one on with their answers, up to `finish`. Its place is the answer.
+fn tell_steps<R: Print + AllocGlobal + Wait>(
+    rt: &R,
+    run: &mut Run,
+    lines: &[&str],
+    from: usize,
+) -> Result<usize>
+    requires { IsRun run.old }
+    ensures { IsRun run.new }
+{
+    for at in from..lines.len() {
+        if lines[at] == "finish" {
+            return Ok(at);
+        }
+        tell(rt, run, lines[at])?;
+    }
+    Ok(lines.len())
+}
+
+/// Prints what the history of a store tells that was taken back.
+fn tell_end(rt: &(impl Print + AllocGlobal), store: Store<SilentDisk>) -> Result<()> {
+    let (disk, entries) = store.close();
+    drop(disk);
+    let mut out = String::new(rt.alloc());
+    push_tally(&mut out, entries.as_slice(), 3)?;
+    print!(rt; "> finish\n{out}")?;
+    Ok(())
+}
+
+/// Prints the lines from one on with their answers, and what the store tells once it is taken back. The place behind it is the answer.
+fn tell_run<R: Print + AllocGlobal + Wait>(
+    rt: &R,
+    mut run: Run,
+    lines: &[&str],
+    from: usize,
+) -> Result<usize>
+    requires { IsRun run }
+{
+    let told = tell_steps(rt, &mut run, lines, from);
+    let end = tell_end(rt, finished(run));
+    let at = told?;
+    end?;
+    Ok(at.saturating_add(1))
+}
+
+/// A store over these bytes, that three sessions share.
+fn shared_over(alloc: Global, bytes: Bytes, limits: Limits) -> Result<Run, StoreAnswer>
+    ensures { IfOk result IsRun }
+{
+    match opened_over(alloc, SilentDisk::new(bytes), limits) {
+        Ok(store) => match shared_by_three(alloc, store) {
+            Ok(run) => Ok(run),
+            Err(Memory) => Err(StoreAnswer::Memory),
+        },
+        Err(cause) => Err(StoreAnswer::Unopened(cause)),
+    }
+}
+
+fn tell_answer(rt: &(impl Print + AllocGlobal), line: &str, answer: &StoreAnswer) -> Result<()> {
+    let mut out = String::new(rt.alloc());
+    begin_answer(&mut out, line)?;
+    answer.push(&mut out)?;
+    print!(rt; "{out}")?;
+    Ok(())
+}
+
+/// Shares a store anew, and prints the lines from one on, up to the one that finishes it. The place behind it is the answer.
+fn tell_share<R: Print + AllocGlobal + Wait>(
+    rt: &R,
+    lines: &[&str],
+    from: usize,
+    line: &str,
+    limits: Limits,
+) -> Result<usize> {
+    let file = with_change(rt.alloc(), made(rt.alloc())?, FIRST)?;
+    println!(rt; "> {line}")?;
+    match shared_over(rt.alloc(), file, limits) {
+        Ok(run) => tell_run(rt, run, lines, from),
+        Err(answer) => {
+            let told = tell_answer(rt, "not shared", &answer);
+            drop(answer);
+            told?;
+            Ok(from)
+        }
+    }
+}
+
+fn tell_threads<R: Print + AllocGlobal + Threads + Wait + Sync>(
+    rt: &R,
+    line: &str,
+    limits: Limits,
+    count: u32,
+) -> Result<()> {
+    let mut out = String::new(rt.alloc());
+    begin_answer(&mut out, line)?;
+    push_threads(rt, &mut out, limits, count)?;
+    print!(rt; "{out}")?;
+    Ok(())
+}
+
+/// Prints a line with its answer, and the lines behind it up to `finish` where it shares a store. The place of the next one is the answer.
+pub(crate) fn tell_line<R: Print + AllocGlobal + Threads + Wait + Sync>(
+    rt: &R,
+    lines: &[&str],
+    at: usize,
+    line: &str,
+) -> Result<usize> {
+    let next = at.saturating_add(1);
+    let words: Vec<&str> = line.split_whitespace().collect(rt.alloc())?;
+    match words.as_slice() {
+        ["share", pages, history] => tell_share(rt, lines, next, line, limits_of(pages, history)),
+        ["threads", pages, history, count] => {
+            tell_threads(rt, line, limits_of(pages, history), number_of(count))?;
+            Ok(next)
+        }
+        _ => {
+            println!(rt; "{line}")?;
+            Ok(next)
+        }
+    }
 }

@@ -19,14 +19,17 @@ mod visits;
 
 use anyhow::Result;
 use lines::tell_line;
-use runs::Run;
 use test_kit::input;
 
 fn main(rt: HostRuntime) -> Result<()> {
     let text = input(&rt)?;
-    let mut run: Option<Run> = None;
-    for line in text.lines() {
-        tell_line(&rt, &mut run, line)?;
+    let lines: Vec<&str> = text.lines().collect(rt.alloc())?;
+    let mut at = 0;
+    for _ in 0..lines.len() {
+        if at >= lines.len() {
+            break;
+        }
+        at = tell_line(&rt, lines.as_slice(), at, lines[at])?;
     }
     Ok(())
 }

@@ -26,7 +26,6 @@ pub(crate) struct Visitor<D: Disk> {
 }
 
 /// A store that three sessions share.
-#[derive(Drop)]
 pub(crate) struct Run {
     pub(crate) shared: Shared<SilentDisk>,
     pub(crate) first: Visitor<SilentDisk>,
@@ -34,6 +33,8 @@ pub(crate) struct Run {
     pub(crate) third: Visitor<SilentDisk>,
     /// The seat for reaps.
     pub(crate) reaper: Seat<SilentDisk>,
+    /// Room for all seats, so that the store can be taken back.
+    pub(crate) room: Vec<Seat<SilentDisk>>,
 }
 
 /// A step of a session.
@@ -212,11 +213,16 @@ fn visitor<D: Disk>(shared: &Shared<D>, seat: Seat<D>) -> Visitor<D>
 }
 
 /// The sessions take their seats.
-fn seated(shared: Shared<SilentDisk>, mut seats: List<Seat<SilentDisk>>) -> Run
+fn seated(
+    shared: Shared<SilentDisk>,
+    mut seats: List<Seat<SilentDisk>>,
+    room: Vec<Seat<SilentDisk>>,
+) -> Run
     requires untold { IsUntold silent_moment shared }
     requires all { seats_in_all shared ≡ 4 }
     requires count { length seats ≡ 4 }
     requires free { All (IsFree silent_moment shared) seats }
+    requires room { (room.items ≡ []) × (4 ≤ vec_capacity room) }
     ensures { IsRun result }
 {
     let reaper = taken(&shared, &mut seats);
@@ -232,6 +238,7 @@ fn seated(shared: Shared<SilentDisk>, mut seats: List<Seat<SilentDisk>>) -> Run
         second,
         third,
         reaper,
+        room,
     }
 }
 
@@ -241,9 +248,14 @@ pub(crate) fn shared_by_three(alloc: Global, store: Store<SilentDisk>) -> Result
     requires notes { store.ledger.notes ≡ [] }
     ensures { IfOk result IsRun }
 {
+    let Ok(room) = Vec::with_capacity(alloc, 4) else {
+        drop(store);
+        return Err(Memory);
+    };
     match Shared::new(alloc, store, 3) {
-        Ok((shared, seats)) => Ok(seated(shared, seats)),
+        Ok((shared, seats)) => Ok(seated(shared, seats, room)),
         Err((Memory, store)) => {
+            drop(room);
             drop(store);
             Err(Memory)
         }
@@ -251,7 +263,7 @@ pub(crate) fn shared_by_three(alloc: Global, store: Store<SilentDisk>) -> Result
 }
 
 /// The seats with one more, for which there is room.
-fn with_seat<D: Disk>(
+pub(crate) fn with_seat<D: Disk>(
     shared: &Shared<D>,
     mut seats: Vec<Seat<D>>,
     seat: Seat<D>,
@@ -268,9 +280,8 @@ fn with_seat<D: Disk>(
 }
 
 /// The store, taken back from all.
-pub(crate) fn finished(run: Run, room: Vec<Seat<SilentDisk>>) -> Store<SilentDisk>
-    requires run { IsRun run }
-    requires room { (room.items ≡ []) × (4 ≤ vec_capacity room) }
+pub(crate) fn finished(run: Run) -> Store<SilentDisk>
+    requires { IsRun run }
 {
     let Run {
         shared,
@@ -278,6 +289,7 @@ pub(crate) fn finished(run: Run, room: Vec<Seat<SilentDisk>>) -> Store<SilentDis
         second,
         third,
         reaper,
+        room,
     } = run;
     let Visitor { seat, .. } = first;
     let seats = with_seat(&shared, room, seat);

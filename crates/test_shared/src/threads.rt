@@ -1,10 +1,10 @@
 //! Two sessions on threads, beside one that reaps.
-ghost use Rattle.std.specs.Prelude.{◌≡◌, [], vec_len, All};
+ghost use Rattle.std.specs.Prelude.{◌≡◌, ◌≤◌, [], false, length, vec_capacity, vec_len, All};
 ghost use Rattle.snapshot_manager.specs.Seats.{seats_in_all, IsIdle, IsSeatOf};
 ghost use Rattle.test_stores.specs.Holds.{HasNoPins};
 ghost use Rattle.test_shared.specs.Visits.{IsFree, IsUntold};
 
-use crate::runs::taken;
+use crate::runs::{taken, with_seat};
 use crate::silent_disk::SilentDisk;
 use crate::starts::{opened_over, with_change};
 use crate::tally::push_tally;
@@ -148,29 +148,29 @@ fn store_beside<D: Disk + Send, R: Threads + Wait + Sync>(
 }
 
 /// The store, once the sessions and the reaper have given their seats back.
-fn stored_by<D: Disk + Send + Drop, R: Threads + Wait + Sync>(
+fn stored_by<D: Disk + Send, R: Threads + Wait + Sync>(
     rt: &R,
     alloc: Global,
     shared: Shared<D>,
     mut seats: List<Seat<D>>,
+    room: Vec<Seat<D>>,
     count: u32,
-) -> Result<Store<D>, Memory>
+) -> Store<D>
     requires untold { IsUntold D.moment shared }
     requires all { seats_in_all shared ≡ 3 }
     requires count { length seats ≡ 3 }
     requires free { All (IsFree D.moment shared) seats }
+    requires room { (room.items ≡ []) × (3 ≤ vec_capacity room) }
 {
     let own = taken(&shared, &mut seats);
     let (seats, own) = store_beside(rt, alloc, &shared, seats.into_vec(), own, count);
     let mut seats = List::from_vec(seats);
-    match seats.push(own) {
-        Ok(()) => Ok(shared.finish(seats)),
-        Err(Memory) => {
-            drop(seats);
-            drop(shared);
-            Err(Memory)
-        }
-    }
+    let second = taken(&shared, &mut seats);
+    let first = taken(&shared, &mut seats);
+    let seats = with_seat(&shared, room, first);
+    let seats = with_seat(&shared, seats, second);
+    let seats = with_seat(&shared, seats, own);
+    shared.finish(List::from_vec(seats))
 }
 
 /// Two sessions store their arrays so often, each on a thread of its own. The store comes back.
@@ -184,9 +184,14 @@ fn stored_by_two<D: Disk + Send + Drop, R: Threads + Wait + Sync>(
     requires notes { store.ledger.notes ≡ [] }
     requires untold { (D.moment store.opened.value.disk).state.honest ≡ false }
 {
+    let Ok(room) = Vec::with_capacity(alloc, 3) else {
+        drop(store);
+        return Err(Memory);
+    };
     match Shared::new(alloc, store, 2) {
-        Ok((shared, seats)) => stored_by(rt, alloc, shared, seats, count),
+        Ok((shared, seats)) => Ok(stored_by(rt, alloc, shared, seats, room, count)),
         Err((Memory, store)) => {
+            drop(room);
             drop(store);
             Err(Memory)
         }
