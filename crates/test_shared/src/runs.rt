@@ -202,7 +202,7 @@ pub(crate) fn taken<D: Disk>(shared: &Shared<D>, seats: &mut List<Seat<D>>) -> S
     }
 }
 
-fn visitor<D: Disk>(shared: &Shared<D>, seat: Seat<D>) -> Visitor<D>
+fn arrived<D: Disk>(shared: &Shared<D>, seat: Seat<D>) -> Visitor<D>
     requires { IsFree D.moment shared.now seat }
     ensures { IsVisitor D.moment shared.now result }
 {
@@ -229,9 +229,9 @@ fn seated(
     let third = taken(&shared, &mut seats);
     let second = taken(&shared, &mut seats);
     let first = taken(&shared, &mut seats);
-    let first = visitor(&shared, first);
-    let second = visitor(&shared, second);
-    let third = visitor(&shared, third);
+    let first = arrived(&shared, first);
+    let second = arrived(&shared, second);
+    let third = arrived(&shared, third);
     Run {
         shared,
         first,
