@@ -1,5 +1,5 @@
 -- Stores and inserts of plans that read nothing.
-use Rattle.std.proofs.Common.{◌≡◌, ℕ, ◌||◌, ◌&&◌, List, [], IsTrue, Option, Some, inl, sym, subst}
+use Rattle.std.proofs.Common.{◌≡◌, ℕ, ◌||◌, ◌&&◌, List, [], Option, Some, inl, sym, subst}
 use Rattle.std.specs.List.{AllByRecursion, list_all}
 use Rattle.std.proofs.lemmas.Bool.{and_parts}
 use Rattle.cell_values.specs.declared.schema.Schema.{Schema}
