@@ -8,7 +8,8 @@ use Rattle.afl_trees.specs.declared.kind.ParseKind.TheVariants as stops
 use Rattle.schema_grammar.specs.declared.kinds.TypeKind.{TypeKind}
 use Rattle.schema_grammar.specs.declared.kinds.TypeKind.TheVariants as types
 use Rattle.result_print.specs.declared.refusal.Refusal.{Refusal}
-use Rattle.result_print.specs.declared.refusal.Refusal.TheVariants.{TooLong, Parse, NotBuilt, Typing, Cell, Memory}
+use Rattle.result_print.specs.declared.refusal.Refusal.TheVariants.{TooLong, Parse, HistoryFull, NotBuilt, Typing, Disk, Damaged}
+use Rattle.result_print.specs.declared.refusal.Refusal.TheVariants.{Cell, SequenceEnd, Full, Memory}
 use Rattle.result_print.specs.Texts.{place_text}
 
 -- The words of a kind are its name's words, with spaces between.
@@ -59,11 +60,16 @@ type_text types.TooManyArrays = codes "too many arrays"
 type_text types.TooManyVersions = codes "too many versions"
 
 -- `error: too long: 1048577 bytes`, `error: parse at 28: open text`, `error: type at 8..13: unknown name`,
--- `error: cell {0,-1}: divide by zero`
+-- `error: cell {0,-1}: divide by zero`, `error: full: needs 3 pages, 1 free`
 abbrev pub line_of_refusal : Refusal → List ℕ
 line_of_refusal (TooLong bytes) = codes "error: too long: " ++ decimal bytes ++ codes " bytes\n"
 line_of_refusal (Parse at kind) = codes "error: parse at " ++ decimal at ++ codes ": " ++ stop_text kind ++ codes "\n"
+line_of_refusal HistoryFull = codes "error: history full\n"
 line_of_refusal NotBuilt = codes "error: not built\n"
 line_of_refusal (Typing span kind) = codes "error: type at " ++ decimal span.start ++ codes ".." ++ decimal span.end ++ codes ": " ++ type_text kind ++ codes "\n"
+line_of_refusal Disk = codes "error: disk\n"
+line_of_refusal (Damaged page) = codes "error: damaged page " ++ decimal page ++ codes "\n"
 line_of_refusal (Cell at kind) = codes "error: cell " ++ place_text at.items ++ codes ": " ++ fault_text kind ++ codes "\n"
+line_of_refusal SequenceEnd = codes "error: sequence end\n"
+line_of_refusal (Full needed free) = codes "error: full: needs " ++ decimal needed ++ codes " pages, " ++ decimal free ++ codes " free\n"
 line_of_refusal Memory = codes "error: memory\n"

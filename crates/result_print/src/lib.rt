@@ -4,9 +4,11 @@
 mod array;
 mod kinds;
 mod lines;
+mod listings;
 mod refusal;
 mod spelling;
 
 pub use array::dcsv;
 pub use lines::refusal_line;
+pub use listings::{list_text, ok_line, show_text, stored_line, versions_text};
 pub use refusal::Refusal;

@@ -56,6 +56,26 @@ fn cell_line(alloc: Global, at: &Coord, kind: FaultKind) -> Result<Bytes, Memory
     Ok(line)
 }
 
+fn damaged_line(alloc: Global, page: u32) -> Result<Bytes, Memory>
+    ensures { IfOk result (λ line. line ≡ codes "error: damaged page " ++ decimal page ++ codes "\n") }
+{
+    let mut line = Bytes::from_slice(alloc, b"error: damaged page ")?;
+    write_count(&mut line, u64::from(page))?;
+    line.push(b'\n')?;
+    Ok(line)
+}
+
+fn full_line(alloc: Global, needed: u32, free: u32) -> Result<Bytes, Memory>
+    ensures { IfOk result (λ line. line ≡ codes "error: full: needs " ++ decimal needed ++ codes " pages, " ++ decimal free ++ codes " free\n") }
+{
+    let mut line = Bytes::from_slice(alloc, b"error: full: needs ")?;
+    write_count(&mut line, u64::from(needed))?;
+    line.extend(b" pages, ")?;
+    write_count(&mut line, u64::from(free))?;
+    line.extend(b" free\n")?;
+    Ok(line)
+}
+
 /// The line that tells a refusal, as `error: cell {0,-1}: divide by zero`, with its line feed.
 pub fn refusal_line(alloc: Global, refusal: &Refusal) -> Result<Bytes, Memory>
     ensures { IfOk result (λ line. line ≡ line_of_refusal refusal.now) }
@@ -63,9 +83,14 @@ pub fn refusal_line(alloc: Global, refusal: &Refusal) -> Result<Bytes, Memory>
     match refusal {
         Refusal::TooLong { bytes } => length_line(alloc, *bytes),
         Refusal::Parse { at, kind } => parse_line(alloc, *at, *kind),
+        Refusal::HistoryFull => Bytes::from_slice(alloc, b"error: history full\n"),
         Refusal::NotBuilt => Bytes::from_slice(alloc, b"error: not built\n"),
         Refusal::Typing { span, kind } => type_line(alloc, *span, *kind),
+        Refusal::Disk => Bytes::from_slice(alloc, b"error: disk\n"),
+        Refusal::Damaged { page } => damaged_line(alloc, *page),
         Refusal::Cell { at, kind } => cell_line(alloc, at, *kind),
+        Refusal::SequenceEnd => Bytes::from_slice(alloc, b"error: sequence end\n"),
+        Refusal::Full { needed, free } => full_line(alloc, *needed, *free),
         Refusal::Memory => Bytes::from_slice(alloc, b"error: memory\n"),
     }
 }

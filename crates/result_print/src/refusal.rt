@@ -11,12 +11,22 @@ pub enum Refusal {
     TooLong { bytes: u64 },
     /// It stops to be the front of a statement at this place, in bytes from its first one.
     Parse { at: u32, kind: ParseKind },
+    /// The history holds all the entries that it may.
+    HistoryFull,
     /// It is a statement of a form that is not built.
     NotBuilt,
     /// It is well formed and breaks a rule of types, at this part of it.
     Typing { span: Span, kind: TypeKind },
+    /// The disk failed.
+    Disk,
+    /// This page of the file is not as it was written.
+    Damaged { page: u32 },
     /// A cell of its array could not be computed: the first one.
     Cell { at: Coord, kind: FaultKind },
+    /// No number is left for one more commit.
+    SequenceEnd,
+    /// Its change needs more pages than are free.
+    Full { needed: u32, free: u32 },
     /// No memory was found for its reply.
     Memory,
 }

@@ -44,7 +44,7 @@ fn write_escaped(out: &mut Bytes, byte: u8) -> Result<(), Memory>
 }
 
 /// Adds a text in quotes.
-fn write_text(out: &mut Bytes, content: &[u8]) -> Result<(), Memory>
+pub(crate) fn write_text(out: &mut Bytes, content: &[u8]) -> Result<(), Memory>
     ensures { OnOk result (out.new ≡ out.old ++ quoted_text content.now) }
 {
     out.push(b'\'')?;

@@ -10,6 +10,7 @@ use array_store::Store;
 use cell_values::{List, Memory};
 use reap_bell::Bell;
 use std::alloc::Global;
+use told_stores::let_go_all;
 use turn_lock::{TurnLock, TurnSeat};
 
 impl<D: Disk> Shared<D> {
@@ -64,7 +65,7 @@ impl<D: Disk> Shared<D> {
             let turn_seat = turn_seats.remove(0);
             room.push_reserved(first_seat(turn_seat));
         }
-        drop(turn_seats);
+        let_go_all(turn_seats);
         List::from_vec(room)
     }
 }

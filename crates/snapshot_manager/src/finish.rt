@@ -23,8 +23,7 @@ impl<D: Disk> Shared<D> {
         drop(bell);
         let mut closing = lock.closing();
         while let Some(last) = seats.pop() {
-            let Seat { turn_seat, .. } = last;
-            closing.take_back(turn_seat);
+            closing.take_back(last.into_turn_seat());
         }
         drop(seats);
         closing.end()

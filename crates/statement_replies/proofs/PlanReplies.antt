@@ -1,11 +1,10 @@
 -- The reply to a plan, of which the first fault or the rows are found.
-use Rattle.std.proofs.Common.{◌≡◌, ◌⊎◌, inl, inr, List, Option, Some, None, Result, Ok, Err, refl, sym, ap, ◌∙◌, subst}
+use Rattle.std.proofs.Common.{◌≡◌, inl, inr, List, Option, Some, None, Result, Ok, Err, refl, sym, ap, ◌∙◌, subst}
 use Rattle.cell_values.specs.declared.datum.Broken.{Broken}
 use Rattle.cell_values.specs.declared.datum.Row.{Row}
 use Rattle.cell_values.specs.declared.schema.Schema.{Schema}
 use Rattle.logical_plan.specs.Faults.{fault_of, first_fault}
-use Rattle.logical_plan.specs.Meaning.{Database, Meant, meaning, whole}
-use Rattle.logical_plan.specs.PlanSchema.{schema_of}
+use Rattle.logical_plan.specs.Meaning.{Database, Meant, meaning}
 use Rattle.logical_plan.specs.Query.{Query}
 use Rattle.logical_plan.proofs.SchemaLaws.{meaning_schema}
 use Rattle.plan_rows.specs.declared.answers.rows.PlanRows.TheVariants.{Fault, Rows}
@@ -36,7 +35,7 @@ array_kind : (schema : Schema) (rows : Result (List Row) Broken) → IsRowsReply
 array_kind schema (Ok rows) = fault_or_rows schema rows (first_fault rows)
 array_kind schema (Err broken) = inr (broken, refl)
 
-checked_kind : (db : Database) (checked : Checked Query) → HasKind checked (checked_reply db checked)
+pub checked_kind : (db : Database) (checked : Checked Query) → HasKind checked (checked_reply db checked)
 checked_kind db (Ok query) = subst (λ (z : Schema). IsRowsReply z (meant_reply (meaning db query))) (meaning_schema db query) (array_kind (meaning db query).schema (meaning db query).rows)
 checked_kind db (Err breach) = refl
 

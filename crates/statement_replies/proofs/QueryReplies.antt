@@ -21,7 +21,6 @@ use Rattle.check_laws.proofs.TypedQueries.{checked_typed}
 use Rattle.check_queries.specs.Arrays.{AreValid}
 use Rattle.check_queries.specs.Queries.{query_of}
 use Rattle.result_print.specs.declared.refusal.Refusal.TheVariants.{Typing}
-use Rattle.chunk_source.specs.declared.sources.asked.Asked.{Asked}
 use Rattle.chunk_source.specs.Reading.{asked_of}
 use Rattle.chunk_source.specs.Source.{SourceState, AsksFront, Reads}
 use Rattle.chunk_exec.specs.Computed.{CanCompute}

@@ -1,10 +1,15 @@
-//! Replies to statements: a refusal's line, or what a query gives over the arrays of a source.
+//! Replies to statements: a refusal's line, what a query gives over the arrays of a source, or the text of a change or a listing.
 #![tactic(auto)]
 
 mod laws;
+mod listings;
 mod queries;
 mod replies;
 
-pub use laws::replies_have_kinds;
-pub use queries::reply_to_query;
+pub use laws::{
+    listed_arrays_stand, queries_have_their_replies, replies_have_kinds,
+    replies_have_statement_kinds,
+};
+pub use listings::{accepted_line, list_reply, show_reply, versions_reply};
+pub use queries::{answer_query, reply_to_query};
 pub use replies::{Reply, refuse};

@@ -58,7 +58,7 @@ pub fn reply_to_query<S: ChunkSource, G: Gate>(
 {
     match query_plan(alloc, tree, text, names) {
         Ok(plan) => {
-            let answer = reply_to_plan(alloc, &plan, source, workers, session, gate);
+            let answer = answer_query(alloc, &plan, source, workers, session, gate);
             drop(plan);
             answer
         }
@@ -67,8 +67,9 @@ pub fn reply_to_query<S: ChunkSource, G: Gate>(
     }
 }
 
-/// The reply to a plan.
-fn reply_to_plan<S: ChunkSource, G: Gate>(
+/// The reply to a query's plan, over the arrays of a source that has the versions which it reads: its array's first fault, or else
+/// its array's text.
+pub fn answer_query<S: ChunkSource, G: Gate>(
     alloc: Global,
     plan: &Plan,
     source: &mut S,

@@ -11,67 +11,74 @@ mod stored;
 mod told;
 
 use afl_parser::parse;
-use afl_trees::Tree;
+use afl_trees::{Tree, let_go_tree};
 use afl_types::{TypeFault, check, let_go_typed};
 use anyhow::Result;
-use cell_values::Span;
+use cell_values::{Memory, Span};
 use logical_plan::Names;
 use result_print::{Refusal, refusal_line};
 use schema_grammar::TypeKind;
 use std::io::BufRead;
 use std::str::from_utf8;
 use stored::{Arrays, names};
-use told::tell_typed;
+use told::push_typed;
 
 /// How many bytes a statement may have.
 const LIMIT: usize = 1_048_576;
 
-/// Prints a line.
-fn tell_word(rt: &impl Print, word: &str) -> Result<()> {
-    println!(rt; "{word}")?;
-    Ok(())
+/// Adds the rule that a statement breaks, with the place.
+fn push_fault(out: &mut String, span: Span, kind: TypeKind) -> Result<(), Memory> {
+    let line = refusal_line(*out.allocator(), &Refusal::Typing { span, kind })?;
+    let text = match line.as_slice() {
+        [text @ .., b'\n'] => text,
+        text => text,
+    };
+    let told = out.push_str(from_utf8(text).unwrap_or("no text"));
+    drop(line);
+    Ok(told?)
 }
 
-/// Prints the rule that a statement breaks, with the place.
-fn tell_fault(rt: &(impl Print + AllocGlobal), span: Span, kind: TypeKind) -> Result<()> {
-    let line = refusal_line(rt.alloc(), &Refusal::Typing { span, kind })?;
-    print!(rt; "{}", from_utf8(line.as_slice()).unwrap_or("no text"))?;
-    Ok(())
-}
-
-/// Prints what checking answers to a tree.
-fn tell_tree(rt: &(impl Print + AllocGlobal), text: &[u8], tree: &Tree, names: &Names) -> Result<()>
+/// Adds what checking answers to a tree.
+fn push_checked(out: &mut String, text: &[u8], tree: &Tree, names: &Names) -> Result<(), Memory>
     requires { AreValid names.now.arrays }
 {
-    match check(rt.alloc(), tree, text, names) {
+    match check(*out.allocator(), tree, text, names) {
         Ok(typed) => {
-            let told = tell_typed(rt, &typed);
+            let told = push_typed(out, &typed);
             let_go_typed(typed);
             told
         }
-        Err(TypeFault::Rule { span, kind }) => tell_fault(rt, span, kind),
-        Err(TypeFault::Memory) => tell_word(rt, "no memory"),
+        Err(TypeFault::Rule { span, kind }) => push_fault(out, span, kind),
+        Err(TypeFault::Memory) => Ok(out.push_str("no memory")?),
     }
 }
 
-/// Prints what checking answers to a statement.
-fn tell(rt: &(impl Print + AllocGlobal), text: &[u8], names: &Names) -> Result<()>
+/// Adds what checking answers to a statement.
+fn push_statement(out: &mut String, text: &[u8], names: &Names) -> Result<(), Memory>
     requires { AreValid names.now.arrays }
 {
     if text.len() > LIMIT {
-        return tell_word(rt, "too long");
+        return Ok(out.push_str("too long")?);
     }
-    match parse(rt.alloc(), text) {
-        Ok(tree) => tell_tree(rt, text, &tree, names),
-        Err(_) => tell_word(rt, "no statement"),
+    match parse(*out.allocator(), text) {
+        Ok(tree) => {
+            let told = push_checked(out, text, &tree, names);
+            let_go_tree(tree);
+            told
+        }
+        Err(_) => Ok(out.push_str("no statement")?),
     }
 }
 
-/// Prints what checking answers to a statement over some of the arrays.
-fn tell_over(rt: &(impl Print + AllocGlobal), text: &[u8], arrays: Arrays) -> Result<()> {
-    match names(rt.alloc(), arrays) {
-        Some(names) => tell(rt, text, &names),
-        None => tell_word(rt, "no arrays"),
+/// Adds what checking answers to a statement over some of the arrays.
+fn push_over(out: &mut String, text: &[u8], arrays: Arrays) -> Result<(), Memory> {
+    match names(*out.allocator(), arrays) {
+        Some(names) => {
+            let told = push_statement(out, text, &names);
+            drop(names);
+            told
+        }
+        None => Ok(out.push_str("no arrays")?),
     }
 }
 
@@ -88,13 +95,21 @@ fn statement_in(line: &[u8]) -> (Arrays, &[u8]) {
     }
 }
 
-/// Prints a title, or what checking answers to the statement of a line.
-fn answer(rt: &(impl Print + AllocGlobal), line: &[u8]) -> Result<()> {
+/// Adds a title, or what checking answers to the statement of a line.
+fn push_answer(out: &mut String, line: &[u8]) -> Result<(), Memory> {
     if line.starts_with(b"##".as_slice()) {
-        return tell_word(rt, from_utf8(line).unwrap_or("##"));
+        return Ok(out.push_str(from_utf8(line).unwrap_or("##"))?);
     }
     let (arrays, text) = statement_in(line);
-    tell_over(rt, text, arrays)
+    push_over(out, text, arrays)
+}
+
+/// Prints the answer to a line.
+fn tell(rt: &(impl Print + AllocGlobal), line: &[u8]) -> Result<()> {
+    let mut answer = String::new(rt.alloc());
+    push_answer(&mut answer, line)?;
+    println!(rt; "{answer}")?;
+    Ok(())
 }
 
 fn main(rt: HostRuntime) -> Result<()> {
@@ -106,8 +121,8 @@ fn main(rt: HostRuntime) -> Result<()> {
             break;
         }
         match line.as_slice() {
-            [text @ .., b'\n'] => answer(&rt, text)?,
-            text => answer(&rt, text)?,
+            [text @ .., b'\n'] => tell(&rt, text)?,
+            text => tell(&rt, text)?,
         }
     }
     Ok(())

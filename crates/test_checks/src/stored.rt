@@ -1,17 +1,17 @@
 //! The stored arrays that statements may speak of.
-ghost use Rattle.std.specs.Prelude.{◌≤◌, length, IfSome, OnSome};
+ghost use Rattle.std.specs.Prelude.{◌≡◌, ◌≤◌, length, IfOk, IfSome, OnSome};
 ghost use Rattle.cell_values.specs.Schemas.{IsValid};
 ghost use Rattle.check_queries.specs.Arrays.{AreValid};
 
 use afl_parser::parse;
-use afl_trees::Node;
-use cell_values::List;
+use afl_trees::{Node, Tree, let_go_tree};
+use cell_values::{List, Memory, Name, Schema};
 use logical_plan::{NameEntry, Names};
 use schema_grammar::meaning;
 use std::alloc::Global;
 
 /// Which arrays are stored.
-#[derive(Clone, Copy, Debug, PartialEq, Eq)]
+#[derive(Clone, Copy)]
 pub(crate) enum Arrays {
     /// `A` of one dimension, `B` of each type, `E` without versions, `G` whose first versions are removed, and `W` whose bounds
     /// are as wide as bounds may be.
@@ -43,20 +43,55 @@ impl Arrays {
     }
 }
 
+/// An array with copies of a name and versions.
+fn entry_of(
+    alloc: Global,
+    name: &Name,
+    schema: Schema,
+    next: u32,
+    versions: &[u32],
+) -> Result<NameEntry, Memory>
+    ensures { IfOk result (λ entry. entry.schema ≡ schema) }
+{
+    Ok(NameEntry {
+        name: name.copy()?,
+        schema,
+        next,
+        versions: List::from_slice(alloc, versions)?,
+    })
+}
+
+/// The array that a tree creates, with these versions.
+fn created(
+    alloc: Global,
+    text: &[u8],
+    tree: &Tree,
+    next: u32,
+    versions: &[u32],
+) -> Option<NameEntry>
+    ensures { IfSome result (λ entry. IsValid entry.schema) }
+{
+    match &tree.node {
+        Node::Create(name, written) => {
+            let schema = meaning(alloc, text, written).ok()?;
+            entry_of(alloc, name, schema, next, versions).ok()
+        }
+        _ => None,
+    }
+}
+
 /// The array that a text creates, with these versions.
 fn stored(alloc: Global, text: &[u8], next: u32, versions: &[u32]) -> Option<NameEntry>
     requires { length text.now ≤ 1048576 }
     ensures { IfSome result (λ entry. IsValid entry.schema) }
 {
-    let tree = parse(alloc, text).ok()?;
-    match &tree.node {
-        Node::Create(name, written) => Some(NameEntry {
-            name: name.copy().ok()?,
-            schema: meaning(alloc, text, written).ok()?,
-            next,
-            versions: List::from_slice(alloc, versions).ok()?,
-        }),
-        _ => None,
+    match parse(alloc, text) {
+        Ok(tree) => {
+            let entry = created(alloc, text, &tree, next, versions);
+            let_go_tree(tree);
+            entry
+        }
+        Err(_) => None,
     }
 }
 
@@ -94,21 +129,34 @@ fn push_others(arrays: &mut List<NameEntry>, count: usize) -> Option<()>
     Some(())
 }
 
-/// The stored arrays.
-pub(crate) fn names(alloc: Global, which: Arrays) -> Option<Names>
-    ensures { IfSome result (λ names. AreValid names.arrays) }
+/// Adds the stored arrays.
+fn push_arrays(arrays: &mut List<NameEntry>, which: Arrays) -> Option<()>
+    requires { AreValid arrays.old }
+    ensures { OnSome result (AreValid arrays.new) }
 {
     let a = b"create array A <v:int64>[i=0:2,2,0]";
     let b = b"create array B <n:int64 not null,s:string,p:bool>[x=0:3,2,1,y=-2:2,3,0]";
     let e = b"create array E <v:int64>[i=0:2,2,0]";
     let g = b"create array G <v:string>[i=0:*,5,0]";
     let w = b"create array W <v:int64>[i=-4611686018427387903:*,2,0,j=0:1,2,0]";
+    push_stored(arrays, a, which.next(), &[1, 2])?;
+    push_stored(arrays, b, 7, &[1])?;
+    push_stored(arrays, e, 7, &[])?;
+    push_stored(arrays, g, 7, &[3, 5])?;
+    push_stored(arrays, w, 7, &[6])?;
+    push_others(arrays, which.others())
+}
+
+/// The stored arrays.
+pub(crate) fn names(alloc: Global, which: Arrays) -> Option<Names>
+    ensures { IfSome result (λ names. AreValid names.arrays) }
+{
     let mut arrays = List::new(alloc);
-    push_stored(&mut arrays, a, which.next(), &[1, 2])?;
-    push_stored(&mut arrays, b, 7, &[1])?;
-    push_stored(&mut arrays, e, 7, &[])?;
-    push_stored(&mut arrays, g, 7, &[3, 5])?;
-    push_stored(&mut arrays, w, 7, &[6])?;
-    push_others(&mut arrays, which.others())?;
-    Some(Names { arrays })
+    match push_arrays(&mut arrays, which) {
+        Some(()) => Some(Names { arrays }),
+        None => {
+            drop(arrays);
+            None
+        }
+    }
 }

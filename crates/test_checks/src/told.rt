@@ -1,106 +1,110 @@
 //! Statements that are typed, as lines.
 use afl_types::Typed;
-use anyhow::Result;
-use cell_values::{Name, Schema};
-use logical_plan::{Plan, reads};
+use cell_values::{Memory, Name, Schema};
+use logical_plan::{Leaf, Plan, reads};
 use plan_changes::Change;
 use plan_schemas::schema_of;
 use schema_grammar::schema_text;
+use std::alloc::AllocError;
 use std::str::from_utf8;
 
-fn text_of(name: &Name) -> &str {
-    from_utf8(name.as_slice()).unwrap_or("no text")
+fn push_bytes(out: &mut String, bytes: &[u8]) -> Result<(), AllocError> {
+    out.push_str(from_utf8(bytes).unwrap_or("no text"))
 }
 
-fn tell_schema(rt: &(impl Print + AllocGlobal), schema: &Schema) -> Result<()> {
-    let text = schema_text(rt.alloc(), schema)?;
-    print!(rt; "{}", from_utf8(text.as_slice()).unwrap_or("no text"))?;
-    Ok(())
+/// Adds a word and a name, with a space between.
+fn push_named(out: &mut String, word: &str, name: &Name) -> Result<(), AllocError> {
+    out.push_str(word)?;
+    out.push(' ')?;
+    push_bytes(out, name.as_slice())
 }
 
-/// Prints the versions that a plan reads, each behind a space.
-fn tell_reads(rt: &(impl Print + AllocGlobal), plan: &Plan) -> Result<()> {
-    for leaf in reads(rt.alloc(), plan)?.as_slice() {
-        print!(rt; " {}@{}", text_of(&leaf.name), leaf.version)?;
+fn push_schema(out: &mut String, schema: &Schema) -> Result<(), Memory> {
+    let text = schema_text(*out.allocator(), schema)?;
+    let told = push_bytes(out, text.as_slice());
+    drop(text);
+    Ok(told?)
+}
+
+fn push_leaf(out: &mut String, leaf: &Leaf) -> Result<(), AllocError> {
+    push_bytes(out, leaf.name.as_slice())?;
+    write!(out, "@{}", leaf.version)
+}
+
+/// Adds versions that are read, each between these words.
+fn push_leaves(
+    out: &mut String,
+    before: &str,
+    leaves: &[Leaf],
+    behind: &str,
+) -> Result<(), AllocError> {
+    for leaf in leaves {
+        out.push_str(before)?;
+        push_leaf(out, leaf)?;
+        out.push_str(behind)?;
     }
     Ok(())
 }
 
-/// Prints the versions that a plan reads, and its schema.
-fn tell_plan(rt: &(impl Print + AllocGlobal), plan: &Plan) -> Result<()> {
-    for leaf in reads(rt.alloc(), plan)?.as_slice() {
-        print!(rt; "{}@{} ", text_of(&leaf.name), leaf.version)?;
-    }
-    let schema = schema_of(rt.alloc(), plan)?;
-    tell_schema(rt, &schema)?;
-    println!(rt)?;
-    Ok(())
+/// Adds the versions that a plan reads, each between these words.
+fn push_reads(out: &mut String, before: &str, plan: &Plan, behind: &str) -> Result<(), Memory> {
+    let leaves = reads(*out.allocator(), plan)?;
+    let told = push_leaves(out, before, leaves.as_slice(), behind);
+    drop(leaves);
+    Ok(told?)
 }
 
-/// Prints an array that is made, under its schema.
-fn tell_array(
-    rt: &(impl Print + AllocGlobal),
-    word: &str,
-    name: &Name,
-    schema: &Schema,
-) -> Result<()> {
-    print!(rt; "{word} {} ", text_of(name))?;
-    tell_schema(rt, schema)
+/// Adds the versions that a plan reads, and its schema.
+fn push_plan(out: &mut String, plan: &Plan) -> Result<(), Memory> {
+    push_reads(out, "", plan, " ")?;
+    let schema = schema_of(*out.allocator(), plan)?;
+    let told = push_schema(out, &schema);
+    drop(schema);
+    told
 }
 
-/// Prints a new version of an array, and the versions that its plan reads.
-fn tell_version(
-    rt: &(impl Print + AllocGlobal),
+/// Adds an array that is made, under its schema.
+fn push_array(out: &mut String, word: &str, name: &Name, schema: &Schema) -> Result<(), Memory> {
+    push_named(out, word, name)?;
+    out.push(' ')?;
+    push_schema(out, schema)
+}
+
+/// Adds a new version of an array, and the versions that its plan reads.
+fn push_version(
+    out: &mut String,
     word: &str,
     name: &Name,
     schema: &Schema,
     plan: &Plan,
-) -> Result<()> {
-    tell_array(rt, word, name, schema)?;
-    print!(rt; " reads")?;
-    tell_reads(rt, plan)?;
-    println!(rt)?;
-    Ok(())
+) -> Result<(), Memory> {
+    push_array(out, word, name, schema)?;
+    out.push_str(" reads")?;
+    push_reads(out, " ", plan, "")
 }
 
-fn tell_create(rt: &(impl Print + AllocGlobal), name: &Name, schema: &Schema) -> Result<()> {
-    tell_array(rt, "create", name, schema)?;
-    println!(rt)?;
-    Ok(())
+fn push_below(out: &mut String, name: &Name, below: u32) -> Result<(), AllocError> {
+    push_named(out, "remove", name)?;
+    write!(out, " below {below}")
 }
 
-fn tell_change(rt: &(impl Print + AllocGlobal), change: &Change) -> Result<()> {
+fn push_change(out: &mut String, change: &Change) -> Result<(), Memory> {
     match change {
-        Change::Create { name, schema } => tell_create(rt, name, schema),
-        Change::Store { name, schema, plan } => tell_version(rt, "store", name, schema, plan),
-        Change::Insert { name, schema, plan } => tell_version(rt, "insert", name, schema, plan),
-        Change::Remove { name } => tell_name(rt, "remove", name),
-        Change::RemoveVersions { name, below } => tell_below(rt, name, *below),
+        Change::Create { name, schema } => push_array(out, "create", name, schema),
+        Change::Store { name, schema, plan } => push_version(out, "store", name, schema, plan),
+        Change::Insert { name, schema, plan } => push_version(out, "insert", name, schema, plan),
+        Change::Remove { name } => Ok(push_named(out, "remove", name)?),
+        Change::RemoveVersions { name, below } => Ok(push_below(out, name, *below)?),
     }
 }
 
-fn tell_below(rt: &impl Print, name: &Name, below: u32) -> Result<()> {
-    println!(rt; "remove {} below {below}", text_of(name))?;
-    Ok(())
-}
-
-fn tell_name(rt: &impl Print, word: &str, name: &Name) -> Result<()> {
-    println!(rt; "{word} {}", text_of(name))?;
-    Ok(())
-}
-
-fn tell_list(rt: &impl Print) -> Result<()> {
-    println!(rt; "list")?;
-    Ok(())
-}
-
-/// Prints what a statement is.
-pub(crate) fn tell_typed(rt: &(impl Print + AllocGlobal), typed: &Typed) -> Result<()> {
+/// Adds what a statement is.
+pub(crate) fn push_typed(out: &mut String, typed: &Typed) -> Result<(), Memory> {
     match typed {
-        Typed::Query(plan) => tell_plan(rt, plan),
-        Typed::Change(change) => tell_change(rt, change),
-        Typed::Versions(name) => tell_name(rt, "versions", name),
-        Typed::Show(name) => tell_name(rt, "show", name),
-        Typed::ListArrays => tell_list(rt),
+        Typed::Query(plan) => push_plan(out, plan),
+        Typed::Change(change) => push_change(out, change),
+        Typed::Versions(name) => Ok(push_named(out, "versions", name)?),
+        Typed::Show(name) => Ok(push_named(out, "show", name)?),
+        Typed::ListArrays => Ok(out.push_str("list")?),
     }
 }

@@ -3,16 +3,20 @@
 //!
 //! In a line `{64 n}` stands for 64 of `n`, and `^0a` for the byte of that number. `tokens TEXT` is answered by each token
 //! with its place, `split TEXT` by each piece of a script, `schema 1 TEXT` by the schema that begins at token 1, and
-//! `tree TEXT` by the schema as it is written.
+//! `tree TEXT` by the schema as it is written. `array A 4 1,3 SCHEMA`, an array with its next number and its versions, is
+//! answered by the texts of `show` and `versions`, of a store and of another change, `list` and such arrays with `|` between
+//! by their list, and `refusal full 3 1` by the refusal's line.
 #![tactic(auto)]
 
 mod pieces;
+mod replies;
 mod schemas;
 mod tokens;
 
 use anyhow::Result;
 use cell_values::{Bytes, Memory};
 use pieces::push_pieces;
+use replies::{push_array, push_list, push_refusal};
 use schemas::{push_schema, push_tree};
 use std::alloc::Global;
 use std::str::from_utf8;
@@ -50,6 +54,9 @@ fn push_answer(out: &mut String, line: &str) -> Result<()> {
             let (from, text) = rest.split_once(' ').unwrap_or((rest, ""));
             push_read(out, from, script_of(alloc, text)?.as_slice())
         }
+        Some(("array", array)) => push_array(out, array),
+        Some(("list", arrays)) => push_list(out, arrays),
+        Some(("refusal", refusal)) => push_refusal(out, refusal),
         Some((word, text)) => push_read(out, word, script_of(alloc, text)?.as_slice()),
         None => Ok(()),
     }

@@ -20,6 +20,15 @@ fn read(alloc: Global, text: &[u8], from: usize) -> Result<(SchemaText, usize), 
     }
 }
 
+/// The schema that a text means.
+pub(crate) fn schema_in(alloc: Global, text: &[u8]) -> Option<Schema> {
+    if text.len() > 1_048_576 {
+        return None;
+    }
+    let (shape, _) = read(alloc, text, 0).ok()?;
+    meaning(alloc, text, &shape).ok()
+}
+
 fn rule_text(kind: TypeKind) -> &'static str {
     match kind {
         TypeKind::UnknownType => "unknown type",

@@ -7,23 +7,23 @@ use Rattle.chunk_source.proofs.ReadLemmas.{asked_none, on_err}
 use Rattle.statement_replies.proofs.QueryReplies.{asked_of_breach, asked_of_plan, can_compute, front_of_plan, of_breach, plan_answer}
 use Rattle.statement_replies.proofs.queries.reply_to_query.Goals as goal
 
-pub reply_to_plan-answer-requires-clause-can : goal.reply_to_plan-answer-requires-clause-can
-reply_to_plan-answer-requires-clause-can g c κs within =
+pub answer_query-answer-requires-clause-can : goal.answer_query-answer-requires-clause-can
+answer_query-answer-requires-clause-can g c κs within =
     can_compute c.args.names.now (g.S.ChunkSource.state c.args.source.now) c.requires.holds c.args.tree.now c.in-Ok.plan c.requires.valid c.requires.fit c.in-Ok.ensures
 
 pub returns-in-Ok-clause-reply : goal.returns-in-Ok-clause-reply
 returns-in-Ok-clause-reply g c =
-    plan_answer c.args.names.now (g.S.ChunkSource.state c.args.source.now).tells c.args.tree.now c.reply_to_plan-answer.result c.in-Ok.plan c.in-Ok.ensures c.reply_to_plan-answer.ensures.kind c.reply_to_plan-answer.ensures.told
+    plan_answer c.args.names.now (g.S.ChunkSource.state c.args.source.now).tells c.args.tree.now c.answer_query-answer.result c.in-Ok.plan c.in-Ok.ensures c.answer_query-answer.ensures.kind c.answer_query-answer.ensures.told
 
 pub returns-in-Ok-clause-asked : goal.returns-in-Ok-clause-asked
 returns-in-Ok-clause-asked g c =
-    asked_of_plan (g.S.ChunkSource.state c.args.source.now) (g.S.ChunkSource.state c.reply_to_plan-answer.new.source) (query_of c.args.names.now.arrays c.args.tree.now) c.reply_to_plan-answer.result c.in-Ok.plan c.in-Ok.ensures
-    c.reply_to_plan-answer.ensures.asked
+    asked_of_plan (g.S.ChunkSource.state c.args.source.now) (g.S.ChunkSource.state c.answer_query-answer.new.source) (query_of c.args.names.now.arrays c.args.tree.now) c.answer_query-answer.result c.in-Ok.plan c.in-Ok.ensures
+    c.answer_query-answer.ensures.asked
 
 pub returns-in-Ok-clause-front : goal.returns-in-Ok-clause-front
 returns-in-Ok-clause-front g c =
-    front_of_plan (g.S.ChunkSource.state c.args.source.now) (g.S.ChunkSource.state c.reply_to_plan-answer.new.source) (query_of c.args.names.now.arrays c.args.tree.now) c.reply_to_plan-answer.result c.in-Ok.plan c.in-Ok.ensures
-    c.reply_to_plan-answer.ensures.front
+    front_of_plan (g.S.ChunkSource.state c.args.source.now) (g.S.ChunkSource.state c.answer_query-answer.new.source) (query_of c.args.names.now.arrays c.args.tree.now) c.answer_query-answer.result c.in-Ok.plan c.in-Ok.ensures
+    c.answer_query-answer.ensures.front
 
 pub returns-in_ok-refuse-in-Err-Rule-clause-reply : goal.returns-in_ok-refuse-in-Err-Rule-clause-reply
 returns-in_ok-refuse-in-Err-Rule-clause-reply g c =

@@ -1,5 +1,5 @@
 use Rattle.std.proofs.Common.{◌≡◌, ◌∙◌, ap, length, refl, subst, sym}
-use Rattle.store_state.specs.At.{standing}
+use Rattle.store_state.specs.At.{AreParts, standing}
 use Rattle.store_state.specs.Events.{events, owner_of}
 use Rattle.array_store.specs.Starts.{start_of}
 use Rattle.turn_lock.specs.Owners.{ExtendsByOwn}
@@ -32,4 +32,5 @@ returns g c =
       seen = c.leave.ensures.seen ∙ ap (λ p. events (standing moment p)) c.value-store.ensures.value;
       told = subst (λ p. IsTold (start moment c.args.self.now) (seen_by c.leave.new.seat) (standing moment p)) c.value-store.ensures.value
           (subst (λ begun. IsTold begun (seen_by c.leave.new.seat) (standing moment parts)) at now.told);
+      at = subst (AreParts moment) c.value-store.ensures.value c.is_at.ensures.at;
     }

@@ -1,0 +1,11 @@
+pub mod Answering
+pub mod Heads
+pub mod Names
+pub mod Numbers
+pub mod Options
+pub mod PlaceLaws
+pub mod Places
+pub mod ReadingLemmas
+pub mod ScriptLemmas
+pub mod Slices
+pub mod Verbs

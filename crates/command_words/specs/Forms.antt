@@ -1,0 +1,89 @@
+-- The forms of the words of a command line. A word is the list of its bytes.
+use Rattle.std.specs.Prelude.{◌≡◌, ℕ, ◌+◌, ◌*◌, ◌≤◌, Bool, true, false, ◌&&◌, not, nat_le, if◌then◌else◌}
+use Rattle.std.specs.Prelude.{List, [], ◌∷◌, ◌++◌, length, take, count_by, codes, flat_map}
+use Rattle.std.specs.List.{list_any, list_all}
+use Rattle.std.specs.Char.{is_ascii_digit}
+use Rattle.std.specs.Str.{bytes_eq}
+use Rattle.std.specs.Str.Parse.{digits_value}
+use Rattle.command_words.specs.declared.forms.Form.{Form}
+use Rattle.command_words.specs.declared.forms.Form.TheVariants.{Try, Init, Run}
+use Rattle.command_words.specs.declared.settings.RunOption.{RunOption}
+use Rattle.command_words.specs.declared.settings.RunOption.TheVariants.{Pages, History}
+
+abbrev pub Word : Type 0
+Word = List ℕ
+
+-- no name of a device or a script is one
+abbrev pub is_dashed : Word → Bool
+is_dashed word = bytes_eq (take 2 word) (codes "--")
+
+-- a number is 1 to 10 digits
+abbrev pub is_number : Word → Bool
+is_number word = nat_le 1 (length word) && nat_le (length word) 10 && list_all is_ascii_digit word
+
+-- An option of `run` is two words: its name, and a number from 16 to 1,048,576.
+pub record Setting : Type 0 where
+  pub option : RunOption
+  pub number : Word
+
+abbrev pub option_word : RunOption → Word
+option_word Pages = codes "--pages"
+option_word History = codes "--history"
+
+abbrev pub setting_words : Setting → List Word
+setting_words setting = option_word setting.option ∷ setting.number ∷ []
+
+abbrev pub is_setting_number : Word → Bool
+is_setting_number number = is_number number && nat_le 16 (digits_value 10 number) && nat_le (digits_value 10 number) 1048576
+
+abbrev pub is_option : RunOption → RunOption → Bool
+is_option Pages Pages = true
+is_option History History = true
+is_option Pages History = false
+is_option History Pages = false
+
+-- the number of an option, or the other one where the option isn't there
+abbrev pub number_in : RunOption → ℕ → List Setting → ℕ
+number_in option other [] = other
+number_in option other (setting ∷ settings) =
+    if is_option option setting.option then digits_value 10 setting.number else number_in option other settings
+
+-- A script takes its own name and that of its reply. The reply of the script `-` is named `-` too.
+abbrev pub script_names : Word → List Word
+script_names script = if bytes_eq script (codes "-") then script ∷ [] else script ∷ (script ++ codes ".out") ∷ []
+
+-- all names that a run takes
+abbrev pub run_names : Word → List Word → List Word
+run_names device scripts = device ∷ flat_map script_names scripts
+
+abbrev pub are_different : List Word → Bool
+are_different [] = true
+are_different (name ∷ names) = not (list_any (bytes_eq name) names) && are_different names
+
+-- `run DB OPTION.. SCRIPT..`: its numbers, and the place of its first script
+pub record IsRun (words : List Word) (pages history first : ℕ) : Type 0 where
+  pub device : Word
+  pub settings : List Setting
+  pub scripts : List Word
+  pub spelled : words ≡ codes "run" ∷ device ∷ (flat_map setting_words settings ++ scripts)
+  pub in_range : list_all (λ setting. is_setting_number setting.number) settings ≡ true
+  pub once : (option : RunOption) → count_by (λ setting. is_option option setting.option) settings ≤ 1
+  pub some : 1 ≤ length scripts
+  pub most : length scripts ≤ 16
+  pub named : list_any is_dashed (device ∷ scripts) ≡ false
+  pub different : are_different (run_names device scripts) ≡ true
+  pub pages_given : pages ≡ number_in Pages 65536 settings
+  pub history_given : history ≡ number_in History 1048576 settings
+  pub place : first ≡ 2 + 2 * length settings
+
+-- `init DB`
+pub record IsInit (words : List Word) : Type 0 where
+  pub device : Word
+  pub spelled : words ≡ codes "init" ∷ device ∷ []
+  pub named : is_dashed device ≡ false
+
+-- the words have the form; a device stands at place 1
+abbrev pub IsForm : List Word → Form → Type 0
+IsForm words Try = words ≡ codes "try" ∷ []
+IsForm words (Init device) = (device ≡ 1) × IsInit words
+IsForm words (Run device pages history scripts) = (device ≡ 1) × IsRun words pages history scripts

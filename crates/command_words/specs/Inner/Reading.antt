@@ -1,0 +1,112 @@
+-- What is read of words, one after the other.
+use Rattle.std.specs.Prelude.{ℕ, ◌+◌, Bool, ◌&&◌, ◌||◌, not, nat_lt, if◌then◌else◌, codes, List, [], ◌∷◌, ◌++◌, length}
+use Rattle.std.specs.Prelude.{Option, None, Some, Result, Ok, Err, is_some, unwrap_or}
+use Rattle.std.specs.List.{list_any}
+use Rattle.std.specs.Str.{bytes_eq}
+use Rattle.std.specs.Str.Parse.{digits_value}
+use Rattle.command_words.specs.declared.forms.Form.{Form}
+use Rattle.command_words.specs.declared.forms.Form.TheVariants.{Try, Init, Run}
+use Rattle.command_words.specs.declared.settings.RunOption.{RunOption}
+use Rattle.command_words.specs.declared.settings.RunOption.TheVariants.{Pages, History}
+use Rattle.command_words.specs.declared.settings.Settings.{Settings}
+use Rattle.command_words.specs.Forms.{Word, is_dashed, is_setting_number}
+
+abbrev pub given : Settings → RunOption → Option ℕ
+given settings Pages = settings.pages
+given settings History = settings.history
+
+abbrev pub with_number : Settings → RunOption → ℕ → Settings
+with_number settings Pages number = record settings { pages = Some number }
+with_number settings History number = record settings { history = Some number }
+
+abbrev pub no_settings : Settings
+no_settings = record { pages = None; history = None }
+
+abbrev pub words_of : Option ℕ → ℕ
+words_of None = 0
+words_of (Some number) = 2
+
+-- the place behind the device and the options so far
+abbrev pub place_of : Settings → ℕ
+place_of settings = 2 + words_of settings.pages + words_of settings.history
+
+abbrev pub option_of : Word → Option RunOption
+option_of word = if bytes_eq word (codes "--pages") then Some Pages else if bytes_eq word (codes "--history") then Some History else None
+
+abbrev pub if_new : Settings → Option RunOption → Option RunOption
+if_new settings None = None
+if_new settings (Some option) = if is_some (given settings option) then None else Some option
+
+-- the option that the word names, if it isn't given yet
+abbrev pub next_option : Settings → Word → Option RunOption
+next_option settings word = if_new settings (option_of word)
+
+abbrev pub number_of : Word → Option ℕ
+number_of word = if is_setting_number word then Some (digits_value 10 word) else None
+
+-- whether the reply of the script has the name
+abbrev pub is_reply_of : Word → Word → Bool
+is_reply_of name script = not (bytes_eq script (codes "-")) && bytes_eq name (script ++ codes ".out")
+
+abbrev pub meets : Word → Word → Bool
+meets name script = bytes_eq script name || is_reply_of name script || is_reply_of script name
+
+abbrev pub is_taken : Word → List Word → Word → Bool
+is_taken device before name = bytes_eq device name || is_reply_of device name || list_any (meets name) before
+
+-- whether the word can be a script behind these
+abbrev pub can_stand : Word → List Word → Word → Bool
+can_stand device before word = nat_lt (length before) 16 && not (is_dashed word) && not (is_taken device before word)
+
+-- the number of scripts before the first word that can't be one
+abbrev pub wrong_from : Word → List Word → List Word → Option ℕ
+wrong_from device before [] = None
+wrong_from device before (word ∷ words) =
+    if can_stand device before word then wrong_from device (before ++ word ∷ []) words else Some (length before)
+
+abbrev pub run_of : Settings → Form
+run_of settings = Run 1 (unwrap_or settings.pages 65536) (unwrap_or settings.history 1048576) (place_of settings)
+
+abbrev pub scripts_outcome : Settings → Option ℕ → Result Form ℕ
+scripts_outcome settings None = Ok (run_of settings)
+scripts_outcome settings (Some place) = Err (place_of settings + place)
+
+abbrev pub read_scripts : Word → Settings → List Word → Result Form ℕ
+read_scripts device settings words = scripts_outcome settings (wrong_from device [] words)
+
+abbrev pub by_option : Settings → Option RunOption → Option ℕ → Result Form ℕ → (Settings → Result Form ℕ) → Result Form ℕ
+by_option settings None number scripts rest = scripts
+by_option settings (Some option) None scripts rest = Err (place_of settings + 1)
+by_option settings (Some option) (Some number) scripts rest = rest (with_number settings option number)
+
+-- the words behind the device and the options so far
+abbrev pub read_settings : Word → List Word → Settings → Result Form ℕ
+read_settings device [] settings = Err (place_of settings)
+read_settings device (word ∷ []) settings =
+    by_option settings (next_option settings word) None (read_scripts device settings (word ∷ [])) (λ next. Err (place_of next))
+read_settings device (word ∷ number ∷ words) settings =
+    by_option settings (next_option settings word) (number_of number) (read_scripts device settings (word ∷ number ∷ words)) (read_settings device words)
+
+abbrev pub read_run : List Word → Result Form ℕ
+read_run [] = Err 1
+read_run (device ∷ words) = if is_dashed device then Err 1 else read_settings device words no_settings
+
+abbrev pub read_init : List Word → Result Form ℕ
+read_init [] = Err 1
+read_init (device ∷ []) = if is_dashed device then Err 1 else Ok (Init 1)
+read_init (device ∷ word ∷ words) = if is_dashed device then Err 1 else Err 2
+
+abbrev pub read_try : List Word → Result Form ℕ
+read_try [] = Ok Try
+read_try (word ∷ words) = Err 1
+
+abbrev pub read_verb : Word → List Word → Result Form ℕ
+read_verb verb words =
+    if bytes_eq verb (codes "try") then read_try words
+    else if bytes_eq verb (codes "init") then read_init words
+    else if bytes_eq verb (codes "run") then read_run words
+    else Err 0
+
+abbrev pub read_words : List Word → Result Form ℕ
+read_words [] = Err 0
+read_words (verb ∷ words) = read_verb verb words

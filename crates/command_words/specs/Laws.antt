@@ -1,0 +1,25 @@
+-- Laws of forms and faults.
+use Rattle.std.specs.Prelude.{◌≡◌, ℕ, ◌<◌, Some, List, length, drop, slice_get}
+use Rattle.command_words.specs.declared.forms.Form.{Form}
+use Rattle.command_words.specs.Forms.{Word, IsForm, IsInit, IsRun}
+use Rattle.command_words.specs.Faults.{IsFault}
+
+-- no words have two forms
+abbrev pub FormsAreUnique : Type 0
+FormsAreUnique = (words : List Word) (one other : Form) → IsForm words one → IsForm words other → one ≡ other
+
+-- nor are they wrong at two places
+abbrev pub FaultsAreUnique : Type 0
+FaultsAreUnique = (words : List Word) (one other : ℕ) → IsFault words one → IsFault words other → one ≡ other
+
+-- in words of a form the device stands at place 1
+abbrev pub InitsNameTheirDevice : Type 0
+InitsNameTheirDevice = (words : List Word) (init : IsInit words) → slice_get words 1 ≡ Some init.device
+
+-- and the scripts are all words from the first one on
+abbrev pub RunsNameTheirScripts : Type 0
+RunsNameTheirScripts = (words : List Word) (pages history first : ℕ) (run : IsRun words pages history first)
+    → (slice_get words 1 ≡ Some run.device) × (drop first words ≡ run.scripts) × (first < length words)
+
+abbrev pub FormsKeepTheirPlaces : Type 0
+FormsKeepTheirPlaces = InitsNameTheirDevice × RunsNameTheirScripts

@@ -1,0 +1,86 @@
+-- Worked words: some that have a form, and some that have none, each with the place where it shows.
+use Rattle.std.specs.Prelude.{ℕ, List, [], ◌∷◌, ◌++◌, codes}
+use Rattle.command_words.specs.Forms.{Word, IsForm}
+use Rattle.command_words.specs.declared.forms.Form.{Form}
+use Rattle.command_words.specs.declared.forms.Form.TheVariants.{Try, Init, Run}
+use Rattle.command_words.specs.Faults.{IsFault}
+
+pub record Wrong : Type 0 where
+  pub words : List Word
+  pub place : ℕ
+
+abbrev pub AreFaults : List Wrong → Type 0
+AreFaults [] = Unit {0}
+AreFaults (wrong ∷ more) = IsFault wrong.words wrong.place × AreFaults more
+
+pub record Right : Type 0 where
+  pub words : List Word
+  pub form : Form
+
+abbrev pub AreForms : List Right → Type 0
+AreForms [] = Unit {0}
+AreForms (right ∷ more) = IsForm right.words right.form × AreForms more
+
+abbrev pub wrong : List Word → ℕ → Wrong
+wrong words place = record { words = words; place = place }
+
+abbrev pub right : List Word → Form → Right
+right words form = record { words = words; form = form }
+
+abbrev pub run_with : List Word → List Word
+run_with words = codes "run" ∷ codes "DB" ∷ words
+
+abbrev pub sixteen : List Word
+sixteen = codes "a" ∷ codes "b" ∷ codes "c" ∷ codes "d" ∷ codes "e" ∷ codes "f" ∷ codes "g" ∷ codes "h"
+    ∷ codes "i" ∷ codes "j" ∷ codes "k" ∷ codes "l" ∷ codes "m" ∷ codes "n" ∷ codes "o" ∷ codes "-" ∷ []
+
+abbrev pub wrong_words : List Wrong
+wrong_words =
+    wrong [] 0
+    ∷ wrong (codes "frob" ∷ []) 0
+    ∷ wrong (codes "dump" ∷ codes "DB" ∷ []) 0
+    ∷ wrong (codes "try" ∷ codes "x" ∷ []) 1
+    ∷ wrong (codes "init" ∷ []) 1
+    ∷ wrong (codes "init" ∷ codes "--x" ∷ []) 1
+    ∷ wrong (codes "init" ∷ codes "DB" ∷ codes "x" ∷ []) 2
+    ∷ wrong (codes "run" ∷ []) 1
+    ∷ wrong (codes "run" ∷ codes "--x" ∷ []) 1
+    ∷ wrong (run_with []) 2
+    ∷ wrong (run_with (codes "--pages" ∷ [])) 3
+    ∷ wrong (run_with (codes "--pages" ∷ codes "15" ∷ codes "a" ∷ [])) 3
+    ∷ wrong (run_with (codes "--pages" ∷ codes "1048577" ∷ codes "a" ∷ [])) 3
+    ∷ wrong (run_with (codes "--pages" ∷ codes "00000000016" ∷ codes "a" ∷ [])) 3
+    ∷ wrong (run_with (codes "--pages" ∷ codes "99999999999" ∷ codes "a" ∷ [])) 3
+    ∷ wrong (run_with (codes "--pages" ∷ codes "+16" ∷ codes "a" ∷ [])) 3
+    ∷ wrong (run_with (codes "--pages" ∷ [] ∷ codes "a" ∷ [])) 3
+    ∷ wrong (run_with (codes "--pages" ∷ codes "16" ∷ [])) 4
+    ∷ wrong (run_with (codes "--pages" ∷ codes "16" ∷ codes "--pages" ∷ codes "17" ∷ codes "a" ∷ [])) 4
+    ∷ wrong (run_with (codes "--pages" ∷ codes "16" ∷ codes "--history" ∷ codes "16" ∷ codes "--pages" ∷ [])) 6
+    ∷ wrong (run_with (codes "--workers" ∷ codes "4" ∷ codes "a" ∷ [])) 2
+    ∷ wrong (run_with (codes "a" ∷ codes "--pages" ∷ codes "16" ∷ [])) 3
+    ∷ wrong (run_with (codes "DB" ∷ [])) 2
+    ∷ wrong (run_with (codes "a" ∷ codes "a" ∷ [])) 3
+    ∷ wrong (run_with (codes "a" ∷ codes "a.out" ∷ [])) 3
+    ∷ wrong (run_with (codes "a.out" ∷ codes "a" ∷ [])) 3
+    ∷ wrong (codes "run" ∷ codes "DB.out" ∷ codes "DB" ∷ []) 2
+    ∷ wrong (codes "run" ∷ codes "-" ∷ codes "-" ∷ []) 2
+    ∷ wrong (run_with (codes "-" ∷ codes "-" ∷ [])) 3
+    ∷ wrong (run_with (sixteen ++ codes "p" ∷ [])) 18
+    ∷ []
+
+abbrev pub right_words : List Right
+right_words =
+    right (codes "try" ∷ []) Try
+    ∷ right (codes "init" ∷ codes "-" ∷ []) (Init 1)
+    ∷ right (run_with (codes "a" ∷ [])) (Run 1 65536 1048576 2)
+    ∷ right (run_with (codes "-" ∷ [])) (Run 1 65536 1048576 2)
+    ∷ right (run_with (codes "-" ∷ codes "-.out" ∷ [])) (Run 1 65536 1048576 2)
+    ∷ right (run_with (codes "DB.out" ∷ [])) (Run 1 65536 1048576 2)
+    ∷ right (run_with sixteen) (Run 1 65536 1048576 2)
+    ∷ right (run_with (codes "--pages" ∷ codes "0000000016" ∷ codes "a" ∷ [])) (Run 1 16 1048576 4)
+    ∷ right (run_with (codes "--history" ∷ codes "1048576" ∷ codes "--pages" ∷ codes "4096" ∷ codes "a" ∷ codes "b" ∷ [])) (Run 1 4096 1048576 6)
+    ∷ []
+
+-- each of these is a witness that forms and faults are there
+abbrev pub WorkedWords : Type 0
+WorkedWords = AreForms right_words × AreFaults wrong_words

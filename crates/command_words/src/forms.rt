@@ -1,0 +1,127 @@
+//! The forms of the words.
+ghost use Rattle.std.specs.Prelude.{◌≡◌, ◌↔◌, ℕ};
+ghost use Rattle.command_words.specs.Forms.{IsForm};
+ghost use Rattle.command_words.specs.Faults.{IsFault};
+ghost use Rattle.command_words.specs.Inner.Reading.{no_settings, read_init, read_run, read_scripts, read_settings, read_try, read_words, run_of};
+
+use crate::arg::Arg;
+use crate::scripts::{is_dashed, wrong_script};
+use crate::settings::{Settings, number_of};
+
+/// A form of words. Each `device` and `scripts` is a place among the words, from 0.
+#[derive(Clone, Copy, Debug)]
+pub enum Form {
+    /// `try`
+    Try,
+    /// `init DB`, with the place of DB
+    Init {
+        device: usize,
+    },
+    /// `run DB OPTION.. SCRIPT..`, with the places of DB and of the first SCRIPT. All words from there on are scripts.
+    Run {
+        device: usize,
+        pages: u32,
+        history: u32,
+        scripts: usize,
+    },
+}
+
+const DEFAULT_PAGES: u32 = 65_536;
+
+const DEFAULT_HISTORY: u32 = 1_048_576;
+
+/// The form of the words, or the place of the first word that no form has there: the number of words where one is missing.
+pub fn form_of(words: &[Arg]) -> Result<Form, u32>
+    ensures form { (form : Form) → (result ≡ Ok form) ↔ IsForm words.now form }
+    ensures fault { (place : ℕ) → (result ≡ Err place) ↔ IsFault words.now place }
+{
+    read_words(words)
+}
+
+fn read_words(words: &[Arg]) -> Result<Form, u32>
+    ensures { result ≡ read_words words.now }
+{
+    match words {
+        [] => Err(0),
+        [verb, rest @ ..] => match verb.as_str() {
+            "try" => read_try(rest),
+            "init" => read_init(rest),
+            "run" => read_run(rest),
+            _ => Err(0),
+        },
+    }
+}
+
+fn read_try(words: &[Arg]) -> Result<Form, u32>
+    ensures { result ≡ read_try words.now }
+{
+    match words {
+        [] => Ok(Form::Try),
+        _ => Err(1),
+    }
+}
+
+fn read_init(words: &[Arg]) -> Result<Form, u32>
+    ensures { result ≡ read_init words.now }
+{
+    match words {
+        [] => Err(1),
+        [device, ..] if is_dashed(device.as_str()) => Err(1),
+        [_] => Ok(Form::Init { device: 1 }),
+        _ => Err(2),
+    }
+}
+
+fn read_run(words: &[Arg]) -> Result<Form, u32>
+    ensures { result ≡ read_run words.now }
+{
+    match words {
+        [] => Err(1),
+        [device, rest @ ..] => {
+            if is_dashed(device.as_str()) {
+                Err(1)
+            } else {
+                read_settings(device.as_str(), rest, Settings::new())
+            }
+        }
+    }
+}
+
+/// The words behind the device and the options so far.
+fn read_settings(device: &str, words: &[Arg], settings: Settings) -> Result<Form, u32>
+    ensures { result ≡ read_settings device.now words.now settings }
+{
+    match words {
+        [] => Err(settings.place()),
+        [name, rest @ ..] => match settings.next_option(name.as_str()) {
+            None => read_scripts(device, settings, words),
+            Some(option) => match rest {
+                [] => Err(settings.place() + 1),
+                [number, rest @ ..] => match number_of(number.as_str()) {
+                    None => Err(settings.place() + 1),
+                    Some(number) => read_settings(device, rest, settings.with(option, number)),
+                },
+            },
+        },
+    }
+}
+
+fn read_scripts(device: &str, settings: Settings, words: &[Arg]) -> Result<Form, u32>
+    ensures { result ≡ read_scripts device.now settings words.now }
+{
+    match wrong_script(device, words) {
+        Some(place) => Err(settings.place() + place),
+        None => Ok(run_of(settings)),
+    }
+}
+
+fn run_of(settings: Settings) -> Form
+    ensures { result ≡ run_of settings }
+{
+    Form::Run {
+        device: 1,
+        pages: settings.pages.unwrap_or(DEFAULT_PAGES),
+        history: settings.history.unwrap_or(DEFAULT_HISTORY),
+        scripts: settings.place() as usize,
+    }
+}

@@ -1,0 +1,12 @@
+//! The words of the command line: the forms that they may have, and where they leave them.
+#![tactic(auto)]
+
+mod arg;
+mod forms;
+mod laws;
+mod scripts;
+mod settings;
+
+pub use arg::Arg;
+pub use forms::{Form, form_of};
+pub use laws::{faults_are_unique, forms_are_unique, forms_keep_their_places, worked_words};

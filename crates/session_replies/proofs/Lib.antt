@@ -1,0 +1,4 @@
+pub mod ActsJoined
+pub mod Beginnings
+pub mod BehindPins
+pub mod Staying

@@ -1,0 +1,5 @@
+pub mod Acts
+pub mod Laws
+pub mod Refusals
+pub mod Replies
+pub mod Worked

@@ -1,0 +1,5 @@
+pub mod Answering
+pub mod Saying
+pub mod Offers
+pub mod Targets
+mod Worked

@@ -1,0 +1,126 @@
+-- Statements over stored arrays: their forms, a change that is one over some names and breaks a rule over others, and an outcome in a
+-- database that a source tells.
+use Rattle.std.proofs.Common.{◌≡◌, ℕ, pos, true, None, Ok, List, [], ◌∷◌, refl, arith}
+use Rattle.std.specs.Prelude.{codes}
+use Rattle.cell_values.specs.declared.name.Span.{Span}
+use Rattle.cell_values.specs.declared.schema.Schema.{Schema}
+use Rattle.cell_values.specs.declared.schema.Kind.TheVariants.{Int64}
+use Rattle.schema_grammar.specs.declared.kinds.TypeKind.TheVariants.{UnknownArray}
+use Rattle.afl_trees.specs.Term.{Term, reference, call, no_terms, and_term}
+use Rattle.logical_plan.specs.Query.{scanned}
+use Rattle.logical_plan.specs.declared.names.NameEntry.{NameEntry}
+use Rattle.logical_plan.specs.declared.names.Names.{Names}
+use Rattle.plan_changes.specs.declared.change.Change.{Change}
+use Rattle.plan_changes.specs.declared.change.Change.TheVariants.{Insert, Remove}
+use Rattle.plan_changes.specs.Databases.{Database, names_of, rows_of}
+use Rattle.plan_changes.specs.Stored.{IsDatabase}
+use Rattle.check_rules.specs.Checked.{refused as broken_rule}
+use Rattle.check_rules.specs.Operators.{query_named, change_named}
+use Rattle.afl_types.specs.Checking.{check_of}
+use Rattle.afl_types.specs.declared.statements.checking.Typed.TheVariants.{Change as AChange, Versions}
+use Rattle.chunk_source.specs.Source.{SourceState}
+use Rattle.result_print.specs.declared.refusal.Refusal.TheVariants.{Typing}
+use Rattle.statement_replies.specs.Reply.{refused}
+use Rattle.statement_replies.specs.Statements.{reply_to, text_alone}
+use Rattle.statement_answers.specs.declared.outcome.Outcome.{Outcome}
+use Rattle.statement_answers.specs.declared.outcome.Outcome.TheVariants.{Replied, Changes}
+use Rattle.statement_answers.specs.Forms.{a_change, a_listing, form_said}
+use Rattle.statement_answers.specs.Outcomes.{HasOutcomeKind, IsOutcomeOf, IsToldBy, change_leaves}
+
+at : ℕ → ℕ → Span
+at a b = record { start = a; end = b }
+
+line : Schema
+line = record { attributes = record { name = codes "v"; kind = Int64; nullable = true } ∷ []; dimensions = record { name = codes "i"; lo = pos 0; hi = pos 4; chunk = 5; overlap = 0 } ∷ [] }
+
+entry : List ℕ → List ℕ → NameEntry
+entry name versions = record { name = name; schema = line; next = 4; versions = versions }
+
+both : Names
+both = record { arrays = entry (codes "A") (1 ∷ 3 ∷ []) ∷ entry (codes "B") (2 ∷ []) ∷ [] }
+
+-- insert(B, A)
+tree : Term
+tree = call (at 0 12) (codes "insert") (and_term (reference (at 7 8) (codes "B")) (and_term (reference (at 10 11) (codes "A")) no_terms))
+
+change : Change
+change = Insert (codes "A") line (scanned (record { name = codes "B"; version = 2; schema = line }))
+
+form_is : form_said tree ≡ a_change
+unfolding tree query_named change_named
+form_is = refl
+
+change_is : check_of tree [] both ≡ Ok (AChange change)
+unfolding tree both entry line change at query_named change_named
+change_is = refl
+
+-- version 2 of B is read, and then version 3 of A, its newest one
+reads : change_leaves both change ≡ record { name = codes "B"; version = 2; schema = line } ∷ record { name = codes "A"; version = 3; schema = line } ∷ []
+unfolding both entry change
+reads = refl
+
+-- where B isn't stored a rule is broken, and the outcome is a refusal
+alone : Names
+alone = record { arrays = entry (codes "A") (1 ∷ 3 ∷ []) ∷ [] }
+
+is_broken : check_of tree [] alone ≡ broken_rule (at 7 8) UnknownArray
+unfolding tree alone entry at query_named change_named
+is_broken = refl
+
+is_refused : HasOutcomeKind alone (check_of tree [] alone) (Replied (refused (Typing (at 7 8) UnknownArray)))
+unfolding tree alone entry at query_named change_named
+is_refused = refl
+
+-- versions(A)
+listing : Term
+listing = call (at 0 11) (codes "versions") (and_term (reference (at 9 10) (codes "A")) no_terms)
+
+listing_is : check_of listing [] both ≡ Ok (Versions (codes "A"))
+unfolding listing both entry at query_named change_named
+listing_is = refl
+
+listing_form : form_said listing ≡ a_listing
+unfolding listing query_named change_named
+listing_form = refl
+
+-- ---- an array without versions, which is removed
+
+abbrev short : Schema
+short = record { attributes = record { name = codes "v"; kind = Int64; nullable = true } ∷ []; dimensions = record { name = codes "i"; lo = pos 0; hi = pos 4; chunk = 5; overlap = 0 } ∷ [] }
+
+abbrev db : Database
+db = record { name = codes "A"; schema = short; next = 1; versions = [] } ∷ []
+
+abbrev source : SourceState
+source = record { stored = λ name version. None; chunks = λ name version. []; tells = λ rows. rows ≡ rows_of db; asked = []; damaged = None; faults = 0 }
+
+database : IsDatabase db
+database = record {
+  names = record {
+    count = omega arith;
+    rising = tt;
+    each = (
+      record { name = refl; schema = refl; named = record { attributes = (refl, tt); dimensions = (refl, tt) }; next = (omega arith, omega arith); versions = tt },
+      tt,
+    );
+  };
+  rows = (tt, tt);
+}
+
+told : IsToldBy (names_of db) source db
+told = record { database = database; named = refl; tells = refl }
+
+-- remove(A)
+abbrev removal : Term
+removal = call (record { start = 0; end = 9 }) (codes "remove") (and_term (reference (record { start = 7; end = 8 }) (codes "A")) no_terms)
+
+abbrev outcome : Outcome
+outcome = Changes (Remove (codes "A")) None (text_alone (codes "ok\n"))
+
+kind : HasOutcomeKind (names_of db) (check_of removal [] (names_of db)) outcome
+unfolding query_named change_named
+kind = (refl, record { named = refl; typed = (refl, tt); comes = refl; valid = tt }, refl)
+
+is_outcome : IsOutcomeOf db (reply_to db [] removal) outcome
+unfolding query_named change_named
+is_outcome = (refl, record { stores = tt; whole = refl; chunks = tt })

@@ -1,0 +1,200 @@
+//! Changes: the chunks that they write, and what they are answered.
+ghost use Rattle.std.specs.Prelude.{◌≡◌, ◌≤◌, ◌++◌, None, Ok as Good, IfOk, OnErr};
+ghost use Rattle.chunk_source.specs.Faults.{Answers};
+ghost use Rattle.chunk_source.specs.Reading.{asked_of};
+ghost use Rattle.chunk_source.specs.Source.{AsksFront, Keeps};
+ghost use Rattle.plan_changes.specs.Databases.{Database};
+ghost use Rattle.plan_changes.specs.Stored.{AreStored};
+ghost use Rattle.plan_changes.specs.Typed.{IsTypedFor};
+ghost use Rattle.afl_types.specs.declared.statements.checking.Typed.TheVariants.{Change as AChange};
+ghost use Rattle.statement_replies.specs.Reading.{HoldsVersions};
+ghost use Rattle.statement_replies.specs.Reply.{cell_reply};
+ghost use Rattle.statement_replies.specs.Statements.{change_reply, reply_to_typed};
+ghost use Rattle.statement_answers.specs.Inner.Made.{HasChunks, IsMadeIn, IsPutUnder, leaves_made, outcome_with};
+ghost use Rattle.statement_answers.specs.Outcomes.{HasOutcomeKind, IsOutcomeOf, IsToldBy, asked_for, change_leaves, newest_leaf};
+
+use crate::outcome::{Offer, Outcome, outcome_with};
+use afl_outside::Gate;
+use array_geom::Changed;
+use cell_values::{Broken, Memory, Name, Schema};
+use changed_chunks::changed;
+use chunk_source::{ChunkSource, ExecFault};
+use logical_plan::{Leaf, Names};
+use plan_changes::{Change, has_its_names, let_go_change, newest_of};
+use result_print::Refusal;
+use statement_replies::{Reply, accepted_line, refuse};
+use std::alloc::Global;
+
+/// The newest version of an array, version 0 where there is none.
+fn newest_leaf(names: &Names, name: &Name, schema: &Schema) -> Result<Leaf, Memory>
+    ensures { IfOk result (λ leaf. leaf ≡ newest_leaf names.now name.now schema.now) }
+{
+    Ok(Leaf {
+        name: name.copy()?,
+        version: newest_of(&names.arrays, name),
+        schema: schema.copy()?,
+    })
+}
+
+/// The chunks of a change that puts a version under this name, with this schema, or its fault.
+fn chunks_put<S: ChunkSource, G: Gate>(
+    alloc: Global,
+    change: &Change,
+    name: &Name,
+    schema: &Schema,
+    names: &Names,
+    source: &mut S,
+    workers: u32,
+    session: u32,
+    gate: &G,
+) -> Result<Result<Option<Changed>, Broken>, ExecFault>
+    requires undamaged { (S.state source.old).damaged ≡ None }
+    requires stored { AreStored names.now }
+    requires typed { IsTypedFor names.now change.now }
+    requires put { IsPutUnder name.now schema.now change.now }
+    requires holds { HoldsVersions names.now (S.state source.old) }
+    requires workers { (1 ≤ workers) × (workers ≤ 64) }
+    ensures kind { IfOk result (HasChunks change.now) }
+    ensures told { IfOk result (λ made. (db : Database) → IsToldBy names.now (S.state source.old) db → IsMadeIn db change.now made) }
+    ensures asked { let old = S.state source.old in
+        IfOk result (λ made. (S.state source.new).asked ≡ old.asked ++ asked_of old 0 (leaves_made names.now change.now made)) }
+    ensures front { let old = S.state source.old in
+        OnErr result (AsksFront (asked_of old 0 (change_leaves names.now change.now)) old (S.state source.new)) }
+    ensures kept { Keeps (S.state source.old) (S.state source.new) }
+    ensures cause { Answers (S.state source.old) (S.state source.new) result }
+    ensures start { S.start source.new ≡ S.start source.old }
+{
+    let target = newest_leaf(names, name, schema)?;
+    match changed(alloc, change, &target, source, workers, session, gate)? {
+        Ok(changed) => Ok(Ok(Some(changed))),
+        Err(broken) => Ok(Err(broken)),
+    }
+}
+
+/// The chunks that come with a change, or its fault.
+fn chunks_of<S: ChunkSource, G: Gate>(
+    alloc: Global,
+    change: &Change,
+    names: &Names,
+    source: &mut S,
+    workers: u32,
+    session: u32,
+    gate: &G,
+) -> Result<Result<Option<Changed>, Broken>, ExecFault>
+    requires undamaged { (S.state source.old).damaged ≡ None }
+    requires stored { AreStored names.now }
+    requires typed { IsTypedFor names.now change.now }
+    requires holds { HoldsVersions names.now (S.state source.old) }
+    requires workers { (1 ≤ workers) × (workers ≤ 64) }
+    ensures kind { IfOk result (HasChunks change.now) }
+    ensures told { IfOk result (λ made. (db : Database) → IsToldBy names.now (S.state source.old) db → IsMadeIn db change.now made) }
+    ensures asked { let old = S.state source.old in
+        IfOk result (λ made. (S.state source.new).asked ≡ old.asked ++ asked_of old 0 (leaves_made names.now change.now made)) }
+    ensures front { let old = S.state source.old in
+        OnErr result (AsksFront (asked_of old 0 (change_leaves names.now change.now)) old (S.state source.new)) }
+    ensures kept { Keeps (S.state source.old) (S.state source.new) }
+    ensures cause { Answers (S.state source.old) (S.state source.new) result }
+    ensures start { S.start source.new ≡ S.start source.old }
+{
+    match change {
+        Change::Store { name, schema, .. } => chunks_put(
+            alloc, change, name, schema, names, source, workers, session, gate,
+        ),
+        Change::Insert { name, schema, .. } => chunks_put(
+            alloc, change, name, schema, names, source, workers, session, gate,
+        ),
+        Change::Create { .. } => Ok(Ok(None)),
+        Change::Remove { .. } => Ok(Ok(None)),
+        Change::RemoveVersions { .. } => Ok(Ok(None)),
+    }
+}
+
+/// A change with these chunks is offered.
+fn offered(
+    alloc: Global,
+    change: &Change,
+    names: &Names,
+    changed: Option<Changed>,
+) -> Result<Offer, Memory>
+    ensures chunks { IfOk result (λ offer. offer.changed ≡ changed) }
+    ensures reply { IfOk result (λ offer. offer.reply ≡ change_reply names.now change.now) }
+{
+    let reply = accepted_line(alloc, change, names)?;
+    Ok(Offer { changed, reply })
+}
+
+/// The refusal that tells of a cell.
+fn faulty(alloc: Global, broken: Broken) -> Result<Reply, Memory>
+    ensures { IfOk result (λ reply. reply ≡ cell_reply broken) }
+{
+    let Broken { at, kind } = broken;
+    refuse(alloc, Refusal::Cell { at, kind })
+}
+
+/// What a change is answered: it is offered for a commit, or refused.
+fn offer_of<S: ChunkSource, G: Gate>(
+    alloc: Global,
+    change: &Change,
+    names: &Names,
+    source: &mut S,
+    workers: u32,
+    session: u32,
+    gate: &G,
+) -> Result<Result<Offer, Reply>, ExecFault>
+    requires undamaged { (S.state source.old).damaged ≡ None }
+    requires stored { AreStored names.now }
+    requires typed { IsTypedFor names.now change.now }
+    requires holds { HoldsVersions names.now (S.state source.old) }
+    requires workers { (1 ≤ workers) × (workers ≤ 64) }
+    ensures kind { IfOk result (λ offer. HasOutcomeKind names.now (Good (AChange change.now)) (outcome_with change.now offer)) }
+    ensures told { IfOk result (λ offer. (db : Database) → IsToldBy names.now (S.state source.old) db
+        → IsOutcomeOf db (reply_to_typed db (AChange change.now)) (outcome_with change.now offer)) }
+    ensures asked { let old = S.state source.old in
+        IfOk result (λ offer. (S.state source.new).asked ≡ old.asked ++ asked_for old names.now (Good (AChange change.now)) (outcome_with change.now offer)) }
+    ensures front { let old = S.state source.old in
+        OnErr result (AsksFront (asked_of old 0 (change_leaves names.now change.now)) old (S.state source.new)) }
+    ensures kept { Keeps (S.state source.old) (S.state source.new) }
+    ensures cause { Answers (S.state source.old) (S.state source.new) result }
+    ensures start { S.start source.new ≡ S.start source.old }
+{
+    has_its_names(change);
+    match chunks_of(alloc, change, names, source, workers, session, gate)? {
+        Ok(changed) => Ok(Ok(offered(alloc, change, names, changed)?)),
+        Err(broken) => Ok(Err(faulty(alloc, broken)?)),
+    }
+}
+
+/// What comes of a change.
+pub(crate) fn outcome_of_change<S: ChunkSource, G: Gate>(
+    alloc: Global,
+    change: Change,
+    names: &Names,
+    source: &mut S,
+    workers: u32,
+    session: u32,
+    gate: &G,
+) -> Result<Outcome, ExecFault>
+    requires undamaged { (S.state source.old).damaged ≡ None }
+    requires stored { AreStored names.now }
+    requires typed { IsTypedFor names.now change }
+    requires holds { HoldsVersions names.now (S.state source.old) }
+    requires workers { (1 ≤ workers) × (workers ≤ 64) }
+    ensures kind { IfOk result (HasOutcomeKind names.now (Good (AChange change))) }
+    ensures told { IfOk result (λ outcome. (db : Database) → IsToldBy names.now (S.state source.old) db
+        → IsOutcomeOf db (reply_to_typed db (AChange change)) outcome) }
+    ensures asked { let old = S.state source.old in
+        IfOk result (λ outcome. (S.state source.new).asked ≡ old.asked ++ asked_for old names.now (Good (AChange change)) outcome) }
+    ensures front { let old = S.state source.old in
+        OnErr result (AsksFront (asked_of old 0 (change_leaves names.now change)) old (S.state source.new)) }
+    ensures kept { Keeps (S.state source.old) (S.state source.new) }
+    ensures cause { Answers (S.state source.old) (S.state source.new) result }
+    ensures start { S.start source.new ≡ S.start source.old }
+{
+    match offer_of(alloc, &change, names, source, workers, session, gate) {
+        Ok(offer) => Ok(outcome_with(change, offer)),
+        Err(fault) => {
+            let_go_change(change);
+            Err(fault)
+        }
+    }
+}

@@ -1,0 +1,113 @@
+-- What a statement is answered, by what checking answers to its tree.
+use Rattle.std.proofs.Common.{◌≡◌, inl, inr, ℕ, List, Option, Some, None, Ok, Err, refl, sym, ap, ◌∙◌, subst}
+use Rattle.cell_values.specs.declared.datum.Broken.{Broken}
+use Rattle.cell_values.specs.declared.name.Span.{Span}
+use Rattle.schema_grammar.specs.declared.kinds.TypeKind.{TypeKind}
+use Rattle.afl_trees.specs.Term.{Term}
+use Rattle.logical_plan.specs.PlanSchema.{schema_of}
+use Rattle.logical_plan.specs.Query.{Query}
+use Rattle.logical_plan.specs.declared.names.Names.{Names}
+use Rattle.plan_changes.specs.Databases.{Database, fault_of_change, names_of, rows_of}
+use Rattle.plan_changes.specs.declared.change.Change.{Change}
+use Rattle.plan_changes.specs.declared.change.Change.TheVariants.{Create, Store, Insert, Remove, RemoveVersions}
+use Rattle.check_rules.specs.Checked.{Checked}
+use Rattle.check_rules.specs.Checked.{refused as broken_rule}
+use Rattle.check_queries.specs.Queries.{query_of}
+use Rattle.afl_types.specs.Checking.{check_of}
+use Rattle.afl_types.specs.Statements.{queried}
+use Rattle.afl_types.specs.declared.statements.checking.Typed.{Typed}
+use Rattle.afl_types.specs.declared.statements.checking.Typed.TheVariants.{Query as AQuery, Change as AChange, Versions, Show, ListArrays}
+use Rattle.result_print.specs.declared.refusal.Refusal.TheVariants.{Typing}
+use Rattle.statement_replies.specs.Kinds.{IsRowsReply}
+use Rattle.statement_replies.specs.Reply.{cell_reply, checked_reply, plan_reply, refused}
+use Rattle.statement_replies.specs.StatementKinds.{HasChangeKind, HasStatementKind, HasTypedKind, IsStatementReply, MayBreak, QueriesHaveTheirReplies, RepliesHaveStatementKinds}
+use Rattle.statement_replies.specs.Statements.{Accepted, accepted, changed_or_broken, list_reply, reply_to_checked, reply_to_typed, show_reply, versions_reply, without_change}
+use Rattle.statement_replies.specs.declared.replies.Reply.{Reply}
+use Rattle.statement_replies.proofs.PlanReplies.{checked_kind}
+
+-- ---- kinds
+
+may_break : (names : Names) (change : Change) (o : Option Broken) → MayBreak names change (changed_or_broken names change o)
+may_break names change (Some broken) = inr (broken, refl)
+may_break names change None = inl refl
+
+change_kind : (db : Database) (change : Change) → HasChangeKind (names_of db) change (changed_or_broken (names_of db) change (fault_of_change db change))
+change_kind db (Create name schema) = refl
+change_kind db (Store name schema plan) = may_break (names_of db) (Store name schema plan) (fault_of_change db (Store name schema plan))
+change_kind db (Insert name schema plan) = may_break (names_of db) (Insert name schema plan) (fault_of_change db (Insert name schema plan))
+change_kind db (Remove name) = refl
+change_kind db (RemoveVersions name below) = refl
+
+typed_kind : (db : Database) (typed : Typed) → HasTypedKind (names_of db) typed (reply_to_typed db typed)
+typed_kind db (AQuery plan) = (checked_kind (rows_of db) (Ok plan), refl)
+typed_kind db (AChange change) = change_kind db change
+typed_kind db (Versions name) = refl
+typed_kind db (Show name) = refl
+typed_kind db ListArrays = refl
+
+statement_kind : (db : Database) (checked : Checked Typed) → HasStatementKind (names_of db) checked (reply_to_checked db checked)
+statement_kind db (Ok typed) = typed_kind db typed
+statement_kind db (Err breach) = refl
+
+pub have_statement_kinds : RepliesHaveStatementKinds
+have_statement_kinds db text tree = statement_kind db (check_of tree text (names_of db))
+
+-- ---- a statement that is a query
+
+query_replied : (db : Database) (checked : Checked Query) → reply_to_checked db (queried checked) ≡ without_change (checked_reply (rows_of db) checked)
+query_replied db (Ok plan) = refl
+query_replied db (Err breach) = refl
+
+pub queries_replied : QueriesHaveTheirReplies
+queries_replied db text tree e = ap (reply_to_checked db) e ∙ query_replied db (query_of (names_of db).arrays tree)
+
+-- ---- a statement's reply, by what checking answers over the names of the databases that may stand
+
+module _ (names : Names) (stands : Database → Type 0) (named : (db : Database) → stands db → names_of db ≡ names) (text : List ℕ) (tree : Term) where
+  abbrev IsReply : Accepted → Type 0
+  IsReply = IsStatementReply names stands text tree
+
+  by_check : (checked : Checked Typed) (answer : Accepted) → check_of tree text names ≡ checked → HasStatementKind names checked answer
+      → ((db : Database) → stands db → answer ≡ reply_to_checked db checked) → IsReply answer
+  by_check checked answer is kind told = record {
+    kind = subst (λ (c : Checked Typed). HasStatementKind names c answer) (sym is) kind;
+    told = λ db there. told db there ∙ ap (reply_to_checked db) (sym is ∙ ap (check_of tree text) (sym (named db there)));
+  }
+
+  pub of_breach : (span : Span) (kind : TypeKind) (reply : Reply) → check_of tree text names ≡ broken_rule span kind → reply ≡ refused (Typing span kind) → IsReply (without_change reply)
+  of_breach span kind reply is e = by_check (broken_rule span kind) (without_change reply) is (ap without_change e) (λ db there. ap without_change e)
+
+  pub of_query : (plan : Query) (reply : Reply) → check_of tree text names ≡ Ok (AQuery plan) → IsRowsReply (schema_of plan) reply
+      → ((db : Database) → stands db → reply ≡ plan_reply (rows_of db) plan) → IsReply (without_change reply)
+  of_query plan reply is kind told = by_check (Ok (AQuery plan)) (without_change reply) is (kind, refl) (λ db there. ap without_change (told db there))
+
+  pub of_versions : (name : List ℕ) (reply : Reply) → check_of tree text names ≡ Ok (Versions name) → reply ≡ versions_reply names name → IsReply (without_change reply)
+  of_versions name reply is e =
+      by_check (Ok (Versions name)) (without_change reply) is (ap without_change e) (λ db there. ap without_change (e ∙ ap (λ n. versions_reply n name) (sym (named db there))))
+
+  pub of_show : (name : List ℕ) (reply : Reply) → check_of tree text names ≡ Ok (Show name) → reply ≡ show_reply names name → IsReply (without_change reply)
+  of_show name reply is e =
+      by_check (Ok (Show name)) (without_change reply) is (ap without_change e) (λ db there. ap without_change (e ∙ ap (λ n. show_reply n name) (sym (named db there))))
+
+  pub of_list : (reply : Reply) → check_of tree text names ≡ Ok ListArrays → reply ≡ list_reply names → IsReply (without_change reply)
+  of_list reply is e = by_check (Ok ListArrays) (without_change reply) is (ap without_change e) (λ db there. ap without_change (e ∙ ap list_reply (sym (named db there))))
+
+  -- of a change whose plan's array has a fault, in each database that may stand the same one
+  pub of_fault : (change : Change) (broken : Broken) (reply : Reply) → check_of tree text names ≡ Ok (AChange change) → HasChangeKind names change (without_change (cell_reply broken)) → reply ≡ cell_reply broken
+      → ((db : Database) → stands db → fault_of_change db change ≡ Some broken) → IsReply (without_change reply)
+  of_fault change broken reply is kind e found =
+      subst (λ (r : Reply). IsReply (without_change r)) (sym e)
+      (by_check (Ok (AChange change)) (without_change (cell_reply broken)) is kind (λ db there. ap (changed_or_broken (names_of db) change) (sym (found db there))))
+
+  -- of a change that has none
+  pub of_accepted : (change : Change) → check_of tree text names ≡ Ok (AChange change) → ((db : Database) → stands db → fault_of_change db change ≡ None) → IsReply (accepted names change)
+  of_accepted change is none =
+      by_check (Ok (AChange change)) (accepted names change) is (accepted_kind change) (λ db there.
+      ap (λ n. accepted n change) (sym (named db there)) ∙ ap (changed_or_broken (names_of db) change) (sym (none db there)))
+    where
+      accepted_kind : (c : Change) → HasChangeKind names c (accepted names c)
+      accepted_kind (Create name schema) = refl
+      accepted_kind (Store name schema plan) = inl refl
+      accepted_kind (Insert name schema plan) = inl refl
+      accepted_kind (Remove name) = refl
+      accepted_kind (RemoveVersions name below) = refl

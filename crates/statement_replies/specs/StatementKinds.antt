@@ -1,0 +1,73 @@
+-- What the names of the stored arrays alone tell of what a statement is answered, whatever the arrays hold.
+use Rattle.std.specs.Prelude.{◌≡◌, ◌⊎◌, ℕ, List, None, Ok, Err, IfOk, IsTrue}
+use Rattle.cell_values.specs.declared.datum.Broken.{Broken}
+use Rattle.afl_trees.specs.Term.{Term}
+use Rattle.logical_plan.specs.declared.names.Names.{Names}
+use Rattle.logical_plan.specs.PlanSchema.{schema_of}
+use Rattle.plan_changes.specs.Changes.{has_array}
+use Rattle.plan_changes.specs.Databases.{Database, names_of, rows_of}
+use Rattle.plan_changes.specs.declared.change.Change.{Change}
+use Rattle.plan_changes.specs.declared.change.Change.TheVariants.{Create, Store, Insert, Remove, RemoveVersions}
+use Rattle.check_rules.specs.Checked.{Checked}
+use Rattle.check_queries.specs.Queries.{query_of}
+use Rattle.afl_types.specs.Checking.{check_of}
+use Rattle.afl_types.specs.Statements.{queried}
+use Rattle.afl_types.specs.declared.statements.checking.Typed.{Typed}
+use Rattle.afl_types.specs.declared.statements.checking.Typed.TheVariants.{Query as AQuery, Change as AChange, Versions, Show, ListArrays}
+use Rattle.result_print.specs.declared.refusal.Refusal.TheVariants.{Typing}
+use Rattle.statement_replies.specs.Kinds.{IsRowsReply}
+use Rattle.statement_replies.specs.Reply.{cell_reply, query_reply, refused}
+use Rattle.statement_replies.specs.Statements.{Accepted, accepted, list_reply, reply_to, show_reply, versions_reply, without_change}
+
+-- the change, or the refusal that tells of some cell
+abbrev pub MayBreak : Names → Change → Accepted → Type 0
+MayBreak names change answer = (answer ≡ accepted names change) ⊎ ((broken : Broken) × (answer ≡ without_change (cell_reply broken)))
+
+-- only the array of a plan has cells that may not be computed
+abbrev pub HasChangeKind : Names → Change → Accepted → Type 0
+HasChangeKind names (Create name schema) answer = answer ≡ accepted names (Create name schema)
+HasChangeKind names (Store name schema plan) answer = MayBreak names (Store name schema plan) answer
+HasChangeKind names (Insert name schema plan) answer = MayBreak names (Insert name schema plan) answer
+HasChangeKind names (Remove name) answer = answer ≡ accepted names (Remove name)
+HasChangeKind names (RemoveVersions name below) answer = answer ≡ accepted names (RemoveVersions name below)
+
+-- a query has some rows of its plan's schema, or the refusal that tells of some cell; a listing has its text
+abbrev pub HasTypedKind : Names → Typed → Accepted → Type 0
+HasTypedKind names (AQuery plan) answer = IsRowsReply (schema_of plan) answer.reply × (answer.change ≡ None)
+HasTypedKind names (AChange change) answer = HasChangeKind names change answer
+HasTypedKind names (Versions name) answer = answer ≡ without_change (versions_reply names name)
+HasTypedKind names (Show name) answer = answer ≡ without_change (show_reply names name)
+HasTypedKind names ListArrays answer = answer ≡ without_change (list_reply names)
+
+-- a rule that is broken is told
+abbrev pub HasStatementKind : Names → Checked Typed → Accepted → Type 0
+HasStatementKind names (Ok typed) answer = HasTypedKind names typed answer
+HasStatementKind names (Err breach) answer = answer ≡ without_change (refused (Typing breach.span breach.kind))
+
+-- What a tree of a text is answered over stored arrays of these names: of this kind always, and in each database that may stand
+-- there the reply there.
+pub record IsStatementReply (names : Names) (stands : Database → Type 0) (text : List ℕ) (tree : Term) (answer : Accepted) : Type 0 where
+  pub kind : HasStatementKind names (check_of tree text names) answer
+  pub told : (db : Database) → stands db → answer ≡ reply_to db text tree
+
+-- what is answered over a database is of that kind
+abbrev pub RepliesHaveStatementKinds : Type 0
+RepliesHaveStatementKinds = (db : Database) (text : List ℕ) (tree : Term)
+    → HasStatementKind (names_of db) (check_of tree text (names_of db)) (reply_to db text tree)
+
+-- a tree that is checked as a query has the reply to the query
+abbrev pub QueriesHaveTheirReplies : Type 0
+QueriesHaveTheirReplies = (db : Database) (text : List ℕ) (tree : Term) → check_of tree text (names_of db) ≡ queried (query_of (names_of db).arrays tree)
+    → reply_to db text tree ≡ without_change (query_reply (names_of db) (rows_of db) tree)
+
+-- the array, if any, whose versions or schema are listed stands
+abbrev pub NamesWhatStands : Names → Typed → Type 0
+NamesWhatStands names (AQuery plan) = Unit {0}
+NamesWhatStands names (AChange change) = Unit {0}
+NamesWhatStands names (Versions name) = IsTrue (has_array names.arrays name)
+NamesWhatStands names (Show name) = IsTrue (has_array names.arrays name)
+NamesWhatStands names ListArrays = Unit {0}
+
+-- that of each statement which checking answers does
+abbrev pub ListedArraysStand : Type 0
+ListedArraysStand = (names : Names) (text : List ℕ) (tree : Term) → IfOk (check_of tree text names) (NamesWhatStands names)
