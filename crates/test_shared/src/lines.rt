@@ -2,18 +2,13 @@
 ghost use Rattle.std.specs.Prelude.{IfOk};
 ghost use Rattle.test_shared.specs.Runs.{IsRun};
 
-use crate::answers::Answer;
-use crate::runs::{Run, Step, answer_to, finished, reaped, shared_by_three};
-use crate::silent_disk::SilentDisk;
-use crate::starts::{opened_over, with_change};
-use crate::tally::push_tally;
-use crate::threads::push_threads;
+use crate::runs::{Run, answer_to, finished, reaped, shared_by_three};
 use anyhow::Result;
 use array_store::Store;
 use cell_values::{Bytes, Memory};
+use shared_steps::{Answer, SilentDisk, Step, opened_over, push_tally, with_change};
 use std::alloc::Global;
 use std::sync::Wait;
-use std::thread::Threads;
 use store_opening::Limits;
 use test_files::made;
 use test_kit::begin_answer;
@@ -165,21 +160,8 @@ fn tell_share<R: Print + AllocGlobal + Wait>(
     }
 }
 
-fn tell_threads<R: Print + AllocGlobal + Threads + Wait + Sync>(
-    rt: &R,
-    line: &str,
-    limits: Limits,
-    count: u32,
-) -> Result<()> {
-    let mut out = String::new(rt.alloc());
-    begin_answer(&mut out, line)?;
-    push_threads(rt, &mut out, limits, count)?;
-    print!(rt; "{out}")?;
-    Ok(())
-}
-
 /// Prints a line with its answer, and the lines behind it up to `finish` where it shares a store. The place of the next one is the answer.
-pub(crate) fn tell_line<R: Print + AllocGlobal + Threads + Wait + Sync>(
+pub(crate) fn tell_line<R: Print + AllocGlobal + Wait>(
     rt: &R,
     lines: &[&str],
     at: usize,
@@ -189,10 +171,6 @@ pub(crate) fn tell_line<R: Print + AllocGlobal + Threads + Wait + Sync>(
     let words: Vec<&str> = line.split_whitespace().collect(rt.alloc())?;
     match words.as_slice() {
         ["share", pages, history] => tell_share(rt, lines, next, line, limits_of(pages, history)),
-        ["threads", pages, history, count] => {
-            tell_threads(rt, line, limits_of(pages, history), number_of(count))?;
-            Ok(next)
-        }
         _ => {
             println!(rt; "{line}")?;
             Ok(next)

@@ -1,21 +1,12 @@
-//! Sessions over one store that is shared: steps of three of them, a pin that is held while another one commits, and two on threads.
+//! Sessions over one store that is shared: steps of three of them, and a pin that is held while another one commits.
 //!
 //! `share 64 100` makes a database of so many pages, with the array A at version 1, opens it for a history of so many entries, and shares it
 //! among sessions 0, 1 and 2. `pin 0`, `unpin 0`, `change 0 TEXT` and `cells 0 A@1` are steps of a session, `renew 0 500` are so many stores
 //! of A by it, each with a removal of all versions before, and `reap` frees what nobody can name. `finish` takes the store back.
-//! `threads 4096 9000 1000` makes a database with arrays A and B. Two sessions, each on a thread, then store the one and the other so often,
-//! beside a thread that reaps.
 #![tactic(auto)]
 
-mod answers;
 mod lines;
-mod reading;
 mod runs;
-mod silent_disk;
-mod starts;
-mod tally;
-mod threads;
-mod visits;
 
 use anyhow::Result;
 use lines::tell_line;

@@ -1,5 +1,5 @@
-use Rattle.test_shared.specs.Silent.{silent_moment}
-use Rattle.test_shared.proofs.Seeing.{new_are_free}
+use Rattle.shared_steps.specs.Silent.{silent_moment}
+use Rattle.shared_steps.proofs.Seeing.{new_are_free}
 use Rattle.test_shared.proofs.runs.shared_by_three.Goals as goal
 
 pub seated-requires-clause-free : goal.seated-requires-clause-free
