@@ -44,3 +44,7 @@ module _ {A : Type 0} (P : A → Type 0) where
 
   pub one_more_all : (xs ys : List A) (x : A) → ys ≡ xs ++ x ∷ [] → All P xs → P x → All P ys
   one_more_all xs ys x e all p = subst (All P) (sym e) (places_more (λ _. P) xs x all p)
+
+module _ {D : Type 0} (shared : Shared D) where
+  pub none_are_idle : (seats : List (Seat D)) → seats ≡ [] → AreIdleSeats shared seats
+  none_are_idle seats e = subst (AreIdleSeats shared) (sym e) (none_all (λ seat. IsSeatOf shared seat × IsIdle seat))
