@@ -1,5 +1,5 @@
 -- Seats of a shared store.
-use Rattle.std.proofs.Common.{◌≡◌, ◌∙◌, ℕ, ◌+◌, not, List, [], ◌∷◌, ◌++◌, length, reverse, All, IsTrue, refl, ap, subst, sym, append-nil}
+use Rattle.std.proofs.Common.{arith, ◌≡◌, ◌∙◌, ℕ, ◌+◌, not, List, [], ◌∷◌, ◌++◌, length, reverse, All, IsTrue, refl, ap, subst, sym, append-nil}
 use Rattle.arrayvec.specs.ArrayVec.{ArrayVec}
 use Rattle.afl_outside.specs.Disk.{Moment}
 use Rattle.logical_plan.specs.declared.parts.Leaf.{Leaf}
@@ -40,7 +40,7 @@ module _ {D : Type 0} (moment : D → Moment) (shared : Shared D) where
 
 module _ {A : Type 0} (P : A → Type 0) where
   pub none_all : All P []
-  none_all k d near = absurd cc
+  none_all k d near = absurd (omega arith)
 
   pub one_more_all : (xs ys : List A) (x : A) → ys ≡ xs ++ x ∷ [] → All P xs → P x → All P ys
   one_more_all xs ys x e all p = subst (All P) (sym e) (places_more (λ _. P) xs x all p)

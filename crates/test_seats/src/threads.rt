@@ -144,6 +144,7 @@ fn store_beside<D: Disk + Send, R: Threads + Wait + Sync>(
 }
 
 /// The store, once the sessions and the reaper have given their seats back.
+#[tactic(auto, using(shared_steps::proofs::Seeing::none_are_idle, shared_steps::proofs::Seeing::free_are_idle))]
 fn stored_by<D: Disk + Send, R: Threads + Wait + Sync>(
     rt: &R,
     alloc: Global,

@@ -106,6 +106,7 @@ pub(crate) fn shared_by_three(alloc: Global, store: Store<SilentDisk>) -> Result
 }
 
 /// The store, taken back from all.
+#[tactic(auto, using(shared_steps::proofs::Seeing::none_are_idle))]
 pub(crate) fn finished(run: Run) -> Store<SilentDisk>
     requires { IsRun run }
 {
