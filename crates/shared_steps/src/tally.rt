@@ -12,11 +12,7 @@ fn commits_of(entries: &[Entry], by: u32) -> usize {
 }
 
 /// Adds how many commits there are, and how many each session made.
-pub fn push_tally(
-    out: &mut String,
-    entries: &[Entry],
-    sessions: u32,
-) -> Result<(), AllocError> {
+pub fn push_tally(out: &mut String, entries: &[Entry], sessions: u32) -> Result<(), AllocError> {
     let mut all = 0usize;
     for session in 0..sessions {
         let commits = commits_of(entries, session);

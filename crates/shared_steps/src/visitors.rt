@@ -128,7 +128,13 @@ fn take_step<D: Disk, R: Wait>(
 
 impl<D: Disk> Visitor<D> {
     /// What a step of the session is answered.
-    pub fn answer<R: Wait>(&mut self, rt: &R, alloc: Global, shared: &Shared<D>, step: Step<'_>) -> Answer
+    pub fn answer<R: Wait>(
+        &mut self,
+        rt: &R,
+        alloc: Global,
+        shared: &Shared<D>,
+        step: Step<'_>,
+    ) -> Answer
         requires untold { IsUntold D.moment shared.now }
         requires here { IsVisitor D.moment shared.now self.old }
         ensures { IsVisitor D.moment shared.now self.new }

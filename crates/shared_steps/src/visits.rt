@@ -81,12 +81,7 @@ fn ended<D: Disk, R: Wait>(rt: &R, shared: &Shared<D>, seat: &mut Seat<D>, pinne
 }
 
 /// The pin of a session goes, if it has one.
-pub fn unpin<D: Disk, R: Wait>(
-    rt: &R,
-    shared: &Shared<D>,
-    seat: &mut Seat<D>,
-    held: Hold,
-) -> Answer
+pub fn unpin<D: Disk, R: Wait>(rt: &R, shared: &Shared<D>, seat: &mut Seat<D>, held: Hold) -> Answer
     requires seat { IsSeatOf shared.now seat.old × IsIdle seat.old }
     requires held { IsHeld D.moment shared.now seat.old held }
     ensures seat { IsSeatOf shared.now seat.new × IsIdle seat.new }
