@@ -1,8 +1,8 @@
 //! Pins, unpins and reaps.
-ghost use Rattle.std.specs.Prelude.{◌≡◌, [], ◌∷◌, length, IfOk, IfErr, OnOk, OnErr, IsTrue, Bool, false};
+ghost use Rattle.std.specs.Prelude.{◌≡◌, [], ◌∷◌, length, IfOk, IfErr, OnOk, OnErr, IsTrue, Bool, false, not};
 ghost use Rattle.plan_changes.specs.Databases.{Database};
 ghost use Rattle.plan_changes.specs.Stored.{AreStored};
-ghost use Rattle.event_core.specs.declared.entry.Entry.TheVariants.{Unpin};
+ghost use Rattle.event_core.specs.declared.entry.Entry.TheVariants.{Pin, Unpin};
 ghost use Rattle.event_core.specs.History.{names_at};
 ghost use Rattle.store_ledger.specs.declared.note.NoteKind.{NoteKind};
 ghost use Rattle.store_ledger.specs.Ledger.{has_room, history, is_noted, reap_comes, IsRefused};
@@ -10,8 +10,7 @@ ghost use Rattle.store_state.specs.declared.event.Event.TheVariants.{Entered};
 ghost use Rattle.store_state.specs.Calls.{database_with};
 ghost use Rattle.store_state.specs.Standings.{BeganAs};
 ghost use Rattle.told_stores.specs.Databases.{IsDatabaseOf};
-ghost use Rattle.snapshot_manager.specs.Seats.{ledger_found, ledger_seen, read_count, seen, session_of, start, store_seen};
-ghost use Rattle.snapshot_manager.specs.Seats.{HoldsNone, HoldsPin, IsIdle, IsSameSeat, IsSeatOf};
+ghost use Rattle.snapshot_manager.specs.Seats.{ledger_found, ledger_seen, read_count, seen, session_of, start, store_seen, HoldsNone, HoldsPin, IsIdle, IsSameSeat, IsSeatOf};
 ghost use Rattle.told_stores.specs.Turns.{pin_event, reap_events, Adds};
 
 use crate::seat::Seat;

@@ -93,7 +93,8 @@ fn rows_in(leaf: &Leaf, chunk: Chunk) -> Result<List<Row>, Memory>
     })
 }
 
-fn add_rows(rows: &mut List<Row>, leaf: &Leaf, chunk: Chunk) -> Result<(), Memory>
+/// Adds the rows of a chunk that was read.
+pub fn add_rows(rows: &mut List<Row>, leaf: &Leaf, chunk: Chunk) -> Result<(), Memory>
     requires valid { IsValid leaf.now.schema }
     requires read { IsRead leaf.now.schema chunk }
 {

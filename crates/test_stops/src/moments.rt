@@ -1,11 +1,13 @@
 //! What the images open as that a stop may leave.
+ghost use Rattle.test_stores.specs.Holds.{HasNoPins};
 
+use array_store::Store;
 use cell_values::{Bytes, Memory};
 use std::alloc::{AllocError, Global};
 use store_opening::Limits;
-use test_disks::{QuietDisk, Watch};
+use store_state::ReadFault;
 use test_files::disk_of;
-use test_readings::held_in;
+use test_stores::{QuietDisk, Watch, opened, whole};
 
 /// What a store held before a change, and what it holds with it.
 #[derive(Drop)]
@@ -22,11 +24,32 @@ struct Seen {
     other: bool,
 }
 
+fn read_whole(alloc: Global, store: &mut Store<QuietDisk>) -> Result<Option<Bytes>, Memory>
+    requires { HasNoPins store.old.ledger }
+{
+    match whole(alloc, store) {
+        Ok(text) => Ok(Some(text)),
+        Err(ReadFault::Memory) => Err(Memory),
+        Err(_) => Ok(None),
+    }
+}
+
+fn held_by(alloc: Global, disk: QuietDisk, limits: Limits) -> Result<Option<Bytes>, Memory> {
+    match opened(alloc, disk, limits) {
+        Ok(mut store) => {
+            let text = read_whole(alloc, &mut store);
+            drop(store);
+            text
+        }
+        Err(_) => Ok(None),
+    }
+}
+
 /// All that a file holds as a store; none where it isn't one, or can't be read.
 pub(crate) fn held(alloc: Global, file: Bytes, limits: Limits) -> Result<Option<Bytes>, Memory> {
     let (disk, watch) = QuietDisk::watched(alloc, disk_of(alloc, file, None)?)?;
     drop(watch);
-    held_in(alloc, disk, limits)
+    held_by(alloc, disk, limits)
 }
 
 fn add_text(seen: &mut Seen, versions: &Versions, text: &[u8]) {
