@@ -35,7 +35,7 @@ all_kept : (h : History) (n : ℕ) → n ≡ length h → up_to n h ≡ h
 all_kept h n e = let zero : length h - n ≡ 0 = omega (arith, e) in ap (λ (k : ℕ). drop k h) zero
 
 -- the history about an entry, the newest first
-turned : (front back : List Entry) (entry : Entry) → reverse (front ++ entry ∷ back) ≡ reverse back ++ (entry ∷ reverse front)
+pub turned : (front back : List Entry) (entry : Entry) → reverse (front ++ entry ∷ back) ≡ reverse back ++ (entry ∷ reverse front)
 turned front back entry =
     ap reverse (sym (append_assoc front (entry ∷ []) back))
     ∙ reverse-append (front ++ entry ∷ []) back
