@@ -31,8 +31,8 @@ use Rattle.store_state.specs.Calls.{history_at}
 use Rattle.store_state.specs.Standings.{BeganAs}
 use Rattle.array_store.specs.declared.start.Start.{Start}
 use Rattle.told_stores.specs.Told.{told}
-use Rattle.session_replies.specs.Fresh.{AreLeftSince, FreshChangesAreSaid, IsNamedAt, IsRepliedAgain, IsSaidAgain}
-use Rattle.session_replies.specs.Replies.{names_before, Says, SaysChange}
+use Rattle.session_replies.specs.Fresh.{AreLeftSince, FreshChangesAreSaid, IsNamedAt}
+use Rattle.session_replies.specs.Replies.{Says, SaysChange}
 
 last_holds : (P : List ℕ → Type 0) (xs : List (List ℕ)) (x : List ℕ) → AllByRecursion P (xs ++ x ∷ []) → P x
 last_holds P [] x all = all.0

@@ -1,5 +1,5 @@
 -- Where the entry of an open pin stands.
-use Rattle.std.proofs.Common.{◌≡◌, ◌∙◌, ℕ, zero, suc, Bool, true, false, if◌then◌else◌, nat_eq, List, [], ◌∷◌, ◌++◌, length, reverse, slice_get, Option, None, Some, refl, ap, sym}
+use Rattle.std.proofs.Common.{◌≡◌, ◌∙◌, ℕ, Bool, true, false, if◌then◌else◌, nat_eq, List, [], ◌∷◌, ◌++◌, length, reverse, slice_get, None, Some, refl, ap, sym}
 use Rattle.std.proofs.lemmas.Bool.{eqb-true}
 use Rattle.std.proofs.lemmas.Option.{none-some, same_Some}
 use Rattle.std.proofs.lemmas.List.{length-reverse, reverse-reverse}
@@ -7,11 +7,7 @@ use Rattle.event_core.specs.declared.entry.Entry.{Entry}
 use Rattle.event_core.specs.declared.entry.Entry.TheVariants.{Pin, Unpin, Commit, Reap}
 use Rattle.event_core.specs.History.{History, names_at, pin_before, up_to}
 use Rattle.event_laws.proofs.Pins.{places_tell_pins}
-use Rattle.store_state.specs.declared.event.Event.{Event}
-use Rattle.array_store.specs.declared.start.Start.{Start}
-use Rattle.store_ledger.specs.declared.pinned.Pinned.{Pinned}
-use Rattle.store_ledger.specs.Ledger.{IsOpenPin}
-use Rattle.told_stores.specs.Told.{entries_in, ledger_of}
+use Rattle.told_stores.specs.Told.{entries_in}
 use Rattle.session_replies.specs.Laws.{OpenPinsAreEntered}
 use Rattle.session_replies.proofs.BehindPins.{turned}
 

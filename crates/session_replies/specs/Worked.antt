@@ -1,5 +1,5 @@
 -- What a session is told of a damaged page under its pin, while another removes the array; and what both did.
-use Rattle.std.specs.Prelude.{◌≡◌, List, [], ◌∷◌, ◌++◌, codes}
+use Rattle.std.specs.Prelude.{◌≡◌, ◌++◌, codes}
 use Rattle.plan_changes.specs.declared.change.Change.TheVariants.{Remove}
 use Rattle.told_stores.specs.Worked.{worked_before, worked_others, worked_own, worked_seen, worked_start}
 use Rattle.session_replies.specs.Acts.{acts_for, acts_in, looking, making}
