@@ -1,5 +1,6 @@
 //! The top call.
-ghost use Rattle.std.specs.Prelude.{◌≡◌, ◌≢◌, ◌↔◌, ◌⊎◌, ◌≤◌, ◌+◌, ◌^◌, length, ℕ, Some, None, All, Any, IsSome, IsTrue, IfOk, IfErr, IfSome, MatchResult, [], ◌∷◌, ◌<◌, vec_capacity};
+ghost use Rattle.std.specs.Prelude.{◌≡◌, ◌≢◌, ◌↔◌, ◌⊎◌, ◌≤◌, ◌<◌, ◌+◌, ◌^◌, ℕ, [], ◌∷◌, length, vec_capacity};
+ghost use Rattle.std.specs.Prelude.{Some, None, All, Any, IsSome, IsTrue, IfOk, IfErr, IfSome, MatchResult};
 ghost use Rattle.afl_lexer.specs.Inner.Standing.{StandsAfter};
 ghost use Rattle.std.specs.List.{list_any};
 ghost use Rattle.afl_outside.specs.Counts.{Rose, risen};
@@ -40,8 +41,10 @@ pub fn run<F: Shelf, G: Gate>(alloc: Global, words: &[Arg], shelf: F, _gate: &G)
 
     // Of a session the notice tells its end and its marks.
     ensures session { All (λ r. result.notice ≡ notice_of r.end r.marks) result.sessions }
-    ensures done { result.notice ≡ Notice.Done → device_of words.now ≡ None → Only (λ r. (r.end ≡ SessionEnd.Whole) × All (λ m. m.refusal ≡ None) r.marks) result.sessions }
-    ensures refused { result.notice ≡ Notice.Refused → Only (λ r. (r.end ≡ SessionEnd.Whole) × Any (λ m. IsTrue (is_refusal m.refusal)) r.marks) result.sessions }
+    ensures done { result.notice ≡ Notice.Done → device_of words.now ≡ None
+        → Only (λ r. (r.end ≡ SessionEnd.Whole) × All (λ m. m.refusal ≡ None) r.marks) result.sessions }
+    ensures refused { result.notice ≡ Notice.Refused
+        → Only (λ r. (r.end ≡ SessionEnd.Whole) × Any (λ m. IsTrue (is_refusal m.refusal)) r.marks) result.sessions }
 
     // Before the session a stream fails only where the shelf's count rose, at a name that it hadn't told.
     ensures stream { (session : ℕ) → result.notice ≡ Notice.Stream session → (session ≡ 0) ×
@@ -51,24 +54,29 @@ pub fn run<F: Shelf, G: Gate>(alloc: Global, words: &[Arg], shelf: F, _gate: &G)
 
     // Whatever can be written and was handed out is in a report; with words of no form nothing is touched. A lack of memory before
     // the session is told where nothing was opened, or the shelf found none.
-    ensures handed { (F.state shelf).handed + (length result.sessions + opened result.disk) < 2 ^ 64 → (F.state result.shelf).handed ≡ (F.state shelf).handed + (length result.sessions + opened result.disk) }
+    ensures handed { (F.state shelf).handed + (length result.sessions + opened result.disk) < 2 ^ 64
+        → (F.state result.shelf).handed ≡ (F.state shelf).handed + (length result.sessions + opened result.disk) }
     ensures untouched { (word : ℕ) → result.notice ≡ Notice.Usage word → result.shelf ≡ shelf }
-    ensures memory { result.notice ≡ Notice.Memory → result.sessions ≡ [] → result.disk ≡ None → (result.shelf ≡ shelf) ⊎ Rose (F.state shelf).wants (F.state result.shelf).wants }
+    ensures memory { result.notice ≡ Notice.Memory → result.sessions ≡ [] → result.disk ≡ None
+        → (result.shelf ≡ shelf) ⊎ Rose (F.state shelf).wants (F.state result.shelf).wants }
 
     // Where the shelf tells that it opens both, and no stream's count rose, the script was answered, but for memory.
-    ensures complete { wrong_word words.now ≡ None → device_of words.now ≡ None → IsSome ((F.state shelf).scripts standard) → IsSome ((F.state shelf).replies standard) →
-        All (λ r. (Rose 0 (F.S.state r.source).faults → ⊥) × (Rose 0 (F.K.state r.sink).faults → ⊥)) result.sessions →
-        (result.status ≡ 0) ⊎ ((result.status ≡ 1) ⊎ (result.status ≡ 5)) }
+    ensures complete { wrong_word words.now ≡ None → device_of words.now ≡ None
+        → IsSome ((F.state shelf).scripts standard) → IsSome ((F.state shelf).replies standard)
+        → All (λ r. (Rose 0 (F.S.state r.source).faults → ⊥) × (Rose 0 (F.K.state r.sink).faults → ⊥)) result.sessions
+        → (result.status ≡ 0) ⊎ ((result.status ≡ 1) ⊎ (result.status ≡ 5)) }
 
     // `init` alone opens a device, with the name that the words give, and nothing else.
-    ensures device { IfSome result.disk (λ disk. IfSome (device_of words.now) (λ name. IsOpenedDevice name (F.state shelf) (F.Device.moment disk).state)) }
+    ensures device { IfSome result.disk (λ disk. IfSome (device_of words.now)
+        (λ name. IsOpenedDevice name (F.state shelf) (F.Device.moment disk).state)) }
     ensures no_device { device_of words.now ≡ None → result.disk ≡ None }
     ensures no_stream { IsSome (device_of words.now) → result.sessions ≡ [] }
     ensures others { wrong_word words.now ≡ None → IfSome (device_of words.now) (λ name. LeavesOthers name (F.state shelf) (F.state result.shelf)) }
 
     // Then the notice tells of the device: it was empty and is a database, or its count or that of the shelf rose, or it had a length.
     ensures init { IfSome result.disk (λ disk. TellsDevice result.notice (F.Device.moment disk)) }
-    ensures unopened { wrong_word words.now ≡ None → result.disk ≡ None → IfSome (device_of words.now) (λ name. TellsNoDevice result.notice name (F.state shelf) (F.state result.shelf)) }
+    ensures unopened { wrong_word words.now ≡ None → result.disk ≡ None
+        → IfSome (device_of words.now) (λ name. TellsNoDevice result.notice name (F.state shelf) (F.state result.shelf)) }
     ensures disk { result.notice ≡ Notice.Disk → IsSome (device_of words.now) }
     ensures not_empty { (count : ℕ) → result.notice ≡ Notice.NotEmpty count → IsSome result.disk }
 
@@ -195,7 +203,8 @@ fn run_try<F: Shelf>(alloc: Global, shelf: F) -> Report<F>
         ⊎ ((result.notice ≡ Notice.Stream 0) × IsUnopened standard (F.state shelf) (F.state result.shelf)))) }
     ensures disk { result.disk ≡ None }
     ensures later { (F.state shelf).faults ≤ (F.state result.shelf).faults }
-    ensures handed { (F.state shelf).handed + length result.sessions < 2 ^ 64 → (F.state result.shelf).handed ≡ (F.state shelf).handed + length result.sessions }
+    ensures handed { (F.state shelf).handed + length result.sessions < 2 ^ 64
+        → (F.state result.shelf).handed ≡ (F.state shelf).handed + length result.sessions }
     ensures memory { result.notice ≡ Notice.Memory → result.sessions ≡ [] → (result.shelf ≡ shelf) ⊎ Rose (F.state shelf).wants (F.state result.shelf).wants }
 {
     match room(alloc) {

@@ -1,5 +1,5 @@
 //! Chunks of a store, under a pin and now.
-ghost use Rattle.std.specs.Prelude.{◌≡◌, ◌≢◌, ℕ, length, Err, IfOk, IfErr, IsTrue};
+ghost use Rattle.std.specs.Prelude.{◌≡◌, ◌≢◌, ℕ, List, length, Err, IfOk, IfErr, IsTrue};
 ghost use Rattle.array_geom.specs.Link.{NumbersRise};
 ghost use Rattle.chunk_source.specs.Source.{numbers_of, is_among, AreNumbersIn, IsChunkIn, IsStored};
 ghost use Rattle.page_chain.specs.Inner.Runs.{OnlyReads};
@@ -8,8 +8,9 @@ ghost use Rattle.event_core.specs.Allowed.{is_pinned};
 ghost use Rattle.event_core.specs.Cells.{at};
 ghost use Rattle.event_core.specs.History.{names_at};
 ghost use Rattle.store_ledger.specs.Ledger.{IsOpenPin, history};
-ghost use Rattle.store_state.specs.At.{standing};
+ghost use Rattle.store_state.specs.At.{keeping, standing};
 ghost use Rattle.store_state.specs.Calls.{chunks_at, database_with, history_at, payload_at, IsLeafOf, IsUnread, NotesFault};
+ghost use Rattle.store_state.specs.Payloads.{HasTold, WasDamagedAt};
 ghost use Rattle.store_state.specs.Standings.{database_at, BeganAs};
 ghost use Rattle.store_state.specs.declared.fault.ReadFault.TheVariants.{Damaged};
 ghost use Rattle.array_store.specs.Growth.{AddsFault};
@@ -67,11 +68,14 @@ impl<D: Disk> Store<D> {
         ensures told { IfOk result (λ chunk. (db : Database) → BeganAs (D.moment self.old.opened.value.disk).state db
             → IsChunkIn (rows_of (database_with db (standing D.moment self.old) pinned.now.place)) leaf.now chunk) }
         ensures whole { (db : Database) (page : ℕ) → BeganAs (D.moment self.old.opened.value.disk).state db → result ≢ Err (Damaged page) }
+        ensures damaged { (page : ℕ) (file : List ℕ) → result ≡ Err (Damaged page) → HasTold (D.moment self.old.opened.value.disk).state file
+            → WasDamagedAt page (standing D.moment self.old).first file leaf.now.schema }
         ensures cause { IfErr result (IsUnread (D.moment self.old.file.disk).state (D.moment self.new.file.disk).state leaf.now.schema
             (payload_at (standing D.moment self.old) pinned.now.place leaf.now at.now)) }
         ensures notes { NotesFault (D.moment self.old.file.disk).state (D.moment self.new.file.disk).state pinned.now.session self.old.ledger self.new.ledger }
         ensures adds { AddsFault D.moment pinned.now.session (standing D.moment self.old) (standing D.moment self.new) }
         ensures same { standing D.moment self.new ≡ record (standing D.moment self.old) { disk = self.new.file.disk; ledger = self.new.ledger } }
+        ensures kept { keeping self.new ≡ keeping self.old }
         ensures reads { OnlyReads (D.moment self.old.file.disk) (D.moment self.new.file.disk) }
     {
         read_chunk(alloc, &mut self.parts, pinned, leaf, at)
@@ -92,11 +96,14 @@ impl<D: Disk> Store<D> {
         ensures told { IfOk result (λ chunk. (db : Database) → BeganAs (D.moment self.old.opened.value.disk).state db
             → IsChunkIn (rows_of (database_at db (standing D.moment self.old))) leaf.now chunk) }
         ensures whole { (db : Database) (page : ℕ) → BeganAs (D.moment self.old.opened.value.disk).state db → result ≢ Err (Damaged page) }
+        ensures damaged { (page : ℕ) (file : List ℕ) → result ≡ Err (Damaged page) → HasTold (D.moment self.old.opened.value.disk).state file
+            → WasDamagedAt page (standing D.moment self.old).first file leaf.now.schema }
         ensures cause { IfErr result (IsUnread (D.moment self.old.file.disk).state (D.moment self.new.file.disk).state leaf.now.schema
             (payload_at (standing D.moment self.old) (length self.old.ledger.entries) leaf.now at.now)) }
         ensures notes { NotesFault (D.moment self.old.file.disk).state (D.moment self.new.file.disk).state session self.old.ledger self.new.ledger }
         ensures adds { AddsFault D.moment session (standing D.moment self.old) (standing D.moment self.new) }
         ensures same { standing D.moment self.new ≡ record (standing D.moment self.old) { disk = self.new.file.disk; ledger = self.new.ledger } }
+        ensures kept { keeping self.new ≡ keeping self.old }
         ensures reads { OnlyReads (D.moment self.old.file.disk) (D.moment self.new.file.disk) }
     {
         read_now(alloc, &mut self.parts, session, leaf, at)

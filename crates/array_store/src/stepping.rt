@@ -6,7 +6,8 @@ ghost use Rattle.event_core.specs.History.{names_at};
 ghost use Rattle.store_ledger.specs.declared.note.NoteKind.{NoteKind};
 ghost use Rattle.store_ledger.specs.Ledger.{IsOpenPin, IsRefused, has_room, history, is_noted, reap_comes};
 ghost use Rattle.store_state.specs.declared.event.Event.TheVariants.{Entered};
-ghost use Rattle.store_state.specs.At.{standing};
+ghost use Rattle.store_versions.specs.Rows.{needed_rows, places_at};
+ghost use Rattle.store_state.specs.At.{keeping, standing};
 ghost use Rattle.store_state.specs.Standings.{with_entries};
 ghost use Rattle.array_store.specs.Growth.{AddsEvents};
 
@@ -31,6 +32,7 @@ impl<D: Disk> Store<D> {
         }) }
         ensures open { IfOk result (λ pinned. IsOpenPin self.new.ledger pinned) }
         ensures untried { OnOk result ((kinds : NoteKind → Bool) → is_noted kinds self.new.ledger session ≡ false) }
+        ensures kept { keeping self.new ≡ keeping self.old }
         ensures err { OnErr result (standing D.moment self.new ≡ standing D.moment self.old) }
         ensures cause { IfErr result (IsRefused self.old.ledger) }
     {
@@ -43,6 +45,7 @@ impl<D: Disk> Store<D> {
         requires open { IsOpenPin self.old.ledger pinned }
         ensures unpinned { standing D.moment self.new ≡ with_entries (Unpin pinned.session ∷ []) (standing D.moment self.old) }
         ensures adds { AddsEvents (Entered (Unpin pinned.session) ∷ []) (standing D.moment self.old) (standing D.moment self.new) }
+        ensures kept { keeping self.new ≡ record (keeping self.old) { rows = needed_rows (places_at (history self.new.ledger)) self.old.table.rows } }
     {
         is_ledger(&self.parts.ledger);
         unpin(&mut self.parts, pinned);
@@ -54,6 +57,7 @@ impl<D: Disk> Store<D> {
         ensures ok { IfOk result (λ comes. standing D.moment self.new ≡
             (if comes then with_entries (Reap ∷ []) (standing D.moment self.old) else standing D.moment self.old)) }
         ensures adds { IfOk result (λ comes. AddsEvents (if comes then Entered Reap ∷ [] else []) (standing D.moment self.old) (standing D.moment self.new)) }
+        ensures kept { keeping self.new ≡ keeping self.old }
         ensures err { OnErr result (standing D.moment self.new ≡ standing D.moment self.old) }
     {
         is_ledger(&self.parts.ledger);

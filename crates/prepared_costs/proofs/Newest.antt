@@ -40,16 +40,20 @@ same_name a b e = (bytes_eq-Decides a b).0 e
 empty_is : (schema : Schema) → IsDirectoryOf schema (record { entries = [] })
 empty_is schema = record { spelled = record { count = omega arith; each = tt; rising = tt }; cores = tt }
 
-newest_is_of : (names : Names) (versions : List MadeVersion) (name : List ℕ) (n : ℕ) (entry : NameEntry) → AreDirectoriesOf names versions → entry_named names.arrays name ≡ Some entry
-    → IsDirectoryOf entry.schema (or_empty (directory_of name n versions))
-newest_is_of names versions name n entry all named = by_found (find (is_numbered name n) versions) refl
+-- R holds of each version's directory and its array's schema
+abbrev pub EachSuits : (Schema → Directory → Type 0) → Names → List MadeVersion → Type 0
+EachSuits R names versions = AllByRecursion (λ v. IfSome (entry_named names.arrays v.name) (λ entry. R entry.schema v.directory)) versions
+
+newest_is_of : (R : Schema → Directory → Type 0) → ((schema : Schema) → R schema (record { entries = [] })) → (names : Names) (versions : List MadeVersion) (name : List ℕ) (n : ℕ) (entry : NameEntry)
+    → EachSuits R names versions → entry_named names.arrays name ≡ Some entry → R entry.schema (or_empty (directory_of name n versions))
+newest_is_of R empty names versions name n entry all named = by_found (find (is_numbered name n) versions) refl
   where
-    by_found : (o : Option MadeVersion) → find (is_numbered name n) versions ≡ o → IsDirectoryOf entry.schema (or_empty (option_map (λ v. v.directory) o))
-    by_found None e = empty_is entry.schema
+    by_found : (o : Option MadeVersion) → find (is_numbered name n) versions ≡ o → R entry.schema (or_empty (option_map (λ v. v.directory) o))
+    by_found None e = empty entry.schema
     by_found (Some v) e =
-        let f = found_in_all (λ (w : MadeVersion). IfSome (entry_named names.arrays w.name) (λ entry. IsDirectoryOf entry.schema w.directory)) (is_numbered name n) versions v all e in
+        let f = found_in_all (λ (w : MadeVersion). IfSome (entry_named names.arrays w.name) (λ entry. R entry.schema w.directory)) (is_numbered name n) versions v all e in
         let both = and_parts (bytes_eq v.name name) (nat_eq v.version n) f.passes in
-        subst (λ (o : Option NameEntry). IfSome o (λ entry. IsDirectoryOf entry.schema v.directory)) (ap (entry_named names.arrays) (same_name v.name name both.0) ∙ named) f.holds
+        subst (λ (o : Option NameEntry). IfSome o (λ entry. R entry.schema v.directory)) (ap (entry_named names.arrays) (same_name v.name name both.0) ∙ named) f.holds
 
 some_passes : {A : Type 0} (t : A → Bool) (xs : List A) (x : A) → find t xs ≡ Some x → list_any t xs ≡ true
 some_passes t [] x e = absurd cc
@@ -67,17 +71,23 @@ array_of names versions name n v have e =
     any_found (is_named name) names.arrays
     (any_weaker (λ (entry : NameEntry). is_named name entry && holds entry.versions n) (is_named name) (λ entry both. (and_parts (is_named name entry) (holds entry.versions n) both).0) names.arrays can)
 
--- it is one of a schema that is that of its array, if that stands
-pub newest_fits : (names : Names) (versions : List MadeVersion) (name : List ℕ) (n : ℕ) (schema : Schema) → HaveDirectories names versions → AreDirectoriesOf names versions
-    → ((entry : NameEntry) → entry_named names.arrays name ≡ Some entry → entry.schema ≡ schema) → IsDirectoryOf schema (or_empty (directory_of name n versions))
-newest_fits names versions name n schema have all own = by_found (find (is_numbered name n) versions) refl
+-- so it does of the newest one's, with a schema that is that of its array, if that stands
+pub newest_suits : (R : Schema → Directory → Type 0) → ((schema : Schema) → R schema (record { entries = [] })) → (names : Names) (versions : List MadeVersion) (name : List ℕ) (n : ℕ) (schema : Schema)
+    → HaveDirectories names versions → EachSuits R names versions → ((entry : NameEntry) → entry_named names.arrays name ≡ Some entry → entry.schema ≡ schema)
+    → R schema (or_empty (directory_of name n versions))
+newest_suits R empty names versions name n schema have all own = by_found (find (is_numbered name n) versions) refl
   where
-    by_found : (o : Option MadeVersion) → find (is_numbered name n) versions ≡ o → IsDirectoryOf schema (or_empty (option_map (λ v. v.directory) o))
-    by_found None e = empty_is schema
+    by_found : (o : Option MadeVersion) → find (is_numbered name n) versions ≡ o → R schema (or_empty (option_map (λ v. v.directory) o))
+    by_found None e = empty schema
     by_found (Some v) e =
         let entry = array_of names versions name n v have e in
-        subst (λ (o : Option MadeVersion). IsDirectoryOf schema (or_empty (option_map (λ v. v.directory) o))) e
-        (subst (λ (schema : Schema). IsDirectoryOf schema (or_empty (directory_of name n versions))) (own entry.0 entry.1) (newest_is_of names versions name n entry.0 all entry.1))
+        subst (λ (o : Option MadeVersion). R schema (or_empty (option_map (λ v. v.directory) o))) e
+        (subst (λ (schema : Schema). R schema (or_empty (directory_of name n versions))) (own entry.0 entry.1) (newest_is_of R empty names versions name n entry.0 all entry.1))
+
+-- it is a directory of its array's schema
+pub newest_fits : (names : Names) (versions : List MadeVersion) (name : List ℕ) (n : ℕ) (schema : Schema) → HaveDirectories names versions → AreDirectoriesOf names versions
+    → ((entry : NameEntry) → entry_named names.arrays name ≡ Some entry → entry.schema ≡ schema) → IsDirectoryOf schema (or_empty (directory_of name n versions))
+newest_fits names versions name n schema have all own = newest_suits IsDirectoryOf empty_is names versions name n schema have all own
 
 -- its entries rise, also where nothing is known of its array
 pub newest_rises : (names : Names) (versions : List MadeVersion) (name : List ℕ) (n : ℕ) → HaveDirectories names versions → AreDirectoriesOf names versions → AreRising (or_empty (directory_of name n versions)).entries
@@ -87,7 +97,7 @@ newest_rises names versions name n have all = by_found (find (is_numbered name n
     by_found None e = tt
     by_found (Some v) e =
         let entry = array_of names versions name n v have e in
-        subst (λ (o : Option MadeVersion). AreRising (or_empty (option_map (λ v. v.directory) o)).entries) e (newest_is_of names versions name n entry.0 all entry.1).spelled.rising
+        subst (λ (o : Option MadeVersion). AreRising (or_empty (option_map (λ v. v.directory) o)).entries) e (newest_is_of IsDirectoryOf empty_is names versions name n entry.0 all entry.1).spelled.rising
 
 -- ---- its pages
 

@@ -10,6 +10,7 @@ use array_store::Store;
 use cell_values::{List, Memory};
 use reap_bell::Bell;
 use std::alloc::Global;
+use told_stores::let_go_all;
 use turn_lock::{TurnLock, TurnSeat};
 
 impl<D: Disk> Shared<D> {
@@ -62,14 +63,21 @@ impl<D: Disk> Shared<D> {
         let count = turn_seats.len();
         for _ in 0..count {
             let turn_seat = turn_seats.remove(0);
-            room.push_reserved(Seat {
-                turn_seat,
-                entries: 0,
-                last: 0,
-                reads: 0,
-            });
+            room.push_reserved(first_seat(turn_seat));
         }
-        drop(turn_seats);
+        let_go_all(turn_seats);
         List::from_vec(room)
+    }
+}
+
+/// The seat of a session that has done nothing yet.
+fn first_seat<D: Disk>(turn_seat: TurnSeat<Store<D>>) -> Seat<D>
+    ensures { result ≡ record { turn_seat = turn_seat; entries = 0; last = 0; reads = 0 } }
+{
+    Seat {
+        turn_seat,
+        entries: 0,
+        last: 0,
+        reads: 0,
     }
 }

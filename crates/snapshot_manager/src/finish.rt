@@ -19,11 +19,11 @@ impl<D: Disk> Shared<D> {
         ensures start { start_of (standing D.moment result) ≡ start D.moment self }
         ensures events { ExtendEach seats (events (standing D.moment result)) }
     {
-        let Shared { lock, bell: _ } = self;
+        let Shared { lock, bell } = self;
+        drop(bell);
         let mut closing = lock.closing();
         while let Some(last) = seats.pop() {
-            let Seat { turn_seat, .. } = last;
-            closing.take_back(turn_seat);
+            closing.take_back(last.into_turn_seat());
         }
         drop(seats);
         closing.end()

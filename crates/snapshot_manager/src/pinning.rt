@@ -1,11 +1,16 @@
 //! Pins, unpins and reaps.
 ghost use Rattle.std.specs.Prelude.{◌≡◌, [], ◌∷◌, length, IfOk, IfErr, OnOk, OnErr, IsTrue, Bool, false, not};
+ghost use Rattle.plan_changes.specs.Databases.{Database};
+ghost use Rattle.plan_changes.specs.Stored.{AreStored};
 ghost use Rattle.event_core.specs.declared.entry.Entry.TheVariants.{Pin, Unpin};
 ghost use Rattle.event_core.specs.History.{names_at};
 ghost use Rattle.store_ledger.specs.declared.note.NoteKind.{NoteKind};
 ghost use Rattle.store_ledger.specs.Ledger.{has_room, history, is_noted, reap_comes, IsRefused};
 ghost use Rattle.store_state.specs.declared.event.Event.TheVariants.{Entered};
-ghost use Rattle.snapshot_manager.specs.Seats.{ledger_found, ledger_seen, read_count, seen, session_of, HoldsNone, HoldsPin, IsIdle, IsSameSeat, IsSeatOf};
+ghost use Rattle.store_state.specs.Calls.{database_with};
+ghost use Rattle.store_state.specs.Standings.{BeganAs};
+ghost use Rattle.told_stores.specs.Databases.{IsDatabaseOf};
+ghost use Rattle.snapshot_manager.specs.Seats.{ledger_found, ledger_seen, read_count, seen, session_of, start, store_seen, HoldsNone, HoldsPin, IsIdle, IsSameSeat, IsSeatOf};
 ghost use Rattle.told_stores.specs.Turns.{pin_event, reap_events, Adds};
 
 use crate::seat::Seat;
@@ -28,6 +33,9 @@ impl<D: Disk> Shared<D> {
             pinned ≡ record { session = session_of seat.old; place = length found.entries; names = names_at found.base (history found) }) }
         ensures room { OnOk result (IsTrue (has_room (ledger_found D.moment self.now (pin_event (session_of seat.old) ∷ []) seat.new) 4)) }
         ensures open { IfOk result (λ pinned. HoldsPin D.moment self.now seat.new pinned) }
+        ensures stored { IfOk result (λ pinned. AreStored pinned.names) }
+        ensures database { IfOk result (λ pinned. (db : Database) → BeganAs (D.moment (start D.moment self.now).opened.disk).state db
+            → IsDatabaseOf (database_with db (store_seen D.moment self.now seat.new) pinned.place) pinned.names) }
         ensures untried { OnOk result ((kinds : NoteKind → Bool) → is_noted kinds (ledger_seen D.moment self.now seat.new) (session_of seat.old) ≡ false) }
         ensures err { OnErr result (Adds (session_of seat.old) [] (seen seat.old) (seen seat.new)) }
         ensures none { OnErr result (HoldsNone D.moment self.now seat.new) }

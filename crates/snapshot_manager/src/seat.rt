@@ -4,16 +4,28 @@ ghost use Rattle.snapshot_manager.specs.Seats.{entry_count, last_place, read_cou
 
 use afl_outside::Disk;
 use array_store::Store;
+use told_stores::let_go;
 use turn_lock::TurnSeat;
 
 /// A seat, for one thread at a time.
-#[derive(Drop)]
 pub struct Seat<D: Disk> {
     pub(crate) turn_seat: TurnSeat<Store<D>>,
     /// How many of the events that it has seen are entries.
     pub(crate) entries: u64,
     pub(crate) last: u64,
     pub(crate) reads: u64,
+}
+
+impl<D: Disk> Drop for Seat<D> {
+    fn drop(self) {
+        let Seat {
+            turn_seat,
+            entries: _,
+            last: _,
+            reads: _,
+        } = self;
+        let_go(turn_seat);
+    }
 }
 
 impl<D: Disk> Seat<D> {
@@ -43,6 +55,19 @@ impl<D: Disk> Seat<D> {
         ensures { self.new ≡ with_last place self.old }
     {
         self.last = place;
+    }
+
+    // Its seat at the lock.
+    pub(crate) fn into_turn_seat(self) -> TurnSeat<Store<D>>
+        ensures { result ≡ self.turn_seat }
+    {
+        let Seat {
+            turn_seat,
+            entries: _,
+            last: _,
+            reads: _,
+        } = self;
+        turn_seat
     }
 
     /// How many chunks were asked for with it, up to the last value of a `u64`.

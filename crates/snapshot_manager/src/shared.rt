@@ -5,8 +5,7 @@ use array_store::Store;
 use reap_bell::Bell;
 use turn_lock::{Turn, TurnLock};
 
-/// A store behind a turn lock, and the bell of its reaper.
-#[derive(Drop)]
+/// A store behind a turn lock, and the bell of its reaper. It can't be dropped: `finish` hands the store back.
 pub struct Shared<D: Disk> {
     pub(crate) lock: TurnLock<Store<D>>,
     pub(crate) bell: Bell,

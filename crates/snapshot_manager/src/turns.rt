@@ -1,7 +1,7 @@
 //! Turns of the store.
 ghost use Rattle.std.specs.Prelude.{◌≡◌, []};
 ghost use Rattle.turn_lock.specs.Owners.{ExtendsByOwn};
-ghost use Rattle.store_state.specs.At.{standing};
+ghost use Rattle.store_state.specs.At.{AreParts, standing};
 ghost use Rattle.store_state.specs.Events.{events, owner_of};
 ghost use Rattle.array_store.specs.Starts.{start_of};
 ghost use Rattle.snapshot_manager.specs.Seats.{read_count, seen, session_of, start, store_of, HasTurn, IsIdle, IsSameSeat, IsSeatOf};
@@ -43,6 +43,7 @@ impl<D: Disk> Shared<D> {
         ensures reads { read_count seat.new ≡ read_count seat.old }
         ensures seen { seen seat.new ≡ events (standing D.moment (store_of turn)) }
         ensures told { IsTold (start D.moment self.now) (seen seat.new) (standing D.moment (store_of turn)) }
+        ensures at { AreParts D.moment (store_of turn) }
     {
         let store = turn.value();
         store.is_at();

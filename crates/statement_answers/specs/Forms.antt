@@ -53,5 +53,5 @@ FormsStay = (a b : Names) (text : List ℕ) (tree : Term) (x y : Typed) → chec
 
 -- a tree of a change that has a reply alone is refused
 abbrev pub ChangesReplyRefusals : Type 0
-ChangesReplyRefusals = (names : Names) (text : List ℕ) (tree : Term) (reply : Reply) → form_said tree ≡ a_change → HasOutcomeKind names (check_of tree text names) (Replied reply)
-    → (refusal : Refusal) × (reply ≡ refused refusal)
+ChangesReplyRefusals = (names : Names) (text : List ℕ) (tree : Term) (reply : Reply) → form_said tree ≡ a_change
+    → HasOutcomeKind names (check_of tree text names) (Replied reply) → (refusal : Refusal) × (reply ≡ refused refusal)

@@ -37,7 +37,8 @@ pub record MayBeCommitted (names : Names) (change : Change) (changed : Option Ch
 -- a statement is answered without a change, as its kind is, or it is this change, with the reply to one that is accepted
 abbrev pub HasOutcomeKind : Names → Checked Typed → Outcome → Type 0
 HasOutcomeKind names checked (Replied reply) = HasStatementKind names checked (without_change reply)
-HasOutcomeKind names checked (Changes change changed reply) = (checked ≡ Ok (AChange change)) × MayBeCommitted names change changed × (reply ≡ change_reply names change)
+HasOutcomeKind names checked (Changes change changed reply) =
+    (checked ≡ Ok (AChange change)) × MayBeCommitted names change changed × (reply ≡ change_reply names change)
 
 -- ---- what a database tells
 

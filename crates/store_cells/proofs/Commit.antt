@@ -3,20 +3,15 @@ use Rattle.std.proofs.Common.{◌≡◌, ◌∙◌, ℕ, ◌+◌, ◌<◌, ◌^�
 use Rattle.std.specs.Prelude.{Ok}
 use Rattle.std.specs.List.{AllByRecursion, AllZip}
 use Rattle.afl_outside.specs.Disk.{Moment}
-use Rattle.cell_values.specs.declared.schema.Schema.{Schema}
 use Rattle.array_geom.specs.declared.chunk.Changed.{Changed}
 use Rattle.page_chain.specs.Pages.{AreDistinct}
-use Rattle.page_slots.specs.Standing.{target_page}
-use Rattle.page_slots.specs.declared.slots.Target.{Target}
 use Rattle.chunk_map.specs.declared.directory.Directory.{Directory}
-use Rattle.logical_plan.specs.declared.names.NameEntry.{NameEntry}
 use Rattle.logical_plan.specs.declared.names.Names.{Names}
 use Rattle.plan_changes.specs.declared.change.Change.{Change}
-use Rattle.plan_changes.specs.declared.change.Change.TheVariants.{Create, Store, Insert, Remove, RemoveVersions}
-use Rattle.plan_changes.specs.Changes.{entry_named, name_of, newest_of}
+use Rattle.plan_changes.specs.Changes.{name_of, newest_of}
 use Rattle.plan_changes.specs.Databases.{Database, names_of}
 use Rattle.plan_changes.proofs.NamesOf.{names_depend_on_no_row}
-use Rattle.plan_changes.specs.Typed.{FitsInto, IsTypedFor}
+use Rattle.plan_changes.specs.Typed.{IsTypedFor}
 use Rattle.version_catalog.specs.declared.rules.catalog.Catalog.{Catalog}
 use Rattle.version_catalog.specs.Catalogs.{IsCatalog, names_in}
 use Rattle.version_reaper.specs.PageSets.{holds}
@@ -28,7 +23,6 @@ use Rattle.event_core.specs.History.{History, catalogue_at, names_at, pages_at}
 use Rattle.event_core.specs.Legal.{BeginsAt, Cost, IsLegal}
 use Rattle.event_core.specs.Pages.{free_at, is_live}
 use Rattle.event_laws.proofs.Cells.{names_are_of_the_database}
-use Rattle.event_laws.proofs.Legal.{ordered_is_allowed}
 use Rattle.file_meaning.specs.Opening.{found_in, pages_of, sequence_of}
 use Rattle.file_meaning.specs.Standing.{HoldsDatabase}
 use Rattle.next_files.specs.Premises.{StandsBy, row_of}
@@ -56,14 +50,10 @@ use Rattle.prepared_commits.specs.Needs.{IsLaidBy, all_pages, newest_now, next_s
 use Rattle.prepared_commits.specs.Prepared.{MayBeMade}
 use Rattle.prepared_costs.proofs.Newest.{newest_fits, newest_is_last}
 use Rattle.store_steps.specs.Laws.{IsReady}
-use Rattle.store_cells.specs.Moves.{own_pages, slot_page}
 use Rattle.store_cells.proofs.Over.{IsLaidIn, IsOver, Over, target_of}
-use Rattle.store_cells.proofs.Pages.{are_free, base_all, log_live, record_all, unnamed}
+use Rattle.store_cells.proofs.Own.{begins as ready_begins, its_schema, laid_is, laid_of, own_unnamed, page_is}
+use Rattle.store_cells.proofs.Pages.{are_free, log_live}
 use Rattle.store_cells.proofs.Rest.{Rest}
-
--- what is laid, of what is prepared
-abbrev pub laid_of : Prepared → Laid → Laid
-laid_of p laid = record { blobs = p.blobs; chain = p.chain; directory = laid.directory; at = laid.at; catalog = p.catalog; used = p.commit.used }
 
 -- a legal history begins at a base of the database
 starts : (cost : Cost) (db : Database) (base : Core) (h : History) → IsLegal cost db base h → BeginsAt db base
@@ -124,18 +114,8 @@ module _ (rest : Rest) {D : Type 0} (moment : D → Moment) (s : Standing D) (k 
     laid = laid_of p ready.laid;
   }
 
-  laid_is : laid_of p ready.laid ≡ ready.laid
-  laid_is = λ i. record {
-    blobs = ready.is_laid.blobs i;
-    chain = ready.is_laid.chain i;
-    directory = ready.laid.directory;
-    at = ready.laid.at;
-    catalog = ready.is_laid.catalog i;
-    used = ready.is_laid.used i;
-  }
-
   pub begins : IsBase core × IsTrue (is_allowed core h)
-  begins = ordered_is_allowed core h kept.in_order.ordered
+  begins = ready_begins moment s k p ready
 
   -- ---- the newest version
 
@@ -153,25 +133,14 @@ module _ (rest : Rest) {D : Type 0} (moment : D → Moment) (s : Standing D) (k 
       ∙ ap (λ (catalog : Catalog). last_of_row (row_of name (names_in catalog).arrays (directories_in k.catalog versions))) (sym cells.is_found.catalog)
       ∙ ap (λ (rows : List (List Directory)). last_of_row (row_of name (names_in cells.found.catalog).arrays rows)) (sym cells.is_found.directories)
 
-  of_schema : (other : Change) → change ≡ other → (schema : Schema) → ((entry : NameEntry) → entry_named (names_at core h).arrays (name_of other) ≡ Some entry → entry.schema ≡ schema)
-      → IsDirectoryOf schema newest
-  of_schema other is schema own =
-      newest_fits (names_at core h) versions (name_of change) (newest_of (names_at core h).arrays (name_of change)) schema have kept.versions.now
-      (λ entry named. own entry (ap (λ (c : Change). entry_named (names_at core h).arrays (name_of c)) (sym is) ∙ named))
-
-  of_chunks : (other : Change) → change ≡ other → (some : Changed) → IsTypedFor (names_at core h) other → ComesWith other (Some some) → IsDirectoryOf some.schema newest
-  of_chunks (Create name schema) is some typed comes = absurd cc
-  of_chunks (Store name schema plan) is some typed comes = of_schema (Store name schema plan) is some.schema
-      (λ entry named. let fits : FitsInto (Some entry) schema plan = subst (λ (o : Option NameEntry). FitsInto o schema plan) named typed.1.1 in sym fits.0 ∙ sym comes.0)
-  of_chunks (Insert name schema plan) is some typed comes = of_schema (Insert name schema plan) is some.schema
-      (λ entry named. let fits : FitsInto (Some entry) schema plan = subst (λ (o : Option NameEntry). FitsInto o schema plan) named typed.1.1 in sym fits.0 ∙ sym comes.0)
-  of_chunks (Remove name) is some typed comes = absurd cc
-  of_chunks (RemoveVersions name below) is some typed comes = absurd cc
+  of_chunks : (some : Changed) → ComesWith change (Some some) → IsDirectoryOf some.schema newest
+  of_chunks some comes =
+      newest_fits (names_at core h) versions (name_of change) (newest_of (names_at core h).arrays (name_of change)) some.schema have kept.versions.now (its_schema (names_at core h) change some ready.asked.typed comes)
 
   part : (changed : Option Changed) → ComesWith change changed → IfSome changed (λ some. some.whole ≡ false → IsNewestIn cells.found change some.schema newest)
   part None comes = tt
   part (Some some) comes = λ whole.
-      let d : IsDirectoryOf some.schema newest = of_chunks change refl some ready.asked.typed comes in
+      let d : IsDirectoryOf some.schema newest = of_chunks some comes in
       record { is = is_in; rules = d.spelled; cores = d.cores }
 
   -- ---- over an image
@@ -215,16 +184,6 @@ module _ (rest : Rest) {D : Type 0} (moment : D → Moment) (s : Standing D) (k 
   target_is None is = is.target
   target_is (Some base) is = is.target
 
-  page_is : (o : Option NewBase) → LaidBy o → slot_page o k.slots ≡ target_page k.slots.target k.slots
-  page_is None is = ap (λ (target : Target). target_page target k.slots) (sym is.target)
-  page_is (Some base) is = ap (λ (target : Target). target_page target k.slots) (sym is.target)
-
-  own_is : (o : Option NewBase) → LaidBy o → own_pages o p.blobs p.chain ≡ all_pages ready.pages o
-  own_is None is =
-      record_all k.catalog (catalogue_at core h) newest change ready.changed (next_sequence s) ready.pages (laid_of p ready.laid) ready.asked.comes ready.asked.valid is.enough (laid_is ∙ is.is)
-  own_is (Some base) is = ap (λ (pages : List ℕ). pages ++ base.log ∷ [])
-      (base_all k.catalog newest change ready.changed (next_sequence s) ready.pages base.log (laid_of p ready.laid) ready.asked.valid is.enough (laid_is ∙ is.is))
-
   live : AllByRecursion (λ q. IsTrue (is_live core h q)) (pages_of cells.found)
   live = found_live core h (given_of s) k.catalog k.slots.current.root.log cells.found cells.is_found
 
@@ -235,7 +194,7 @@ module _ (rest : Rest) {D : Type 0} (moment : D → Moment) (s : Standing D) (k 
     few = ready.is_laid.few;
     free = are_free core h begins.0 begins.1 (k.slots.current.root.log ∷ pages_of cells.found) ready.pages ready.may_come.limit
         (log_live core h k.slots.current.root.log kept.slots.log, live) free distinct;
-    is = laid_is ∙ is.is
+    is = laid_is moment s k p ready ∙ is.is
         ∙ ap (λ (n : ℕ). record_laid k.catalog (catalogue_at core h) newest change (draft_of n ready.changed) ready.pages) sequence_is
         ∙ ap (λ (c : Catalog). record_laid c (catalogue_at core h) newest change (draft_of (sequence_of (current_slots k.slots) + 1) ready.changed) ready.pages) (sym cells.is_found.catalog);
   }
@@ -245,7 +204,7 @@ module _ (rest : Rest) {D : Type 0} (moment : D → Moment) (s : Standing D) (k 
           (subst (λ (n : ℕ). length ready.pages ≡ base_needs k.catalog newest change (draft_of n ready.changed)) sequence_is is.enough);
       few = ready.is_laid.few;
       free = are_free core h begins.0 begins.1 (pages_of cells.found) (ready.pages ++ base.log ∷ []) ready.may_come.limit live free distinct;
-      is = laid_is ∙ is.is
+      is = laid_is moment s k p ready ∙ is.is
           ∙ ap (λ (n : ℕ). base_laid k.catalog newest change (draft_of n ready.changed) ready.pages base.log) sequence_is
           ∙ ap (λ (c : Catalog). base_laid c newest change (draft_of (sequence_of (current_slots k.slots) + 1) ready.changed) ready.pages base.log) (sym cells.is_found.catalog);
     },
@@ -269,9 +228,8 @@ module _ (rest : Rest) {D : Type 0} (moment : D → Moment) (s : Standing D) (k 
       is_found = found;
     };
     may = record {
-      its = page_is p.base ready.is_laid.by;
-      unnamed = subst (λ (pages : List ℕ). AllByRecursion (λ q. is_live core h q ≡ false) pages) (sym (own_is p.base ready.is_laid.by))
-          (unnamed core h begins.0 begins.1 (all_pages ready.pages p.base) ready.is_laid.free);
+      its = page_is moment s k p ready;
+      unnamed = own_unnamed moment s k p ready;
     };
     target = target_is p.base ready.is_laid.by;
     same = kept.doubt;

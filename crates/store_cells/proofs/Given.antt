@@ -19,6 +19,7 @@ use Rattle.store_versions.proofs.Given.{later_directories_are_free}
 use Rattle.store_versions.proofs.Seen.{all_two}
 use Rattle.store_state.specs.Cells.{IsFound, IsImage}
 use Rattle.store_state.specs.Kept.{AreVersions}
+use Rattle.store_state.specs.Payloads.{HasPayloads, HavePayloads}
 use Rattle.store_state.specs.Inner.Keeping.{AreDirectoriesOf, HasItsPages, LieIn}
 
 module _ (base : Core) (given : Directories) (h : History) (rows : List VersionRow) (directory : Directory) (x : AreVersions base given h rows) where
@@ -73,4 +74,10 @@ module _ (base : Core) (given : Directories) (h : History) (rows : List VersionR
     pinned = pinned_more (λ pin versions. LieIn image (at db pin.before) versions) i.pinned;
     doubted = i.doubted;
     stands = i.stands;
+  }
+
+  pub payloads_more : (file image : List ℕ) → HasPayloads base given file h image → HasPayloads base more file h image
+  payloads_more file image x = record {
+    now = subst (HavePayloads given.first file image (names_at base h)) same_now x.now;
+    pinned = pinned_more (λ pin versions. HavePayloads given.first file image (names_at base pin.before) versions) x.pinned;
   }

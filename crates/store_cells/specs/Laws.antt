@@ -1,4 +1,4 @@
--- What a store holds over a commit, on an honest disk that began as a database.
+-- What a store holds over a commit, on an honest disk.
 use Rattle.std.specs.Prelude.{ℕ, List}
 use Rattle.afl_outside.specs.Disk.{LeavesOnly, Moment}
 use Rattle.page_slots.specs.declared.slots.Slots.{Slots}
@@ -9,6 +9,7 @@ use Rattle.commit_writes.specs.declared.stopped.Stopped.{Stopped}
 use Rattle.store_ledger.specs.Ledger.{LedgerState, history}
 use Rattle.store_state.specs.Calls.{NotesFault}
 use Rattle.store_state.specs.Cells.{HoldsCells}
+use Rattle.store_state.specs.Payloads.{HoldsPayloads}
 use Rattle.store_state.specs.Standings.{Standing, BeganAs, commit_places, given_of}
 use Rattle.store_state.specs.Inner.Keeping.{Keeping}
 use Rattle.prepared_commits.specs.declared.prepared.Prepared.{Prepared}
@@ -53,3 +54,27 @@ abbrev pub SealedImagesStand : {D : Type 0} → (D → Moment) → Type 0
 SealedImagesStand {D} moment = (s : Standing D) (k : Keeping) (p : Prepared) (db : Database) (later : Slots) (disk : D)
     → IsWritten moment s k p db later disk → IsDone p.base k.slots later p.blobs p.chain (moment s.disk) (moment disk)
     → (image : List ℕ) → (moment disk).may_leave image → Stands image (after (at db (history s.ledger)) p.commit.change)
+
+-- ---- whatever its file stands for
+
+-- a store that has each payload, on an honest disk that told these bytes, a commit that is prepared for it, and a disk on which it was written
+pub record IsWrittenOver {D : Type 0} (moment : D → Moment) (s : Standing D) (k : Keeping) (p : Prepared) (file : List ℕ) (later : Slots)
+    (disk : D) : Type 0 where
+  pub ready : IsReady moment s k p
+  pub payloads : HoldsPayloads moment s k file (history s.ledger) (given_of s)
+  pub writes : Writes k.slots later p (moment s.disk) (moment disk)
+
+-- it has each payload once it is sealed
+abbrev pub SealedPayloadsAreHeld : {D : Type 0} → (D → Moment) → Type 0
+SealedPayloadsAreHeld {D} moment = (s : Standing D) (k : Keeping) (p : Prepared) (file : List ℕ) (later : Slots) (ledger : LedgerState)
+    (disk : D) → IsWrittenOver moment s k p file later disk → IsDone p.base k.slots later p.blobs p.chain (moment s.disk) (moment disk)
+    → NotesFault (moment s.disk).state (moment disk).state p.session (sealed_ledger s p) ledger
+    → HoldsPayloads moment (sealed moment s p ledger disk) (sealed_keeping s k p) file (history ledger) (given_of (sealed moment s p ledger disk))
+
+-- and where it stopped
+abbrev pub StoppedPayloadsAreHeld : {D : Type 0} → (D → Moment) → Type 0
+StoppedPayloadsAreHeld {D} moment = (s : Standing D) (k : Keeping) (p : Prepared) (file : List ℕ) (later : Slots) (stage : Stopped)
+    (ledger : LedgerState) (disk : D)
+    → IsWrittenOver moment s k p file later disk → StopsAt p.base stage k.slots later p.blobs p.chain (moment s.disk) (moment disk)
+    → NotesFault (moment s.disk).state (moment disk).state p.session s.ledger ledger
+    → HoldsPayloads moment (stopped stage s p ledger disk) (stopped_keeping stage k p later) file (history ledger) (given_of (stopped stage s p ledger disk))

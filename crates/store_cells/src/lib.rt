@@ -1,12 +1,15 @@
-//! What a store holds over a commit, on an honest disk that began as a database. No code has to be run for it.
+//! What a store holds over a commit, on an honest disk. No code has to be run for it.
 #![tactic(auto)]
 
-ghost use Rattle.store_cells.specs.Laws.{SealedCellsAreHeld, StoppedCellsAreHeld, CommitsPassBy, SealedImagesStand};
-ghost use Rattle.store_cells.specs.Worked.{ACommitIsWritten};
+ghost use Rattle.store_cells.specs.Laws.{CommitsPassBy, SealedCellsAreHeld, SealedImagesStand, SealedPayloadsAreHeld};
+ghost use Rattle.store_cells.specs.Laws.{StoppedCellsAreHeld, StoppedPayloadsAreHeld};
+ghost use Rattle.store_cells.specs.Worked.{ACommitIsWritten, BothMayOccur, ChunksAreAsked};
 
 use afl_outside::Disk;
+use file_laws::{files_stand_for_one_database, sound_rows_are_stored};
 use found_costs::found_files_are_over;
 use laid_commits::opened_files_stand;
+use next_files::an_array_is_stored_again;
 use store_images::{
     images_have_stood, laid_commits_stand, next_images, opening_images, unopened_images,
 };
@@ -54,10 +57,34 @@ pub fn commits_pass_by<D: Disk>()
     images_have_stood();
 }
 
+/// Whatever its file stands for, each payload of an honest disk is whole over a commit that is sealed or stops, but for those that weren't
+/// whole as the file was opened: their bytes stay.
+pub fn payloads_are_held<D: Disk>()
+    ensures is_sealed { SealedPayloadsAreHeld D.moment }
+    ensures has_stopped { StoppedPayloadsAreHeld D.moment }
+{}
+
 /// There is a store over which a commit was written, as far as that its slot wasn't closed for sure.
 pub fn a_commit_is_written()
     ensures { ACommitIsWritten }
 {
     a_store_is_kept();
     a_commit_is_ready();
+}
+
+/// There is a store of which a change is asked that chunks come with.
+pub fn chunks_are_asked()
+    ensures { ChunksAreAsked }
+{
+    an_array_is_stored_again();
+    files_stand_for_one_database();
+    sound_rows_are_stored();
+}
+
+/// While a change is in doubt either of its images may occur.
+pub fn both_may_occur()
+    ensures { BothMayOccur }
+{
+    an_array_is_stored_again();
+    files_stand_for_one_database();
 }

@@ -61,7 +61,7 @@ each_unwritten t page pages file (p ∷ ps) beside none held are =
     let e = both_true (names_page page_size file [] p) (are_pages file ps) are in
     (unwritten t page pages p held.0 (names_positive file [] p e.0) beside none, each_unwritten t page pages file ps beside none held.1 e.1)
 
-entries_apart : (t : ℕ → Bool) (page : ℕ) (pages file : List ℕ) → IsBeside t page → AllByRecursion (λ q. t q ≡ false) pages → (entries : List DirEntry)
+pub entries_apart : (t : ℕ → Bool) (page : ℕ) (pages file : List ℕ) → IsBeside t page → AllByRecursion (λ q. t q ≡ false) pages → (entries : List DirEntry)
     → AllByRecursion (λ p. IsTrue (t p)) (flat_map (λ (entry : DirEntry). entry.pages) entries) → AllByRecursion (λ (entry : DirEntry). IsTrue (are_pages file entry.pages)) entries
     → AllByRecursion (λ (entry : DirEntry). LieApart (page ∷ pages) entry.pages) entries
 unfolding LieApart
@@ -86,16 +86,16 @@ lies_still t page pages old new keeps beside none schema directory rows held lie
 -- ---- versions
 
 -- a page that fails the first of two tests
-first_beside : (s t u : ℕ → Bool) (page : ℕ) → ((p : ℕ) → s p ≡ (t p || u p)) → IsBeside s page → IsBeside t page
+pub first_beside : (s t u : ℕ → Bool) (page : ℕ) → ((p : ℕ) → s p ≡ (t p || u p)) → IsBeside s page → IsBeside t page
 first_beside s t u page is = ⊎_elim inl (λ e. inr (or_parts (t page) (u page) (sym (is page) ∙ e)).0)
 
-second_beside : (s t u : ℕ → Bool) (page : ℕ) → ((p : ℕ) → s p ≡ (t p || u p)) → IsBeside s page → IsBeside u page
+pub second_beside : (s t u : ℕ → Bool) (page : ℕ) → ((p : ℕ) → s p ≡ (t p || u p)) → IsBeside s page → IsBeside u page
 second_beside s t u page is = ⊎_elim inl (λ e. inr (or_parts (t page) (u page) (sym (is page) ∙ e)).1)
 
-first_none : (s t u : ℕ → Bool) (pages : List ℕ) → ((p : ℕ) → s p ≡ (t p || u p)) → AllByRecursion (λ q. s q ≡ false) pages → AllByRecursion (λ q. t q ≡ false) pages
+pub first_none : (s t u : ℕ → Bool) (pages : List ℕ) → ((p : ℕ) → s p ≡ (t p || u p)) → AllByRecursion (λ q. s q ≡ false) pages → AllByRecursion (λ q. t q ≡ false) pages
 first_none s t u pages is = weaker (λ q. s q ≡ false) (λ q. t q ≡ false) (λ q e. (or_parts (t q) (u q) (sym (is q) ∙ e)).0) pages
 
-second_none : (s t u : ℕ → Bool) (pages : List ℕ) → ((p : ℕ) → s p ≡ (t p || u p)) → AllByRecursion (λ q. s q ≡ false) pages → AllByRecursion (λ q. u q ≡ false) pages
+pub second_none : (s t u : ℕ → Bool) (pages : List ℕ) → ((p : ℕ) → s p ≡ (t p || u p)) → AllByRecursion (λ q. s q ≡ false) pages → AllByRecursion (λ q. u q ≡ false) pages
 second_none s t u pages is = weaker (λ q. s q ≡ false) (λ q. u q ≡ false) (λ q e. (or_parts (t q) (u q) (sym (is q) ∙ e)).1) pages
 
 pub versions_still : (page : ℕ) (pages old new : List ℕ) → KeepsPages (page ∷ pages) old new → (db : Database) (its : List VersionPages) (versions : List MadeVersion) → AllZip HasItsPages its versions
@@ -140,11 +140,11 @@ of_catalogue_by false log catalogue zero_is e = inr e
 of_catalogue : (log : ℕ) (catalogue : List ℕ) → holds (0 ∷ catalogue) log ≡ true → (log ≡ 0) ⊎ (holds catalogue log ≡ true)
 of_catalogue log catalogue e = of_catalogue_by (nat_eq 0 log) log catalogue refl e
 
-slot_page : (page log : ℕ) (catalogue : List ℕ) → (page ≡ 0) ⊎ (page ≡ log) → holds (0 ∷ catalogue) log ≡ true → (page ≡ 0) ⊎ (holds catalogue page ≡ true)
+pub slot_page : (page log : ℕ) (catalogue : List ℕ) → (page ≡ 0) ⊎ (page ≡ log) → holds (0 ∷ catalogue) log ≡ true → (page ≡ 0) ⊎ (holds catalogue page ≡ true)
 slot_page page log catalogue (inl first) held = inl first
 slot_page page log catalogue (inr same) held = ⊎_elim (λ e. inl (same ∙ e)) (λ e. inr (ap (holds catalogue) same ∙ e)) (of_catalogue log catalogue held)
 
-stays_apart : (base : Core) (h : History) → IsInOrder base h → AreApart base h
+pub stays_apart : (base : Core) (h : History) → IsInOrder base h → AreApart base h
 stays_apart base h x =
     let allowed = ordered_is_allowed base h x.ordered in
     catalogues_stay_apart base h allowed.0 x.apart x.own allowed.1

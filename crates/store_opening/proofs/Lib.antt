@@ -3,5 +3,6 @@ pub mod Names
 pub mod NewStores
 pub mod PageRows
 pub mod Parts
+pub mod Payloads
 pub mod Read
 pub mod Versions

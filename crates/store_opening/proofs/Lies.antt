@@ -28,7 +28,7 @@ use Rattle.store_opening.proofs.Names.{found_each, numbered_each, of_map, stored
 
 -- ---- the payloads' pages are pages of the file
 
-abbrev HasPages : List ℕ → Directory → Type 0
+abbrev pub HasPages : List ℕ → Directory → Type 0
 HasPages file directory = AllByRecursion (λ entry. IsTrue (are_pages file entry.pages)) directory.entries
 
 entries_there : (file : List ℕ) (sequence : ℕ) (dims : List Dimension) (named : ℕ) (seen entries : List DirEntry) (taken now : List ℕ) → payloads_in file sequence dims named seen taken entries ≡ Ok now
@@ -64,7 +64,7 @@ rows_there file rules taken (array ∷ arrays) rows is =
     subst (AllByRecursion (AllByRecursion (HasPages file))) s.is
     (row_there file rules array.entry.schema.dimensions [] taken array.directories s.row s.found, rows_there file rules s.row.taken arrays s.later s.rest)
 
-found_there : (file : List ℕ) (slots : Slots) (found : Found) → found_in file slots ≡ Ok found → AllByRecursion (AllByRecursion (HasPages file)) found.directories
+pub found_there : (file : List ℕ) (slots : Slots) (found : Found) → found_in file slots ≡ Ok found → AllByRecursion (AllByRecursion (HasPages file)) found.directories
 found_there file slots found is =
     let s = found_steps file slots found is in
     rows_there file (record { first = slots.current.root.first; sequence = sequence_of slots }) s.logged.taken s.logged.catalog.arrays found.directories s.rows

@@ -33,12 +33,14 @@ use Rattle.store_state.specs.Standings.{BeganAs, HaveStood, Standing, base_of, g
 use Rattle.store_state.specs.Kept.{AreSlots, AreVersions, IsInOrder, IsKept}
 use Rattle.store_state.specs.Cells.{HoldsCells, IsFound as IsFoundBy, IsImage}
 use Rattle.store_state.specs.At.{IsAt}
+use Rattle.store_state.specs.Payloads.{HasPayloads, HasTold, HoldsPayloads}
 use Rattle.store_state.specs.Inner.Keeping.{Keeping, is_opening, is_opening_entry, is_opening_root}
 use Rattle.store_opening.specs.declared.opening.Limits.{Limits}
 use Rattle.store_opening.specs.Opened.{versions_of}
 use Rattle.store_opening.specs.Inner.Read.{IsOpenFile, new_ledger}
 use Rattle.store_opening.proofs.Lies.{versions_lie}
 use Rattle.store_opening.proofs.PageRows.{pages_by_arrays}
+use Rattle.store_opening.proofs.Payloads.{found_payloads}
 use Rattle.store_opening.proofs.Read.{opens_so}
 use Rattle.store_opening.proofs.Versions.{directories_made, versions_paged}
 
@@ -152,40 +154,54 @@ module _ {D : Type 0} (moment : D → Moment) (file : OpenFile D) (disk : D) (fo
     noted = inl (none_noted _ _ given.reads.same.later);
   }
 
-  -- ---- on an honest disk that told the bytes of a database
+  -- ---- on an honest disk that told its bytes
+
+  module _ (bytes : List ℕ) (told : HasTold (moment file.disk).state bytes) where
+    found_is : found_in bytes (slots_of file.slots) ≡ Ok found
+    found_is = at_some (λ seen. found_in seen (slots_of file.slots) ≡ Ok found) (moment file.disk).state.seen bytes given.told told.tells
+
+    opens : OpensAs file.slots.current file.slots.records bytes
+    opens = at_some (OpensAs file.slots.current file.slots.records) (moment file.disk).state.seen bytes given.file.opens told.tells
+
+    -- a crash leaves these bytes alone
+    only : (image : List ℕ) → (moment file.disk).may_leave image → image ≡ bytes
+    only = at_some (λ seen. Only seen (moment file.disk).may_leave) (moment file.disk).state.seen bytes (given.file.durable told.honest) told.tells
+
+    known : IsKnown file.slots bytes (moment disk)
+    known = record {
+      honest = given.reads.same.honest ∙ told.honest;
+      tells = given.reads.seen ∙ told.tells;
+      sound = given.sound bytes (at_some (λ seen. IsSound file.slots seen (moment file.disk).may_leave) (moment file.disk).state.seen bytes (given.file.sound told.honest) told.tells);
+    }
+
+    payloads : HoldsPayloads moment store keeping bytes [] (given_of store)
+    payloads = record {
+      bytes = bytes;
+      known = known;
+      images = λ image left. subst (HasPayloads base (given_of store) bytes []) (sym (only image (given.reads.crash image left)))
+          (record { now = found_payloads bytes (slots_of file.slots) found found_is; pinned = tt });
+    }
+
+  -- ---- and that began as a database
 
   module _ (db : Database) (began : BeganAs (moment file.disk).state db) where
     abbrev bytes : List ℕ
     bytes = began.file
 
-    found_is : found_in bytes (slots_of file.slots) ≡ Ok found
-    found_is = at_some (λ seen. found_in seen (slots_of file.slots) ≡ Ok found) (moment file.disk).state.seen bytes given.told began.tells
-
-    opens : OpensAs file.slots.current file.slots.records bytes
-    opens = at_some (OpensAs file.slots.current file.slots.records) (moment file.disk).state.seen bytes given.file.opens began.tells
+    abbrev told : HasTold (moment file.disk).state bytes
+    told = record { honest = began.honest; tells = began.tells }
 
     held : HoldsDatabase bytes db found
-    held = let all : HoldsFound bytes db (Ok found) = subst (HoldsFound bytes db) (opens_so bytes file.slots opens ∙ found_is) began.stands.holds in all
-
-    -- a crash leaves these bytes alone
-    only : (image : List ℕ) → (moment file.disk).may_leave image → image ≡ bytes
-    only = at_some (λ seen. Only seen (moment file.disk).may_leave) (moment file.disk).state.seen bytes (given.file.durable began.honest) began.tells
-
-    known : IsKnown file.slots bytes (moment disk)
-    known = record {
-      honest = given.reads.same.honest ∙ began.honest;
-      tells = given.reads.seen ∙ began.tells;
-      sound = given.sound bytes (at_some (λ seen. IsSound file.slots seen (moment file.disk).may_leave) (moment file.disk).state.seen bytes (given.file.sound began.honest) began.tells);
-    }
+    held = let all : HoldsFound bytes db (Ok found) = subst (HoldsFound bytes db) (opens_so bytes file.slots (opens bytes told) ∙ found_is bytes told) began.stands.holds in all
 
     is_found : IsFoundBy base (given_of store) [] found.catalog log found
     is_found = record { catalog = refl; directories = sym first.directories; catalogue = refl; stored = pages_by_arrays found given.rules }
 
     image_is : IsImage base (given_of store) db [] file.slots None found bytes
     image_is = record {
-      opens = found_is;
+      opens = found_is bytes told;
       holds = held;
-      now = versions_lie bytes (slots_of file.slots) db found began.stands.database found_is held;
+      now = versions_lie bytes (slots_of file.slots) db found began.stands.database (found_is bytes told) held;
       pinned = tt;
       doubted = tt;
       stands = began.stands;
@@ -202,7 +218,7 @@ module _ {D : Type 0} (moment : D → Moment) (file : OpenFile D) (disk : D) (fo
         enough = omega arith;
         more = None;
         tried = tt;
-        stands = subst (λ (c : List ℕ). Stands c db) (sym (only image (given.reads.time.each image left))) began.stands;
+        stands = subst (λ (c : List ℕ). Stands c db) (sym (only bytes told image (given.reads.time.each image left))) began.stands;
       };
     }
 
@@ -213,14 +229,14 @@ module _ {D : Type 0} (moment : D → Moment) (file : OpenFile D) (disk : D) (fo
       pinned = tt;
       doubt = tt;
       bytes = bytes;
-      known = known;
+      known = known bytes told;
       found = found;
       is_found = is_found;
-      images = λ image left. subst (IsImage base (given_of store) db [] file.slots None found) (sym (only image (given.reads.crash image left))) image_is;
+      images = λ image left. subst (IsImage base (given_of store) db [] file.slots None found) (sym (only bytes told image (given.reads.crash image left))) image_is;
       past = stood;
       acked = tt;
     }
 
   -- THE STORE IS ONE
   pub store_is_at : IsAt moment store keeping
-  store_is_at = record { kept = kept; cells = λ db began. cells db began }
+  store_is_at = record { kept = kept; payloads = λ bytes told. payloads bytes told; cells = λ db began. cells db began }

@@ -25,6 +25,7 @@ use Rattle.store_versions.specs.Seen.{version_of}
 use Rattle.store_state.specs.declared.parts.StoreParts.{StoreParts}
 use Rattle.store_state.specs.At.{AreParts, IsAt, keeping, standing}
 use Rattle.store_state.specs.Calls.{NotesFault}
+use Rattle.store_state.specs.Payloads.{HasTold}
 use Rattle.store_state.specs.Standings.{Standing, BeganAs}
 use Rattle.store_state.specs.Inner.Keeping.{Keeping}
 use Rattle.prepared_commits.specs.declared.prepared.NewBase.{NewBase}
@@ -32,7 +33,7 @@ use Rattle.prepared_commits.specs.declared.prepared.Prepared.{Prepared}
 use Rattle.prepared_commits.specs.Prepared.{IsPreparedFor}
 use Rattle.store_steps.specs.Laws.{IsReady, SealedStoresAreKept, StoppedStoresAreKept}
 use Rattle.store_steps.specs.Steps.{sealed, sealed_keeping, sealed_ledger, sealed_slots, stopped, stopped_keeping, stopped_slots}
-use Rattle.store_cells.specs.Laws.{IsWritten, CommitsPassBy, SealedCellsAreHeld, SealedImagesStand, StoppedCellsAreHeld}
+use Rattle.store_cells.specs.Laws.{IsWritten, IsWrittenOver, CommitsPassBy, SealedCellsAreHeld, SealedImagesStand, SealedPayloadsAreHeld, StoppedCellsAreHeld, StoppedPayloadsAreHeld}
 use Rattle.store_cells.specs.Moves.{IsDone, MayLeave, StopsAt, Writes}
 use Rattle.store_sealing.proofs.Pages.{may_be_written}
 use Rattle.store_sealing.specs.Inner.Ends.{EndsSo, Held, held_of, noted_if}
@@ -137,31 +138,37 @@ module _ {D : Type 0} (moment : D → Moment) (old : StoreParts D) (p : Prepared
       → IsWritten moment s k p db later disk
   is_written db began later disk writes = record { ready = is_ready; cells = x.cells db began; began = began; writes = writes }
 
+  is_written_over : (file : List ℕ) → HasTold (moment old.opened.value.disk).state file → (later : Slots) (disk : D) → Writes k.slots later p (moment s.disk) (moment disk)
+      → IsWrittenOver moment s k p file later disk
+  is_written_over file told later disk writes = record { ready = is_ready; payloads = x.payloads file told; writes = writes }
+
   -- ---- sealed
 
-  pub at_sealed : SealedStoresAreKept moment → SealedCellsAreHeld moment → (later : Slots) (disk : D) (ledger : LedgerState) → Writes k.slots later p (moment s.disk) (moment disk)
+  pub at_sealed : SealedStoresAreKept moment → SealedPayloadsAreHeld moment → SealedCellsAreHeld moment → (later : Slots) (disk : D) (ledger : LedgerState) → Writes k.slots later p (moment s.disk) (moment disk)
       → IsDone p.base k.slots later p.blobs p.chain (moment s.disk) (moment disk) → ((image : List ℕ) → (moment disk).left_since (moment disk).state.moment image → (moment disk).may_leave image)
       → NotesFault (moment s.disk).state (moment disk).state p.session (sealed_ledger s p) ledger → (new : Standing D) (kept : Keeping) → new ≡ sealed moment s p ledger disk → kept ≡ sealed_keeping s k p
       → IsAt moment new kept
-  at_sealed stores cells later disk ledger writes done only noted new kept e f =
+  at_sealed stores payloads cells later disk ledger writes done only noted new kept e f =
       subst (λ (t : Standing D). IsAt moment t kept) (sym e)
       (subst (λ (l : Keeping). IsAt moment (sealed moment s p ledger disk) l) (sym f)
       (record {
         kept = stores s k p ledger disk is_ready writes.same noted;
+        payloads = λ file told. payloads s k p file later ledger disk (is_written_over file told later disk writes) done noted;
         cells = λ db began. cells s k p db later ledger disk (is_written db began later disk writes) done only noted;
       }))
 
   -- ---- stopped
 
-  pub at_stopped : StoppedStoresAreKept moment → StoppedCellsAreHeld moment → (later : Slots) (stage : Stopped) (disk : D) (ledger : LedgerState) → Writes k.slots later p (moment s.disk) (moment disk)
+  pub at_stopped : StoppedStoresAreKept moment → StoppedPayloadsAreHeld moment → StoppedCellsAreHeld moment → (later : Slots) (stage : Stopped) (disk : D) (ledger : LedgerState) → Writes k.slots later p (moment s.disk) (moment disk)
       → StopsAt p.base stage k.slots later p.blobs p.chain (moment s.disk) (moment disk)
       → NotesFault (moment s.disk).state (moment disk).state p.session s.ledger ledger → (new : Standing D) (kept : Keeping) → new ≡ stopped stage s p ledger disk → kept ≡ stopped_keeping stage k p later
       → IsAt moment new kept
-  at_stopped stores cells later stage disk ledger writes stop noted new kept e f =
+  at_stopped stores payloads cells later stage disk ledger writes stop noted new kept e f =
       subst (λ (t : Standing D). IsAt moment t kept) (sym e)
       (subst (λ (l : Keeping). IsAt moment (stopped stage s p ledger disk) l) (sym f)
       (record {
         kept = stores s k p stage later ledger disk is_ready writes.same noted;
+        payloads = λ file told. payloads s k p file later stage ledger disk (is_written_over file told later disk writes) stop noted;
         cells = λ db began. cells s k p db later stage ledger disk (is_written db began later disk writes) stop noted;
       }))
 
@@ -191,7 +198,7 @@ module _ {D : Type 0} (moment : D → Moment) (old : StoreParts D) (p : Prepared
       λ i. record { disk = disk; opened = same.opened i; first = map version_of (same.first i); ledger = new.ledger; doubt = (ends.1 i).doubt; acked = acked i; made = (ends.1 i).made } in
       let f : keeping new ≡ sealed_keeping s k p = λ i. record { slots = slots i; catalog = (ends.1 i).catalog; rows = (ends.1 i).rows } in
       record {
-        parts = at_sealed laws.kept laws.held later disk new.ledger writes came.done (only disk) noted (standing moment new) (keeping new) e f;
+        parts = at_sealed laws.kept laws.had laws.held later disk new.ledger writes came.done (only disk) noted (standing moment new) (keeping new) e f;
         ok = (ends.0, e);
         err = tt;
         kept = f;
@@ -213,7 +220,7 @@ module _ {D : Type 0} (moment : D → Moment) (old : StoreParts D) (p : Prepared
       λ i. record { disk = disk; opened = same.opened i; first = map version_of (same.first i); ledger = new.ledger; doubt = (ends i).doubt; acked = acked i; made = (ends i).made } in
       let f : keeping new ≡ stopped_keeping stage k p later = λ i. record { slots = slots i; catalog = (ends i).catalog; rows = (ends i).rows } in
       record {
-        parts = at_stopped laws.stopped_kept laws.stopped_held later stage disk new.ledger writes came.stopped noted (standing moment new) (keeping new) e f;
+        parts = at_stopped laws.stopped_kept laws.stopped_had laws.stopped_held later stage disk new.ledger writes came.stopped noted (standing moment new) (keeping new) e f;
         ok = tt;
         err = (stage, e);
         kept = λ i. record { slots = later; catalog = (ends i).catalog; rows = (ends i).rows };

@@ -2,7 +2,9 @@
 ghost use Rattle.store_sealing.specs.Inner.Lawful.{CommitsHold};
 
 use afl_outside::Disk;
-use store_cells::{commits_pass_by, sealed_cells_are_held, stopped_cells_are_held};
+use store_cells::{
+    commits_pass_by, payloads_are_held, sealed_cells_are_held, stopped_cells_are_held,
+};
 use store_steps::{sealed_stores_are_kept, stopped_stores_are_kept};
 
 /// What a store keeps and holds then, and what each image of those moments stands for. No code has to be run for it.
@@ -11,6 +13,7 @@ pub(crate) fn commits_hold<D: Disk>()
 {
     sealed_stores_are_kept::<D>();
     stopped_stores_are_kept::<D>();
+    payloads_are_held::<D>();
     sealed_cells_are_held::<D>();
     stopped_cells_are_held::<D>();
     commits_pass_by::<D>();

@@ -10,8 +10,10 @@ use Rattle.afl_outside.specs.Disk.{LeavesOnly, Moment}
 use Rattle.page_chain.specs.Inner.Runs.{OnlyReads}
 use Rattle.page_slots.specs.Standing.{IsSound as AreSound}
 use Rattle.plan_changes.specs.Databases.{Database}
+use Rattle.commit_writes.specs.Moments.{IsKnown}
 use Rattle.event_core.specs.declared.entry.Entry.{Entry}
 use Rattle.event_core.specs.declared.entry.Entry.TheVariants.{Pin, Unpin, Commit, Reap}
+use Rattle.event_core.specs.declared.state.Core.{Core}
 use Rattle.event_core.specs.Allowed.{is_pinned}
 use Rattle.event_core.specs.History.{History, open_pins}
 use Rattle.event_core.specs.Legal.{has_committed}
@@ -25,6 +27,7 @@ use Rattle.store_versions.specs.Rows.{needed_rows, places_at}
 use Rattle.store_versions.specs.Versions.{Directories}
 use Rattle.store_state.specs.Standings.{Standing, BeganAs, HaveStood, IsAttempt, StoodFor, commit_places, given_of, made_at, with_entries, with_notes}
 use Rattle.store_state.specs.Kept.{IsKept}
+use Rattle.store_state.specs.Payloads.{HasPayloads, HasTold, HoldsPayloads}
 use Rattle.store_state.specs.Cells.{HoldsCells}
 use Rattle.store_state.specs.At.{IsAt}
 use Rattle.store_state.specs.Inner.Keeping.{Keeping, tried_if_committed, AreCounted}
@@ -32,6 +35,7 @@ use Rattle.store_state.proofs.Attempts.{attempt_noted, have_stood_noted, some_ma
 use Rattle.store_state.proofs.Lists.{all_more, zip_map}
 use Rattle.store_state.proofs.KeptOn.{kept_pin, kept_unpin, kept_reap}
 use Rattle.store_state.proofs.CellsOn.{cells_pin, cells_unpin, cells_reap}
+use Rattle.store_state.proofs.PayloadsOn.{payloads_pin, payloads_unpin, payloads_reap}
 
 -- what is no commit makes no place of one
 pub places_same : (place : ℕ) (entries : List Entry) (entry : Entry) → is_no_commit entry ≡ true → commit_places place (entries ++ entry ∷ []) ≡ commit_places place entries
@@ -57,6 +61,14 @@ module _ {D : Type 0} (moment : D → Moment) (s : Standing D) (k : Keeping) (h 
     made = x.made;
     tried = x.tried;
     noted = x.noted;
+  }
+
+  payloads_as : (ledger : LedgerState) → ledger.base ≡ s.ledger.base → (file : List ℕ) → HoldsPayloads moment s k file h given →
+      HoldsPayloads moment (record s { ledger = ledger }) k file h given
+  payloads_as ledger same file x = record {
+    bytes = x.bytes;
+    known = x.known;
+    images = λ image left. subst (λ (base : Core). HasPayloads base given file h image) (sym same) (x.images image left);
   }
 
   cells_as : (es : List Entry) (db : Database) (places : List ℕ) → HoldsCells moment s k db h given places →
@@ -95,9 +107,10 @@ module _ {D : Type 0} (moment : D → Moment) (s : Standing D) (k : Keeping) (h 
 
 module _ {D : Type 0} (moment : D → Moment) (s : Standing D) (k : Keeping) (entry : Entry) (quiet : is_no_commit entry ≡ true) where
   at_entry : IsKept moment s k (entry ∷ history s.ledger) (given_of s) →
+      ((file : List ℕ) → HasTold (moment s.opened.disk).state file → HoldsPayloads moment s k file (entry ∷ history s.ledger) (given_of s)) →
       ((db : Database) → BeganAs (moment s.opened.disk).state db → HoldsCells moment s k db (entry ∷ history s.ledger) (given_of s) (commit_places 0 s.ledger.entries)) →
       IsAt moment (with_entries (entry ∷ []) s) k
-  at_entry kept cells =
+  at_entry kept payloads cells =
       let next : Standing D = with_entries (entry ∷ []) s in
       let later : reverse (s.ledger.entries ++ entry ∷ []) ≡ entry ∷ reverse s.ledger.entries = one_more s.ledger.entries entry in
       let same : commit_places 0 (s.ledger.entries ++ entry ∷ []) ≡ commit_places 0 s.ledger.entries = places_same 0 s.ledger.entries entry quiet in
@@ -105,6 +118,9 @@ module _ {D : Type 0} (moment : D → Moment) (s : Standing D) (k : Keeping) (en
         kept = subst (λ (h : History). IsKept moment next k h (given_of next)) (sym later)
             (subst (λ (places : List ℕ). IsKept moment next k (entry ∷ history s.ledger) (record { first = s.first; made = made_at places s.made })) (sym same)
             (kept_as moment s k (entry ∷ history s.ledger) (given_of s) (entry ∷ []) kept));
+        payloads = λ file told. subst (λ (h : History). HoldsPayloads moment next k file h (given_of next)) (sym later)
+            (subst (λ (places : List ℕ). HoldsPayloads moment next k file (entry ∷ history s.ledger) (record { first = s.first; made = made_at places s.made })) (sym same)
+            (payloads_as moment s k (entry ∷ history s.ledger) (given_of s) next.ledger refl file (payloads file told)));
         cells = λ db began. subst (λ (h : History). HoldsCells moment next k db h (given_of next) (commit_places 0 next.ledger.entries)) (sym later)
             (subst (λ (places : List ℕ). HoldsCells moment next k db (entry ∷ history s.ledger) (record { first = s.first; made = made_at places s.made }) places) (sym same)
             (cells_as moment s k (entry ∷ history s.ledger) (given_of s) (s.ledger.entries ++ entry ∷ []) db (commit_places 0 s.ledger.entries) (cells db began)));
@@ -114,6 +130,7 @@ module _ {D : Type 0} (moment : D → Moment) (s : Standing D) (k : Keeping) (x 
   pub at_pin : (session : ℕ) → IsTrue (not (is_pinned session (history s.ledger))) → IsAt moment (with_entries (Pin session ∷ []) s) k
   at_pin session free = at_entry moment s k (Pin session) refl
       (kept_pin moment s k (history s.ledger) (given_of s) x.kept session free)
+      (λ file told. payloads_pin moment s k file (history s.ledger) (given_of s) (x.payloads file told) session)
       (λ db began. cells_pin moment s k db (history s.ledger) (given_of s) (commit_places 0 s.ledger.entries) (x.cells db began) session free)
 
   pub at_unpin : (session : ℕ) → IsTrue (is_pinned session (history s.ledger)) →
@@ -122,11 +139,13 @@ module _ {D : Type 0} (moment : D → Moment) (s : Standing D) (k : Keeping) (x 
       let rows : List VersionRow = needed_rows (places_at (Unpin session ∷ history s.ledger)) k.rows in
       at_entry moment s (record k { rows = rows }) (Unpin session) refl
       (kept_unpin moment s k (history s.ledger) (given_of s) x.kept session pinned)
+      (λ file told. payloads_unpin moment s k file (history s.ledger) (given_of s) (x.payloads file told) session rows)
       (λ db began. cells_unpin moment s k db (history s.ledger) (given_of s) (commit_places 0 s.ledger.entries) (x.cells db began) session rows pinned)
 
   pub at_reap : IsAt moment (with_entries (Reap ∷ []) s) k
   at_reap = at_entry moment s k Reap refl
       (kept_reap moment s k (history s.ledger) (given_of s) x.kept)
+      (λ file told. payloads_reap moment s k file (history s.ledger) (given_of s) (x.payloads file told))
       (λ db began. cells_reap moment s k db (history s.ledger) (given_of s) (commit_places 0 s.ledger.entries) (x.cells db began))
 
 -- ---- notes
@@ -166,6 +185,7 @@ module _ {D : Type 0} (moment : D → Moment) (s : Standing D) (k : Keeping) (x 
       tried = tried_on (history s.ledger) s.ledger.notes note x.kept.tried;
       noted = counted;
     };
+    payloads = λ file told. payloads_as moment s k (history s.ledger) (given_of s) (with_notes (note ∷ []) s).ledger refl file (x.payloads file told);
     cells = λ db began. cells_noted moment s k (history s.ledger) (given_of s) (note ∷ []) db (commit_places 0 s.ledger.entries) (x.cells db began);
   }
 
@@ -224,6 +244,20 @@ stood_now moment s k db h given places x least made image left = record {
 
 module _ {D : Type 0} (moment : D → Moment) (s : Standing D) (k : Keeping) (disk : D) (reads : OnlyReads (moment s.disk) (moment disk))
     (sound : (seen : List ℕ) → AreSound k.slots seen (moment s.disk).may_leave → AreSound k.slots seen (moment disk).may_leave) where
+  known_read : (bytes : List ℕ) → IsKnown k.slots bytes (moment s.disk) → IsKnown k.slots bytes (moment disk)
+  known_read bytes x = record {
+    honest = subst IsTrue (sym reads.same.honest) x.honest;
+    tells = reads.seen ∙ x.tells;
+    sound = sound bytes x.sound;
+  }
+
+  payloads_read : (file : List ℕ) (h : History) (given : Directories) → HoldsPayloads moment s k file h given → HoldsPayloads moment (record s { disk = disk }) k file h given
+  payloads_read file h given x = record {
+    bytes = x.bytes;
+    known = known_read x.bytes x.known;
+    images = λ image left. x.images image (reads.crash image left);
+  }
+
   cells_read : (db : Database) (h : History) (given : Directories) (places : List ℕ) → HoldsCells moment s k db h given places → HoldsCells moment (record s { disk = disk }) k db h given places
   cells_read db h given places x = record {
     legal = x.legal;
@@ -231,11 +265,7 @@ module _ {D : Type 0} (moment : D → Moment) (s : Standing D) (k : Keeping) (di
     pinned = x.pinned;
     doubt = x.doubt;
     bytes = x.bytes;
-    known = record {
-      honest = subst IsTrue (sym reads.same.honest) x.known.honest;
-      tells = reads.seen ∙ x.known.tells;
-      sound = sound x.bytes x.known.sound;
-    };
+    known = known_read x.bytes x.known;
     found = x.found;
     is_found = x.is_found;
     images = λ image left. x.images image (reads.crash image left);
@@ -257,6 +287,7 @@ module _ {D : Type 0} (moment : D → Moment) (s : Standing D) (k : Keeping) (di
       tried = x.kept.tried;
       noted = counted_later (moment s.opened.disk).state.faults (moment s.disk).state.faults (moment disk).state.faults s.ledger.notes reads.same.later x.kept.noted;
     };
+    payloads = λ file told. payloads_read file (history s.ledger) (given_of s) (x.payloads file told);
     cells = λ db began. cells_read db (history s.ledger) (given_of s) (commit_places 0 s.ledger.entries) (x.cells db began);
   }
 

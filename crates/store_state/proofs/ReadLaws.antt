@@ -1,5 +1,6 @@
 -- The payload of a leaf's chunk, and what reading it tells.
-use Rattle.std.proofs.Common.{◌≡◌, ◌∙◌, ℕ, zero, suc, ◌+◌, ◌/◌, ◌<◌, ◌≤◌, ◌⊎◌, ⊎_elim, Bool, true, List, length, Option, None, Some, IfSome, IfOk, IsTrue, Result, Ok, Err, refl, ap, sym, subst, arith}
+use Rattle.std.proofs.Common.{◌≡◌, ◌∙◌, ℕ, zero, suc, ◌+◌, ◌/◌, ◌<◌, ◌≤◌, ◌⊎◌, inl, inr, ⊎_elim, Bool, true, List, length, Option, None, Some, IfSome, IfOk, IsTrue, Result, Ok, Err, refl, ap, sym, subst, arith}
+use Rattle.std.specs.Prelude.{slice_index}
 use Rattle.std.specs.List.{AllByRecursion, find}
 use Rattle.std.specs.Ordering.{is_eq}
 use Rattle.arrayvec.specs.ArrayVec.{ArrayVec}
@@ -45,12 +46,13 @@ use Rattle.store_versions.specs.Seen.{seen}
 use Rattle.store_versions.specs.Versions.{HaveDirectories, MadeVersion, directory_of}
 use Rattle.store_state.specs.At.{IsAt}
 use Rattle.store_state.specs.Standings.{Standing, BeganAs, versions_after}
-use Rattle.store_state.specs.Inner.Sights.{Sees, SeesCells}
+use Rattle.store_state.specs.Inner.Sights.{Sees, SeesCells, SeesPayloads}
+use Rattle.store_state.specs.Payloads.{HasItsPayloads, HasPayload, HasTold, HavePayloads, IsAsOpened, WasDamagedAt}
 use Rattle.store_state.specs.declared.fault.ReadFault.{ReadFault}
 use Rattle.store_state.specs.declared.fault.ReadFault.TheVariants.{Damaged}
 use Rattle.store_state.proofs.AtOn.{at_fault, at_read, with_ledger}
 use Rattle.store_state.proofs.Listings.{as_it_reads}
-use Rattle.store_state.specs.Calls.{entry_in, numbers_in, payload_in, IsLeafOf, IsRead, IsWhole}
+use Rattle.store_state.specs.Calls.{entry_in, numbers_in, payload_in, spelled_by, IsLeafOf, IsRead, IsWhole}
 use Rattle.store_state.specs.Inner.Keeping.{Keeping, AreDirectoriesOf, IsDirectoryOf, LiesIn, LieIn}
 use Rattle.store_state.proofs.Finds.{IsFoundIn, found_in_all, any_found, entry_found, listed_any}
 use Rattle.store_state.proofs.Leaves.{IsSeen, is_seen, of_version, directory_is, numbers_are}
@@ -144,6 +146,39 @@ entry_there file db names versions leaf at l same all =
       spells = subst (λ (v : ℕ). payload_in file leaf.schema l.entry ≡ Ok (stored_chunk leaf.schema (version_rows (rows_of db) leaf.name v) l.entry.at.items)) (sym l.version) held;
     }
 
+-- a part of some rows is whole
+pub part_whole : (file : List ℕ) (schema : Schema) (rows : List Row) (entry : DirEntry) → are_pages file entry.pages ≡ true → HoldsPart file schema rows entry → IsWhole file schema entry
+part_whole file schema rows entry are part = record { within = pages_there file entry.pages are; chunk = stored_chunk schema rows entry.at.items; spells = part }
+
+-- what an image has of its payload
+pub entry_payload : (first : List MadeVersion) (file image : List ℕ) (names : Names) (versions : List MadeVersion) (leaf : Leaf) (at : ArrayVec ℕ) (l : IsListed names versions leaf at) →
+    HavePayloads first file image names versions → HasPayload first file image leaf.schema l.entry
+entry_payload first file image names versions leaf at l all =
+    let of : HasItsPayloads first file image l.s.entry.schema l.s.v.directory × (l.s.v.name ≡ leaf.name) × (l.s.v.version ≡ suc l.n) =
+    of_version (λ (entry : NameEntry) (v : MadeVersion). HasItsPayloads first file image entry.schema v.directory) names versions leaf l.n l.s all in
+    let t : DirEntry → Bool = λ entry. is_eq (number_order entry.at.items at.items) in
+    let its : IsFoundIn (HasPayload first file image l.s.entry.schema) t l.entry =
+    found_in_all (HasPayload first file image l.s.entry.schema) t l.s.v.directory.entries l.entry of.0 l.found in
+    subst (λ (x : Schema). HasPayload first file image x l.entry) (sym l.s.schema) its.holds
+
+-- where it isn't whole, it wasn't as the file was opened
+pub was_damaged : (page : ℕ) (first : List MadeVersion) (file image : List ℕ) (schema : Schema) (entry : DirEntry) → HasPayload first file image schema entry → page ≡ slice_index entry.pages 0 →
+    (IsWhole image schema entry → ⊥) → WasDamagedAt page first file schema
+was_damaged page first file image schema entry has begins damaged = by_bytes has.bytes
+  where
+    by_bytes : IsWhole image schema entry ⊎ IsAsOpened first file image entry → WasDamagedAt page first file schema
+    by_bytes (inl whole) = absurd (damaged whole)
+    by_bytes (inr old) = record {
+      entry = entry;
+      listed = old.listed;
+      begins = begins;
+      damaged = λ whole. damaged (record {
+        within = pages_there image entry.pages has.pages;
+        chunk = whole.chunk;
+        spells = ap (spelled_by schema entry) old.same ∙ whole.spells;
+      });
+    }
+
 same_ok : {A : Type 0} (a b : A) (r : Result A ℕ) → r ≡ Ok a → r ≡ Ok b → a ≡ b
 same_ok a b r e f = let both : Ok a ≡ Ok b = sym e ∙ f in cc
 
@@ -219,6 +254,19 @@ module _ {D : Type 0} (moment : D → Moment) (s : Standing D) (k : Keeping) (pl
     read_whole r cells reads exact db page began e =
         let told : IsRead (cells db began).file leaf.schema entry (Err (Damaged page)) = subst (IsRead (cells db began).file leaf.schema entry) e (of_file r db (cells db began) exact) in
         told.1 (there_whole (cells db began).file (at_history db before) leaf entry (place_there db (cells db began) reads))
+
+    -- a payload that was read, and wasn't whole, is one that the file had as it was opened
+    pub read_damaged : (r : Result Chunk ReadFault) → ((file : List ℕ) → HasTold (moment s.opened.disk).state file → SeesPayloads moment s file before) → IfSome (moment s.disk).state.seen (moment s.disk).may_leave →
+        IfSome (moment s.disk).state.seen (λ seen. IsRead seen leaf.schema entry r) → (page : ℕ) (file : List ℕ) → r ≡ Err (Damaged page) → HasTold (moment s.opened.disk).state file →
+        WasDamagedAt page s.first file leaf.schema
+    read_damaged r payloads reads exact page file e began =
+        let p : SeesPayloads moment s file before = payloads file began in
+        let all : IfSome (Some p.bytes) (λ seen. IsRead seen leaf.schema entry r) = subst (λ (o : Option (List ℕ)). IfSome o (λ seen. IsRead seen leaf.schema entry r)) p.tells exact in
+        let told : IsRead p.bytes leaf.schema entry (Err (Damaged page)) = subst (IsRead p.bytes leaf.schema entry) e all in
+        was_damaged page s.first file p.bytes leaf.schema entry
+        (subst (HasPayload s.first file p.bytes leaf.schema) the_same
+        (entry_payload s.first file p.bytes (names_at s.ledger.base before) (versions_after s before) leaf at place_lists (p.have p.bytes (as_it_reads (moment s.disk) p.bytes p.tells reads))))
+        told.0 told.1
 
     pub read_is_stored : (r : Result Chunk ReadFault) → IfOk r (IsSpelled leaf.schema) → IfOk r (λ chunk. chunk.at ≡ entry.at) → IfOk r (IsStored leaf.schema at)
     read_is_stored (Ok chunk) stored number = read_stored leaf.schema entry.at at chunk stored number read_number

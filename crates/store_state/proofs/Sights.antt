@@ -1,5 +1,5 @@
 -- What the present and each open pin see of a store.
-use Rattle.std.proofs.Common.{◌≡◌, ◌∙◌, ℕ, Bool, true, false, if◌then◌else◌, nat_eq, [], ◌∷◌, length, Option, None, Some, IsTrue, ap, sym, subst}
+use Rattle.std.proofs.Common.{◌≡◌, ◌∙◌, ℕ, Bool, true, false, if◌then◌else◌, nat_eq, [], ◌∷◌, List, length, Option, None, Some, IsTrue, ap, sym, subst}
 use Rattle.std.specs.List.{AllByRecursion, filter}
 use Rattle.std.proofs.lemmas.List.{length-reverse}
 use Rattle.afl_outside.specs.Disk.{Moment}
@@ -27,9 +27,10 @@ use Rattle.store_versions.proofs.Seen.{pins_see_their_versions}
 use Rattle.store_state.specs.Standings.{Standing, BeganAs, base_of, commit_places, given_of, versions_after}
 use Rattle.store_state.specs.Cells.{HoldsCells}
 use Rattle.store_state.specs.At.{IsAt}
+use Rattle.store_state.specs.Payloads.{HasTold, HavePayloads, HoldsPayloads}
 use Rattle.store_state.specs.Inner.Keeping.{Keeping, AreDirectoriesOf, LieIn}
 use Rattle.store_state.specs.Calls.{history_at, IsLeafOf}
-use Rattle.store_state.specs.Inner.Sights.{Sees, SeesCells}
+use Rattle.store_state.specs.Inner.Sights.{Sees, SeesCells, SeesPayloads}
 use Rattle.store_state.proofs.Lists.{all_filter}
 
 -- what holds of each open pin holds of a session's
@@ -119,6 +120,23 @@ module _ {D : Type 0} (moment : D → Moment) (s : Standing D) (k : Keeping) (x 
         lies = λ image left. own_pin (λ pin. LieIn image (at db pin.before) (versions_after s pin.before)) s.ledger.base pinned.session h o.before allowed o.begun (c.images image left).pinned;
       })
 
+  pub payloads_now : (file : List ℕ) → HasTold (moment s.opened.disk).state file → SeesPayloads moment s file (history_at s (length (history s.ledger)))
+  payloads_now file told =
+      let c : HoldsPayloads moment s k file (history s.ledger) (given_of s) = x.payloads file told in
+      subst (SeesPayloads moment s file) (sym (all_entries_are_the_history (history s.ledger)))
+      (record { bytes = c.bytes; tells = c.known.tells; have = λ image left. (c.images image left).now })
+
+  pub payloads_at : (pinned : Pinned) (o : IsOpenPin s.ledger pinned) (file : List ℕ) → HasTold (moment s.opened.disk).state file → SeesPayloads moment s file (history_at s pinned.place)
+  payloads_at pinned o file told =
+      let h : History = history s.ledger in
+      let c : HoldsPayloads moment s k file h (given_of s) = x.payloads file told in
+      subst (SeesPayloads moment s file) (sym (pin_history pinned o)) (record {
+        bytes = c.bytes;
+        tells = c.known.tells;
+        have = λ image left. own_pin (λ pin. HavePayloads s.first file image (names_at s.ledger.base pin.before) (versions_after s pin.before)) s.ledger.base pinned.session h o.before allowed o.begun
+            (c.images image left).pinned;
+      })
+
   -- the same of the present, by its number of entries
   now_is : (n : ℕ) → n ≡ length s.ledger.entries → n ≡ length (history s.ledger)
   now_is n e = e ∙ sym (length-reverse s.ledger.entries)
@@ -128,6 +146,9 @@ module _ {D : Type 0} (moment : D → Moment) (s : Standing D) (k : Keeping) (x 
 
   pub cells_place : (n : ℕ) → n ≡ length s.ledger.entries → (db : Database) → BeganAs (moment s.opened.disk).state db → SeesCells moment s db (history_at s n)
   cells_place n e db began = subst (λ (m : ℕ). SeesCells moment s db (history_at s m)) (sym (now_is n e)) (cells_now db began)
+
+  pub payloads_place : (n : ℕ) → n ≡ length s.ledger.entries → (file : List ℕ) → HasTold (moment s.opened.disk).state file → SeesPayloads moment s file (history_at s n)
+  payloads_place n e file told = subst (λ (m : ℕ). SeesPayloads moment s file (history_at s m)) (sym (now_is n e)) (payloads_now file told)
 
   pub history_place : (n : ℕ) → n ≡ length s.ledger.entries → history_at s n ≡ history s.ledger
   history_place n e = ap (history_at s) (now_is n e) ∙ all_entries_are_the_history (history s.ledger)

@@ -1,5 +1,6 @@
 -- The worked store on a disk that began as the worked database.
-use Rattle.std.proofs.Common.{◌≡◌, ◌∙◌, ℕ, true, [], ◌∷◌, List, None, Some, Ok, refl, sym, subst, arith}
+use Rattle.std.proofs.Common.{◌≡◌, ◌∙◌, inl, ℕ, true, [], ◌∷◌, List, None, Some, Ok, refl, sym, subst, arith}
+use Rattle.std.specs.Prelude.{codes}
 use Rattle.file_items.specs.Items.{repeat}
 use Rattle.file_items.specs.Pages.{pages_at}
 use Rattle.file_items.specs.Table.{name_fields, name_at, kind_at, flag_at, typed_at, attribute_at, attributes_at, signed_at, range_at, cut_at, extent_at, dimension_at, dimensions_at, schema_at}
@@ -11,7 +12,7 @@ use Rattle.page_layout.specs.Opens.{OpensAs}
 use Rattle.page_layout.specs.declared.sides.Side.TheVariants.{A, B}
 use Rattle.page_chain.specs.Pages.{page_size}
 use Rattle.page_slots.specs.Standing.{Holds}
-use Rattle.plan_changes.specs.Databases.{Database}
+use Rattle.plan_changes.specs.Databases.{Database, rows_of}
 use Rattle.commit_writes.specs.Moments.{IsKnown}
 use Rattle.file_meaning.specs.Slots.{slots_in}
 use Rattle.file_meaning.specs.Opening.{are_pages, found_in, opened}
@@ -21,11 +22,14 @@ use Rattle.file_laws.proofs.One.{one_database}
 use Rattle.file_laws.proofs.SlotsBack.{slots_open}
 use Rattle.file_laws.proofs.Steps.{then_is}
 use Rattle.file_laws.proofs.Worked.{file_stands}
-use Rattle.file_laws.specs.Inner.Example.{database, zeros, front, catalog_bytes, directory_bytes, payload_bytes, file_with, file}
+use Rattle.file_laws.specs.Inner.Example.{database, schema, zeros, front, catalog_bytes, directory_bytes, payload_bytes, file_with, file}
 use Rattle.store_state.specs.Standings.{BeganAs, HaveStood, current_slots, given_of}
 use Rattle.store_state.specs.Cells.{HoldsCells, IsFound, IsImage}
 use Rattle.store_state.specs.At.{IsAt}
+use Rattle.store_state.specs.Calls.{IsWhole}
+use Rattle.store_state.specs.Payloads.{HasPayloads, HoldsPayloads}
 use Rattle.store_state.specs.Worked.{worked_moment, worked_base, worked_catalog, worked_directory, worked_keeping, worked_slots, worked_store}
+use Rattle.store_state.proofs.ReadLaws.{part_whole}
 use Rattle.store_state.proofs.Worked.{base_is, pages_are, store_is_kept}
 
 abbrev found : Found
@@ -135,6 +139,19 @@ cells = record {
   acked = tt;
 }
 
+-- its one payload is whole
+whole : IsWhole file schema (record { at = record { items = 0 ∷ [] }; length = 66; birth = 2; pages = 4 ∷ [] })
+whole = part_whole file schema (rows_of database (codes "A") 1) (record { at = record { items = 0 ∷ [] }; length = 66; birth = 2; pages = 4 ∷ [] }) payload_there
+    database_held.versions.0.0.payloads.0
+
+payloads : (opened : List ℕ) → HoldsPayloads worked_moment worked_store worked_keeping opened [] (given_of worked_store)
+payloads opened = record {
+  bytes = file;
+  known = known;
+  images = λ image same. subst (HasPayloads worked_base (given_of worked_store) opened []) (sym same)
+      (record { now = ((record { pages = payload_there; bytes = inl whole }, tt), tt); pinned = tt });
+}
+
 the_same : (db : Database) → BeganAs (worked_moment tt).state db → database ≡ db
 the_same db began =
     let told : Some file ≡ Some began.file = began.tells in
@@ -144,5 +161,6 @@ the_same db began =
 pub store_is_at : IsAt worked_moment worked_store worked_keeping
 store_is_at = record {
   kept = store_is_kept;
+  payloads = λ opened told. payloads opened;
   cells = λ db began. subst (λ (d : Database). HoldsCells worked_moment worked_store worked_keeping d [] (given_of worked_store) []) (the_same db began) cells;
 }

@@ -1,5 +1,5 @@
 -- The parts of a store, and what holds of them whenever a call begins or ends.
-use Rattle.std.specs.Prelude.{map}
+use Rattle.std.specs.Prelude.{ℕ, List, map}
 use Rattle.afl_outside.specs.Disk.{Moment}
 use Rattle.plan_changes.specs.Databases.{Database}
 use Rattle.store_ledger.specs.Ledger.{history}
@@ -8,12 +8,14 @@ use Rattle.store_versions.specs.Seen.{version_of}
 use Rattle.store_state.specs.declared.parts.StoreParts.{StoreParts}
 use Rattle.store_state.specs.Standings.{Standing, commit_places, given_of, BeganAs}
 use Rattle.store_state.specs.Kept.{IsKept}
+use Rattle.store_state.specs.Payloads.{HasTold, HoldsPayloads}
 use Rattle.store_state.specs.Cells.{HoldsCells}
 use Rattle.store_state.specs.Inner.Keeping.{Keeping}
 
 -- 'AT', ON WHICHEVER DISK
 pub record IsAt {D : Type 0} (moment : D → Moment) (s : Standing D) (k : Keeping) : Type 0 where
   pub kept : IsKept moment s k (history s.ledger) (given_of s)
+  pub payloads : (file : List ℕ) → HasTold (moment s.opened.disk).state file → HoldsPayloads moment s k file (history s.ledger) (given_of s)
   pub cells : (db : Database) → BeganAs (moment s.opened.disk).state db →
       HoldsCells moment s k db (history s.ledger) (given_of s) (commit_places 0 s.ledger.entries)
 

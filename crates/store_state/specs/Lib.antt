@@ -4,5 +4,7 @@ pub mod Cells
 pub mod Events
 pub mod Inner
 pub mod Kept
+pub mod Laws
+pub mod Payloads
 pub mod Standings
 pub mod Worked

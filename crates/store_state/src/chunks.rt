@@ -1,5 +1,5 @@
 //! Chunks under a pin and of the present.
-ghost use Rattle.std.specs.Prelude.{◌≡◌, ◌≢◌, ◌≤◌, ◌⊎◌, ℕ, length, Err, IfOk, IfErr, IsTrue};
+ghost use Rattle.std.specs.Prelude.{◌≡◌, ◌≢◌, ◌≤◌, ◌⊎◌, ℕ, List, length, Err, IfOk, IfErr, IsTrue};
 ghost use Rattle.std.specs.Option.{option_copied};
 ghost use Rattle.afl_outside.specs.Counts.{Rose};
 ghost use Rattle.page_chain.specs.Inner.Runs.{OnlyReads};
@@ -12,8 +12,9 @@ ghost use Rattle.store_versions.specs.Seen.{seen};
 ghost use Rattle.store_versions.specs.Versions.{directory_of};
 ghost use Rattle.store_state.specs.At.{AreParts, keeping, standing};
 ghost use Rattle.store_state.specs.Calls.{chunks_at, database_with, entry_in, history_at, payload_at, IsLeafOf, IsUnread, NotesFault};
+ghost use Rattle.store_state.specs.Payloads.{HasTold, WasDamagedAt};
 ghost use Rattle.store_state.specs.Standings.{database_at, BeganAs};
-ghost use Rattle.store_state.specs.Inner.Sights.{Sees, SeesCells};
+ghost use Rattle.store_state.specs.Inner.Sights.{Sees, SeesCells, SeesPayloads};
 ghost use Rattle.store_state.specs.declared.fault.ReadFault.TheVariants.{Damaged};
 
 use crate::reading::{entry_at, read_entry};
@@ -67,6 +68,8 @@ fn read_at<D: Disk>(
     requires sees { Sees (standing D.moment parts.old) (keeping parts.old) place (history_at (standing D.moment parts.old) place) }
     requires cells { (db : Database) → BeganAs (D.moment parts.old.opened.value.disk).state db
         → SeesCells D.moment (standing D.moment parts.old) db (history_at (standing D.moment parts.old) place) }
+    requires payloads { (file : List ℕ) → HasTold (D.moment parts.old.opened.value.disk).state file
+        → SeesPayloads D.moment (standing D.moment parts.old) file (history_at (standing D.moment parts.old) place) }
     requires leaf { IsLeafOf (names_at parts.old.ledger.base (history_at (standing D.moment parts.old) place)) leaf.now }
     requires listed { IsTrue (is_among at.now (chunks_at (standing D.moment parts.old) place leaf.now)) }
     ensures at { AreParts D.moment parts.new }
@@ -74,6 +77,8 @@ fn read_at<D: Disk>(
     ensures told { IfOk result (λ chunk. (db : Database) → BeganAs (D.moment parts.old.opened.value.disk).state db
         → IsChunkIn (rows_of (database_with db (standing D.moment parts.old) place)) leaf.now chunk) }
     ensures whole { (db : Database) (page : ℕ) → BeganAs (D.moment parts.old.opened.value.disk).state db → result ≢ Err (Damaged page) }
+    ensures damaged { (page : ℕ) (file : List ℕ) → result ≡ Err (Damaged page) → HasTold (D.moment parts.old.opened.value.disk).state file
+        → WasDamagedAt page (standing D.moment parts.old).first file leaf.now.schema }
     ensures cause { IfErr result (IsUnread (D.moment parts.old.file.disk).state (D.moment parts.new.file.disk).state leaf.now.schema
         (payload_at (standing D.moment parts.old) place leaf.now at.now)) }
     ensures notes { NotesFault (D.moment parts.old.file.disk).state (D.moment parts.new.file.disk).state session parts.old.ledger parts.new.ledger }
@@ -107,6 +112,8 @@ pub fn read_chunk<D: Disk>(
     ensures told { IfOk result (λ chunk. (db : Database) → BeganAs (D.moment parts.old.opened.value.disk).state db
         → IsChunkIn (rows_of (database_with db (standing D.moment parts.old) pinned.now.place)) leaf.now chunk) }
     ensures whole { (db : Database) (page : ℕ) → BeganAs (D.moment parts.old.opened.value.disk).state db → result ≢ Err (Damaged page) }
+    ensures damaged { (page : ℕ) (file : List ℕ) → result ≡ Err (Damaged page) → HasTold (D.moment parts.old.opened.value.disk).state file
+        → WasDamagedAt page (standing D.moment parts.old).first file leaf.now.schema }
     ensures cause { IfErr result (IsUnread (D.moment parts.old.file.disk).state (D.moment parts.new.file.disk).state leaf.now.schema
         (payload_at (standing D.moment parts.old) pinned.now.place leaf.now at.now)) }
     ensures notes { NotesFault (D.moment parts.old.file.disk).state (D.moment parts.new.file.disk).state pinned.now.session parts.old.ledger parts.new.ledger }
@@ -134,6 +141,8 @@ pub fn read_now<D: Disk>(
     ensures told { IfOk result (λ chunk. (db : Database) → BeganAs (D.moment parts.old.opened.value.disk).state db
         → IsChunkIn (rows_of (database_at db (standing D.moment parts.old))) leaf.now chunk) }
     ensures whole { (db : Database) (page : ℕ) → BeganAs (D.moment parts.old.opened.value.disk).state db → result ≢ Err (Damaged page) }
+    ensures damaged { (page : ℕ) (file : List ℕ) → result ≡ Err (Damaged page) → HasTold (D.moment parts.old.opened.value.disk).state file
+        → WasDamagedAt page (standing D.moment parts.old).first file leaf.now.schema }
     ensures cause { IfErr result (IsUnread (D.moment parts.old.file.disk).state (D.moment parts.new.file.disk).state leaf.now.schema
         (payload_at (standing D.moment parts.old) (length parts.old.ledger.entries) leaf.now at.now)) }
     ensures notes { NotesFault (D.moment parts.old.file.disk).state (D.moment parts.new.file.disk).state session parts.old.ledger parts.new.ledger }

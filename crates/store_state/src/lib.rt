@@ -14,7 +14,7 @@ mod reaping;
 pub use chunks::{read_chunk, read_now};
 pub use event::Event;
 pub use fault::ReadFault;
-pub use laws::a_store_is_kept;
+pub use laws::{a_store_is_kept, pinned_cells_stay, reaps_are_few, stores_open_again};
 pub use listing::{listed, listed_now};
 pub use parts::StoreParts;
 pub use pins::{pin, unpin};

@@ -97,7 +97,7 @@ has_its (RemoveVersions name below) None at directory pages comes made = ap (has
 has_its (RemoveVersions name below) (Some changed) at directory pages comes made = absurd cc
 
 -- the directory that is ready is the one that was made
-ready_is : (ready : Option ReadyVersion) (made : Directory) → option_map (λ (r : ReadyVersion). r.directory) ready ≡ Some made → directory_in ready ≡ made
+pub ready_is : (ready : Option ReadyVersion) (made : Directory) → option_map (λ (r : ReadyVersion). r.directory) ready ≡ Some made → directory_in ready ≡ made
 ready_is None made e = absurd cc
 ready_is (Some ready) made e = cc
 

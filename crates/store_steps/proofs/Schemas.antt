@@ -26,13 +26,13 @@ use Rattle.event_core.specs.History.{is_pages_of, pages_after}
 use Rattle.event_core.proofs.Tests.{none_weaker}
 use Rattle.store_versions.specs.Versions.{MadeVersion, HaveDirectories, is_of, is_numbered, versions_after}
 use Rattle.store_versions.proofs.Seen.{all_two}
-use Rattle.store_state.specs.Inner.Keeping.{IsDirectoryOf, AreDirectoriesOf, HasItsPages}
+use Rattle.store_state.specs.Inner.Keeping.{IsDirectoryOf, HasItsPages}
 use Rattle.store_state.proofs.Lists.{all_push, all_filter}
 use Rattle.store_steps.proofs.Lists.{zip_push, zip_filter}
 
--- a version's directory is one of its array's schema, if an array has its name
-abbrev Suits : List NameEntry → MadeVersion → Type 0
-Suits arrays v = IfSome (find (is_named v.name) arrays) (λ entry. IsDirectoryOf entry.schema v.directory)
+-- R holds of a version's directory and its array's schema, if an array has its name
+abbrev Suits : (Schema → Directory → Type 0) → List NameEntry → MadeVersion → Type 0
+Suits R arrays v = IfSome (find (is_named v.name) arrays) (λ entry. R entry.schema v.directory)
 
 -- ---- what is found of an array
 
@@ -151,8 +151,8 @@ absent names name versions have none =
     none_named name versions (λ number. sym (have name number)
     ∙ none_weaker (λ entry. is_named name entry && holds entry.versions number) (is_named name) (λ entry. first_true (is_named name entry) (holds entry.versions number)) names.arrays none)
 
-stays : (names : Names) (change : Change) (v : MadeVersion) → bytes_eq (name_of change) v.name ≡ false → Suits names.arrays v → Suits (arrays_after names.arrays change) v
-stays names change v apart is = subst (λ (o : Option NameEntry). IfSome o (λ entry. IsDirectoryOf entry.schema v.directory)) (sym (entries_stay names change v.name apart)) is
+stays : (R : Schema → Directory → Type 0) (names : Names) (change : Change) (v : MadeVersion) → bytes_eq (name_of change) v.name ≡ false → Suits R names.arrays v → Suits R (arrays_after names.arrays change) v
+stays R names change v apart is = subst (λ (o : Option NameEntry). IfSome o (λ entry. R entry.schema v.directory)) (sym (entries_stay names change v.name apart)) is
 
 -- ---- the version that a change makes
 
@@ -162,6 +162,14 @@ pub record IsMadeIn (schema : Schema) (directory : Directory) (used : List ℕ) 
   pub own : BlobAt
   pub pages : used ≡ version_pages own directory
 
+-- R holds of its directory, where it makes one
+abbrev pub MakesSo : (Schema → Directory → Type 0) → Change → Directory → Type 0
+MakesSo R (Create name schema) directory = Unit {0}
+MakesSo R (Store name schema plan) directory = R schema directory
+MakesSo R (Insert name schema plan) directory = R schema directory
+MakesSo R (Remove name) directory = Unit {0}
+MakesSo R (RemoveVersions name below) directory = Unit {0}
+
 abbrev pub IsNew : Change → Directory → List ℕ → Type 0
 IsNew (Create name schema) directory pages = Unit {0}
 IsNew (Store name schema plan) directory pages = IsMadeIn schema directory pages
@@ -169,78 +177,85 @@ IsNew (Insert name schema plan) directory pages = IsMadeIn schema directory page
 IsNew (Remove name) directory pages = Unit {0}
 IsNew (RemoveVersions name below) directory pages = Unit {0}
 
-fits_suits : (o : Option NameEntry) (schema : Schema) (plan : Query) (directory : Directory) → FitsInto o schema plan → IsDirectoryOf schema directory →
-    IfSome o (λ entry. IsDirectoryOf entry.schema directory)
-fits_suits None schema plan directory fits is = tt
-fits_suits (Some entry) schema plan directory fits is = subst (λ (s : Schema). IsDirectoryOf s directory) fits.0 is
+pub made_so : (change : Change) (directory : Directory) (used : List ℕ) → IsNew change directory used → MakesSo IsDirectoryOf change directory
+made_so (Create name schema) directory used new = tt
+made_so (Store name schema plan) directory used new = new.rules
+made_so (Insert name schema plan) directory used new = new.rules
+made_so (Remove name) directory used new = tt
+made_so (RemoveVersions name below) directory used new = tt
+
+fits_suits : (R : Schema → Directory → Type 0) (o : Option NameEntry) (schema : Schema) (plan : Query) (directory : Directory) → FitsInto o schema plan → R schema directory →
+    IfSome o (λ entry. R entry.schema directory)
+fits_suits R None schema plan directory fits is = tt
+fits_suits R (Some entry) schema plan directory fits is = subst (λ (s : Schema). R s directory) fits.0 is
 
 -- ---- after a change
 
-raised : (name : List ℕ) (arrays : List NameEntry) (v : MadeVersion) → Suits arrays v → Suits (map (with_version name) arrays) v
-raised name arrays v is =
-    finds_changed (λ schema. IsDirectoryOf schema v.directory) (is_named v.name) (with_version name) (raised_name name v.name) (raised_schema name) arrays is
+raised : (R : Schema → Directory → Type 0) (name : List ℕ) (arrays : List NameEntry) (v : MadeVersion) → Suits R arrays v → Suits R (map (with_version name) arrays) v
+raised R name arrays v is =
+    finds_changed (λ schema. R schema v.directory) (is_named v.name) (with_version name) (raised_name name v.name) (raised_schema name) arrays is
 
-cut : (name : List ℕ) (below : ℕ) (arrays : List NameEntry) (v : MadeVersion) → Suits arrays v → Suits (map (without_below name below) arrays) v
-cut name below arrays v is =
-    finds_changed (λ schema. IsDirectoryOf schema v.directory) (is_named v.name) (without_below name below) (cut_name name below v.name) (cut_schema name below) arrays is
+cut : (R : Schema → Directory → Type 0) (name : List ℕ) (below : ℕ) (arrays : List NameEntry) (v : MadeVersion) → Suits R arrays v → Suits R (map (without_below name below) arrays) v
+cut R name below arrays v is =
+    finds_changed (λ schema. R schema v.directory) (is_named v.name) (without_below name below) (cut_name name below v.name) (cut_schema name below) arrays is
 
 each : {A : Type 0} (P Q : A → Type 0) → ((x : A) → P x → Q x) → (xs : List A) → AllByRecursion P xs → AllByRecursion Q xs
 each P Q f [] all = tt
 each P Q f (x ∷ xs) all = (f x all.0, each P Q f xs all.1)
 
-without : (names : Names) (name : List ℕ) (v : MadeVersion) → Suits names.arrays v → Suits (arrays_after names.arrays (Remove name)) v
-without names name v is = by_test (bytes_eq name v.name) refl
+without : (R : Schema → Directory → Type 0) (names : Names) (name : List ℕ) (v : MadeVersion) → Suits R names.arrays v → Suits R (arrays_after names.arrays (Remove name)) v
+without R names name v is = by_test (bytes_eq name v.name) refl
   where
-    by_test : (b : Bool) → bytes_eq name v.name ≡ b → Suits (arrays_after names.arrays (Remove name)) v
+    by_test : (b : Bool) → bytes_eq name v.name ≡ b → Suits R (arrays_after names.arrays (Remove name)) v
     by_test true e =
         let same : name ≡ v.name = (bytes_decides name v.name).0 e in
         let none : find (is_named v.name) (arrays_after names.arrays (Remove name)) ≡ None =
         subst (λ (n : List ℕ). find (is_named n) (filter (λ x. not (is_named name x)) names.arrays) ≡ None) same (found_none name names.arrays) in
-        subst (λ (o : Option NameEntry). IfSome o (λ entry. IsDirectoryOf entry.schema v.directory)) (sym none) tt
-    by_test false e = stays names (Remove name) v e is
+        subst (λ (o : Option NameEntry). IfSome o (λ entry. R entry.schema v.directory)) (sym none) tt
+    by_test false e = stays R names (Remove name) v e is
 
 not_there : (a b c : Bool) → (a && (b && not c)) ≡ true → c ≡ false
 not_there a b c ok = not-true c (and_parts b (not c) (and_parts a (b && not c) ok).1).1
 
-module _ (names : Names) (versions : List MadeVersion) (directory : Directory) (have : HaveDirectories names versions) (now : AllByRecursion (Suits names.arrays) versions) where
-  others : (change : Change) → AllByRecursion (λ v. bytes_eq (name_of change) v.name ≡ false) versions → AllByRecursion (Suits (arrays_after names.arrays change)) versions
-  others change apart = all_two (λ v. bytes_eq (name_of change) v.name ≡ false) (Suits names.arrays) (Suits (arrays_after names.arrays change)) (stays names change) versions apart now
+module _ (R : Schema → Directory → Type 0) (names : Names) (versions : List MadeVersion) (directory : Directory) (have : HaveDirectories names versions) (now : AllByRecursion (Suits R names.arrays) versions) where
+  others : (change : Change) → AllByRecursion (λ v. bytes_eq (name_of change) v.name ≡ false) versions → AllByRecursion (Suits R (arrays_after names.arrays change)) versions
+  others change apart = all_two (λ v. bytes_eq (name_of change) v.name ≡ false) (Suits R names.arrays) (Suits R (arrays_after names.arrays change)) (stays R names change) versions apart now
 
-  stored : (name : List ℕ) (schema : Schema) (plan : Query) (b : Bool) → has_array names.arrays name ≡ b → AllByRecursion (Suits (arrays_after names.arrays (Store name schema plan))) versions
+  stored : (name : List ℕ) (schema : Schema) (plan : Query) (b : Bool) → has_array names.arrays name ≡ b → AllByRecursion (Suits R (arrays_after names.arrays (Store name schema plan))) versions
   stored name schema plan true has =
       let there : map (with_version name) (with_absent name schema names.arrays) ≡ map (with_version name) names.arrays =
       ap (λ (b : Bool). map (with_version name) (if b then names.arrays else with_array name schema names.arrays)) has in
-      subst (λ (arrays : List NameEntry). AllByRecursion (Suits arrays) versions) (sym there) (each (Suits names.arrays) (Suits (map (with_version name) names.arrays)) (raised name names.arrays) versions now)
+      subst (λ (arrays : List NameEntry). AllByRecursion (Suits R arrays) versions) (sym there) (each (Suits R names.arrays) (Suits R (map (with_version name) names.arrays)) (raised R name names.arrays) versions now)
   stored name schema plan false has = others (Store name schema plan) (absent names name versions have has)
 
-  new_stored : (name : List ℕ) (schema : Schema) (plan : Query) (b : Bool) → FitsInto (entry_named names.arrays name) schema plan → IsDirectoryOf schema directory →
-      IfSome (find (is_named name) (map (with_version name) (if b then names.arrays else with_array name schema names.arrays))) (λ entry. IsDirectoryOf entry.schema directory)
+  new_stored : (name : List ℕ) (schema : Schema) (plan : Query) (b : Bool) → FitsInto (entry_named names.arrays name) schema plan → R schema directory →
+      IfSome (find (is_named name) (map (with_version name) (if b then names.arrays else with_array name schema names.arrays))) (λ entry. R entry.schema directory)
   new_stored name schema plan true fits is =
-      finds_changed (λ s. IsDirectoryOf s directory) (is_named name) (with_version name) (raised_name name name) (raised_schema name) names.arrays
-      (fits_suits (entry_named names.arrays name) schema plan directory fits is)
+      finds_changed (λ s. R s directory) (is_named name) (with_version name) (raised_name name name) (raised_schema name) names.arrays
+      (fits_suits R (entry_named names.arrays name) schema plan directory fits is)
   new_stored name schema plan false fits is =
-      finds_changed (λ s. IsDirectoryOf s directory) (is_named name) (with_version name) (raised_name name name) (raised_schema name) (with_array name schema names.arrays)
-      (finds_inserted (λ s. IsDirectoryOf s directory) (is_named name) (new_entry name schema) is names.arrays (place_of names.arrays name)
-      (fits_suits (entry_named names.arrays name) schema plan directory fits is))
+      finds_changed (λ s. R s directory) (is_named name) (with_version name) (raised_name name name) (raised_schema name) (with_array name schema names.arrays)
+      (finds_inserted (λ s. R s directory) (is_named name) (new_entry name schema) is names.arrays (place_of names.arrays name)
+      (fits_suits R (entry_named names.arrays name) schema plan directory fits is))
 
-  pub suit_after : (change : Change) (pages : List ℕ) → IsTypedFor names change → IsNew change directory pages →
-      AreDirectoriesOf (names_after names change) (versions_after names change directory versions)
-  suit_after (Create name schema) pages typed new =
+  pub suit_after : (change : Change) → IsTypedFor names change → MakesSo R change directory →
+      AllByRecursion (Suits R (names_after names change).arrays) (versions_after names change directory versions)
+  suit_after (Create name schema) typed new =
       others (Create name schema) (absent names name versions have (not_there (is_valid schema) (has_room names.arrays) (has_array names.arrays name) typed.0))
-  suit_after (Store name schema plan) pages typed new =
-      all_push (Suits (arrays_after names.arrays (Store name schema plan))) versions (record { name = name; version = next_of names.arrays name; directory = directory })
+  suit_after (Store name schema plan) typed new =
+      all_push (Suits R (arrays_after names.arrays (Store name schema plan))) versions (record { name = name; version = next_of names.arrays name; directory = directory })
       (stored name schema plan (has_array names.arrays name) refl)
-      (new_stored name schema plan (has_array names.arrays name) typed.1.1 new.rules)
-  suit_after (Insert name schema plan) pages typed new =
-      all_push (Suits (arrays_after names.arrays (Insert name schema plan))) versions (record { name = name; version = next_of names.arrays name; directory = directory })
-      (each (Suits names.arrays) (Suits (map (with_version name) names.arrays)) (raised name names.arrays) versions now)
-      (new_stored name schema plan true typed.1.1 new.rules)
-  suit_after (Remove name) pages typed new =
-      all_filter (Suits (arrays_after names.arrays (Remove name))) (λ v. not (is_of name v)) versions
-      (each (Suits names.arrays) (Suits (arrays_after names.arrays (Remove name))) (without names name) versions now)
-  suit_after (RemoveVersions name below) pages typed new =
-      all_filter (Suits (arrays_after names.arrays (RemoveVersions name below))) (λ v. not (is_of name v && nat_lt v.version below)) versions
-      (each (Suits names.arrays) (Suits (arrays_after names.arrays (RemoveVersions name below))) (cut name below names.arrays) versions now)
+      (new_stored name schema plan (has_array names.arrays name) typed.1.1 new)
+  suit_after (Insert name schema plan) typed new =
+      all_push (Suits R (arrays_after names.arrays (Insert name schema plan))) versions (record { name = name; version = next_of names.arrays name; directory = directory })
+      (each (Suits R names.arrays) (Suits R (map (with_version name) names.arrays)) (raised R name names.arrays) versions now)
+      (new_stored name schema plan true typed.1.1 new)
+  suit_after (Remove name) typed new =
+      all_filter (Suits R (arrays_after names.arrays (Remove name))) (λ v. not (is_of name v)) versions
+      (each (Suits R names.arrays) (Suits R (arrays_after names.arrays (Remove name))) (without R names name) versions now)
+  suit_after (RemoveVersions name below) typed new =
+      all_filter (Suits R (arrays_after names.arrays (RemoveVersions name below))) (λ v. not (is_of name v && nat_lt v.version below)) versions
+      (each (Suits R names.arrays) (Suits R (arrays_after names.arrays (RemoveVersions name below))) (cut R name below names.arrays) versions now)
 
 -- ---- their pages
 

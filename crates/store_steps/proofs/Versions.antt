@@ -28,8 +28,8 @@ use Rattle.store_versions.proofs.Given.{later_directories_are_free}
 use Rattle.store_versions.proofs.Made.{named_versions_have_directories}
 use Rattle.store_versions.proofs.Seen.{all_two, tables_follow_entries, forgetting_is_seen}
 use Rattle.store_state.specs.Kept.{AreVersions}
-use Rattle.store_state.specs.Inner.Keeping.{AreDirectoriesOf, HasItsPages}
-use Rattle.store_steps.proofs.Schemas.{IsNew, suit_after, pages_after_change}
+use Rattle.store_state.specs.Inner.Keeping.{AreDirectoriesOf, HasItsPages, IsDirectoryOf}
+use Rattle.store_steps.proofs.Schemas.{IsNew, made_so, suit_after, pages_after_change}
 
 module _ (follow : OrdersFollow) (base : Core) (given : Directories) (h : History) (rows : List VersionRow) (catalog : Catalog)
     (ordered : IsOrdered base h) (named : names_in catalog ≡ names_at base h) (x : AreVersions base given h rows) where
@@ -89,7 +89,8 @@ module _ (follow : OrdersFollow) (base : Core) (given : Directories) (h : Histor
           seen = subst (λ (n : ℕ). AreSeen more (needed_rows (places_at h) (rows_after names n change directory rows)) base next) (sym at)
               (forgetting_is_seen more (rows_after names (length h) change directory rows) base next table);
           now = subst (AreDirectoriesOf (names_after names change)) (sym is)
-              (suit_after names (versions_at base given h) directory (named_versions_have_directories given base h ordered x.first) x.now change used.version typed new);
+              (suit_after IsDirectoryOf names (versions_at base given h) directory (named_versions_have_directories given base h ordered x.first) x.now change typed
+              (made_so change directory used.version new));
           pinned = all_two (λ pin. versions_at base given pin.before ≡ versions_at base more pin.before) (λ pin. AreDirectoriesOf (names_at base pin.before) (versions_at base given pin.before))
               (λ pin. AreDirectoriesOf (names_at base pin.before) (versions_at base more pin.before))
               (λ pin same its. subst (AreDirectoriesOf (names_at base pin.before)) same its) (open_pins h) same_pinned x.pinned;

@@ -1,3 +1,4 @@
+pub mod Databases
 pub mod InTurn
 pub mod Notes
 pub mod PinReads

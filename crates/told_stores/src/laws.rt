@@ -1,4 +1,5 @@
 //! What holds of events, of turns, and of what pins see.
+ghost use Rattle.told_stores.specs.Databases.{StoresHaveDatabases};
 ghost use Rattle.told_stores.specs.Laws.{NotesOutlast, OthersLeaveNotes, OthersLeavePins, PinsOutlast, PinsSeeTheSame, StoresAreTold};
 ghost use Rattle.told_stores.specs.Laws.{TurnsAddOwn, TurnsFind};
 ghost use Rattle.told_stores.specs.Worked.{IsWorked};
@@ -8,6 +9,11 @@ use afl_outside::Disk;
 /// The start and the events of a store tell all of it but its disk, and a change that is in doubt.
 pub fn stores_are_told<D: Disk>()
     ensures { StoresAreTold D }
+{}
+
+/// A store has a database with its names, behind all its entries and under each open pin, where its file began as a database.
+pub fn stores_have_databases<D: Disk>()
+    ensures { StoresHaveDatabases D.moment }
 {}
 
 /// What a turn found, and what it added; and what a pin that is open sees, and which notes stand under it, whatever others do.

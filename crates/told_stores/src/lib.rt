@@ -2,5 +2,7 @@
 #![tactic(auto)]
 
 mod laws;
+mod seats;
 
-pub use laws::{a_pin_sees_what_was, stores_are_told, turns_are_seen};
+pub use laws::{a_pin_sees_what_was, stores_are_told, stores_have_databases, turns_are_seen};
+pub use seats::{let_go, let_go_all};

@@ -7,6 +7,7 @@ use Rattle.event_core.specs.Cells.{at}
 use Rattle.event_core.specs.History.{History, names_at}
 use Rattle.store_versions.specs.Seen.{seen}
 use Rattle.store_versions.specs.Versions.{HaveDirectories}
+use Rattle.store_state.specs.Payloads.{HavePayloads}
 use Rattle.store_state.specs.Standings.{Standing, versions_after}
 use Rattle.store_state.specs.Inner.Keeping.{Keeping, AreDirectoriesOf, LieIn}
 
@@ -24,3 +25,9 @@ pub record SeesCells {D : Type 0} (moment : D → Moment) (s : Standing D) (db :
   pub file : List ℕ
   pub tells : (moment s.disk).state.seen ≡ Some file
   pub lies : (image : List ℕ) → (moment s.disk).may_leave image → LieIn image (at db before) (versions_after s before)
+
+-- the disk tells its bytes, and each image has its payloads
+pub record SeesPayloads {D : Type 0} (moment : D → Moment) (s : Standing D) (file : List ℕ) (before : History) : Type 0 where
+  pub bytes : List ℕ
+  pub tells : (moment s.disk).state.seen ≡ Some bytes
+  pub have : (image : List ℕ) → (moment s.disk).may_leave image → HavePayloads s.first file image (names_at s.ledger.base before) (versions_after s before)

@@ -1,7 +1,7 @@
 use Rattle.store_ledger.specs.Ledger.{history}
 use Rattle.store_ledger.proofs.Keeping.{pinned_of}
 use Rattle.store_state.specs.At.{keeping, standing}
-use Rattle.store_state.proofs.Sights.{cells_at, leaf_at, sees_at}
+use Rattle.store_state.proofs.Sights.{cells_at, leaf_at, payloads_at, sees_at}
 use Rattle.store_state.proofs.chunks.read_chunk.Goals as goal
 
 pub read_at-requires-clause-pinned : goal.read_at-requires-clause-pinned
@@ -18,6 +18,12 @@ read_at-requires-clause-cells g c =
     let moment = g.D.Disk.moment in
     let parts = c.args.parts.now in
     cells_at moment (standing moment parts) (keeping parts) c.requires.at c.args.pinned.now c.requires.open
+
+pub read_at-requires-clause-payloads : goal.read_at-requires-clause-payloads
+read_at-requires-clause-payloads g c =
+    let moment = g.D.Disk.moment in
+    let parts = c.args.parts.now in
+    payloads_at moment (standing moment parts) (keeping parts) c.requires.at c.args.pinned.now c.requires.open
 
 pub read_at-requires-clause-leaf : goal.read_at-requires-clause-leaf
 read_at-requires-clause-leaf g c =

@@ -7,7 +7,7 @@ use Rattle.store_state.specs.At.{keeping, standing}
 use Rattle.store_state.specs.Calls.{database_with}
 use Rattle.store_state.specs.Standings.{database_at, BeganAs}
 use Rattle.store_state.proofs.Listings.{if_ok}
-use Rattle.store_state.proofs.Sights.{cells_place, history_place, sees_place}
+use Rattle.store_state.proofs.Sights.{cells_place, history_place, payloads_place, sees_place}
 use Rattle.store_state.proofs.chunks.read_now.Goals as goal
 
 pub read_at-requires-clause-sees : goal.read_at-requires-clause-sees
@@ -21,6 +21,12 @@ read_at-requires-clause-cells g c =
     let moment = g.D.Disk.moment in
     let parts = c.args.parts.now in
     cells_place moment (standing moment parts) (keeping parts) c.requires.at (length c.entries.result.now) (ap length c.entries.ensures)
+
+pub read_at-requires-clause-payloads : goal.read_at-requires-clause-payloads
+read_at-requires-clause-payloads g c =
+    let moment = g.D.Disk.moment in
+    let parts = c.args.parts.now in
+    payloads_place moment (standing moment parts) (keeping parts) c.requires.at (length c.entries.result.now) (ap length c.entries.ensures)
 
 pub returns-clause-told : goal.returns-clause-told
 returns-clause-told g c =

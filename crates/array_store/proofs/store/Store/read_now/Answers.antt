@@ -1,6 +1,7 @@
 use Rattle.std.proofs.Common.{length, IfErr, sym, subst}
 use Rattle.store_state.specs.At.{standing}
 use Rattle.store_state.specs.Calls.{IsUnread, payload_at}
+use Rattle.store_state.specs.Payloads.{HasTold, WasDamagedAt}
 use Rattle.store_state.specs.Standings.{BeganAs}
 use Rattle.array_store.proofs.Added.{adds_fault}
 use Rattle.array_store.proofs.store.Store.read_now.Goals as goal
@@ -20,3 +21,9 @@ returns-clause-cause g c =
     subst (λ parts. IfErr c.read_now.result (IsUnread (moment parts.file.disk).state (moment c.read_now.new.parts.file.disk).state c.args.leaf.now.schema
     (payload_at (standing moment parts) (length parts.ledger.entries) c.args.leaf.now c.args.at.now)))
     c.self.view_is c.read_now.ensures.cause
+
+pub returns-clause-damaged : goal.returns-clause-damaged
+returns-clause-damaged g c = λ page file e told.
+    let moment = g.D.Disk.moment in
+    subst (λ parts. WasDamagedAt page (standing moment parts).first file c.args.leaf.now.schema) c.self.view_is
+    (c.read_now.ensures.damaged page file e (subst (λ parts. HasTold (moment parts.opened.value.disk).state file) (sym c.self.view_is) told))

@@ -13,7 +13,7 @@ fresh-is_fresh-requires g c =
     let b = c.begin-turn.ensures in
     let p = c.requires.pin in
     open_pin_now g.D.Disk.moment (start g.D.Disk.moment c.args.self.now) (session_of c.args.seat.now) (seen c.args.seat.now) (seen c.begin-turn.new.seat)
-      c.value.result.now c.begin-turn.result.value b.found c.value.ensures.value b.told c.args.pinned.now p.own p.open_pin
+    c.value.result.now c.begin-turn.result.value b.found c.value.ensures.value b.told c.args.pinned.now p.own p.open_pin
 
 pub commit_fresh-requires : goal.commit_fresh-requires
 commit_fresh-requires g c =
@@ -25,13 +25,13 @@ commit_fresh-requires g c =
       start = ap (λ q. start_of (standing moment q)) c.value.ensures.value ∙ b.start;
       events = ap (λ q. events (standing moment q)) c.value.ensures.value ∙ b.events;
       told = is_now g.D.Disk.moment (start g.D.Disk.moment c.args.self.now) (session_of c.args.seat.now) (seen c.args.seat.now) (seen c.begin-turn.new.seat)
-      c.value.result.now c.begin-turn.result.value b.found c.value.ensures.value b.told;
+          c.value.result.now c.begin-turn.result.value b.found c.value.ensures.value b.told;
       pinned = pinned_now g.D.Disk.moment (start g.D.Disk.moment c.args.self.now) (session_of c.args.seat.now) (seen c.args.seat.now) (seen c.begin-turn.new.seat)
-      c.value.result.now c.begin-turn.result.value b.found c.value.ensures.value b.told c.args.pinned.now p.own p.open_pin;
+          c.value.result.now c.begin-turn.result.value b.found c.value.ensures.value b.told c.args.pinned.now p.own p.open_pin;
       tried = untried_in_turn g.D.Disk.moment (start g.D.Disk.moment c.args.self.now) (session_of c.args.seat.now) (seen c.args.seat.now) (seen c.begin-turn.new.seat)
-      c.value.result.now c.begin-turn.result.value b.found c.value.ensures.value b.told c.args.pinned.now p.own p.open_pin c.requires.tried;
+          c.value.result.now c.begin-turn.result.value b.found c.value.ensures.value b.told c.args.pinned.now p.own p.open_pin c.requires.tried;
       asked = asked_in_turn g.D.Disk.moment (start g.D.Disk.moment c.args.self.now) (session_of c.args.seat.now) (seen c.args.seat.now) (seen c.begin-turn.new.seat)
-      c.value.result.now c.begin-turn.result.value b.found c.value.ensures.value b.told c.args.pinned.now p.own p.open_pin
+          c.value.result.now c.begin-turn.result.value b.found c.value.ensures.value b.told c.args.pinned.now p.own p.open_pin
           c.fresh_changes_stay.ensures.typed c.fresh_changes_may_be_made.ensures.changes c.args.change c.args.changed
           c.requires.named c.requires.typed c.requires.comes c.requires.valid c.requires.told (c.fresh-is_fresh.ensures.same c.if-is_fresh.true);
     }
@@ -49,10 +49,10 @@ returns-in-Ok g c =
       pin = record {
         own = p.own ∙ sym b.same.session ∙ sym f.same.session;
         open_pin = open_made g.D.Disk.moment (start g.D.Disk.moment c.args.self.now) (session_of c.args.seat.now) (seen c.args.seat.now) (seen c.begin-turn.new.seat)
-      c.value.result.now c.begin-turn.result.value b.found c.value.ensures.value b.told c.args.pinned.now p.own p.open_pin c.args.change (seen c.commit_fresh.new.seat) e.done;
+            c.value.result.now c.begin-turn.result.value b.found c.value.ensures.value b.told c.args.pinned.now p.own p.open_pin c.args.change (seen c.commit_fresh.new.seat) e.done;
       };
       done = turn_makes g.D.Disk.moment (start g.D.Disk.moment c.args.self.now) (session_of c.args.seat.now) (seen c.args.seat.now) (seen c.begin-turn.new.seat)
-      c.value.result.now c.begin-turn.result.value b.found c.value.ensures.value b.told c.args.pinned.now p.own c.args.change c.fresh-is_fresh.result c.fresh-is_fresh.ensures.result c.if-is_fresh.true
+          c.value.result.now c.begin-turn.result.value b.found c.value.ensures.value b.told c.args.pinned.now p.own c.args.change c.fresh-is_fresh.result c.fresh-is_fresh.ensures.result c.if-is_fresh.true
           (seen c.commit_fresh.new.seat) e.done;
       place = e.place;
       typed = e.typed;
@@ -82,7 +82,7 @@ returns-in-Err g c =
       pin = record {
         own = p.own ∙ sym b.same.session ∙ sym f.same.session;
         open_pin = open_tried g.D.Disk.moment (start g.D.Disk.moment c.args.self.now) (session_of c.args.seat.now) (seen c.args.seat.now) (seen c.begin-turn.new.seat)
-      c.value.result.now c.begin-turn.result.value b.found c.value.ensures.value b.told c.args.pinned.now p.own p.open_pin c.args.change (seen c.commit_fresh.new.seat) e.err;
+            c.value.result.now c.begin-turn.result.value b.found c.value.ensures.value b.told c.args.pinned.now p.own p.open_pin c.args.change (seen c.commit_fresh.new.seat) e.err;
       };
       done = tt;
       place = tt;
@@ -97,7 +97,7 @@ returns-in-Err g c =
       events = tt;
       held = tt;
       err = turn_tries g.D.Disk.moment (start g.D.Disk.moment c.args.self.now) (session_of c.args.seat.now) (seen c.args.seat.now) (seen c.begin-turn.new.seat)
-      c.value.result.now c.begin-turn.result.value b.found c.value.ensures.value b.told c.args.pinned.now p.own c.args.change c.fresh-is_fresh.result c.fresh-is_fresh.ensures.result c.if-is_fresh.true
+          c.value.result.now c.begin-turn.result.value b.found c.value.ensures.value b.told c.args.pinned.now p.own c.args.change c.fresh-is_fresh.result c.fresh-is_fresh.ensures.result c.if-is_fresh.true
           (seen c.commit_fresh.new.seat) e.err;
       cause = e.cause;
     }
@@ -115,7 +115,7 @@ returns-else-is_fresh g c =
       pin = record {
         own = p.own ∙ sym b.same.session;
         open_pin = open_left g.D.Disk.moment (start g.D.Disk.moment c.args.self.now) (session_of c.args.seat.now) (seen c.args.seat.now) (seen c.begin-turn.new.seat)
-      c.value.result.now c.begin-turn.result.value b.found c.value.ensures.value b.told c.args.pinned.now p.own p.open_pin b.events (seen c.begin-turn.new.seat) (sym events_are);
+            c.value.result.now c.begin-turn.result.value b.found c.value.ensures.value b.told c.args.pinned.now p.own p.open_pin b.events (seen c.begin-turn.new.seat) (sym events_are);
       };
       done = tt;
       place = tt;
@@ -124,13 +124,13 @@ returns-else-is_fresh g c =
       next = tt;
       fits = tt;
       stale = ap (is_fresh_since c.args.pinned.now c.args.change) (sym (ledger_is g.D.Disk.moment (start g.D.Disk.moment c.args.self.now) (session_of c.args.seat.now) (seen c.args.seat.now) (seen c.begin-turn.new.seat)
-      c.value.result.now c.begin-turn.result.value b.found c.value.ensures.value b.told)) ∙ sym c.fresh-is_fresh.ensures.result ∙ c.if-is_fresh.false;
+          c.value.result.now c.begin-turn.result.value b.found c.value.ensures.value b.told)) ∙ sym c.fresh-is_fresh.ensures.result ∙ c.if-is_fresh.false;
       found = b.found;
       turn = b.seat.1;
       began = ap (λ q. start_of (standing moment q)) c.value.ensures.value ∙ b.start;
       events = events_are;
       held = is_now g.D.Disk.moment (start g.D.Disk.moment c.args.self.now) (session_of c.args.seat.now) (seen c.args.seat.now) (seen c.begin-turn.new.seat)
-      c.value.result.now c.begin-turn.result.value b.found c.value.ensures.value b.told;
+          c.value.result.now c.begin-turn.result.value b.found c.value.ensures.value b.told;
       err = tt;
       cause = tt;
     }

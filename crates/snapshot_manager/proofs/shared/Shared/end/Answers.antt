@@ -1,12 +1,21 @@
-use Rattle.std.proofs.Common.{◌≡◌, ◌∙◌, ap, length, refl, subst}
-use Rattle.store_state.specs.At.{standing}
-use Rattle.store_state.specs.Events.{events}
+use Rattle.std.proofs.Common.{◌≡◌, ◌∙◌, ap, length, refl, subst, sym}
+use Rattle.store_state.specs.At.{AreParts, standing}
+use Rattle.store_state.specs.Events.{events, owner_of}
 use Rattle.array_store.specs.Starts.{start_of}
+use Rattle.turn_lock.specs.Owners.{ExtendsByOwn}
 use Rattle.turn_lock.specs.Seats.{seen_by}
 use Rattle.told_stores.specs.Told.{IsTold}
 use Rattle.told_stores.proofs.InTurn.{tells}
-use Rattle.snapshot_manager.specs.Seats.{start}
+use Rattle.snapshot_manager.specs.Seats.{seen, session_of, start}
 use Rattle.snapshot_manager.proofs.shared.Shared.end.Goals as goal
+
+pub leave-requires : goal.leave-requires
+leave-requires g c =
+    let moment = g.D.Disk.moment in record {
+      seat = (c.requires.seat.0.here, c.requires.seat.1);
+      origin = ap (λ p. start_of (standing moment p)) c.value-store.ensures.value ∙ c.requires.start;
+      entries = subst (λ p. ExtendsByOwn owner_of (session_of c.args.seat.now) (seen c.args.seat.now) (events (standing moment p))) (sym c.value-store.ensures.value) c.requires.events;
+    }
 
 pub returns : goal.returns
 returns g c =
@@ -23,4 +32,5 @@ returns g c =
       seen = c.leave.ensures.seen ∙ ap (λ p. events (standing moment p)) c.value-store.ensures.value;
       told = subst (λ p. IsTold (start moment c.args.self.now) (seen_by c.leave.new.seat) (standing moment p)) c.value-store.ensures.value
           (subst (λ begun. IsTold begun (seen_by c.leave.new.seat) (standing moment parts)) at now.told);
+      at = subst (AreParts moment) c.value-store.ensures.value c.is_at.ensures.at;
     }

@@ -1,8 +1,8 @@
-use Rattle.std.proofs.Common.{◌∙◌, ◌++◌, map, ap, sym, subst, length, All}
+use Rattle.std.proofs.Common.{◌∙◌, ◌∷◌, ◌++◌, map, ap, sym, subst, length, All}
 use Rattle.std.proofs.lemmas.List.{length-map}
-use Rattle.turn_lock.specs.Closings.{claims_of}
+use Rattle.turn_lock.specs.Closings.{claims_of, lock_of}
 use Rattle.turn_lock.specs.Owners.{ExtendsByOthers}
-use Rattle.turn_lock.specs.Seats.{seat_count, IsSeatOf as IsLockSeatOf, IsIdle as HasNoTurn}
+use Rattle.turn_lock.specs.Seats.{claim_of, seat_count, IsSeatOf as IsLockSeatOf, IsIdle as HasNoTurn}
 use Rattle.turn_lock.specs.declared.view.Claim.{Claim}
 use Rattle.turn_lock.proofs.Gathering.{all_left, all_last, all_unmapped, gathered}
 use Rattle.store_state.specs.declared.event.Event.{Event}
@@ -16,7 +16,8 @@ pub take_back-requires : goal.take_back-requires
 take_back-requires g c =
     let i = c.loop-last.invariant in
     let last = all_last (λ seat. IsSeatOf c.args.self seat × IsIdle seat) c.pop.new.self c.in-Some.last (subst (AreIdleSeats c.args.self) c.in-Some.ensures i.idle) in
-    subst (λ lock. IsLockSeatOf lock c.in-Some.last.turn_seat × HasNoTurn c.in-Some.last.turn_seat) (sym i.same) (last.0.here, last.1)
+    subst (λ seat. IsLockSeatOf (lock_of c.loop-last.closing) seat × HasNoTurn seat) (sym c.into_turn_seat.ensures)
+    (subst (λ lock. IsLockSeatOf lock c.in-Some.last.turn_seat × HasNoTurn c.in-Some.last.turn_seat) (sym i.same) (last.0.here, last.1))
 
 pub loop-last-preserved : goal.loop-last-preserved
 loop-last-preserved g c =
@@ -24,7 +25,7 @@ loop-last-preserved g c =
     let now = c.take_back.ensures in record {
       same = now.lock ∙ i.same;
       idle = all_left (λ seat. IsSeatOf c.args.self seat × IsIdle seat) c.pop.new.self c.in-Some.last (subst (AreIdleSeats c.args.self) c.in-Some.ensures i.idle);
-      claimed = ap (λ claims. map seat_claim c.pop.new.self ++ claims) now.claims
+      claimed = ap (λ claims. map seat_claim c.pop.new.self ++ claims) (now.claims ∙ ap (λ seat. claim_of seat ∷ claims_of c.loop-last.closing) c.into_turn_seat.ensures)
           ∙ sym (gathered seat_claim c.pop.new.self c.in-Some.last (claims_of c.loop-last.closing))
           ∙ ap (λ seats. map seat_claim seats ++ claims_of c.loop-last.closing) (sym c.in-Some.ensures)
           ∙ i.claimed;

@@ -10,7 +10,7 @@ listed-answer-requires-clause-open g c =
     let b = c.begin-turn.ensures in
     let p = c.requires.pin in
     open_pin_now g.D.Disk.moment (start g.D.Disk.moment c.args.self.now) (session_of c.args.seat.now) (seen c.args.seat.now) (seen c.begin-turn.new.seat)
-      c.value.result.now c.begin-turn.result.value b.found c.value.ensures.value b.told c.args.pinned.now p.own p.open_pin
+    c.value.result.now c.begin-turn.result.value b.found c.value.ensures.value b.told c.args.pinned.now p.own p.open_pin
 
 pub returns : goal.returns
 returns g c =
@@ -20,17 +20,17 @@ returns g c =
       same = record { session = c.end.ensures.same.session ∙ b.same.session; last = c.end.ensures.same.last ∙ b.same.last };
       reads = c.end.ensures.reads ∙ b.reads;
       adds = adds_none g.D.Disk.moment (start g.D.Disk.moment c.args.self.now) (session_of c.args.seat.now) (seen c.args.seat.now) (seen c.begin-turn.new.seat)
-      c.value.result.now c.begin-turn.result.value b.found c.value.ensures.value b.told b.events c.value.result.now (seen c.end.new.seat) c.end.ensures.seen;
+          c.value.result.now c.begin-turn.result.value b.found c.value.ensures.value b.told b.events c.value.result.now (seen c.end.new.seat) c.end.ensures.seen;
       pin = record {
         own = p.own ∙ sym b.same.session ∙ sym c.end.ensures.same.session;
         open_pin = open_left g.D.Disk.moment (start g.D.Disk.moment c.args.self.now) (session_of c.args.seat.now) (seen c.args.seat.now) (seen c.begin-turn.new.seat)
-      c.value.result.now c.begin-turn.result.value b.found c.value.ensures.value b.told c.args.pinned.now p.own p.open_pin b.events (seen c.end.new.seat) c.end.ensures.seen;
+            c.value.result.now c.begin-turn.result.value b.found c.value.ensures.value b.told c.args.pinned.now p.own p.open_pin b.events (seen c.end.new.seat) c.end.ensures.seen;
       };
       listed = listed_ok g.D.Disk.moment (start g.D.Disk.moment c.args.self.now) (session_of c.args.seat.now) (seen c.args.seat.now) (seen c.begin-turn.new.seat)
-      c.value.result.now c.begin-turn.result.value b.found c.value.ensures.value b.told c.args.pinned.now p.own p.open_pin c.requires.seat.0.sealed c.args.leaf.now
+          c.value.result.now c.begin-turn.result.value b.found c.value.ensures.value b.told c.args.pinned.now p.own p.open_pin c.requires.seat.0.sealed c.args.leaf.now
           c.listed-answer.result c.listed-answer.ensures.listed;
       rising = c.listed-answer.ensures.rising;
       told = over_ok g.D.Disk.moment (start g.D.Disk.moment c.args.self.now) (session_of c.args.seat.now) (seen c.args.seat.now) (seen c.begin-turn.new.seat)
-      c.value.result.now c.begin-turn.result.value b.found c.value.ensures.value b.told c.args.pinned.now p.own p.open_pin c.requires.seat.0.sealed
+          c.value.result.now c.begin-turn.result.value b.found c.value.ensures.value b.told c.args.pinned.now p.own p.open_pin c.requires.seat.0.sealed
           (λ chunks db. AreNumbersIn (rows_of db) c.args.leaf.now chunks) c.listed-answer.result c.listed-answer.ensures.told;
     }

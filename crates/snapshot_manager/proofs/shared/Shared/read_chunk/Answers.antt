@@ -10,7 +10,7 @@ read_chunk-answer-requires-clause-open g c =
     let b = c.begin-turn.ensures in
     let p = c.requires.pin in
     open_pin_now g.D.Disk.moment (start g.D.Disk.moment c.args.self.now) (session_of c.args.seat.now) (seen c.args.seat.now) (seen c.begin-turn.new.seat)
-      c.value.result.now c.begin-turn.result.value b.found c.value.ensures.value b.told c.args.pinned.now p.own p.open_pin
+    c.value.result.now c.begin-turn.result.value b.found c.value.ensures.value b.told c.args.pinned.now p.own p.open_pin
 
 pub read_chunk-answer-requires-clause-listed : goal.read_chunk-answer-requires-clause-listed
 read_chunk-answer-requires-clause-listed g c =
@@ -18,7 +18,7 @@ read_chunk-answer-requires-clause-listed g c =
     let p = c.requires.pin in
     subst (λ chunks. IsTrue (is_among c.args.at.now chunks))
     (sym (chunks_in_turn g.D.Disk.moment (start g.D.Disk.moment c.args.self.now) (session_of c.args.seat.now) (seen c.args.seat.now) (seen c.begin-turn.new.seat)
-      c.value.result.now c.begin-turn.result.value b.found c.value.ensures.value b.told c.args.pinned.now p.own p.open_pin c.requires.seat.0.sealed c.args.leaf.now))
+    c.value.result.now c.begin-turn.result.value b.found c.value.ensures.value b.told c.args.pinned.now p.own p.open_pin c.requires.seat.0.sealed c.args.leaf.now))
     c.requires.listed
 
 pub end-requires-clause-events : goal.end-requires-clause-events
@@ -26,7 +26,7 @@ end-requires-clause-events g c =
     let b = c.begin-turn.ensures in
     let p = c.requires.pin in
     read_extends g.D.Disk.moment (start g.D.Disk.moment c.args.self.now) (session_of c.args.seat.now) (seen c.args.seat.now) (seen c.begin-turn.new.seat)
-      c.value.result.now c.begin-turn.result.value b.found c.value.ensures.value b.told c.args.pinned.now p.own p.open_pin b.events
+    c.value.result.now c.begin-turn.result.value b.found c.value.ensures.value b.told c.args.pinned.now p.own p.open_pin b.events
     c.read_chunk-answer.new.self c.read_chunk-answer.ensures.adds (session_of c.begin-turn.new.seat) b.same.session
 
 pub returns : goal.returns
@@ -37,22 +37,22 @@ returns g c =
       same = record { session = c.end.ensures.same.session ∙ b.same.session; last = c.end.ensures.same.last ∙ b.same.last };
       reads = search rules;
       adds = read_adds g.D.Disk.moment (start g.D.Disk.moment c.args.self.now) (session_of c.args.seat.now) (seen c.args.seat.now) (seen c.begin-turn.new.seat)
-      c.value.result.now c.begin-turn.result.value b.found c.value.ensures.value b.told c.args.pinned.now p.own p.open_pin b.events
+          c.value.result.now c.begin-turn.result.value b.found c.value.ensures.value b.told c.args.pinned.now p.own p.open_pin b.events
           c.read_chunk-answer.new.self c.read_chunk-answer.ensures.adds (seen c.end.new.seat) c.end.ensures.seen;
       pin = record {
         own = p.own ∙ sym b.same.session ∙ sym c.end.ensures.same.session;
         open_pin = read_open g.D.Disk.moment (start g.D.Disk.moment c.args.self.now) (session_of c.args.seat.now) (seen c.args.seat.now) (seen c.begin-turn.new.seat)
-      c.value.result.now c.begin-turn.result.value b.found c.value.ensures.value b.told c.args.pinned.now p.own p.open_pin b.events
+            c.value.result.now c.begin-turn.result.value b.found c.value.ensures.value b.told c.args.pinned.now p.own p.open_pin b.events
             c.read_chunk-answer.new.self c.read_chunk-answer.ensures.adds (seen c.end.new.seat) c.end.ensures.seen;
       };
       stored = c.read_chunk-answer.ensures.stored;
       told = over_ok g.D.Disk.moment (start g.D.Disk.moment c.args.self.now) (session_of c.args.seat.now) (seen c.args.seat.now) (seen c.begin-turn.new.seat)
-      c.value.result.now c.begin-turn.result.value b.found c.value.ensures.value b.told c.args.pinned.now p.own p.open_pin c.requires.seat.0.sealed
+          c.value.result.now c.begin-turn.result.value b.found c.value.ensures.value b.told c.args.pinned.now p.own p.open_pin c.requires.seat.0.sealed
           (λ chunk db. IsChunkIn (rows_of db) c.args.leaf.now chunk) c.read_chunk-answer.result c.read_chunk-answer.ensures.told;
       whole = λ db page began. c.read_chunk-answer.ensures.whole db page (began_in_turn g.D.Disk.moment (start g.D.Disk.moment c.args.self.now) (session_of c.args.seat.now) (seen c.args.seat.now) (seen c.begin-turn.new.seat)
-      c.value.result.now c.begin-turn.result.value b.found c.value.ensures.value b.told c.args.pinned.now p.own p.open_pin db began);
+          c.value.result.now c.begin-turn.result.value b.found c.value.ensures.value b.told c.args.pinned.now p.own p.open_pin db began);
       cause = read_causes g.D.Disk.moment (start g.D.Disk.moment c.args.self.now) (session_of c.args.seat.now) (seen c.args.seat.now) (seen c.begin-turn.new.seat)
-      c.value.result.now c.begin-turn.result.value b.found c.value.ensures.value b.told c.args.pinned.now p.own p.open_pin b.events
+          c.value.result.now c.begin-turn.result.value b.found c.value.ensures.value b.told c.args.pinned.now p.own p.open_pin b.events
           c.read_chunk-answer.new.self c.read_chunk-answer.ensures.adds (seen c.end.new.seat) c.args.leaf.now.schema c.args.leaf.now c.args.at.now c.read_chunk-answer.result
           c.requires.seat.0.sealed c.end.ensures.told c.read_chunk-answer.ensures.notes c.read_chunk-answer.ensures.cause;
     }

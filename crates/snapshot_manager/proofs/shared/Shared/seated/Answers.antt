@@ -1,4 +1,4 @@
-use Rattle.std.proofs.Common.{rules}
+use Rattle.std.proofs.Common.{◌∙◌, [], ◌∷◌, ◌++◌, ap, rules}
 use Rattle.snapshot_manager.proofs.Seating.{first_of_rest, less_one, seated_more}
 use Rattle.snapshot_manager.proofs.shared.Shared.seated.Goals as goal
 
@@ -10,5 +10,5 @@ loop-preserved g c =
       count = search rules;
       room = search rules;
       made = seated_more c.args.self.now c.args.turn_seats c.loop.room.items c.push_reserved.new.self.items c.loop.counter c.remove-turn_seat.result c.requires.seats at i.count i.made
-          c.push_reserved.ensures.items;
+          (c.push_reserved.ensures.items ∙ ap (λ seat. c.loop.room.items ++ seat ∷ []) c.first_seat.ensures);
     }

@@ -12,7 +12,7 @@ unpin-requires g c =
     let b = c.begin-turn.ensures in
     let p = c.requires.pin in record {
       «open» = open_pin_now g.D.Disk.moment (start g.D.Disk.moment c.args.self.now) (session_of c.args.seat.now) (seen c.args.seat.now) (seen c.begin-turn.new.seat)
-      c.value.result.now c.begin-turn.result.value b.found c.value.ensures.value b.told c.args.pinned p.own p.open_pin;
+          c.value.result.now c.begin-turn.result.value b.found c.value.ensures.value b.told c.args.pinned p.own p.open_pin;
     }
 
 pub end-requires : goal.end-requires
@@ -21,7 +21,7 @@ end-requires g c =
       seat = b.seat;
       start = c.unpin.ensures.adds.start ∙ ap (λ p. start_of (standing g.D.Disk.moment p)) c.value.ensures.value ∙ b.start;
       events = extends_now g.D.Disk.moment (start g.D.Disk.moment c.args.self.now) (session_of c.args.seat.now) (seen c.args.seat.now) (seen c.begin-turn.new.seat)
-      c.value.result.now c.begin-turn.result.value b.found c.value.ensures.value b.told b.events c.unpin.new.self
+          c.value.result.now c.begin-turn.result.value b.found c.value.ensures.value b.told b.events c.unpin.new.self
           (Entered (Unpin c.args.pinned.session) ∷ []) (session_of c.begin-turn.new.seat) b.same.session
           (unpin_only c.args.pinned.session (session_of c.args.seat.now) c.requires.pin.own) c.unpin.ensures.adds;
     }
@@ -33,9 +33,9 @@ returns g c =
       same = record { session = c.end.ensures.same.session ∙ b.same.session; last = c.end.ensures.same.last ∙ b.same.last };
       reads = c.end.ensures.reads ∙ b.reads;
       adds = unpin_adds g.D.Disk.moment (start g.D.Disk.moment c.args.self.now) (session_of c.args.seat.now) (seen c.args.seat.now) (seen c.begin-turn.new.seat)
-      c.value.result.now c.begin-turn.result.value b.found c.value.ensures.value b.told b.events c.unpin.new.self
+          c.value.result.now c.begin-turn.result.value b.found c.value.ensures.value b.told b.events c.unpin.new.self
           c.args.pinned.session c.requires.pin.own (seen c.end.new.seat) c.end.ensures.seen c.unpin.ensures.adds;
       none = unpin_none g.D.Disk.moment (start g.D.Disk.moment c.args.self.now) (session_of c.args.seat.now) (seen c.args.seat.now) (seen c.begin-turn.new.seat)
-      c.value.result.now c.begin-turn.result.value b.found c.value.ensures.value b.told b.events c.unpin.new.self
+          c.value.result.now c.begin-turn.result.value b.found c.value.ensures.value b.told b.events c.unpin.new.self
           (session_of c.end.new.seat) c.args.pinned.session (c.end.ensures.same.session ∙ b.same.session ∙ sym c.requires.pin.own) (seen c.end.new.seat) c.end.ensures.seen c.unpin.ensures.adds;
     }

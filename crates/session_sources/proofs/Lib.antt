@@ -1,0 +1,6 @@
+pub mod Answering
+pub mod CourseLaws
+pub mod HeldSteps
+pub mod NoteSteps
+pub mod PinnedSteps
+pub mod VersionLaws
