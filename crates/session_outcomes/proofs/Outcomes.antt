@@ -9,7 +9,7 @@ use Rattle.statement_replies.specs.declared.replies.Reply.{Reply as Told}
 use Rattle.statement_replies.specs.StatementKinds.{HasChangeKind, HasStatementKind}
 use Rattle.statement_replies.specs.Statements.{Accepted, accepted}
 use Rattle.session_replies.specs.Replies.{names_before}
-use Rattle.afl_session.specs.Inner.Said.{OutcomesAreSaid}
+use Rattle.session_outcomes.specs.Said.{OutcomesAreSaid}
 
 accepted_kind : (names : Names) (change : Change) → HasChangeKind names change (accepted names change)
 accepted_kind names (Create name schema) = refl

@@ -1,0 +1,4 @@
+pub mod Behind
+pub mod Noted
+pub mod Outcomes
+pub mod Told

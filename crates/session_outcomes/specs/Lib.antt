@@ -1,0 +1,3 @@
+pub mod BehindPins
+pub mod Said
+pub mod Told

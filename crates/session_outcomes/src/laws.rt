@@ -1,0 +1,23 @@
+//! What comes of statements, and what their replies tell.
+ghost use Rattle.session_outcomes.specs.BehindPins.{PinnedOutcomesAreSaid};
+ghost use Rattle.session_outcomes.specs.Said.{OutcomesAreSaid};
+ghost use Rattle.session_outcomes.specs.Told.{FailuresAreNoted, SaidRepliesAreTold, UnreadRepliesAreTold};
+
+use afl_outside::Disk;
+
+/// What comes of a statement over the database of a place is what it says there; what comes of it over a pin's source is said behind the pin.
+pub fn outcomes_are_said<D: Disk>()
+    ensures said { OutcomesAreSaid D.moment }
+    ensures behind { PinnedOutcomesAreSaid D.moment }
+{}
+
+/// A reply of what is said behind a pin tells what it has to, and so does the one that tells why a source gave no answer.
+pub fn replies_are_told<D: Disk>()
+    ensures said { SaidRepliesAreTold D.moment }
+    ensures unread { UnreadRepliesAreTold D.moment }
+{}
+
+/// A disk that failed for a session's pin left the note of it among what the session added.
+pub fn failures_are_noted<D: Disk>()
+    ensures { FailuresAreNoted D.moment }
+{}

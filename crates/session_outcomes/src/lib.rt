@@ -1,0 +1,6 @@
+//! What comes of statements of sessions over a store that is shared, as it is said at places of the store's history.
+#![tactic(auto)]
+
+mod laws;
+
+pub use laws::{failures_are_noted, outcomes_are_said, replies_are_told};
