@@ -1,6 +1,6 @@
 //! Answers in a turn that is held.
 
-use crate::options::Options;
+use crate::settings::Options;
 use afl_outside::{Disk, Gate};
 use afl_trees::Tree;
 use cell_values::Memory;

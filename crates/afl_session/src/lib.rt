@@ -1,10 +1,10 @@
 //! Sessions: the answers to statements over a store that is shared.
 #![tactic(auto)]
 
-mod answer;
+mod answering;
 mod held;
-mod options;
 mod pinned;
+mod settings;
 
-pub use answer::answer;
-pub use options::Options;
+pub use answering::answer;
+pub use settings::Options;

@@ -12,7 +12,7 @@ ghost use Rattle.told_stores.specs.Databases.{IsDatabaseOf};
 ghost use Rattle.afl_session.specs.Inner.Under.{IsAnsweredUnder};
 
 use crate::held::answer_held;
-use crate::options::Options;
+use crate::settings::Options;
 use afl_outside::{Disk, Gate, Point};
 use afl_trees::Tree;
 use array_geom::Changed;

@@ -6,7 +6,7 @@ ghost use Rattle.snapshot_manager.specs.Seats.{last_place, seen, session_of, sta
 ghost use Rattle.afl_session.specs.Answered.{IsAnswered};
 ghost use Rattle.afl_session.specs.Inner.Under.{IsAnsweredTree};
 
-use crate::options::Options;
+use crate::settings::Options;
 use crate::pinned::answer_pinned;
 use afl_outside::{Disk, Gate, Point};
 use afl_parser::{ParseFault, parse};
