@@ -2,3 +2,4 @@ pub mod Behind
 pub mod Noted
 pub mod Outcomes
 pub mod Told
+pub mod Under

@@ -1,3 +1,4 @@
 pub mod BehindPins
 pub mod Said
 pub mod Told
+pub mod Under

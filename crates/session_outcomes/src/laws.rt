@@ -2,6 +2,7 @@
 ghost use Rattle.session_outcomes.specs.BehindPins.{PinnedOutcomesAreSaid};
 ghost use Rattle.session_outcomes.specs.Said.{OutcomesAreSaid};
 ghost use Rattle.session_outcomes.specs.Told.{FailuresAreNoted, SaidRepliesAreTold, UnreadRepliesAreTold};
+ghost use Rattle.session_outcomes.specs.Under.{FailedRepliesAreTold, ReadRepliesAreTold};
 
 use afl_outside::Disk;
 
@@ -20,4 +21,10 @@ pub fn replies_are_told<D: Disk>()
 /// A disk that failed for a session's pin left the note of it among what the session added.
 pub fn failures_are_noted<D: Disk>()
     ensures { FailuresAreNoted D.moment }
+{}
+
+/// What was read under a pin is told right behind it, and so is why it could not be read.
+pub fn readings_are_told<D: Disk>()
+    ensures read { ReadRepliesAreTold D.moment }
+    ensures failed { FailedRepliesAreTold D.moment }
 {}
