@@ -28,7 +28,7 @@ use Rattle.session_outcomes.proofs.Outcomes.{outcomes_are_said}
 
 module _ {D : Type 0} (moment : D → Moment) (r : Reading D) (has : HasDatabaseAt moment (start moment r.lent.shared) (seen r.lent.seat) r.lent.pinned.place r.lent.pinned.names) where
   -- the source tells what stood when the pin came
-  source_tells : (db : Database) → BeganAs (moment (start moment r.lent.shared).opened.disk).state db →
+  pub source_tells : (db : Database) → BeganAs (moment (start moment r.lent.shared).opened.disk).state db →
       IsToldBy r.lent.pinned.names (pinned_state moment r) (database_with db (told (start moment r.lent.shared) (seen r.lent.seat)) r.lent.pinned.place)
   source_tells db began = record {
     database = (has db began).database;

@@ -1,4 +1,5 @@
 pub mod Behind
+pub mod Changing
 pub mod Noted
 pub mod Outcomes
 pub mod Told

@@ -37,7 +37,7 @@ use Rattle.session_outcomes.proofs.Told.{said_replies_are_told, unread_replies_a
 
 -- ---- over plain variables
 
-pin_within : {D : Type 0} (began : Start D) (events : List Event) (pinned : Pinned) → IsOpenPin (ledger_of began events) pinned → pinned.place + 1 ≤ length (entries_in events)
+pub pin_within : {D : Type 0} (began : Start D) (events : List Event) (pinned : Pinned) → IsOpenPin (ledger_of began events) pinned → pinned.place + 1 ≤ length (entries_in events)
 pin_within {D} began events pinned o =
     let lt : pinned.place < length (entries_in events) = slice_get_within (entries_in events) pinned.place (Pin pinned.session) (open_pins_are_entered D began events pinned o).0 in
     omega (arith, lt)
@@ -71,7 +71,7 @@ page_behind began events pinned page o b = record {
 
 -- ---- readings
 
-module _ {D : Type 0} (moment : D → Moment) (r : Reading D) (text : List ℕ) (tree : Term) (reply : Reply) (read : HasRead moment r) (was : WasPinned moment r text tree reply)
+module _ {D : Type 0} (moment : D → Moment) (r : Reading D) (text : List ℕ) (tree : Term) (reply : Reply) (read : HasRead moment r) (was : WasPinned moment r)
     (at : reply.place ≡ r.lent.pinned.place + 1)
     (adds : AddsAtMostFault (start moment r.lent.shared) (session_of r.lent.seat) (seen r.lent.seat) (seen r.seat)) where
   abbrev began : Start D
@@ -91,7 +91,7 @@ module _ {D : Type 0} (moment : D → Moment) (r : Reading D) (text : List ℕ) 
             (pinned_outcomes_are_said moment (unread r.lent.shared r.lent.pinned r.lent.seat) text tree (Replied (words_of reply)) read.lent_pin.open_pin was.database comes);
       }))
 
-  cause : (fault : ExecFault) → SaysWhy moment r text tree reply fault →
+  cause : (fault : ExecFault) → SaysWhy moment r fault →
       IsCause moment began r.lent.pinned.session r.lent.pinned.place (seen r.seat) adds.own text tree reply fault
   cause Source failed = subst (λ (session : ℕ). HasFault session adds.own) (sym read.lent_pin.own) (failures_are_noted moment r read failed was.untried adds)
   cause (Damaged page) e = later_page moment began r.lent.pinned.session r.lent.pinned.place (session_of r.lent.seat) (seen r.lent.seat) (seen r.seat) adds.own text tree reply
@@ -101,7 +101,7 @@ module _ {D : Type 0} (moment : D → Moment) (r : Reading D) (text : List ℕ) 
           (subst (λ (found : Option ℕ). IfSome found (BeginsPayload r.lent.pinned.names (told began (seen r.lent.seat)) r.lent.pinned.place)) e read.damaged)))
   cause Memory e = tt
 
-  fault_told : (fault : ExecFault) → SaysWhy moment r text tree reply fault → IsUnreadReply fault reply →
+  fault_told : (fault : ExecFault) → SaysWhy moment r fault → IsUnreadReply fault reply →
       IsLookedReply moment began r.lent.pinned.session r.lent.pinned.place (seen r.seat) adds.own text tree reply
   fault_told fault why u = unread_replies_are_told moment began r.lent.pinned.session r.lent.pinned.place (seen r.seat) adds.own text tree reply fault (record {
     since = later_since moment began r.lent.pinned.session r.lent.pinned.place (session_of r.lent.seat) (seen r.lent.seat) (seen r.seat) adds.own text tree reply

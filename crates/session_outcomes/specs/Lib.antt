@@ -1,4 +1,5 @@
 pub mod BehindPins
+pub mod Changing
 pub mod Said
 pub mod Told
 pub mod Under

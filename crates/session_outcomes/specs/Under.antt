@@ -17,21 +17,11 @@ use Rattle.session_sources.specs.Pinned.{pinned_state, unread, HasRead}
 use Rattle.session_outcomes.specs.BehindPins.{ComesOver, HasDatabaseAt}
 use Rattle.session_outcomes.specs.Told.{IsLookedReply}
 
-module _ {D : Type 0} (moment : D → Moment) (r : Reading D) (text : List ℕ) (tree : Term) (reply : Reply) where
-  -- a reply right behind the pin tells what it has to, whatever the reading added
-  abbrev pub IsToldUnder : Type 0
-  IsToldUnder = reply.place ≡ r.lent.pinned.place + 1
-      → (adds : AddsAtMostFault (start moment r.lent.shared) (session_of r.lent.seat) (seen r.lent.seat) (seen r.seat))
-      → IsLookedReply moment (start moment r.lent.shared) r.lent.pinned.session r.lent.pinned.place (seen r.seat) adds.own text tree reply
-
+module _ {D : Type 0} (moment : D → Moment) (r : Reading D) where
   -- the pin came to a store with the database that its names are of, and no note was under it
   pub record WasPinned : Type 0 where
     pub database : HasDatabaseAt moment (start moment r.lent.shared) (seen r.lent.seat) r.lent.pinned.place r.lent.pinned.names
     pub untried : (kinds : NoteKind → Bool) → is_noted kinds (ledger_seen moment r.lent.shared r.lent.seat) (session_of r.lent.seat) ≡ false
-
-  -- the words that come of the statement over the pin's source
-  abbrev pub HasOutcomesWords : Type 0
-  HasOutcomesWords = ComesOver r.lent.pinned.names (pinned_state moment (unread r.lent.shared r.lent.pinned r.lent.seat)) text tree (Replied (words_of reply))
 
   -- the source gave no answer, and says so
   abbrev pub SaysWhy : ExecFault → Type 0
@@ -39,11 +29,22 @@ module _ {D : Type 0} (moment : D → Moment) (r : Reading D) (text : List ℕ) 
   SaysWhy (Damaged page) = r.marks.damaged ≡ Some page
   SaysWhy Memory = Unit {0}
 
+module _ {D : Type 0} (moment : D → Moment) (r : Reading D) (text : List ℕ) (tree : Term) (reply : Reply) where
+  -- a reply right behind the pin tells what it has to, whatever the reading added
+  abbrev pub IsToldUnder : Type 0
+  IsToldUnder = reply.place ≡ r.lent.pinned.place + 1
+      → (adds : AddsAtMostFault (start moment r.lent.shared) (session_of r.lent.seat) (seen r.lent.seat) (seen r.seat))
+      → IsLookedReply moment (start moment r.lent.shared) r.lent.pinned.session r.lent.pinned.place (seen r.seat) adds.own text tree reply
+
+  -- the words that come of the statement over the pin's source
+  abbrev pub HasOutcomesWords : Type 0
+  HasOutcomesWords = ComesOver r.lent.pinned.names (pinned_state moment (unread r.lent.shared r.lent.pinned r.lent.seat)) text tree (Replied (words_of reply))
+
 -- WHAT WAS READ UNDER A PIN IS TOLD, and why it could not be
 abbrev pub ReadRepliesAreTold : {D : Type 0} → (D → Moment) → Type 0
-ReadRepliesAreTold {D} moment = (r : Reading D) (text : List ℕ) (tree : Term) (reply : Reply) → HasRead moment r → WasPinned moment r text tree reply
+ReadRepliesAreTold {D} moment = (r : Reading D) (text : List ℕ) (tree : Term) (reply : Reply) → HasRead moment r → WasPinned moment r
     → HasOutcomesWords moment r text tree reply → IsToldUnder moment r text tree reply
 
 abbrev pub FailedRepliesAreTold : {D : Type 0} → (D → Moment) → Type 0
 FailedRepliesAreTold {D} moment = (r : Reading D) (text : List ℕ) (tree : Term) (reply : Reply) (fault : ExecFault) → HasRead moment r
-    → WasPinned moment r text tree reply → SaysWhy moment r text tree reply fault → IsUnreadReply fault reply → IsToldUnder moment r text tree reply
+    → WasPinned moment r → SaysWhy moment r fault → IsUnreadReply fault reply → IsToldUnder moment r text tree reply

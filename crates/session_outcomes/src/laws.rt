@@ -1,5 +1,6 @@
 //! What comes of statements, and what their replies tell.
 ghost use Rattle.session_outcomes.specs.BehindPins.{PinnedOutcomesAreSaid};
+ghost use Rattle.session_outcomes.specs.Changing.{ReadChangesMayBeCommitted};
 ghost use Rattle.session_outcomes.specs.Said.{OutcomesAreSaid};
 ghost use Rattle.session_outcomes.specs.Told.{FailuresAreNoted, SaidRepliesAreTold, UnreadRepliesAreTold};
 ghost use Rattle.session_outcomes.specs.Under.{FailedRepliesAreTold, ReadRepliesAreTold};
@@ -23,8 +24,9 @@ pub fn failures_are_noted<D: Disk>()
     ensures { FailuresAreNoted D.moment }
 {}
 
-/// What was read under a pin is told right behind it, and so is why it could not be read.
+/// What was read under a pin is told right behind it, and so is why it could not be read; a change that was read may be committed.
 pub fn readings_are_told<D: Disk>()
     ensures read { ReadRepliesAreTold D.moment }
     ensures failed { FailedRepliesAreTold D.moment }
+    ensures changes { ReadChangesMayBeCommitted D.moment }
 {}
