@@ -1,6 +1,7 @@
 //! What comes of statements, and what their replies tell.
 ghost use Rattle.session_outcomes.specs.BehindPins.{PinnedOutcomesAreSaid};
 ghost use Rattle.session_outcomes.specs.Changing.{ReadChangesMayBeCommitted};
+ghost use Rattle.session_outcomes.specs.Freshly.{FreshChangesAreLeftSince};
 ghost use Rattle.session_outcomes.specs.Said.{OutcomesAreSaid};
 ghost use Rattle.session_outcomes.specs.Told.{FailuresAreNoted, SaidRepliesAreTold, UnreadRepliesAreTold};
 ghost use Rattle.session_outcomes.specs.Under.{FailedRepliesAreTold, ReadRepliesAreTold};
@@ -29,4 +30,9 @@ pub fn readings_are_told<D: Disk>()
     ensures read { ReadRepliesAreTold D.moment }
     ensures failed { FailedRepliesAreTold D.moment }
     ensures changes { ReadChangesMayBeCommitted D.moment }
+{}
+
+/// A change that was fresh when a turn had found the store is left by all that came since right behind the pin.
+pub fn fresh_changes_are_left<D: Disk>()
+    ensures { FreshChangesAreLeftSince D }
 {}
