@@ -1,5 +1,5 @@
 -- What comes of a statement over a pin's source.
-use Rattle.std.proofs.Common.{◌≡◌, ◌∙◌, ℕ, ◌+◌, List, refl, ap, sym, subst}
+use Rattle.std.proofs.Common.{◌≡◌, ◌∙◌, ℕ, ◌+◌, List, refl, sym, subst}
 use Rattle.afl_outside.specs.Disk.{Moment}
 use Rattle.afl_trees.specs.Term.{Term}
 use Rattle.logical_plan.specs.declared.names.Names.{Names}
@@ -61,4 +61,4 @@ module _ {D : Type 0} (moment : D → Moment) (r : Reading D) (text : List ℕ) 
 pub pinned_outcomes_are_said : {D : Type 0} (moment : D → Moment) → PinnedOutcomesAreSaid moment
 pinned_outcomes_are_said moment r text tree outcome o has comes =
     outcomes_are_said moment (start moment r.lent.shared) (seen r.lent.seat) text tree (r.lent.pinned.place + 1) outcome
-        (comes_behind moment r text tree outcome o has comes)
+    (comes_behind moment r text tree outcome o has comes)

@@ -1,6 +1,5 @@
 -- A change that was read under a pin.
-use Rattle.std.proofs.Common.{◌≡◌, ◌∙◌, ◌+◌, ◌≤◌, ℕ, true, false, List, ◌++◌, length, Option, Some, ap, sym, subst, arith}
-use Rattle.std.specs.List.{list_all}
+use Rattle.std.proofs.Common.{◌≡◌, ◌∙◌, ◌+◌, ◌≤◌, ℕ, false, List, length, Option, Some, ap, sym, subst, arith}
 use Rattle.afl_outside.specs.Disk.{Moment}
 use Rattle.afl_trees.specs.Term.{Term}
 use Rattle.array_geom.specs.declared.chunk.Changed.{Changed}
@@ -12,20 +11,19 @@ use Rattle.prepared_commits.specs.Prepared.{MayBeMade}
 use Rattle.statement_answers.specs.declared.outcome.Outcome.TheVariants.{Changes}
 use Rattle.statement_answers.specs.Outcomes.{IsMadeOf}
 use Rattle.statement_replies.specs.declared.replies.Reply.{Reply as Told}
-use Rattle.statement_replies.specs.Statements.{Accepted}
 use Rattle.store_ledger.specs.Ledger.{is_noted, is_tried}
 use Rattle.store_state.specs.declared.event.Event.{Event}
 use Rattle.store_state.specs.Calls.{database_with}
 use Rattle.store_state.specs.Standings.{BeganAs}
 use Rattle.array_store.specs.declared.start.Start.{Start}
 use Rattle.told_stores.specs.Told.{entries_in, told}
-use Rattle.snapshot_manager.specs.Seats.{ledger_seen, seen, session_of, start}
+use Rattle.snapshot_manager.specs.Seats.{ledger_seen, seen, start}
 use Rattle.session_replies.specs.Replies.{Says, SaysChange}
 use Rattle.session_replies.proofs.Beginnings.{history_stays}
 use Rattle.session_replies.proofs.Staying.{change_later, says_later}
 use Rattle.session_sources.specs.declared.reading.Reading.{Reading}
 use Rattle.session_sources.specs.Pinned.{unread, HasRead}
-use Rattle.session_outcomes.specs.Changing.{HasOutcomesChange, IsReadChange, ReadChangesMayBeCommitted}
+use Rattle.session_outcomes.specs.Changing.{HasOutcomesChange, ReadChangesMayBeCommitted}
 use Rattle.session_outcomes.specs.Said.{IsSaid}
 use Rattle.session_outcomes.specs.Under.{WasPinned}
 use Rattle.session_outcomes.proofs.Behind.{pinned_outcomes_are_said, source_tells}
@@ -65,9 +63,9 @@ module _ {D : Type 0} (moment : D → Moment) (r : Reading D) (text : List ℕ) 
   may_now : (db : Database) → BeganAs (moment began.opened.disk).state db → MayBeMade (database_with db (told began (seen r.seat)) r.lent.pinned.place) change changed
   may_now db is = subst (λ (es : List Event). MayBeMade (database_with db (told began es) r.lent.pinned.place) change changed) (sym read.adds.adds.grown)
       (subst (λ (h : History). MayBeMade (at db h) change changed) (sym (history_stays began old more r.lent.pinned.place before))
-        (made (database_with db (told began old) r.lent.pinned.place) change changed
-          (comes.told (database_with db (told began old) r.lent.pinned.place)
-            (source_tells moment (unread r.lent.shared r.lent.pinned r.lent.seat) was.database db is)).1))
+      (made (database_with db (told began old) r.lent.pinned.place) change changed
+      (comes.told (database_with db (told began old) r.lent.pinned.place)
+      (source_tells moment (unread r.lent.shared r.lent.pinned r.lent.seat) was.database db is)).1))
 
   tried_now : is_noted is_tried (ledger_seen moment r.lent.shared r.seat) r.lent.pinned.session ≡ false
   tried_now = ap (λ (session : ℕ). is_noted is_tried (ledger_seen moment r.lent.shared r.seat) session) read.lent_pin.own ∙ read.tried ∙ was.untried is_tried

@@ -1,23 +1,17 @@
 -- A change that was fresh since a pin.
-use Rattle.std.proofs.Common.{◌≡◌, ◌∙◌, ℕ, Bool, true, false, if◌then◌else◌, nat_eq, None, Some, refl, [], ◌+◌, ◌-◌, List, ◌∷◌, ◌++◌, length, drop, reverse, IsTrue, ap, sym, subst, arith}
+use Rattle.std.proofs.Common.{◌≡◌, ◌∙◌, ℕ, Bool, true, false, if◌then◌else◌, nat_eq, None, Some, refl, [], ◌+◌, ◌-◌, ◌∷◌, ◌++◌, length, drop, ap, sym, subst, arith}
 use Rattle.std.proofs.lemmas.Bool.{eqb-true}
 use Rattle.std.proofs.lemmas.Option.{none-some, same_Some}
 use Rattle.std.proofs.lemmas.List.{length-reverse}
-use Rattle.plan_changes.specs.declared.change.Change.{Change}
 use Rattle.event_core.specs.declared.entry.Entry.{Entry}
 use Rattle.event_core.specs.declared.entry.Entry.TheVariants.{Pin, Unpin, Commit, Reap}
 use Rattle.event_core.specs.History.{History, pin_before, up_to}
 use Rattle.event_laws.proofs.Pins.{beginnings_are_kept}
 use Rattle.fresh_changes.specs.Fresh.{IsFresh}
 use Rattle.fresh_laws.specs.Fresh.{SameRoom}
-use Rattle.store_ledger.specs.declared.pinned.Pinned.{Pinned}
-use Rattle.store_ledger.specs.Ledger.{IsOpenPin, history}
-use Rattle.store_state.specs.declared.event.Event.{Event}
-use Rattle.array_store.specs.declared.start.Start.{Start}
+use Rattle.store_ledger.specs.Ledger.{history}
 use Rattle.array_store.proofs.FreshChanges.{fresh_since}
 use Rattle.told_stores.specs.Told.{entries_in, ledger_of}
-use Rattle.told_stores.specs.Tries.{is_fresh_since}
-use Rattle.session_replies.specs.Fresh.{AreLeftSince}
 use Rattle.session_outcomes.specs.Freshly.{FreshChangesAreLeftSince}
 
 abbrev Splits : ℕ → History → History → Type 0

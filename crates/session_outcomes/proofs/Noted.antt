@@ -1,5 +1,5 @@
 -- A disk that failed under a pin left its note.
-use Rattle.std.proofs.Common.{◌≡◌, ◌∙◌, ◌⊎◌, inl, inr, ◌<◌, ℕ, Bool, true, false, List, [], ◌∷◌, Contains, refl, sym, subst, arith}
+use Rattle.std.proofs.Common.{◌≡◌, ◌∙◌, inl, inr, ℕ, true, false, List, [], ◌∷◌, Contains, refl, sym, subst, arith}
 use Rattle.std.proofs.lemmas.Bool.{true≢false}
 use Rattle.afl_outside.specs.Disk.{Moment}
 use Rattle.store_ledger.specs.declared.note.NoteKind.TheVariants.{Fault}
@@ -9,7 +9,7 @@ use Rattle.store_state.specs.declared.event.Event.TheVariants.{Noted}
 use Rattle.array_store.specs.declared.start.Start.{Start}
 use Rattle.told_stores.specs.Told.{ledger_of}
 use Rattle.session_replies.specs.Replies.{HasFault}
-use Rattle.session_sources.specs.Courses.{AddsAtMostFault, AddsOwn, IsFaultAtMost, IsOneFault}
+use Rattle.session_sources.specs.Courses.{AddsOwn, IsFaultAtMost}
 use Rattle.session_sources.proofs.CourseLaws.{courses_keep_notes}
 use Rattle.snapshot_manager.specs.Seats.{seen, session_of, start}
 use Rattle.session_outcomes.specs.Told.{FailuresAreNoted}

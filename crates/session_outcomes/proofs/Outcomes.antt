@@ -1,5 +1,5 @@
 -- What comes of a statement is what it says.
-use Rattle.std.proofs.Common.{◌≡◌, ◌∙◌, inl, Some, refl, ap, sym, subst}
+use Rattle.std.proofs.Common.{inl, Some, refl, ap, sym, subst}
 use Rattle.afl_outside.specs.Disk.{Moment}
 use Rattle.logical_plan.specs.declared.names.Names.{Names}
 use Rattle.plan_changes.specs.declared.change.Change.{Change}
@@ -30,5 +30,5 @@ outcomes_are_said moment start events text tree place (Changes change changed re
       record {
         typed = comes.0.0;
         told = λ db began. ap (λ (answer : Accepted). answer.change) (comes.1 db began).0;
-      }
+      },
     )

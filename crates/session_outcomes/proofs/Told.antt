@@ -1,5 +1,5 @@
 -- What replies without a change tell.
-use Rattle.std.proofs.Common.{◌≡◌, ◌∙◌, ◌⊎◌, inl, inr, ℕ, List, Option, None, Some, Ok, Err, refl, ap, sym, subst}
+use Rattle.std.proofs.Common.{◌≡◌, inl, inr, ℕ, List, Option, None, Some, Ok, Err, ap, sym, subst}
 use Rattle.std.proofs.lemmas.Option.{none-some}
 use Rattle.cell_values.specs.declared.datum.Broken.{Broken}
 use Rattle.cell_values.specs.declared.schema.Schema.{Schema}
@@ -25,7 +25,7 @@ use Rattle.statement_replies.specs.Statements.{Accepted, accepted, without_chang
 use Rattle.store_state.specs.declared.event.Event.{Event}
 use Rattle.array_store.specs.declared.start.Start.{Start}
 use Rattle.session_replies.specs.Acts.{looking}
-use Rattle.session_replies.specs.Refusals.{IsUnreadReply, IsWant, Refuses}
+use Rattle.session_replies.specs.Refusals.{IsWant, Refuses}
 use Rattle.session_replies.specs.Replies.{names_before, words_of, HasLine, IsToldFor}
 use Rattle.session_replies.specs.declared.reply.Reply.{Reply}
 use Rattle.session_outcomes.specs.Told.{IsCausedSincePin, IsLookedReply, IsSaidBehindPin, SaidRepliesAreTold, UnreadRepliesAreTold}

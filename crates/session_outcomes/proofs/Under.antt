@@ -1,5 +1,5 @@
 -- What is told of a statement that was read under a pin.
-use Rattle.std.proofs.Common.{◌≡◌, ◌∙◌, ◌+◌, ◌<◌, ◌≤◌, ℕ, true, List, [], ◌++◌, length, slice_index, Option, Some, IfSome, IsSomeAnd, refl, ap, sym, subst, arith}
+use Rattle.std.proofs.Common.{◌≡◌, ◌+◌, ◌<◌, ◌≤◌, ℕ, true, List, [], length, slice_index, Option, IfSome, IsSomeAnd, sym, subst, arith}
 use Rattle.std.specs.List.{list_all}
 use Rattle.std.proofs.lemmas.Option.{slice_get_within}
 use Rattle.afl_outside.specs.Disk.{Moment}
@@ -30,7 +30,7 @@ use Rattle.session_sources.specs.Pinned.{unread, HasRead}
 use Rattle.session_sources.specs.Stored.{BeginsPayload}
 use Rattle.session_outcomes.specs.Said.{IsSaid}
 use Rattle.session_outcomes.specs.Told.{IsCause, IsLookedReply}
-use Rattle.session_outcomes.specs.Under.{FailedRepliesAreTold, HasOutcomesWords, IsToldUnder, ReadRepliesAreTold, SaysWhy, WasPinned}
+use Rattle.session_outcomes.specs.Under.{FailedRepliesAreTold, HasOutcomesWords, ReadRepliesAreTold, SaysWhy, WasPinned}
 use Rattle.session_outcomes.proofs.Behind.{names_behind, open_pin_behind, pinned_outcomes_are_said}
 use Rattle.session_outcomes.proofs.Noted.{failures_are_noted}
 use Rattle.session_outcomes.proofs.Told.{said_replies_are_told, unread_replies_are_told}
@@ -97,8 +97,8 @@ module _ {D : Type 0} (moment : D → Moment) (r : Reading D) (text : List ℕ) 
   cause (Damaged page) e = later_page moment began r.lent.pinned.session r.lent.pinned.place (session_of r.lent.seat) (seen r.lent.seat) (seen r.seat) adds.own text tree reply
       adds.adds read.lent.sealed within_seen page
       (subst (λ (place : ℕ). IsPayloadPage began (seen r.lent.seat) place page) (sym at)
-        (page_behind began (seen r.lent.seat) r.lent.pinned page read.lent_pin.open_pin
-          (subst (λ (found : Option ℕ). IfSome found (BeginsPayload r.lent.pinned.names (told began (seen r.lent.seat)) r.lent.pinned.place)) e read.damaged)))
+      (page_behind began (seen r.lent.seat) r.lent.pinned page read.lent_pin.open_pin
+      (subst (λ (found : Option ℕ). IfSome found (BeginsPayload r.lent.pinned.names (told began (seen r.lent.seat)) r.lent.pinned.place)) e read.damaged)))
   cause Memory e = tt
 
   fault_told : (fault : ExecFault) → SaysWhy moment r fault → IsUnreadReply fault reply →

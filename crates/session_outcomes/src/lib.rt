@@ -3,4 +3,7 @@
 
 mod laws;
 
-pub use laws::{failures_are_noted, fresh_changes_are_left, outcomes_are_said, readings_are_told, replies_are_told};
+pub use laws::{
+    failures_are_noted, fresh_changes_are_left, outcomes_are_said, readings_are_told,
+    replies_are_told,
+};
