@@ -151,7 +151,7 @@ fn push_made<S: ChunkSource>(
         Ok(Err(broken)) => push_broken(out, &broken)?,
         Err(cause) => push_cause(out, cause)?,
     }
-    Ok(push_faults(out, source)?)
+    push_faults(out, source)
 }
 
 /// Makes a change over a source that has the array.
@@ -181,5 +181,5 @@ pub(crate) fn push_change(
 ) -> Result<(), Memory> {
     let mut source = failing_source(*out.allocator(), layout, fails)?;
     push_case(out, &mut source, case, layout)?;
-    Ok(push_asked(out, source.asked())?)
+    push_asked(out, source.asked())
 }

@@ -77,19 +77,12 @@ pub(crate) fn example_leaf(alloc: Global, layout: Layout) -> Result<Leaf, Memory
     })
 }
 
-fn values(alloc: Global, value: i64) -> Result<List<Datum>, Memory>
-    ensures { IfOk result (λ made. made ≡ Int value ∷ []) }
-{
-    let mut values = List::new(alloc);
-    values.push(Datum::Int(value))?;
-    Ok(values)
-}
-
 #[tactic(auto, using(crate::proofs::Stored::placed_at))]
 fn row(alloc: Global, i: i64, value: i64) -> Result<Row, Memory>
     ensures { IfOk result (λ made. made ≡ placed (i ∷ []) (Full (Int value ∷ []))) }
 {
-    let values = values(alloc, value)?;
+    let mut values = List::new(alloc);
+    values.push(Datum::Int(value))?;
     Ok(Row {
         at: coord_of(&[i]),
         cell: Cell::Full(values),

@@ -23,7 +23,7 @@ fn push_leaf<S: ChunkSource>(out: &mut String, source: &mut S, leaf: &Leaf) -> R
         Ok(array) => push_array(out, &array)?,
         Err(cause) => push_cause(out, cause)?,
     }
-    Ok(push_faults(out, source)?)
+    push_faults(out, source)
 }
 
 /// Reads the leaf of the array.
@@ -39,12 +39,12 @@ fn push_pairs<S: ChunkSource>(out: &mut String, source: &mut S) -> Result<(), Me
 pub(crate) fn push_failing(out: &mut String, fails: &[u64]) -> Result<(), Memory> {
     let mut source = failing_source(*out.allocator(), Layout::Pairs, fails)?;
     push_pairs(out, &mut source)?;
-    Ok(push_asked(out, source.asked())?)
+    push_asked(out, source.asked())
 }
 
 /// The array from a source that never fails.
 pub(crate) fn push_sure(out: &mut String) -> Result<(), Memory> {
     let mut source = sure_source(*out.allocator(), Layout::Pairs)?;
     push_pairs(out, &mut source)?;
-    Ok(push_asked(out, source.asked())?)
+    push_asked(out, source.asked())
 }

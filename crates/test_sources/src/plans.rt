@@ -37,7 +37,7 @@ fn push_plan<S: ChunkSource>(out: &mut String, source: &mut S, plan: &Plan) -> R
         }
         Err(cause) => push_cause(out, cause)?,
     }
-    Ok(push_faults(out, source)?)
+    push_faults(out, source)
 }
 
 /// Executes the filter over a source that has the array.
@@ -64,12 +64,12 @@ pub(crate) fn push_failing_filter(
 ) -> Result<(), Memory> {
     let mut source = failing_source(*out.allocator(), layout, fails)?;
     push_filter(out, &mut source, layout)?;
-    Ok(push_asked(out, source.asked())?)
+    push_asked(out, source.asked())
 }
 
 /// The filter over a source that never fails.
 pub(crate) fn push_sure_filter(out: &mut String, layout: Layout) -> Result<(), Memory> {
     let mut source = sure_source(*out.allocator(), layout)?;
     push_filter(out, &mut source, layout)?;
-    Ok(push_asked(out, source.asked())?)
+    push_asked(out, source.asked())
 }
