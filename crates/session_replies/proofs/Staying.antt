@@ -1,5 +1,5 @@
 -- What a reply tells, as more events come.
-use Rattle.std.proofs.Common.{◌≡◌, ◌∙◌, ℕ, zero, suc, ◌<◌, ◌≤◌, true, List, [], ◌∷◌, ◌++◌, length, Option, None, Some, IsSomeAnd, slice_get, slice_index, refl, ap, sym, subst, append_assoc}
+use Rattle.std.proofs.Common.{◌≡◌, ◌∙◌, ℕ, zero, suc, ◌≤◌, true, List, [], ◌∷◌, ◌++◌, length, Option, None, Some, IsSomeAnd, slice_get, slice_index, ap, sym, subst, append_assoc}
 use Rattle.std.specs.List.{list_all}
 use Rattle.std.proofs.lemmas.Option.{none-some}
 use Rattle.std.proofs.lemmas.List.Elements.{Contains-append_left}
@@ -22,9 +22,9 @@ use Rattle.store_ledger.specs.declared.note.NoteKind.TheVariants.{Fault}
 use Rattle.store_state.specs.declared.event.Event.{Event}
 use Rattle.store_state.specs.declared.event.Event.TheVariants.{Noted}
 use Rattle.store_state.specs.Calls.{history_at, IsLeafOf}
-use Rattle.array_store.specs.declared.start.Start.{Start}
-use Rattle.store_commits.specs.declared.fault.CommitFault.{CommitFault}
-use Rattle.store_commits.specs.declared.fault.CommitFault.TheVariants as faults
+use Rattle.told_stores.specs.Start.{Start}
+use Rattle.told_stores.specs.CommitFault.{CommitFault}
+use Rattle.told_stores.specs.CommitFault.TheVariants as faults
 use Rattle.told_stores.specs.Told.{entries_in, is_sealed, told}
 use Rattle.told_stores.proofs.Telling.{entries_in-append}
 use Rattle.session_replies.specs.Acts.{Course, nothing, looking, trying, making}

@@ -3,7 +3,7 @@
 -- What holds at a place holds of the database after the commits before it. The reply to a query, and to a statement that lists something,
 -- holds behind the statement's own pin. That of an accepted change holds before the change's own commit. A refusal for a rule or a cell
 -- holds behind the pin, or in the turn of the commit.
-use Rattle.std.specs.Prelude.{◌≡◌, ◌≤◌, ◌<◌, ◌+◌, ◌⊎◌, ℕ, false, List, [], ◌++◌, Contains, length, slice_get, slice_index, Option, None, Some, IsSomeAnd, Ok}
+use Rattle.std.specs.Prelude.{◌≡◌, ◌≤◌, ◌<◌, ◌+◌, ℕ, false, List, [], ◌++◌, Contains, length, slice_get, slice_index, Option, None, Some, IsSomeAnd, Ok}
 use Rattle.arrayvec.specs.ArrayVec.{ArrayVec}
 use Rattle.afl_outside.specs.Disk.{Moment}
 use Rattle.afl_trees.specs.Term.{Term}
@@ -29,10 +29,10 @@ use Rattle.store_state.specs.declared.event.Event.{Event}
 use Rattle.store_state.specs.declared.event.Event.TheVariants.{Noted}
 use Rattle.store_state.specs.Calls.{database_with, history_at, payload_at, IsLeafOf}
 use Rattle.store_state.specs.Standings.{BeganAs}
-use Rattle.array_store.specs.declared.start.Start.{Start}
-use Rattle.store_commits.specs.declared.fault.CommitFault.{CommitFault}
-use Rattle.store_commits.specs.declared.fault.CommitFault.TheVariants as faults
-use Rattle.store_commits.specs.Causes.{IsUncommitted}
+use Rattle.told_stores.specs.Start.{Start}
+use Rattle.told_stores.specs.CommitFault.{CommitFault}
+use Rattle.told_stores.specs.CommitFault.TheVariants as faults
+use Rattle.told_stores.specs.Causes.{IsUncommitted}
 use Rattle.told_stores.specs.Told.{entries_in, ledger_of, told}
 use Rattle.session_replies.specs.Acts.{Course, nothing, looking, trying, making}
 use Rattle.session_replies.specs.declared.reply.Reply.{Reply}

@@ -11,7 +11,7 @@ ghost use Rattle.store_state.specs.At.{standing};
 ghost use Rattle.store_state.specs.Calls.{database_with, history_at, NotesFault};
 ghost use Rattle.store_state.specs.Standings.{base_of, BeganAs};
 ghost use Rattle.prepared_commits.specs.Prepared.{IsAsked, IsPreparedFor, MayBeMade};
-ghost use Rattle.store_steps.specs.Steps.{sealed_ledger};
+ghost use Rattle.array_store.specs.Steps.{sealed_ledger};
 ghost use Rattle.array_store.specs.Growth.{AddsFault};
 ghost use Rattle.array_store.specs.Sealing.{AddsCommit};
 ghost use Rattle.store_commits.specs.Causes.{refused_at, FitsAfter, IsStoppedSince, IsUncommitted};
@@ -20,10 +20,9 @@ ghost use Rattle.store_commits.specs.Tried.{AddsSealed, AddsTried};
 use crate::fault::CommitFault;
 use afl_outside::Disk;
 use array_geom::Changed;
-use array_store::Store;
+use array_store::{Store, commits_need_what_they_cost};
 use plan_changes::Change;
 use prepared_commits::{PrepareFault, Prepared};
-use prepared_costs::commits_need_what_they_cost;
 use std::alloc::Global;
 
 /// Commits a change under a session's pin, with the chunks that it writes. It is the first that is tried under the pin. The answer is the

@@ -4,4 +4,5 @@
 mod preparing;
 mod slots;
 
+pub use prepared_costs::commits_need_what_they_cost;
 pub use preparing::prepare;

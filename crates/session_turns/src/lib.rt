@@ -1,0 +1,12 @@
+//! Statements that are answered in a turn that their session holds.
+#![tactic(auto)]
+
+mod held;
+mod settings;
+
+pub use held::answer_held;
+pub use session_outcomes::{
+    Commit, PinnedSource, Reply, Seat, Shared, at_place, refusal_at, sources_hold_their_versions,
+    uncommitted, unread, want,
+};
+pub use settings::Options;
