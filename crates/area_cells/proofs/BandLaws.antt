@@ -1,5 +1,5 @@
 -- The rows of bands of chunks, one band after the other.
-use Rattle.std.proofs.Common.{◌≡◌, ℕ, zero, suc, ◌+◌, ◌*◌, ◌<◌, ◌≤◌, ℤ, pos, ◌≤ℤ◌, ◌<ℤ◌, ◌+ℤ◌, int_le, ◌&&◌, Bool, true, false, cond, List, [], ◌∷◌, ◌++◌, length, get_or, take, drop, refl, sym, ap, ◌∙◌, subst, add-one, arith}
+use Rattle.std.proofs.Common.{◌≡◌, ℕ, zero, suc, ◌+◌, ◌-◌, ◌*◌, ◌<◌, ◌≤◌, ℤ, pos, ◌≤ℤ◌, ◌<ℤ◌, ◌+ℤ◌, int_le, ◌&&◌, Bool, true, false, cond, List, [], ◌∷◌, ◌++◌, length, get_or, take, drop, refl, sym, ap, ◌∙◌, subst, add-one, arith}
 use Rattle.std.specs.Int.{int_min}
 use Rattle.std.proofs.lemmas.Int.{ints, clamps}
 use Rattle.std.proofs.lemmas.List.{append-nil, drop_all, take_all}
@@ -23,7 +23,7 @@ use Rattle.array_geom.proofs.NearLemmas.{valid_placed}
 use Rattle.array_geom.specs.Link.{NumbersRise, chunk_rows, core_rows, number_order, numbers}
 use Rattle.array_geom.proofs.TestLaws.{and_parts, le_from_test}
 use Rattle.chunk_cells.proofs.MergeLaws.{IsRising-core_rows, put_all-none}
-use Rattle.area_cells.specs.Inner.Apart.{first_of}
+use Rattle.area_cells.specs.Inner.Apart.{BeginsBand, first_of}
 use Rattle.area_cells.proofs.ApartLaws.{from_first, risen}
 use Rattle.area_cells.proofs.CutLaws.{all_drop, all_take, both_sides, core_rows-append}
 
@@ -195,3 +195,28 @@ band_ended schema margins f count chunks first next valid cores rise is l e s n 
   where
     beyond : (a b : ℕ) → a ≤ b → (b ≡ a → ⊥) → a < b
     beyond a b h k = grind (arith, k)
+
+-- ---- where another band begins in the midst
+
+-- the first numbers up to a place are no more than the one there
+earlier_firsts : (cs : List Chunk) (n : ℕ) (last : Chunk) → NumbersRise (numbers cs) → n < length cs → last ≡ get_or cs n last → AllByRecursion (λ k. first_of k ≤ first_of last.at.items) (numbers (take (suc n) cs))
+earlier_firsts [] n last r l e = absurd (omega (arith, l))
+earlier_firsts (c ∷ cs) zero last r l e =
+    let same : first_of last.at.items ≡ first_of c.at.items = ap (λ (z : Chunk). first_of z.at.items) e in
+    (omega (arith, same), tt)
+earlier_firsts (c ∷ cs) (suc n) last r l e =
+    let more = risen c.at.items last.at.items (at_number (λ k. number_order c.at.items k ≡ Less) cs n last r.0 (omega (arith, l)) e) in
+    (more, earlier_firsts cs n last r.1 (omega (arith, l)) e)
+
+pub band_begins : (schema : Schema) (margins : List ℕ) (at : ℕ) (chunks : List Chunk) → IsValid schema → AllByRecursion (λ chunk. has_core schema.dimensions chunk.at.items ≡ true) chunks → NumbersRise (numbers chunks) → BeginsBand at chunks
+    → core_rows schema.dimensions margins chunks ≡ core_rows schema.dimensions margins (take at chunks) ++ core_rows schema.dimensions margins (drop at chunks)
+band_begins schema margins zero chunks valid cores rise b = absurd (let some = b.some in omega (arith, some))
+band_begins schema margins (suc n) chunks valid cores rise b =
+    let dims = schema.dimensions in
+    let inside : suc n < length chunks = b.within in
+    let place : suc n - 1 ≡ n = omega arith in
+    let before_is : b.before ≡ get_or chunks n b.before = b.before_is ∙ ap (λ (k : ℕ). get_or chunks k b.before) place in
+    let firsts = earlier_firsts chunks n b.before rise (omega (arith, inside)) before_is in
+    ap (core_rows dims margins) (both_sides (suc n) chunks (take (suc n) chunks) (drop (suc n) chunks) refl refl)
+    ∙ bands_apart dims margins (first_of b.before.at.items) (take (suc n) chunks) (drop (suc n) chunks) (all_take (λ chunk. has_core dims chunk.at.items ≡ true) (suc n) chunks cores) (all_drop (λ chunk. has_core dims chunk.at.items ≡ true) (suc n) chunks cores) firsts
+    (above (first_of b.before.at.items) (first_of b.next.at.items) (numbers (drop (suc n) chunks)) b.rises (later_firsts chunks (suc n) b.next rise inside b.next_is)) (λ d ds same. (subst AreNear same (valid_placed schema valid).near).0.some)

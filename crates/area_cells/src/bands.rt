@@ -6,7 +6,7 @@ ghost use Rattle.array_geom.specs.Link.{NumbersRise, core_rows, numbers};
 ghost use Rattle.array_parts.specs.Placed.{HasPlaces, HavePlaces};
 ghost use Rattle.chunk_cells.specs.Whole.{CoresRise};
 ghost use Rattle.cell_values.specs.Schemas.{IsValid};
-ghost use Rattle.area_cells.specs.Inner.Apart.{first_of};
+ghost use Rattle.area_cells.specs.Inner.Apart.{BeginsBand, first_of};
 
 use array_geom::{Chunk, ChunkedArray};
 use cell_values::{List, Margins, Memory, Row, Schema, copy_numbers};
@@ -41,6 +41,43 @@ pub fn count_in_band(schema: &Schema, chunks: &[Chunk]) -> usize
         count += 1;
     }
     count
+}
+
+/// Whether a band begins at a place behind the first chunk.
+fn begins_band(chunks: &[Chunk], at: usize) -> bool
+    ensures { IsTrue result → BeginsBand at chunks.now }
+{
+    if at == 0 || at >= chunks.len() {
+        return false;
+    }
+    let last = at - 1;
+    let before = first_number(&chunks[last]);
+    let next = first_number(&chunks[at]);
+    before < next
+}
+
+/// Where a band begins in the midst of chunks, as near to their middle as there is one; their number, where all are in one band.
+/// All rows of those before come before those of the others.
+pub fn half_of_bands(schema: &Schema, chunks: &[Chunk]) -> usize
+    requires some { 0 < length chunks.now }
+    requires valid { IsValid schema.now }
+    requires cores { AllByRecursion (λ chunk. IsTrue (has_core schema.now.dimensions chunk.at.items)) chunks.now }
+    requires rise { NumbersRise (numbers chunks.now) }
+    ensures some { 0 < result }
+    ensures within { result ≤ length chunks.now }
+    ensures rows { (margins : Items ℕ) → core_rows schema.now.dimensions margins chunks.now ≡ core_rows schema.now.dimensions margins (take result chunks.now) ++ core_rows schema.now.dimensions margins (drop result chunks.now) }
+{
+    let _ = schema;
+    let half = chunks.len() / 2;
+    for step in 0..half + 1 {
+        if begins_band(chunks, half + step) {
+            return half + step;
+        }
+        if begins_band(chunks, half - step) {
+            return half - step;
+        }
+    }
+    chunks.len()
 }
 
 fn copies(chunks: &[Chunk], schema: &Schema) -> Result<List<Chunk>, Memory>

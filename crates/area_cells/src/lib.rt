@@ -8,7 +8,7 @@ mod framing;
 mod gathering;
 mod rising;
 
-pub use bands::{count_in_band, rows_of_chunks};
+pub use bands::{count_in_band, half_of_bands, rows_of_chunks};
 pub use counting::are_few;
 pub use cutting::cut_chunk;
 pub use framing::{array_of_parts, chunk_of_rows};

@@ -1,5 +1,5 @@
 //! The first pages of a file.
-ghost use Rattle.std.specs.Prelude.{◌≡◌, ℕ, List, length, Some, IfSome, IfErr, IsTrue, OnOk};
+ghost use Rattle.std.specs.Prelude.{◌≡◌, ◌≢◌, ℕ, List, length, Some, IfSome, IfErr, IsTrue, OnOk};
 ghost use Rattle.afl_outside.specs.Disk.{DiskGoesOn, FailsWithCause, Only};
 ghost use Rattle.page_slots.specs.Puts.{OnlySyncs};
 ghost use Rattle.page_file.specs.Start.{IsEmptyDatabase, IsInit, HasCause, IsDeviceFault, WhereNotEmpty};
@@ -98,11 +98,12 @@ fn make_first<D: Disk>(disk: &mut D) -> Result<(), InitFault>
 }
 
 /// Makes an empty file a database with no array. Whatever a crash leaves afterwards is that database. A file that is not empty stays
-/// as it is.
+/// as it is, also where the disk fails.
 pub fn init<D: Disk>(disk: &mut D) -> Result<(), InitFault>
     ensures init { IfSome (D.moment disk.old).state.seen (λ seen. IsInit seen result) }
     ensures made { OnOk result (IsTrue (D.moment disk.old).state.honest → IfSome (D.moment disk.old).state.seen (λ _. (file : List ℕ) × ((D.moment disk.new).state.seen ≡ Some file) × IsEmptyDatabase file × Only file (D.moment disk.new).may_leave)) }
     ensures kept { IfErr result (λ fault. WhereNotEmpty fault (OnlySyncs (D.moment disk.old) (D.moment disk.new))) }
+    ensures not_written { IfSome (D.moment disk.old).state.seen (λ seen. length seen ≢ 0 → OnlySyncs (D.moment disk.old) (D.moment disk.new)) }
     ensures same { DiskGoesOn (D.moment disk.old).state (D.moment disk.new).state }
     ensures cause { IfErr result (λ fault. HasCause fault (D.moment disk.old).state (D.moment disk.new).state) }
 {
