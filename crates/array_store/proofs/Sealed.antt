@@ -10,7 +10,7 @@ use Rattle.store_state.specs.Calls.{NotesFault}
 use Rattle.store_state.specs.Events.{events}
 use Rattle.store_state.specs.Standings.{Standing}
 use Rattle.prepared_commits.specs.declared.prepared.Prepared.{Prepared}
-use Rattle.store_steps.specs.Steps.{entry_of, made_by, sealed, sealed_ledger, stopped}
+use Rattle.store_sealing.specs.Steps.{entry_of, made_by, sealed, sealed_ledger, stopped}
 use Rattle.array_store.specs.Growth.{AddsEvents, AddsFault, IsCounted, fault_events}
 use Rattle.array_store.specs.Sealing.{AddsCommit}
 use Rattle.array_store.proofs.Added.{commits_add_events, faults_add_events}

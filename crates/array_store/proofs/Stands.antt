@@ -13,7 +13,7 @@ use Rattle.store_state.specs.declared.parts.StoreParts.{StoreParts}
 use Rattle.store_state.specs.At.{AreParts, standing}
 use Rattle.store_state.specs.Standings.{Standing, BeganAs, StandsFor, database_at}
 use Rattle.prepared_commits.specs.declared.prepared.Prepared.{Prepared}
-use Rattle.store_steps.specs.Steps.{sealed, stopped}
+use Rattle.store_sealing.specs.Steps.{sealed, stopped}
 use Rattle.store_opening.specs.declared.opening.Limits.{Limits}
 use Rattle.store_opening.specs.Opened.{IsNew}
 

@@ -13,7 +13,7 @@ use Rattle.store_state.specs.Events.{events}
 use Rattle.store_state.specs.Standings.{Standing, with_notes}
 use Rattle.prepared_commits.specs.declared.fault.PrepareFault.{PrepareFault}
 use Rattle.prepared_commits.specs.declared.fault.PrepareFault.TheVariants.{SequenceEnd, Full, Memory}
-use Rattle.prepared_parts.specs.Parts.{is_short}
+use Rattle.store_preparing.specs.Parts.{is_short}
 use Rattle.store_preparing.specs.Left.{IsLeft, reaped_if, tried_now}
 use Rattle.array_store.specs.Growth.{AddsEvents, IsCounted, tried_events}
 use Rattle.array_store.proofs.Added.{entries_add_events, notes_add_events}

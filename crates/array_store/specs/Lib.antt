@@ -1,3 +1,5 @@
+pub use Rattle.store_preparing.specs.Left
+pub use Rattle.store_sealing.specs.Steps
 pub mod Growth
 pub mod Laws
 pub mod Sealing

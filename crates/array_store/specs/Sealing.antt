@@ -5,7 +5,7 @@ use Rattle.afl_outside.specs.Disk.{Moment}
 use Rattle.store_state.specs.declared.event.Event.TheVariants.{Acknowledged}
 use Rattle.store_state.specs.Standings.{Standing}
 use Rattle.prepared_commits.specs.declared.prepared.Prepared.{Prepared}
-use Rattle.store_steps.specs.Steps.{entry_of, made_by, sealed_ledger}
+use Rattle.store_sealing.specs.Steps.{entry_of, made_by, sealed_ledger}
 use Rattle.array_store.specs.Growth.{AddsEvents, fault_events}
 
 -- the commit, with the moment at which it was acknowledged and the directory that it made; where the disk's count of faults rose, the note

@@ -11,8 +11,8 @@ ghost use Rattle.store_state.specs.At.{keeping, standing};
 ghost use Rattle.store_state.specs.Calls.{NotesFault};
 ghost use Rattle.store_state.specs.Standings.{BeganAs, StandsFor, database_at};
 ghost use Rattle.prepared_commits.specs.Prepared.{IsPreparedFor};
-ghost use Rattle.store_steps.specs.Steps.{sealed, sealed_keeping, sealed_ledger, stopped};
-ghost use Rattle.store_cells.specs.Moves.{MayLeave};
+ghost use Rattle.store_sealing.specs.Steps.{sealed, sealed_keeping, sealed_ledger, stopped};
+ghost use Rattle.store_sealing.specs.Moves.{MayLeave};
 ghost use Rattle.array_store.specs.Growth.{AddsFault};
 ghost use Rattle.array_store.specs.Sealing.{AddsCommit};
 

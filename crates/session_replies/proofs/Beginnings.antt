@@ -15,7 +15,7 @@ use Rattle.store_state.specs.declared.event.Event.{Event}
 use Rattle.store_state.specs.declared.event.Event.TheVariants.{Entered, Acknowledged, Noted}
 use Rattle.store_state.specs.Calls.{entry_in, history_at, numbers_in}
 use Rattle.store_state.specs.Standings.{Standing, commit_places, given_of, made_at, versions_after}
-use Rattle.array_store.specs.declared.start.Start.{Start}
+use Rattle.told_stores.specs.Start.{Start}
 use Rattle.told_stores.specs.Laws.{SeesTheSame}
 use Rattle.told_stores.specs.Told.{directories_in, entries_in, is_sealed, told}
 use Rattle.told_stores.proofs.Sights.{more_history}

@@ -12,7 +12,7 @@ use Rattle.store_versions.specs.Versions.{directory_of}
 use Rattle.store_state.specs.declared.event.Event.{Event}
 use Rattle.store_state.specs.Calls.{entry_in, history_at}
 use Rattle.store_state.specs.Standings.{versions_after}
-use Rattle.array_store.specs.declared.start.Start.{Start}
+use Rattle.told_stores.specs.Start.{Start}
 use Rattle.told_stores.specs.Told.{entries_in, told}
 use Rattle.session_replies.specs.Laws.{HaveTheSame, PinsChangeNothing}
 use Rattle.session_replies.proofs.Beginnings.{beginning_stays}

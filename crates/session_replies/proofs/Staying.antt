@@ -22,9 +22,9 @@ use Rattle.store_ledger.specs.declared.note.NoteKind.TheVariants.{Fault}
 use Rattle.store_state.specs.declared.event.Event.{Event}
 use Rattle.store_state.specs.declared.event.Event.TheVariants.{Noted}
 use Rattle.store_state.specs.Calls.{history_at, IsLeafOf}
-use Rattle.array_store.specs.declared.start.Start.{Start}
-use Rattle.store_commits.specs.declared.fault.CommitFault.{CommitFault}
-use Rattle.store_commits.specs.declared.fault.CommitFault.TheVariants as faults
+use Rattle.told_stores.specs.Start.{Start}
+use Rattle.told_stores.specs.CommitFault.{CommitFault}
+use Rattle.told_stores.specs.CommitFault.TheVariants as faults
 use Rattle.told_stores.specs.Told.{entries_in, is_sealed, told}
 use Rattle.told_stores.proofs.Telling.{entries_in-append}
 use Rattle.session_replies.specs.Acts.{Course, nothing, looking, trying, making}

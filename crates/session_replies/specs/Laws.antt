@@ -10,7 +10,7 @@ use Rattle.event_core.specs.declared.entry.Entry.TheVariants.{Pin}
 use Rattle.result_print.specs.declared.refusal.Refusal.{Refusal}
 use Rattle.store_state.specs.declared.event.Event.{Event}
 use Rattle.store_state.specs.Calls.{database_with, payload_at}
-use Rattle.array_store.specs.declared.start.Start.{Start}
+use Rattle.told_stores.specs.Start.{Start}
 use Rattle.told_stores.specs.Told.{entries_in, is_sealed, told}
 use Rattle.session_replies.specs.Acts.{acts_in, Course}
 use Rattle.session_replies.specs.Replies.{names_before, IsToldFor}

@@ -5,8 +5,8 @@ use Rattle.chunk_source.specs.declared.reading.fault.ExecFault.TheVariants as re
 use Rattle.result_print.specs.declared.refusal.Refusal.{Refusal}
 use Rattle.result_print.specs.declared.refusal.Refusal.TheVariants.{Disk, Damaged, SequenceEnd, Full, Memory}
 use Rattle.statement_replies.specs.Reply.{refused}
-use Rattle.store_commits.specs.declared.fault.CommitFault.{CommitFault}
-use Rattle.store_commits.specs.declared.fault.CommitFault.TheVariants as commits
+use Rattle.told_stores.specs.CommitFault.{CommitFault}
+use Rattle.told_stores.specs.CommitFault.TheVariants as commits
 use Rattle.session_replies.specs.Replies.{words_of}
 use Rattle.session_replies.specs.declared.reply.Reply.{Reply}
 

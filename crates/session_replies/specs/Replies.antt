@@ -29,10 +29,10 @@ use Rattle.store_state.specs.declared.event.Event.{Event}
 use Rattle.store_state.specs.declared.event.Event.TheVariants.{Noted}
 use Rattle.store_state.specs.Calls.{database_with, history_at, payload_at, IsLeafOf}
 use Rattle.store_state.specs.Standings.{BeganAs}
-use Rattle.array_store.specs.declared.start.Start.{Start}
-use Rattle.store_commits.specs.declared.fault.CommitFault.{CommitFault}
-use Rattle.store_commits.specs.declared.fault.CommitFault.TheVariants as faults
-use Rattle.store_commits.specs.Causes.{IsUncommitted}
+use Rattle.told_stores.specs.Start.{Start}
+use Rattle.told_stores.specs.CommitFault.{CommitFault}
+use Rattle.told_stores.specs.CommitFault.TheVariants as faults
+use Rattle.told_stores.specs.Causes.{IsUncommitted}
 use Rattle.told_stores.specs.Told.{entries_in, ledger_of, told}
 use Rattle.session_replies.specs.Acts.{Course, nothing, looking, trying, making}
 use Rattle.session_replies.specs.declared.reply.Reply.{Reply}

@@ -8,7 +8,7 @@ use chunk_source::ExecFault;
 use result_print::Refusal;
 use statement_replies::{Reply as Words, refuse};
 use std::alloc::Global;
-use store_commits::CommitFault;
+use told_stores::CommitFault;
 
 /// What a statement is answered.
 #[derive(Debug, Drop)]

@@ -7,11 +7,11 @@ use Rattle.turn_lock.specs.Owners.{is_owned_by, none_of}
 use Rattle.store_ledger.specs.Ledger.{is_noted, IsOpenPin}
 use Rattle.store_state.specs.declared.event.Event.{Event}
 use Rattle.store_state.specs.Events.{owner_of}
-use Rattle.told_stores.specs.Told.{ledger_of}
-use Rattle.told_stores.specs.Turns.{leaves_notes_of, leaves_pin_of, own_events}
-use Rattle.told_stores.proofs.Notes.{notes_outlast, others_leave_notes}
-use Rattle.told_stores.proofs.Sights.{others_leave_pins, pins_outlast}
-use Rattle.told_stores.proofs.Turning.{turns_add_own}
+use Rattle.snapshot_manager.specs.Told.{ledger_of}
+use Rattle.snapshot_manager.specs.Turns.{leaves_notes_of, leaves_pin_of, own_events}
+use Rattle.snapshot_manager.proofs.Notes.{notes_outlast, others_leave_notes}
+use Rattle.snapshot_manager.proofs.Sights.{others_leave_pins, pins_outlast}
+use Rattle.snapshot_manager.proofs.Turning.{turns_add_own}
 use Rattle.session_sources.specs.Laws.{CoursesAddOwn, CoursesJoin, CoursesKeepNotes, CoursesKeepPins, CoursesMayBeEmpty, TurnsAreCourses}
 
 pub own_more : (session : ℕ) (old more : List Event) → own_events session (old ++ more) ≡ own_events session old ++ own_events session more

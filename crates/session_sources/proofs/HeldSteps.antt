@@ -29,9 +29,9 @@ use Rattle.store_state.specs.At.{standing}
 use Rattle.store_state.specs.Calls.{chunks_at, payload_at, IsLeafOf, IsUnread, NotesFault}
 use Rattle.store_state.specs.Events.{events, owner_of}
 use Rattle.store_state.specs.Standings.{Standing, database_at, BeganAs}
-use Rattle.array_store.specs.Growth.{AddsEvents, AddsFault}
-use Rattle.array_store.specs.Starts.{start_of}
-use Rattle.store_commits.proofs.Ended.{fault_seen, rose_or_not}
+use Rattle.snapshot_manager.specs.Growth.{AddsEvents, AddsFault}
+use Rattle.snapshot_manager.specs.Starts.{start_of}
+use Rattle.snapshot_manager.proofs.Ended.{fault_seen, rose_or_not}
 use Rattle.snapshot_manager.specs.Seats.{store_of}
 use Rattle.session_sources.specs.declared.holding.Holding.{Holding}
 use Rattle.session_sources.specs.declared.holding.LentTurn.{LentTurn}

@@ -17,14 +17,14 @@ use Rattle.store_ledger.proofs.Keeping.{pinned_of}
 use Rattle.store_state.specs.declared.event.Event.{Event}
 use Rattle.store_state.specs.declared.event.Event.TheVariants.{Noted}
 use Rattle.store_state.specs.Events.{owner_of}
-use Rattle.store_commits.proofs.Ended.{fault_seen}
-use Rattle.array_store.specs.declared.start.Start.{Start}
-use Rattle.array_store.specs.Growth.{fault_events}
-use Rattle.told_stores.specs.Told.{ledger_of}
-use Rattle.told_stores.specs.Turns.{found_before, own_events, AddsAtMostNote}
-use Rattle.told_stores.proofs.Notes.{more_ledger, notes_outlast, others_leave_notes}
-use Rattle.told_stores.proofs.Sights.{others_leave_pins, pins_outlast}
-use Rattle.told_stores.proofs.Turning.{turns_find}
+use Rattle.snapshot_manager.proofs.Ended.{fault_seen}
+use Rattle.snapshot_manager.specs.Start.{Start}
+use Rattle.snapshot_manager.specs.Growth.{fault_events}
+use Rattle.snapshot_manager.specs.Told.{ledger_of}
+use Rattle.snapshot_manager.specs.Turns.{found_before, own_events, AddsAtMostNote}
+use Rattle.snapshot_manager.proofs.Notes.{more_ledger, notes_outlast, others_leave_notes}
+use Rattle.snapshot_manager.proofs.Sights.{others_leave_pins, pins_outlast}
+use Rattle.snapshot_manager.proofs.Turning.{turns_find}
 use Rattle.session_sources.specs.Courses.{AddsAtMostFault, AddsOwn, IsFaultAtMost}
 use Rattle.session_sources.specs.Laws.{FaultsAreOwn}
 use Rattle.session_sources.proofs.CourseLaws.{courses_join, none_own}

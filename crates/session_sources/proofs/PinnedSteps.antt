@@ -17,15 +17,15 @@ use Rattle.store_state.specs.declared.fault.ReadFault.{ReadFault}
 use Rattle.store_state.specs.declared.fault.ReadFault.TheVariants.{Disk, Damaged, Memory}
 use Rattle.store_state.specs.Calls.{chunks_at, database_with, history_at, payload_at, IsLeafOf}
 use Rattle.store_state.specs.Standings.{BeganAs}
-use Rattle.array_store.specs.declared.start.Start.{Start}
+use Rattle.snapshot_manager.specs.Start.{Start}
 use Rattle.snapshot_manager.specs.declared.seat.Seat.{Seat}
 use Rattle.snapshot_manager.specs.declared.shared.Shared.{Shared}
-use Rattle.told_stores.specs.Faults.{IsUnreadUnder}
-use Rattle.told_stores.specs.Laws.{SeesTheSame}
+use Rattle.snapshot_manager.specs.Faults.{IsUnreadUnder}
+use Rattle.snapshot_manager.specs.Laws.{SeesTheSame}
 use Rattle.snapshot_manager.specs.Seats.{ledger_seen, read_count, seen, session_of, start, store_seen, HoldsPin, IsIdle, IsSameSeat, IsSeatOf}
-use Rattle.told_stores.specs.Told.{told}
-use Rattle.told_stores.specs.Turns.{Adds, AddsAtMostNote}
-use Rattle.told_stores.proofs.Sights.{pins_see_the_same}
+use Rattle.snapshot_manager.specs.Told.{told}
+use Rattle.snapshot_manager.specs.Turns.{Adds, AddsAtMostNote}
+use Rattle.snapshot_manager.proofs.Sights.{pins_see_the_same}
 use Rattle.session_sources.specs.declared.marks.Marks.{Marks}
 use Rattle.session_sources.specs.declared.reading.Lent.{Lent}
 use Rattle.session_sources.specs.declared.reading.Reading.{Reading}

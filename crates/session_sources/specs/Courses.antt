@@ -4,9 +4,9 @@ use Rattle.store_ledger.specs.declared.note.NoteKind.TheVariants.{Fault}
 use Rattle.store_ledger.specs.Ledger.{LedgerState, is_fault, is_noted}
 use Rattle.store_state.specs.declared.event.Event.{Event}
 use Rattle.store_state.specs.declared.event.Event.TheVariants.{Noted}
-use Rattle.array_store.specs.declared.start.Start.{Start}
-use Rattle.told_stores.specs.Told.{ledger_of}
-use Rattle.told_stores.specs.Turns.{own_events}
+use Rattle.snapshot_manager.specs.Start.{Start}
+use Rattle.snapshot_manager.specs.Told.{ledger_of}
+use Rattle.snapshot_manager.specs.Turns.{own_events}
 
 -- A COURSE OF A SESSION: more events came behind those that it had seen, and of them these are its own
 pub record AddsOwn (session : ℕ) (own old new : List Event) : Type 0 where

@@ -14,7 +14,7 @@ use Rattle.store_state.specs.declared.parts.StoreParts.{StoreParts}
 use Rattle.store_state.specs.At.{standing}
 use Rattle.store_state.specs.Events.{events, owner_of}
 use Rattle.store_state.specs.Standings.{Standing, BeganAs}
-use Rattle.array_store.specs.Starts.{start_of}
+use Rattle.snapshot_manager.specs.Starts.{start_of}
 use Rattle.snapshot_manager.specs.declared.seat.Seat.{Seat}
 use Rattle.snapshot_manager.specs.Seats.{store_of, HasTurn}
 use Rattle.session_sources.specs.declared.holding.Holding.{Holding}

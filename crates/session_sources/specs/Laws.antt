@@ -9,9 +9,9 @@ use Rattle.store_ledger.specs.declared.pinned.Pinned.{Pinned}
 use Rattle.store_ledger.specs.Ledger.{LedgerState, is_noted, IsOpenPin}
 use Rattle.store_state.specs.declared.event.Event.{Event}
 use Rattle.store_state.specs.Calls.{IsLeafOf}
-use Rattle.array_store.specs.declared.start.Start.{Start}
-use Rattle.told_stores.specs.Told.{ledger_of}
-use Rattle.told_stores.specs.Turns.{leaves_notes_of, leaves_pin_of, own_events, Adds}
+use Rattle.snapshot_manager.specs.Start.{Start}
+use Rattle.snapshot_manager.specs.Told.{ledger_of}
+use Rattle.snapshot_manager.specs.Turns.{leaves_notes_of, leaves_pin_of, own_events, Adds}
 use Rattle.session_sources.specs.declared.holding.Holding.{Holding}
 use Rattle.session_sources.specs.declared.reading.Reading.{Reading}
 use Rattle.session_sources.specs.Courses.{AddsOwn, IsFaultAtMost}

@@ -14,8 +14,8 @@ use Rattle.store_state.specs.declared.parts.StoreParts.{StoreParts}
 use Rattle.store_state.specs.At.{standing}
 use Rattle.store_state.specs.Events.{owner_of}
 use Rattle.store_state.specs.Standings.{Standing}
-use Rattle.array_store.specs.declared.start.Start.{Start}
-use Rattle.array_store.specs.Starts.{start_of}
+use Rattle.told_stores.specs.Start.{Start}
+use Rattle.told_stores.specs.Starts.{start_of}
 use Rattle.snapshot_manager.specs.declared.shared.Shared.{Shared}
 use Rattle.snapshot_manager.specs.declared.seat.Seat.{Seat}
 use Rattle.told_stores.specs.Told.{entries_in, is_sealed, ledger_of, told}

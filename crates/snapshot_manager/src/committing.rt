@@ -13,8 +13,8 @@ ghost use Rattle.store_state.specs.Calls.{database_with, history_at};
 ghost use Rattle.store_state.specs.Events.{events};
 ghost use Rattle.store_state.specs.Standings.{base_of, BeganAs};
 ghost use Rattle.prepared_commits.specs.Prepared.{IsAsked, MayBeMade};
-ghost use Rattle.array_store.specs.Starts.{start_of};
-ghost use Rattle.store_commits.specs.Causes.{FitsAfter, IsUncommitted};
+ghost use Rattle.told_stores.specs.Starts.{start_of};
+ghost use Rattle.told_stores.specs.Causes.{FitsAfter, IsUncommitted};
 ghost use Rattle.snapshot_manager.specs.Commits.{IfDone, IfStale, OnEnd};
 ghost use Rattle.told_stores.specs.Tries.{is_fresh_since, MakesCommit, MakesHere, TriesCommit, TriesHere};
 ghost use Rattle.snapshot_manager.specs.Seats.{ledger_seen, read_count, seen, session_of, start, store_of, store_seen, HasTurn, HoldsPin, IsIdle, IsSameSeat, IsSeatOf};
@@ -25,12 +25,12 @@ use crate::seat::Seat;
 use crate::shared::{Shared, StoreTurn};
 use afl_outside::Disk;
 use array_geom::Changed;
-use fresh_commits::fresh_changes_may_be_made;
+use told_stores::fresh_changes_may_be_made;
 use fresh_laws::fresh_changes_stay;
 use plan_changes::Change;
 use std::alloc::Global;
 use std::sync::Wait;
-use store_commits::{CommitFault, commit, give_up};
+use told_stores::{CommitFault, commit, give_up};
 use store_ledger::Pinned;
 
 /// What came of a commit that wasn't refused.

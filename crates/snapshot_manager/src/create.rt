@@ -6,7 +6,7 @@ ghost use Rattle.snapshot_manager.specs.Seats.{first_store, seats_in_all, AreNew
 use crate::seat::Seat;
 use crate::shared::Shared;
 use afl_outside::Disk;
-use array_store::Store;
+use told_stores::Store;
 use cell_values::{List, Memory};
 use reap_bell::Bell;
 use std::alloc::Global;

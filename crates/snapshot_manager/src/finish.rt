@@ -2,13 +2,13 @@
 ghost use Rattle.std.specs.Prelude.{◌≡◌, length};
 ghost use Rattle.store_state.specs.At.{standing};
 ghost use Rattle.store_state.specs.Events.{events};
-ghost use Rattle.array_store.specs.Starts.{start_of};
+ghost use Rattle.told_stores.specs.Starts.{start_of};
 ghost use Rattle.snapshot_manager.specs.Seats.{seats_in_all, start, AreIdleSeats, ExtendEach};
 
 use crate::seat::Seat;
 use crate::shared::Shared;
 use afl_outside::Disk;
-use array_store::Store;
+use told_stores::Store;
 use cell_values::List;
 
 impl<D: Disk> Shared<D> {

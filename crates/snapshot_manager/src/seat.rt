@@ -3,7 +3,7 @@ ghost use Rattle.std.specs.Prelude.{◌≡◌};
 ghost use Rattle.snapshot_manager.specs.Seats.{entry_count, last_place, read_count, session_of, with_last};
 
 use afl_outside::Disk;
-use array_store::Store;
+use told_stores::Store;
 use told_stores::let_go;
 use turn_lock::TurnSeat;
 

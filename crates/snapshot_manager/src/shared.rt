@@ -1,7 +1,7 @@
 //! A store that several threads share.
 
 use afl_outside::Disk;
-use array_store::Store;
+use told_stores::Store;
 use reap_bell::Bell;
 use turn_lock::{Turn, TurnLock};
 

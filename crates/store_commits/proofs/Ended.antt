@@ -22,7 +22,7 @@ use Rattle.store_state.specs.declared.event.Event.TheVariants.{Acknowledged, Not
 use Rattle.store_state.specs.Calls.{NotesFault}
 use Rattle.store_state.specs.Standings.{Standing}
 use Rattle.prepared_commits.specs.declared.prepared.Prepared.{Prepared}
-use Rattle.store_steps.specs.Steps.{entry_of, made_by, sealed_ledger}
+use Rattle.array_store.specs.Steps.{entry_of, made_by, sealed_ledger}
 use Rattle.array_store.specs.Growth.{AddsEvents, AddsFault, fault_events}
 use Rattle.array_store.specs.Sealing.{AddsCommit}
 use Rattle.store_commits.specs.Tried.{IsFaultOrNone}

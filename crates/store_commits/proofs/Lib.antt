@@ -1,2 +1,4 @@
+pub use Rattle.array_store.proofs.Added
+pub use Rattle.array_store.proofs.Counted
 pub mod Ended
 pub mod Trying

@@ -26,8 +26,8 @@ use Rattle.prepared_commits.specs.declared.fault.PrepareFault.{PrepareFault}
 use Rattle.prepared_commits.specs.declared.fault.PrepareFault.TheVariants as refusals
 use Rattle.prepared_commits.specs.declared.prepared.Prepared.{Prepared}
 use Rattle.prepared_commits.specs.Prepared.{IsAsked, MayBeMade}
-use Rattle.store_preparing.specs.Left.{FitsIn, HasNext, reaped_if, tried_now}
-use Rattle.store_steps.specs.Steps.{entry_of, made_by, sealed_ledger}
+use Rattle.array_store.specs.Left.{FitsIn, HasNext, reaped_if, tried_now}
+use Rattle.array_store.specs.Steps.{entry_of, made_by, sealed_ledger}
 use Rattle.array_store.specs.declared.start.Start.{Start}
 use Rattle.array_store.specs.Growth.{AddsEvents, AddsFault, tried_events}
 use Rattle.array_store.specs.Sealing.{AddsCommit}

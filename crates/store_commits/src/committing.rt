@@ -11,7 +11,7 @@ ghost use Rattle.store_state.specs.At.{standing};
 ghost use Rattle.store_state.specs.Calls.{database_with, history_at, NotesFault};
 ghost use Rattle.store_state.specs.Standings.{base_of, BeganAs};
 ghost use Rattle.prepared_commits.specs.Prepared.{IsAsked, IsPreparedFor, MayBeMade};
-ghost use Rattle.store_steps.specs.Steps.{sealed_ledger};
+ghost use Rattle.array_store.specs.Steps.{sealed_ledger};
 ghost use Rattle.array_store.specs.Growth.{AddsFault};
 ghost use Rattle.array_store.specs.Sealing.{AddsCommit};
 ghost use Rattle.store_commits.specs.Causes.{refused_at, FitsAfter, IsStoppedSince, IsUncommitted};

@@ -6,3 +6,4 @@ mod fault;
 
 pub use committing::{commit, give_up};
 pub use fault::CommitFault;
+pub use array_store::Store;

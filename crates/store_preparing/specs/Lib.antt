@@ -1,1 +1,2 @@
+pub use Rattle.prepared_parts.specs.Parts
 pub mod Left

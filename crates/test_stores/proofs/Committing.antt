@@ -18,10 +18,10 @@ use Rattle.prepared_parts.specs.Parts.{is_short}
 use Rattle.store_ledger.specs.declared.pinned.Pinned.{Pinned}
 use Rattle.store_ledger.specs.Ledger.{LedgerState, history, note_now, with_entries as more_entries, with_notes as more_notes, attempt}
 use Rattle.store_ledger.proofs.Keeping.{pinned_of}
-use Rattle.store_preparing.specs.Left.{IsLeft, reaped_if, tried_now}
+use Rattle.array_store.specs.Left.{IsLeft, reaped_if, tried_now}
 use Rattle.store_state.specs.Calls.{NotesFault}
 use Rattle.store_state.specs.Standings.{Standing}
-use Rattle.store_steps.specs.Steps.{sealed_ledger}
+use Rattle.array_store.specs.Steps.{sealed_ledger}
 use Rattle.test_stores.specs.declared.holds.Hold.{Hold}
 use Rattle.test_stores.specs.declared.holds.Hold.TheVariants as hold
 use Rattle.test_stores.specs.declared.quiet_disk.QuietDisk.{QuietDisk}

@@ -16,8 +16,8 @@ use Rattle.store_state.specs.Standings.{BeganAs, Standing}
 use Rattle.store_state.specs.Inner.Keeping.{Keeping}
 use Rattle.store_state.specs.Inner.Sights.{Sees, SeesCells}
 use Rattle.store_state.proofs.Sights.{cells_at, cells_place, history_place, pin_history, sees_at, sees_place}
-use Rattle.array_store.specs.declared.start.Start.{Start}
-use Rattle.array_store.proofs.Added.{if_ok}
+use Rattle.store_commits.specs.Start.{Start}
+use Rattle.store_commits.proofs.Added.{if_ok}
 use Rattle.told_stores.specs.Databases.{HasDatabase, IsDatabaseOf, StoresHaveDatabases}
 use Rattle.told_stores.specs.Told.{IsTold, told}
 

@@ -1,3 +1,5 @@
+pub use Rattle.store_commits.proofs.Added
+pub use Rattle.store_commits.proofs.Ended
 pub mod Databases
 pub mod InTurn
 pub mod Notes

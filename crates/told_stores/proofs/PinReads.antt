@@ -23,8 +23,8 @@ use Rattle.store_state.specs.declared.fault.ReadFault.TheVariants.{Damaged, Disk
 use Rattle.store_state.specs.Calls.{IsUnread, chunks_at, history_at, payload_at}
 use Rattle.store_state.specs.Events.{owner_of}
 use Rattle.store_state.specs.Standings.{BeganAs, Standing}
-use Rattle.array_store.specs.declared.start.Start.{Start}
-use Rattle.array_store.specs.Growth.{AddsEvents, AddsFault, fault_events}
+use Rattle.store_commits.specs.Start.{Start}
+use Rattle.store_commits.specs.Growth.{AddsEvents, AddsFault, fault_events}
 use Rattle.store_commits.proofs.Ended.{rose_or_not}
 use Rattle.told_stores.specs.Faults.{IsUnreadUnder}
 use Rattle.told_stores.specs.Told.{IsTold, is_sealed, ledger_of, told}

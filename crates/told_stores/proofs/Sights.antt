@@ -23,7 +23,7 @@ use Rattle.store_state.specs.declared.event.Event.TheVariants.{Entered, Acknowle
 use Rattle.store_state.specs.Calls.{entry_in, history_at, numbers_in}
 use Rattle.store_state.specs.Events.{owner_of}
 use Rattle.store_state.specs.Standings.{Standing, commit_places, given_of, made_at, versions_after}
-use Rattle.array_store.specs.declared.start.Start.{Start}
+use Rattle.store_commits.specs.Start.{Start}
 use Rattle.store_ledger.specs.declared.pinned.Pinned.{Pinned}
 use Rattle.told_stores.specs.Told.{entries_in, directories_in, is_sealed, ledger_of, told}
 use Rattle.told_stores.specs.Turns.{leaves_pin_of}

@@ -18,10 +18,10 @@ use Rattle.store_state.specs.declared.event.Event.{Event}
 use Rattle.store_state.specs.declared.event.Event.TheVariants.{Entered, Acknowledged, Noted}
 use Rattle.store_state.specs.Events.{Seal, events, sealed}
 use Rattle.store_state.specs.Standings.{Standing}
-use Rattle.array_store.specs.declared.start.FirstVersion.{FirstVersion}
-use Rattle.array_store.specs.Starts.{first_of}
-use Rattle.array_store.proofs.Added.{commits_from, count_commits, pairs_count, seal_by, seals_of}
-use Rattle.array_store.proofs.Counted.{all_notes}
+use Rattle.store_commits.specs.FirstVersion.{FirstVersion}
+use Rattle.store_commits.specs.Starts.{first_of}
+use Rattle.store_commits.proofs.Added.{commits_from, count_commits, pairs_count, seal_by, seals_of}
+use Rattle.store_commits.proofs.Counted.{all_notes}
 use Rattle.told_stores.specs.Told.{entries_in, notes_in, moments_in, directories_in, is_sealed, version_from}
 use Rattle.told_stores.specs.Laws.{StoresAreTold}
 

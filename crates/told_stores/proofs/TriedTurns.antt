@@ -38,9 +38,9 @@ use Rattle.store_state.specs.Events.{events, owner_of}
 use Rattle.store_state.specs.Standings.{BeganAs, Standing, base_of}
 use Rattle.prepared_commits.specs.Prepared.{IsAsked, MayBeMade}
 use Rattle.prepared_parts.specs.Parts.{IsFull}
-use Rattle.array_store.specs.declared.start.Start.{Start}
-use Rattle.array_store.specs.Growth.{tried_events}
-use Rattle.array_store.specs.Starts.{start_of}
+use Rattle.store_commits.specs.Start.{Start}
+use Rattle.store_commits.specs.Growth.{tried_events}
+use Rattle.store_commits.specs.Starts.{start_of}
 use Rattle.store_commits.specs.declared.fault.CommitFault.{CommitFault}
 use Rattle.store_commits.specs.declared.fault.CommitFault.TheVariants as faults
 use Rattle.store_commits.specs.Causes.{FitsAfter, IsNeeded, IsUncommitted, unused_after}

@@ -10,8 +10,8 @@ use Rattle.store_ledger.specs.declared.pinned.Pinned.{Pinned}
 use Rattle.store_ledger.specs.Ledger.{LedgerState, history}
 use Rattle.store_state.specs.declared.event.Event.{Event}
 use Rattle.store_state.specs.declared.event.Event.TheVariants.{Acknowledged}
-use Rattle.array_store.specs.declared.start.Start.{Start}
-use Rattle.array_store.specs.Growth.{tried_events}
+use Rattle.store_commits.specs.Start.{Start}
+use Rattle.store_commits.specs.Growth.{tried_events}
 use Rattle.store_commits.specs.Tried.{IsFaultOrNone}
 use Rattle.told_stores.specs.Told.{ledger_of}
 use Rattle.told_stores.specs.Turns.{found_before, Adds}

@@ -12,8 +12,8 @@ use Rattle.store_state.specs.declared.event.Event.{Event}
 use Rattle.store_state.specs.declared.event.Event.TheVariants.{Entered, Acknowledged, Noted}
 use Rattle.store_state.specs.Calls.{chunks_at}
 use Rattle.store_state.specs.Worked.{worked_base, worked_directory, worked_slots, worked_store}
-use Rattle.array_store.specs.declared.start.Start.{Start}
-use Rattle.array_store.specs.Starts.{start_of}
+use Rattle.store_commits.specs.Start.{Start}
+use Rattle.store_commits.specs.Starts.{start_of}
 use Rattle.told_stores.specs.Told.{is_sealed, ledger_of, told, IsTold}
 use Rattle.told_stores.specs.Tries.{MakesCommit}
 use Rattle.told_stores.specs.Turns.{found_before, own_events, Adds}

@@ -1,7 +1,7 @@
 //! Seats of a store's lock that are let go.
 
 use afl_outside::Disk;
-use array_store::Store;
+use store_commits::Store;
 use cell_values::List;
 use turn_lock::TurnSeat;
 

@@ -1,5 +1,5 @@
 use Rattle.std.proofs.Common.{refl, ◌++◌}
-use Rattle.told_stores.specs.Worked.{worked_others, worked_own, worked_seen}
+use Rattle.snapshot_manager.specs.Worked.{worked_others, worked_own, worked_seen}
 use Rattle.session_sources.proofs.CourseLaws.{courses_add_own, courses_join, courses_keep_notes, courses_keep_pins, courses_may_be_empty, turns_are_courses}
 use Rattle.session_sources.proofs.NoteSteps.{faults_are_own}
 use Rattle.session_sources.proofs.laws.courses_are_told.Goals as goal

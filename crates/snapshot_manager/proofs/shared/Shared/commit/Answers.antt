@@ -1,7 +1,7 @@
 use Rattle.std.proofs.Common.{◌∙◌, ap, sym}
 use Rattle.store_state.specs.At.{standing}
 use Rattle.store_state.specs.Events.{events}
-use Rattle.array_store.specs.Starts.{start_of}
+use Rattle.told_stores.specs.Starts.{start_of}
 use Rattle.told_stores.specs.Tries.{is_fresh_since}
 use Rattle.told_stores.proofs.InTurn.{is_now, ledger_is, open_left, open_pin_now, pinned_now}
 use Rattle.told_stores.proofs.TriedTurns.{asked_in_turn, open_made, open_tried, turn_makes, turn_tries, untried_in_turn}

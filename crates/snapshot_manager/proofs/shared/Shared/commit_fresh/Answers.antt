@@ -2,8 +2,8 @@ use Rattle.std.proofs.Common.{◌≡◌, ◌∙◌, [], ap, sym, subst}
 use Rattle.turn_lock.specs.Owners.{ExtendsByOwn}
 use Rattle.store_state.specs.At.{standing}
 use Rattle.store_state.specs.Events.{events, owner_of}
-use Rattle.array_store.specs.Starts.{start_of}
-use Rattle.array_store.proofs.Added.{if_ok, on_ok}
+use Rattle.told_stores.specs.Starts.{start_of}
+use Rattle.told_stores.proofs.Added.{if_ok, on_ok}
 use Rattle.told_stores.specs.Told.{IsTold}
 use Rattle.told_stores.proofs.TriedTurns.{cause_told, commit_extends, commit_start, fits_told, makes_here, may_told, next_told, place_told, tries_here, typed_told}
 use Rattle.told_stores.proofs.Turning.{if_err, on_err}
