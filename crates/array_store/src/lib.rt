@@ -15,3 +15,4 @@ mod telling;
 pub use laws::events_grow;
 pub use start::{FirstVersion, Start};
 pub use store::Store;
+pub use store_preparing::commits_need_what_they_cost;

@@ -1,3 +1,5 @@
+pub use Rattle.commit_costs.specs.Costs
+pub use Rattle.commit_costs.specs.Lengths
 pub mod Changes
 pub mod Commits
 pub mod Inner

@@ -1,2 +1,3 @@
+pub use Rattle.laid_commits.specs.Costs
 pub mod Laws
 pub mod Rows

@@ -5,7 +5,7 @@ use Rattle.std.specs.Str.{bytes_eq}
 use Rattle.logical_plan.specs.declared.names.Names.{Names}
 use Rattle.plan_changes.specs.Changes.{entry_named, name_of}
 use Rattle.plan_changes.specs.declared.change.Change.{Change}
-use Rattle.check_laws.specs.NamesLaws.{change_names}
+use Rattle.fresh_laws.specs.NamesLaws.{change_names}
 use Rattle.event_core.specs.declared.entry.Entry.{Entry}
 use Rattle.event_core.specs.declared.entry.Entry.TheVariants.{Pin, Unpin, Commit, Reap}
 use Rattle.event_core.specs.declared.state.Core.{Core}

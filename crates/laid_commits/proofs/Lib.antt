@@ -1,3 +1,4 @@
+pub use Rattle.next_files.proofs.Apart
 pub mod Bases
 pub mod Cores
 pub mod Made

@@ -10,7 +10,7 @@ use Rattle.plan_changes.specs.Databases.{Database}
 use Rattle.file_meaning.specs.Opening.{Opens}
 use Rattle.file_meaning.specs.Standing.{Stands}
 use Rattle.file_meaning.specs.declared.found.Found.{Found}
-use Rattle.file_laws.proofs.SlotLaws.{slots_are}
+use Rattle.next_files.proofs.SlotLaws.{slots_are}
 use Rattle.next_files.specs.Laws.{FilesStandByTheirSlots, TornBasesStandAlike}
 use Rattle.next_files.specs.Premises.{StandsBy, slots_of}
 use Rattle.laid_commits.specs.Laws.{OpenedFilesStand, OpenedRootsStand}

@@ -9,11 +9,11 @@ use Rattle.chunk_rle.specs.Table.{is_same}
 use Rattle.plan_changes.specs.Stored.{AreStored}
 use Rattle.version_catalog.specs.Catalogs.{IsCatalog, names_in}
 use Rattle.version_catalog.specs.Spelling.{spelling}
-use Rattle.commit_costs.specs.Costs.{catalog_of}
-use Rattle.commit_costs.specs.Lengths.{AreAlikeCatalogs}
+use Rattle.commit_pages.specs.Costs.{catalog_of}
+use Rattle.commit_pages.specs.Lengths.{AreAlikeCatalogs}
 use Rattle.commit_writes.specs.Commits.{base_pages, HoldsAll}
 use Rattle.commit_pages.specs.Commits.{base_needs, base_laid}
-use Rattle.file_laws.specs.Inner.Example.{database, file}
+use Rattle.next_files.specs.Example.{database, file}
 use Rattle.next_files.specs.Inner.Example.{found, slots}
 use Rattle.next_files.specs.Inner.Removed.{change, next, AnArrayIsRemoved}
 use Rattle.next_files.specs.Laws.{FreePagesTurn}

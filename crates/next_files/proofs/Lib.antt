@@ -1,3 +1,5 @@
+pub use Rattle.file_laws.proofs.Apart
+pub use Rattle.file_laws.proofs.SlotLaws
 mod Appended
 mod Base
 mod Both

@@ -35,10 +35,10 @@ use Rattle.found_rows.specs.Rows.{AreInOrder, directories_in}
 use Rattle.store_ledger.specs.Ledger.{history}
 use Rattle.store_versions.specs.Versions.{HaveDirectories, MadeVersion, directory_of}
 use Rattle.store_versions.proofs.Made.{named_versions_have_directories}
-use Rattle.store_state.specs.Standings.{Standing, BeganAs, base_of, commit_places, current_slots, given_of, records_in, versions_after}
-use Rattle.store_state.specs.Cells.{HoldsCells, IsFound, IsImage}
-use Rattle.store_state.specs.At.{IsAt}
-use Rattle.store_state.specs.Inner.Keeping.{Keeping, IsDirectoryOf}
+use Rattle.prepared_commits.specs.Standings.{Standing, BeganAs, base_of, commit_places, current_slots, given_of, records_in, versions_after}
+use Rattle.prepared_commits.specs.Cells.{HoldsCells, IsFound, IsImage}
+use Rattle.prepared_commits.specs.At.{IsAt}
+use Rattle.prepared_commits.specs.Keeping.{Keeping, IsDirectoryOf}
 use Rattle.prepared_commits.specs.Needs.{needs, needs_by, newest_now, next_sequence, or_empty}
 use Rattle.prepared_commits.specs.Prepared.{IsAsked, MayBeMade}
 use Rattle.prepared_costs.proofs.Newest.{newest_fits, newest_is_last}

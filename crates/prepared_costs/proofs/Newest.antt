@@ -28,8 +28,8 @@ use Rattle.laid_commits.specs.Premises.{last_of_row}
 use Rattle.store_versions.specs.Versions.{HaveDirectories, MadeVersion, directory_of, is_numbered, is_of}
 use Rattle.found_rows.specs.Laws.{NewestAreLast, StandInOrder}
 use Rattle.found_rows.specs.Rows.{directories_in}
-use Rattle.store_state.specs.Inner.Keeping.{AreDirectoriesOf, HasItsPages, IsDirectoryOf}
-use Rattle.store_state.proofs.Finds.{any_found, found_in_all}
+use Rattle.prepared_commits.specs.Keeping.{AreDirectoriesOf, HasItsPages, IsDirectoryOf}
+use Rattle.prepared_commits.proofs.Finds.{any_found, found_in_all}
 use Rattle.prepared_commits.specs.Needs.{or_empty}
 
 same_name : (a b : List ℕ) → bytes_eq a b ≡ true → a ≡ b

@@ -8,9 +8,9 @@ ghost use Rattle.plan_changes.specs.Databases.{Database};
 ghost use Rattle.event_core.specs.Cells.{at};
 ghost use Rattle.commit_costs.specs.Costs.{cost_from};
 ghost use Rattle.store_ledger.specs.Ledger.{history};
-ghost use Rattle.store_state.specs.At.{IsAt};
-ghost use Rattle.store_state.specs.Standings.{Standing, BeganAs, base_of};
-ghost use Rattle.store_state.specs.Inner.Keeping.{Keeping};
+ghost use Rattle.prepared_commits.specs.At.{IsAt};
+ghost use Rattle.prepared_commits.specs.Standings.{Standing, BeganAs, base_of};
+ghost use Rattle.prepared_commits.specs.Keeping.{Keeping};
 ghost use Rattle.prepared_commits.specs.Needs.{needs};
 ghost use Rattle.prepared_commits.specs.Prepared.{IsAsked};
 
@@ -18,6 +18,9 @@ use afl_outside::Disk;
 use commit_pages::commits_take_what_they_cost;
 use found_costs::found_files_are_over;
 use found_rows::newest_are_last;
+pub use found_costs::found_files_are_over;
+pub use prepared_commits::{PrepareFault, Prepared};
+pub use commit_pages::{Written, draft};
 
 /// On an honest disk that began as a database, a commit needs as many pages as its change costs over the database of now.
 pub fn commits_need_what_they_cost<D: Disk>()

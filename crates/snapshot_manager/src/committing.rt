@@ -1,6 +1,6 @@
 //! Commits of a store that is shared.
 ghost use Rattle.std.specs.Prelude.{◌≡◌, ◌+◌, ◌-◌, ◌^◌, ◌<◌, [], false, length, IfErr, IfOk, IfSome, OnErr, OnOk, IsTrue};
-ghost use Rattle.commit_pages.specs.Changes.{AreValid, ComesWith};
+ghost use Rattle.told_stores.specs.Changes.{AreValid, ComesWith};
 ghost use Rattle.plan_changes.specs.Databases.{Database};
 ghost use Rattle.plan_changes.specs.Stored.{HasItsNames};
 ghost use Rattle.plan_changes.specs.Typed.{IsTypedFor};

@@ -1,5 +1,5 @@
 -- The laws on which those of a store's cells rest.
-use Rattle.found_costs.specs.Laws.{FoundFilesAreOver}
+use Rattle.prepared_costs.specs.Laws.{FoundFilesAreOver}
 use Rattle.laid_commits.specs.Laws.{OpenedFilesStand, OpenedRootsStand}
 use Rattle.store_images.specs.Laws.{UntouchedImages, UnopenedImages, OpeningRecords, OpeningRoots, NextImages, LaidRecordsStand, LaidBasesStand, ImagesHaveStood}
 

@@ -16,7 +16,7 @@ use Rattle.store_ledger.specs.Ledger.{history, is_fault, is_noted}
 use Rattle.store_state.specs.Standings.{Standing, BeganAs, base_of}
 use Rattle.prepared_commits.specs.declared.fault.PrepareFault.{PrepareFault}
 use Rattle.prepared_commits.specs.declared.fault.PrepareFault.TheVariants as refusals
-use Rattle.prepared_parts.specs.Parts.{IsFull}
+use Rattle.array_store.specs.Parts.{IsFull}
 use Rattle.store_commits.specs.declared.fault.CommitFault.{CommitFault}
 use Rattle.store_commits.specs.declared.fault.CommitFault.TheVariants.{SequenceEnd, Full, Disk, Memory}
 

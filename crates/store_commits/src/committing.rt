@@ -23,7 +23,7 @@ use array_geom::Changed;
 use array_store::Store;
 use plan_changes::Change;
 use prepared_commits::{PrepareFault, Prepared};
-use prepared_costs::commits_need_what_they_cost;
+use array_store::commits_need_what_they_cost;
 use std::alloc::Global;
 
 /// Commits a change under a session's pin, with the chunks that it writes. It is the first that is tried under the pin. The answer is the

@@ -4,9 +4,9 @@ use Rattle.afl_outside.specs.Disk.{Moment}
 use Rattle.array_geom.specs.declared.chunk.Changed.{Changed}
 use Rattle.plan_changes.specs.declared.change.Change.{Change}
 use Rattle.event_core.specs.Allowed.{is_pinned}
-use Rattle.commit_pages.specs.declared.written.Written.{Written}
-use Rattle.commit_pages.specs.Changes.{AreValid}
-use Rattle.commit_pages.specs.Versions.{CanBeListed, IsWritten, draft, draft_of}
+use Rattle.prepared_costs.specs.Written.{Written}
+use Rattle.prepared_costs.specs.Changes.{AreValid}
+use Rattle.prepared_costs.specs.Versions.{CanBeListed, IsWritten, draft, draft_of}
 use Rattle.store_ledger.specs.Ledger.{LedgerState, has_room, history, is_noted, is_tried}
 use Rattle.store_state.specs.declared.parts.StoreParts.{StoreParts}
 use Rattle.store_state.specs.At.{IsAt, keeping, standing}

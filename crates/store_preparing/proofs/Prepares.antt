@@ -31,11 +31,11 @@ use Rattle.event_core.specs.Ready.{IsReadyOver, ReadyFor}
 use Rattle.event_core.specs.Replay.{core_at}
 use Rattle.event_laws.proofs.Legal.{ordered_is_allowed}
 use Rattle.commit_costs.specs.Costs.{cost_from}
-use Rattle.commit_pages.specs.declared.laid.Laid.{Laid}
-use Rattle.commit_pages.specs.declared.written.Written.{Written}
-use Rattle.commit_pages.specs.Changes.{AreValid, ComesWith}
-use Rattle.commit_pages.specs.Commits.{record_laid, base_laid}
-use Rattle.commit_pages.specs.Versions.{CanBeListed, IsWritten, directory_of as directory_by, draft, draft_of, settled, version_in}
+use Rattle.prepared_costs.specs.Laid.{Laid}
+use Rattle.prepared_costs.specs.Written.{Written}
+use Rattle.prepared_costs.specs.Changes.{AreValid, ComesWith}
+use Rattle.prepared_costs.specs.Commits.{record_laid, base_laid}
+use Rattle.prepared_costs.specs.Versions.{CanBeListed, IsWritten, directory_of as directory_by, draft, draft_of, settled, version_in}
 use Rattle.laid_commits.proofs.Cores.{have_cores}
 use Rattle.store_ledger.specs.Ledger.{LedgerState, has_room, history, is_noted, is_tried}
 use Rattle.store_versions.specs.Rows.{IsReadyFor}

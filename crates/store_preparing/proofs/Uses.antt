@@ -15,10 +15,10 @@ use Rattle.event_core.specs.Allowed.{IsBase, is_allowed}
 use Rattle.event_core.specs.Apart.{makes_version}
 use Rattle.event_core.specs.History.{History, catalogue_at, names_at, pages_at}
 use Rattle.event_core.specs.Pages.{free_at, is_newest}
-use Rattle.commit_pages.specs.declared.laid.Laid.{Laid}
-use Rattle.commit_pages.specs.declared.written.Written.{Written}
-use Rattle.commit_pages.specs.Commits.{record_needs, base_needs}
-use Rattle.commit_pages.specs.Versions.{IsWritten}
+use Rattle.prepared_costs.specs.Laid.{Laid}
+use Rattle.prepared_costs.specs.Written.{Written}
+use Rattle.prepared_costs.specs.Commits.{record_needs, base_needs}
+use Rattle.prepared_costs.specs.Versions.{IsWritten}
 use Rattle.given_pages.specs.Laws.{AreFirst, AreGiven, MayUse}
 use Rattle.given_pages.proofs.First.{first_differ}
 use Rattle.given_pages.proofs.Given.{records_may_use, bases_may_use}

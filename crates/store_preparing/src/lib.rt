@@ -5,3 +5,4 @@ mod preparing;
 mod slots;
 
 pub use preparing::prepare;
+pub use prepared_costs::commits_need_what_they_cost;

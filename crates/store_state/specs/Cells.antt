@@ -13,7 +13,7 @@ use Rattle.plan_changes.specs.declared.change.Change.{Change}
 use Rattle.plan_changes.specs.Databases.{Database, after}
 use Rattle.plan_changes.specs.Stored.{IsDatabase}
 use Rattle.version_catalog.specs.declared.rules.catalog.Catalog.{Catalog}
-use Rattle.commit_costs.specs.Costs.{cost_from}
+use Rattle.found_rows.specs.Costs.{cost_from}
 use Rattle.commit_writes.specs.Moments.{IsKnown}
 use Rattle.file_meaning.specs.Opening.{found_in}
 use Rattle.file_meaning.specs.Slots.{Slots as FoundSlots}

@@ -1,3 +1,4 @@
+pub use Rattle.commit_pages.specs.Changes
 pub use Rattle.store_commits.specs.Causes
 pub use Rattle.store_commits.specs.Growth
 pub use Rattle.store_commits.specs.Start

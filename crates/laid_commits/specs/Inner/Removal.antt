@@ -5,7 +5,7 @@ use Rattle.chunk_map.specs.declared.directory.Directory.{Directory}
 use Rattle.commit_pages.specs.declared.laid.Laid.{Laid}
 use Rattle.commit_pages.specs.Commits.{base_laid}
 use Rattle.commit_writes.specs.Commits.{base_pages, HoldsAll}
-use Rattle.file_laws.specs.Inner.Example.{database, file}
+use Rattle.next_files.specs.Example.{database, file}
 use Rattle.next_files.specs.Inner.Example.{found, slots}
 use Rattle.next_files.specs.Inner.Removed.{change, next}
 use Rattle.laid_commits.specs.Premises.{IsCommit, IsLaidBase}

@@ -1,7 +1,7 @@
 use Rattle.std.proofs.Common.{◌≡◌, ◌∙◌, ◌+◌, ◌≤◌, ◌<◌, ◌^◌, ℕ, Option, length, IfOk, IfSome, sym, ap, subst, arith, rules}
 use Rattle.chunk_map.specs.declared.directory.Directory.{Directory}
-use Rattle.commit_pages.specs.declared.written.Written.{Written}
-use Rattle.commit_pages.specs.Versions.{draft_of}
+use Rattle.prepared_costs.specs.Written.{Written}
+use Rattle.prepared_costs.specs.Versions.{draft_of}
 use Rattle.store_ledger.specs.Ledger.{LedgerState}
 use Rattle.store_state.specs.At.{IsAt, keeping, standing}
 use Rattle.store_state.specs.Standings.{Standing}

@@ -1,0 +1,1 @@
+pub use Rattle.store_state.proofs.Finds
