@@ -4,7 +4,3 @@ pub use Rattle.commit_pages.specs.Versions
 pub use Rattle.commit_pages.specs.declared.laid.Laid
 pub use Rattle.commit_pages.specs.declared.written.Written
 pub use Rattle.found_costs.specs.Laws
-pub use Rattle.prepared_commits.specs.Needs
-pub use Rattle.prepared_commits.specs.Prepared
-pub use Rattle.prepared_commits.specs.declared.fault.PrepareFault
-pub use Rattle.prepared_commits.specs.declared.prepared.NewBase

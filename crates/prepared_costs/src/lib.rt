@@ -19,7 +19,6 @@ use commit_pages::commits_take_what_they_cost;
 use found_costs::found_files_are_over;
 use found_rows::newest_are_last;
 pub use found_costs::found_files_are_over;
-pub use prepared_commits::{PrepareFault, Prepared};
 pub use commit_pages::{Written, draft};
 
 /// On an honest disk that began as a database, a commit needs as many pages as its change costs over the database of now.

@@ -13,8 +13,8 @@ use Rattle.store_ledger.specs.Ledger.{LedgerState, history, unused_pages}
 use Rattle.store_state.specs.At.{IsAt}
 use Rattle.store_state.specs.Standings.{Standing}
 use Rattle.store_state.specs.Inner.Keeping.{Keeping}
-use Rattle.prepared_costs.specs.PrepareFault.{PrepareFault}
-use Rattle.prepared_costs.specs.PrepareFault.TheVariants.{SequenceEnd, Full, Memory}
+use Rattle.prepared_commits.specs.declared.fault.PrepareFault.{PrepareFault}
+use Rattle.prepared_commits.specs.declared.fault.PrepareFault.TheVariants.{SequenceEnd, Full, Memory}
 use Rattle.prepared_parts.specs.Parts.{IsFullFor}
 use Rattle.store_preparing.specs.Left.{FitsIn}
 

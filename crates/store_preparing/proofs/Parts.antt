@@ -19,9 +19,9 @@ use Rattle.store_state.specs.At.{IsAt}
 use Rattle.store_state.specs.Standings.{Standing, base_of, commit_places, given_of, made_at, versions_after, with_entries}
 use Rattle.store_state.specs.Inner.Keeping.{Keeping}
 use Rattle.store_state.proofs.AtOn.{places_same, reaped_if as reaped_standing}
-use Rattle.prepared_costs.specs.PrepareFault.{PrepareFault}
-use Rattle.prepared_costs.specs.PrepareFault.TheVariants.{SequenceEnd, Full, Memory}
-use Rattle.prepared_costs.specs.Needs.{newest_now, next_sequence, or_empty}
+use Rattle.prepared_commits.specs.declared.fault.PrepareFault.{PrepareFault}
+use Rattle.prepared_commits.specs.declared.fault.PrepareFault.TheVariants.{SequenceEnd, Full, Memory}
+use Rattle.prepared_commits.specs.Needs.{newest_now, next_sequence, or_empty}
 use Rattle.prepared_costs.proofs.Costs.{have}
 use Rattle.prepared_costs.proofs.Newest.{newest_rises}
 use Rattle.prepared_parts.specs.Parts.{IsLeft as IsLeftBy, is_short, newest_at, reaped}

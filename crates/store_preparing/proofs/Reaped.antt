@@ -21,7 +21,7 @@ use Rattle.store_state.specs.Standings.{Standing, WasTriedBy}
 use Rattle.store_state.specs.Inner.Keeping.{Keeping}
 use Rattle.store_state.proofs.AtOn.{at_reap}
 use Rattle.store_state.proofs.Attempts.{tried_on}
-use Rattle.prepared_costs.specs.Prepared.{IsAsked, MayBeMade}
+use Rattle.prepared_commits.specs.Prepared.{IsAsked, MayBeMade}
 use Rattle.prepared_parts.specs.Parts.{reaped}
 use Rattle.store_preparing.specs.Left.{reaped_if}
 

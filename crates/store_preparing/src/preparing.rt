@@ -12,8 +12,8 @@ ghost use Rattle.prepared_costs.specs.Versions.{CanBeListed, IsWritten, draft, d
 ghost use Rattle.store_ledger.specs.Ledger.{MayReap, has_room, history, is_noted, is_tried};
 ghost use Rattle.store_state.specs.At.{AreParts, keeping, standing};
 ghost use Rattle.store_state.specs.Standings.{base_of};
-ghost use Rattle.prepared_costs.specs.Needs.{needs, needs_by, newest_now};
-ghost use Rattle.prepared_costs.specs.Prepared.{IsAsked, IsPreparedFor};
+ghost use Rattle.prepared_commits.specs.Needs.{needs, needs_by, newest_now};
+ghost use Rattle.prepared_commits.specs.Prepared.{IsAsked, IsPreparedFor};
 ghost use Rattle.prepared_parts.specs.Parts.{IsFullFor, IsPreparedAs};
 ghost use Rattle.store_preparing.specs.Left.{FitsIn, HasNext, IsLeft, tried_now};
 
@@ -24,7 +24,7 @@ use cell_values::Memory;
 use prepared_costs::{Written, draft};
 use page_file::PageFile;
 use plan_changes::Change;
-use prepared_costs::{PrepareFault, Prepared};
+use prepared_commits::{PrepareFault, Prepared};
 use prepared_costs::commits_need_what_they_cost;
 use prepared_parts::prepared_over;
 use std::alloc::Global;
