@@ -1,6 +1,5 @@
 -- The acts among events, by their parts.
 use Rattle.std.proofs.Common.{◌≡◌, ◌∙◌, List, [], ◌∷◌, ◌++◌, refl, ap, sym, append_assoc}
-use Rattle.store_state.specs.declared.event.Event.{Event}
 use Rattle.store_state.specs.declared.event.Event.TheVariants.{Entered, Acknowledged, Noted}
 use Rattle.session_replies.specs.Acts.{Act, acts_in, acts_of_entry, acts_of_note}
 use Rattle.session_replies.specs.Laws.{ActsJoin}

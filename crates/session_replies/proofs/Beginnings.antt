@@ -1,5 +1,5 @@
 -- What a beginning of a history sees, whatever comes later.
-use Rattle.std.proofs.Common.{◌≡◌, ◌∙◌, ℕ, suc, ◌+◌, ◌-◌, ◌<◌, ◌≤◌, Bool, true, false, if◌then◌else◌, nat_eq, List, [], ◌∷◌, ◌++◌, length, drop, reverse, IsTrue, refl, ap, sym, arith, length-append}
+use Rattle.std.proofs.Common.{◌≡◌, ◌∙◌, ℕ, suc, ◌+◌, ◌-◌, ◌<◌, ◌≤◌, Bool, true, false, if◌then◌else◌, nat_eq, List, [], ◌∷◌, ◌++◌, length, drop, reverse, refl, ap, arith, length-append}
 use Rattle.std.specs.List.{list_all}
 use Rattle.std.proofs.lemmas.Bool.Decides.{nat_tests}
 use Rattle.std.proofs.lemmas.List.{length-drop, length-reverse}
@@ -14,7 +14,7 @@ use Rattle.store_versions.specs.Versions.{Directories, MadeVersion, directory_of
 use Rattle.store_state.specs.declared.event.Event.{Event}
 use Rattle.store_state.specs.declared.event.Event.TheVariants.{Entered, Acknowledged, Noted}
 use Rattle.store_state.specs.Calls.{entry_in, history_at, numbers_in}
-use Rattle.store_state.specs.Standings.{Standing, commit_places, given_of, made_at, versions_after}
+use Rattle.store_state.specs.Standings.{commit_places, given_of, made_at, versions_after}
 use Rattle.told_stores.specs.Start.{Start}
 use Rattle.told_stores.specs.Laws.{SeesTheSame}
 use Rattle.told_stores.specs.Told.{directories_in, entries_in, is_sealed, told}

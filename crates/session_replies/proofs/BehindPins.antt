@@ -1,20 +1,16 @@
 -- What stands behind a pin.
-use Rattle.std.proofs.Common.{◌≡◌, ◌∙◌, ℕ, zero, suc, ◌+◌, ◌-◌, ◌≤◌, List, [], ◌∷◌, ◌++◌, length, drop, reverse, slice_get, Some, refl, ap, sym, arith, length-append, append_assoc}
+use Rattle.std.proofs.Common.{◌≡◌, ◌∙◌, ℕ, zero, suc, ◌+◌, ◌-◌, List, [], ◌∷◌, ◌++◌, length, drop, reverse, slice_get, Some, refl, ap, sym, arith, append_assoc}
 use Rattle.std.proofs.lemmas.Option.{none-some, same_Some}
 use Rattle.std.proofs.lemmas.List.{length-reverse, reverse-append}
-use Rattle.chunk_map.specs.declared.directory.Directory.{Directory}
-use Rattle.plan_changes.specs.Databases.{Database}
 use Rattle.event_core.specs.Cells.{at}
 use Rattle.event_core.specs.declared.entry.Entry.{Entry}
 use Rattle.event_core.specs.declared.entry.Entry.TheVariants.{Pin}
 use Rattle.event_core.specs.History.{History, names_at, up_to}
 use Rattle.store_versions.specs.Versions.{directory_of}
-use Rattle.store_state.specs.declared.event.Event.{Event}
 use Rattle.store_state.specs.Calls.{entry_in, history_at}
 use Rattle.store_state.specs.Standings.{versions_after}
-use Rattle.told_stores.specs.Start.{Start}
 use Rattle.told_stores.specs.Told.{entries_in, told}
-use Rattle.session_replies.specs.Laws.{HaveTheSame, PinsChangeNothing}
+use Rattle.session_replies.specs.Laws.{PinsChangeNothing}
 use Rattle.session_replies.proofs.Beginnings.{beginning_stays}
 
 -- a list about the element at a place
@@ -35,7 +31,7 @@ all_kept : (h : History) (n : ℕ) → n ≡ length h → up_to n h ≡ h
 all_kept h n e = let zero : length h - n ≡ 0 = omega (arith, e) in ap (λ (k : ℕ). drop k h) zero
 
 -- the history about an entry, the newest first
-turned : (front back : List Entry) (entry : Entry) → reverse (front ++ entry ∷ back) ≡ reverse back ++ (entry ∷ reverse front)
+pub turned : (front back : List Entry) (entry : Entry) → reverse (front ++ entry ∷ back) ≡ reverse back ++ (entry ∷ reverse front)
 turned front back entry =
     ap reverse (sym (append_assoc front (entry ∷ []) back))
     ∙ reverse-append (front ++ entry ∷ []) back

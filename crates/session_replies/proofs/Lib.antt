@@ -1,4 +1,6 @@
 pub mod ActsJoined
 pub mod Beginnings
 pub mod BehindPins
+pub mod FreshReplies
+pub mod PinPlaces
 pub mod Staying

@@ -8,10 +8,12 @@ use Rattle.logical_plan.specs.declared.parts.Leaf.{Leaf}
 use Rattle.plan_changes.specs.Databases.{Database}
 use Rattle.event_core.specs.declared.entry.Entry.TheVariants.{Pin}
 use Rattle.result_print.specs.declared.refusal.Refusal.{Refusal}
+use Rattle.store_ledger.specs.declared.pinned.Pinned.{Pinned}
+use Rattle.store_ledger.specs.Ledger.{IsOpenPin}
 use Rattle.store_state.specs.declared.event.Event.{Event}
 use Rattle.store_state.specs.Calls.{database_with, payload_at}
 use Rattle.told_stores.specs.Start.{Start}
-use Rattle.told_stores.specs.Told.{entries_in, is_sealed, told}
+use Rattle.told_stores.specs.Told.{entries_in, is_sealed, ledger_of, told}
 use Rattle.session_replies.specs.Acts.{acts_in, Course}
 use Rattle.session_replies.specs.Replies.{names_before, IsToldFor}
 use Rattle.session_replies.specs.declared.reply.Reply.{Reply}
@@ -25,6 +27,11 @@ pub record HaveTheSame {D : Type 0} (start : Start D) (events : List Event) (pla
   pub names : names_before start events other ≡ names_before start events place
   pub database : (db : Database) → database_with db (told start events) other ≡ database_with db (told start events) place
   pub payloads : (leaf : Leaf) (at : ArrayVec ℕ) → payload_at (told start events) other leaf at ≡ payload_at (told start events) place leaf at
+
+-- the entry of an open pin stands at its place, and what could be named at the pin is what could be named there
+abbrev pub OpenPinsAreEntered : Type 0 → Type 0
+OpenPinsAreEntered D = (start : Start D) (events : List Event) (pinned : Pinned) → IsOpenPin (ledger_of start events) pinned
+    → (slice_get (entries_in events) pinned.place ≡ Some (Pin pinned.session)) × (names_before start events pinned.place ≡ pinned.names)
 
 -- behind a pin stands what stood before it
 abbrev pub PinsChangeNothing : Type 0 → Type 0

@@ -1,4 +1,5 @@
 pub mod Acts
+pub mod Fresh
 pub mod Laws
 pub mod Refusals
 pub mod Replies

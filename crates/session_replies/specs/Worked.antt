@@ -1,8 +1,9 @@
 -- What a session is told of a damaged page under its pin, while another removes the array; and what both did.
-use Rattle.std.specs.Prelude.{◌≡◌, List, [], ◌∷◌, ◌++◌, codes}
+use Rattle.std.specs.Prelude.{◌≡◌, ◌++◌, codes}
 use Rattle.plan_changes.specs.declared.change.Change.TheVariants.{Remove}
-use Rattle.told_stores.specs.Worked.{worked_others, worked_own, worked_seen, worked_start}
+use Rattle.told_stores.specs.Worked.{worked_before, worked_others, worked_own, worked_seen, worked_start}
 use Rattle.session_replies.specs.Acts.{acts_for, acts_in, looking, making}
+use Rattle.session_replies.specs.Fresh.{AreLeftSince}
 use Rattle.session_replies.specs.Replies.{IsPayloadPage}
 
 -- each fact computes
@@ -10,6 +11,8 @@ pub record IsWorked : Type 0 where
   -- page 4 begins the payload of A's one chunk, as the place behind the pin tells; it still does once A is removed
   pub page : IsPayloadPage worked_start worked_seen 1 4
   pub later : IsPayloadPage worked_start (worked_seen ++ worked_others) 1 4
+  -- pins leave the removal as it was
+  pub fresh : AreLeftSince worked_start worked_before 0 2 (Remove (codes "A"))
   -- the one session pinned and unpinned, and the other tried and made its commit between
   pub looked : acts_in (worked_seen ++ worked_own) ≡ acts_for looking
   pub made : acts_in worked_others ≡ acts_for (making (Remove (codes "A")))

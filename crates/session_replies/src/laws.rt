@@ -1,15 +1,25 @@
 //! What holds of the acts of sessions, and of replies.
-ghost use Rattle.session_replies.specs.Laws.{ActsJoin, PinsChangeNothing, RepliesStay};
+ghost use Rattle.session_replies.specs.Fresh.{FreshChangesAreSaid};
+ghost use Rattle.session_replies.specs.Laws.{ActsJoin, OpenPinsAreEntered, PinsChangeNothing, RepliesStay};
 ghost use Rattle.session_replies.specs.Worked.{IsWorked};
 
 use afl_outside::Disk;
 
-/// The acts among events are those of their parts; behind a pin stands what stood before it; and what a reply tells stays, whatever comes
-/// later.
+/// The acts among events are those of their parts; and what a reply tells stays, whatever comes later.
 pub fn replies_stay<D: Disk>()
     ensures acts { ActsJoin }
-    ensures pins { PinsChangeNothing D }
     ensures stay { RepliesStay D.moment }
+{}
+
+/// The entry of an open pin stands at its place, and behind it stands what stood before it.
+pub fn pins_are_entered<D: Disk>()
+    ensures entered { OpenPinsAreEntered D }
+    ensures behind { PinsChangeNothing D }
+{}
+
+/// A change that no entry between two places is about is said again at the later one, with the same reply.
+pub fn fresh_changes_are_said<D: Disk>()
+    ensures { FreshChangesAreSaid D.moment }
 {}
 
 /// A damaged page that a pin sees stays one, though the array is removed.

@@ -1,3 +1,4 @@
+pub use Rattle.snapshot_manager.proofs.FreshChanges
 pub mod Answering
 pub mod CourseLaws
 pub mod HeldSteps

@@ -1,3 +1,9 @@
+pub use Rattle.snapshot_manager.specs.Databases
+pub use Rattle.snapshot_manager.specs.Prepared
+pub use Rattle.snapshot_manager.specs.Seats
+pub use Rattle.snapshot_manager.specs.Start
+pub use Rattle.snapshot_manager.specs.Told
+pub use Rattle.snapshot_manager.specs.Tries
 pub mod Courses
 pub mod Held
 pub mod Inner

@@ -1,5 +1,6 @@
 pub use Rattle.store_commits.proofs.Added
 pub use Rattle.store_commits.proofs.Ended
+pub use Rattle.store_commits.proofs.FreshChanges
 pub mod Databases
 pub mod InTurn
 pub mod Notes

@@ -1,7 +1,6 @@
 use Rattle.session_replies.proofs.ActsJoined.{acts_join}
-use Rattle.session_replies.proofs.BehindPins.{pins_change_nothing}
 use Rattle.session_replies.proofs.Staying.{replies_stay}
 use Rattle.session_replies.proofs.laws.replies_stay.Goals as goal
 
 pub returns : goal.returns
-returns g c = record { acts = acts_join; pins = pins_change_nothing _; stay = replies_stay g.D.Disk.moment }
+returns g c = record { acts = acts_join; stay = replies_stay g.D.Disk.moment }

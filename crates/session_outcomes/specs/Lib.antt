@@ -1,0 +1,10 @@
+pub use Rattle.session_replies.specs.Acts
+pub use Rattle.session_replies.specs.Replies
+pub use Rattle.session_replies.specs.declared.reply.Reply
+pub use Rattle.session_sources.specs.Start
+pub mod BehindPins
+pub mod Changing
+pub mod Freshly
+pub mod Said
+pub mod Told
+pub mod Under

@@ -1,0 +1,11 @@
+//! What comes of statements of sessions over a store that is shared, as it is said at places of the store's history.
+#![tactic(auto)]
+
+mod laws;
+
+pub use laws::{
+pub use session_sources::commit;
+pub use session_replies::{Reply, at_place, refusal_at, uncommitted, unread, want};
+    failures_are_noted, fresh_changes_are_left, outcomes_are_said, readings_are_told,
+    replies_are_told,
+};
