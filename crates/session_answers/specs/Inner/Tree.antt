@@ -1,4 +1,4 @@
--- What a session does for a statement between its pin and its unpin, and in a turn that is held.
+-- What a session does for a statement that has a tree.
 use Rattle.std.specs.Prelude.{◌≡◌, ◌≤◌, ◌<◌, ℕ, List, [], ◌∷◌, ◌++◌, length}
 use Rattle.afl_outside.specs.Disk.{Moment}
 use Rattle.afl_trees.specs.Term.{Term}
@@ -8,19 +8,8 @@ use Rattle.session_sources.specs.Told.{entries_in}
 use Rattle.session_sources.specs.Courses.{AddsOwn}
 use Rattle.session_outcomes.specs.Acts.{acts_for, acts_in, begins, ends, Course}
 use Rattle.session_outcomes.specs.Replies.{HasLine, IsToldFor}
-use Rattle.afl_session.specs.Answered.{BeganAt}
+use Rattle.session_answers.specs.Answered.{BeganAt}
 use Rattle.session_outcomes.specs.Reply.{Reply}
-
--- a statement with this tree was answered under a pin that came at this place: between the pin and the unpin its session did this
-pub record IsAnsweredUnder {D : Type 0} (moment : D → Moment) (start : Start D) (session pin : ℕ) (old new : List Event) (text : List ℕ) (tree : Term) (reply : Reply) : Type 0 where
-  pub own : List Event
-  pub course : Course
-  pub adds : AddsOwn session own old new
-  pub acts : begins ∷ (acts_in own ++ ends ∷ []) ≡ acts_for course
-  pub line : HasLine reply reply.refusal
-  pub since : pin < reply.place
-  pub until : reply.place ≤ length (entries_in new)
-  pub told : IsToldFor moment start session pin new own text tree reply reply.refusal course
 
 -- a statement with this tree was answered, behind all that its session had seen
 pub record IsAnsweredTree {D : Type 0} (moment : D → Moment) (start : Start D) (session : ℕ) (old new : List Event) (text : List ℕ) (tree : Term) (reply : Reply) : Type 0 where

@@ -13,7 +13,7 @@ use std::sync::Wait;
 use session_outcomes::commit;
 
 /// Answers a statement over the store of a turn that its seat holds, and ends the turn.
-pub(crate) fn answer_held<D: Disk, R: Wait, G: Gate>(
+pub fn answer_held<D: Disk, R: Wait, G: Gate>(
     rt: &R,
     alloc: Global,
     shared: &Shared<D>,

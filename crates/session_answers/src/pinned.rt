@@ -9,10 +9,10 @@ ghost use Rattle.store_state.specs.Calls.{database_with};
 ghost use Rattle.store_state.specs.Standings.{BeganAs};
 ghost use Rattle.session_sources.specs.Seats.{ledger_seen, seen, session_of, start, store_seen, HoldsPin, IsIdle, IsSameSeat, IsSeatOf};
 ghost use Rattle.session_sources.specs.Databases.{IsDatabaseOf};
-ghost use Rattle.afl_session.specs.Inner.Under.{IsAnsweredUnder};
+ghost use Rattle.session_turns.specs.Under.{IsAnsweredUnder};
 
-use crate::held::answer_held;
-use crate::settings::Options;
+use session_turns::answer_held;
+use session_turns::Options;
 use afl_outside::{Disk, Gate, Point};
 use afl_trees::Tree;
 use array_geom::Changed;

@@ -2,9 +2,9 @@
 #![tactic(auto)]
 
 mod answering;
-mod held;
+
 mod pinned;
-mod settings;
+
 
 pub use answering::answer;
-pub use settings::Options;
+pub use session_turns::Options;

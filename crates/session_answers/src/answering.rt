@@ -3,10 +3,10 @@ ghost use Rattle.std.specs.Prelude.{◌≡◌, ◌≤◌, length, IsTrue};
 ghost use Rattle.afl_trees.specs.Statement.{DerivesText};
 ghost use Rattle.check_exprs.specs.Laws.{leaves_fit};
 ghost use Rattle.session_sources.specs.Seats.{last_place, seen, session_of, start, HoldsNone, IsIdle, IsSameSeat, IsSeatOf};
-ghost use Rattle.afl_session.specs.Answered.{IsAnswered};
-ghost use Rattle.afl_session.specs.Inner.Under.{IsAnsweredTree};
+ghost use Rattle.session_answers.specs.Answered.{IsAnswered};
+ghost use Rattle.session_answers.specs.Inner.Tree.{IsAnsweredTree};
 
-use crate::settings::Options;
+use session_turns::Options;
 use crate::pinned::answer_pinned;
 use afl_outside::{Disk, Gate, Point};
 use afl_parser::{ParseFault, parse};
