@@ -1,0 +1,5 @@
+pub mod Adding
+pub mod Answered
+pub mod Going
+pub mod Present
+pub mod Told
