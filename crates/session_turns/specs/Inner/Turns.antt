@@ -45,7 +45,8 @@ IsWhy marks (Damaged page) = marks.damaged ≡ Some page
 IsWhy marks Memory = Unit {0}
 
 -- the store was read for a statement, of which this came, or this fault
-pub record IsRead {D : Type 0} (moment : D → Moment) (session : ℕ) (old new : Turn (StoreParts D)) (text : List ℕ) (tree : Term) (outcome : Result Outcome ExecFault) : Type 0 where
+pub record IsRead {D : Type 0} (moment : D → Moment) (session : ℕ) (old new : Turn (StoreParts D))
+    (text : List ℕ) (tree : Term) (outcome : Result Outcome ExecFault) : Type 0 where
   pub marks : Marks
   pub held : HasHeld moment (holding_of session old new marks)
   pub comes : IfOk outcome (ComesOver (names_now (store_of old).ledger) (held_state moment (unheld session old)) text tree)
@@ -66,10 +67,14 @@ pub record IsTried {D : Type 0} (moment : D → Moment) (session : ℕ) (change 
   pub tells : TellsCommit (length new.ledger.entries) words answer reply
 
 -- HOW A STATEMENT GOES: no memory was found for the names; it has a reply alone; its source gave no answer; or its change was tried
-pub data Goes {D : Type 0} (moment : D → Moment) (session : ℕ) (old new : Turn (StoreParts D)) (text : List ℕ) (tree : Term) (reply : Reply) : Type 0 where
-  goes_short : store_in moment new ≡ store_in moment old → IsWant reply → reply.place ≡ length (store_of new).ledger.entries → Goes moment session old new text tree reply
-  goes_told : IsRead moment session old new text tree (Ok (Replied (words_of reply))) → reply.place ≡ length (store_of new).ledger.entries → Goes moment session old new text tree reply
-  goes_unread : (fault : ExecFault) → IsRead moment session old new text tree (Err fault) → IsUnreadReply fault reply → reply.place ≡ length (store_of new).ledger.entries
+pub data Goes {D : Type 0} (moment : D → Moment) (session : ℕ) (old new : Turn (StoreParts D))
+    (text : List ℕ) (tree : Term) (reply : Reply) : Type 0 where
+  goes_short : store_in moment new ≡ store_in moment old → IsWant reply → reply.place ≡ length (store_of new).ledger.entries
       → Goes moment session old new text tree reply
-  goes_tried : (between : Turn (StoreParts D)) (change : Change) (changed : Option Changed) (words : Told) → IsRead moment session old between text tree (Ok (Changes change changed words))
+  goes_told : IsRead moment session old new text tree (Ok (Replied (words_of reply))) → reply.place ≡ length (store_of new).ledger.entries
+      → Goes moment session old new text tree reply
+  goes_unread : (fault : ExecFault) → IsRead moment session old new text tree (Err fault) → IsUnreadReply fault reply
+      → reply.place ≡ length (store_of new).ledger.entries → Goes moment session old new text tree reply
+  goes_tried : (between : Turn (StoreParts D)) (change : Change) (changed : Option Changed) (words : Told)
+      → IsRead moment session old between text tree (Ok (Changes change changed words))
       → IsTried moment session change words (store_in moment between) (store_in moment new) reply → Goes moment session old new text tree reply

@@ -1,0 +1,3 @@
+use Rattle.std.proofs.Common.{◌≡◌, ◌∙◌, ap, length, refl, subst, sym}
+use Rattle.session_turns.proofs.Going.{keeps_same}
+use Rattle.session_turns.proofs.held.answer_in_turn.Goals as goal
