@@ -60,8 +60,8 @@ use Rattle.session_turns.proofs.Present.{names_there, reap_if, said_there, turne
 use Rattle.session_turns.proofs.Told.{answered, earlier_pin, refuses, Tells}
 
 enough_by : (comes : Bool) (xs ys : List Entry) → ys ≡ xs ++ (if comes then Reap ∷ [] else []) → length xs ≤ length ys
-enough_by true xs ys e = omega (arith, ap (λ (es : List Entry). length es) e, length-append xs (Reap ∷ []))
-enough_by false xs ys e = omega (arith, ap (λ (es : List Entry). length es) e, length-append xs [])
+enough_by true xs ys e = let count : length ys ≡ length (xs ++ Reap ∷ []) = ap (λ (es : List Entry). length es) e in omega (arith, count, length-append xs (Reap ∷ []))
+enough_by false xs ys e = let count : length ys ≡ length (xs ++ []) = ap (λ (es : List Entry). length es) e in omega (arith, count, length-append xs [])
 
 -- the element behind others
 get_behind : {A : Type 0} → (xs ys : List A) (x : A) → slice_get (xs ++ x ∷ ys) (length xs) ≡ Some x
@@ -204,9 +204,9 @@ module _ {D : Type 0} (moment : D → Moment) (session : ℕ) (old new : Turn (S
 
     refuses_unread : (refusal : Refusal) → (reply.text ≡ (refused refusal).text → HasLine reply (Some refusal)) → Refuses refusal reply →
         Tells moment began session pin (events s) (events n) text tree reply keeps.extends before_unread within_unread (Some refusal) looking → Answer
-    refuses_unread refusal line r told =
+    refuses_unread refusal line r says =
         refuses moment began session pin (events s) (events n) text tree reply keeps.extends before_unread within_unread
-        looking [] (read_acts (Err fault) read) refl refusal line r told (λ own noted. tt)
+        looking [] (read_acts (Err fault) read) refl refusal line r says (λ own noted. tt)
 
     unread_by : (why : ExecFault) → IsWhy read.marks why → IsUnreadReply why reply → Answer
     unread_by Source why r = refuses_unread Disk (λ e. e) r (λ own noted. ((before_unread, within_unread), noted (noted_after (read.held.faults why))))
@@ -360,9 +360,9 @@ module _ {D : Type 0} (moment : D → Moment) (session : ℕ) (old new : Turn (S
 
         refuses_left : (refusal : Refusal) → (reply.text ≡ (refused refusal).text → HasLine reply (Some refusal)) → Refuses refusal reply →
             Tells moment began session pin (events s) (events n) text tree reply keeps.extends since_left until_left (Some refusal) (trying change) → Answer
-        refuses_left refusal line r told =
+        refuses_left refusal line r says =
             refuses moment began session pin (events s) (events n) text tree reply keeps.extends since_left until_left
-            (trying change) (tries change ∷ []) (tried_acts [] left) refl refusal line r told short_left
+            (trying change) (tries change ∷ []) (tried_acts [] left) refl refusal line r says short_left
 
         uncommitted_now : (fault : CommitFault) → IsUncommitted moment session change n fault →
             WasUncommitted moment began session pin (events n) [] text tree reply change fault
@@ -381,13 +381,17 @@ module _ {D : Type 0} (moment : D → Moment) (session : ℕ) (old new : Turn (S
       left_answer (faults.SequenceEnd place) why r =
           let at : reply.place ≡ length n.ledger.entries = r.1 ∙ why.0 in
           refuses_left at SequenceEnd (λ e. e) r.0
-          (λ own noted. ((since_left at, until_left at),
-          uncommitted_now at (faults.SequenceEnd reply.place) (subst (λ (k : ℕ). IsUncommitted moment session change n (faults.SequenceEnd k)) (sym r.1) why)))
+          (λ own noted. (
+            (since_left at, until_left at),
+            uncommitted_now at (faults.SequenceEnd reply.place) (subst (λ (k : ℕ). IsUncommitted moment session change n (faults.SequenceEnd k)) (sym r.1) why),
+          ))
       left_answer (faults.Full needed free place) why r =
           let at : reply.place ≡ length n.ledger.entries = r.1 ∙ why.0 in
           refuses_left at (Full needed free) (λ e. e) r.0
-          (λ own noted. ((since_left at, until_left at),
-          uncommitted_now at (faults.Full needed free reply.place) (subst (λ (k : ℕ). IsUncommitted moment session change n (faults.Full needed free k)) (sym r.1) why)))
+          (λ own noted. (
+            (since_left at, until_left at),
+            uncommitted_now at (faults.Full needed free reply.place) (subst (λ (k : ℕ). IsUncommitted moment session change n (faults.Full needed free k)) (sym r.1) why),
+          ))
       left_answer (faults.Disk place) why r =
           let at : reply.place ≡ length n.ledger.entries = r.1 ∙ why.0 in
           refuses_left at Disk (λ e. e) r.0

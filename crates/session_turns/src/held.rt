@@ -26,8 +26,7 @@ use cell_values::Memory;
 use logical_plan::Names;
 use plan_changes::Change;
 use session_outcomes::{Reply, at_place, commit, uncommitted, unread, want};
-use session_sources::HeldSource;
-use session_sources::{Seat, Shared, StoreTurn};
+use session_sources::{HeldSource, Seat, Shared, StoreTurn};
 use statement_answers::{Outcome, outcome_of};
 use statement_replies::Reply as Words;
 use std::alloc::Global;
@@ -121,16 +120,27 @@ fn answer_over<D: Disk, G: Gate>(
     ensures goes { Goes D.moment session turn result.1 text.now tree.now result.0 }
 {
     let mut source = HeldSource::new(alloc, turn, session);
-    let outcome = outcome_of(alloc, text, tree, names, &mut source, options.workers, session, gate);
+    let outcome = outcome_of(
+        alloc,
+        text,
+        tree,
+        names,
+        &mut source,
+        options.workers,
+        session,
+        gate,
+    );
     let mut turn = source.into_turn();
     let place = turn.value().history().len() as u64;
     match outcome {
         Ok(Outcome::Replied(words)) => (at_place(words, place), turn),
-        Ok(Outcome::Changes {
-            change,
-            changed,
-            reply,
-        }) => commit_in_turn(alloc, turn, session, change, changed, reply),
+        Ok(
+            Outcome::Changes {
+                change,
+                changed,
+                reply,
+            },
+        ) => commit_in_turn(alloc, turn, session, change, changed, reply),
         Err(fault) => (unread(alloc, fault, place), turn),
     }
 }
