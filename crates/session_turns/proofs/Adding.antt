@@ -26,7 +26,7 @@ use Rattle.session_replies.proofs.ActsJoined.{acts_join}
 
 own_step : (b rest : Bool) (event : Event) (own es : List Event) (front : List Act) → ((xs : List Event) → acts_in (event ∷ xs) ≡ front ++ acts_in xs) →
     (b && rest) ≡ true → (rest ≡ true → acts_in own ≡ acts_in es) → acts_in (if b then event ∷ own else own) ≡ acts_in (event ∷ es)
-own_step true rest event own es front by e f = by own ∙ ap (λ (as : List Act). front ++ as) (f e) ∙ sym (by es)
+own_step true rest event own es front by e f = by own ∙ ap (λ (all : List Act). front ++ all) (f e) ∙ sym (by es)
 own_step false rest event own es front by e f = absurd (both_not false refl e)
 
 pub only_acts : (session : ℕ) (es : List Event) → only_of owner_of session es ≡ true → acts_in (own_events session es) ≡ acts_in es
@@ -102,11 +102,11 @@ module _ (session : ℕ) (change : Change) (first second third : LedgerState) (r
   pub all_acts : acts_in (read ++ (trying_events ++ (commit ++ faults))) ≡ tries change ∷ acts_in commit
   all_acts =
       acts_join read (trying_events ++ (commit ++ faults))
-      ∙ ap (λ (as : List Act). as ++ acts_in (trying_events ++ (commit ++ faults))) (fault_acts first session read note)
+      ∙ ap (λ (all : List Act). all ++ acts_in (trying_events ++ (commit ++ faults))) (fault_acts first session read note)
       ∙ acts_join trying_events (commit ++ faults)
-      ∙ ap (λ (as : List Act). as ++ acts_in (commit ++ faults)) (tried_acts comes second session change)
-      ∙ ap (λ (as : List Act). tries change ∷ as)
-      (acts_join commit faults ∙ ap (λ (as : List Act). acts_in commit ++ as) (last_acts third session faults last) ∙ append-nil (acts_in commit))
+      ∙ ap (λ (all : List Act). all ++ acts_in (commit ++ faults)) (tried_acts comes second session change)
+      ∙ ap (λ (all : List Act). tries change ∷ all)
+      (acts_join commit faults ∙ ap (λ (all : List Act). acts_in commit ++ all) (last_acts third session faults last) ∙ append-nil (acts_in commit))
 
   pub all_leave : list_all (leaves_pin_of session) commit ≡ true → list_all (leaves_pin_of session) (read ++ (trying_events ++ (commit ++ faults))) ≡ true
   all_leave leaves =

@@ -36,7 +36,7 @@ module _ {D : Type 0} (moment : D → Moment) (start : Start D) (session pin : �
       own = own_events session more.0;
       course = course;
       adds = record { more = more.0; grown = more.1; mine = refl };
-      acts = ap (λ (as : List Act). begins ∷ (as ++ ends ∷ [])) (only_acts session more.0 more.2 ∙ is) ∙ for_course;
+      acts = ap (λ (all : List Act). begins ∷ (all ++ ends ∷ [])) (only_acts session more.0 more.2 ∙ is) ∙ for_course;
       line = subst (λ (r : Option Refusal). HasLine reply r) (sym e) line;
       since = since;
       until = until;

@@ -1,7 +1,7 @@
 //! Answers in a turn that is held.
 ghost use Rattle.std.specs.Prelude.{◌≡◌, ◌≤◌, false, length, Ok as Good, IsTrue};
 ghost use Rattle.check_exprs.specs.Laws.{leaves_fit};
-ghost use Rattle.plan_changes.specs.declared.change.Change.{Change as AnyChange};
+ghost use Rattle.plan_changes.specs.declared.change.Change.{Change};
 ghost use Rattle.plan_changes.specs.Stored.{AreStored};
 ghost use Rattle.afl_types.specs.Checking.{check_of};
 ghost use Rattle.afl_types.specs.declared.statements.checking.Typed.TheVariants.{Change as AChange};
@@ -53,7 +53,7 @@ pub fn answer_held<D: Disk, R: Wait, G: Gate>(
     requires held { IsTold (start D.moment shared.now) (seen seat) (standing D.moment (store_of turn)) }
     requires pin { HoldsPin D.moment shared.now seat pinned.now }
     requires tried { is_noted is_tried (ledger_seen D.moment shared.now seat) pinned.now.session ≡ false }
-    requires change { (change : AnyChange) × (check_of tree.now text.now pinned.now.names ≡ Good (AChange change)) }
+    requires change { (change : Change) × (check_of tree.now text.now pinned.now.names ≡ Good (AChange change)) }
     requires fit { IsTrue (leaves_fit tree.now) }
     requires workers { (1 ≤ options.now.workers) × (options.now.workers ≤ 64) }
     ensures seat { IsSeatOf shared.now result.1 × IsIdle result.1 }
