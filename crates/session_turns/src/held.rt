@@ -91,8 +91,9 @@ fn answer_in_turn<D: Disk, G: Gate>(
     ensures goes { Goes D.moment session turn result.1 text.now tree.now result.0 }
 {
     let mut turn = turn;
-    let place = turn.value().history().len() as u64;
-    match turn.value().names().copy() {
+    let store = turn.value();
+    let place = store.history().len() as u64;
+    match store.names().copy() {
         Ok(names) => answer_over(alloc, turn, session, text, tree, &names, options, gate),
         Err(Memory) => (want(alloc, place), turn),
     }

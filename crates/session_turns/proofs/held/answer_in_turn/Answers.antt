@@ -1,4 +1,42 @@
-use Rattle.std.proofs.Common.{◌≡◌, ◌∙◌, ap, length, refl, subst, sym}
+use Rattle.std.proofs.Common.{◌≡◌, ◌∙◌, IsTrue, false, ap, length, refl, subst, sym}
+use Rattle.plan_changes.specs.Stored.{AreStored}
+use Rattle.event_core.specs.Allowed.{is_pinned}
 use Rattle.turn_lock.specs.Inner.Lent.{turn_with}
+use Rattle.store_ledger.specs.Ledger.{history, is_noted, is_tried}
+use Rattle.store_state.specs.At.{standing}
+use Rattle.session_sources.specs.Databases.{HasDatabase}
+use Rattle.session_sources.specs.Held.{names_now}
+use Rattle.session_turns.specs.Inner.Turns.{Goes, KeepsTurn, goes_short}
 use Rattle.session_turns.proofs.Going.{keeps_same}
 use Rattle.session_turns.proofs.held.answer_in_turn.Goals as goal
+
+pub answer_over-requires : goal.answer_over-requires
+answer_over-requires g c =
+    let moment = g.D.Disk.moment in
+    let r = c.requires in
+    let e = sym c.value-store.ensures.value in record {
+      pinned = subst (λ p. IsTrue (is_pinned c.args.session (history p.ledger))) e r.pinned;
+      tried = subst (λ p. is_noted is_tried p.ledger c.args.session ≡ false) e r.tried;
+      database = subst (λ p. HasDatabase moment (standing moment p) (length p.ledger.entries) (names_now p.ledger)) e r.database;
+      names = c.in-Ok.ensures ∙ c.names.ensures.names;
+      stored = subst AreStored (sym c.in-Ok.ensures) c.names.ensures.stored;
+      fit = r.fit;
+      workers = r.workers;
+    }
+
+pub returns-in-Ok : goal.returns-in-Ok
+returns-in-Ok g c =
+    let moment = g.D.Disk.moment in
+    let e = ap (turn_with c.args.turn) c.value-store.ensures.value in
+    let went = c.answer_over in record {
+      keeps = subst (λ t. KeepsTurn moment c.args.session t went.result.1) e went.ensures.keeps;
+      goes = subst (λ t. Goes moment c.args.session t went.result.1 c.args.text.now c.args.tree.now went.result.0) e went.ensures.goes;
+    }
+
+pub returns-in-Err : goal.returns-in-Err
+returns-in-Err g c =
+    let moment = g.D.Disk.moment in
+    let e = c.value-store.ensures.value in record {
+      keeps = keeps_same moment c.args.session c.args.turn (turn_with c.args.turn c.value-store.result.now) (ap (turn_with c.args.turn) e);
+      goes = goes_short (ap (standing moment) e) c.want.ensures.want (c.want.ensures.place ∙ ap length c.history.ensures);
+    }
