@@ -5,7 +5,6 @@ use Rattle.std.proofs.lemmas.List.{append_cancel_left}
 use Rattle.afl_outside.specs.Disk.{Moment}
 use Rattle.afl_trees.specs.Term.{Term}
 use Rattle.array_geom.specs.declared.chunk.Changed.{Changed}
-use Rattle.chunk_map.specs.declared.directory.DirEntry.{DirEntry}
 use Rattle.chunk_source.specs.declared.reading.fault.ExecFault.{ExecFault}
 use Rattle.chunk_source.specs.declared.reading.fault.ExecFault.TheVariants.{Source, Damaged as Spoiled, Memory as Wanting}
 use Rattle.logical_plan.specs.declared.names.Names.{Names}
@@ -155,7 +154,7 @@ module _ {D : Type 0} (moment : D → Moment) (session : ℕ) (old new : Turn (S
           at = b.number;
           named = subst (λ (names : Names). IsLeafOf names b.leaf)
               (sym (ap (names_before began (events n)) (at_end few_more at) ∙ names_there moment session old has (events n) false read_history)) b.of;
-          begins = subst (λ (found : Option DirEntry). IsSomeAnd found (λ entry. page ≡ slice_index entry.pages 0)) seen b.begins;
+          begins = subst (λ found. IsSomeAnd found (λ entry. page ≡ slice_index entry.pages 0)) seen b.begins;
         }
 
   -- it has a reply alone, which refuses it

@@ -2,8 +2,8 @@ use Rattle.std.proofs.Common.{◌≡◌, ◌∙◌, ap, length, refl, subst, sym
 use Rattle.session_turns.proofs.Ending.{answered_last, change_said, database_here, extends_last, pin_last, pinned_here, start_last, tried_here, turn_last}
 use Rattle.session_turns.proofs.held.answer_held.Goals as goal
 
-pub answer_in_turn-requires : goal.answer_in_turn-requires
-answer_in_turn-requires g c =
+pub answer_in_turn-reply-requires-after_bounds : goal.answer_in_turn-reply-requires-after_bounds
+answer_in_turn-reply-requires-after_bounds g c κs within =
     let moment = g.D.Disk.moment in
     let r = c.requires in record {
       pinned = pinned_here moment c.args.shared.now c.args.seat c.args.turn c.value.result.now c.value.ensures.value c.args.pinned.now r.held r.pin;
@@ -17,7 +17,7 @@ pub end_turn-requires : goal.end_turn-requires
 end_turn-requires g c =
     let moment = g.D.Disk.moment in
     let r = c.requires in
-    let went = c.answer_in_turn in record {
+    let went = c.answer_in_turn-reply in record {
       seat = (
         r.seat.0,
         turn_last moment c.args.shared.now c.args.seat c.args.turn c.value.result.now c.value.ensures.value c.args.pinned.now r.held r.pin c.is_at.ensures.at r.start r.events
@@ -33,7 +33,7 @@ pub returns : goal.returns
 returns g c =
     let moment = g.D.Disk.moment in
     let r = c.requires in
-    let went = c.answer_in_turn in
+    let went = c.answer_in_turn-reply in
     let end = c.end_turn.ensures in record {
       seat = end.seat;
       same = end.same;

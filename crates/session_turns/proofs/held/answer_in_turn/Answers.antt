@@ -10,8 +10,8 @@ use Rattle.session_turns.specs.Inner.Turns.{Goes, KeepsTurn, goes_short}
 use Rattle.session_turns.proofs.Going.{keeps_same}
 use Rattle.session_turns.proofs.held.answer_in_turn.Goals as goal
 
-pub answer_over-requires : goal.answer_over-requires
-answer_over-requires g c =
+pub answer_over-requires-after_bounds : goal.answer_over-requires-after_bounds
+answer_over-requires-after_bounds g c κs within =
     let moment = g.D.Disk.moment in
     let r = c.requires in
     let e = sym c.value-store.ensures.value in record {

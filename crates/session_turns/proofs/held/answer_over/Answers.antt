@@ -5,12 +5,12 @@ use Rattle.session_turns.specs.Inner.Turns.{store_in, IsRead, goes_told, goes_tr
 use Rattle.session_turns.proofs.Going.{asked_read, keeps_both, keeps_read, pinned_read, read_by, start_holds, start_whole, tried_read}
 use Rattle.session_turns.proofs.held.answer_over.Goals as goal
 
-pub outcome_of-requires-clause-undamaged : goal.outcome_of-requires-clause-undamaged
-outcome_of-requires-clause-undamaged g c κs within =
+pub outcome_of-outcome-requires-clause-undamaged : goal.outcome_of-outcome-requires-clause-undamaged
+outcome_of-outcome-requires-clause-undamaged g c κs within =
     start_whole g.D.Disk.moment c.args.session c.args.turn c.new-source.result c.new-source.ensures c.args.names.now c.requires.names
 
-pub outcome_of-requires-clause-holds : goal.outcome_of-requires-clause-holds
-outcome_of-requires-clause-holds g c κs within =
+pub outcome_of-outcome-requires-clause-holds : goal.outcome_of-outcome-requires-clause-holds
+outcome_of-outcome-requires-clause-holds g c κs within =
     start_holds g.D.Disk.moment c.args.session c.args.turn c.new-source.result c.new-source.ensures c.args.names.now c.requires.names
 
 pub commit_in_turn-requires : goal.commit_in_turn-requires
