@@ -2,16 +2,18 @@ use Rattle.std.proofs.Common.{◌≡◌, ◌∙◌, ap, length, refl, subst, sym
 use Rattle.session_turns.proofs.Ending.{answered_last, change_said, database_here, extends_last, pin_last, pinned_here, start_last, tried_here, turn_last}
 use Rattle.session_turns.proofs.held.answer_held.Goals as goal
 
-pub answer_in_turn-reply-requires-after_bounds : goal.answer_in_turn-reply-requires-after_bounds
-answer_in_turn-reply-requires-after_bounds g c κs within =
-    let moment = g.D.Disk.moment in
-    let r = c.requires in record {
-      pinned = pinned_here moment c.args.shared.now c.args.seat c.args.turn c.value.result.now c.value.ensures.value c.args.pinned.now r.held r.pin;
-      tried = tried_here moment c.args.shared.now c.args.seat c.args.turn c.value.result.now c.value.ensures.value c.args.pinned.now r.held r.pin r.tried;
-      database = database_here moment c.args.shared.now c.args.seat c.args.turn c.value.result.now c.value.ensures.value c.args.pinned.now r.held r.pin c.is_at.ensures.at;
-      fit = r.fit;
-      workers = r.workers;
-    }
+pub answer_in_turn-reply-requires-clause-pinned : goal.answer_in_turn-reply-requires-clause-pinned
+answer_in_turn-reply-requires-clause-pinned g c κs within =
+    pinned_here g.D.Disk.moment c.args.shared.now c.args.seat c.args.turn c.value.result.now c.value.ensures.value c.args.pinned.now c.requires.held c.requires.pin
+
+pub answer_in_turn-reply-requires-clause-tried : goal.answer_in_turn-reply-requires-clause-tried
+answer_in_turn-reply-requires-clause-tried g c κs within =
+    tried_here g.D.Disk.moment c.args.shared.now c.args.seat c.args.turn c.value.result.now c.value.ensures.value c.args.pinned.now c.requires.held c.requires.pin c.requires.tried
+
+pub answer_in_turn-reply-requires-clause-database : goal.answer_in_turn-reply-requires-clause-database
+answer_in_turn-reply-requires-clause-database g c κs within =
+    database_here g.D.Disk.moment c.args.shared.now c.args.seat c.args.turn c.value.result.now c.value.ensures.value c.args.pinned.now c.requires.held c.requires.pin
+    c.is_at.ensures.at
 
 pub end_turn-requires : goal.end_turn-requires
 end_turn-requires g c =

@@ -10,19 +10,24 @@ use Rattle.session_turns.specs.Inner.Turns.{Goes, KeepsTurn, goes_short}
 use Rattle.session_turns.proofs.Going.{keeps_same}
 use Rattle.session_turns.proofs.held.answer_in_turn.Goals as goal
 
-pub answer_over-requires-after_bounds : goal.answer_over-requires-after_bounds
-answer_over-requires-after_bounds g c κs within =
+pub answer_over-requires-clause-pinned : goal.answer_over-requires-clause-pinned
+answer_over-requires-clause-pinned g c κs within =
+    subst (λ p. IsTrue (is_pinned c.args.session (history p.ledger))) (sym c.value-store.ensures.value) c.requires.pinned
+
+pub answer_over-requires-clause-tried : goal.answer_over-requires-clause-tried
+answer_over-requires-clause-tried g c κs within =
+    subst (λ p. is_noted is_tried p.ledger c.args.session ≡ false) (sym c.value-store.ensures.value) c.requires.tried
+
+pub answer_over-requires-clause-database : goal.answer_over-requires-clause-database
+answer_over-requires-clause-database g c κs within =
     let moment = g.D.Disk.moment in
-    let r = c.requires in
-    let e = sym c.value-store.ensures.value in record {
-      pinned = subst (λ p. IsTrue (is_pinned c.args.session (history p.ledger))) e r.pinned;
-      tried = subst (λ p. is_noted is_tried p.ledger c.args.session ≡ false) e r.tried;
-      database = subst (λ p. HasDatabase moment (standing moment p) (length p.ledger.entries) (names_now p.ledger)) e r.database;
-      names = c.in-Ok.ensures ∙ c.names.ensures.names;
-      stored = subst AreStored (sym c.in-Ok.ensures) c.names.ensures.stored;
-      fit = r.fit;
-      workers = r.workers;
-    }
+    subst (λ p. HasDatabase moment (standing moment p) (length p.ledger.entries) (names_now p.ledger)) (sym c.value-store.ensures.value) c.requires.database
+
+pub answer_over-requires-clause-names : goal.answer_over-requires-clause-names
+answer_over-requires-clause-names g c κs within = c.in-Ok.ensures ∙ c.names.ensures.names
+
+pub answer_over-requires-clause-stored : goal.answer_over-requires-clause-stored
+answer_over-requires-clause-stored g c κs within = subst AreStored (sym c.in-Ok.ensures) c.names.ensures.stored
 
 pub returns-in-Ok : goal.returns-in-Ok
 returns-in-Ok g c =
