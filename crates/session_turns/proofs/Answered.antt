@@ -1,5 +1,5 @@
 -- How a statement was answered in a turn, by how it went.
-use Rattle.std.proofs.Common.{◌≡◌, ◌∙◌, inl, inr, ℕ, zero, suc, ◌+◌, ◌-◌, ◌<◌, ◌≤◌, Bool, true, false, if◌then◌else◌, List, [], ◌∷◌, ◌++◌, length, reverse, slice_get, slice_index, Option, None, Some, IfSome, IsSomeAnd, Result, Ok, Err, IfOk, IfErr, OnOk, OnErr, IsTrue, refl, ap, sym, subst, arith, append-nil, append_assoc, length-append}
+use Rattle.std.proofs.Common.{◌≡◌, ◌∙◌, ℕ, ◌+◌, ◌-◌, ◌<◌, ◌≤◌, Bool, true, false, if◌then◌else◌, List, [], ◌∷◌, ◌++◌, length, reverse, slice_get, slice_index, Option, None, Some, IfSome, IsSomeAnd, Result, Ok, Err, IfOk, IfErr, OnOk, OnErr, refl, ap, sym, subst, arith, append-nil, append_assoc, length-append}
 use Rattle.std.specs.List.{list_all}
 use Rattle.std.proofs.lemmas.List.{append_cancel_left}
 use Rattle.afl_outside.specs.Disk.{Moment}
@@ -43,16 +43,16 @@ use Rattle.session_sources.specs.Held.{names_now}
 use Rattle.session_sources.specs.Seats.{store_of}
 use Rattle.session_sources.specs.Start.{Start}
 use Rattle.session_sources.specs.Stored.{BeginsPayload}
-use Rattle.session_sources.specs.Told.{entries_in, is_sealed, ledger_of, told, IsTold}
+use Rattle.session_sources.specs.Told.{entries_in, ledger_of, told, IsTold}
 use Rattle.session_replies.specs.Refusals.{IsUncommittedReply, IsUnreadReply, IsWant, Refuses}
 use Rattle.session_replies.proofs.Staying.{says_later}
 use Rattle.session_outcomes.specs.Acts.{acts_in, looking, making, makes, tries, trying}
-use Rattle.session_outcomes.specs.Replies.{names_before, words_of, EnteredAt, HasLine, IsPayloadPage, IsToldFor, Says, SaysChange, WasAt, WasUncommitted}
+use Rattle.session_outcomes.specs.Replies.{names_before, words_of, EnteredAt, HasLine, IsPayloadPage, IsToldFor, Says, SaysChange, WasUncommitted}
 use Rattle.session_outcomes.specs.Reply.{Reply}
 use Rattle.session_outcomes.specs.Said.{IsSaid}
 use Rattle.session_outcomes.specs.Told.{IsLookedReply}
 use Rattle.session_outcomes.proofs.Told.{said_replies_are_told}
-use Rattle.session_turns.specs.Inner.Turns.{store_in, Goes, IsRead, IsTried, IsWhy, KeepsTurn, TellsCommit, goes_short, goes_told, goes_unread, goes_tried}
+use Rattle.session_turns.specs.Inner.Turns.{store_in, Goes, IsRead, IsWhy, KeepsTurn, TellsCommit, goes_short, goes_told, goes_unread, goes_tried}
 use Rattle.session_turns.specs.Under.{IsAnsweredInTurn}
 use Rattle.session_turns.proofs.Adding.{all_acts, all_leave, entries_before, fault_acts, fault_leaves, last_entries}
 use Rattle.session_turns.proofs.Present.{names_there, reap_if, said_there, turned_reap}

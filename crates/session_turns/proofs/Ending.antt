@@ -29,7 +29,7 @@ use Rattle.session_sources.specs.Databases.{HasDatabase}
 use Rattle.session_sources.specs.Held.{names_now}
 use Rattle.session_sources.specs.Seats.{ledger_seen, seen, session_of, start, store_of, HasTurn, HoldsPin}
 use Rattle.session_sources.specs.Start.{Start}
-use Rattle.session_sources.specs.Told.{entries_in, ledger_of, IsTold}
+use Rattle.session_sources.specs.Told.{ledger_of, IsTold}
 use Rattle.session_outcomes.specs.Reply.{Reply}
 use Rattle.session_outcomes.proofs.Under.{pin_within}
 use Rattle.session_turns.specs.Inner.Turns.{Goes, KeepsTurn}

@@ -1,5 +1,5 @@
 -- What a reply in a turn tells, by its refusal.
-use Rattle.std.proofs.Common.{◌≡◌, ◌∙◌, ◌⊎◌, inl, inr, ℕ, ◌<◌, ◌≤◌, List, [], ◌∷◌, ◌++◌, length, Option, None, Some, IsTrue, refl, ap, sym, subst}
+use Rattle.std.proofs.Common.{◌≡◌, ◌∙◌, inl, inr, ℕ, ◌<◌, ◌≤◌, List, [], ◌∷◌, ◌++◌, length, Option, Some, IsTrue, refl, ap, sym, subst}
 use Rattle.afl_outside.specs.Disk.{Moment}
 use Rattle.afl_trees.specs.Term.{Term}
 use Rattle.result_print.specs.declared.refusal.Refusal.{Refusal}
@@ -12,9 +12,9 @@ use Rattle.store_state.specs.declared.event.Event.{Event}
 use Rattle.store_state.specs.Events.{owner_of}
 use Rattle.session_sources.specs.Start.{Start}
 use Rattle.session_sources.specs.Told.{entries_in, ledger_of}
-use Rattle.session_replies.specs.Refusals.{IsWant, Refuses}
+use Rattle.session_replies.specs.Refusals.{Refuses}
 use Rattle.session_outcomes.specs.Acts.{Act, acts_for, acts_in, begins, ends, Course, looking}
-use Rattle.session_outcomes.specs.Replies.{words_of, HasFault, HasLine, IsToldFor}
+use Rattle.session_outcomes.specs.Replies.{HasFault, HasLine, IsToldFor}
 use Rattle.session_outcomes.specs.Reply.{Reply}
 use Rattle.told_stores.specs.Turns.{own_events}
 use Rattle.session_turns.specs.Under.{IsAnsweredInTurn}

@@ -1,4 +1,3 @@
-use Rattle.std.proofs.Common.{◌≡◌, ◌∙◌, ap, length, refl, subst, sym}
 use Rattle.session_turns.proofs.Ending.{answered_last, change_said, database_here, extends_last, pin_last, pinned_here, start_last, tried_here, turn_last}
 use Rattle.session_turns.proofs.held.answer_held.Goals as goal
 
