@@ -1,0 +1,7 @@
+pub mod Acts
+pub mod Commits
+pub mod Prefixed
+pub mod Readings
+pub mod Trees
+pub mod Tried
+pub mod Wholes
