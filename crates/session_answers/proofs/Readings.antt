@@ -70,11 +70,13 @@ module _ {D : Type 0} (moment : D → Moment) (began : Start D) (old : List Even
 rose_above : (before now : ℕ) → before ≡ 0 → Rose before now → 0 < now
 rose_above before now e rose = omega (arith, e, rose)
 
+pub holds_versions : {D : Type 0} (moment : D → Moment) (shared : Shared D) (pinned : Pinned) (old : Seat D) (first : Reading D) → first ≡ unread shared pinned old →
+    PinnedSourcesHoldVersions moment → (leaf : Leaf) → IsLeafOf pinned.names leaf → Reads (pinned_state moment first) leaf
+holds_versions {D} moment shared pinned old first made law leaf is =
+    subst (λ (r : Reading D). Reads (pinned_state moment r) leaf) (sym made) (law (unread shared pinned old) leaf is)
+
 module _ {D : Type 0} (moment : D → Moment) (shared : Shared D) (pinned : Pinned) (old new : Seat D) (text : List ℕ) (tree : Term) (first last : Reading D)
     (made : first ≡ unread shared pinned old) where
-  pub holds_versions : PinnedSourcesHoldVersions moment → (leaf : Leaf) → IsLeafOf pinned.names leaf → Reads (pinned_state moment first) leaf
-  holds_versions law leaf is = subst (λ (r : Reading D). Reads (pinned_state moment r) leaf) (sym made) (law (unread shared pinned old) leaf is)
-
   module _ (lent : last.lent ≡ first.lent) (seat : new ≡ last.seat) where
     last_is : last ≡ reading_of shared pinned old new last.marks
     last_is =

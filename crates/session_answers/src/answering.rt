@@ -42,19 +42,45 @@ pub fn answer<D: Disk, R: Wait, G: Gate>(
     ensures last { last_place result.1 ≡ result.0.place }
     ensures answered { IsAnswered D.moment (start D.moment shared.now) (session_of seat) (last_place seat) (seen seat) (seen result.1) text.now result.0 }
 {
-    let (reply, mut seat) = match parse(alloc, text) {
+    let (reply, mut seat) = answer_text(rt, alloc, shared, seat, text, number, options, gate);
+    seat.keep_last(reply.place);
+    (reply, seat)
+}
+
+/// Answers a statement of this text.
+fn answer_text<D: Disk, R: Wait, G: Gate>(
+    rt: &R,
+    alloc: Global,
+    shared: &Shared<D>,
+    seat: Seat<D>,
+    text: &[u8],
+    number: u64,
+    options: &Options,
+    gate: &G,
+) -> (Reply, Seat<D>)
+    requires seat { IsSeatOf shared.now seat × IsIdle seat }
+    requires none { HoldsNone D.moment shared.now seat }
+    requires length { length text.now ≤ 1048576 }
+    requires workers { (1 ≤ options.now.workers) × (options.now.workers ≤ 64) }
+    ensures seat { IsSeatOf shared.now result.1 × IsIdle result.1 }
+    ensures same { IsSameSeat seat result.1 }
+    ensures none { HoldsNone D.moment shared.now result.1 }
+    ensures answered { IsAnswered D.moment (start D.moment shared.now) (session_of seat) (last_place seat) (seen seat) (seen result.1) text.now result.0 }
+{
+    match parse(alloc, text) {
         Ok(tree) => answer_tree(rt, alloc, shared, seat, text, &tree, number, options, gate),
         Err(ParseFault::At { at, kind }) => {
             let last = seat.last();
-            (refusal_at(alloc, Refusal::Parse { at, kind }, last), seat)
+            (
+                refusal_at(alloc, Refusal::Parse { at, kind }, last),
+                seat,
+            )
         }
         Err(ParseFault::Memory) => {
             let seen = seat.seen();
             (want(alloc, seen), seat)
         }
-    };
-    seat.keep_last(reply.place);
-    (reply, seat)
+    }
 }
 
 /// Answers a statement with this tree.
@@ -89,7 +115,8 @@ fn answer_tree<D: Disk, R: Wait, G: Gate>(
             (reply, seat)
         }
         Err(PinFault::HistoryFull { entries }) => {
-            (refusal_at(alloc, Refusal::HistoryFull, u64::from(entries)), seat)
+            let place = u64::from(entries);
+            (refusal_at(alloc, Refusal::HistoryFull, place), seat)
         }
         Err(PinFault::Memory) => {
             let seen = seat.seen();
