@@ -16,7 +16,7 @@ use Rattle.plan_changes.specs.declared.change.Change.{Change}
 use Rattle.plan_changes.specs.Databases.{Database, names_of}
 use Rattle.statement_answers.specs.declared.outcome.Outcome.{Outcome}
 use Rattle.statement_answers.specs.declared.outcome.Outcome.TheVariants.{Replied, Changes}
-use Rattle.statement_answers.specs.Outcomes.{HasOutcomeKind, IsOutcomeOf, IsToldBy}
+use Rattle.statement_answers.specs.Outcomes.{asked_for, HasOutcomeKind, IsOutcomeOf, IsToldBy}
 use Rattle.statement_replies.specs.declared.replies.Reply.{Reply as Told}
 use Rattle.statement_replies.specs.Statements.{reply_to}
 use Rattle.store_ledger.specs.declared.note.NoteKind.{NoteKind}
@@ -98,13 +98,22 @@ module _ {D : Type 0} (moment : D → Moment) (shared : Shared D) (pinned : Pinn
     why_by (Err (Damaged page)) answers = answers
     why_by (Err Memory) answers = tt
 
+    abbrev AsksBy : Reading D → Outcome → Type 0
+    AsksBy r outcome = last.marks.asked ≡ r.marks.asked ++ asked_for (pinned_state moment r) pinned.names (check_of tree text pinned.names) outcome
+
+    asked_by : (result : Result Outcome ExecFault) → IfOk result (AsksBy first) →
+        IfOk result (λ outcome. last.marks.asked ≡ asked_for (pinned_state moment (unread shared pinned old)) pinned.names (check_of tree text pinned.names) outcome)
+    asked_by (Ok outcome) asks = subst (λ (r : Reading D). AsksBy r outcome) made asks
+    asked_by (Err fault) asks = tt
+
     pub was_read : (result : Result Outcome ExecFault) → HasRead moment last → IfOk result (HasOutcomeKind pinned.names (check_of tree text pinned.names)) →
-        IfOk result (TellsBy first) → Answers (pinned_state moment first) (pinned_state moment last) result →
+        IfOk result (TellsBy first) → IfOk result (AsksBy first) → Answers (pinned_state moment first) (pinned_state moment last) result →
         WasRead moment shared pinned old new text tree result
-    was_read result read kind tells answers = record {
+    was_read result read kind tells asks answers = record {
       marks = last.marks;
       read = subst (HasRead moment) last_is read;
       comes = comes_by result kind tells;
+      asked = asked_by result asks;
       why = why_by result answers;
     }
 
