@@ -1,9 +1,11 @@
 -- The answers of a commit, by what came of it.
-use Rattle.std.proofs.Common.{◌≡◌, ◌∙◌, ◌+◌, ◌<◌, ◌≤◌, ℕ, true, false, List, [], ◌∷◌, ◌++◌, length, slice_get, inl, inr, Option, None, Some, refl, ap, sym, subst, arith, append-nil, length-append}
+use Rattle.std.proofs.Common.{◌≡◌, ◌∙◌, ◌+◌, ◌<◌, ◌≤◌, ℕ, false, List, [], ◌∷◌, ◌++◌, length, slice_get, inl, inr, Option, None, Some, Ok, refl, ap, sym, subst, arith, append-nil, length-append}
 use Rattle.std.proofs.lemmas.Bool.{eq-eqb}
 use Rattle.std.proofs.lemmas.Option.{none-some}
 use Rattle.afl_outside.specs.Disk.{Moment}
 use Rattle.afl_trees.specs.Term.{Term}
+use Rattle.afl_types.specs.Checking.{check_of}
+use Rattle.afl_types.specs.declared.statements.checking.Typed.TheVariants.{Change as AChange}
 use Rattle.chunk_map.specs.declared.directory.Directory.{Directory}
 use Rattle.plan_changes.specs.declared.change.Change.{Change}
 use Rattle.plan_changes.specs.declared.change.Change.TheVariants.{Create, Store, Insert, Remove, RemoveVersions}
@@ -18,7 +20,7 @@ use Rattle.statement_replies.specs.Reply.{refused}
 use Rattle.statement_replies.specs.StatementKinds.{HasChangeKind, HasStatementKind, MayBreak}
 use Rattle.statement_replies.specs.Statements.{Accepted}
 use Rattle.store_ledger.specs.declared.pinned.Pinned.{Pinned}
-use Rattle.store_ledger.specs.Ledger.{IsOpenPin, is_fault, is_noted}
+use Rattle.store_ledger.specs.Ledger.{IsOpenPin, is_fault, is_noted, is_tried}
 use Rattle.store_state.specs.declared.event.Event.{Event}
 use Rattle.store_state.specs.declared.event.Event.TheVariants.{Acknowledged}
 use Rattle.told_stores.specs.Causes.{IsUncommitted}
@@ -36,7 +38,8 @@ use Rattle.session_replies.proofs.Beginnings.{reached}
 use Rattle.session_sources.specs.Courses.{AddsOwn}
 use Rattle.session_sources.specs.Start.{Start}
 use Rattle.session_sources.specs.Told.{entries_in, ledger_of, told}
-use Rattle.session_sources.proofs.CourseLaws.{courses_join, turns_are_courses}
+use Rattle.session_sources.proofs.CourseLaws.{courses_join, courses_keep_notes, turns_are_courses}
+use Rattle.session_outcomes.proofs.Behind.{names_behind}
 use Rattle.session_turns.specs.Under.{IsAnsweredInTurn, IsAnsweredUnder}
 use Rattle.session_answers.specs.Inner.Steps.{AddsNoAct}
 use Rattle.session_answers.proofs.Acts.{acts_behind, fault_is_own}
@@ -64,6 +67,19 @@ said_accepts : {D : Type 0} (moment : D → Moment) (start : Start D) (events : 
 said_accepts moment start events text tree place change words says said =
     accepts (names_before start events place) change words
     (subst (λ c. HasStatementKind (names_before start events place) c (record { reply = words; change = Some change })) says.typed said.kind)
+
+-- under the pin the statement was the change
+pub change_under : {D : Type 0} (moment : D → Moment) (start : Start D) (events : List Event) (pinned : Pinned) (text : List ℕ) (tree : Term) (change : Change) →
+    IsOpenPin (ledger_of start events) pinned → SaysChange moment start events text tree (pinned.place + 1) change → check_of tree text pinned.names ≡ Ok (AChange change)
+change_under moment start events pinned text tree change o says =
+    ap (λ (names : Names). check_of tree text names) (sym (names_behind start events pinned o)) ∙ says.typed
+
+-- no commit was tried under it in a turn that added nothing
+pub still_untried : {D : Type 0} (start : Start D) (pinned : Pinned) (session : ℕ) (old new : List Event) → pinned.session ≡ session → Adds session [] old new →
+    is_noted is_tried (ledger_of start old) pinned.session ≡ false → is_noted is_tried (ledger_of start new) pinned.session ≡ false
+still_untried {D} start pinned session old new mine turn untried =
+    courses_keep_notes D start is_tried pinned.session [] old new
+    (subst (λ (s : ℕ). AddsOwn s [] old new) (sym mine) (turns_are_courses session [] old new turn)) refl ∙ untried
 
 -- ---- behind what the session did before
 

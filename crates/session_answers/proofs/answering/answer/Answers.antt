@@ -1,0 +1,18 @@
+use Rattle.std.proofs.Common.{◌∙◌, ap}
+use Rattle.session_sources.specs.Seats.{last_place, seen, session_of}
+use Rattle.session_answers.proofs.Kept.{still_answered, still_none, still_seat}
+use Rattle.session_answers.proofs.answering.answer.Goals as goal
+
+pub returns : goal.returns
+returns g c =
+    let moment = g.D.Disk.moment in
+    let e = c.answer_text.ensures in
+    let k = c.keep_last.ensures in
+    let reply = c.answer_text.result.0 in
+    let seat = c.answer_text.result.1 in record {
+      seat = still_seat moment c.args.shared.now reply.place seat c.keep_last.new.self k e.seat;
+      session = ap session_of k ∙ e.same.session;
+      none = still_none moment c.args.shared.now reply.place seat c.keep_last.new.self k e.none;
+      last = ap last_place k;
+      answered = still_answered moment c.args.shared.now reply.place seat c.keep_last.new.self k (session_of c.args.seat) (last_place c.args.seat) (seen c.args.seat) c.args.text.now reply e.answered;
+    }

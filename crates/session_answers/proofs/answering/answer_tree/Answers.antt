@@ -1,0 +1,60 @@
+use Rattle.std.proofs.Common.{◌∙◌, [], ◌∷◌, ap, subst}
+use Rattle.event_core.specs.declared.entry.Entry.TheVariants.{Unpin}
+use Rattle.store_ledger.specs.Ledger.{is_noted}
+use Rattle.store_state.specs.declared.event.Event.TheVariants.{Entered}
+use Rattle.told_stores.specs.Turns.{Adds}
+use Rattle.session_sources.specs.Seats.{ledger_seen, seen, session_of, start}
+use Rattle.session_answers.proofs.Trees.{full_is_answered, pinned_is_answered, want_is_answered}
+use Rattle.session_answers.proofs.answering.answer_tree.Goals as goal
+
+pub answer_pinned-requires : goal.answer_pinned-requires
+answer_pinned-requires g c =
+    let e = c.in-Ok.ensures in record {
+      seat = e.seat;
+      pin = e.open;
+      untried = λ kinds. ap (λ session. is_noted kinds (ledger_seen g.D.Disk.moment c.args.shared.now c.pin.new.seat) session) e.same.session ∙ e.untried kinds;
+      stored = e.stored;
+      database = e.database;
+      fit = c.requires.fit;
+      workers = c.requires.workers;
+    }
+
+pub returns-in-Ok : goal.returns-in-Ok
+returns-in-Ok g c =
+    let moment = g.D.Disk.moment in
+    let began = start moment c.args.shared.now in
+    let e = c.in-Ok.ensures in
+    let a = c.answer_pinned.ensures in
+    let u = c.unpin.ensures in
+    let reply = c.answer_pinned.result.0 in
+    let mid = c.answer_pinned.result.1 in
+    let session = a.same.session ∙ e.same.session in record {
+      seat = u.seat;
+      same = record { session = u.same.session ∙ session; last = u.same.last ∙ a.same.last ∙ e.same.last };
+      none = u.none;
+      answered = pinned_is_answered moment began (session_of c.args.seat) (seen c.args.seat) (seen c.pin.new.seat) (seen mid) (seen c.unpin.new.seat) c.in-Ok.pinned c.args.text.now c.args.tree.now reply
+          e.ok (ap (λ p. p.session) e.pinned) (ap (λ p. p.place) e.pinned) e.open.open_pin a.seat.0.sealed
+          (subst (λ s. Adds s (Entered (Unpin s) ∷ []) (seen mid) (seen c.unpin.new.seat)) session u.adds) a.answered;
+    }
+
+pub returns-in-Err-HistoryFull : goal.returns-in-Err-HistoryFull
+returns-in-Err-HistoryFull g c =
+    let e = c.in-Err-HistoryFull.ensures in
+    let r = c.refusal_at.ensures in record {
+      seat = e.seat;
+      same = e.same;
+      none = e.none;
+      answered = full_is_answered g.D.Disk.moment (start g.D.Disk.moment c.args.shared.now) (session_of c.args.seat) (seen c.args.seat) (seen c.pin.new.seat) c.args.text.now c.args.tree.now
+          c.refusal_at.result e.err c.in-Err-HistoryFull.entries r.words (r.place ∙ c.from-place.ensures) e.cause;
+    }
+
+pub returns-in-Err-Memory : goal.returns-in-Err-Memory
+returns-in-Err-Memory g c =
+    let e = c.in-Err-Memory.ensures in
+    let w = c.want.ensures in record {
+      seat = e.seat;
+      same = e.same;
+      none = e.none;
+      answered = want_is_answered g.D.Disk.moment (start g.D.Disk.moment c.args.shared.now) (session_of c.args.seat) (seen c.args.seat) (seen c.pin.new.seat) c.args.text.now c.args.tree.now
+          c.want.result e.err w.want (w.place ∙ c.seen-seen.ensures ∙ e.seat.0.counts);
+    }
