@@ -13,7 +13,7 @@ ghost use Rattle.session_sources.specs.Told.{IsTold};
 ghost use Rattle.session_turns.specs.Under.{IsAnsweredInTurn};
 
 use crate::settings::Options;
-use afl_outside::{Disk, Gate};
+use afl_outside::{Disk, Gate, Point};
 use afl_trees::Tree;
 use session_outcomes::Reply;
 use session_sources::{Seat, Shared, StoreTurn};
@@ -49,7 +49,8 @@ pub fn answer_held<D: Disk, R: Wait, G: Gate>(
     ensures pin { HoldsPin D.moment shared.now result.1 pinned.now }
     ensures answered { IsAnsweredInTurn D.moment (start D.moment shared.now) pinned.now.session pinned.now.place (seen seat) (seen result.1) text.now tree.now result.0 }
 {
-    let _ = (alloc, shared, &seat, &turn, pinned, text, tree, options, gate);
-    for _ in rt.forever() {}
+    for _ in rt.forever() {
+        gate.pass(seat.session(), Point::Chunk(0));
+    }
     unreachable!()
 }
