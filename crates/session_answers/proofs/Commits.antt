@@ -182,11 +182,11 @@ module _ {D : Type 0} (moment : D → Moment) (start : Start D) (pinned : Pinned
     refused_is_answered (faults.SequenceEnd place) u why =
         let at : reply.place ≡ here = u.1 ∙ why.0 ∙ count in
         refusing SequenceEnd u.0 at (λ line. line)
-        (holds at, said at, new, was at, subst (λ (p : ℕ). IsUncommitted moment pinned.session change (told start new) (faults.SequenceEnd p)) (sym u.1) why)
+        (holds at, (said at, (new, was at, subst (λ (p : ℕ). IsUncommitted moment pinned.session change (told start new) (faults.SequenceEnd p)) (sym u.1) why)))
     refused_is_answered (faults.Full needed free place) u why =
         let at : reply.place ≡ here = u.1 ∙ why.0 ∙ count in
         refusing (Full needed free) u.0 at (λ line. line)
-        (holds at, said at, new, was at, subst (λ (p : ℕ). IsUncommitted moment pinned.session change (told start new) (faults.Full needed free p)) (sym u.1) why)
+        (holds at, (said at, (new, was at, subst (λ (p : ℕ). IsUncommitted moment pinned.session change (told start new) (faults.Full needed free p)) (sym u.1) why)))
     refused_is_answered (faults.Disk place) u why =
         let at : reply.place ≡ here = u.1 ∙ why.0 ∙ count in
         refusing Disk u.0 at (λ line. line)

@@ -6,10 +6,10 @@ use Rattle.session_answers.proofs.answering.answer.Goals as goal
 pub returns : goal.returns
 returns g c =
     let moment = g.D.Disk.moment in
-    let e = c.answer_text.ensures in
+    let e = c.answer_text-reply.ensures in
     let k = c.keep_last.ensures in
-    let reply = c.answer_text.result.0 in
-    let seat = c.answer_text.result.1 in record {
+    let reply = c.answer_text-reply.result.0 in
+    let seat = c.answer_text-reply.result.1 in record {
       seat = still_seat moment c.args.shared.now reply.place seat c.keep_last.new.self k e.seat;
       session = ap session_of k ∙ e.same.session;
       none = still_none moment c.args.shared.now reply.place seat c.keep_last.new.self k e.none;

@@ -5,7 +5,7 @@ use Rattle.session_answers.proofs.Wholes.{stop_is_whole, tree_is_answered, want_
 use Rattle.session_answers.proofs.answering.answer_text.Goals as goal
 
 pub answer_tree-requires-clause-fit : goal.answer_tree-requires-clause-fit
-answer_tree-requires-clause-fit g c = parsed_leaves c.args.text.now c.in-Ok.tree (λ i. omega (arith, c.type_inv.text i)) c.in-Ok.ensures.tree
+answer_tree-requires-clause-fit g c κs within = parsed_leaves c.args.text.now c.in-Ok.tree (λ i. omega (arith, c.type_inv.text i)) c.in-Ok.ensures.tree
 
 pub returns-in-Ok : goal.returns-in-Ok
 returns-in-Ok g c =
@@ -21,12 +21,14 @@ returns-in-Ok g c =
 pub returns-in-Err-At : goal.returns-in-Err-At
 returns-in-Err-At g c =
     let p = c.in-Err-At.ensures in
+    let only_tree = rw c.in-Err-At.field-0-is at p.only_tree in
+    let only_stop = rw c.in-Err-At.field-0-is at p.only_stop in
     let e = c.refusal_at.ensures in record {
       seat = c.requires.seat;
       same = record { session = refl; last = refl };
       none = c.requires.none;
       answered = stop_is_whole g.D.Disk.moment (start g.D.Disk.moment c.args.shared.now) (session_of c.args.seat) (last_place c.args.seat) (seen c.args.seat)
-          c.args.text.now c.refusal_at.result c.in-Err-At.at c.in-Err-At.kind (e.place ∙ c.last-last.ensures) p.only_tree p.only_stop e.words;
+          c.args.text.now c.refusal_at.result c.in-Err-At.at c.in-Err-At.kind (e.place ∙ c.last-last.ensures) only_tree only_stop e.words;
     }
 
 pub returns-in-Err-Memory : goal.returns-in-Err-Memory

@@ -7,8 +7,8 @@ use Rattle.session_sources.specs.Seats.{ledger_seen, seen, session_of, start}
 use Rattle.session_answers.proofs.Trees.{full_is_answered, pinned_is_answered, want_is_answered}
 use Rattle.session_answers.proofs.answering.answer_tree.Goals as goal
 
-pub answer_pinned-requires : goal.answer_pinned-requires
-answer_pinned-requires g c =
+pub answer_pinned-reply-requires : goal.answer_pinned-reply-requires
+answer_pinned-reply-requires g c =
     let e = c.in-Ok.ensures in record {
       seat = e.seat;
       pin = e.open;
@@ -24,10 +24,10 @@ returns-in-Ok g c =
     let moment = g.D.Disk.moment in
     let began = start moment c.args.shared.now in
     let e = c.in-Ok.ensures in
-    let a = c.answer_pinned.ensures in
+    let a = c.answer_pinned-reply.ensures in
     let u = c.unpin.ensures in
-    let reply = c.answer_pinned.result.0 in
-    let mid = c.answer_pinned.result.1 in
+    let reply = c.answer_pinned-reply.result.0 in
+    let mid = c.answer_pinned-reply.result.1 in
     let session = a.same.session ∙ e.same.session in record {
       seat = u.seat;
       same = record { session = u.same.session ∙ session; last = u.same.last ∙ a.same.last ∙ e.same.last };
@@ -40,12 +40,13 @@ returns-in-Ok g c =
 pub returns-in-Err-HistoryFull : goal.returns-in-Err-HistoryFull
 returns-in-Err-HistoryFull g c =
     let e = c.in-Err-HistoryFull.ensures in
+    let cause = rw c.in-Err-HistoryFull.field-0-is at e.cause in
     let r = c.refusal_at.ensures in record {
       seat = e.seat;
       same = e.same;
       none = e.none;
       answered = full_is_answered g.D.Disk.moment (start g.D.Disk.moment c.args.shared.now) (session_of c.args.seat) (seen c.args.seat) (seen c.pin.new.seat) c.args.text.now c.args.tree.now
-          c.refusal_at.result e.err c.in-Err-HistoryFull.entries r.words (r.place ∙ c.from-place.ensures) e.cause;
+          c.refusal_at.result e.err c.in-Err-HistoryFull.entries r.words (r.place ∙ c.from-place.ensures) cause;
     }
 
 pub returns-in-Err-Memory : goal.returns-in-Err-Memory
