@@ -1,5 +1,5 @@
 -- The acts of a session under its pin, and the notes of its faults.
-use Rattle.std.proofs.Common.{◌≡◌, ◌∙◌, ◌⊎◌, inl, inr, ℕ, Bool, true, false, not, ◌&&◌, cond, nat_eq, List, [], ◌∷◌, ◌++◌, Contains, true≢false, refl, ap, sym, arith}
+use Rattle.std.proofs.Common.{◌≡◌, ◌∙◌, ◌⊎◌, inl, inr, ℕ, Bool, true, false, not, ◌&&◌, nat_eq, List, [], ◌∷◌, ◌++◌, true≢false, refl, ap, sym, arith}
 use Rattle.std.specs.List.{list_all}
 use Rattle.std.proofs.lemmas.Bool.{and_from, and_parts, eqb-true}
 use Rattle.std.proofs.lemmas.List.Elements.{Contains-append_left, Contains-append_right}
@@ -18,7 +18,6 @@ use Rattle.session_replies.proofs.ActsJoined.{acts_join}
 use Rattle.session_sources.specs.Courses.{AddsOwn, IsFaultAtMost}
 use Rattle.session_sources.specs.Told.{ledger_of}
 use Rattle.session_sources.proofs.CourseLaws.{courses_keep_notes}
-use Rattle.session_sources.specs.Courses.{IsOneFault}
 
 -- ---- a statement does nothing between its pin and its unpin but try and make a commit
 

@@ -6,13 +6,11 @@ use Rattle.afl_outside.specs.Disk.{Moment}
 use Rattle.afl_trees.specs.Term.{Term}
 use Rattle.afl_types.specs.Checking.{check_of}
 use Rattle.afl_types.specs.declared.statements.checking.Typed.TheVariants.{Change as AChange}
-use Rattle.chunk_map.specs.declared.directory.Directory.{Directory}
 use Rattle.plan_changes.specs.declared.change.Change.{Change}
 use Rattle.plan_changes.specs.declared.change.Change.TheVariants.{Create, Store, Insert, Remove, RemoveVersions}
 use Rattle.logical_plan.specs.declared.names.Names.{Names}
 use Rattle.event_core.specs.declared.entry.Entry.{Entry}
 use Rattle.event_core.specs.declared.entry.Entry.TheVariants.{Commit}
-use Rattle.event_core.specs.declared.entry.Used.{Used}
 use Rattle.result_print.specs.declared.refusal.Refusal.{Refusal}
 use Rattle.result_print.specs.declared.refusal.Refusal.TheVariants.{Disk, SequenceEnd, Full, Memory}
 use Rattle.statement_replies.specs.declared.replies.Reply.{Reply as Told}
@@ -20,7 +18,7 @@ use Rattle.statement_replies.specs.Reply.{refused}
 use Rattle.statement_replies.specs.StatementKinds.{HasChangeKind, HasStatementKind, MayBreak}
 use Rattle.statement_replies.specs.Statements.{Accepted}
 use Rattle.store_ledger.specs.declared.pinned.Pinned.{Pinned}
-use Rattle.store_ledger.specs.Ledger.{IsOpenPin, is_fault, is_noted, is_tried}
+use Rattle.store_ledger.specs.Ledger.{IsOpenPin, is_noted, is_tried}
 use Rattle.store_state.specs.declared.event.Event.{Event}
 use Rattle.store_state.specs.declared.event.Event.TheVariants.{Acknowledged}
 use Rattle.told_stores.specs.Causes.{IsUncommitted}
@@ -29,12 +27,11 @@ use Rattle.told_stores.specs.CommitFault.TheVariants as faults
 use Rattle.told_stores.specs.Tries.{MakesCommit, TriesCommit}
 use Rattle.told_stores.specs.Turns.{own_events, Adds}
 use Rattle.told_stores.proofs.Telling.{entries_in-append}
-use Rattle.session_replies.specs.Acts.{Act, Course, acts_for, acts_in, begins, ends, makes, tries, trying, making}
+use Rattle.session_replies.specs.Acts.{Act, acts_for, acts_in, begins, ends, makes, trying, making}
 use Rattle.session_replies.specs.Fresh.{IsNamedAt}
 use Rattle.session_replies.specs.Refusals.{IsUncommittedReply, IsWant, Refuses}
-use Rattle.session_replies.specs.Replies.{names_before, words_of, HasFault, HasLine, HoldsSincePin, IsToldFor, Says, SaysChange, WasAt}
+use Rattle.session_replies.specs.Replies.{names_before, words_of, HasLine, HoldsSincePin, IsToldFor, Says, SaysChange, WasAt}
 use Rattle.session_replies.specs.declared.reply.Reply.{Reply}
-use Rattle.session_replies.proofs.Beginnings.{reached}
 use Rattle.session_sources.specs.Courses.{AddsOwn}
 use Rattle.session_sources.specs.Start.{Start}
 use Rattle.session_sources.specs.Told.{entries_in, ledger_of, told}
@@ -43,7 +40,7 @@ use Rattle.session_outcomes.proofs.Behind.{names_behind}
 use Rattle.session_turns.specs.Under.{IsAnsweredInTurn, IsAnsweredUnder}
 use Rattle.session_answers.specs.Inner.Steps.{AddsNoAct}
 use Rattle.session_answers.proofs.Acts.{acts_behind, fault_is_own}
-use Rattle.session_answers.proofs.Tried.{change_at_commit, commit_place, fault_entries, from_commit, before_commit, new_is, own_first, says_at_commit, try_acts, within_commit}
+use Rattle.session_answers.proofs.Tried.{change_at_commit, commit_place, fault_entries, before_commit, new_is, own_first, says_at_commit, try_acts, within_commit}
 
 get_seam : {A : Type 0} → (xs ys : List A) (y : A) → slice_get (xs ++ y ∷ ys) (length xs) ≡ Some y
 get_seam [] ys y = refl
@@ -243,10 +240,13 @@ module _ {D : Type 0} (moment : D → Moment) (start : Start D) (pinned : Pinned
           since = omega (arith, at, le);
           until = omega (arith, at, count);
           told = subst (λ (r : Option Refusal). IsToldFor moment start pinned.session pinned.place new made_own text tree reply r (making change)) (sym accepted) (
-            (m.used, record {
-              is = subst (λ (place : ℕ). slice_get (entries_in new) place ≡ Some (Commit pinned.session change m.used)) (sym at) is;
-              later = omega (arith, at, le);
-            }),
+            (
+              m.used,
+              record {
+                is = subst (λ (place : ℕ). slice_get (entries_in new) place ≡ Some (Commit pinned.session change m.used)) (sym at) is;
+                later = omega (arith, at, le);
+              },
+            ),
             subst (λ (w : Told). Says moment start new text tree reply.place (record { reply = w; change = Some change })) (sym same)
                 (subst (λ (place : ℕ). Says moment start new text tree place (record { reply = words; change = Some change })) (sym at) says_here),
           );

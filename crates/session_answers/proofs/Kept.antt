@@ -1,11 +1,11 @@
 -- A seat that keeps the place of a reply.
-use Rattle.std.proofs.Common.{◌≡◌, ◌∙◌, ℕ, List, ap, sym, subst}
+use Rattle.std.proofs.Common.{◌≡◌, ℕ, List, sym, subst}
 use Rattle.afl_outside.specs.Disk.{Moment}
 use Rattle.store_state.specs.declared.event.Event.{Event}
 use Rattle.snapshot_manager.specs.declared.seat.Seat.{Seat}
 use Rattle.snapshot_manager.specs.declared.shared.Shared.{Shared}
 use Rattle.session_replies.specs.declared.reply.Reply.{Reply}
-use Rattle.session_sources.specs.Seats.{last_place, seen, session_of, start, with_last, HoldsNone, IsIdle, IsSeatOf}
+use Rattle.session_sources.specs.Seats.{seen, start, with_last, HoldsNone, IsIdle, IsSeatOf}
 use Rattle.session_answers.specs.Answered.{IsAnswered}
 
 seat_kept : {D : Type 0} (shared : Shared D) (place : ℕ) (seat : Seat D) → IsSeatOf shared seat → IsSeatOf shared (with_last place seat)

@@ -1,5 +1,5 @@
 -- What was read under a pin, and how it is answered.
-use Rattle.std.proofs.Common.{◌≡◌, ◌∙◌, ◌+◌, ◌<◌, ◌≤◌, ℕ, Bool, false, List, [], ◌∷◌, ◌++◌, length, Option, Some, Result, Ok, Err, IfOk, IfErr, refl, ap, sym, subst, arith}
+use Rattle.std.proofs.Common.{◌≡◌, ◌∙◌, ◌+◌, ◌<◌, ◌≤◌, ℕ, Bool, false, List, [], ◌∷◌, ◌++◌, length, Option, Result, Ok, Err, IfOk, IfErr, ap, sym, subst, arith}
 use Rattle.afl_outside.specs.Counts.{Rose}
 use Rattle.afl_outside.specs.Disk.{Moment}
 use Rattle.afl_trees.specs.Term.{Term}
@@ -23,8 +23,7 @@ use Rattle.store_ledger.specs.declared.note.NoteKind.{NoteKind}
 use Rattle.store_ledger.specs.declared.pinned.Pinned.{Pinned}
 use Rattle.store_ledger.specs.Ledger.{IsOpenPin, is_fault, is_noted}
 use Rattle.store_state.specs.declared.event.Event.{Event}
-use Rattle.store_state.specs.Calls.{history_at, IsLeafOf}
-use Rattle.store_state.specs.Standings.{BeganAs}
+use Rattle.store_state.specs.Calls.{IsLeafOf}
 use Rattle.snapshot_manager.specs.declared.seat.Seat.{Seat}
 use Rattle.snapshot_manager.specs.declared.shared.Shared.{Shared}
 use Rattle.session_replies.specs.Acts.{acts_in, begins, ends, looking}
@@ -41,7 +40,7 @@ use Rattle.session_sources.specs.Laws.{PinnedSourcesHoldVersions}
 use Rattle.session_sources.specs.Pinned.{pinned_state, reading_of, unread, HasRead}
 use Rattle.session_sources.specs.Seats.{ledger_seen, seen, session_of, start}
 use Rattle.session_sources.specs.Start.{Start}
-use Rattle.session_sources.specs.Told.{entries_in, ledger_of, told}
+use Rattle.session_sources.specs.Told.{entries_in, ledger_of}
 use Rattle.session_outcomes.specs.BehindPins.{ComesOver, HasDatabaseAt}
 use Rattle.session_outcomes.specs.Changing.{IsReadChange}
 use Rattle.session_outcomes.specs.Told.{IsLookedReply}

@@ -1,25 +1,23 @@
 -- The answer to a tree, about its pin and its unpin.
-use Rattle.std.proofs.Common.{◌≡◌, ◌∙◌, ◌+◌, ◌<◌, ◌≤◌, ℕ, true, List, [], ◌∷◌, ◌++◌, length, slice_get, inl, inr, Option, Some, refl, ap, sym, subst, arith, append-nil}
+use Rattle.std.proofs.Common.{◌≡◌, ◌∙◌, ◌≤◌, ℕ, true, List, [], ◌∷◌, ◌++◌, length, inl, inr, Option, Some, refl, ap, sym, subst, arith, append-nil}
 use Rattle.std.specs.List.{list_all}
 use Rattle.std.proofs.lemmas.Bool.{eq-eqb}
 use Rattle.afl_outside.specs.Disk.{Moment}
 use Rattle.afl_trees.specs.Term.{Term}
-use Rattle.event_core.specs.declared.entry.Entry.{Entry}
 use Rattle.event_core.specs.declared.entry.Entry.TheVariants.{Pin, Unpin}
 use Rattle.result_print.specs.declared.refusal.Refusal.{Refusal}
 use Rattle.result_print.specs.declared.refusal.Refusal.TheVariants as refusals
 use Rattle.statement_replies.specs.declared.replies.Reply.{Reply as Told}
-use Rattle.store_ledger.specs.declared.pinned.PinFault.{PinFault}
-use Rattle.store_ledger.specs.declared.pinned.PinFault.TheVariants.{HistoryFull, Memory}
+use Rattle.store_ledger.specs.declared.pinned.PinFault.TheVariants.{HistoryFull}
 use Rattle.store_ledger.specs.declared.pinned.Pinned.{Pinned}
 use Rattle.store_ledger.specs.Ledger.{IsOpenPin, IsRefused}
 use Rattle.store_state.specs.declared.event.Event.{Event}
 use Rattle.store_state.specs.declared.event.Event.TheVariants.{Entered}
 use Rattle.told_stores.specs.Turns.{found_before, own_events, pin_event, Adds}
 use Rattle.told_stores.proofs.Turning.{turns_find}
-use Rattle.session_replies.specs.Acts.{Act, Course, acts_for, acts_in, begins, ends, nothing, looking, trying, making}
+use Rattle.session_replies.specs.Acts.{Act, Course, begins, nothing, looking, trying, making}
 use Rattle.session_replies.specs.Refusals.{IsWant, Refuses}
-use Rattle.session_replies.specs.Replies.{EnteredAt, HasLine, IsToldFor, WasAt}
+use Rattle.session_replies.specs.Replies.{EnteredAt, HasLine, IsToldFor}
 use Rattle.session_replies.specs.declared.reply.Reply.{Reply}
 use Rattle.session_replies.proofs.ActsJoined.{acts_join}
 use Rattle.session_replies.proofs.Beginnings.{reached}

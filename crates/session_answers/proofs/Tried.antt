@@ -9,7 +9,6 @@ use Rattle.plan_changes.specs.Changes.{names_after}
 use Rattle.plan_changes.specs.Databases.{Database, names_of}
 use Rattle.plan_changes.proofs.NamesOf.{names_depend_on_no_row}
 use Rattle.logical_plan.specs.declared.names.Names.{Names}
-use Rattle.event_core.specs.declared.entry.Entry.{Entry}
 use Rattle.event_core.specs.declared.entry.Entry.TheVariants.{Pin, Unpin, Commit, Reap}
 use Rattle.event_core.specs.declared.state.Core.{Core}
 use Rattle.event_core.specs.Cells.{at}
@@ -26,13 +25,11 @@ use Rattle.store_state.specs.declared.event.Event.{Event}
 use Rattle.store_state.specs.declared.event.Event.TheVariants.{Entered, Noted}
 use Rattle.store_state.specs.Calls.{history_at}
 use Rattle.store_state.specs.Events.{owner_of}
-use Rattle.store_state.specs.Standings.{BeganAs}
 use Rattle.store_commits.specs.Tried.{IsFaultOrNone}
 use Rattle.told_stores.specs.Growth.{tried_events}
 use Rattle.told_stores.specs.Tries.{is_fresh_since, AreOfTry, TriesCommit}
 use Rattle.told_stores.specs.Turns.{found_before, own_events}
 use Rattle.told_stores.proofs.Sights.{more_history, others_leave_pins, pins_outlast}
-use Rattle.told_stores.proofs.Telling.{entries_in-append}
 use Rattle.told_stores.proofs.Turning.{turns_find}
 use Rattle.session_replies.specs.Acts.{Act, acts_in, tries}
 use Rattle.session_replies.specs.Fresh.{AreLeftSince, IsNamedAt}

@@ -1,7 +1,6 @@
 -- The answer to a text: that to its tree, that of its stop, or that no memory was found.
-use Rattle.std.proofs.Common.{◌≡◌, ◌∙◌, ◌≤◌, ℕ, List, [], length, inl, inr, Option, Some, Ok, Err, refl, ap, sym, subst, arith}
+use Rattle.std.proofs.Common.{◌≡◌, ◌∙◌, ℕ, List, [], length, inl, inr, Option, Some, Ok, Err, refl, ap, sym, subst, arith}
 use Rattle.afl_outside.specs.Disk.{Moment}
-use Rattle.afl_parser.specs.declared.fault.ParseFault.{ParseFault}
 use Rattle.afl_parser.specs.declared.fault.ParseFault.TheVariants as stops
 use Rattle.afl_parser.specs.Outcome.{AnswersStop, AnswersTree}
 use Rattle.afl_trees.specs.Statement.{DerivesText, StopsText}

@@ -6,7 +6,6 @@ ghost use Rattle.session_sources.specs.Seats.{last_place, seen, session_of, star
 ghost use Rattle.session_answers.specs.Answered.{IsAnswered};
 ghost use Rattle.session_answers.specs.Inner.Tree.{IsAnsweredTree};
 
-use session_turns::Options;
 use crate::pinned::answer_pinned;
 use afl_outside::{Disk, Gate, Point};
 use afl_parser::{ParseFault, parse};
@@ -14,6 +13,7 @@ use afl_trees::Tree;
 use result_print::Refusal;
 use session_outcomes::{Reply, refusal_at, want};
 use session_sources::{Seat, Shared};
+use session_turns::Options;
 use std::alloc::Global;
 use std::sync::Wait;
 use store_ledger::PinFault;
@@ -71,10 +71,7 @@ fn answer_text<D: Disk, R: Wait, G: Gate>(
         Ok(tree) => answer_tree(rt, alloc, shared, seat, text, &tree, number, options, gate),
         Err(ParseFault::At { at, kind }) => {
             let last = seat.last();
-            (
-                refusal_at(alloc, Refusal::Parse { at, kind }, last),
-                seat,
-            )
+            (refusal_at(alloc, Refusal::Parse { at, kind }, last), seat)
         }
         Err(ParseFault::Memory) => {
             let seen = seat.seen();
@@ -110,7 +107,9 @@ fn answer_tree<D: Disk, R: Wait, G: Gate>(
     match shared.pin(rt, &mut seat) {
         Ok(pinned) => {
             gate.pass(seat.session(), Point::Pinned(number));
-            let (reply, mut seat) = answer_pinned(rt, alloc, shared, seat, &pinned, text, tree, number, options, gate);
+            let (reply, mut seat) = answer_pinned(
+                rt, alloc, shared, seat, &pinned, text, tree, number, options, gate,
+            );
             shared.unpin(rt, &mut seat, pinned);
             (reply, seat)
         }

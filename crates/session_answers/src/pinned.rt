@@ -51,16 +51,16 @@ pub(crate) fn answer_pinned<D: Disk, R: Wait, G: Gate>(
     ensures answered { IsAnsweredUnder D.moment (start D.moment shared.now) pinned.now.session pinned.now.place (seen seat) (seen result.1) text.now tree.now result.0 }
 {
     let place = behind(shared, &seat, pinned);
-    let (outcome, seat) = read_under(
-        rt, alloc, shared, seat, pinned, text, tree, options, gate,
-    );
+    let (outcome, seat) = read_under(rt, alloc, shared, seat, pinned, text, tree, options, gate);
     match outcome {
         Ok(Outcome::Replied(words)) => (at_place(words, place), seat),
-        Ok(Outcome::Changes {
-            change,
-            changed,
-            reply,
-        }) => {
+        Ok(
+            Outcome::Changes {
+                change,
+                changed,
+                reply,
+            },
+        ) => {
             gate.pass(pinned.session, Point::Computed(number));
             commit(
                 rt, alloc, shared, seat, pinned, text, tree, change, changed, reply, options, gate,

@@ -1,5 +1,6 @@
 use Rattle.std.proofs.Common.{◌∙◌, [], ◌∷◌, ap, subst}
 use Rattle.event_core.specs.declared.entry.Entry.TheVariants.{Unpin}
+use Rattle.store_ledger.specs.declared.pinned.Pinned.{Pinned}
 use Rattle.store_ledger.specs.Ledger.{is_noted}
 use Rattle.store_state.specs.declared.event.Event.TheVariants.{Entered}
 use Rattle.told_stores.specs.Turns.{Adds}
@@ -7,17 +8,10 @@ use Rattle.session_sources.specs.Seats.{ledger_seen, seen, session_of, start}
 use Rattle.session_answers.proofs.Trees.{full_is_answered, pinned_is_answered, want_is_answered}
 use Rattle.session_answers.proofs.answering.answer_tree.Goals as goal
 
-pub answer_pinned-reply-requires : goal.answer_pinned-reply-requires
-answer_pinned-reply-requires g c =
-    let e = c.in-Ok.ensures in record {
-      seat = e.seat;
-      pin = e.open;
-      untried = λ kinds. ap (λ session. is_noted kinds (ledger_seen g.D.Disk.moment c.args.shared.now c.pin.new.seat) session) e.same.session ∙ e.untried kinds;
-      stored = e.stored;
-      database = e.database;
-      fit = c.requires.fit;
-      workers = c.requires.workers;
-    }
+pub answer_pinned-reply-requires-clause-untried : goal.answer_pinned-reply-requires-clause-untried
+answer_pinned-reply-requires-clause-untried g c κs within =
+    let e = c.in-Ok.ensures in
+    λ kinds. ap (λ session. is_noted kinds (ledger_seen g.D.Disk.moment c.args.shared.now c.pin.new.seat) session) e.same.session ∙ e.untried kinds
 
 pub returns-in-Ok : goal.returns-in-Ok
 returns-in-Ok g c =
@@ -33,7 +27,7 @@ returns-in-Ok g c =
       same = record { session = u.same.session ∙ session; last = u.same.last ∙ a.same.last ∙ e.same.last };
       none = u.none;
       answered = pinned_is_answered moment began (session_of c.args.seat) (seen c.args.seat) (seen c.pin.new.seat) (seen mid) (seen c.unpin.new.seat) c.in-Ok.pinned c.args.text.now c.args.tree.now reply
-          e.ok (ap (λ p. p.session) e.pinned) (ap (λ p. p.place) e.pinned) e.open.open_pin a.seat.0.sealed
+          e.ok (ap (λ (p : Pinned). p.session) e.pinned) (ap (λ (p : Pinned). p.place) e.pinned) e.open.open_pin a.seat.0.sealed
           (subst (λ s. Adds s (Entered (Unpin s) ∷ []) (seen mid) (seen c.unpin.new.seat)) session u.adds) a.answered;
     }
 

@@ -32,25 +32,63 @@ returns-in-Err g c =
           r.database r.untried c.in-Err.fault c.unread.result w e.words (e.place ∙ c.behind-place.ensures);
     }
 
-pub commit-requires : goal.commit-requires
-commit-requires g c =
+pub commit-requires-clause-seat : goal.commit-requires-clause-seat
+commit-requires-clause-seat g c κs within =
+    c.read_under-outcome.ensures.read.read.seat
+
+pub commit-requires-clause-pin : goal.commit-requires-clause-pin
+commit-requires-clause-pin g c κs within =
+    c.read_under-outcome.ensures.read.read.pin
+
+pub commit-requires-clause-tried : goal.commit-requires-clause-tried
+commit-requires-clause-tried g c κs within =
     let moment = g.D.Disk.moment in
     let r = c.requires in
     let seat = c.read_under-outcome.result.1 in
     let w = subst (λ result. WasRead moment c.args.shared.now c.args.pinned.now c.args.seat seat c.args.text.now c.args.tree.now result) (c.in-Ok-Changes.is ∙ ap Ok c.in-Ok-Changes.field-0-is) c.read_under-outcome.ensures.read in
-    let p = c.in-Ok-Changes in
-    let i = change_is_read moment c.args.shared.now c.args.pinned.now c.args.seat seat c.args.text.now c.args.tree.now r.database r.untried p.change p.changed p.reply w in record {
-      seat = w.read.seat;
-      pin = w.read.pin;
-      tried = i.tried;
-      allowed = i.allowed;
-      database = database_now moment c.args.shared.now c.args.pinned.now c.args.seat seat c.args.text.now c.args.tree.now r.database r.untried _ w;
-      may = i.may;
-      said = i.said;
-      typed = i.typed;
-      fit = r.fit;
-      workers = r.workers;
-    }
+    (change_is_read moment c.args.shared.now c.args.pinned.now c.args.seat seat c.args.text.now c.args.tree.now r.database r.untried
+    c.in-Ok-Changes.change c.in-Ok-Changes.changed c.in-Ok-Changes.reply w).tried
+
+pub commit-requires-clause-allowed : goal.commit-requires-clause-allowed
+commit-requires-clause-allowed g c κs within =
+    let moment = g.D.Disk.moment in
+    let r = c.requires in
+    let seat = c.read_under-outcome.result.1 in
+    let w = subst (λ result. WasRead moment c.args.shared.now c.args.pinned.now c.args.seat seat c.args.text.now c.args.tree.now result) (c.in-Ok-Changes.is ∙ ap Ok c.in-Ok-Changes.field-0-is) c.read_under-outcome.ensures.read in
+    (change_is_read moment c.args.shared.now c.args.pinned.now c.args.seat seat c.args.text.now c.args.tree.now r.database r.untried
+    c.in-Ok-Changes.change c.in-Ok-Changes.changed c.in-Ok-Changes.reply w).allowed
+
+pub commit-requires-clause-database : goal.commit-requires-clause-database
+commit-requires-clause-database g c κs within =
+    database_now g.D.Disk.moment c.args.shared.now c.args.pinned.now c.args.seat c.read_under-outcome.result.1 c.args.text.now c.args.tree.now
+    c.requires.database c.requires.untried c.read_under-outcome.result.0 c.read_under-outcome.ensures.read
+
+pub commit-requires-clause-may : goal.commit-requires-clause-may
+commit-requires-clause-may g c κs within =
+    let moment = g.D.Disk.moment in
+    let r = c.requires in
+    let seat = c.read_under-outcome.result.1 in
+    let w = subst (λ result. WasRead moment c.args.shared.now c.args.pinned.now c.args.seat seat c.args.text.now c.args.tree.now result) (c.in-Ok-Changes.is ∙ ap Ok c.in-Ok-Changes.field-0-is) c.read_under-outcome.ensures.read in
+    (change_is_read moment c.args.shared.now c.args.pinned.now c.args.seat seat c.args.text.now c.args.tree.now r.database r.untried
+    c.in-Ok-Changes.change c.in-Ok-Changes.changed c.in-Ok-Changes.reply w).may
+
+pub commit-requires-clause-said : goal.commit-requires-clause-said
+commit-requires-clause-said g c κs within =
+    let moment = g.D.Disk.moment in
+    let r = c.requires in
+    let seat = c.read_under-outcome.result.1 in
+    let w = subst (λ result. WasRead moment c.args.shared.now c.args.pinned.now c.args.seat seat c.args.text.now c.args.tree.now result) (c.in-Ok-Changes.is ∙ ap Ok c.in-Ok-Changes.field-0-is) c.read_under-outcome.ensures.read in
+    (change_is_read moment c.args.shared.now c.args.pinned.now c.args.seat seat c.args.text.now c.args.tree.now r.database r.untried
+    c.in-Ok-Changes.change c.in-Ok-Changes.changed c.in-Ok-Changes.reply w).said
+
+pub commit-requires-clause-typed : goal.commit-requires-clause-typed
+commit-requires-clause-typed g c κs within =
+    let moment = g.D.Disk.moment in
+    let r = c.requires in
+    let seat = c.read_under-outcome.result.1 in
+    let w = subst (λ result. WasRead moment c.args.shared.now c.args.pinned.now c.args.seat seat c.args.text.now c.args.tree.now result) (c.in-Ok-Changes.is ∙ ap Ok c.in-Ok-Changes.field-0-is) c.read_under-outcome.ensures.read in
+    (change_is_read moment c.args.shared.now c.args.pinned.now c.args.seat seat c.args.text.now c.args.tree.now r.database r.untried
+    c.in-Ok-Changes.change c.in-Ok-Changes.changed c.in-Ok-Changes.reply w).typed
 
 pub returns-in-Ok-Changes : goal.returns-in-Ok-Changes
 returns-in-Ok-Changes g c =
