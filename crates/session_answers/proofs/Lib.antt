@@ -1,5 +1,6 @@
 pub mod Acts
 pub mod Commits
+pub mod Counting
 pub mod Kept
 pub mod Prefixed
 pub mod Readings

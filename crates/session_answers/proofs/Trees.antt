@@ -30,6 +30,8 @@ use Rattle.session_sources.proofs.CourseLaws.{courses_join, turns_are_courses}
 use Rattle.session_turns.specs.Under.{IsAnsweredUnder}
 use Rattle.session_answers.specs.Answered.{BeganAt}
 use Rattle.session_answers.specs.Inner.Tree.{IsAnsweredTree}
+use Rattle.session_answers.specs.Reads.{counted, ReadsOnce}
+use Rattle.session_answers.proofs.Counting.{counted_then}
 use Rattle.session_answers.proofs.Prefixed.{told_before}
 use Rattle.session_answers.proofs.Tried.{own_first}
 
@@ -94,6 +96,15 @@ module _ {D : Type 0} (moment : D → Moment) (start : Start D) (session : ℕ) 
     line = under.line;
     later = (let le = behind_old in omega (arith, le, under.since));
     told = told;
+  }
+
+  -- and so many chunks were counted, as the history then tells it
+  pub is_read_once : list_all is_sealed mid ≡ true → (before after : ℕ) → after ≡ counted start mid pinned.place pinned.names text tree before →
+      ReadsOnce start session old new text tree before after
+  is_read_once whole before after e = record {
+    pin = pinned.place;
+    began = entered;
+    reads = e ∙ counted_then moment start session before mid new pinned text tree o whole (under.own ++ Entered (Unpin session) ∷ []) rest_adds;
   }
 
 -- ---- without a pin

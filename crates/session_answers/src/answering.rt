@@ -1,10 +1,12 @@
 //! The answer to a statement.
-ghost use Rattle.std.specs.Prelude.{◌≡◌, ◌≤◌, length, IsTrue};
+ghost use Rattle.std.specs.Prelude.{◌≡◌, ◌≤◌, length, None, IsTrue};
 ghost use Rattle.afl_trees.specs.Statement.{DerivesText};
+ghost use Rattle.afl_trees.specs.Term.{Term};
 ghost use Rattle.check_exprs.specs.Laws.{leaves_fit};
-ghost use Rattle.session_sources.specs.Seats.{last_place, seen, session_of, start, HoldsNone, IsIdle, IsSameSeat, IsSeatOf};
+ghost use Rattle.session_sources.specs.Seats.{last_place, read_count, seen, session_of, start, HoldsNone, IsIdle, IsSameSeat, IsSeatOf};
 ghost use Rattle.session_answers.specs.Answered.{IsAnswered};
 ghost use Rattle.session_answers.specs.Inner.Tree.{IsAnsweredTree};
+ghost use Rattle.session_answers.specs.Reads.{ReadsOnce};
 
 use crate::pinned::answer_pinned;
 use afl_outside::{Disk, Gate, Point};
@@ -41,6 +43,8 @@ pub fn answer<D: Disk, R: Wait, G: Gate>(
     ensures none { HoldsNone D.moment shared.now result.1 }
     ensures last { last_place result.1 ≡ result.0.place }
     ensures answered { IsAnswered D.moment (start D.moment shared.now) (session_of seat) (last_place seat) (seen seat) (seen result.1) text.now result.0 }
+    ensures reads { (tree : Term) → DerivesText text.now tree → result.0.refusal ≡ None
+        → ReadsOnce (start D.moment shared.now) (session_of seat) (seen seat) (seen result.1) text.now tree (read_count seat) (read_count result.1) }
 {
     let (reply, mut seat) = answer_text(rt, alloc, shared, seat, text, number, options, gate);
     seat.keep_last(reply.place);
@@ -66,6 +70,8 @@ fn answer_text<D: Disk, R: Wait, G: Gate>(
     ensures same { IsSameSeat seat result.1 }
     ensures none { HoldsNone D.moment shared.now result.1 }
     ensures answered { IsAnswered D.moment (start D.moment shared.now) (session_of seat) (last_place seat) (seen seat) (seen result.1) text.now result.0 }
+    ensures reads { (tree : Term) → DerivesText text.now tree → result.0.refusal ≡ None
+        → ReadsOnce (start D.moment shared.now) (session_of seat) (seen seat) (seen result.1) text.now tree (read_count seat) (read_count result.1) }
 {
     match parse(alloc, text) {
         Ok(tree) => answer_tree(rt, alloc, shared, seat, text, &tree, number, options, gate),
@@ -101,6 +107,8 @@ fn answer_tree<D: Disk, R: Wait, G: Gate>(
     ensures same { IsSameSeat seat result.1 }
     ensures none { HoldsNone D.moment shared.now result.1 }
     ensures answered { IsAnsweredTree D.moment (start D.moment shared.now) (session_of seat) (seen seat) (seen result.1) text.now tree.now result.0 }
+    ensures reads { result.0.refusal ≡ None
+        → ReadsOnce (start D.moment shared.now) (session_of seat) (seen seat) (seen result.1) text.now tree.now (read_count seat) (read_count result.1) }
 {
     let mut seat = seat;
     gate.pass(seat.session(), Point::Statement(number));

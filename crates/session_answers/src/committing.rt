@@ -10,7 +10,7 @@ ghost use Rattle.store_state.specs.Standings.{BeganAs};
 ghost use Rattle.session_outcomes.specs.Replies.{Says, SaysChange};
 ghost use Rattle.session_sources.specs.Databases.{IsDatabaseOf};
 ghost use Rattle.session_sources.specs.Prepared.{MayBeMade};
-ghost use Rattle.session_sources.specs.Seats.{ledger_seen, seen, start, store_seen, HoldsPin, IsIdle, IsSameSeat, IsSeatOf};
+ghost use Rattle.session_sources.specs.Seats.{ledger_seen, read_count, seen, start, store_seen, HoldsPin, IsIdle, IsSameSeat, IsSeatOf};
 ghost use Rattle.session_turns.specs.Under.{IsAnsweredUnder};
 ghost use Rattle.session_answers.specs.Inner.Steps.{AddsNoAct};
 
@@ -56,6 +56,7 @@ pub(crate) fn commit<D: Disk, R: Wait, G: Gate>(
     requires workers { (1 ≤ options.now.workers) × (options.now.workers ≤ 64) }
     ensures seat { IsSeatOf shared.now result.1 × IsIdle result.1 }
     ensures same { IsSameSeat seat result.1 }
+    ensures reads { read_count result.1 ≡ read_count seat }
     ensures pin { HoldsPin D.moment shared.now result.1 pinned.now }
     ensures answered { (first before : List Event) → AddsNoAct (start D.moment shared.now) pinned.now.session first before (seen seat)
         → IsAnsweredUnder D.moment (start D.moment shared.now) pinned.now.session pinned.now.place first (seen result.1) text.now tree.now result.0 }

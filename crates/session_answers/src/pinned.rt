@@ -1,5 +1,5 @@
 //! Answers under a pin.
-ghost use Rattle.std.specs.Prelude.{◌≡◌, ◌+◌, ◌≤◌, Bool, false, IsTrue};
+ghost use Rattle.std.specs.Prelude.{◌≡◌, ◌+◌, ◌≤◌, Bool, false, None, IsTrue};
 ghost use Rattle.check_exprs.specs.Laws.{leaves_fit};
 ghost use Rattle.plan_changes.specs.Databases.{Database};
 ghost use Rattle.plan_changes.specs.Stored.{AreStored};
@@ -8,9 +8,10 @@ ghost use Rattle.store_ledger.specs.Ledger.{is_noted};
 ghost use Rattle.store_state.specs.Calls.{database_with};
 ghost use Rattle.store_state.specs.Standings.{BeganAs};
 ghost use Rattle.session_sources.specs.Databases.{IsDatabaseOf};
-ghost use Rattle.session_sources.specs.Seats.{ledger_seen, seen, session_of, start, store_seen, HoldsPin, IsIdle, IsSameSeat, IsSeatOf};
+ghost use Rattle.session_sources.specs.Seats.{ledger_seen, read_count, seen, session_of, start, store_seen, HoldsPin, IsIdle, IsSameSeat, IsSeatOf};
 ghost use Rattle.session_turns.specs.Under.{IsAnsweredUnder};
 ghost use Rattle.session_answers.specs.Inner.Steps.{WasRead};
+ghost use Rattle.session_answers.specs.Reads.{counted};
 
 use crate::committing::commit;
 use afl_outside::{Disk, Gate, Point};
@@ -49,6 +50,8 @@ pub(crate) fn answer_pinned<D: Disk, R: Wait, G: Gate>(
     ensures same { IsSameSeat seat result.1 }
     ensures pin { HoldsPin D.moment shared.now result.1 pinned.now }
     ensures answered { IsAnsweredUnder D.moment (start D.moment shared.now) pinned.now.session pinned.now.place (seen seat) (seen result.1) text.now tree.now result.0 }
+    ensures reads { result.0.refusal ≡ None → read_count result.1
+        ≡ counted (start D.moment shared.now) (seen seat) pinned.now.place pinned.now.names text.now tree.now (read_count seat) }
 {
     let place = behind(shared, &seat, pinned);
     let (outcome, seat) = read_under(rt, alloc, shared, seat, pinned, text, tree, options, gate);

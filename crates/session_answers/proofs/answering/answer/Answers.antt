@@ -1,6 +1,6 @@
 use Rattle.std.proofs.Common.{◌∙◌, ap}
-use Rattle.session_sources.specs.Seats.{last_place, seen, session_of}
-use Rattle.session_answers.proofs.Kept.{still_answered, still_none, still_seat}
+use Rattle.session_sources.specs.Seats.{last_place, read_count, seen, session_of}
+use Rattle.session_answers.proofs.Kept.{still_answered, still_none, still_read, still_seat}
 use Rattle.session_answers.proofs.answering.answer.Goals as goal
 
 pub returns : goal.returns
@@ -15,4 +15,6 @@ returns g c =
       none = still_none moment c.args.shared.now reply.place seat c.keep_last.new.self k e.none;
       last = ap last_place k;
       answered = still_answered moment c.args.shared.now reply.place seat c.keep_last.new.self k (session_of c.args.seat) (last_place c.args.seat) (seen c.args.seat) c.args.text.now reply e.answered;
+      reads = λ t derives accepted. still_read moment c.args.shared.now reply.place seat c.keep_last.new.self k (session_of c.args.seat) (seen c.args.seat) c.args.text.now t (read_count c.args.seat)
+          (e.reads t derives accepted);
     }

@@ -4,8 +4,11 @@ use Rattle.store_ledger.specs.declared.pinned.Pinned.{Pinned}
 use Rattle.store_ledger.specs.Ledger.{is_noted}
 use Rattle.store_state.specs.declared.event.Event.TheVariants.{Entered}
 use Rattle.told_stores.specs.Turns.{Adds}
-use Rattle.session_sources.specs.Seats.{ledger_seen, seen, session_of, start}
-use Rattle.session_answers.proofs.Trees.{full_is_answered, pinned_is_answered, want_is_answered}
+use Rattle.session_sources.specs.Seats.{ledger_seen, read_count, seen, session_of, start}
+use Rattle.result_print.specs.declared.refusal.Refusal.TheVariants.{HistoryFull}
+use Rattle.session_answers.specs.Reads.{counted}
+use Rattle.session_answers.proofs.Counting.{refusal_refuses, want_refuses}
+use Rattle.session_answers.proofs.Trees.{is_read_once, full_is_answered, pinned_is_answered, want_is_answered}
 use Rattle.session_answers.proofs.answering.answer_tree.Goals as goal
 
 pub answer_pinned-reply-requires-clause-untried : goal.answer_pinned-reply-requires-clause-untried
@@ -29,6 +32,10 @@ returns-in-Ok g c =
       answered = pinned_is_answered moment began (session_of c.args.seat) (seen c.args.seat) (seen c.pin.new.seat) (seen mid) (seen c.unpin.new.seat) c.in-Ok.pinned c.args.text.now c.args.tree.now reply
           e.ok (ap (λ (p : Pinned). p.session) e.pinned) (ap (λ (p : Pinned). p.place) e.pinned) e.open.open_pin a.seat.0.sealed
           (subst (λ s. Adds s (Entered (Unpin s) ∷ []) (seen mid) (seen c.unpin.new.seat)) session u.adds) a.answered;
+      reads = λ accepted. is_read_once moment began (session_of c.args.seat) (seen c.args.seat) (seen c.pin.new.seat) (seen mid) (seen c.unpin.new.seat) c.in-Ok.pinned c.args.text.now c.args.tree.now reply
+          e.ok (ap (λ (p : Pinned). p.session) e.pinned) (ap (λ (p : Pinned). p.place) e.pinned) e.open.open_pin a.seat.0.sealed
+          (subst (λ s. Adds s (Entered (Unpin s) ∷ []) (seen mid) (seen c.unpin.new.seat)) session u.adds) a.answered e.seat.0.sealed (read_count c.args.seat) (read_count c.unpin.new.seat)
+          (u.reads ∙ a.reads accepted ∙ ap (counted began (seen c.pin.new.seat) c.in-Ok.pinned.place c.in-Ok.pinned.names c.args.text.now c.args.tree.now) e.reads);
     }
 
 pub returns-in-Err-HistoryFull : goal.returns-in-Err-HistoryFull
@@ -41,6 +48,7 @@ returns-in-Err-HistoryFull g c =
       none = e.none;
       answered = full_is_answered g.D.Disk.moment (start g.D.Disk.moment c.args.shared.now) (session_of c.args.seat) (seen c.args.seat) (seen c.pin.new.seat) c.args.text.now c.args.tree.now
           c.refusal_at.result e.err c.in-Err-HistoryFull.entries r.words (r.place ∙ c.from-place.ensures) cause;
+      reads = λ accepted. absurd (refusal_refuses HistoryFull c.refusal_at.result r.words accepted);
     }
 
 pub returns-in-Err-Memory : goal.returns-in-Err-Memory
@@ -52,4 +60,5 @@ returns-in-Err-Memory g c =
       none = e.none;
       answered = want_is_answered g.D.Disk.moment (start g.D.Disk.moment c.args.shared.now) (session_of c.args.seat) (seen c.args.seat) (seen c.pin.new.seat) c.args.text.now c.args.tree.now
           c.want.result e.err w.want (w.place ∙ c.seen-seen.ensures ∙ e.seat.0.counts);
+      reads = λ accepted. absurd (want_refuses c.want.result w.want accepted);
     }

@@ -34,6 +34,7 @@ returns-in-Ok-Done g c =
     let place = rw c.in-Ok-Done.field-0-is at e.place in record {
       seat = (e.seat, idle);
       same = e.same;
+      reads = e.reads;
       pin = e.pin;
       answered = λ first before a. made_is_answered moment began c.args.pinned.now c.args.change first before old (seen c.commit.new.seat) c.args.text.now c.args.tree.now c.at_place.result
           a o (pin_within began old c.args.pinned.now o) (named_behind moment began old c.args.pinned.now o r.database) r.typed done c.args.words r.said said.words
@@ -74,6 +75,7 @@ returns-in-Ok-Stale g c =
     let h = c.answer_held.ensures in record {
       seat = h.seat;
       same = record { session = h.same.session ∙ e.same.session; last = h.same.last ∙ e.same.last };
+      reads = h.reads ∙ e.reads;
       pin = h.pin;
       answered = λ first before a. held_behind began c.args.pinned.now.session first before (seen c.args.seat) a c.args.pinned.now.place (seen c.commit.new.seat) (seen c.answer_held.result.1)
           (subst (λ session. Adds session [] (seen c.args.seat) (seen c.commit.new.seat)) (sym r.pin.own) found) h.answered;
@@ -89,6 +91,7 @@ returns-in-Err g c =
     let o = r.pin.open_pin in record {
       seat = (e.seat, e.idle);
       same = e.same;
+      reads = e.reads;
       pin = e.pin;
       answered = λ first before a. refused_is_answered moment began c.args.pinned.now c.args.change first before old (seen c.commit.new.seat) c.args.text.now c.args.tree.now c.uncommitted.result
           a o (pin_within began old c.args.pinned.now o) (named_behind moment began old c.args.pinned.now o r.database) r.typed e.err c.in-Err.fault

@@ -1,7 +1,8 @@
-use Rattle.std.proofs.Common.{◌∙◌, Ok, ap, subst}
+use Rattle.std.proofs.Common.{◌∙◌, Ok, ap, subst, sym}
 use Rattle.session_sources.specs.Seats.{seen}
 use Rattle.session_answers.specs.Inner.Steps.{WasRead}
 use Rattle.session_answers.proofs.Readings.{change_is_read, database_now, no_act, replied_is_answered, unread_is_answered}
+use Rattle.session_answers.proofs.Counting.{change_counts, replied_counts, unread_refuses}
 use Rattle.session_answers.proofs.pinned.answer_pinned.Goals as goal
 
 pub returns-in-Ok-Replied : goal.returns-in-Ok-Replied
@@ -16,6 +17,8 @@ returns-in-Ok-Replied g c =
       pin = w.read.pin;
       answered = replied_is_answered moment c.args.shared.now c.args.pinned.now c.args.seat seat c.args.text.now c.args.tree.now
           r.database r.untried c.in-Ok-Replied.words c.at_place.result w e.words (e.place ∙ c.behind-place.ensures);
+      reads = λ accepted. replied_counts moment c.args.shared.now c.args.pinned.now c.args.seat seat c.args.text.now c.args.tree.now c.in-Ok-Replied.words w
+          (sym (ap (λ words. words.refusal) e.words) ∙ accepted);
     }
 
 pub returns-in-Err : goal.returns-in-Err
@@ -30,6 +33,7 @@ returns-in-Err g c =
       pin = w.read.pin;
       answered = unread_is_answered moment c.args.shared.now c.args.pinned.now c.args.seat seat c.args.text.now c.args.tree.now
           r.database r.untried c.in-Err.fault c.unread.result w e.words (e.place ∙ c.behind-place.ensures);
+      reads = λ accepted. absurd (unread_refuses c.in-Err.fault c.unread.result e.words accepted);
     }
 
 pub commit-requires-clause-seat : goal.commit-requires-clause-seat
@@ -102,4 +106,6 @@ returns-in-Ok-Changes g c =
       pin = e.pin;
       answered = e.answered (seen c.args.seat) w.read.adds.own
           (no_act moment c.args.shared.now c.args.pinned.now c.args.seat seat c.args.text.now c.args.tree.now r.database r.untried _ w);
+      reads = λ accepted. e.reads ∙ change_counts moment c.args.shared.now c.args.pinned.now c.args.seat seat c.args.text.now c.args.tree.now
+          c.in-Ok-Changes.change c.in-Ok-Changes.changed c.in-Ok-Changes.reply w;
     }
