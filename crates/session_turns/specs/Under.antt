@@ -12,7 +12,8 @@ use Rattle.session_outcomes.specs.Replies.{HasFault, HasLine, IsToldFor}
 use Rattle.session_outcomes.specs.Reply.{Reply}
 
 -- a statement with this tree was answered under a pin that came at this place: between the pin and the unpin its session did this
-pub record IsAnsweredUnder {D : Type 0} (moment : D → Moment) (start : Start D) (session pin : ℕ) (old new : List Event) (text : List ℕ) (tree : Term) (reply : Reply) : Type 0 where
+pub record IsAnsweredUnder {D : Type 0} (moment : D → Moment) (start : Start D) (session pin : ℕ) (old new : List Event)
+    (text : List ℕ) (tree : Term) (reply : Reply) : Type 0 where
   pub own : List Event
   pub course : Course
   pub adds : AddsOwn session own old new
@@ -22,9 +23,11 @@ pub record IsAnsweredUnder {D : Type 0} (moment : D → Moment) (start : Start D
   pub until : reply.place ≤ length (entries_in new)
   pub told : IsToldFor moment start session pin new own text tree reply reply.refusal course
 
--- a statement with this tree was answered in a turn that its session held, under a pin that came at this place: in the turn its session did this.
--- A disk that failed is told only where a note of it stands under the pin; `before` are the events of the session under the pin before the turn
-pub record IsAnsweredInTurn {D : Type 0} (moment : D → Moment) (start : Start D) (session pin : ℕ) (old new : List Event) (text : List ℕ) (tree : Term) (reply : Reply) : Type 0 where
+-- A STATEMENT WITH THIS TREE WAS ANSWERED IN A TURN that its session held, under a pin that came at this place: in the turn its session did
+-- this. Whatever the session had done between the pin and the turn, the reply tells what it has to: that a disk failed, only where a note of
+-- it stands under the pin
+pub record IsAnsweredInTurn {D : Type 0} (moment : D → Moment) (start : Start D) (session pin : ℕ) (old new : List Event)
+    (text : List ℕ) (tree : Term) (reply : Reply) : Type 0 where
   pub own : List Event
   pub course : Course
   pub adds : AddsOwn session own old new
