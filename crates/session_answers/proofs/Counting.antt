@@ -31,18 +31,18 @@ use Rattle.store_ledger.specs.declared.pinned.Pinned.{Pinned}
 use Rattle.store_ledger.specs.Ledger.{IsOpenPin}
 use Rattle.store_state.specs.declared.event.Event.{Event}
 use Rattle.store_state.specs.Calls.{chunks_at}
-use Rattle.snapshot_manager.specs.declared.seat.Seat.{Seat}
-use Rattle.snapshot_manager.specs.declared.shared.Shared.{Shared}
-use Rattle.session_replies.specs.declared.reply.Reply.{Reply}
-use Rattle.session_replies.specs.Refusals.{IsUnreadReply, IsWant, Refuses}
-use Rattle.session_replies.specs.Replies.{names_before}
-use Rattle.session_replies.proofs.Beginnings.{history_stays, places_see_the_same}
-use Rattle.session_replies.proofs.PinPlaces.{open_pins_are_entered}
-use Rattle.session_sources.specs.Courses.{AddsOwn}
-use Rattle.session_sources.specs.Pinned.{pinned_state, unread}
-use Rattle.session_sources.specs.Seats.{read_count, seen, start}
-use Rattle.session_sources.specs.Start.{Start}
-use Rattle.session_sources.specs.Told.{entries_in, is_sealed, ledger_of, told}
+use Rattle.session_turns.specs.Seat.{Seat}
+use Rattle.session_turns.specs.Shared.{Shared}
+use Rattle.session_turns.specs.Reply.{Reply}
+use Rattle.session_turns.specs.Refusals.{IsUnreadReply, IsWant, Refuses}
+use Rattle.session_turns.specs.Replies.{names_before}
+use Rattle.session_turns.proofs.Beginnings.{history_stays, places_see_the_same}
+use Rattle.session_turns.proofs.PinPlaces.{open_pins_are_entered}
+use Rattle.session_turns.specs.Courses.{AddsOwn}
+use Rattle.session_turns.specs.Pinned.{pinned_state, unread}
+use Rattle.session_turns.specs.Seats.{read_count, seen, start}
+use Rattle.session_turns.specs.Start.{Start}
+use Rattle.session_turns.specs.Told.{entries_in, is_sealed, ledger_of, told}
 use Rattle.session_outcomes.proofs.Under.{pin_within}
 use Rattle.session_answers.specs.Inner.Steps.{WasRead}
 use Rattle.session_answers.specs.Reads.{chunks_of, counted, leaves_of}

@@ -13,20 +13,20 @@ use Rattle.store_ledger.specs.declared.pinned.Pinned.{Pinned}
 use Rattle.store_ledger.specs.Ledger.{IsOpenPin, IsRefused}
 use Rattle.store_state.specs.declared.event.Event.{Event}
 use Rattle.store_state.specs.declared.event.Event.TheVariants.{Entered}
-use Rattle.told_stores.specs.Turns.{found_before, own_events, pin_event, Adds}
-use Rattle.told_stores.proofs.Turning.{turns_find}
-use Rattle.session_replies.specs.Acts.{Act, Course, begins, nothing, looking, trying, making}
-use Rattle.session_replies.specs.Refusals.{IsWant, Refuses}
-use Rattle.session_replies.specs.Replies.{EnteredAt, HasLine, IsToldFor}
-use Rattle.session_replies.specs.declared.reply.Reply.{Reply}
-use Rattle.session_replies.proofs.ActsJoined.{acts_join}
-use Rattle.session_replies.proofs.Beginnings.{reached}
-use Rattle.session_replies.proofs.PinPlaces.{open_pins_are_entered}
-use Rattle.session_replies.proofs.Staying.{entered_later, replies_stay}
-use Rattle.session_sources.specs.Courses.{AddsOwn}
-use Rattle.session_sources.specs.Start.{Start}
-use Rattle.session_sources.specs.Told.{entries_in, is_sealed, ledger_of}
-use Rattle.session_sources.proofs.CourseLaws.{courses_join, turns_are_courses}
+use Rattle.session_turns.specs.Turns.{found_before, own_events, pin_event, Adds}
+use Rattle.session_turns.proofs.Turning.{turns_find}
+use Rattle.session_turns.specs.Acts.{Act, Course, begins, nothing, looking, trying, making}
+use Rattle.session_turns.specs.Refusals.{IsWant, Refuses}
+use Rattle.session_turns.specs.Replies.{EnteredAt, HasLine, IsToldFor}
+use Rattle.session_turns.specs.Reply.{Reply}
+use Rattle.session_turns.proofs.ActsJoined.{acts_join}
+use Rattle.session_turns.proofs.Beginnings.{reached}
+use Rattle.session_turns.proofs.PinPlaces.{open_pins_are_entered}
+use Rattle.session_turns.proofs.Staying.{entered_later, replies_stay}
+use Rattle.session_turns.specs.Courses.{AddsOwn}
+use Rattle.session_turns.specs.Start.{Start}
+use Rattle.session_turns.specs.Told.{entries_in, is_sealed, ledger_of}
+use Rattle.session_turns.proofs.CourseLaws.{courses_join, turns_are_courses}
 use Rattle.session_turns.specs.Under.{IsAnsweredUnder}
 use Rattle.session_answers.specs.Answered.{BeganAt}
 use Rattle.session_answers.specs.Inner.Tree.{IsAnsweredTree}

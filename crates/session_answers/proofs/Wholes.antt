@@ -11,13 +11,13 @@ use Rattle.result_print.specs.declared.refusal.Refusal.TheVariants.{Memory, Pars
 use Rattle.statement_replies.specs.declared.replies.Reply.{Reply as Told}
 use Rattle.statement_replies.specs.Reply.{refused}
 use Rattle.store_state.specs.declared.event.Event.{Event}
-use Rattle.session_replies.specs.Acts.{nothing}
-use Rattle.session_replies.specs.Refusals.{IsWant, Refuses}
-use Rattle.session_replies.specs.Replies.{words_of, HasLine, IsToldFor}
-use Rattle.session_replies.specs.declared.reply.Reply.{Reply}
-use Rattle.session_sources.specs.Start.{Start}
-use Rattle.session_sources.specs.Told.{entries_in}
-use Rattle.session_sources.proofs.CourseLaws.{courses_may_be_empty}
+use Rattle.session_turns.specs.Acts.{nothing}
+use Rattle.session_turns.specs.Refusals.{IsWant, Refuses}
+use Rattle.session_turns.specs.Replies.{words_of, HasLine, IsToldFor}
+use Rattle.session_turns.specs.Reply.{Reply}
+use Rattle.session_turns.specs.Start.{Start}
+use Rattle.session_turns.specs.Told.{entries_in}
+use Rattle.session_turns.proofs.CourseLaws.{courses_may_be_empty}
 use Rattle.session_answers.specs.Answered.{IsAnswered, IsStopReply}
 use Rattle.session_answers.specs.Inner.Tree.{IsAnsweredTree}
 

@@ -9,8 +9,8 @@ use Rattle.result_print.specs.declared.refusal.Refusal.TheVariants.{Parse, Memor
 use Rattle.statement_replies.specs.Reply.{refused}
 use Rattle.store_state.specs.declared.event.Event.{Event}
 use Rattle.session_outcomes.specs.Start.{Start}
-use Rattle.session_sources.specs.Told.{entries_in}
-use Rattle.session_sources.specs.Courses.{AddsOwn}
+use Rattle.session_turns.specs.Told.{entries_in}
+use Rattle.session_turns.specs.Courses.{AddsOwn}
 use Rattle.session_outcomes.specs.Acts.{acts_for, acts_in, Course, nothing}
 use Rattle.session_outcomes.specs.Replies.{words_of, EnteredAt, HasLine, IsToldFor}
 use Rattle.session_outcomes.specs.Reply.{Reply}

@@ -1,3 +1,8 @@
+pub use Rattle.session_replies.proofs.ActsJoined
+pub use Rattle.session_replies.proofs.Beginnings
+pub use Rattle.session_replies.proofs.FreshReplies
+pub use Rattle.session_replies.proofs.PinPlaces
+pub use Rattle.session_replies.proofs.Staying
 pub mod Behind
 pub mod Changing
 pub mod Freshly

@@ -1,4 +1,6 @@
 pub use Rattle.session_replies.specs.Acts
+pub use Rattle.session_replies.specs.Fresh
+pub use Rattle.session_replies.specs.Refusals
 pub use Rattle.session_replies.specs.Replies
 pub use Rattle.session_replies.specs.declared.reply.Reply
 pub use Rattle.session_sources.specs.Start

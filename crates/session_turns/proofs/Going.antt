@@ -20,8 +20,8 @@ use Rattle.statement_answers.specs.Outcomes.{HasOutcomeKind, IsMadeOf, IsOutcome
 use Rattle.statement_replies.specs.declared.replies.Reply.{Reply as Told}
 use Rattle.statement_replies.specs.Reading.{HoldsVersions}
 use Rattle.statement_replies.specs.Statements.{reply_to}
-use Rattle.turn_lock.specs.Owners.{is_open_to}
-use Rattle.turn_lock.specs.declared.seat.Turn.{Turn}
+use Rattle.session_sources.specs.Owners.{is_open_to}
+use Rattle.session_sources.specs.Turn.{Turn}
 use Rattle.store_ledger.specs.Ledger.{history, is_noted, is_tried}
 use Rattle.store_state.specs.declared.event.Event.{Event}
 use Rattle.store_state.specs.declared.parts.StoreParts.{StoreParts}

@@ -1,3 +1,12 @@
+pub use Rattle.session_outcomes.proofs.ActsJoined
+pub use Rattle.session_outcomes.proofs.Beginnings
+pub use Rattle.session_outcomes.proofs.FreshReplies
+pub use Rattle.session_outcomes.proofs.PinPlaces
+pub use Rattle.session_outcomes.proofs.Staying
+pub use Rattle.session_sources.proofs.CourseLaws
+pub use Rattle.session_sources.proofs.Sights
+pub use Rattle.session_sources.proofs.Telling
+pub use Rattle.session_sources.proofs.Turning
 pub mod Adding
 pub mod Answered
 pub mod Ending

@@ -9,7 +9,7 @@ ghost use Rattle.event_core.specs.Allowed.{is_pinned};
 ghost use Rattle.store_ledger.specs.Ledger.{history, is_noted, is_tried};
 ghost use Rattle.store_state.specs.At.{standing};
 ghost use Rattle.store_state.specs.Events.{events};
-ghost use Rattle.told_stores.specs.Starts.{start_of};
+ghost use Rattle.session_sources.specs.Starts.{start_of};
 ghost use Rattle.session_sources.specs.Databases.{HasDatabase};
 ghost use Rattle.session_sources.specs.Held.{names_now};
 ghost use Rattle.session_sources.specs.Prepared.{IsAsked};
@@ -32,7 +32,7 @@ use statement_replies::Reply as Words;
 use std::alloc::Global;
 use std::sync::Wait;
 use store_ledger::Pinned;
-use told_stores::CommitFault;
+use session_sources::CommitFault;
 
 /// Answers a statement over the store of a turn that its seat holds, and ends the turn. Under the pin the statement was a change.
 pub fn answer_held<D: Disk, R: Wait, G: Gate>(

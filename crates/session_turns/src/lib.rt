@@ -6,3 +6,4 @@ mod settings;
 
 pub use held::answer_held;
 pub use settings::Options;
+pub use session_sources::{Commit, PinnedSource, Seat, Shared, sources_hold_their_versions};

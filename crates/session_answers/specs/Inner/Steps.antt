@@ -13,12 +13,12 @@ use Rattle.session_outcomes.specs.Acts.{acts_in}
 use Rattle.session_outcomes.specs.BehindPins.{ComesOver}
 use Rattle.session_outcomes.specs.Start.{Start}
 use Rattle.session_outcomes.specs.Under.{SaysWhy}
-use Rattle.session_sources.specs.declared.marks.Marks.{Marks}
-use Rattle.session_sources.specs.Courses.{AddsOwn}
-use Rattle.session_sources.specs.Pinned.{pinned_state, reading_of, unread, HasRead}
-use Rattle.snapshot_manager.specs.declared.seat.Seat.{Seat}
-use Rattle.snapshot_manager.specs.declared.shared.Shared.{Shared}
-use Rattle.session_sources.specs.Told.{ledger_of}
+use Rattle.session_turns.specs.Marks.{Marks}
+use Rattle.session_turns.specs.Courses.{AddsOwn}
+use Rattle.session_turns.specs.Pinned.{pinned_state, reading_of, unread, HasRead}
+use Rattle.session_turns.specs.Seat.{Seat}
+use Rattle.session_turns.specs.Shared.{Shared}
+use Rattle.session_turns.specs.Told.{ledger_of}
 
 -- a statement was read over what a pin sees, from one seat to the next: this came of it, for which all that it reads was asked for once; or this
 -- is why nothing did

@@ -4,8 +4,8 @@ use Rattle.afl_outside.specs.Disk.{Moment}
 use Rattle.afl_trees.specs.Term.{Term}
 use Rattle.store_state.specs.declared.event.Event.{Event}
 use Rattle.session_outcomes.specs.Start.{Start}
-use Rattle.session_sources.specs.Told.{entries_in}
-use Rattle.session_sources.specs.Courses.{AddsOwn}
+use Rattle.session_turns.specs.Told.{entries_in}
+use Rattle.session_turns.specs.Courses.{AddsOwn}
 use Rattle.session_outcomes.specs.Acts.{acts_for, acts_in, Course}
 use Rattle.session_outcomes.specs.Replies.{HasLine, IsToldFor}
 use Rattle.session_answers.specs.Answered.{BeganAt}

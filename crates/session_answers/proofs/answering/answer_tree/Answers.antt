@@ -3,8 +3,8 @@ use Rattle.event_core.specs.declared.entry.Entry.TheVariants.{Unpin}
 use Rattle.store_ledger.specs.declared.pinned.Pinned.{Pinned}
 use Rattle.store_ledger.specs.Ledger.{is_noted}
 use Rattle.store_state.specs.declared.event.Event.TheVariants.{Entered}
-use Rattle.told_stores.specs.Turns.{Adds}
-use Rattle.session_sources.specs.Seats.{ledger_seen, read_count, seen, session_of, start}
+use Rattle.session_turns.specs.Turns.{Adds}
+use Rattle.session_turns.specs.Seats.{ledger_seen, read_count, seen, session_of, start}
 use Rattle.result_print.specs.declared.refusal.Refusal.TheVariants.{HistoryFull}
 use Rattle.session_answers.specs.Reads.{counted}
 use Rattle.session_answers.proofs.Counting.{refusal_refuses, want_refuses}

@@ -1,7 +1,7 @@
 use Rattle.std.proofs.Common.{◌≡◌, ◌∙◌, IsTrue, false, ap, length, subst, sym}
 use Rattle.plan_changes.specs.Stored.{AreStored}
 use Rattle.event_core.specs.Allowed.{is_pinned}
-use Rattle.turn_lock.specs.Inner.Lent.{turn_with}
+use Rattle.session_sources.specs.Lent.{turn_with}
 use Rattle.store_ledger.specs.Ledger.{history, is_noted, is_tried}
 use Rattle.store_state.specs.At.{standing}
 use Rattle.session_sources.specs.Databases.{HasDatabase}
