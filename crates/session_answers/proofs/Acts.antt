@@ -11,9 +11,9 @@ use Rattle.store_ledger.specs.Ledger.{is_fault, is_noted}
 use Rattle.store_state.specs.declared.event.Event.{Event}
 use Rattle.store_state.specs.declared.event.Event.TheVariants.{Entered, Acknowledged, Noted}
 use Rattle.session_turns.specs.Turns.{leaves_notes_of, leaves_pin_of}
-use Rattle.session_outcomes.specs.Acts.{Act, Course, acts_for, acts_in, acts_of_note, begins, ends, tries, makes, nothing, looking, trying, making}
-use Rattle.session_outcomes.specs.Replies.{HasFault}
-use Rattle.session_outcomes.specs.Start.{Start}
+use Rattle.session_turns.specs.Acts.{Act, Course, acts_for, acts_in, acts_of_note, begins, ends, tries, makes, nothing, looking, trying, making}
+use Rattle.session_turns.specs.Replies.{HasFault}
+use Rattle.session_turns.specs.Start.{Start}
 use Rattle.session_turns.proofs.ActsJoined.{acts_join}
 use Rattle.session_turns.specs.Courses.{AddsOwn, IsFaultAtMost}
 use Rattle.session_turns.specs.Told.{ledger_of}

@@ -36,8 +36,8 @@ use Rattle.session_turns.specs.Courses.{AddsOwn}
 use Rattle.session_turns.specs.Start.{Start}
 use Rattle.session_turns.specs.Told.{entries_in, ledger_of, told}
 use Rattle.session_turns.proofs.CourseLaws.{courses_join, courses_keep_notes, turns_are_courses}
-use Rattle.session_outcomes.proofs.Behind.{names_behind}
-use Rattle.session_turns.specs.Under.{IsAnsweredInTurn, IsAnsweredUnder}
+use Rattle.session_turns.proofs.Behind.{names_behind}
+use Rattle.session_turns.specs.AnsweredUnder.{IsAnsweredInTurn, IsAnsweredUnder}
 use Rattle.session_answers.specs.Inner.Steps.{AddsNoAct}
 use Rattle.session_answers.proofs.Acts.{acts_behind, fault_is_own}
 use Rattle.session_answers.proofs.Tried.{change_at_commit, commit_place, fault_entries, before_commit, new_is, own_first, says_at_commit, try_acts, within_commit}

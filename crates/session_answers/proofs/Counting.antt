@@ -43,7 +43,7 @@ use Rattle.session_turns.specs.Pinned.{pinned_state, unread}
 use Rattle.session_turns.specs.Seats.{read_count, seen, start}
 use Rattle.session_turns.specs.Start.{Start}
 use Rattle.session_turns.specs.Told.{entries_in, is_sealed, ledger_of, told}
-use Rattle.session_outcomes.proofs.Under.{pin_within}
+use Rattle.session_turns.proofs.Under.{pin_within}
 use Rattle.session_answers.specs.Inner.Steps.{WasRead}
 use Rattle.session_answers.specs.Reads.{chunks_of, counted, leaves_of}
 

@@ -41,14 +41,14 @@ use Rattle.session_turns.specs.Pinned.{pinned_state, reading_of, unread, HasRead
 use Rattle.session_turns.specs.Seats.{ledger_seen, seen, session_of, start}
 use Rattle.session_turns.specs.Start.{Start}
 use Rattle.session_turns.specs.Told.{entries_in, ledger_of}
-use Rattle.session_outcomes.specs.BehindPins.{ComesOver, HasDatabaseAt}
-use Rattle.session_outcomes.specs.Changing.{IsReadChange}
-use Rattle.session_outcomes.specs.Told.{IsLookedReply}
-use Rattle.session_outcomes.specs.Under.{SaysWhy, WasPinned}
-use Rattle.session_outcomes.proofs.Behind.{names_behind, open_pin_behind}
-use Rattle.session_outcomes.proofs.Changing.{read_changes_may_be_committed}
-use Rattle.session_outcomes.proofs.Under.{failed_replies_are_told, pin_within, read_replies_are_told}
-use Rattle.session_turns.specs.Under.{IsAnsweredUnder}
+use Rattle.session_turns.specs.BehindPins.{ComesOver, HasDatabaseAt}
+use Rattle.session_turns.specs.Changing.{IsReadChange}
+use Rattle.session_turns.specs.ToldReplies.{IsLookedReply}
+use Rattle.session_turns.specs.Under.{SaysWhy, WasPinned}
+use Rattle.session_turns.proofs.Behind.{names_behind, open_pin_behind}
+use Rattle.session_turns.proofs.Changing.{read_changes_may_be_committed}
+use Rattle.session_turns.proofs.Under.{failed_replies_are_told, pin_within, read_replies_are_told}
+use Rattle.session_turns.specs.AnsweredUnder.{IsAnsweredUnder}
 use Rattle.session_answers.specs.Inner.Steps.{AddsNoAct, WasRead}
 use Rattle.session_answers.proofs.Acts.{note_acts}
 

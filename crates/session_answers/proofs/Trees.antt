@@ -27,7 +27,7 @@ use Rattle.session_turns.specs.Courses.{AddsOwn}
 use Rattle.session_turns.specs.Start.{Start}
 use Rattle.session_turns.specs.Told.{entries_in, is_sealed, ledger_of}
 use Rattle.session_turns.proofs.CourseLaws.{courses_join, turns_are_courses}
-use Rattle.session_turns.specs.Under.{IsAnsweredUnder}
+use Rattle.session_turns.specs.AnsweredUnder.{IsAnsweredUnder}
 use Rattle.session_answers.specs.Answered.{BeganAt}
 use Rattle.session_answers.specs.Inner.Tree.{IsAnsweredTree}
 use Rattle.session_answers.specs.Reads.{counted, ReadsOnce}

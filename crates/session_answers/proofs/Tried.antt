@@ -41,7 +41,7 @@ use Rattle.session_turns.proofs.Staying.{change_later, says_later}
 use Rattle.session_turns.specs.Start.{Start}
 use Rattle.session_turns.specs.Told.{entries_in, ledger_of, told}
 use Rattle.session_turns.proofs.CourseLaws.{own_more}
-use Rattle.session_outcomes.proofs.Freshly.{fresh_changes_are_left_since}
+use Rattle.session_turns.proofs.Freshly.{fresh_changes_are_left_since}
 
 -- ---- what the session itself added
 

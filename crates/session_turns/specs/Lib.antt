@@ -1,8 +1,12 @@
 pub use Rattle.session_outcomes.specs.Acts
+pub use Rattle.session_outcomes.specs.BehindPins
+pub use Rattle.session_outcomes.specs.Changing
 pub use Rattle.session_outcomes.specs.Fresh
 pub use Rattle.session_outcomes.specs.Refusals
 pub use Rattle.session_outcomes.specs.Replies
 pub use Rattle.session_outcomes.specs.Reply
+pub use Rattle.session_outcomes.specs.ToldReplies
+pub use Rattle.session_outcomes.specs.Under
 pub use Rattle.session_sources.specs.Causes
 pub use Rattle.session_sources.specs.CommitFault
 pub use Rattle.session_sources.specs.Courses
@@ -23,5 +27,5 @@ pub use Rattle.session_sources.specs.Turns
 pub use Rattle.session_sources.specs.declared.marks.Marks
 pub use Rattle.session_sources.specs.declared.reading.Lent
 pub use Rattle.session_sources.specs.declared.reading.Reading
+pub mod AnsweredUnder
 pub mod Inner
-pub mod Under

@@ -9,10 +9,10 @@ use Rattle.statement_answers.specs.Outcomes.{asked_for}
 use Rattle.store_ledger.specs.declared.pinned.Pinned.{Pinned}
 use Rattle.store_ledger.specs.Ledger.{is_fault, is_noted}
 use Rattle.store_state.specs.declared.event.Event.{Event}
-use Rattle.session_outcomes.specs.Acts.{acts_in}
-use Rattle.session_outcomes.specs.BehindPins.{ComesOver}
-use Rattle.session_outcomes.specs.Start.{Start}
-use Rattle.session_outcomes.specs.Under.{SaysWhy}
+use Rattle.session_turns.specs.Acts.{acts_in}
+use Rattle.session_turns.specs.BehindPins.{ComesOver}
+use Rattle.session_turns.specs.Start.{Start}
+use Rattle.session_turns.specs.Under.{SaysWhy}
 use Rattle.session_turns.specs.Marks.{Marks}
 use Rattle.session_turns.specs.Courses.{AddsOwn}
 use Rattle.session_turns.specs.Pinned.{pinned_state, reading_of, unread, HasRead}
