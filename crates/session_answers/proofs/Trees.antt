@@ -101,6 +101,7 @@ module _ {D : Type 0} (moment : D → Moment) (start : Start D) (session : ℕ) 
     began = began_at session pinned.place old new under.course entered;
     line = under.line;
     later = (let le = behind_old in omega (arith, le, under.since));
+    until = subst (λ (es : List Event). reply.place ≤ length (entries_in es)) (sym unpin_adds.grown) (reached start end unpin_adds.more reply.place under.until);
     told = told;
   }
 
@@ -133,6 +134,7 @@ module _ {D : Type 0} (moment : D → Moment) (start : Start D) (session : ℕ) 
     began = tt;
     line = subst (λ (r : Option Refusal). HasLine reply r) (sym e) line;
     later = subst (λ (n : ℕ). length (entries_in old) ≤ n) (sym at) grown;
+    until = omega (arith, at);
     told = subst (λ (r : Option Refusal). IsToldFor moment start session 0 new [] text tree reply r nothing) (sym e) told;
   }
 

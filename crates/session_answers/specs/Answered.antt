@@ -38,5 +38,6 @@ pub record IsAnswered {D : Type 0} (moment : D → Moment) (start : Start D) (se
   pub line : HasLine reply reply.refusal
   pub told : (tree : Term) → DerivesText text tree
       → (length (entries_in old) ≤ reply.place) × IsToldFor moment start session pin new own text tree reply reply.refusal course
+  pub until : (tree : Term) → DerivesText text tree → reply.place ≤ length (entries_in new)
   pub stopped : (at : ℕ) (kind : ParseKind) → StopsText text at kind
       → (own ≡ []) × (IsStopReply last at kind reply ⊎ (reply.refusal ≡ Some Memory))

@@ -22,4 +22,5 @@ pub record IsAnsweredTree {D : Type 0} (moment : D → Moment) (start : Start D)
   pub began : BeganAt session pin old new course
   pub line : HasLine reply reply.refusal
   pub later : length (entries_in old) ≤ reply.place
+  pub until : reply.place ≤ length (entries_in new)
   pub told : IsToldFor moment start session pin new own text tree reply reply.refusal course
