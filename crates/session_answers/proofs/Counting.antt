@@ -1,5 +1,5 @@
 -- How many chunks a statement reads.
-use Rattle.std.proofs.Common.{◌≡◌, ◌∙◌, ◌+◌, ◌-◌, ◌^◌, ◌≤◌, ℕ, true, List, [], ◌∷◌, ◌++◌, inl, inr, length, map, min, Option, None, Some, Ok, Err, IsTrue, refl, ap, sym, subst, arith, length-append}
+use Rattle.std.proofs.Common.{◌≡◌, ◌∙◌, ◌+◌, ◌-◌, ◌^◌, ◌≤◌, ℕ, true, List, [], ◌∷◌, inl, inr, length, map, min, Option, None, Ok, Err, refl, ap, sym, subst, arith, length-append}
 use Rattle.std.specs.List.{list_all}
 use Rattle.std.proofs.lemmas.List.{length-map}
 use Rattle.std.proofs.lemmas.Option.{none-some}
@@ -23,7 +23,7 @@ use Rattle.result_print.specs.declared.refusal.Refusal.{Refusal}
 use Rattle.result_print.specs.declared.refusal.Refusal.TheVariants.{Disk, Damaged, Memory}
 use Rattle.statement_answers.specs.declared.outcome.Outcome.{Outcome}
 use Rattle.statement_answers.specs.declared.outcome.Outcome.TheVariants.{Replied, Changes}
-use Rattle.statement_answers.specs.Outcomes.{asked_for, leaves_for, leaves_read}
+use Rattle.statement_answers.specs.Outcomes.{leaves_for, leaves_read}
 use Rattle.statement_replies.specs.declared.replies.Reply.{Reply as Told}
 use Rattle.statement_replies.specs.StatementKinds.{HasChangeKind, HasStatementKind, MayBreak}
 use Rattle.statement_replies.specs.Statements.{Accepted, without_change}
