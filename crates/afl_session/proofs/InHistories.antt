@@ -1,28 +1,21 @@
 -- What was answered, as more events come.
-use Rattle.std.proofs.Common.{◌≡◌, ◌∙◌, ℕ, ◌+◌, ◌-◌, ◌≤◌, ◌⊎◌, inl, inr, Bool, true, List, [], ◌∷◌, ◌++◌, length, Option, None, Some, ap, refl, sym, subst, arith, append-nil, append_assoc}
+use Rattle.std.proofs.Common.{◌≡◌, ◌∙◌, ℕ, ◌-◌, inl, inr, Bool, true, List, [], ◌∷◌, ◌++◌, length, Option, None, Some, ap, refl, sym, subst, append-nil, append_assoc}
 use Rattle.std.specs.List.{list_all}
 use Rattle.std.proofs.lemmas.Bool.{and_parts}
-use Rattle.std.proofs.lemmas.Option.{slice_get_within}
 use Rattle.std.proofs.lemmas.List.Folds.{list_all-append}
 use Rattle.afl_lexer.specs.Split.{Statement, closed_statements, statements}
 use Rattle.afl_outside.specs.Disk.{Moment}
 use Rattle.afl_outside.specs.Source.{SourceState}
 use Rattle.afl_outside.specs.Sink.{SinkState}
-use Rattle.afl_trees.specs.Term.{Term}
-use Rattle.event_core.specs.declared.entry.Entry.TheVariants.{Commit, Pin}
-use Rattle.event_core.specs.declared.entry.Used.{Used}
-use Rattle.plan_changes.specs.declared.change.Change.{Change}
-use Rattle.result_print.specs.declared.refusal.Refusal.{Refusal}
-use Rattle.result_print.specs.declared.refusal.Refusal.TheVariants.{HistoryFull, Typing, Cell, Disk, Damaged, SequenceEnd, Full, Memory}
+use Rattle.event_core.specs.declared.entry.Entry.TheVariants.{Pin}
 use Rattle.session_answers.specs.Acts.{Course, nothing, looking, trying, making}
 use Rattle.session_answers.specs.Answered.{BeganAt, IsAnswered}
 use Rattle.session_answers.specs.Event.{Event}
-use Rattle.session_answers.specs.Replies.{EnteredAt, IsToldFor, WasAt}
+use Rattle.session_answers.specs.Replies.{IsToldFor}
 use Rattle.session_answers.specs.Reply.{Reply}
 use Rattle.session_answers.specs.Start.{Start}
 use Rattle.session_answers.specs.Told.{entries_in, is_sealed}
-use Rattle.session_answers.proofs.Beginnings.{reached}
-use Rattle.session_answers.proofs.Staying.{change_later, entered_later, replies_stay}
+use Rattle.session_answers.proofs.Staying.{entered_later, replies_stay}
 use Rattle.session_reports.specs.declared.reports.Mark.{Mark}
 use Rattle.session_reports.specs.declared.reports.SessionEnd.{SessionEnd}
 use Rattle.session_reports.specs.declared.reports.SessionEnd.TheVariants as ends
@@ -30,64 +23,6 @@ use Rattle.afl_session.specs.Histories.{AnswersTextIn, IsAnsweredIn, IsMarkedIn}
 use Rattle.afl_session.specs.Laws.{MarksStay, SessionsStay}
 use Rattle.afl_session.specs.Marked.{AnswersText, IsMarked, IsReplyOf, reply_told}
 use Rattle.afl_session.specs.Session.{AnswerRule, AnswersAll, AnswersFront, AreAnswered, LeavesOne, Replies, Serves, decided}
-
--- ---- a reply in more events
-
-module _ {D : Type 0} (moment : D → Moment) (origin : Start D) (session pin : ℕ) (old new later own : List Event) (text : List ℕ) (tree : Term) (reply : Reply) where
-  -- the place of a reply was reached, but for one that tells that no memory was found
-  abbrev IsReached : Option Refusal → Type 0
-  IsReached refusal = (reply.place ≤ length (entries_in new)) ⊎ (refusal ≡ Some Memory)
-
-  behind_pin : EnteredAt (length (entries_in old)) (Pin session) pin new → reply.place ≡ pin + 1 → reply.place ≤ length (entries_in new)
-  behind_pin began place = let within = slice_get_within (entries_in new) pin (Pin session) began.is in omega (arith, within, place)
-
-  at_commit : (change : Change) (used : Used) → EnteredAt pin (Commit session change used) reply.place new → reply.place ≤ length (entries_in new)
-  at_commit change used entered = let within = slice_get_within (entries_in new) reply.place (Commit session change used) entered.is in omega (arith, within)
-
-  was_reached : (then : List Event) → WasAt reply.place then new → reply.place ≤ length (entries_in new)
-  was_reached then was =
-      let counted : reply.place ≤ length (entries_in then) = omega (arith, was.count) in
-      subst (λ (events : List Event). reply.place ≤ length (entries_in events)) (sym was.grown) (reached origin then was.later reply.place counted)
-
-  reached_by : (refusal : Option Refusal) (course : Course) → BeganAt session pin old new course → IsToldFor moment origin session pin new own text tree reply refusal course
-      → IsReached refusal
-  reached_by None looking began t = inl (behind_pin began t.0)
-  reached_by None (making change) began t = inl (at_commit change t.0.0 t.0.1)
-  reached_by (Some (Typing span kind)) looking began t = inl t.0.1
-  reached_by (Some (Cell at kind)) looking began t = inl t.0.1
-  reached_by (Some HistoryFull) nothing began t = inl (was_reached t.0 t.1)
-  reached_by (Some Disk) looking began t = inl t.0.1
-  reached_by (Some Disk) (trying change) began t = inl t.0.1
-  reached_by (Some (Damaged page)) looking began t = inl t.0.1
-  reached_by (Some SequenceEnd) (trying change) began t = inl t.0.1
-  reached_by (Some (Full needed free)) (trying change) began t = inl t.0.1
-  reached_by (Some Memory) course began t = inr refl
-  reached_by _ _ began t = absurd t
-
-  -- that no memory was found rests on no place
-  want_stays : (course : Course) → IsToldFor moment origin session pin new own text tree reply (Some Memory) course
-      → IsToldFor moment origin session pin (new ++ later) own text tree reply (Some Memory) course
-  want_stays nothing t = tt
-  want_stays looking t = tt
-  want_stays (trying change) t = (t.0, t.1, reached origin new later t.0 t.2, change_later moment origin new later text tree t.0 t.2 change t.3)
-  want_stays (making change) t = absurd t
-
-  rest_stays : (refusal : Option Refusal) (course : Course) → list_all is_sealed new ≡ true → reply.place ≤ length (entries_in new)
-      → IsToldFor moment origin session pin new own text tree reply refusal course
-      → IsToldFor moment origin session pin (new ++ later) own text tree reply refusal course
-  rest_stays refusal course sealed within t =
-      subst (λ (events : List Event). IsToldFor moment origin session pin (new ++ later) events text tree reply refusal course) (append-nil own)
-      (replies_stay moment origin session pin new later own [] text tree reply refusal course sealed within t)
-
-  told_stays : (refusal : Option Refusal) (course : Course) → list_all is_sealed new ≡ true → BeganAt session pin old new course
-      → IsToldFor moment origin session pin new own text tree reply refusal course
-      → IsToldFor moment origin session pin (new ++ later) own text tree reply refusal course
-  told_stays refusal course sealed began t = elim (reached_by refusal course began t) [
-    | inl within ↦ rest_stays refusal course sealed within t
-    | inr want ↦
-        subst (λ (r : Option Refusal). IsToldFor moment origin session pin (new ++ later) own text tree reply r course) (sym want)
-        (want_stays course (subst (λ (r : Option Refusal). IsToldFor moment origin session pin new own text tree reply r course) want t))
-  ]
 
 -- a statement's pin came where it came
 began_stays : (session pin : ℕ) (old new later : List Event) (course : Course) → BeganAt session pin old new course → BeganAt session pin old (new ++ later) course
@@ -110,8 +45,12 @@ module _ {D : Type 0} (moment : D → Moment) (origin : Start D) (session : ℕ)
     began = began_stays session answered.pin old new later answered.course answered.began;
     line = answered.line;
     told = λ tree derives.
-        let t = answered.told tree derives in
-        (t.0, told_stays moment origin session answered.pin old new later answered.own text tree reply reply.refusal answered.course sealed answered.began t.1);
+        let t = answered.told tree derives in (
+          t.0,
+          subst (λ (events : List Event). IsToldFor moment origin session answered.pin (new ++ later) events text tree reply reply.refusal answered.course) (append-nil answered.own)
+              (replies_stay moment origin session answered.pin new later answered.own [] text tree reply reply.refusal answered.course sealed (answered.until tree derives) t.1),
+        );
+    until = answered.until;
     stopped = answered.stopped;
   }
 

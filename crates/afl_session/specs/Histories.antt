@@ -29,6 +29,7 @@ pub record IsAnsweredIn {D : Type 0} (moment : D → Moment) (origin : Start D) 
   pub line : HasLine reply reply.refusal
   pub told : (tree : Term) → DerivesText text tree
       → (length (entries_in old) ≤ reply.place) × IsToldFor moment origin session pin events own text tree reply reply.refusal course
+  pub until : (tree : Term) → DerivesText text tree → reply.place ≤ length (entries_in new)
   pub stopped : (at : ℕ) (kind : ParseKind) → StopsText text at kind → (own ≡ []) × (IsStopReply last at kind reply ⊎ (reply.refusal ≡ Some Memory))
 
 module _ {D : Type 0} (moment : D → Moment) (origin : Start D) (session : ℕ) (events : List Event) where
