@@ -1,4 +1,3 @@
-pub use Rattle.session_turns.proofs.Beginnings
 pub use Rattle.session_turns.proofs.Staying
 pub mod Acts
 pub mod Commits
