@@ -21,7 +21,7 @@ use Rattle.array_geom.specs.declared.chunk.Chunk.{Chunk}
 use Rattle.array_geom.proofs.PlaceLaws.{coordinate_again, position_below}
 use Rattle.expr_nulls.specs.Expr.{Expr}
 use Rattle.expr_nulls.specs.ExprValue.{value_of}
-use Rattle.logical_plan.specs.CellOps.{fit_cell, fit_values}
+use Rattle.logical_plan.specs.CellOps.{fit_cell}
 use Rattle.logical_plan.specs.Meaning.{built_rows, coordinates, count_from, how_many}
 use Rattle.exec_build.specs.Inner.Rows.{built_row}
 use Rattle.exec_build.specs.Inner.Walks.{coordinates_between, rows_between, Holds, TakesRows}
