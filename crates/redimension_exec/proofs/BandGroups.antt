@@ -1,5 +1,5 @@
 -- The groups of what lands of some rows and of others behind them.
-use Rattle.std.proofs.Common.{◌≡◌, ℕ, ◌+◌, ◌<◌, ◌≤◌, ◌^◌, false, List, [], ◌∷◌, ◌++◌, map, filter, length, take, drop, Option, Some, None, Result, Ok, Err, refl, sym, ap, ◌∙◌, subst, arith}
+use Rattle.std.proofs.Common.{◌≡◌, ℕ, ◌+◌, ◌<◌, ◌≤◌, false, List, [], ◌∷◌, ◌++◌, map, filter, length, take, drop, Some, Result, Ok, Err, refl, sym, ap, ◌∙◌, subst, arith}
 use Rattle.std.proofs.lemmas.List.{append-nil, length-append, length-drop, length-take, map-append}
 use Rattle.std.proofs.lemmas.List.Elements.{filter-append}
 use Rattle.std.specs.Ordering.{is_eq}
@@ -15,7 +15,7 @@ use Rattle.array_geom.specs.Link.{NumbersRise, core_rows, numbers}
 use Rattle.chunk_cells.specs.Whole.{CoresRise}
 use Rattle.area_cells.proofs.CutLaws.{cores_drop, cores_take, rise_drop, rise_take}
 use Rattle.area_cells.proofs.PieceLaws.{places_drop, places_take}
-use Rattle.array_rows.specs.Rows.{Coordinate, row_major, IsRising, put_all}
+use Rattle.array_rows.specs.Rows.{Coordinate, row_major, IsRising}
 use Rattle.logical_plan.specs.declared.parts.Aggregate.{Aggregate}
 use Rattle.logical_plan.specs.Faults.{if_whole}
 use Rattle.logical_plan.specs.Redimension.{Origin, Landing, Landed, lands, drops, breaks, landing_of, after_landing, landed, landed_at}
@@ -28,7 +28,7 @@ use Rattle.exec_group.proofs.RowLemmas.{joined_apart, put_all_joined}
 use Rattle.redimension_exec.specs.Inner.Bands.{AreBands}
 use Rattle.redimension_exec.specs.Inner.Counting.{has_counted}
 use Rattle.redimension_exec.specs.Inner.Grouping.{AreGroupsLanded, landed_sets}
-use Rattle.redimension_exec.proofs.GroupLaws.{at_rises, rising_landed, rows_in}
+use Rattle.redimension_exec.proofs.GroupLaws.{at_rises, rising_landed}
 use Rattle.redimension_exec.proofs.LandedLaws.{whole_of}
 use Rattle.redimension_exec.proofs.LandingsGatherLaws.{free, if_ok}
 

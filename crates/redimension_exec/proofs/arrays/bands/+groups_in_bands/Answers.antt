@@ -1,4 +1,4 @@
-use Rattle.std.proofs.Common.{rules, ◌≡◌, ◌<◌, length, map, Ok, arith}
+use Rattle.std.proofs.Common.{rules, ◌<◌, length, map, Ok, arith}
 use Rattle.array_rows.specs.Boxes.{bounds_of}
 use Rattle.array_geom.specs.Link.{core_rows}
 use Rattle.chunk_cells.proofs.MergeLaws.{IsRising-core_rows}
