@@ -1,7 +1,7 @@
 //! Two sessions over one store that is shared, each on a thread of its own.
 //!
-//! `threads 4096 9000 1000` makes a database of at most so many pages, with arrays A and B, opens it for a history of so many entries, and
-//! shares it. Two sessions then store the one and the other so often, beside a thread that reaps.
+//! `threads 2000 20000 1000` makes a database of at most so many pages, with arrays A and B, opens it for a history of so many entries, and
+//! shares it. Two sessions then make so many commits each, the one of A and the other of B, beside a thread that reaps.
 #![tactic(auto)]
 
 mod threads;

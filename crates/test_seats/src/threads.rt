@@ -29,8 +29,30 @@ fn array_of(session: u32) -> &'static str {
     }
 }
 
-/// Stores the session's array so often: its k-th version holds k.
-fn store_often<D: Disk, R: Wait>(
+/// In each round of so many commits there is one removal of all versions but the newest.
+const ROUND: u32 = 100;
+
+/// The place of the removal in its round, from 0.
+const REMOVAL: u32 = 90;
+
+/// How many versions a session has stored behind so many commits.
+fn versions_behind(commits: u32) -> u32 {
+    let removals = commits / ROUND + u32::from(commits % ROUND > REMOVAL);
+    commits.saturating_sub(removals)
+}
+
+/// The commit of a session behind so many. Version k of its array holds k.
+fn statement_behind(alloc: Global, name: &str, commits: u32) -> Result<String, AllocError> {
+    let stored = versions_behind(commits);
+    if commits % ROUND == REMOVAL {
+        format!(in alloc; "remove_versions({name}, {stored})")
+    } else {
+        format!(in alloc; "store(build(<v:int64>[i=0:0,1,0], {stored}+1), {name})")
+    }
+}
+
+/// Makes so many commits of the session's array.
+fn commit_often<D: Disk, R: Wait>(
     rt: &R,
     alloc: Global,
     shared: &Shared<D>,
@@ -42,16 +64,16 @@ fn store_often<D: Disk, R: Wait>(
     ensures { IsFree D.moment shared.now seat.new }
 {
     let name = array_of(seat.session());
-    for number in 0..count {
-        match format!(in alloc; "store(build(<v:int64>[i=0:0,1,0], {number}+1), {name})") {
+    for commits in 0..count {
+        match statement_behind(alloc, name, commits) {
             Ok(text) => drop(once(rt, alloc, shared, seat, text.as_bytes())),
             Err(AllocError) => {}
         }
     }
 }
 
-/// Each session stores its array, on a thread of its own.
-fn store_all<D: Disk + Send, R: Threads + Wait + Sync>(
+/// Each session makes its commits, on a thread of its own.
+fn commit_all<D: Disk + Send, R: Threads + Wait + Sync>(
     rt: &R,
     alloc: Global,
     shared: &Shared<D>,
@@ -67,7 +89,7 @@ fn store_all<D: Disk + Send, R: Threads + Wait + Sync>(
     let each = |_: usize, seat: &mut Seat<D>|
         requires { IsUntold D.moment shared.now × IsFree D.moment shared.now seat.now }
         ensures { IsFree D.moment shared.entry.now seat.exit.now }
-    { store_often(rt, alloc, shared, seat, count) };
+    { commit_often(rt, alloc, shared, seat, count) };
     thread::for_each_mut(rt, seats.as_mut_slice(), threads, &each);
     seats
 }
@@ -98,8 +120,8 @@ impl<D: Disk> Promise<Seat<D>> for SeatBack<D> {
     ghost kept_by = { λ p seat. IsSeatOf p.shared.value seat × IsIdle seat };
 }
 
-/// The sessions store their arrays, and the reaper runs beside them. Where no thread can be made for it, it comes after them.
-fn store_beside<D: Disk + Send, R: Threads + Wait + Sync>(
+/// The sessions make their commits, and the reaper runs beside them. Where no thread can be made for it, it comes after them.
+fn commit_beside<D: Disk + Send, R: Threads + Wait + Sync>(
     rt: &R,
     alloc: Global,
     shared: &Shared<D>,
@@ -134,7 +156,7 @@ fn store_beside<D: Disk + Send, R: Threads + Wait + Sync>(
                     ensures { IsSeatOf shared.entry.now result × IsIdle result }
                 { keep(rt, shared, own) },
             );
-            let seats = store_all(rt, alloc, shared, seats, count);
+            let seats = commit_all(rt, alloc, shared, seats, count);
             shared.close_bell(rt);
             match reaper {
                 Ok(thread) => (seats, thread.join(rt)),
@@ -161,7 +183,7 @@ fn stored_by<D: Disk + Send, R: Threads + Wait + Sync>(
     requires room { (room.items ≡ []) × (3 ≤ vec_capacity room) }
 {
     let own = taken(&shared, &mut seats);
-    let (seats, own) = store_beside(rt, alloc, &shared, seats.into_vec(), own, count);
+    let (seats, own) = commit_beside(rt, alloc, &shared, seats.into_vec(), own, count);
     let mut seats = List::from_vec(seats);
     let second = taken(&shared, &mut seats);
     let first = taken(&shared, &mut seats);
@@ -171,7 +193,7 @@ fn stored_by<D: Disk + Send, R: Threads + Wait + Sync>(
     shared.finish(List::from_vec(seats))
 }
 
-/// Two sessions store their arrays so often, each on a thread of its own. The store comes back.
+/// Two sessions make so many commits each, on a thread of its own. The store comes back.
 fn stored_by_two<D: Disk + Send + Drop, R: Threads + Wait + Sync>(
     rt: &R,
     alloc: Global,
@@ -196,50 +218,22 @@ fn stored_by_two<D: Disk + Send + Drop, R: Threads + Wait + Sync>(
     }
 }
 
-/// What a store holds in which each array was stored so often, its k-th version with k.
-fn push_versions(text: &mut String, name: &str, count: u32) -> Result<(), AllocError> {
-    writeln!(text, "array {name}, next {}", count.saturating_add(1))?;
-    for number in 0..count {
-        writeln!(
-            text,
-            "{name}@{}\n{{i}} v\n{{0}} {}",
-            number.saturating_add(1),
-            number.saturating_add(1)
-        )?;
-    }
-    Ok(())
-}
-
-/// Whether a store holds all versions of both arrays, each in the place of its number.
-fn has_all(alloc: Global, store: &mut Store<SilentDisk>, count: u32) -> Result<bool, Memory>
+fn held_in(alloc: Global, store: &mut Store<SilentDisk>) -> Answer
     requires { HasNoPins store.old.ledger }
 {
-    let mut text = String::new(alloc);
-    push_versions(&mut text, "A", count)?;
-    push_versions(&mut text, "B", count)?;
     match whole(alloc, store) {
-        Ok(held) => Ok(held.as_slice() == text.as_bytes()),
-        Err(_) => Ok(false),
+        Ok(lines) => Answer::Lines(lines),
+        Err(fault) => Answer::Unread(fault),
     }
 }
 
-fn held_in_words(alloc: Global, store: &mut Store<SilentDisk>, count: u32) -> &'static str
-    requires { HasNoPins store.old.ledger }
-{
-    match has_all(alloc, store, count) {
-        Ok(true) => "each version has its own number",
-        Ok(false) => "a version is missing",
-        Err(Memory) => "no memory",
-    }
-}
-
-/// Adds whether a store that is opened over the disk holds all versions.
-fn push_held(out: &mut String, disk: SilentDisk, limits: Limits, count: u32) -> Result<(), Memory> {
+/// Adds all that a store holds that is opened over the disk.
+fn push_held(out: &mut String, disk: SilentDisk, limits: Limits) -> Result<(), Memory> {
     match opened_over(*out.allocator(), disk, limits) {
         Ok(mut store) => {
-            let words = held_in_words(*out.allocator(), &mut store, count);
+            let held = held_in(*out.allocator(), &mut store);
             drop(store);
-            Ok(writeln!(out, "{words}")?)
+            held.push(out)
         }
         Err(cause) => Answer::Unopened(cause).push(out),
     }
@@ -250,13 +244,12 @@ fn push_store(
     out: &mut String,
     store: Store<SilentDisk>,
     limits: Limits,
-    count: u32,
 ) -> Result<(), Memory> {
     let (disk, entries) = store.close();
     let told = push_tally(out, entries.as_slice(), 2);
     drop(entries);
     match told {
-        Ok(()) => push_held(out, disk, limits, count),
+        Ok(()) => push_held(out, disk, limits),
         Err(AllocError) => {
             drop(disk);
             Err(Memory)
@@ -274,14 +267,14 @@ fn push_run<R: Threads + Wait + Sync>(
     let alloc = *out.allocator();
     match opened_over(alloc, SilentDisk::new(file), limits) {
         Ok(store) => match stored_by_two(rt, alloc, store, count) {
-            Ok(store) => push_store(out, store, limits, count),
+            Ok(store) => push_store(out, store, limits),
             Err(Memory) => Err(Memory),
         },
         Err(cause) => Answer::Unopened(cause).push(out),
     }
 }
 
-/// Adds what comes of two sessions that store their arrays so often.
+/// Adds what comes of two sessions that make so many commits each.
 pub(crate) fn push_threads<R: Threads + Wait + Sync>(
     rt: &R,
     out: &mut String,
