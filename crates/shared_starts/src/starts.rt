@@ -8,8 +8,8 @@ use cell_values::{Bytes, Memory};
 use page_file::OpenCause;
 use std::alloc::Global;
 use store_opening::Limits;
-use test_files::disk_of;
 use test_disks::QuietDisk;
+use test_files::disk_of;
 use test_stores::{once, opened};
 
 /// How much the store may use that makes a database.

@@ -240,11 +240,7 @@ fn push_held(out: &mut String, disk: SilentDisk, limits: Limits) -> Result<(), M
 }
 
 /// Adds what a store that is taken back tells, and what its disk holds.
-fn push_store(
-    out: &mut String,
-    store: Store<SilentDisk>,
-    limits: Limits,
-) -> Result<(), Memory> {
+fn push_store(out: &mut String, store: Store<SilentDisk>, limits: Limits) -> Result<(), Memory> {
     let (disk, entries) = store.close();
     let told = push_tally(out, entries.as_slice(), 2);
     drop(entries);
