@@ -10,8 +10,7 @@ use store_state::ReadFault;
 use test_disks::QuietDisk;
 use test_stores::{Answer, once, opened};
 
-/// What a change is answered over the store of a disk.
-pub fn answered(alloc: Global, disk: QuietDisk, limits: Limits, change: &[u8]) -> Answer {
+fn answered(alloc: Global, disk: QuietDisk, limits: Limits, change: &[u8]) -> Answer {
     match opened(alloc, disk, limits) {
         Ok(mut store) => {
             let answer = once(alloc, &mut store, 0, change);
@@ -20,6 +19,19 @@ pub fn answered(alloc: Global, disk: QuietDisk, limits: Limits, change: &[u8]) -
         }
         Err(cause) => Answer::Unopened(cause),
     }
+}
+
+/// Adds what a change is answered over the store of a disk.
+pub fn push_answered(
+    out: &mut String,
+    disk: QuietDisk,
+    limits: Limits,
+    change: &[u8],
+) -> Result<(), Memory> {
+    let answer = answered(*out.allocator(), disk, limits, change);
+    let told = answer.push(out);
+    drop(answer);
+    told
 }
 
 fn read_whole(alloc: Global, store: &mut Store<QuietDisk>) -> Result<Option<Bytes>, Memory>

@@ -5,6 +5,6 @@ mod held;
 mod reading;
 mod versions;
 
-pub use held::{answered, held_in};
+pub use held::{held_in, push_answered};
 pub use reading::{add_rows, cells, leaf_of};
 pub use versions::whole;

@@ -7,8 +7,7 @@ use std::alloc::Global;
 use store_opening::Limits;
 use test_disks::{QuietDisk, Watch};
 use test_files::{disk_of, made, of_format_one};
-use test_readings::answered;
-use test_stores::Answer;
+use test_readings::push_answered;
 
 const LIMITS: Limits = Limits {
     pages: 512,
@@ -23,24 +22,31 @@ struct Case<'a> {
     versions: &'a Versions,
 }
 
-/// A store is opened and changed, where the call of this number fails.
+/// A store is opened and changed, where the call of this number fails. Adds what the change is answered.
 fn attempt(
-    alloc: Global,
+    out: &mut String,
     file: &Bytes,
     change: &str,
     fails: Option<u64>,
-) -> Result<(Answer, Watch), Memory> {
-    let disk = disk_of(alloc, file.copy()?, fails)?;
-    let (disk, watch) = QuietDisk::watched(alloc, disk)?;
-    let answer = answered(alloc, disk, LIMITS, change.as_bytes());
-    Ok((answer, watch))
+) -> Result<Watch, Memory> {
+    let alloc = *out.allocator();
+    let (disk, watch) = QuietDisk::watched(alloc, disk_of(alloc, file.copy()?, fails)?)?;
+    match push_answered(out, disk, LIMITS, change.as_bytes()) {
+        Ok(()) => Ok(watch),
+        Err(Memory) => {
+            drop(watch);
+            Err(Memory)
+        }
+    }
 }
 
 /// The file behind a change.
 fn behind(alloc: Global, file: &Bytes, change: &str) -> Result<Bytes, Memory> {
-    let (answer, watch) = attempt(alloc, file, change, None)?;
-    drop(answer);
-    watch.bytes()
+    let mut told = String::new(alloc);
+    let watch = attempt(&mut told, file, change, None)?;
+    let bytes = watch.bytes();
+    drop(watch);
+    bytes
 }
 
 fn held_or_nothing(alloc: Global, file: Bytes) -> Result<Bytes, Memory> {
@@ -59,25 +65,20 @@ fn versions_of(alloc: Global, file: &Bytes, change: &str) -> Result<Versions, Me
     }
 }
 
-/// Adds what the change is answered, and what a stop behind each of its calls leaves.
-fn push_told(
-    out: &mut String,
-    answer: &Answer,
-    watch: &Watch,
-    versions: &Versions,
-) -> Result<usize, Memory> {
-    answer.push(out)?;
+/// Adds what a stop behind each call leaves. How many calls there were is the answer.
+fn push_left(out: &mut String, watch: &Watch, versions: &Versions) -> Result<usize, Memory> {
     out.push_str(" ")?;
     push_moments(out, watch, versions, LIMITS)?;
     out.push('\n')?;
     Ok(watch.count())
 }
 
+/// Adds what the change is answered, and what a stop behind each of its calls leaves. How many calls there were is the answer.
 fn push_attempt(out: &mut String, case: &Case<'_>, fails: Option<u64>) -> Result<usize, Memory> {
-    let (answer, watch) = attempt(*out.allocator(), case.file, case.change, fails)?;
-    let told = push_told(out, &answer, &watch, case.versions);
-    drop(answer);
-    told
+    let watch = attempt(out, case.file, case.change, fails)?;
+    let left = push_left(out, &watch, case.versions);
+    drop(watch);
+    left
 }
 
 fn tell_range(rt: &impl Print, from: usize, to: usize, told: &str) -> Result<()> {
