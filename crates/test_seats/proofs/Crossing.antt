@@ -34,9 +34,25 @@ use Rattle.reap_bell.proofs.Bell.TheSendSync as bell_way
 use Rattle.snapshot_manager.specs.contracts.seat.Seat as seat
 use Rattle.snapshot_manager.specs.contracts.shared.Shared as shared
 
-ruleset changes_cross = (compare_way.the_send, datum_way.the_send, row_way.the_send, list_way.the_send, name_way.the_send, bounds_way.the_send,
-  kind_way.the_field_send, schema_way.the_send, schema_way.the_field_send, arith_way.the_send, send-TypedExpr, aggregate_way.the_send, fixed_way.the_send,
-  leaf_way.the_send, pair_way.the_send, reach_way.the_send, send-Plan)
+ruleset changes_cross = (
+  compare_way.the_send,
+  datum_way.the_send,
+  row_way.the_send,
+  list_way.the_send,
+  name_way.the_send,
+  bounds_way.the_send,
+  kind_way.the_field_send,
+  schema_way.the_send,
+  schema_way.the_field_send,
+  arith_way.the_send,
+  send-TypedExpr,
+  aggregate_way.the_send,
+  fixed_way.the_send,
+  leaf_way.the_send,
+  pair_way.the_send,
+  reach_way.the_send,
+  send-Plan,
+)
 
 change_send : IsSend change.the_row
 change_send = search (changes_cross, sendable, crosses) depth 40 fits 9000
