@@ -1,2 +1,2 @@
+pub mod Replying
 pub mod Rooms
-pub mod Unasked

@@ -1,5 +1,5 @@
 -- What a run opens, and why something is not opened.
-use Rattle.std.specs.Prelude.{◌≡◌, ◌⊎◌, ℕ, ◌+◌, ◌-◌, ◌^◌, ◌≤◌, min, List, [], Option, None, Some, IfSome, IsSomeAnd, slice_get}
+use Rattle.std.specs.Prelude.{◌≡◌, ◌≢◌, ◌⊎◌, ℕ, ◌+◌, ◌-◌, ◌^◌, ◌≤◌, min, All, List, [], Option, None, Some, IfSome, IsSomeAnd, slice_get}
 use Rattle.std.specs.List.{AllZip}
 use Rattle.afl_lexer.specs.Inner.Standing.{StandsAfter}
 use Rattle.afl_outside.specs.Counts.{Rose}
@@ -32,6 +32,16 @@ pub record IsOpenedFor {S K : Type 0} (source_state : S → SourceState) (sink_s
 -- those of all scripts, in order
 abbrev pub AreOpenedFor : {S K : Type 0} → (S → SourceState) → (K → SinkState) → ShelfState → List Word → List (Streams S K) → Type 0
 AreOpenedFor source_state sink_state shelf = AllZip (IsOpenedFor source_state sink_state shelf)
+
+-- ---- what a shelf tells of names that it was not asked for
+
+-- calls that asked for these names leave what is told of others
+pub record LeavesUnasked (asked : List Word) (old new : ShelfState) : Type 0 where
+  pub scripts : (n : Word) → All (λ m. n ≢ m) asked → new.scripts n ≡ old.scripts n
+  pub replies : (n : Word) → All (λ m. n ≢ m) asked → new.replies n ≡ old.replies n
+  pub devices : (n : Word) → All (λ m. n ≢ m) asked → new.devices n ≡ old.devices n
+  pub later : old.faults ≤ new.faults
+  pub wants_later : old.wants ≤ new.wants
 
 -- ---- what a shelf hands out that can be written: the count stands still at its last value
 

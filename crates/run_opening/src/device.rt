@@ -6,16 +6,13 @@ ghost use Rattle.afl_outside.specs.Shelf.{LeavesOthers};
 ghost use Rattle.run_opening.specs.Opened.{FailsToOpenDevice};
 
 use crate::causes::unopened_notice;
-use crate::opened_disk::OpenedDisk;
 use afl_outside::{Failed, Shelf};
 use session_reports::Notice;
 
 /// The device of this name, or what is told where it isn't opened.
-pub fn open_device<F: Shelf>(shelf: &mut F, name: &str) -> Result<OpenedDisk<F::Device>, Notice>
-    ensures new { IfOk result (λ opened. IsNewDisk name.now (F.Device.moment opened.handed.value).state) }
-    ensures first { IfOk result (λ opened. opened.disk ≡ opened.handed.value) }
-    ensures content { IfOk result (λ opened. IfSome ((F.state shelf.old).devices name.now)
-        (λ bytes. (F.Device.moment opened.handed.value).state.first ≡ Some bytes)) }
+pub fn open_device<F: Shelf>(shelf: &mut F, name: &str) -> Result<F::Device, Notice>
+    ensures new { IfOk result (λ disk. IsNewDisk name.now (F.Device.moment disk).state) }
+    ensures content { IfOk result (λ disk. IfSome ((F.state shelf.old).devices name.now) (λ bytes. (F.Device.moment disk).state.first ≡ Some bytes)) }
     ensures cause { IfErr result (λ notice. FailsToOpenDevice name.now notice (F.state shelf.old) (F.state shelf.new)) }
     ensures others { LeavesOthers name.now (F.state shelf.old) (F.state shelf.new) }
     ensures handed { MatchResult result
@@ -24,7 +21,7 @@ pub fn open_device<F: Shelf>(shelf: &mut F, name: &str) -> Result<OpenedDisk<F::
 {
     let wants = shelf.wants();
     match shelf.device(name) {
-        Ok(disk) => Ok(OpenedDisk::new(disk)),
+        Ok(disk) => Ok(disk),
         Err(Failed) => Err(unopened_notice(wants, shelf.wants(), Notice::Disk)),
     }
 }

@@ -1,9 +1,8 @@
 //! The streams of a run.
 ghost use Rattle.std.specs.Prelude.{◌≡◌, ◌⊎◌, ◌<◌, ◌^◌, IfErr, IfOk, OnErr, OnOk, length};
 ghost use Rattle.run_opening.specs.Names.{HaveOwnNames, stream_names};
-ghost use Rattle.run_opening.specs.Opened.{AreOpenedFor, FailsToOpen, HandsOut, HandsOutSome};
+ghost use Rattle.run_opening.specs.Opened.{AreOpenedFor, FailsToOpen, HandsOut, HandsOutSome, LeavesUnasked};
 ghost use Rattle.run_opening.specs.Inner.Rooms.{HasRoom};
-ghost use Rattle.run_opening.specs.Inner.Unasked.{LeavesUnasked};
 
 use crate::replies::open_replies;
 use crate::room::Room;

@@ -5,8 +5,8 @@ ghost use Rattle.afl_outside.specs.Counts.{risen};
 ghost use Rattle.afl_outside.specs.Sink.{IsNewSink};
 ghost use Rattle.afl_outside.specs.Shelf.{LeavesOthers};
 ghost use Rattle.run_opening.specs.Names.{reply_name};
-ghost use Rattle.run_opening.specs.Opened.{FailsFor, HandsOut, HandsOutSome, IsSinkOf};
-ghost use Rattle.run_opening.specs.Inner.Unasked.{FailsAtReply, LeavesUnasked};
+ghost use Rattle.run_opening.specs.Opened.{FailsFor, HandsOut, HandsOutSome, IsSinkOf, LeavesUnasked};
+ghost use Rattle.run_opening.specs.Inner.Replying.{FailsAtReply};
 
 use crate::causes::unopened_notice;
 use afl_outside::{Failed, Shelf};

@@ -74,10 +74,13 @@ impl<S: Drop, K: Drop> Room<S, K> {
         } = self;
         drop(replies);
         while !sources.is_empty() {
+            let source = sources.remove(0);
+            let sink = sinks.remove(0);
+            let splitter = splitters.remove(0);
             streams.push_reserved(Streams {
-                source: sources.remove(0),
-                sink: sinks.remove(0),
-                splitter: splitters.remove(0),
+                source,
+                sink,
+                splitter,
             });
         }
         streams

@@ -4,8 +4,7 @@ ghost use Rattle.std.specs.List.{AllZip};
 ghost use Rattle.afl_outside.specs.Source.{IsNewSource};
 ghost use Rattle.afl_outside.specs.Shelf.{LeavesOthers};
 ghost use Rattle.run_opening.specs.Names.{Word};
-ghost use Rattle.run_opening.specs.Opened.{FailsFor, FailsToOpen, IsSourceOf};
-ghost use Rattle.run_opening.specs.Inner.Unasked.{LeavesUnasked};
+ghost use Rattle.run_opening.specs.Opened.{FailsFor, FailsToOpen, IsSourceOf, LeavesUnasked};
 
 use crate::causes::unopened_notice;
 use afl_outside::{Failed, Shelf};

@@ -82,7 +82,7 @@ breaks : (end : SessionEnd) → (end ≡ ends.Source) ⊎ (end ≡ ends.Sink) �
 breaks end is = elim is [ inl source ↦ rw source refl | inr sink ↦ rw sink refl ]
 
 -- a test that passes nowhere passes at no place
-fails_at : {X : Type 0} (p : X → Bool) (xs : List X) (k : ℕ) (d : X) → k < length xs → list_any p xs ≡ false → p (get_or xs k d) ≡ false
+pub fails_at : {X : Type 0} (p : X → Bool) (xs : List X) (k : ℕ) (d : X) → k < length xs → list_any p xs ≡ false → p (get_or xs k d) ≡ false
 fails_at p [] k d within none = absurd (omega (arith, within))
 fails_at p (x ∷ xs) zero d within none = (either_false (p x) (list_any p xs) none).0
 fails_at p (x ∷ xs) (suc k) d within none = fails_at p xs k d (omega (arith, within)) (either_false (p x) (list_any p xs) none).1
