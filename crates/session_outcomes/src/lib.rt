@@ -4,8 +4,8 @@
 mod laws;
 
 pub use laws::{
-pub use session_sources::commit;
-pub use session_replies::{Reply, at_place, refusal_at, uncommitted, unread, want};
     failures_are_noted, fresh_changes_are_left, outcomes_are_said, readings_are_told,
     replies_are_told,
 };
+pub use session_replies::{Reply, at_place, refusal_at, uncommitted, unread, want};
+pub use session_sources::commit;
