@@ -8,7 +8,7 @@ use crate::replies::open_replies;
 use crate::room::Room;
 use crate::scripts::open_scripts;
 use afl_outside::Shelf;
-use cell_values::Memory;
+use cell_values::{List, Memory};
 use command_words::Arg;
 use session_reports::{Notice, Streams};
 use std::alloc::Global;
@@ -19,10 +19,10 @@ pub fn open_streams<F: Shelf>(
     alloc: Global,
     scripts: &[Arg],
     shelf: &mut F,
-) -> Result<Vec<Streams<F::S, F::K>>, Notice>
+) -> Result<List<Streams<F::S, F::K>>, Notice>
     requires few { length scripts.now < 2 ^ 32 }
     requires names { HaveOwnNames scripts.now }
-    ensures opened { IfOk result (λ streams. AreOpenedFor F.S.state F.K.state (F.state shelf.old) scripts.now streams.items) }
+    ensures opened { IfOk result (λ streams. AreOpenedFor F.S.state F.K.state (F.state shelf.old) scripts.now streams) }
     ensures cause { IfErr result (λ notice. ((notice ≡ Notice.Memory) × (shelf.new ≡ shelf.old)) ⊎ FailsToOpen scripts.now notice (F.state shelf.old) (F.state shelf.new)) }
     ensures others { LeavesUnasked (stream_names scripts.now) (F.state shelf.old) (F.state shelf.new) }
     ensures handed { OnOk result (HandsOut (length scripts.now) (F.state shelf.old) (F.state shelf.new)) }
@@ -39,11 +39,11 @@ fn open_in<F: Shelf>(
     room: Room<F::S, F::K>,
     scripts: &[Arg],
     shelf: &mut F,
-) -> Result<Vec<Streams<F::S, F::K>>, Notice>
+) -> Result<List<Streams<F::S, F::K>>, Notice>
     requires room { HasRoom scripts.now room }
     requires few { length scripts.now < 2 ^ 32 }
     requires names { HaveOwnNames scripts.now }
-    ensures opened { IfOk result (λ streams. AreOpenedFor F.S.state F.K.state (F.state shelf.old) scripts.now streams.items) }
+    ensures opened { IfOk result (λ streams. AreOpenedFor F.S.state F.K.state (F.state shelf.old) scripts.now streams) }
     ensures cause { IfErr result (λ notice. FailsToOpen scripts.now notice (F.state shelf.old) (F.state shelf.new)) }
     ensures others { LeavesUnasked (stream_names scripts.now) (F.state shelf.old) (F.state shelf.new) }
     ensures handed { OnOk result (HandsOut (length scripts.now) (F.state shelf.old) (F.state shelf.new)) }

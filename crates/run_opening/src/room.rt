@@ -7,7 +7,7 @@ ghost use Rattle.run_opening.specs.Inner.Rooms.{HasRoom, streams_of};
 
 use crate::replies::reply_name;
 use afl_lexer::Splitter;
-use cell_values::Memory;
+use cell_values::{List, Memory};
 use command_words::Arg;
 use session_reports::Streams;
 use std::alloc::Global;
@@ -58,12 +58,12 @@ impl<S: Drop, K: Drop> Room<S, K> {
     }
 
     /// The streams of all sessions: to each source its sink and a splitter.
-    pub(crate) fn into_streams(self) -> Vec<Streams<S, K>>
+    pub(crate) fn into_streams(self) -> List<Streams<S, K>>
         requires sinks { length self.sinks.items ≡ length self.sources.items }
         requires splitters { length self.splitters.items ≡ length self.sources.items }
         requires none { self.streams.items ≡ [] }
         requires room { length self.sources.items ≤ vec_capacity self.streams }
-        ensures { result.items ≡ streams_of self.sources.items self.sinks.items self.splitters.items }
+        ensures { result ≡ streams_of self.sources.items self.sinks.items self.splitters.items }
     {
         let Room {
             replies,
@@ -83,6 +83,6 @@ impl<S: Drop, K: Drop> Room<S, K> {
                 splitter,
             });
         }
-        streams
+        List::from_vec(streams)
     }
 }
