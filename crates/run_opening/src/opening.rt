@@ -51,7 +51,11 @@ fn open_in<F: Shelf>(
     ensures some { OnErr result (HandsOutSome (length scripts.now) (F.state shelf.old) (F.state shelf.new)) }
 {
     let mut room = room;
-    open_scripts(scripts, shelf, &mut room.sources)?;
-    open_replies(&room.replies, shelf, &mut room.sinks)?;
-    Ok(room.into_streams())
+    match open_scripts(scripts, shelf, &mut room.sources) {
+        Ok(()) => match open_replies(&room.replies, shelf, &mut room.sinks) {
+            Ok(()) => Ok(room.into_streams()),
+            Err(notice) => Err(notice),
+        },
+        Err(notice) => Err(notice),
+    }
 }

@@ -68,8 +68,10 @@ pub(crate) fn open_replies<F: Shelf>(
     ensures some { OnErr result (HandsOutSome (length names.now) (F.state shelf.old) (F.state shelf.new)) }
 {
     for (place, name) in names.iter().enumerate() {
-        let sink = open_reply(shelf, place as u32, name.as_str())?;
-        sinks.push_reserved(sink);
+        match open_reply(shelf, place as u32, name.as_str()) {
+            Ok(sink) => sinks.push_reserved(sink),
+            Err(notice) => return Err(notice),
+        }
     }
     Ok(())
 }

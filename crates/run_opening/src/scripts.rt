@@ -44,8 +44,10 @@ pub(crate) fn open_scripts<F: Shelf>(
     ensures handed { (F.state shelf.new).handed ≡ (F.state shelf.old).handed }
 {
     for (place, script) in scripts.iter().enumerate() {
-        let source = open_script(shelf, place as u32, script.as_str())?;
-        sources.push_reserved(source);
+        match open_script(shelf, place as u32, script.as_str()) {
+            Ok(source) => sources.push_reserved(source),
+            Err(notice) => return Err(notice),
+        }
     }
     Ok(())
 }
