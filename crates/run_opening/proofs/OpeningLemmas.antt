@@ -2,15 +2,16 @@
 use Rattle.std.proofs.Common.{◌≡◌, ◌≢◌, ◌⊎◌, ℕ, zero, suc, ◌+◌, ◌-◌, ◌^◌, ◌<◌, ◌≤◌, min, List, [], ◌∷◌, ◌++◌, length, get_or, take, map, slice_get, All, AllPairs, Option, Some, None, IfSome, IsSomeAnd, inl, inr, refl, sym, ◌∙◌, ap, subst, arith}
 use Rattle.std.specs.List.{AllZip}
 use Rattle.std.proofs.lemmas.Grind.{common_steps}
-use Rattle.std.proofs.lemmas.List.{map-append, take_more}
+use Rattle.std.proofs.lemmas.List.{length-map, map-append, take_more}
 use Rattle.std.proofs.lemmas.List.Elements.{All-take}
 use Rattle.std.proofs.lemmas.Option.{slice_get_read}
 use Rattle.afl_outside.specs.Counts.{Rose, risen}
 use Rattle.afl_outside.specs.Shelf.{ShelfState, LeavesOthers}
+use Rattle.afl_outside.specs.Sink.{SinkState}
 use Rattle.session_reports.specs.declared.notices.Notice.{Notice}
 use Rattle.session_reports.specs.declared.notices.Notice.TheVariants as notices
 use Rattle.run_opening.specs.Names.{Word, reply_name}
-use Rattle.run_opening.specs.Opened.{FailsFor, FailsToOpen, HandsOut, HandsOutSome, IsUnopened, LeavesUnasked}
+use Rattle.run_opening.specs.Opened.{FailsFor, FailsToOpen, HandsOut, HandsOutSome, IsSinkOf, IsUnopened, LeavesUnasked}
 use Rattle.run_opening.specs.Inner.Replying.{FailsAtReply}
 
 -- ---- lists
@@ -57,6 +58,50 @@ leaves_first names k old new leaves = record {
   wants_later = leaves.wants_later;
 }
 
+pub front_all : (n : Word) (xs ys : List Word) → All (λ m. n ≢ m) (xs ++ ys) → All (λ m. n ≢ m) xs
+front_all n [] ys all k d lt = absurd (omega (arith, lt))
+front_all n (x ∷ xs) ys all zero d lt = all zero d (omega arith)
+front_all n (x ∷ xs) ys all (suc k) d lt = front_all n xs ys (λ j e le. all (suc j) e (omega (arith, le))) k d (omega (arith, lt))
+
+pub back_all : (n : Word) (xs ys : List Word) → All (λ m. n ≢ m) (xs ++ ys) → All (λ m. n ≢ m) ys
+back_all n [] ys all = all
+back_all n (x ∷ xs) ys all = back_all n xs ys (λ j e le. all (suc j) e (omega (arith, le)))
+
+pub leaves_front : (xs ys : List Word) (old new : ShelfState) → LeavesUnasked xs old new → LeavesUnasked (xs ++ ys) old new
+leaves_front xs ys old new leaves = record {
+  scripts = λ n all. leaves.scripts n (front_all n xs ys all);
+  replies = λ n all. leaves.replies n (front_all n xs ys all);
+  devices = λ n all. leaves.devices n (front_all n xs ys all);
+  later = leaves.later;
+  wants_later = leaves.wants_later;
+}
+
+pub leaves_both : (xs ys : List Word) (old mid new : ShelfState) → LeavesUnasked xs old mid → LeavesUnasked ys mid new → LeavesUnasked (xs ++ ys) old new
+leaves_both xs ys old mid new first second = record {
+  scripts = λ n all. second.scripts n (back_all n xs ys all) ∙ first.scripts n (front_all n xs ys all);
+  replies = λ n all. second.replies n (back_all n xs ys all) ∙ first.replies n (front_all n xs ys all);
+  devices = λ n all. second.devices n (back_all n xs ys all) ∙ first.devices n (front_all n xs ys all);
+  later = omega (arith, first.later, second.later);
+  wants_later = omega (arith, first.wants_later, second.wants_later);
+}
+
+-- ---- what is handed out
+
+pub hands_none : (most : ℕ) (old new : ShelfState) → new.handed ≡ old.handed → HandsOutSome most old new
+hands_none most old new same = (0, omega arith, λ fits. omega (arith, same))
+
+pub hands_some : (count most : ℕ) (old new : ShelfState) → count ≤ most → HandsOut count old new → HandsOutSome most old new
+hands_some count most old new least hands = (count, least, hands)
+
+pub hands_more : (count : ℕ) (old now next : ShelfState) → HandsOut count old now → next.handed ≡ risen now.handed → HandsOut (count + 1) old next
+hands_more count old now next hands rose fits = let before : now.handed ≡ old.handed + count = hands (omega (arith, fits)) in omega (arith, before, rose, fits)
+
+pub hands_since : (count : ℕ) (old now next : ShelfState) → now.handed ≡ old.handed → HandsOut count now next → HandsOut count old next
+hands_since count old now next same hands fits = let is : next.handed ≡ now.handed + count = hands (omega (arith, same, fits)) in omega (arith, is, same)
+
+pub hands_some_since : (count most : ℕ) (old now next : ShelfState) → count ≡ most → now.handed ≡ old.handed → HandsOutSome count now next → HandsOutSome most old next
+hands_some_since count most old now next even same some = (some.0, omega (arith, even, some.1), hands_since some.0 old now next same some.2)
+
 -- ---- a count rose since the first call
 
 rose_since : (first before now : ℕ) → first ≤ before → Rose before now → Rose first now
@@ -89,6 +134,7 @@ module _ (names : List Word) (i : ℕ) (item asked : Word) (lt : i < length name
     where
       apart_from : (n : Word) → All (λ m. n ≢ m) (take (i + 1) names) → n ≢ asked
       apart_from n all = last_of n (take i names) asked (subst (All (λ m. n ≢ m)) one_more all)
+
       earlier : (n : Word) → All (λ m. n ≢ m) (take (i + 1) names) → All (λ m. n ≢ m) (take i names)
       earlier n all = front_of n (take i names) asked (subst (All (λ m. n ≢ m)) one_more all)
 
@@ -106,13 +152,57 @@ module _ (names : List Word) (i : ℕ) (item asked : Word) (lt : i < length name
     pub fails_script : (session : ℕ) (notice : Notice) → session ≡ i → FailsFor session (now.scripts asked) notice now next → FailsToOpen names notice start next
     fails_script session notice place fails = elim fails [
       | inl want ↦ inl (want.0, rose_since start.wants now.wants next.wants before.wants_later want.1)
-      | inr fault ↦ inr (session, fault.0, subst (λ (o : Option Word). IsSomeAnd o (λ script. IsUnopened script start next)) (sym (ap (slice_get names) place ∙ at_place))
-          (record { rose = rose_since start.faults now.faults next.faults before.later fault.1; untold = inl (sym told_script ∙ fault.2) }))
+      | inr fault ↦ inr (
+        session,
+        fault.0,
+        subst (λ (o : Option Word). IsSomeAnd o (λ script. IsUnopened script start next)) (sym (ap (slice_get names) place ∙ at_place))
+            (record { rose = rose_since start.faults now.faults next.faults before.later fault.1; untold = inl (sym told_script ∙ fault.2) }),
+      )
     ]
 
     pub fails_reply : (session : ℕ) (notice : Notice) → session ≡ i → FailsFor session (now.replies asked) notice now next → FailsAtReply names notice start next
     fails_reply session notice place fails = elim fails [
       | inl want ↦ inl (want.0, rose_since start.wants now.wants next.wants before.wants_later want.1)
-      | inr fault ↦ inr (session, fault.0, rose_since start.faults now.faults next.faults before.later fault.1,
-          subst (λ (o : Option Word). IsSomeAnd o (λ name. start.replies name ≡ None)) (sym (ap (slice_get names) place ∙ at_place)) (sym told_reply ∙ fault.2))
+      | inr fault ↦ inr (
+        session,
+        fault.0,
+        rose_since start.faults now.faults next.faults before.later fault.1,
+        subst (λ (o : Option Word). IsSomeAnd o (λ name. start.replies name ≡ None)) (sym (ap (slice_get names) place ∙ at_place)) (sym told_reply ∙ fault.2),
+      )
     ]
+
+-- ---- scripts, and then their replies
+
+some_of_map : {A B : Type 0} (f : A → B) (P : B → Type 0) (Q : A → Type 0) (xs : List A) (k : ℕ) → ((x : A) → P (f x) → Q x) → IsSomeAnd (slice_get (map f xs) k) P → IsSomeAnd (slice_get xs k) Q
+some_of_map f P Q [] k each some = some
+some_of_map f P Q (x ∷ xs) zero each some = each x some
+some_of_map f P Q (x ∷ xs) (suc k) each some = some_of_map f P Q xs k each some
+
+module _ (scripts names : List Word) (are : names ≡ map reply_name scripts) (start mid next : ShelfState) (later : start.faults ≤ mid.faults) (wants_later : start.wants ≤ mid.wants)
+    (replies : (n : Word) → mid.replies n ≡ start.replies n) where
+  pub fails_from_reply : (notice : Notice) → FailsAtReply names notice mid next → FailsToOpen scripts notice start next
+  fails_from_reply notice fails = elim fails [
+    | inl want ↦ inl (want.0, rose_since start.wants mid.wants next.wants wants_later want.1)
+    | inr fault ↦ inr (
+      fault.0,
+      fault.1,
+      some_of_map reply_name (λ name. mid.replies name ≡ None) (λ script. IsUnopened script start next) scripts fault.0
+          (λ script untold. record { rose = rose_since start.faults mid.faults next.faults later fault.2; untold = inr (sym (replies (reply_name script)) ∙ untold) })
+          (subst (λ (l : List Word). IsSomeAnd (slice_get l fault.0) (λ name. mid.replies name ≡ None)) are fault.3),
+    )
+  ]
+
+  sinks_since : {K : Type 0} (state : K → SinkState) (xs : List Word) (ks : List K) → AllZip (IsSinkOf mid) xs (map state ks) → AllZip (IsSinkOf start) xs (map state ks)
+  sinks_since state [] [] all = tt
+  sinks_since state [] (k ∷ ks) all = absurd all
+  sinks_since state (x ∷ xs) [] all = absurd all
+  sinks_since state (x ∷ xs) (k ∷ ks) all = (
+    record { new = (all.0).new; content = subst (λ (o : Option Word). IfSome o (λ bytes. (state k).first ≡ Some bytes)) (replies x) (all.0).content },
+    sinks_since state xs ks all.1,
+  )
+
+  pub sinks_of : {K : Type 0} (state : K → SinkState) (ks : List K) → AllZip (IsSinkOf mid) names (map state ks) → AllZip (IsSinkOf start) (map reply_name scripts) (map state ks)
+  sinks_of state ks all = sinks_since state (map reply_name scripts) ks (subst (λ (l : List Word). AllZip (IsSinkOf mid) l (map state ks)) are all)
+
+  pub names_count : length names ≡ length scripts
+  names_count = ap length are ∙ length-map scripts reply_name

@@ -1,5 +1,5 @@
 -- What a run opens, and why something is not opened.
-use Rattle.std.specs.Prelude.{◌≡◌, ◌≢◌, ◌⊎◌, ℕ, ◌+◌, ◌-◌, ◌^◌, ◌≤◌, min, All, List, [], Option, None, Some, IfSome, IsSomeAnd, slice_get}
+use Rattle.std.specs.Prelude.{◌≡◌, ◌≢◌, ◌⊎◌, ℕ, ◌+◌, ◌^◌, ◌<◌, ◌≤◌, List, [], Option, None, Some, All, IfSome, IsSomeAnd, slice_get}
 use Rattle.std.specs.List.{AllZip}
 use Rattle.afl_lexer.specs.Inner.Standing.{StandsAfter}
 use Rattle.afl_outside.specs.Counts.{Rose}
@@ -24,7 +24,8 @@ pub record IsSinkOf (shelf : ShelfState) (asked : Word) (sink : SinkState) : Typ
   pub content : IfSome (shelf.replies asked) (λ bytes. sink.first ≡ Some bytes)
 
 -- the streams of a script and its reply, of which nothing is read or written yet
-pub record IsOpenedFor {S K : Type 0} (source_state : S → SourceState) (sink_state : K → SinkState) (shelf : ShelfState) (script : Word) (streams : Streams S K) : Type 0 where
+pub record IsOpenedFor {S K : Type 0} (source_state : S → SourceState) (sink_state : K → SinkState) (shelf : ShelfState) (script : Word)
+    (streams : Streams S K) : Type 0 where
   pub source : IsSourceOf shelf script (source_state streams.source)
   pub sink : IsSinkOf shelf (reply_name script) (sink_state streams.sink)
   pub splitter : StandsAfter [] streams.splitter
@@ -43,10 +44,10 @@ pub record LeavesUnasked (asked : List Word) (old new : ShelfState) : Type 0 whe
   pub later : old.faults ≤ new.faults
   pub wants_later : old.wants ≤ new.wants
 
--- ---- what a shelf hands out that can be written: the count stands still at its last value
+-- ---- what a shelf hands out that can be written, but where the count would come to its last value
 
 abbrev pub HandsOut : ℕ → ShelfState → ShelfState → Type 0
-HandsOut count old new = new.handed ≡ min (old.handed + count) (2 ^ 64 - 1)
+HandsOut count old new = old.handed + count < 2 ^ 64 → new.handed ≡ old.handed + count
 
 -- at most so many
 abbrev pub HandsOutSome : ℕ → ShelfState → ShelfState → Type 0

@@ -1,5 +1,5 @@
 //! The scripts of a run.
-ghost use Rattle.std.specs.Prelude.{◌≡◌, ◌≢◌, ◌≤◌, ◌<◌, ℕ, [], AllPairs, IfErr, IfOk, IfSome, OnOk, length, map, vec_capacity};
+ghost use Rattle.std.specs.Prelude.{◌≡◌, ◌≢◌, ◌≤◌, ◌<◌, ◌^◌, [], AllPairs, IfErr, IfOk, IfSome, OnOk, length, map, vec_capacity};
 ghost use Rattle.std.specs.List.{AllZip};
 ghost use Rattle.afl_outside.specs.Source.{IsNewSource};
 ghost use Rattle.afl_outside.specs.Shelf.{LeavesOthers};
@@ -23,11 +23,7 @@ fn open_script<F: Shelf>(shelf: &mut F, session: u32, name: &str) -> Result<F::S
     let wants = shelf.wants();
     match shelf.script(name) {
         Ok(source) => Ok(source),
-        Err(Failed) => Err(unopened_notice(
-            wants,
-            shelf.wants(),
-            Notice::Stream { session },
-        )),
+        Err(Failed) => Err(unopened_notice(wants, shelf.wants(), Notice::Stream { session })),
     }
 }
 
@@ -48,8 +44,10 @@ pub(crate) fn open_scripts<F: Shelf>(
     ensures handed { (F.state shelf.new).handed ≡ (F.state shelf.old).handed }
 {
     for (place, script) in scripts.iter().enumerate() {
-        let source = open_script(shelf, place as u32, script.as_str())?;
-        sources.push_reserved(source);
+        match open_script(shelf, place as u32, script.as_str()) {
+            Ok(source) => sources.push_reserved(source),
+            Err(notice) => return Err(notice),
+        }
     }
     Ok(())
 }
