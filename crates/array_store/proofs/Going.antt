@@ -3,7 +3,6 @@ use Rattle.std.proofs.Common.{◌≡◌, Bool, true, false, Result, Ok, Err, IfO
 use Rattle.afl_outside.specs.Disk.{DiskGoesOn, Moment}
 use Rattle.page_file.specs.FilesOpened.{OpenFile}
 use Rattle.page_slots.proofs.PutLemmas.{goes_twice}
-use Rattle.plan_changes.specs.declared.change.Change.{Change}
 use Rattle.store_state.specs.declared.parts.StoreParts.{StoreParts}
 use Rattle.store_state.specs.At.{AreParts, standing}
 use Rattle.store_state.specs.Standings.{Standing}
@@ -27,6 +26,10 @@ pub by_choice : {D F : Type 0} (s a b c new : Standing D) (result : Result Bool 
 by_choice s a b c new (Ok true) one other third ok err = subst (IsUnmoved s) (sym ok) one
 by_choice s a b c new (Ok false) one other third ok err = subst (IsUnmoved s) (sym ok) other
 by_choice s a b c new (Err x) one other third ok err = subst (IsUnmoved s) (sym err) third
+
+pub by_bool : {D : Type 0} (s a b new : Standing D) (comes : Bool) → IsUnmoved s a → IsUnmoved s b → new ≡ (if comes then a else b) → IsUnmoved s new
+by_bool s a b new true one other is = subst (IsUnmoved s) (sym is) one
+by_bool s a b new false one other is = subst (IsUnmoved s) (sym is) other
 
 module _ {D : Type 0} (moment : D → Moment) (parts new : StoreParts D) (is : IsStore moment parts) (at : AreParts moment new) where
   pub stays : IsUnmoved (standing moment parts) (standing moment new) → IsStore moment new

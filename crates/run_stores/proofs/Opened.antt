@@ -1,5 +1,5 @@
 -- A store that was opened for a run.
-use Rattle.std.proofs.Common.{◌≡◌, ◌∙◌, List, ℕ, Option, Some, None, IfSome, ap}
+use Rattle.std.proofs.Common.{◌≡◌, ◌∙◌, Option, Some, None, IfSome, ap}
 use Rattle.afl_outside.specs.Disk.{DiskState, Moment}
 use Rattle.array_store.specs.Starts.{start_of}
 use Rattle.file_meaning.specs.Opening.{Opens}

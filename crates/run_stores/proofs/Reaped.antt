@@ -1,17 +1,15 @@
 -- A store is reaped after its sessions.
-use Rattle.std.proofs.Common.{◌≡◌, ◌∙◌, ℕ, Bool, true, false, not, ◌&&◌, ◌||◌, nat_eq, if◌then◌else◌, List, [], ◌∷◌, ◌++◌, Result, Ok, Err, IfOk, OnErr, inl, inr, refl, ap, sym, subst, append-nil}
+use Rattle.std.proofs.Common.{◌≡◌, ◌∙◌, ℕ, Bool, true, false, not, ◌&&◌, nat_eq, if◌then◌else◌, List, [], ◌∷◌, inl, inr, refl, ap, sym, subst, append-nil}
 use Rattle.std.specs.List.{filter, list_any}
 use Rattle.std.proofs.lemmas.Bool.{eq-eqb, or_from, or_left, or_right}
 use Rattle.version_reaper.specs.PageSets.{holds, pages_below}
-use Rattle.event_core.specs.declared.entry.Entry.{Entry}
 use Rattle.event_core.specs.declared.entry.Entry.TheVariants.{Reap}
 use Rattle.event_core.specs.declared.state.Core.{Core}
 use Rattle.event_core.specs.History.{History}
 use Rattle.event_core.specs.Pages.{is_live}
 use Rattle.event_core.proofs.Tests.{holds_filter}
-use Rattle.store_ledger.specs.Ledger.{LedgerState, has_room, history, is_waiting, reap_comes}
+use Rattle.store_ledger.specs.Ledger.{has_room, history, is_waiting, reap_comes}
 use Rattle.store_ledger.proofs.Pins.{one_more}
-use Rattle.store_state.specs.declared.event.Event.{Event}
 use Rattle.store_state.specs.declared.event.Event.TheVariants.{Entered}
 use Rattle.store_state.specs.Standings.{Standing, with_entries}
 use Rattle.array_store.specs.Growth.{AddsEvents}

@@ -1,6 +1,4 @@
-use Rattle.std.proofs.Common.{sym, subst}
-use Rattle.run_stores.specs.Began.{TellsUnopened}
-use Rattle.run_stores.proofs.Opened.{began_over, tells}
+use Rattle.run_stores.proofs.Opened.{began_over}
 use Rattle.run_stores.proofs.opening.open_store.Goals as goal
 
 pub returns-in-Ok-clause-began : goal.returns-in-Ok-clause-began

@@ -6,7 +6,8 @@ use Rattle.array_store.specs.Growth.{AddsFault}
 use Rattle.array_store.specs.Sealing.{AddsCommit}
 use Rattle.array_store.proofs.Added.{is_counted}
 use Rattle.array_store.proofs.Sealed.{seal_adds}
-use Rattle.array_store.proofs.Stands.{seal_stands}
+use Rattle.array_store.proofs.Stands.{seal_stands, same_opened}
+use Rattle.array_store.proofs.Going.{moves}
 use Rattle.array_store.proofs.store.Store.seal.Goals as goal
 
 pub seal-requires : goal.seal-requires
@@ -47,3 +48,10 @@ returns g c =
       durable = is.durable;
       cause = is.cause;
     }
+
+pub invariant_of-self : goal.invariant_of-self
+invariant_of-self g c =
+    let moment = g.D.Disk.moment in
+    let parts = c.self.inside.parts in
+    moves moment parts c.seal.new.parts c.self.invariant c.seal.ensures.at (same_opened moment parts c.seal.new.parts c.args.prepared c.seal.result c.seal.ensures.ok c.seal.ensures.err)
+    c.seal.ensures.same
