@@ -29,19 +29,21 @@ pub closed : {D S K : Type 0} (moment : D → Moment) (old reaped end : StorePar
     → (last : Standing D) × IsClosed moment (standing moment old) last run
 closed {D} moment old reaped end run is same at ledger goes_on disk history pages =
     let now : IsReaped run.notice (standing moment old) (standing moment end) =
-    subst (λ (p : StoreParts D). IsReaped run.notice (standing moment old) (standing moment p)) (sym same) is in
-    (standing moment end, record {
-      start = now.start;
-      more = now.more;
-      reap = now.reap;
-      grown = now.grown;
-      ends = record {
-        goes_on = goes_on;
-        is_disk = disk;
-        is_history = history;
-        ledger = ledger;
-        pages = pages ∙ ap (λ (p : StoreParts D). length (unused_pages p.ledger)) (sym same);
-        reaped = now.done;
-        cells = holds moment end at;
-      };
-    })
+    subst (λ (p : StoreParts D). IsReaped run.notice (standing moment old) (standing moment p)) (sym same) is in (
+      standing moment end,
+      record {
+        start = now.start;
+        more = now.more;
+        reap = now.reap;
+        grown = now.grown;
+        ends = record {
+          goes_on = goes_on;
+          is_disk = disk;
+          is_history = history;
+          ledger = ledger;
+          pages = pages ∙ ap (λ (p : StoreParts D). length (unused_pages p.ledger)) (sym same);
+          reaped = now.done;
+          cells = holds moment end at;
+        };
+      },
+    )

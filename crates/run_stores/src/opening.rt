@@ -14,11 +14,7 @@ use std::alloc::Global;
 use store_opening::Limits;
 
 /// Opens a store over a disk. Where that fails the disk is handed back, with what is told.
-pub fn open_store<D: Disk>(
-    alloc: Global,
-    disk: D,
-    limits: Limits,
-) -> Result<Store<D>, (Notice, D)>
+pub fn open_store<D: Disk>(alloc: Global, disk: D, limits: Limits) -> Result<Store<D>, (Notice, D)>
     ensures new { IfOk result (λ store. IsNew limits (standing D.moment store)) }
     ensures began { IfOk result (λ store. BeganOver D.moment disk limits (start_of (standing D.moment store))) }
     ensures same { MatchResult result
