@@ -1,7 +1,7 @@
 //! The store of a run.
 ghost use Rattle.std.specs.Prelude.{◌≡◌, IfErr, IfOk, MatchResult};
-ghost use Rattle.afl_outside.specs.Disk.{DiskGoesOn};
 ghost use Rattle.array_store.specs.Starts.{start_of};
+ghost use Rattle.page_slots.specs.Puts.{OnlySyncs};
 ghost use Rattle.store_opening.specs.Opened.{IsNew};
 ghost use Rattle.store_state.specs.At.{standing};
 ghost use Rattle.run_stores.specs.Began.{BeganOver, TellsUnopened, notice_of_cause};
@@ -17,9 +17,9 @@ use store_opening::Limits;
 pub fn open_store<D: Disk>(alloc: Global, disk: D, limits: Limits) -> Result<Store<D>, (Notice, D)>
     ensures new { IfOk result (λ store. IsNew limits (standing D.moment store)) }
     ensures began { IfOk result (λ store. BeganOver D.moment disk limits (start_of (standing D.moment store))) }
-    ensures same { MatchResult result
-        (λ store. DiskGoesOn (D.moment disk).state (D.moment store.file.disk).state)
-        (λ failed. DiskGoesOn (D.moment disk).state (D.moment failed.1).state) }
+    ensures reads { MatchResult result
+        (λ store. OnlySyncs (D.moment disk) (D.moment store.file.disk))
+        (λ failed. OnlySyncs (D.moment disk) (D.moment failed.1)) }
     ensures cause { IfErr result (λ failed. TellsUnopened failed.0 (D.moment disk).state (D.moment failed.1).state) }
 {
     match Store::open(alloc, disk, limits) {
