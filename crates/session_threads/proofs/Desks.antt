@@ -99,6 +99,7 @@ module _ {D S K : Type 0} (moment : D → Moment) (source_of : S → SourceState
       IsSessionOf moment source_of sink_of (start moment shared) k own report events
   session_one k own seat report events served extend = record {
     seen = seen seat;
+    sealed = served.of_store.sealed;
     later = subst (λ j. ExtendsByOthers owner_of j (seen seat) events) served.session_is extend;
     serves = served.serves;
   }
