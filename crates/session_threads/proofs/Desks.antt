@@ -1,6 +1,7 @@
 -- Desks that are set up one by one, and emptied one by one.
-use Rattle.std.proofs.Common.{◌≡◌, ◌∙◌, ℕ, ◌+◌, ◌<◌, Bool, true, not, List, [], ◌∷◌, ◌++◌, length, get_or, slice_get, Option, Some, refl, ap, sym, subst, arith, All}
+use Rattle.std.proofs.Common.{◌≡◌, ◌∙◌, ℕ, ◌+◌, ◌<◌, Bool, true, not, List, [], ◌∷◌, ◌++◌, length, take, drop, get_or, slice_get, Option, Some, refl, ap, sym, subst, arith, All}
 use Rattle.std.specs.Prelude.{IsTrue}
+use Rattle.std.proofs.lemmas.List.{take_at}
 use Rattle.std.proofs.lemmas.List.Elements.{All-push}
 use Rattle.std.proofs.lemmas.Option.{slice_get_within, get_or_from_slice_get}
 use Rattle.afl_lexer.specs.Inner.Standing.{StandsAfter}
@@ -81,6 +82,17 @@ module _ {D S K : Type 0} (moment : D → Moment) (source_of : S → SourceState
       let low : k < length old = omega arith in
       done_one k (slice_get all k) (get_or old k desk) (get_or new k desk) (are k desk low) (worked k desk low)
 
+  -- what for_each_mut did to a vector, whose items it was lent
+  pub all_worked : (old was new : List (Desk D S K)) (count : ℕ) → was ≡ old → length new ≡ length was → count ≡ length old →
+      ((k : ℕ) (desk : Desk D S K) → k < length was → HasWorked moment source_of sink_of shared (get_or was k desk) (get_or new k desk)) →
+      AllWorked moment source_of sink_of shared old (take count (new ++ drop (length new) old))
+  all_worked old was new count same len full each =
+      let whole : count ≡ length new = full ∙ ap length (sym same) ∙ sym len in
+      let left : take count (new ++ drop (length new) old) ≡ new =
+          ap (λ n. take n (new ++ drop (length new) old)) whole ∙ take_at new (drop (length new) old) (length new) refl in
+      subst (λ l. AllWorked moment source_of sink_of shared old l) (sym left)
+      (subst (λ l. AllWorked moment source_of sink_of shared l new) same each)
+
   pub done_at : (all : List (Streams S K)) (desks : List (Desk D S K)) (n : ℕ) (desk : Desk D S K) → AreDone moment source_of sink_of shared all desks →
       slice_get desks n ≡ Some desk → IsDone moment source_of sink_of shared n (slice_get all n) desk
   done_at all desks n desk are e =
@@ -133,13 +145,24 @@ module _ {D S K : Type 0} (moment : D → Moment) (source_of : S → SourceState
       places_more Q reports report (λ k r near s. before k s r near) (subst (λ j. Q j report) (sym len) new) in
       subst (λ rs. AreServed moment source_of sink_of (start moment shared) all rs events) (sym more) (λ k s r near. each k r near s)
 
-  -- all desks are emptied, and the reaper's seat is back
-  pub all_served : (all : List (Streams S K)) (seats seats' : List (Seat D)) (own : Seat D) (reports reports' : List (SessionReport S K)) (events : List Event) →
-      seats' ≡ seats ++ own ∷ [] → reports' ≡ reports → length all ≡ length reports →
-      (ExtendEach seats events → AreServed moment source_of sink_of (start moment shared) all reports events) → ExtendEach seats' events →
+  -- all desks are emptied
+  pub all_served : (all : List (Streams S K)) (seats : List (Seat D)) (reports reports' : List (SessionReport S K)) (events : List Event) →
+      reports' ≡ reports → length all ≡ length reports →
+      (ExtendEach seats events → AreServed moment source_of sink_of (start moment shared) all reports events) → ExtendEach seats events →
       AreSessionsOf moment source_of sink_of (start moment shared) all reports' events
-  all_served all seats seats' own reports reports' events grown same len old extend =
-      let P : Seat D → Type 0 = λ s. ExtendsByOthers owner_of (session_of s) (seen s) events in
-      let before : AreServed moment source_of sink_of (start moment shared) all reports events = old (all_left P seats own (subst (All P) grown extend)) in
+  all_served all seats reports reports' events same len old extend =
+      let before : AreServed moment source_of sink_of (start moment shared) all reports events = old extend in
       subst (λ rs. AreSessionsOf moment source_of sink_of (start moment shared) all rs events) (sym same)
       (λ k s r near. let low : k < length reports = omega arith in before k s r low)
+
+module _ {D : Type 0} (shared : Shared D) where
+  -- the reaper's seat is back, behind all others
+  pub all_idle : (seats seats' list : List (Seat D)) (own : Seat D) (n : ℕ) → AreIdleSeats shared seats → IsReaper shared n own → seats' ≡ seats ++ own ∷ [] →
+      list ≡ seats' → AreIdleSeats shared list
+  all_idle seats seats' list own n idle reaper grown same =
+      subst (AreIdleSeats shared) (sym (same ∙ grown)) (All-push (λ s. IsSeatOf shared s × IsIdle s) seats own idle (reaper.of_store, reaper.idle))
+
+pub all_extend : {D : Type 0} (seats seats' list : List (Seat D)) (own : Seat D) (events : List Event) → seats' ≡ seats ++ own ∷ [] → list ≡ seats' →
+    ExtendEach list events → ExtendEach seats events
+all_extend seats seats' list own events grown same extend =
+    all_left (λ s. ExtendsByOthers owner_of (session_of s) (seen s) events) seats own (subst (λ l. ExtendEach l events) (same ∙ grown) extend)

@@ -75,9 +75,8 @@ pub(crate) fn work_beside<
         thread::scope_env(),
         rt,
         move |scope| -> (Vec<Desk<D, S, K>>, Seat<D>)
-            requires desks { All (λ desk. IsWaiting shared.now desk) desks.items }
-            requires own { IsReaper shared.now (session_of own) own }
-            requires workers { (1 ≤ options.now.workers) × (options.now.workers ≤ 64) }
+            requires { All (λ desk. IsWaiting shared.now desk) desks.items × IsReaper shared.now (session_of own) own
+                × (1 ≤ options.now.workers) × (options.now.workers ≤ 64) }
             ensures desks { AllWorked D.moment S.state K.state shared.entry.now desks.items result.0.items }
             ensures count { vec_len result.0 ≡ vec_len desks }
             ensures own { IsReaper shared.entry.now (session_of own) result.1 }

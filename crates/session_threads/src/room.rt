@@ -1,5 +1,5 @@
 //! The memory of a run, which is taken before its first session begins.
-ghost use Rattle.std.specs.Prelude.{◌+◌, ◌<◌, ◌^◌, IfOk};
+ghost use Rattle.std.specs.Prelude.{◌≤◌, IfOk};
 ghost use Rattle.session_threads.specs.Inner.Rooms.{HasRoom};
 
 use crate::desk::Desk;

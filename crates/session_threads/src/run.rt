@@ -4,7 +4,7 @@ ghost use Rattle.afl_lexer.specs.Inner.Standing.{StandsAfter};
 ghost use Rattle.store_state.specs.At.{standing};
 ghost use Rattle.store_state.specs.Events.{events};
 ghost use Rattle.snapshot_manager.specs.Starts.{start_of};
-ghost use Rattle.snapshot_manager.specs.Seats.{seats_in_all, session_of, start, AreNewSeats, IsNewSeat};
+ghost use Rattle.snapshot_manager.specs.Seats.{seats_in_all, start, AreIdleSeats, AreNewSeats, ExtendEach, IsNewSeat};
 ghost use Rattle.session_threads.specs.Sessions.{AreSessionsOf};
 ghost use Rattle.session_threads.specs.Inner.Desks.{AreDone, AreReady, IsReaper};
 ghost use Rattle.session_threads.specs.Inner.Rooms.{HasRoom};
@@ -158,9 +158,21 @@ fn gathered<D: Disk + Drop, S: Source + Drop, K: Sink + Drop>(
             Desk::Working => unreachable!(),
         }
     }
-    seats.push_reserved(own);
     (
-        shared.finish(List::from_vec(seats)),
+        finished(shared, own, seats),
         List::from_vec(reports),
     )
+}
+
+// Takes the store back from its seats, of which the reaper's is the last.
+fn finished<D: Disk>(shared: Shared<D>, own: Seat<D>, mut seats: Vec<Seat<D>>) -> Store<D>
+    requires count { seats_in_all shared ≡ length seats.items + 1 }
+    requires seats { AreIdleSeats shared seats.items }
+    requires own { IsReaper shared (length seats.items) own }
+    requires room { length seats.items < vec_capacity seats }
+    ensures start { start_of (standing D.moment result) ≡ start D.moment shared }
+    ensures events { ExtendEach seats.items (events (standing D.moment result)) }
+{
+    seats.push_reserved(own);
+    shared.finish(List::from_vec(seats))
 }
