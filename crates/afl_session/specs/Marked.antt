@@ -3,7 +3,7 @@ use Rattle.std.specs.Prelude.{◌≡◌, ℕ, List}
 use Rattle.afl_lexer.specs.Split.{Statement}
 use Rattle.afl_outside.specs.Disk.{Moment}
 use Rattle.store_state.specs.declared.event.Event.{Event}
-use Rattle.told_stores.specs.Start.{Start}
+use Rattle.snapshot_manager.specs.Start.{Start}
 use Rattle.session_reports.specs.declared.reports.Mark.{Mark}
 use Rattle.afl_session.specs.Session.{AnswerRule}
 

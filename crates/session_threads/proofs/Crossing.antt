@@ -64,10 +64,10 @@ module _ (D : RattleType) (g : Ghosts D.Denot) (s : IsSend D) where
 
   -- the same where they are fields
   pub seat_field_send : IsSend (seat.the_field D g).row
-  seat_field_send = seat_send
+  seat_field_send = search (sendable, crosses, the_send, store_send) depth 40
 
   pub shared_field_sync : IsSync (shared.the_field D g).row
-  shared_field_sync = shared_sync
+  shared_field_sync = search (sendable, crosses, the_sync, lease.the_sync, store_send) depth 40 fits 100000
 
 splitter_send : IsSend splitter.the_row
 splitter_send = search (sendable, crosses) depth 40 fits 100000
@@ -79,17 +79,11 @@ mark_send : IsSend mark.the_row
 mark_send = search (sendable, crosses, refusal_send) depth 100 fits 100000
 
 module _ (S K : RattleType) (s : IsSend S) (k : IsSend K) where
-  streams_send : IsSend (streams.the_row S K)
-  streams_send = search (sendable, crosses, splitter_send) depth 40
-
-  report_send : IsSend (report.the_row S K)
-  report_send = search (sendable, crosses, mark_send) depth 40
-
   streams_field : IsSend (streams.the_field S K).row
-  streams_field = streams_send
+  streams_field = search (sendable, crosses, splitter_send) depth 40
 
   report_field : IsSend (report.the_field S K).row
-  report_field = report_send
+  report_field = search (sendable, crosses, mark_send) depth 40
 
 module _ (D S K : RattleType) (g : Ghosts D.Denot) (d : IsSend D) (s : IsSend S) (k : IsSend K) where
   pub desk_send : IsSend (desk.the_row D S K g)

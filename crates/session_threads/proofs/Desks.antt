@@ -89,7 +89,7 @@ module _ {D S K : Type 0} (moment : D → Moment) (source_of : S → SourceState
   all_worked old was new count same len full each =
       let whole : count ≡ length new = full ∙ ap length (sym same) ∙ sym len in
       let left : take count (new ++ drop (length new) old) ≡ new =
-          ap (λ n. take n (new ++ drop (length new) old)) whole ∙ take_at new (drop (length new) old) (length new) refl in
+      ap (λ n. take n (new ++ drop (length new) old)) whole ∙ take_at new (drop (length new) old) (length new) refl in
       subst (λ l. AllWorked moment source_of sink_of shared old l) (sym left)
       (subst (λ l. AllWorked moment source_of sink_of shared l new) same each)
 

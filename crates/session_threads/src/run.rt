@@ -158,10 +158,7 @@ fn gathered<D: Disk + Drop, S: Source + Drop, K: Sink + Drop>(
             Desk::Working => unreachable!(),
         }
     }
-    (
-        finished(shared, own, seats),
-        List::from_vec(reports),
-    )
+    (finished(shared, own, seats), List::from_vec(reports))
 }
 
 // Takes the store back from its seats, of which the reaper's is the last.

@@ -11,10 +11,11 @@ pub for_each_mut-requires-send-T : goal.for_each_mut-requires-send-T
 for_each_mut-requires-send-T g c κs within = search (sendable, crosses, desk_send) depth 40
 
 pub for_each_mut-requires-sync-F : goal.for_each_mut-requires-sync-F
-for_each_mut-requires-sync-F g c κs within = search (sendable, crosses, shared_field_sync, global_way.the_sync) depth 40
-
-sync_b : goal.for_each_mut-requires-sync-F
-sync_b g c κs within = let r = c.type_bounds.sync-R in let y = c.type_bounds.sync-G in let d = c.type_bounds.send-D in search (sendable, crosses, shared_sync, shared_field_sync, global_way.the_sync, global_way.the_field_sync) depth 40
+for_each_mut-requires-sync-F g c κs within =
+    let r = c.type_bounds.sync-R in
+    let y = c.type_bounds.sync-G in
+    let d = c.type_bounds.send-D in
+    search (sendable, crosses, shared_sync, shared_field_sync, global_way.the_sync) depth 40
 
 pub returns-clause-desks : goal.returns-clause-desks
 returns-clause-desks g c =
