@@ -1,6 +1,6 @@
 -- The chunks of a `build` are its array.
-use Rattle.std.proofs.Common.{◌≡◌, ℕ, suc, ◌≤◌, ◌<◌, ℤ, Bool, true, false, List, [], ◌∷◌, ◌++◌, map, length, get_or, Result, Ok, Err, refl, sym, ap, ◌∙◌, subst, arith}
-use Rattle.std.specs.Prelude.{◌&&◌, ◌||◌, int_le, filter, IfOk}
+use Rattle.std.proofs.Common.{◌≡◌, ℕ, suc, ◌<◌, ℤ, Bool, true, false, List, [], ◌∷◌, ◌++◌, map, length, get_or, Result, Ok, Err, refl, sym, ap, ◌∙◌, subst, arith}
+use Rattle.std.specs.Prelude.{◌&&◌, ◌||◌, int_le, IfOk}
 use Rattle.std.specs.Int.{int_min, int_max}
 use Rattle.std.specs.List.{AllByRecursion}
 use Rattle.std.specs.Ordering.{is_eq}
@@ -22,8 +22,8 @@ use Rattle.cell_values.specs.Schemas.{IsValid}
 use Rattle.arrayvec.specs.ArrayVec.{ArrayVec}
 use Rattle.array_rows.specs.Rows.{Coordinate}
 use Rattle.array_rows.specs.Boxes.{by_pairs, is_between, is_inside, bounds_of, within, meet}
-use Rattle.array_geom.specs.Geometry.{ChunkNumber, HasFrame, chunk_of, first_in, frame, frame_low, frame_lengths, has_core, last_in, volume}
-use Rattle.array_geom.specs.Link.{AreChunksOf, IsPart, numbers, NumbersRise, chunk_rows, has_cell, is_listed, number_order, rows_in}
+use Rattle.array_geom.specs.Geometry.{ChunkNumber, HasFrame, chunk_of, first_in, frame, frame_low, frame_lengths, has_core, volume}
+use Rattle.array_geom.specs.Link.{AreChunksOf, IsPart, numbers, NumbersRise, has_cell, is_listed, number_order, rows_in}
 use Rattle.array_geom.specs.Inner.Ranges.{AreNear, is_in_grid}
 use Rattle.array_geom.specs.declared.chunk.Chunk.{Chunk}
 use Rattle.array_geom.proofs.NearLemmas.{valid_placed, inside_grid}

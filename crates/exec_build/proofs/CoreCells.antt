@@ -1,6 +1,6 @@
 -- The chunks whose core has a place are those whose core has a cell of a `build`.
-use Rattle.std.proofs.Common.{◌≡◌, ℕ, zero, suc, ◌+◌, ◌*◌, ◌/◌, ◌<◌, ◌≤◌, ℤ, pos, ◌+ℤ◌, ◌-ℤ◌, ◌≤ℤ◌, Bool, true, false, cond, List, [], ◌∷◌, ◌++◌, map, length, refl, sym, ap, ◌∙◌, subst, arith}
-use Rattle.std.specs.Prelude.{◌&&◌, int_le, unsigned_abs, filter}
+use Rattle.std.proofs.Common.{◌≡◌, ℕ, zero, suc, ◌+◌, ◌*◌, ◌/◌, ◌<◌, ◌≤◌, ℤ, pos, ◌+ℤ◌, ◌-ℤ◌, ◌≤ℤ◌, Bool, true, false, cond, List, [], ◌∷◌, ◌++◌, map, length, refl, sym, ap, ◌∙◌, arith}
+use Rattle.std.specs.Prelude.{int_le, unsigned_abs}
 use Rattle.std.specs.Int.{int_min, int_max}
 use Rattle.std.specs.List.{AllByRecursion, flat_map}
 use Rattle.std.proofs.lemmas.Int.{ints, clamps}
@@ -8,12 +8,11 @@ use Rattle.cell_values.specs.declared.datum.Row.{Row}
 use Rattle.cell_values.specs.declared.schema.Dimension.{Dimension}
 use Rattle.cell_values.specs.declared.schema.Schema.{Schema}
 use Rattle.array_rows.specs.Rows.{Coordinate}
-use Rattle.array_rows.specs.Boxes.{by_pairs, is_between, is_inside, bounds_of, within}
+use Rattle.array_rows.specs.Boxes.{by_pairs, is_inside, bounds_of, within}
 use Rattle.array_geom.specs.Geometry.{ChunkNumber, chunk_of, core, first_in, has_core, last_in}
-use Rattle.array_geom.specs.Link.{NumbersRise, has_cell, is_listed, is_not_empty}
+use Rattle.array_geom.specs.Link.{has_cell, is_listed, is_not_empty}
 use Rattle.array_geom.specs.Inner.Ranges.{AreNear}
-use Rattle.array_geom.proofs.CoreLaws.{core_of, chunk_has_core, past_the_end, up_to_the_end}
-use Rattle.array_geom.proofs.NearLemmas.{valid_placed}
+use Rattle.array_geom.proofs.CoreLaws.{core_of, chunk_has_core, up_to_the_end}
 use Rattle.array_geom.proofs.TestLaws.{and_parts, and_both, le_test, le_from_test}
 use Rattle.expr_nulls.specs.Expr.{Expr}
 use Rattle.logical_plan.specs.Meaning.{built_rows, count_from, how_many}

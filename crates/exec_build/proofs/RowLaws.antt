@@ -1,6 +1,6 @@
 -- The rows of boxes, and cells at the places of a grid.
 use Rattle.std.proofs.Common.{◌≡◌, ℕ, ◌+◌, ◌-◌, ◌<◌, ◌≤◌, ℤ, pos, ◌+ℤ◌, Bool, true, false, cond, List, [], ◌∷◌, ◌++◌, map, length, take, drop, slice_index_or, refl, sym, ap, ◌∙◌, subst, arith, append_assoc, length-append}
-use Rattle.std.specs.Prelude.{filter}
+use Rattle.std.specs.Prelude.{filter, OnOk, Result, Ok, Err}
 use Rattle.std.specs.List.{AllByRecursion, flat_map}
 use Rattle.std.proofs.lemmas.List.{append-nil, map-append, take_all}
 use Rattle.exec_build.proofs.BuiltRows.{grown}
@@ -21,7 +21,7 @@ use Rattle.array_geom.specs.declared.chunk.Chunk.{Chunk}
 use Rattle.array_geom.proofs.PlaceLaws.{coordinate_again, position_below}
 use Rattle.expr_nulls.specs.Expr.{Expr}
 use Rattle.expr_nulls.specs.ExprValue.{value_of}
-use Rattle.logical_plan.specs.CellOps.{fit_cell, fit_values}
+use Rattle.logical_plan.specs.CellOps.{fit_cell}
 use Rattle.logical_plan.specs.Meaning.{built_rows, coordinates, count_from, how_many}
 use Rattle.exec_build.specs.Inner.Rows.{built_row}
 use Rattle.exec_build.specs.Inner.Walks.{coordinates_between, rows_between, Holds, TakesRows}
@@ -110,6 +110,16 @@ takes_one low lengths c cell p old new inside place number positions cells =
             ∙ ap (λ (rs : List Row). rs ++ placed c cell ∷ []) is.cells;
       };
     }
+
+on_both : {X E P Q R : Type 0} (r : Result X E) → OnOk r P → OnOk r Q → (P → Q → R) → OnOk r R
+on_both (Ok x) p q f = f p q
+on_both (Err e) p q f = p
+
+-- a cell of one value that is pushed
+pub pushes_one : {X E : Type 0} (low : List ℤ) (lengths : List ℕ) (c : Coordinate) (made : Datum) (values : List Datum) (p : ℕ) (old new : Chunk) (r : Result X E) → is_in_grid low lengths c ≡ true → p ≡ position_in low lengths c
+    → made ∷ [] ≡ values → new.at ≡ old.at → OnOk r (new.positions ≡ old.positions ++ p ∷ []) → OnOk r (new.cells ≡ old.cells ++ Full (made ∷ []) ∷ []) → OnOk r (TakesRows low lengths (placed c (Full values) ∷ []) old new)
+pushes_one low lengths c made values p old new r inside place is number positions cells =
+    on_both r positions cells (λ ps cs. takes_one low lengths c (Full values) p old new inside place number ps (cs ∙ ap (λ (vs : List Datum). old.cells ++ Full vs ∷ []) is))
 
 -- ---- steps of the walk
 

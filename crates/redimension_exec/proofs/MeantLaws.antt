@@ -1,19 +1,15 @@
 -- Redimensions of whole arrays.
-use Rattle.std.proofs.Common.{◌≡◌, ℕ, suc, ◌≤◌, ◌^◌, IsTrue, List, [], ◌∷◌, length, Some, None, Result, Ok, Err, refl, sym, ap, ◌∙◌, subst, arith}
-use Rattle.std.specs.Prelude.{◌&&◌, IfOk}
-use Rattle.std.specs.List.{list_all}
+use Rattle.std.proofs.Common.{◌≡◌, ◌≤◌, IsTrue, List, [], length, Some, None, Result, Ok, Err, sym, ◌∙◌, subst}
+use Rattle.std.specs.Prelude.{IfOk}
 use Rattle.cell_values.specs.declared.datum.Broken.{Broken}
 use Rattle.cell_values.specs.declared.datum.Row.{Row}
 use Rattle.cell_values.specs.declared.memory.Memory.{Memory}
-use Rattle.cell_values.specs.declared.schema.Dimension.{Dimension}
 use Rattle.cell_values.specs.declared.schema.Schema.{Schema}
-use Rattle.cell_values.specs.Schemas.{has_attributes, has_dimensions, are_distinct, names_of, is_dimension, frame_size, frame_fits, IsValid}
+use Rattle.cell_values.specs.Schemas.{IsValid}
 use Rattle.array_rows.specs.Arrays.{AreRowsOf, Meant}
 use Rattle.array_geom.specs.declared.chunk.ChunkedArray.{ChunkedArray}
-use Rattle.array_geom.specs.Geometry.{overlaps, frame_lengths, volume}
 use Rattle.array_geom.specs.Link.{Is}
-use Rattle.array_geom.proofs.NearLemmas.{valid_placed, size_is_volume}
-use Rattle.array_geom.proofs.TestLaws.{and_parts, at_most}
+use Rattle.array_geom.proofs.NearLemmas.{valid_placed}
 use Rattle.array_parts.specs.Cores.{HaveCells, cores_of, meant_by_cores, unless_broken}
 use Rattle.array_parts.proofs.CoreLaws.{cores_are_rows}
 use Rattle.logical_plan.specs.declared.parts.Aggregate.{Aggregate}

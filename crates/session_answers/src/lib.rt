@@ -2,9 +2,8 @@
 #![tactic(auto)]
 
 mod answering;
-
+mod committing;
 mod pinned;
 
-
 pub use answering::answer;
-pub use session_turns::Options;
+pub use session_turns::{Options, Reply, Seat, Shared, refusal_at};

@@ -7,8 +7,9 @@ use crate::sessions::{Run, Step, answer_to, create_all};
 use anyhow::Result;
 use cell_values::Memory;
 use std::alloc::{AllocError, Global};
+use test_disks::QuietDisk;
 use test_kit::begin_answer;
-use test_stores::{Answer, QuietDisk, opened, reaped};
+use test_stores::{Answer, opened, reaped};
 
 /// Adds how many pages nobody can name, and how many entries and notes there are.
 fn push_counts(out: &mut String, run: &mut Run) -> Result<(), AllocError>

@@ -14,7 +14,9 @@ use plan_changes::entry_named;
 use std::alloc::Global;
 use std::mem::replace;
 use store_ledger::Pinned;
-use test_stores::{Answer, Hold, QuietDisk, cells, changed, leaf_of, once, pinned, unpinned};
+use test_disks::QuietDisk;
+use test_readings::{cells, leaf_of};
+use test_stores::{Answer, Hold, changed, once, pinned, unpinned};
 
 /// A store, and what two sessions have of it.
 #[derive(Drop)]

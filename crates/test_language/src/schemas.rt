@@ -3,7 +3,7 @@ ghost use Rattle.std.specs.Prelude.{◌≤◌, length};
 
 use afl_lexer::tokens;
 use anyhow::Result;
-use cell_values::Schema;
+use cell_values::{Bytes, Memory, Schema};
 use schema_grammar::{
     SchemaFault, SchemaText, ShapeFault, TypeKind, meaning, print_shape, schema_text, shape,
 };
@@ -53,10 +53,18 @@ fn push_stop(out: &mut String, fault: ShapeFault) -> Result<()> {
     Ok(())
 }
 
+/// The text of a copy of a schema.
+fn copied_text(alloc: Global, schema: &Schema) -> Result<Bytes, Memory> {
+    let copy = schema.copy()?;
+    let text = schema_text(alloc, &copy);
+    drop(copy);
+    text
+}
+
 /// Adds a copy of a schema.
 fn push_copied(out: &mut String, schema: &Schema) -> Result<()> {
-    let copy = schema.copy()?;
-    push_text(out, schema_text(*out.allocator(), &copy)?.as_slice())?;
+    let text = copied_text(*out.allocator(), schema)?;
+    push_text(out, text.as_slice())?;
     Ok(())
 }
 

@@ -5,8 +5,9 @@ use anyhow::Result;
 use cell_values::{Bytes, Memory};
 use std::alloc::Global;
 use store_opening::Limits;
+use test_disks::{QuietDisk, Watch};
 use test_files::{disk_of, made, of_format_one};
-use test_stores::{Answer, QuietDisk, Watch, once, opened};
+use test_readings::push_answered;
 
 const LIMITS: Limits = Limits {
     pages: 512,
@@ -14,69 +15,70 @@ const LIMITS: Limits = Limits {
 };
 
 /// A file, a change of it, and what it holds before and after that.
-#[derive(Drop)]
+#[derive(Clone, Copy)]
 struct Case<'a> {
-    file: Bytes,
+    file: &'a Bytes,
     change: &'a str,
-    versions: Versions,
+    versions: &'a Versions,
 }
 
-/// A store is opened and changed, where the call of this number fails.
+/// A store is opened and changed, where the call of this number fails. Adds what the change is answered.
 fn attempt(
-    alloc: Global,
+    out: &mut String,
     file: &Bytes,
     change: &str,
     fails: Option<u64>,
-) -> Result<(Answer, Watch), Memory> {
+) -> Result<Watch, Memory> {
+    let alloc = *out.allocator();
     let (disk, watch) = QuietDisk::watched(alloc, disk_of(alloc, file.copy()?, fails)?)?;
-    match opened(alloc, disk, LIMITS) {
-        Ok(mut store) => {
-            let answer = once(alloc, &mut store, 0, change.as_bytes());
-            Ok((answer, watch))
+    match push_answered(out, disk, LIMITS, change.as_bytes()) {
+        Ok(()) => Ok(watch),
+        Err(Memory) => {
+            drop(watch);
+            Err(Memory)
         }
-        Err(cause) => Ok((Answer::Unopened(cause), watch)),
     }
 }
 
-/// The file behind some changes.
-fn behind(alloc: Global, file: Bytes, changes: &[&str]) -> Result<Bytes, Memory> {
-    let mut file = file;
-    for change in changes {
-        let (answer, watch) = attempt(alloc, &file, change, None)?;
-        drop(answer);
-        file = watch.bytes()?;
-    }
-    Ok(file)
+/// The file behind a change.
+fn behind(alloc: Global, file: &Bytes, change: &str) -> Result<Bytes, Memory> {
+    let mut told = String::new(alloc);
+    let watch = attempt(&mut told, file, change, None)?;
+    let bytes = watch.bytes();
+    drop(watch);
+    bytes
 }
 
-fn held_or_nothing(alloc: Global, file: &Bytes) -> Result<Bytes, Memory> {
-    match held(alloc, file.copy()?, LIMITS)? {
+fn held_or_nothing(alloc: Global, file: Bytes) -> Result<Bytes, Memory> {
+    match held(alloc, file, LIMITS)? {
         Some(text) => Ok(text),
         None => Ok(Bytes::new(alloc)),
     }
 }
 
-fn case_of<'a>(alloc: Global, file: Bytes, change: &'a str) -> Result<Case<'a>, Memory> {
-    let (answer, watch) = attempt(alloc, &file, change, None)?;
-    drop(answer);
-    let before = held_or_nothing(alloc, &file)?;
-    let after = held_or_nothing(alloc, &watch.bytes()?)?;
-    Ok(Case {
-        file,
-        change,
-        versions: Versions { before, after },
-    })
+/// What a file holds before and after a change.
+fn versions_of(alloc: Global, file: &Bytes, change: &str) -> Result<Versions, Memory> {
+    let after = held_or_nothing(alloc, behind(alloc, file, change)?)?;
+    match held_or_nothing(alloc, file.copy()?) {
+        Ok(before) => Ok(Versions { before, after }),
+        Err(Memory) => Err(Memory),
+    }
 }
 
-/// Adds what the change is answered, and what a stop behind each of its calls leaves.
-fn push_attempt(out: &mut String, case: &Case<'_>, fails: Option<u64>) -> Result<usize, Memory> {
-    let alloc = *out.allocator();
-    let (answer, watch) = attempt(alloc, &case.file, case.change, fails)?;
-    answer.push(out)?;
+/// Adds what a stop behind each call leaves. How many calls there were is the answer.
+fn push_left(out: &mut String, watch: &Watch, versions: &Versions) -> Result<usize, Memory> {
     out.push_str(" ")?;
-    push_moments(out, &watch, &case.versions, LIMITS)?;
+    push_moments(out, watch, versions, LIMITS)?;
     out.push('\n')?;
     Ok(watch.count())
+}
+
+/// Adds what the change is answered, and what a stop behind each of its calls leaves. How many calls there were is the answer.
+fn push_attempt(out: &mut String, case: &Case<'_>, fails: Option<u64>) -> Result<usize, Memory> {
+    let watch = attempt(out, case.file, case.change, fails)?;
+    let left = push_left(out, &watch, case.versions);
+    drop(watch);
+    left
 }
 
 fn tell_range(rt: &impl Print, from: usize, to: usize, told: &str) -> Result<()> {
@@ -88,13 +90,18 @@ fn tell_range(rt: &impl Print, from: usize, to: usize, told: &str) -> Result<()>
     Ok(())
 }
 
+fn told_failing(alloc: Global, case: &Case<'_>, call: u64) -> Result<String, Memory> {
+    let mut told = String::new(alloc);
+    push_attempt(&mut told, case, Some(call))?;
+    Ok(told)
+}
+
 /// Prints what comes of the change where each of so many calls fails. Calls of which the same comes are told at once.
 fn tell_failing(rt: &(impl Print + AllocGlobal), case: &Case<'_>, calls: usize) -> Result<()> {
     let mut told = String::new(rt.alloc());
     let mut from = 0;
     for call in 0..calls {
-        let mut next = String::new(rt.alloc());
-        push_attempt(&mut next, case, Some(call as u64))?;
+        let next = told_failing(rt.alloc(), case, call as u64)?;
         if call > 0 && next.as_str() != told.as_str() {
             tell_range(rt, from, call - 1, told.as_str())?;
             from = call;
@@ -108,7 +115,24 @@ fn tell_case(rt: &(impl Print + AllocGlobal), title: &str, case: &Case<'_>) -> R
     let mut told = String::new(rt.alloc());
     let calls = push_attempt(&mut told, case, None)?;
     print!(rt; "## {title}\nno call fails: {told}")?;
+    drop(told);
     tell_failing(rt, case, calls)
+}
+
+/// Prints what comes of a change of a file.
+fn tell_change(
+    rt: &(impl Print + AllocGlobal),
+    title: &str,
+    file: &Bytes,
+    change: &str,
+) -> Result<()> {
+    let versions = versions_of(rt.alloc(), file, change)?;
+    let case = Case {
+        file,
+        change,
+        versions: &versions,
+    };
+    tell_case(rt, title, &case)
 }
 
 const FIRST: &str = "store(build(<v:int64>[i=0:2,2,0], i), A)";
@@ -117,40 +141,38 @@ const SECOND: &str = "store(build(<v:int64>[i=0:2,2,0], i+10), A)";
 
 const CREATED: &str = "create array B <v:int64>[i=0:0,1,0]";
 
-fn tell_store(rt: &(impl Print + AllocGlobal)) -> Result<()> {
-    let file = behind(rt.alloc(), made(rt.alloc())?, &[FIRST])?;
-    tell_case(rt, SECOND, &case_of(rt.alloc(), file, SECOND)?)
+/// A database with the first version of A.
+fn first(alloc: Global) -> Result<Bytes> {
+    let file = made(alloc)?;
+    Ok(behind(alloc, &file, FIRST)?)
 }
 
-fn tell_removal(rt: &(impl Print + AllocGlobal)) -> Result<()> {
-    let file = behind(rt.alloc(), made(rt.alloc())?, &[FIRST, SECOND])?;
-    let change = "remove_versions(A, 2)";
-    tell_case(rt, change, &case_of(rt.alloc(), file, change)?)
+/// One with both versions.
+fn second(alloc: Global) -> Result<Bytes> {
+    let file = first(alloc)?;
+    Ok(behind(alloc, &file, SECOND)?)
 }
 
-/// The commit behind the last one for which the log has room.
-fn tell_base(rt: &(impl Print + AllocGlobal)) -> Result<()> {
-    let mut file = made(rt.alloc())?;
+fn with_array(alloc: Global, file: &Bytes, number: u32) -> Result<Bytes, Memory> {
+    let change = format!(in alloc; "create array A{number} <v:int64>[i=0:0,1,0]")?;
+    behind(alloc, file, change.as_str())
+}
+
+/// One in whose log no entry is left.
+fn with_full_log(alloc: Global) -> Result<Bytes> {
+    let mut file = made(alloc)?;
     for number in 0..64u32 {
-        let change = format!(in rt.alloc(); "create array A{number} <v:int64>[i=0:0,1,0]")?;
-        file = behind(rt.alloc(), file, &[change.as_str()])?;
+        file = with_array(alloc, &file, number)?;
     }
-    tell_case(rt, "the 65th commit", &case_of(rt.alloc(), file, CREATED)?)
-}
-
-fn tell_format_one(rt: &(impl Print + AllocGlobal)) -> Result<()> {
-    let file = of_format_one(rt.alloc())?;
-    tell_case(
-        rt,
-        "the first commit to a file of format 1",
-        &case_of(rt.alloc(), file, CREATED)?,
-    )
+    Ok(file)
 }
 
 /// Prints each case.
 pub(crate) fn tell_cases(rt: &(impl Print + AllocGlobal)) -> Result<()> {
-    tell_store(rt)?;
-    tell_removal(rt)?;
-    tell_base(rt)?;
-    tell_format_one(rt)
+    let removal = "remove_versions(A, 2)";
+    let migration = "the first commit to a file of format 1";
+    tell_change(rt, SECOND, &first(rt.alloc())?, SECOND)?;
+    tell_change(rt, removal, &second(rt.alloc())?, removal)?;
+    tell_change(rt, "the 65th commit", &with_full_log(rt.alloc())?, CREATED)?;
+    tell_change(rt, migration, &of_format_one(rt.alloc())?, CREATED)
 }

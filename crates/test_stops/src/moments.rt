@@ -3,9 +3,9 @@
 use cell_values::{Bytes, Memory};
 use std::alloc::{AllocError, Global};
 use store_opening::Limits;
-use store_state::ReadFault;
+use test_disks::{QuietDisk, Watch};
 use test_files::disk_of;
-use test_stores::{QuietDisk, Watch, opened, whole};
+use test_readings::held_in;
 
 /// What a store held before a change, and what it holds with it.
 #[derive(Drop)]
@@ -26,22 +26,54 @@ struct Seen {
 pub(crate) fn held(alloc: Global, file: Bytes, limits: Limits) -> Result<Option<Bytes>, Memory> {
     let (disk, watch) = QuietDisk::watched(alloc, disk_of(alloc, file, None)?)?;
     drop(watch);
-    match opened(alloc, disk, limits) {
-        Ok(mut store) => match whole(alloc, &mut store) {
-            Ok(text) => Ok(Some(text)),
-            Err(ReadFault::Memory) => Err(Memory),
-            Err(_) => Ok(None),
-        },
-        Err(_) => Ok(None),
+    held_in(alloc, disk, limits)
+}
+
+fn add_text(seen: &mut Seen, versions: &Versions, text: &[u8]) {
+    if text == versions.before.as_slice() {
+        seen.old = true;
+    } else if text == versions.after.as_slice() {
+        seen.new = true;
+    } else {
+        seen.other = true;
     }
 }
 
-fn add(seen: &mut Seen, versions: &Versions, held: Option<Bytes>) {
+fn add(seen: &mut Seen, versions: &Versions, held: &Option<Bytes>) {
     match held {
-        Some(text) if text.as_slice() == versions.before.as_slice() => seen.old = true,
-        Some(text) if text.as_slice() == versions.after.as_slice() => seen.new = true,
-        _ => seen.other = true,
+        Some(text) => add_text(seen, versions, text.as_slice()),
+        None => seen.other = true,
     }
+}
+
+/// Adds what an image opens as.
+fn add_image(
+    seen: &mut Seen,
+    alloc: Global,
+    image: Bytes,
+    versions: &Versions,
+    limits: Limits,
+) -> Result<(), Memory> {
+    let held = held(alloc, image, limits)?;
+    add(seen, versions, &held);
+    Ok(())
+}
+
+/// Adds what the images open as where this byte stands for what is left out.
+fn add_filled(
+    seen: &mut Seen,
+    alloc: Global,
+    watch: &Watch,
+    versions: &Versions,
+    limits: Limits,
+    calls: usize,
+    fill: u8,
+) -> Result<(), Memory> {
+    for pattern in 0..watch.patterns(calls) {
+        let image = watch.image(alloc, calls, pattern, fill)?;
+        add_image(seen, alloc, image, versions, limits)?;
+    }
+    Ok(())
 }
 
 /// What the images open as that a stop behind so many calls may leave: with every write kept, with none, and with each one alone left out,
@@ -58,12 +90,9 @@ fn seen_behind(
         new: false,
         other: false,
     };
-    for fill in [0u8, 1, 255] {
-        for pattern in 0..watch.patterns(calls) {
-            let image = watch.image(alloc, calls, pattern, fill)?;
-            add(&mut seen, versions, held(alloc, image, limits)?);
-        }
-    }
+    add_filled(&mut seen, alloc, watch, versions, limits, calls, 0)?;
+    add_filled(&mut seen, alloc, watch, versions, limits, calls, 1)?;
+    add_filled(&mut seen, alloc, watch, versions, limits, calls, 255)?;
     Ok(seen)
 }
 

@@ -14,7 +14,7 @@ use Rattle.prepared_commits.specs.declared.fault.PrepareFault.{PrepareFault}
 use Rattle.prepared_commits.specs.declared.fault.PrepareFault.TheVariants.{SequenceEnd, Full, Memory}
 use Rattle.prepared_commits.specs.declared.prepared.Prepared.{Prepared}
 use Rattle.prepared_commits.specs.Prepared.{IsAsked}
-use Rattle.prepared_parts.specs.Parts.{is_short}
+use Rattle.array_store.specs.Parts.{is_short}
 use Rattle.store_ledger.specs.declared.pinned.Pinned.{Pinned}
 use Rattle.store_ledger.specs.Ledger.{LedgerState, history, note_now, with_entries as more_entries, with_notes as more_notes, attempt}
 use Rattle.store_ledger.proofs.Keeping.{pinned_of}
@@ -24,9 +24,9 @@ use Rattle.store_state.specs.Standings.{Standing}
 use Rattle.array_store.specs.Steps.{sealed_ledger}
 use Rattle.test_stores.specs.declared.holds.Hold.{Hold}
 use Rattle.test_stores.specs.declared.holds.Hold.TheVariants as hold
-use Rattle.test_stores.specs.declared.quiet_disk.QuietDisk.{QuietDisk}
+use Rattle.test_disks.specs.declared.quiet_disk.QuietDisk.{QuietDisk}
 use Rattle.test_stores.specs.Holds.{IsHold, IsPinOf, LeavesAll, LeavesOthers, LeavesTried}
-use Rattle.test_stores.specs.Quiet.{quiet_moment}
+use Rattle.test_disks.specs.Quiet.{quiet_moment}
 use Rattle.test_stores.proofs.Holding.{all_then_all, held_over_entry, held_over_note, noted_pin, notes_leave_all, nothing_leaves, others_is_none, others_then_all, reap_leaves_all}
 
 -- ---- preparing

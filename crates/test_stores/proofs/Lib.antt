@@ -1,5 +1,4 @@
 pub mod Holding
-pub mod ReadLemmas
 pub mod Checking
 pub mod Committing
 pub mod Making

@@ -58,9 +58,14 @@ fn push_refusal(out: &mut String, refusal: &Refusal) -> Result<(), Memory> {
     Ok(())
 }
 
+fn name_text(name: &Name) -> &str {
+    from_utf8(name.as_slice()).unwrap_or("no text")
+}
+
 fn push_made(out: &mut String, name: &Name, version: u32) -> Result<(), AllocError> {
-    let name = from_utf8(name.as_slice()).unwrap_or("no text");
-    writeln!(out, "ok {name}@{version}")
+    out.push_str("ok ")?;
+    out.push_str(name_text(name))?;
+    writeln!(out, "@{version}")
 }
 
 impl Answer {

@@ -79,14 +79,15 @@ fn change_under<D: Disk>(
 
 /// A change, with the chunks that come with it.
 #[derive(Drop)]
-pub(crate) struct Offer {
-    pub(crate) change: Change,
-    pub(crate) changed: Option<Changed>,
+pub struct Offer {
+    pub change: Change,
+    pub changed: Option<Changed>,
 }
 
 /// The change with the chunks that come with it.
 fn with_chunks(alloc: Global, names: &Names, change: Change) -> Result<Offer, Answer>
-    requires { IsTypedFor names.now change }
+    requires stored { AreStored names.now }
+    requires typed { IsTypedFor names.now change }
     ensures { IfOk result (IsOffer names.now) }
 {
     match chunks_of(alloc, &change, names) {
@@ -95,6 +96,17 @@ fn with_chunks(alloc: Global, names: &Names, change: Change) -> Result<Offer, An
             let_go_change(change);
             Err(answer)
         }
+    }
+}
+
+/// The change that a text is over some names, with the chunks that come with it.
+pub fn offer_over(alloc: Global, names: &Names, text: &[u8]) -> Result<Offer, Answer>
+    requires { AreStored names.now }
+    ensures { IfOk result (IsOffer names.now) }
+{
+    match change_over(alloc, text, names) {
+        Ok(change) => with_chunks(alloc, names, change),
+        Err(answer) => Err(answer),
     }
 }
 

@@ -1,9 +1,10 @@
 //! The chunks that come with a change.
 ghost use Rattle.std.specs.Prelude.{◌≡◌, [], IfOk, IfSome, IsTrue};
 ghost use Rattle.logical_plan.specs.Leaves.{leaves};
+ghost use Rattle.plan_changes.specs.Stored.{AreStored};
 ghost use Rattle.plan_changes.specs.Typed.{IsTypedFor};
 ghost use Rattle.commit_pages.specs.Changes.{AreValid, ComesWith};
-ghost use Rattle.test_stores.specs.Chunks.{CanBeMade};
+ghost use Rattle.test_stores.specs.Chunks.{CanBeMade, HasNoVersion};
 
 use crate::answers::Answer;
 use afl_outside::OpenGate;
@@ -27,7 +28,9 @@ fn reads_nothing(alloc: Global, plan: &Plan) -> bool
 }
 
 /// An array without versions.
-fn no_version(name: &Name, schema: &Schema) -> Result<Leaf, Memory> {
+fn no_version(name: &Name, schema: &Schema) -> Result<Leaf, Memory>
+    ensures { IfOk result (HasNoVersion schema.now) }
+{
     Ok(Leaf {
         name: name.copy()?,
         version: 0,
@@ -59,14 +62,14 @@ fn chunks_over_none(
     }
 }
 
-/// The chunks of a store of a plan that reads nothing.
-fn chunks_stored(
+/// The chunks of a change that reads nothing.
+fn chunks_made(
     alloc: Global,
     change: &Change,
     name: &Name,
     schema: &Schema,
 ) -> Result<Option<Changed>, Answer>
-    requires { (target : Leaf) → CanBeMade change.now target }
+    requires { (target : Leaf) → HasNoVersion schema.now target → CanBeMade change.now target }
     ensures comes { IfOk result (ComesWith change.now) }
     ensures valid { IfOk result (λ some. IfSome some AreValid) }
 {
@@ -76,25 +79,33 @@ fn chunks_stored(
     }
 }
 
-/// The chunks that come with a change. An insert, and a plan that reads stored arrays, are refused: no test needs them.
+/// The chunks that come with a change. A plan that reads stored arrays is refused: no test needs one. Those of an insert are as if its
+/// array had no version, so it fills each chunk that it touches, or touches those alone that hold no cell.
 pub(crate) fn chunks_of(
     alloc: Global,
     change: &Change,
     names: &Names,
 ) -> Result<Option<Changed>, Answer>
-    requires { IsTypedFor names.now change.now }
+    requires stored { AreStored names.now }
+    requires typed { IsTypedFor names.now change.now }
     ensures comes { IfOk result (ComesWith change.now) }
     ensures valid { IfOk result (λ some. IfSome some AreValid) }
 {
     match change {
         Change::Store { name, schema, plan } => {
             if reads_nothing(alloc, plan) {
-                chunks_stored(alloc, change, name, schema)
+                chunks_made(alloc, change, name, schema)
             } else {
                 Err(Answer::Reads)
             }
         }
-        Change::Insert { .. } => Err(Answer::Reads),
+        Change::Insert { name, schema, plan } => {
+            if reads_nothing(alloc, plan) {
+                chunks_made(alloc, change, name, schema)
+            } else {
+                Err(Answer::Reads)
+            }
+        }
         Change::Create { .. } | Change::Remove { .. } | Change::RemoveVersions { .. } => Ok(None),
     }
 }

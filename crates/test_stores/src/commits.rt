@@ -9,13 +9,12 @@ ghost use Rattle.prepared_commits.specs.Prepared.{IsPreparedFor};
 ghost use Rattle.store_ledger.specs.Ledger.{history, is_noted, is_tried};
 ghost use Rattle.test_stores.specs.Holds.{IsHold, LeavesOthers, LeavesTried};
 ghost use Rattle.test_stores.specs.Offers.{IsOffer};
-ghost use Rattle.test_stores.specs.Quiet.{quiet_moment};
+ghost use Rattle.test_disks.specs.Quiet.{quiet_moment};
 
 use crate::answers::Answer;
 use crate::changes::{Offer, offer_under};
 use crate::holds::Hold;
 use crate::pins::{pinned, unpinned};
-use crate::quiet_disk::QuietDisk;
 use afl_outside::Failed;
 use array_geom::Changed;
 use array_store::Store;
@@ -23,6 +22,7 @@ use cell_values::Name;
 use plan_changes::{Change, changed_name, has_its_names, newest_of};
 use prepared_commits::{PrepareFault, Prepared};
 use std::alloc::Global;
+use test_disks::QuietDisk;
 
 /// What was committed: the newest version, where the change made one.
 fn done(store: &Store<QuietDisk>, made: Option<Name>) -> Answer {

@@ -2,11 +2,11 @@
 ghost use Rattle.std.specs.Prelude.{IfOk};
 ghost use Rattle.test_stores.specs.Holds.{HasNoPins};
 
-use crate::quiet_disk::QuietDisk;
 use array_store::Store;
 use page_file::OpenCause;
 use std::alloc::Global;
 use store_opening::Limits;
+use test_disks::QuietDisk;
 
 /// Opens a store. Where that fails, the disk is let go.
 pub fn opened(alloc: Global, disk: QuietDisk, limits: Limits) -> Result<Store<QuietDisk>, OpenCause>

@@ -11,9 +11,10 @@ ghost use Rattle.exec_build.specs.Inner.Rows.{built_row};
 ghost use Rattle.exec_build.specs.Inner.Walks.{TakesRows, rows_between};
 
 use array_geom::{Chunk, Grid};
-use cell_values::{Attribute, Cell, Coord, Datum, FaultKind, List, Memory, copy_coord};
+use cell_values::{Attribute, Coord, Datum, FaultKind, Memory, copy_coord};
 use expr_nulls::{TypedExpr, eval};
 use std::alloc::Global;
+use std::slice::from_ref;
 
 /// How many numbers there are from `lo` to `hi`. No memory holds a cell for each of 2^63 and more.
 fn count_of(lo: i64, hi: i64) -> Result<u64, Memory>
@@ -59,18 +60,27 @@ fn fitted(attributes: &[Attribute], value: Datum) -> Datum
     }
 }
 
-/// The cell of a `build` at a coordinate.
-fn cell_at(
+/// The value of a `build` at a coordinate.
+fn built_value(
     alloc: Global,
     attributes: &[Attribute],
     value: &TypedExpr,
     at: &Coord,
-) -> Result<Cell, Memory>
-    ensures { IfOk result (λ cell. cell ≡ Full (fit_values attributes.now (value_of value.now at.now.items [] ∷ []))) }
+) -> Result<Datum, Memory>
+    ensures { IfOk result (λ made. made ∷ [] ≡ fit_values attributes.now (value_of value.now at.now.items [] ∷ [])) }
 {
-    let mut values = List::with_capacity(alloc, 1)?;
-    values.push(fitted(attributes, eval(alloc, value, at, &[])?))?;
-    Ok(Cell::Full(values))
+    let made = eval(alloc, value, at, &[])?;
+    Ok(fitted(attributes, made))
+}
+
+/// Adds a cell of one value at a place, without a list of its own.
+fn push_value(chunk: &mut Chunk, place: u64, made: &Datum) -> Result<(), Memory>
+    ensures number { chunk.new.at ≡ chunk.old.at }
+    ensures positions { OnOk result (chunk.new.positions ≡ chunk.old.positions ++ place ∷ []) }
+    ensures cells { OnOk result (chunk.new.cells ≡ chunk.old.cells ++ Full (made.now ∷ []) ∷ []) }
+{
+    chunk.positions.push(place)?;
+    chunk.cells.push_values(from_ref(made))
 }
 
 /// Adds the cell at a coordinate.
@@ -87,9 +97,10 @@ fn add_cell(
     ensures { OnOk result (TakesRows grid.now.low.items grid.now.lengths.items (built_row attributes.now value.now at.now.items ∷ []) chunk.old chunk.new) }
 {
     let place = grid.position(at);
-    chunk.positions.push(place)?;
-    chunk.cells.push(cell_at(alloc, attributes, value, at)?)?;
-    Ok(())
+    let made = built_value(alloc, attributes, value, at)?;
+    let pushed = push_value(chunk, place, &made);
+    drop(made);
+    pushed
 }
 
 /// Adds the cells at the coordinates that begin so and go on between these corners.

@@ -1,6 +1,6 @@
 use Rattle.prepared_commits.specs.Needs.{needs}
 use Rattle.store_state.specs.At.{keeping, standing}
-use Rattle.test_stores.specs.Quiet.{quiet_moment}
+use Rattle.test_disks.specs.Quiet.{quiet_moment}
 use Rattle.test_stores.proofs.Committing.{left_leaves, others_then, tried_then}
 use Rattle.test_stores.proofs.commits.committed.Goals as goal
 

@@ -1,5 +1,5 @@
 use Rattle.store_state.specs.At.{standing}
-use Rattle.test_stores.specs.Quiet.{quiet_moment}
+use Rattle.test_disks.specs.Quiet.{quiet_moment}
 use Rattle.test_stores.proofs.Committing.{all_leaves_tried, sealed_leaves_all}
 use Rattle.test_stores.proofs.Holding.{all_but_one, notes_leave_all}
 use Rattle.test_stores.proofs.commits.sealed.Goals as goal

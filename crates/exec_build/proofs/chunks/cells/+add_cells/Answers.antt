@@ -1,4 +1,4 @@
-use Rattle.std.proofs.Common.{◌≡◌, ℕ, ℤ, pos, ◌+ℤ◌, ◌≤◌, List, [], ◌∷◌, ◌++◌, length, take, drop, slice_index_or, ◌-◌, refl, sym, ◌∙◌, ap, subst, w64, FitsSigned, rules, arith}
+use Rattle.std.proofs.Common.{◌≡◌, ℕ, ℤ, pos, ◌+ℤ◌, List, [], ◌∷◌, ◌++◌, length, take, drop, slice_index_or, ◌-◌, refl, ◌∙◌, ap, subst, w64, FitsSigned, rules}
 use Rattle.std.specs.Prelude.{OnOk}
 use Rattle.std.specs.List.{flat_map}
 use Rattle.std.proofs.lemmas.Int.{to_z-of_z}
@@ -6,7 +6,7 @@ use Rattle.cell_values.specs.declared.datum.Row.{Row}
 use Rattle.logical_plan.specs.Meaning.{count_from, how_many}
 use Rattle.exec_build.specs.Inner.Rows.{built_row}
 use Rattle.exec_build.specs.Inner.Walks.{TakesRows, rows_between}
-use Rattle.exec_build.proofs.RowLaws.{along_more, first_again, inside_here, takes_both, takes_none}
+use Rattle.exec_build.proofs.RowLaws.{along_more, first_again, inside_here, takes_both}
 use Rattle.exec_build.proofs.chunks.cells.+add_cells.Goals as goal
 
 pub add_along-loop-offset-preserved : goal.add_along-loop-offset-preserved

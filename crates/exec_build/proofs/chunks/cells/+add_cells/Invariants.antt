@@ -1,4 +1,4 @@
-use Rattle.std.proofs.Common.{◌≡◌, ◌+◌, ◌++◌, [], ◌∷◌, length}
+use Rattle.std.proofs.Common.{◌+◌, ◌++◌, [], ◌∷◌, length}
 use Rattle.std.specs.List.{flat_map}
 use Rattle.logical_plan.specs.Meaning.{count_from}
 use Rattle.exec_build.specs.Inner.Rows.{built_row}

@@ -1,4 +1,3 @@
-use Rattle.std.proofs.Common.{refl, ap, ◌∙◌}
 use Rattle.exec_build.proofs.ChunkLaws.{highest_inside, numbers_walked}
 use Rattle.exec_build.proofs.chunks.chunks.all_numbers.Goals as goal
 

@@ -1,4 +1,4 @@
-use Rattle.std.proofs.Common.{List, ℕ, ap, sym, subst, ◌∙◌}
+use Rattle.std.proofs.Common.{List, ℕ, sym, subst}
 use Rattle.arrayvec.specs.ArrayVec.{ArrayVec}
 use Rattle.chunk_cells.specs.Frames.{AreFramed}
 use Rattle.chunk_cells.specs.Inner.Numbers.{numbers_in}

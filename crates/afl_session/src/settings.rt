@@ -1,8 +1,0 @@
-//! The options of sessions.
-
-/// What holds of all statements of a session.
-#[derive(Clone, Copy, Debug)]
-pub struct Options {
-    /// How many threads compute a statement: 1 to 64.
-    pub workers: u32,
-}

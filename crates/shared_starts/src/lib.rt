@@ -1,0 +1,11 @@
+//! What programs over shared stores begin and end with: a disk that tells no bytes, databases, and what a history tells.
+#![tactic(auto)]
+
+mod silent_disk;
+mod starts;
+mod tally;
+
+pub use array_store::Store;
+pub use silent_disk::SilentDisk;
+pub use starts::{opened_over, with_change};
+pub use tally::push_tally;
