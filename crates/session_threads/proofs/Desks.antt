@@ -8,8 +8,9 @@ use Rattle.afl_lexer.specs.Inner.Standing.{StandsAfter}
 use Rattle.afl_outside.specs.Disk.{Moment}
 use Rattle.afl_outside.specs.Sink.{SinkState}
 use Rattle.afl_outside.specs.Source.{SourceState}
-use Rattle.turn_lock.specs.Owners.{none_of, ExtendsByOthers}
+use Rattle.turn_lock.specs.Owners.{none_of, AreOwnedBelow, ExtendsByOthers}
 use Rattle.turn_lock.proofs.Gathering.{all_last, all_left, places_more}
+use Rattle.turn_lock.proofs.Lists.{below_one_less, none_append}
 use Rattle.event_core.specs.Allowed.{is_pinned}
 use Rattle.store_ledger.specs.Ledger.{history}
 use Rattle.store_state.specs.declared.event.Event.{Event}
@@ -20,7 +21,7 @@ use Rattle.snapshot_manager.specs.declared.seat.Seat.{Seat}
 use Rattle.snapshot_manager.specs.declared.shared.Shared.{Shared}
 use Rattle.session_reports.specs.declared.reports.SessionReport.{SessionReport}
 use Rattle.session_reports.specs.declared.reports.Streams.{Streams}
-use Rattle.session_threads.specs.Sessions.{IsSessionOf, AreSessionsOf}
+use Rattle.session_threads.specs.Sessions.{AreOfSessions, AreSessionsOf, IsSessionOf}
 use Rattle.session_threads.specs.Inner.Desks.{AllWorked, AreDone, AreReady, AreServed, HasServed, HasWorked, IsDone, IsReady, IsReaper, IsWaiting}
 use Rattle.session_threads.specs.declared.desk.Desk.{Desk}
 use Rattle.session_threads.specs.declared.desk.Desk.TheVariants.{Waiting, Working, Done}
@@ -166,3 +167,15 @@ pub all_extend : {D : Type 0} (seats seats' list : List (Seat D)) (own : Seat D)
     ExtendEach list events → ExtendEach seats events
 all_extend seats seats' list own events grown same extend =
     all_left (λ s. ExtendsByOthers owner_of (session_of s) (seen s) events) seats own (subst (λ l. ExtendEach l events) (same ∙ grown) extend)
+
+module _ {D : Type 0} (shared : Shared D) where
+  -- none is the reaper's, whose number is the last
+  pub of_sessions : (seats seats' list : List (Seat D)) (own : Seat D) (n count : ℕ) (events : List Event) → IsReaper shared n own → count ≡ n + 1 →
+      seats' ≡ seats ++ own ∷ [] → list ≡ seats' → AreOwnedBelow owner_of count events → ExtendEach list events → AreOfSessions n events
+  of_sessions seats seats' list own n count events reaper last grown same owned extend =
+      let here : ExtendsByOthers owner_of (session_of own) (seen own) events =
+      all_last (λ s. ExtendsByOthers owner_of (session_of s) (seen s) events) seats own (subst (λ l. ExtendEach l events) (same ∙ grown) extend) in
+      let later : ExtendsByOthers owner_of n (seen own) events = subst (λ k. ExtendsByOthers owner_of k (seen own) events) reaper.session_is here in
+      let none : none_of owner_of n events ≡ true = subst (λ es. none_of owner_of n es ≡ true) (sym later.1)
+      (none_append owner_of n (seen own) later.0 reaper.none_own later.2) in
+      below_one_less owner_of n events (subst (λ k. AreOwnedBelow owner_of k events) last owned) none

@@ -4,7 +4,7 @@ use Rattle.std.specs.List.{list_all}
 use Rattle.afl_outside.specs.Disk.{Moment}
 use Rattle.afl_outside.specs.Sink.{SinkState}
 use Rattle.afl_outside.specs.Source.{SourceState}
-use Rattle.turn_lock.specs.Owners.{ExtendsByOthers}
+use Rattle.turn_lock.specs.Owners.{AreOwnedBelow, ExtendsByOthers}
 use Rattle.store_state.specs.declared.event.Event.{Event}
 use Rattle.store_state.specs.Events.{owner_of}
 use Rattle.snapshot_manager.specs.Start.{Start}
@@ -28,3 +28,7 @@ module _ {D S K : Type 0} (moment : D → Moment) (source_of : S → SourceState
   abbrev pub AreSessionsOf : List (Streams S K) → List (SessionReport S K) → List Event → Type 0
   AreSessionsOf all reports events = (k : ℕ) (streams : Streams S K) (report : SessionReport S K) → k < length all
       → IsSessionOf k (slice_index_or all k streams) (slice_index_or reports k report) events
+
+-- nothing else is in the list: each event is of one of so many sessions, or of nobody
+abbrev pub AreOfSessions : ℕ → List Event → Type 0
+AreOfSessions count events = AreOwnedBelow owner_of count events

@@ -5,7 +5,7 @@ ghost use Rattle.store_state.specs.At.{standing};
 ghost use Rattle.store_state.specs.Events.{events};
 ghost use Rattle.snapshot_manager.specs.Starts.{start_of};
 ghost use Rattle.snapshot_manager.specs.Seats.{seats_in_all, start, AreIdleSeats, AreNewSeats, ExtendEach, IsNewSeat};
-ghost use Rattle.session_threads.specs.Sessions.{AreSessionsOf};
+ghost use Rattle.session_threads.specs.Sessions.{AreOfSessions, AreSessionsOf};
 ghost use Rattle.session_threads.specs.Inner.Desks.{AreDone, AreReady, IsReaper};
 ghost use Rattle.session_threads.specs.Inner.Rooms.{HasRoom};
 ghost use Rattle.session_reports.specs.declared.reports.Streams.{Streams};
@@ -48,6 +48,7 @@ pub fn run_sessions<
     ensures reports { IfOk result (λ run. length run.1 ≡ length streams) }
     ensures each { IfOk result (λ run. AreSessionsOf D.moment S.state K.state (start_of (standing D.moment store)) streams run.1
         (events (standing D.moment run.0))) }
+    ensures others { IfOk result (λ run. AreOfSessions (length streams) (events (standing D.moment run.0))) }
     ensures err { IfErr result (λ failed. (failed.1 ≡ store) × (failed.2 ≡ streams)) }
 {
     let Ok(room) = Room::new(alloc, streams.len()) else {
@@ -89,6 +90,7 @@ fn run_shared<
     ensures start { start_of (standing D.moment result.0) ≡ start D.moment shared }
     ensures reports { length result.1 ≡ length streams }
     ensures each { AreSessionsOf D.moment S.state K.state (start D.moment shared) streams result.1 (events (standing D.moment result.0)) }
+    ensures others { AreOfSessions (length streams) (events (standing D.moment result.0)) }
 {
     let Room {
         desks,
@@ -146,6 +148,7 @@ fn gathered<D: Disk + Drop, S: Source + Drop, K: Sink + Drop>(
     ensures count { length result.1 ≡ length desks }
     ensures each { (streams : List (Streams S K)) → length streams ≡ length desks → AreDone D.moment S.state K.state shared streams desks
         → AreSessionsOf D.moment S.state K.state (start D.moment shared) streams result.1 (events (standing D.moment result.0)) }
+    ensures others { AreOfSessions (length desks) (events (standing D.moment result.0)) }
 {
     let count = desks.len();
     for _ in 0..count {
@@ -169,6 +172,7 @@ fn finished<D: Disk>(shared: Shared<D>, own: Seat<D>, mut seats: Vec<Seat<D>>) -
     requires room { length seats.items < vec_capacity seats }
     ensures start { start_of (standing D.moment result) ≡ start D.moment shared }
     ensures events { ExtendEach seats.items (events (standing D.moment result)) }
+    ensures others { AreOfSessions (length seats.items) (events (standing D.moment result)) }
 {
     seats.push_reserved(own);
     shared.finish(List::from_vec(seats))

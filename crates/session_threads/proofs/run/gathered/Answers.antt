@@ -1,5 +1,8 @@
-use Rattle.std.proofs.Common.{rules, ◌≡◌, ◌∙◌, length, sym}
+use Rattle.std.proofs.Common.{rules, ◌≡◌, ◌∙◌, length, subst}
+use Rattle.store_state.specs.At.{standing}
+use Rattle.store_state.specs.Events.{events}
 use Rattle.snapshot_manager.proofs.Seating.{first_of_rest, less_one}
+use Rattle.session_threads.specs.Sessions.{AreOfSessions}
 use Rattle.session_threads.proofs.Desks.{all_served, done_at, idle_more, not_waiting, not_working, served_more}
 use Rattle.session_threads.proofs.run.gathered.Goals as goal
 
@@ -35,3 +38,8 @@ pub returns-clause-each : goal.returns-clause-each
 returns-clause-each g c = λ all same are.
     all_served g.D.Disk.moment g.S.Source.state g.K.Sink.state c.args.shared all c.loop.seats.items c.loop.reports.items c.from_vec.result _
     c.from_vec.ensures (same ∙ search rules) (c.loop.invariant.taken all are _) c.finished.ensures.events
+
+pub returns-clause-others : goal.returns-clause-others
+returns-clause-others g c =
+    let same : length c.loop.seats.items ≡ length c.args.desks = search rules in
+    subst (λ n. AreOfSessions n (events (standing g.D.Disk.moment c.finished.result))) same c.finished.ensures.others

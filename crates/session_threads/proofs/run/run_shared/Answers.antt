@@ -1,4 +1,7 @@
 use Rattle.std.proofs.Common.{◌≡◌, ◌∙◌, length, ap, sym, subst, arith}
+use Rattle.store_state.specs.At.{standing}
+use Rattle.store_state.specs.Events.{events}
+use Rattle.session_threads.specs.Sessions.{AreOfSessions}
 use Rattle.session_threads.specs.Inner.Desks.{AreDone}
 use Rattle.session_threads.proofs.Desks.{all_done, all_waiting, reaper_new}
 use Rattle.session_threads.proofs.run.run_shared.Goals as goal
@@ -28,3 +31,10 @@ returns-clause-each g c =
     (subst (AreDone g.D.Disk.moment g.S.Source.state g.K.Sink.state c.args.shared c.args.streams) (sym c.from_vec.ensures)
     (all_done g.D.Disk.moment g.S.Source.state g.K.Sink.state c.args.shared c.args.streams c.seated-desks.result.0.items c.work_beside-desks.result.0.items
     c.seated-desks.ensures.desks c.work_beside-desks.ensures.desks kept))
+
+pub returns-clause-others : goal.returns-clause-others
+returns-clause-others g c =
+    let kept : length c.work_beside-desks.result.0.items ≡ length c.seated-desks.result.0.items = omega arith in
+    let same : length c.from_vec.result ≡ length c.work_beside-desks.result.0.items = ap length c.from_vec.ensures in
+    let many : length c.from_vec.result ≡ length c.args.streams = omega arith in
+    subst (λ n. AreOfSessions n (events (standing g.D.Disk.moment c.gathered.result.0))) many c.gathered.ensures.others
