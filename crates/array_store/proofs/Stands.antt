@@ -33,7 +33,7 @@ new_stands moment limits parts is new db began image left =
     (subst (λ (entries : List Entry). StandsFor (at db (reverse entries)) parts.doubt image) new.entries (images_stand moment parts is db began image left))
 
 -- of one over which a commit was sealed, or stopped
-same_opened : {D : Type 0} (moment : D → Moment) (old new : StoreParts D) (p : Prepared) (result : Result ℕ Failed)
+pub same_opened : {D : Type 0} (moment : D → Moment) (old new : StoreParts D) (p : Prepared) (result : Result ℕ Failed)
     → IfOk result (λ place. (place ≡ length old.ledger.entries) × (standing moment new ≡ sealed moment (standing moment old) p new.ledger new.file.disk))
     → OnErr result ((stage : Stopped) × (standing moment new ≡ stopped stage (standing moment old) p new.ledger new.file.disk))
     → new.opened.value ≡ old.opened.value

@@ -33,11 +33,11 @@ impl<D: Disk> Model for Store<D> {
 
     ghost coded = { Prim.hlevel (codes, query_code) };
 
-    ghost use Rattle.store_state.specs.At.{AreParts};
+    ghost use Rattle.array_store.specs.Kept.{IsStore};
 
     ghost view = { λ s. s.parts };
 
-    ghost invariant = { λ s. AreParts D.moment s.parts };
+    ghost invariant = { λ s. IsStore D.moment s.parts };
 }
 
 impl<D: Disk> History for Store<D> {

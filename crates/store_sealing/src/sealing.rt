@@ -1,6 +1,6 @@
 //! A commit that was prepared is sealed.
 ghost use Rattle.std.specs.Prelude.{◌≡◌, ℕ, List, Option, length, IfOk, OnOk, OnErr, MatchResult};
-ghost use Rattle.afl_outside.specs.Disk.{FailsWithCause, LeavesOnly};
+ghost use Rattle.afl_outside.specs.Disk.{DiskGoesOn, FailsWithCause, LeavesOnly};
 ghost use Rattle.array_geom.specs.declared.chunk.Changed.{Changed};
 ghost use Rattle.plan_changes.specs.Databases.{Database, after};
 ghost use Rattle.event_core.specs.Cells.{at};
@@ -45,6 +45,7 @@ pub fn seal<D: Disk>(parts: &mut StoreParts<D>, prepared: Prepared) -> Result<u6
     ensures durable { OnOk result ((db : Database) → BeganAs (D.moment parts.old.opened.value.disk).state db
         → (image : List ℕ) → (D.moment parts.new.file.disk).may_leave image
         → Stands image (after (at db (history parts.old.ledger)) prepared.commit.change)) }
+    ensures same { DiskGoesOn (D.moment parts.old.file.disk).state (D.moment parts.new.file.disk).state }
     ensures cause { FailsWithCause result (D.moment parts.old.file.disk) (D.moment parts.new.file.disk) }
 {
     commits_hold::<D>();

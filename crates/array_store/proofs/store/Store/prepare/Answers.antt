@@ -17,7 +17,7 @@ prepare-requires g c =
     let moment = g.D.Disk.moment in
     let same = sym c.self.view_is in
     record {
-      at = c.self.invariant;
+      at = c.self.invariant.at;
       pinned = subst (λ parts. IsTrue (is_pinned c.args.session (history parts.ledger))) same c.requires.pinned;
       tried = subst (λ parts. is_noted is_tried parts.ledger c.args.session ≡ false) same c.requires.tried;
       asked = subst (λ parts. IsAsked moment (standing moment parts) c.args.change c.args.changed) same c.requires.asked;
@@ -38,7 +38,7 @@ returns g c =
       left = subst (λ old. IsLeft (needs (standing moment old) (keeping old) change changed) (tried_now session change (standing moment old)) c.prepare.result (standing moment new)) same e.left;
       adds = subst (λ old. (comes : Bool) × (standing moment new ≡ reaped_if comes (tried_now session change (standing moment old)))
           × AddsEvents (tried_events comes old.ledger session change) (standing moment old) (standing moment new)) same
-          (left_adds session change s (is_counted moment parts c.self.invariant c.is_ledger.ensures) (needs s (keeping parts) change changed) c.prepare.result (standing moment new) e.left);
+          (left_adds session change s (is_counted moment parts c.self.invariant.at c.is_ledger.ensures) (needs s (keeping parts) change changed) c.prepare.result (standing moment new) e.left);
       ok = e.ok;
       kept = subst (λ old. keeping new ≡ keeping old) same e.kept;
       of = e.of;

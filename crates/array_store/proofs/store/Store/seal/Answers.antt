@@ -11,7 +11,7 @@ use Rattle.array_store.proofs.store.Store.seal.Goals as goal
 
 pub seal-requires : goal.seal-requires
 seal-requires g c = record {
-  at = c.self.invariant;
+  at = c.self.invariant.at;
   prepared = (c.requires.0, subst (λ parts. IsPreparedFor g.D.Disk.moment parts c.requires.0 c.args.prepared) (sym c.self.view_is) c.requires.1);
 }
 
@@ -35,7 +35,7 @@ returns g c =
     let is = subst (λ old. HasCome moment old p c.seal.result new) c.self.view_is come in
     let adds = subst (λ old. MatchResult c.seal.result (λ _. AddsCommit moment p (standing moment old) (standing moment new))
     (λ _. AddsFault moment p.session (standing moment old) (standing moment new))) c.self.view_is
-    (seal_adds moment (standing moment parts) (standing moment new) p (is_counted moment parts c.self.invariant c.is_ledger.ensures) c.seal.result e.ok e.err e.noted) in
+    (seal_adds moment (standing moment parts) (standing moment new) p (is_counted moment parts c.self.invariant.at c.is_ledger.ensures) c.seal.result e.ok e.err e.noted) in
     record {
       ok = is.ok;
       err = is.err;

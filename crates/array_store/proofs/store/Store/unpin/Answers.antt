@@ -7,5 +7,5 @@ use Rattle.array_store.proofs.store.Store.unpin.Goals as goal
 pub returns-clause-adds : goal.returns-clause-adds
 returns-clause-adds g c =
     let moment = g.D.Disk.moment in
-    adds_entry moment c.self.inside.parts c.args.self.now c.self.view_is (standing moment c.unpin.new.parts) (Unpin c.args.pinned.session) c.self.invariant c.is_ledger.ensures refl
+    adds_entry moment c.self.inside.parts c.args.self.now c.self.view_is (standing moment c.unpin.new.parts) (Unpin c.args.pinned.session) c.self.invariant.at c.is_ledger.ensures refl
     c.unpin.ensures.unpinned

@@ -1,0 +1,3 @@
+pub mod Began
+pub mod Ends
+pub mod Held
