@@ -1,5 +1,6 @@
 -- ONE HISTORY: what a run over a store tells at its end.
-use Rattle.std.specs.Prelude.{◌≡◌, ℕ, ◌<◌, false, List, [], length, slice_index_or}
+use Rattle.std.specs.Prelude.{◌≡◌, ℕ, ◌<◌, false, List, [], length, slice_index_or, IsTrue}
+use Rattle.std.specs.List.{list_all}
 use Rattle.afl_outside.specs.Disk.{Moment}
 use Rattle.afl_outside.specs.Source.{SourceState}
 use Rattle.afl_outside.specs.Sink.{SinkState}
@@ -14,6 +15,7 @@ use Rattle.store_state.specs.Events.{events, owner_of}
 use Rattle.store_state.specs.Standings.{BeganAs, Standing}
 use Rattle.told_stores.specs.Start.{Start}
 use Rattle.told_stores.specs.Starts.{start_of}
+use Rattle.told_stores.specs.Told.{is_sealed}
 use Rattle.session_reports.specs.declared.reports.SessionReport.{SessionReport}
 use Rattle.session_reports.specs.declared.notices.Notice.{Notice}
 use Rattle.session_reports.specs.declared.notices.Notice.TheVariants.{Memory}
@@ -28,6 +30,7 @@ module _ {D S K : Type 0} (moment : D → Moment) (source_state : S → SourceSt
   pub record IsReportOf (start : Start D) (session : ℕ) (report : SessionReport S K) (history : List Event) : Type 0 where
     pub seen : List Event
     pub later : ExtendsByOthers owner_of session seen history
+    pub sealed : IsTrue (list_all is_sealed seen)
     pub prints : Prints (IsMarked moment start session) [] 0 seen (source_state report.source) (sink_state report.sink) report.marks report.end
 
   -- THE REPORTS OF A RUN ARE THOSE OF ONE HISTORY, which is that of its store at its end

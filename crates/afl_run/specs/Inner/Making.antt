@@ -14,3 +14,10 @@ Makes Disk old new = Rose old.state.faults new.state.faults
 Makes Memory old new = Rose old.state.wants new.state.wants
 Makes (NotEmpty count) old new = IfSome old.state.seen (λ seen. (count ≡ length seen) × (count ≢ 0)) × (new.state.seen ≡ old.state.seen)
 Makes _ old new = ⊥
+
+-- an honest disk that holds the file of an empty database, and whose count has not risen
+pub record IsEmpty (disk : Moment) : Type 0 where
+  pub honest : IsTrue disk.state.honest
+  pub file : List ℕ
+  pub read : disk.state.seen ≡ Some file
+  pub form : IsEmptyDatabase file
