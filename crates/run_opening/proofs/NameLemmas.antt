@@ -58,10 +58,11 @@ both_differ (s ∷ scripts) is =
     let two = apart_two s (s ++ codes ".out") (flat_map script_names scripts) (bytes_eq s (codes "-")) is in
     let own = none_in (bytes_eq s) scripts two.0 in
     let replies = none_in (bytes_eq (reply_name s)) scripts two.1 in
-    let rest = both_differ scripts two.2 in
-    (and_from (not (list_any (bytes_eq s) scripts)) (are_different scripts) (not_from_false (list_any (bytes_eq s) scripts) own.0) rest.0,
-    and_from (not (list_any (bytes_eq (reply_name s)) (map reply_name scripts))) (are_different (map reply_name scripts))
-    (not_from_false (list_any (bytes_eq (reply_name s)) (map reply_name scripts)) replies.1) rest.1)
+    let rest = both_differ scripts two.2 in (
+      and_from (not (list_any (bytes_eq s) scripts)) (are_different scripts) (not_from_false (list_any (bytes_eq s) scripts) own.0) rest.0,
+      and_from (not (list_any (bytes_eq (reply_name s)) (map reply_name scripts))) (are_different (map reply_name scripts))
+          (not_from_false (list_any (bytes_eq (reply_name s)) (map reply_name scripts)) replies.1) rest.1,
+    )
 
 module _ (device : Word) (scripts : List Word) (is : are_different (run_names device scripts) ≡ true) where
   device_and_rest : (list_any (bytes_eq device) (flat_map script_names scripts) ≡ false) × (are_different (flat_map script_names scripts) ≡ true)

@@ -89,6 +89,7 @@ module _ (names : List Word) (i : ℕ) (item asked : Word) (lt : i < length name
     where
       apart_from : (n : Word) → All (λ m. n ≢ m) (take (i + 1) names) → n ≢ asked
       apart_from n all = last_of n (take i names) asked (subst (All (λ m. n ≢ m)) one_more all)
+
       earlier : (n : Word) → All (λ m. n ≢ m) (take (i + 1) names) → All (λ m. n ≢ m) (take i names)
       earlier n all = front_of n (take i names) asked (subst (All (λ m. n ≢ m)) one_more all)
 
@@ -106,13 +107,21 @@ module _ (names : List Word) (i : ℕ) (item asked : Word) (lt : i < length name
     pub fails_script : (session : ℕ) (notice : Notice) → session ≡ i → FailsFor session (now.scripts asked) notice now next → FailsToOpen names notice start next
     fails_script session notice place fails = elim fails [
       | inl want ↦ inl (want.0, rose_since start.wants now.wants next.wants before.wants_later want.1)
-      | inr fault ↦ inr (session, fault.0, subst (λ (o : Option Word). IsSomeAnd o (λ script. IsUnopened script start next)) (sym (ap (slice_get names) place ∙ at_place))
-          (record { rose = rose_since start.faults now.faults next.faults before.later fault.1; untold = inl (sym told_script ∙ fault.2) }))
+      | inr fault ↦ inr (
+        session,
+        fault.0,
+        subst (λ (o : Option Word). IsSomeAnd o (λ script. IsUnopened script start next)) (sym (ap (slice_get names) place ∙ at_place))
+            (record { rose = rose_since start.faults now.faults next.faults before.later fault.1; untold = inl (sym told_script ∙ fault.2) }),
+      )
     ]
 
     pub fails_reply : (session : ℕ) (notice : Notice) → session ≡ i → FailsFor session (now.replies asked) notice now next → FailsAtReply names notice start next
     fails_reply session notice place fails = elim fails [
       | inl want ↦ inl (want.0, rose_since start.wants now.wants next.wants before.wants_later want.1)
-      | inr fault ↦ inr (session, fault.0, rose_since start.faults now.faults next.faults before.later fault.1,
-          subst (λ (o : Option Word). IsSomeAnd o (λ name. start.replies name ≡ None)) (sym (ap (slice_get names) place ∙ at_place)) (sym told_reply ∙ fault.2))
+      | inr fault ↦ inr (
+        session,
+        fault.0,
+        rose_since start.faults now.faults next.faults before.later fault.1,
+        subst (λ (o : Option Word). IsSomeAnd o (λ name. start.replies name ≡ None)) (sym (ap (slice_get names) place ∙ at_place)) (sym told_reply ∙ fault.2),
+      )
     ]

@@ -42,9 +42,10 @@ opened_for source_state sink_state shelf [] (s ∷ sources) sinks splitters open
 opened_for source_state sink_state shelf (n ∷ scripts) [] sinks splitters opened held fresh count = absurd opened
 opened_for source_state sink_state shelf (n ∷ scripts) (s ∷ sources) [] splitters opened held fresh count = absurd held
 opened_for source_state sink_state shelf (n ∷ scripts) (s ∷ sources) (k ∷ sinks) [] opened held fresh count = absurd (omega (arith, count))
-opened_for source_state sink_state shelf (n ∷ scripts) (s ∷ sources) (k ∷ sinks) (p ∷ splitters) opened held fresh count =
-    (record { source = opened.0; sink = held.0; splitter = fresh.0 },
-    opened_for source_state sink_state shelf scripts sources sinks splitters opened.1 held.1 fresh.1 (omega (arith, count)))
+opened_for source_state sink_state shelf (n ∷ scripts) (s ∷ sources) (k ∷ sinks) (p ∷ splitters) opened held fresh count = (
+  record { source = opened.0; sink = held.0; splitter = fresh.0 },
+  opened_for source_state sink_state shelf scripts sources sinks splitters opened.1 held.1 fresh.1 (omega (arith, count)),
+)
 
 -- as many are opened as there are names
 pub as_many : {A B S : Type 0} (R : A → B → Type 0) (f : S → B) (xs : List A) (ys : List S) → AllZip R xs (map f ys) → length ys ≡ length xs

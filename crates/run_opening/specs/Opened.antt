@@ -1,5 +1,5 @@
 -- What a run opens, and why something is not opened.
-use Rattle.std.specs.Prelude.{◌≡◌, ◌≢◌, ◌⊎◌, ℕ, ◌+◌, ◌-◌, ◌^◌, ◌≤◌, min, All, List, [], Option, None, Some, IfSome, IsSomeAnd, slice_get}
+use Rattle.std.specs.Prelude.{◌≡◌, ◌≢◌, ◌⊎◌, ℕ, ◌+◌, ◌-◌, ◌^◌, ◌≤◌, min, List, [], Option, None, Some, All, IfSome, IsSomeAnd, slice_get}
 use Rattle.std.specs.List.{AllZip}
 use Rattle.afl_lexer.specs.Inner.Standing.{StandsAfter}
 use Rattle.afl_outside.specs.Counts.{Rose}
@@ -24,7 +24,8 @@ pub record IsSinkOf (shelf : ShelfState) (asked : Word) (sink : SinkState) : Typ
   pub content : IfSome (shelf.replies asked) (λ bytes. sink.first ≡ Some bytes)
 
 -- the streams of a script and its reply, of which nothing is read or written yet
-pub record IsOpenedFor {S K : Type 0} (source_state : S → SourceState) (sink_state : K → SinkState) (shelf : ShelfState) (script : Word) (streams : Streams S K) : Type 0 where
+pub record IsOpenedFor {S K : Type 0} (source_state : S → SourceState) (sink_state : K → SinkState) (shelf : ShelfState) (script : Word)
+    (streams : Streams S K) : Type 0 where
   pub source : IsSourceOf shelf script (source_state streams.source)
   pub sink : IsSinkOf shelf (reply_name script) (sink_state streams.sink)
   pub splitter : StandsAfter [] streams.splitter

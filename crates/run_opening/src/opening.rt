@@ -23,7 +23,8 @@ pub fn open_streams<F: Shelf>(
     requires few { length scripts.now < 2 ^ 32 }
     requires names { HaveOwnNames scripts.now }
     ensures opened { IfOk result (λ streams. AreOpenedFor F.S.state F.K.state (F.state shelf.old) scripts.now streams) }
-    ensures cause { IfErr result (λ notice. ((notice ≡ Notice.Memory) × (shelf.new ≡ shelf.old)) ⊎ FailsToOpen scripts.now notice (F.state shelf.old) (F.state shelf.new)) }
+    ensures cause { IfErr result (λ notice. ((notice ≡ Notice.Memory) × (shelf.new ≡ shelf.old))
+        ⊎ FailsToOpen scripts.now notice (F.state shelf.old) (F.state shelf.new)) }
     ensures others { LeavesUnasked (stream_names scripts.now) (F.state shelf.old) (F.state shelf.new) }
     ensures handed { OnOk result (HandsOut (length scripts.now) (F.state shelf.old) (F.state shelf.new)) }
     ensures some { OnErr result (HandsOutSome (length scripts.now) (F.state shelf.old) (F.state shelf.new)) }

@@ -1,5 +1,6 @@
 //! The replies of a run.
-ghost use Rattle.std.specs.Prelude.{◌≡◌, ◌≢◌, ◌≤◌, ◌<◌, ◌^◌, [], AllPairs, IfErr, IfOk, IfSome, OnErr, OnOk, length, map, vec_capacity, MatchResult};
+ghost use Rattle.std.specs.Prelude.{◌≡◌, ◌≢◌, ◌≤◌, ◌<◌, ◌^◌, [], AllPairs, length, map, string_bytes, vec_capacity};
+ghost use Rattle.std.specs.Prelude.{IfErr, IfOk, IfSome, MatchResult, OnErr, OnOk};
 ghost use Rattle.std.specs.List.{AllZip};
 ghost use Rattle.afl_outside.specs.Counts.{risen};
 ghost use Rattle.afl_outside.specs.Sink.{IsNewSink};
@@ -46,11 +47,7 @@ fn open_reply<F: Shelf>(shelf: &mut F, session: u32, name: &str) -> Result<F::K,
     let wants = shelf.wants();
     match shelf.reply(name) {
         Ok(sink) => Ok(sink),
-        Err(Failed) => Err(unopened_notice(
-            wants,
-            shelf.wants(),
-            Notice::Stream { session },
-        )),
+        Err(Failed) => Err(unopened_notice(wants, shelf.wants(), Notice::Stream { session })),
     }
 }
 

@@ -1,5 +1,5 @@
 //! The scripts of a run.
-ghost use Rattle.std.specs.Prelude.{◌≡◌, ◌≢◌, ◌≤◌, ◌<◌, ℕ, [], AllPairs, IfErr, IfOk, IfSome, OnOk, length, map, vec_capacity};
+ghost use Rattle.std.specs.Prelude.{◌≡◌, ◌≢◌, ◌≤◌, ◌<◌, ◌^◌, [], AllPairs, IfErr, IfOk, IfSome, OnOk, length, map, vec_capacity};
 ghost use Rattle.std.specs.List.{AllZip};
 ghost use Rattle.afl_outside.specs.Source.{IsNewSource};
 ghost use Rattle.afl_outside.specs.Shelf.{LeavesOthers};
@@ -23,11 +23,7 @@ fn open_script<F: Shelf>(shelf: &mut F, session: u32, name: &str) -> Result<F::S
     let wants = shelf.wants();
     match shelf.script(name) {
         Ok(source) => Ok(source),
-        Err(Failed) => Err(unopened_notice(
-            wants,
-            shelf.wants(),
-            Notice::Stream { session },
-        )),
+        Err(Failed) => Err(unopened_notice(wants, shelf.wants(), Notice::Stream { session })),
     }
 }
 

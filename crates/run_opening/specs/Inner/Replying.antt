@@ -9,4 +9,5 @@ use Rattle.run_opening.specs.Names.{Word}
 -- the shelf found no memory, or it failed at the reply of a session, and hadn't told that it opens it
 abbrev pub FailsAtReply : List Word → Notice → ShelfState → ShelfState → Type 0
 FailsAtReply names notice old new = ((notice ≡ notices.Memory) × Rose old.wants new.wants)
-    ⊎ ((session : ℕ) × (notice ≡ notices.Stream session) × Rose old.faults new.faults × IsSomeAnd (slice_get names session) (λ asked. old.replies asked ≡ None))
+    ⊎ ((session : ℕ) × (notice ≡ notices.Stream session) × Rose old.faults new.faults
+    × IsSomeAnd (slice_get names session) (λ asked. old.replies asked ≡ None))
