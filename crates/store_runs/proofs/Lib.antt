@@ -1,0 +1,3 @@
+pub mod Closed
+pub mod Reaped
+pub mod Ran
