@@ -21,7 +21,7 @@ use Rattle.session_reports.specs.declared.notices.Notice.{Notice}
 use Rattle.session_reports.specs.declared.notices.Notice.TheVariants.{Memory}
 use Rattle.afl_session.specs.Marked.{IsMarked}
 use Rattle.session_threads.specs.Sessions.{AreOfSessions}
-use Rattle.store_runs.specs.Held.{HoldsHistory}
+use Rattle.run_stores.specs.Held.{HoldsHistory}
 use Rattle.afl_run.specs.Printed.{Prints}
 
 module _ {D S K : Type 0} (moment : D → Moment) (source_state : S → SourceState) (sink_state : K → SinkState) where

@@ -2,6 +2,7 @@
 #![tactic(auto)]
 
 mod database;
+mod over;
 mod report;
 mod scripts;
 mod standard;

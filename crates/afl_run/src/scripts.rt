@@ -13,7 +13,8 @@ use session_reports::{Notice, Streams, status};
 use std::alloc::Global;
 use std::sync::Wait;
 use std::thread::Threads;
-use store_runs::{Limits, StoreRun, run_over};
+use crate::over::run_over;
+use run_stores::{Limits, StoreRun};
 
 /// Opens the device, the streams of the scripts, and the store, and answers each script in a session of its own.
 pub(crate) fn run_scripts<F: Shelf, R: Threads + Wait + Sync, G: Gate>(

@@ -17,7 +17,8 @@ use session_reports::{Notice, status};
 use std::alloc::Global;
 use std::sync::Wait;
 use std::thread::Threads;
-use store_runs::{Limits, StoreRun, run_over};
+use crate::over::run_over;
+use run_stores::{Limits, StoreRun};
 
 const LIMITS: Limits = Limits {
     pages: 65_536,

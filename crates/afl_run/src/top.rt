@@ -16,7 +16,7 @@ use session_reports::Notice;
 use std::alloc::Global;
 use std::sync::Wait;
 use std::thread::Threads;
-use store_runs::Limits;
+use run_stores::Limits;
 
 /// Runs what the words say. `run` answers scripts over the database of a device, each in a session of its own; `try` answers the standard input
 /// on the standard output, over an empty database in memory; `init` makes a device, which must be empty, a database with no array.

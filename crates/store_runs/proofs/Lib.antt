@@ -1,3 +1,0 @@
-pub mod Closed
-pub mod Reaped
-pub mod Ran
