@@ -1,7 +1,2 @@
-pub mod BuiltStatements
-pub mod Calls
-pub mod Ending
 pub mod MakingLemmas
-pub mod NoArrays
-pub mod Reports
-pub mod ServingLemmas
+pub mod Reporting

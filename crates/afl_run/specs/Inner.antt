@@ -1,2 +1,2 @@
 pub mod Making
-pub mod Serving
+pub mod Over
