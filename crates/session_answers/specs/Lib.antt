@@ -1,2 +1,10 @@
+pub use Rattle.session_outcomes.specs.Acts
+pub use Rattle.session_outcomes.specs.Replies
+pub use Rattle.session_outcomes.specs.Reply
+pub use Rattle.session_outcomes.specs.Start
+pub use Rattle.session_sources.specs.Courses
+pub use Rattle.session_sources.specs.Seats
+pub use Rattle.session_sources.specs.Told
+pub use Rattle.store_state.specs.declared.event.Event
 pub mod Answered
 pub mod Inner

@@ -2,9 +2,9 @@
 #![tactic(auto)]
 
 mod answering;
-
 mod pinned;
 
-
 pub use answering::answer;
+pub use session_outcomes::{Reply, refusal_at};
+pub use session_sources::{Seat, Shared};
 pub use session_turns::Options;
