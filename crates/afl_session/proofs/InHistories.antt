@@ -83,10 +83,10 @@ module _ {D : Type 0} (moment : D → Moment) (origin : Start D) (session pin : 
       → IsToldFor moment origin session pin new own text tree reply refusal course
       → IsToldFor moment origin session pin (new ++ later) own text tree reply refusal course
   told_stays refusal course sealed began t = elim (reached_by refusal course began t) [
-    inl within ↦ rest_stays refusal course sealed within t
+    | inl within ↦ rest_stays refusal course sealed within t
     | inr want ↦
-      subst (λ (r : Option Refusal). IsToldFor moment origin session pin (new ++ later) own text tree reply r course) (sym want)
-      (want_stays course (subst (λ (r : Option Refusal). IsToldFor moment origin session pin new own text tree reply r course) want t))
+        subst (λ (r : Option Refusal). IsToldFor moment origin session pin (new ++ later) own text tree reply r course) (sym want)
+        (want_stays course (subst (λ (r : Option Refusal). IsToldFor moment origin session pin new own text tree reply r course) want t))
   ]
 
 -- a statement's pin came where it came
@@ -163,11 +163,10 @@ module _ {D : Type 0} (moment : D → Moment) (origin : Start D) (session : ℕ)
   each_stays whole later old last [] [] [] new is sealed all = all
   each_stays whole later old last (s ∷ ss) (m ∷ ms) (t ∷ ts) new is sealed all =
       let rest : Grows all.0 new = all_grow all.0 m.place ss ms ts new all.2 in
-      let longer : whole ≡ all.0 ++ (rest.more ++ later) = is ∙ ap (λ (es : List Event). es ++ later) rest.grown ∙ append_assoc all.0 rest.more later in
-      (
+      let longer : whole ≡ all.0 ++ (rest.more ++ later) = is ∙ ap (λ (es : List Event). es ++ later) rest.grown ∙ append_assoc all.0 rest.more later in (
         all.0,
         subst (λ (es : List Event). IsMarkedIn moment origin session es old all.0 last s m t) (sym longer)
-        (mark_stays old all.0 (rest.more ++ later) last s m t (sealed_before all.0 new rest.more rest.grown sealed) all.1),
+            (mark_stays old all.0 (rest.more ++ later) last s m t (sealed_before all.0 new rest.more rest.grown sealed) all.1),
         each_stays whole later all.0 m.place ss ms ts new is sealed all.2,
       )
   each_stays whole later old last [] [] (t ∷ ts) new is sealed all = absurd all
@@ -227,7 +226,7 @@ module _ (Answered Told : AnswerRule) (old : List Event) (last : ℕ) (new : Lis
     source_fault = serves.source_fault;
     sink_fault = serves.sink_fault;
     memory = λ is. elim (serves.memory is) [
-      inl rose ↦ inl rose
+      | inl rose ↦ inl rose
       | inr left ↦ inr (one_told (decided serves.is_whole serves.read) ms serves.written left)
     ];
   }

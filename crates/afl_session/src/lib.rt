@@ -7,6 +7,6 @@ mod statements;
 mod streams;
 
 pub use laws::marks_stay;
-pub use session_reports::{Mark, SessionEnd, SessionReport};
 pub use session::serve;
 pub use session_answers::{Options, Reply, answer};
+pub use session_reports::{Mark, SessionEnd, SessionReport};

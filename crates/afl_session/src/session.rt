@@ -6,13 +6,13 @@ ghost use Rattle.afl_session.specs.Inner.Serving.{EndsServing, GoesOn, IsServing
 ghost use Rattle.afl_session.specs.Marked.{IsMarked};
 ghost use Rattle.afl_session.specs.Session.{Serves};
 
-use session_reports::{Mark, SessionEnd, SessionReport};
 use crate::statements::answer_statement;
 use crate::streams::Stopped;
 use afl_lexer::{SplitStep, Splitter};
 use afl_outside::{Disk, Failed, Gate, Sink, Source};
 use cell_values::List;
 use session_answers::{Options, Seat, Shared};
+use session_reports::{Mark, SessionEnd, SessionReport};
 use std::alloc::Global;
 use std::sync::Wait;
 
@@ -66,10 +66,24 @@ impl<K: Sink> Session<K> {
         match step {
             SplitStep::More | SplitStep::Blank => (Ok(()), seat),
             SplitStep::Piece => {
-                answer_statement(rt, alloc, shared, seat, from, to, Some(bytes), sink, marks, options, gate)
+                answer_statement(
+                    rt,
+                    alloc,
+                    shared,
+                    seat,
+                    from,
+                    to,
+                    Some(bytes),
+                    sink,
+                    marks,
+                    options,
+                    gate,
+                )
             }
             SplitStep::TooLong => {
-                answer_statement(rt, alloc, shared, seat, from, to, None, sink, marks, options, gate)
+                answer_statement(
+                    rt, alloc, shared, seat, from, to, None, sink, marks, options, gate,
+                )
             }
         }
     }
@@ -170,7 +184,14 @@ fn converse<D: Disk, S: Source, K: Sink, R: Wait, G: Gate>(
         match source.read(&mut piece) {
             Ok(0) => return session.take_end(rt, shared, seat, options, gate),
             Ok(count) => {
-                let (taken, back) = session.take_bytes(rt, shared, seat, &piece[..count], options, gate);
+                let (taken, back) = session.take_bytes(
+                    rt,
+                    shared,
+                    seat,
+                    &piece[..count],
+                    options,
+                    gate,
+                );
                 seat = back;
                 match taken {
                     Ok(()) => {}

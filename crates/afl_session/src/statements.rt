@@ -7,11 +7,11 @@ ghost use Rattle.afl_session.specs.Inner.Serving.{GoesOn, mark_at, reached, stat
 ghost use Rattle.afl_session.specs.Marked.{AnswersText, IsMarked, IsReplyOf, written_for};
 ghost use Rattle.session_reports.specs.Outcomes.{is_want};
 
-use session_reports::Mark;
 use crate::streams::{Stopped, write_whole};
 use afl_outside::{Disk, Gate, Sink};
 use result_print::Refusal;
 use session_answers::{Options, Reply, Seat, Shared, answer, refusal_at};
+use session_reports::Mark;
 use std::alloc::{AllocError, Global};
 use std::sync::Wait;
 
@@ -74,10 +74,11 @@ fn keep_mark(marks: &mut Vec<Mark>, from: u64, to: u64, reply: Reply)
     ensures { marks.new.items ≡ marks.old.items ++ mark_at from to reply ∷ [] }
 {
     let Reply {
-        text: _,
+        text,
         refusal,
         place,
     } = reply;
+    drop(text);
     marks.push_reserved(Mark {
         start: from,
         end: to,
@@ -113,7 +114,9 @@ fn answer_marked<D: Disk, K: Sink, R: Wait, G: Gate>(
         (reached (seen result.1) (last_place result.1) (K.state sink.new)) marks.old.items marks.new.items (statement ∷ []) result.0 }
 {
     let number = marks.len() as u64;
-    let (reply, seat) = reply_to(rt, alloc, shared, seat, from, to, text, number, options, gate);
+    let (reply, seat) = reply_to(
+        rt, alloc, shared, seat, from, to, text, number, options, gate,
+    );
     let written = write_reply(sink, &reply);
     keep_mark(marks, from, to, reply);
     (written, seat)
@@ -145,7 +148,9 @@ pub(crate) fn answer_statement<D: Disk, K: Sink, R: Wait, G: Gate>(
         (reached (seen result.1) (last_place result.1) (K.state sink.new)) marks.old.items marks.new.items (statement ∷ []) result.0 }
 {
     match marks.reserve(1) {
-        Ok(()) => answer_marked(rt, alloc, shared, seat, from, to, text, sink, marks, options, gate),
+        Ok(()) => answer_marked(
+            rt, alloc, shared, seat, from, to, text, sink, marks, options, gate,
+        ),
         Err(AllocError) => (Err(Stopped::Memory), seat),
     }
 }
