@@ -20,7 +20,8 @@ use Rattle.afl_session.specs.Session.{AnswerRule}
 
 -- A STATEMENT IN ONE HISTORY: between what its session had seen before and then, it did this of its own; its pin came at that place of the history,
 -- and its reply, which is that of its tree or of its stop, tells at its place of the history what it has to
-pub record IsAnsweredIn {D : Type 0} (moment : D → Moment) (origin : Start D) (session : ℕ) (events old new : List Event) (last : ℕ) (text : List ℕ) (reply : Reply) : Type 0 where
+pub record IsAnsweredIn {D : Type 0} (moment : D → Moment) (origin : Start D) (session : ℕ) (events old new : List Event)
+    (last : ℕ) (text : List ℕ) (reply : Reply) : Type 0 where
   pub own : List Event
   pub course : Course
   pub pin : ℕ

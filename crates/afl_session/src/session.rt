@@ -58,8 +58,9 @@ impl<K: Sink> Session<K> {
         ensures none { HoldsNone D.moment shared.now result.1 }
         ensures splitter { self.new.splitter ≡ self.old.splitter }
         ensures goes_on { (session : ℕ) → session_of seat ≡ session
-            → GoesOn (IsMarked D.moment (start D.moment shared.now) session) (reached (seen seat) (last_place seat) (K.state self.old.sink))
-            (reached (seen result.1) (last_place result.1) (K.state self.new.sink)) self.old.marks.items self.new.marks.items (told step self.old.splitter) result.0 }
+            → GoesOn (IsMarked D.moment (start D.moment shared.now) session)
+            (reached (seen seat) (last_place seat) (K.state self.old.sink)) (reached (seen result.1) (last_place result.1) (K.state self.new.sink))
+            self.old.marks.items self.new.marks.items (told step self.old.splitter) result.0 }
     {
         let (from, to, bytes) = self.splitter.piece();
         let (alloc, sink, marks) = (self.alloc, &mut self.sink, &mut self.marks);
@@ -109,10 +110,10 @@ impl<K: Sink> Session<K> {
             → IsServing (IsMarked D.moment (start D.moment shared.now) session) first (reached (seen seat) (last_place seat) (K.state self.old.sink))
             script self.old.splitter self.old.marks.items
             → MatchResult result.0
-            (λ _. IsServing (IsMarked D.moment (start D.moment shared.now) session) first (reached (seen result.1) (last_place result.1) (K.state self.new.sink))
-            (script ++ bytes.now) self.new.splitter self.new.marks.items)
-            (StopsWithin (IsMarked D.moment (start D.moment shared.now) session) first (reached (seen result.1) (last_place result.1) (K.state self.new.sink))
-            script bytes.now self.new.marks.items) }
+            (λ _. IsServing (IsMarked D.moment (start D.moment shared.now) session) first
+            (reached (seen result.1) (last_place result.1) (K.state self.new.sink)) (script ++ bytes.now) self.new.splitter self.new.marks.items)
+            (StopsWithin (IsMarked D.moment (start D.moment shared.now) session) first
+            (reached (seen result.1) (last_place result.1) (K.state self.new.sink)) script bytes.now self.new.marks.items) }
     {
         let mut seat = seat;
         for byte in bytes {

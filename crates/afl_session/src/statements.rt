@@ -36,7 +36,8 @@ fn reply_to<D: Disk, R: Wait, G: Gate>(
     ensures session { session_of result.1 ≡ session_of seat }
     ensures none { HoldsNone D.moment shared.now result.1 }
     ensures last { last_place result.1 ≡ result.0.place }
-    ensures answered { IsReplyOf (AnswersText D.moment (start D.moment shared.now) (session_of seat)) (seen seat) (seen result.1) (last_place seat) (to - from) (option_map (λ t. t.now) text.entry) result.0 }
+    ensures answered { IsReplyOf (AnswersText D.moment (start D.moment shared.now) (session_of seat)) (seen seat) (seen result.1) (last_place seat)
+        (to - from) (option_map (λ t. t.now) text.entry) result.0 }
 {
     match text {
         Some(text) => answer(rt, alloc, shared, seat, text, number, options, gate),
@@ -110,8 +111,9 @@ fn answer_marked<D: Disk, K: Sink, R: Wait, G: Gate>(
     ensures session { session_of result.1 ≡ session_of seat }
     ensures none { HoldsNone D.moment shared.now result.1 }
     ensures goes_on { let statement = statement_at from to (option_map (λ t. t.now) text.entry) in
-        (session : ℕ) → session_of seat ≡ session → GoesOn (IsMarked D.moment (start D.moment shared.now) session) (reached (seen seat) (last_place seat) (K.state sink.old))
-        (reached (seen result.1) (last_place result.1) (K.state sink.new)) marks.old.items marks.new.items (statement ∷ []) result.0 }
+        (session : ℕ) → session_of seat ≡ session → GoesOn (IsMarked D.moment (start D.moment shared.now) session)
+        (reached (seen seat) (last_place seat) (K.state sink.old)) (reached (seen result.1) (last_place result.1) (K.state sink.new))
+        marks.old.items marks.new.items (statement ∷ []) result.0 }
 {
     let number = marks.len() as u64;
     let (reply, seat) = reply_to(
@@ -144,8 +146,9 @@ pub(crate) fn answer_statement<D: Disk, K: Sink, R: Wait, G: Gate>(
     ensures session { session_of result.1 ≡ session_of seat }
     ensures none { HoldsNone D.moment shared.now result.1 }
     ensures goes_on { let statement = statement_at from to (option_map (λ t. t.now) text.entry) in
-        (session : ℕ) → session_of seat ≡ session → GoesOn (IsMarked D.moment (start D.moment shared.now) session) (reached (seen seat) (last_place seat) (K.state sink.old))
-        (reached (seen result.1) (last_place result.1) (K.state sink.new)) marks.old.items marks.new.items (statement ∷ []) result.0 }
+        (session : ℕ) → session_of seat ≡ session → GoesOn (IsMarked D.moment (start D.moment shared.now) session)
+        (reached (seen seat) (last_place seat) (K.state sink.old)) (reached (seen result.1) (last_place result.1) (K.state sink.new))
+        marks.old.items marks.new.items (statement ∷ []) result.0 }
 {
     match marks.reserve(1) {
         Ok(()) => answer_marked(
