@@ -16,10 +16,9 @@ ghost use Rattle.prepared_commits.specs.Prepared.{IsAsked};
 
 use afl_outside::Disk;
 use commit_pages::commits_take_what_they_cost;
-use found_costs::found_files_are_over;
-use found_rows::newest_are_last;
-pub use found_costs::found_files_are_over;
 pub use commit_pages::{Written, draft};
+pub use found_costs::found_files_are_over;
+use found_rows::newest_are_last;
 
 /// On an honest disk that began as a database, a commit needs as many pages as its change costs over the database of now.
 pub fn commits_need_what_they_cost<D: Disk>()

@@ -25,13 +25,12 @@ use crate::seat::Seat;
 use crate::shared::{Shared, StoreTurn};
 use afl_outside::Disk;
 use array_geom::Changed;
-use told_stores::fresh_changes_may_be_made;
 use fresh_laws::fresh_changes_stay;
 use plan_changes::Change;
 use std::alloc::Global;
 use std::sync::Wait;
-use told_stores::{CommitFault, commit, give_up};
 use store_ledger::Pinned;
+use told_stores::{CommitFault, commit, fresh_changes_may_be_made, give_up};
 
 /// What came of a commit that wasn't refused.
 pub enum Commit<D: Disk> {

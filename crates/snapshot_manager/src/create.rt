@@ -6,11 +6,10 @@ ghost use Rattle.snapshot_manager.specs.Seats.{first_store, seats_in_all, AreNew
 use crate::seat::Seat;
 use crate::shared::Shared;
 use afl_outside::Disk;
-use told_stores::Store;
 use cell_values::{List, Memory};
 use reap_bell::Bell;
 use std::alloc::Global;
-use told_stores::let_go_all;
+use told_stores::{Store, let_go_all};
 use turn_lock::{TurnLock, TurnSeat};
 
 impl<D: Disk> Shared<D> {

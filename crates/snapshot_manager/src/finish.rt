@@ -8,8 +8,8 @@ ghost use Rattle.snapshot_manager.specs.Seats.{seats_in_all, start, AreIdleSeats
 use crate::seat::Seat;
 use crate::shared::Shared;
 use afl_outside::Disk;
-use told_stores::Store;
 use cell_values::List;
+use told_stores::Store;
 
 impl<D: Disk> Shared<D> {
     /// Hands the store back, once all its seats are. This takes no memory.

@@ -1,8 +1,8 @@
 //! A store that several threads share.
 
 use afl_outside::Disk;
-use told_stores::Store;
 use reap_bell::Bell;
+use told_stores::Store;
 use turn_lock::{Turn, TurnLock};
 
 /// A store behind a turn lock, and the bell of its reaper. It can't be dropped: `finish` hands the store back.

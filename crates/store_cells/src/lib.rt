@@ -7,9 +7,9 @@ ghost use Rattle.store_cells.specs.Worked.{ACommitIsWritten, BothMayOccur, Chunk
 
 use afl_outside::Disk;
 use file_laws::{files_stand_for_one_database, sound_rows_are_stored};
-use prepared_costs::found_files_are_over;
 use laid_commits::opened_files_stand;
 use next_files::an_array_is_stored_again;
+use prepared_costs::found_files_are_over;
 use store_images::{
     images_have_stood, laid_commits_stand, next_images, opening_images, unopened_images,
 };

@@ -20,10 +20,9 @@ ghost use Rattle.store_commits.specs.Tried.{AddsSealed, AddsTried};
 use crate::fault::CommitFault;
 use afl_outside::Disk;
 use array_geom::Changed;
-use array_store::Store;
+use array_store::{Store, commits_need_what_they_cost};
 use plan_changes::Change;
 use prepared_commits::{PrepareFault, Prepared};
-use array_store::commits_need_what_they_cost;
 use std::alloc::Global;
 
 /// Commits a change under a session's pin, with the chunks that it writes. It is the first that is tried under the pin. The answer is the

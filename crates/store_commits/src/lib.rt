@@ -4,6 +4,6 @@
 mod committing;
 mod fault;
 
+pub use array_store::Store;
 pub use committing::{commit, give_up};
 pub use fault::CommitFault;
-pub use array_store::Store;

@@ -1,8 +1,8 @@
 //! Seats of a store's lock that are let go.
 
 use afl_outside::Disk;
-use store_commits::Store;
 use cell_values::List;
+use store_commits::Store;
 use turn_lock::TurnSeat;
 
 /// Lets a seat go.
