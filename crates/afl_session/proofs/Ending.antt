@@ -1,5 +1,5 @@
 -- How the bytes of a script come, and how it ends.
-use Rattle.std.proofs.Common.{◌≡◌, ℕ, ◌+◌, ◌<◌, List, [], ◌∷◌, ◌++◌, length, take, drop, get_or, true, false, Result, Ok, Err, MatchResult, refl, sym, ◌∙◌, ap, subst, arith, append_assoc, append-nil}
+use Rattle.std.proofs.Common.{◌≡◌, ℕ, ◌+◌, ◌<◌, List, [], ◌∷◌, ◌++◌, length, take, drop, get_or, true, false, Ok, Err, refl, sym, ◌∙◌, ap, subst, append_assoc}
 use Rattle.std.proofs.lemmas.List.{take_more, take-append-drop}
 use Rattle.afl_lexer.specs.Split.{Statement, statements, closed_statements}
 use Rattle.afl_lexer.specs.Inner.Standing.{Splitting}
@@ -7,8 +7,7 @@ use Rattle.std.specs.Io.KnownBytes.{IsAtEnd}
 use Rattle.afl_outside.specs.Counts.{Rose}
 use Rattle.afl_outside.specs.Source.{SourceState, Gives}
 use Rattle.afl_outside.proofs.Streams.{Takes-nothing}
-use Rattle.session_answers.specs.Event.{Event}
-use Rattle.afl_session.specs.Inner.Serving.{EndsServing, GoesOn, HasAnswered, HasStopped, IsServing, Reached, StopsWithin, end_of, reached}
+use Rattle.afl_session.specs.Inner.Serving.{EndsServing, GoesOn, HasAnswered, HasStopped, IsServing, Reached, StopsWithin, end_of}
 use Rattle.afl_session.specs.Session.{AnswerRule, Replies, Serves}
 use Rattle.session_reports.specs.declared.reports.SessionEnd.{SessionEnd}
 use Rattle.session_reports.specs.declared.reports.SessionEnd.TheVariants.{Whole, Source}

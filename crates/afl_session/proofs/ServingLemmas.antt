@@ -1,23 +1,26 @@
 -- One statement more is answered.
-use Rattle.std.proofs.Common.{◌≡◌, ℕ, ◌-◌, Bool, true, false, if◌then◌else◌, List, [], ◌∷◌, ◌++◌, take, drop, Option, None, Some, inl, inr, Result, Ok, Err, MatchResult, OnOk, OnErr, IsErrOf, refl, sym, ◌∙◌, ap, subst, arith, append-nil}
+use Rattle.std.proofs.Common.{◌≡◌, ℕ, ◌-◌, Bool, true, false, if◌then◌else◌, ◌⊎◌, List, [], ◌∷◌, ◌++◌, take, drop, Option, None, Some, inl, inr, Result, Ok, Err, MatchResult, OnOk, OnErr, IsErrOf, refl, sym, ◌∙◌, ap, subst, arith, append-nil}
 use Rattle.std.proofs.lemmas.List.{take-append-drop}
 use Rattle.std.proofs.lemmas.List.Folds.{concat-append}
 use Rattle.std.specs.List.{concat}
 use Rattle.afl_lexer.specs.Split.{Statement}
+use Rattle.afl_lexer.specs.Inner.Standing.{Splitting, told}
+use Rattle.afl_lexer.specs.declared.splitter.SplitStep.{SplitStep}
+use Rattle.afl_lexer.specs.declared.splitter.SplitStep.TheVariants.{More, Blank}
 use Rattle.afl_outside.specs.Counts.{Rose}
 use Rattle.afl_outside.specs.Disk.{Moment}
-use Rattle.afl_outside.specs.Sink.{SinkState, Takes}
+use Rattle.afl_outside.specs.Sink.{Takes}
 use Rattle.afl_outside.proofs.Streams.{Takes-more}
 use Rattle.result_print.specs.declared.refusal.Refusal.{Refusal}
 use Rattle.result_print.specs.declared.refusal.Refusal.TheVariants as refusals
-use Rattle.statement_replies.specs.Reply.{memory_line, too_long}
+use Rattle.statement_replies.specs.Reply.{memory_line}
 use Rattle.statement_replies.specs.declared.replies.Reply.{Reply as Words}
 use Rattle.session_answers.specs.Event.{Event}
-use Rattle.session_answers.specs.Replies.{words_of, HasLine}
+use Rattle.session_answers.specs.Replies.{HasLine}
 use Rattle.session_answers.specs.Reply.{Reply}
 use Rattle.session_answers.specs.Start.{Start}
 use Rattle.session_reports.specs.Outcomes.{is_want}
-use Rattle.afl_session.specs.Inner.Serving.{GoesOn, HasAnswered, HasStopped, Reached, mark_at, place_after, reached, statement_at}
+use Rattle.afl_session.specs.Inner.Serving.{GoesOn, HasAnswered, HasStopped, Reached, mark_at, place_after, statement_at}
 use Rattle.afl_session.specs.Marked.{AnswersText, IsMarked, IsReplyOf, reply_told, written_for}
 use Rattle.afl_session.specs.Session.{AnswerRule, AreAnswered}
 use Rattle.session_reports.specs.declared.reports.Mark.{Mark}
@@ -87,8 +90,15 @@ module _ {D : Type 0} (moment : D → Moment) (origin : Start D) (session : ℕ)
 -- ---- what a session has done
 
 -- no statement came
-pub goes_nowhere : (Answered : AnswerRule) (now : Reached) (marks : List Mark) → GoesOn Answered now now marks marks [] (Ok tt)
-goes_nowhere Answered now marks first before so_far = subst (λ (ss : List Statement). HasAnswered Answered first now ss marks) (sym (append-nil before)) so_far
+pub nothing_told : (step : SplitStep) (splitter : Splitting) → (step ≡ More) ⊎ (step ≡ Blank) → told step splitter ≡ []
+nothing_told step splitter is = elim is [
+  | inl more ↦ ap (λ (s : SplitStep). told s splitter) more
+  | inr blank ↦ ap (λ (s : SplitStep). told s splitter) blank
+]
+
+pub goes_nowhere : (Answered : AnswerRule) (now : Reached) (marks : List Mark) (none : List Statement) → none ≡ [] → GoesOn Answered now now marks marks none (Ok tt)
+goes_nowhere Answered now marks none is first before so_far =
+    subst (λ (ss : List Statement). HasAnswered Answered first now ss marks) (sym (ap (λ (ss : List Statement). before ++ ss) is ∙ append-nil before)) so_far
 
 -- no room was found for its mark
 pub stops_before : (Answered : AnswerRule) (now : Reached) (marks : List Mark) (next : Statement) → GoesOn Answered now now marks marks (next ∷ []) (Err Memory)

@@ -13,7 +13,7 @@ loop-byte-preserved g c =
     let i = c.loop-byte.byte-index in
     let bytes = c.args.bytes.now in
     let push = c.push-step.ensures in
-    let step = c.take_step.ensures in
+    let step = c.take_step-taken.ensures in
     let so_far = c.loop-byte.invariant in
     record {
       seat = step.seat;
@@ -25,7 +25,7 @@ loop-byte-preserved g c =
       answered = λ session first script own stands answered.
           byte_taken (IsMarked g.D.Disk.moment (start g.D.Disk.moment c.args.shared.now) session) first _ _ script bytes i c.loop-byte-test.true _ _ _
           (push.statements (script ++ take i bytes) (so_far.stands script stands)) (so_far.answered session first script own stands answered)
-          (step.goes_on session (so_far.same ∙ own));
+          (rw c.in-Ok.is at (step.goes_on session (so_far.same ∙ own)));
     }
 
 pub returns-in-Err-clause-serving : goal.returns-in-Err-clause-serving
@@ -36,7 +36,7 @@ returns-in-Err-clause-serving g c session first script own serving =
     let so_far = c.loop-byte.invariant in
     byte_stops (IsMarked g.D.Disk.moment (start g.D.Disk.moment c.args.shared.now) session) first _ _ script bytes i c.loop-byte-test.true _ _ _
     (push.statements (script ++ take i bytes) (so_far.stands script serving.stands)) (so_far.answered session first script own serving.stands serving.answered)
-    c.in-Err.stopped (c.take_step.ensures.goes_on session (so_far.same ∙ own))
+    c.in-Err.stopped (rw c.in-Err.is at (c.take_step-taken.ensures.goes_on session (so_far.same ∙ own)))
 
 pub returns-clause-serving : goal.returns-clause-serving
 returns-clause-serving g c session first script own serving =
