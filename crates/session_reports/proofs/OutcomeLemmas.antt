@@ -1,5 +1,5 @@
 -- What a notice tells of the sessions that it is told of.
-use Rattle.std.proofs.Common.{◌≡◌, ◌⊎◌, ℕ, zero, suc, ◌<◌, ◌≤◌, Bool, true, false, ◌||◌, IsTrue, List, [], ◌∷◌, length, get_or, position, Option, None, Some, All, Any, inl, inr, refl, sym, ◌∙◌, subst, arith}
+use Rattle.std.proofs.Common.{◌≡◌, ◌⊎◌, ℕ, zero, suc, ◌<◌, ◌≤◌, Bool, true, false, ◌||◌, IsTrue, List, [], ◌∷◌, length, get_or, position, Option, None, Some, All, Any, inl, inr, refl, sym, ◌∙◌, ap, subst, arith}
 use Rattle.std.specs.List.{list_any, position_or_len}
 use Rattle.std.specs.Option.{option_or}
 use Rattle.std.proofs.lemmas.Grind.{common_steps}
@@ -82,7 +82,7 @@ breaks : (end : SessionEnd) → (end ≡ ends.Source) ⊎ (end ≡ ends.Sink) �
 breaks end is = elim is [ inl source ↦ rw source refl | inr sink ↦ rw sink refl ]
 
 -- a test that passes nowhere passes at no place
-fails_at : {X : Type 0} (p : X → Bool) (xs : List X) (k : ℕ) (d : X) → k < length xs → list_any p xs ≡ false → p (get_or xs k d) ≡ false
+pub fails_at : {X : Type 0} (p : X → Bool) (xs : List X) (k : ℕ) (d : X) → k < length xs → list_any p xs ≡ false → p (get_or xs k d) ≡ false
 fails_at p [] k d within none = absurd (omega (arith, within))
 fails_at p (x ∷ xs) zero d within none = (either_false (p x) (list_any p xs) none).0
 fails_at p (x ∷ xs) (suc k) d within none = fails_at p xs k d (omega (arith, within)) (either_false (p x) (list_any p xs) none).1
@@ -173,6 +173,16 @@ module _ {S K : Type 0} where
       whole r.end (either_false (is_want_end r.end) (list_any (λ m. is_want m.refusal) r.marks) (fails_at lacks_memory reports k d within wants)).0
       (unbroken_at reports k d within session)
 
+  -- what the parts tell is told of all
+  pub chosen : (reports : List (SessionReport S K)) (wants faults : Bool) (page session : Option ℕ) (refused : Bool) → wants ≡ list_any lacks_memory reports
+      → faults ≡ list_any has_fault reports → page ≡ first_damage reports → session ≡ position breaks_off reports → refused ≡ list_any has_refusal reports
+      → notice_by wants faults page session refused ≡ notice_of reports
+  chosen reports wants faults page session refused of_wants of_faults of_page of_session of_refused =
+      ap (λ (b : Bool). notice_by b faults page session refused) of_wants ∙ ap (λ (b : Bool). notice_by (list_any lacks_memory reports) b page session refused) of_faults
+      ∙ ap (λ (o : Option ℕ). notice_by (list_any lacks_memory reports) (list_any has_fault reports) o session refused) of_page
+      ∙ ap (λ (o : Option ℕ). notice_by (list_any lacks_memory reports) (list_any has_fault reports) (first_damage reports) o refused) of_session
+      ∙ ap (λ (b : Bool). notice_by (list_any lacks_memory reports) (list_any has_fault reports) (first_damage reports) (position breaks_off reports) b) of_refused
+
   module _ (reports : List (SessionReport S K)) (notice : Notice) (is_notice : notice ≡ notice_of reports) where
     told : IsTold notice (list_any lacks_memory reports) (list_any has_fault reports) (first_damage reports) (position breaks_off reports) (list_any has_refusal reports)
     told = subst (λ (n : Notice). IsTold n (list_any lacks_memory reports) (list_any has_fault reports) (first_damage reports) (position breaks_off reports) (list_any has_refusal reports))
@@ -185,17 +195,20 @@ module _ {S K : Type 0} where
     pub is_done : notice ≡ Done → All (λ r. (r.end ≡ ends.Whole) × All (λ m. m.refusal ≡ None) r.marks) reports
     is_done is k d within =
         let h = told_as Done is in
-        let r = get_or reports k d in
-        (whole_at reports k d within h.0.no_want h.0.no_session, all_accepted r.marks
-        (either_false (is_want_end r.end) (list_any (λ m. is_want m.refusal) r.marks) (fails_at lacks_memory reports k d within h.0.no_want)).1
-        (fails_at has_fault reports k d within h.0.no_fault) (none_at (λ (r : SessionReport S K). damage_in r.marks) reports k d within h.0.no_page) (fails_at has_refusal reports k d within h.1))
+        let r = get_or reports k d in (
+          whole_at reports k d within h.0.no_want h.0.no_session,
+          all_accepted r.marks
+              (either_false (is_want_end r.end) (list_any (λ m. is_want m.refusal) r.marks) (fails_at lacks_memory reports k d within h.0.no_want)).1
+              (fails_at has_fault reports k d within h.0.no_fault) (none_at (λ (r : SessionReport S K). damage_in r.marks) reports k d within h.0.no_page) (fails_at has_refusal reports k d within h.1),
+        )
 
     pub is_refused : notice ≡ Refused → All (λ r. r.end ≡ ends.Whole) reports × Any (λ r. Any (λ m. IsTrue (is_refusal m.refusal)) r.marks) reports
     is_refused is =
-        let h = told_as Refused is in
-        (λ k d within. whole_at reports k d within h.0.no_want h.0.no_session,
-        some_such (λ (r : SessionReport S K). has_refusal r ≡ true) (λ r. Any (λ m. IsTrue (is_refusal m.refusal)) r.marks) reports
-        (λ r some. Any-from_list_any (λ m. is_refusal m.refusal) r.marks some) (Any-from_list_any has_refusal reports h.1))
+        let h = told_as Refused is in (
+          λ k d within. whole_at reports k d within h.0.no_want h.0.no_session,
+          some_such (λ (r : SessionReport S K). has_refusal r ≡ true) (λ r. Any (λ m. IsTrue (is_refusal m.refusal)) r.marks) reports
+              (λ r some. Any-from_list_any (λ m. is_refusal m.refusal) r.marks some) (Any-from_list_any has_refusal reports h.1),
+        )
 
     pub is_disk : notice ≡ Disk → Any (λ r. Any (λ m. m.refusal ≡ Some refusals.Disk) r.marks) reports
     is_disk is =

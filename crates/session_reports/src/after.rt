@@ -1,7 +1,8 @@
 //! What a run tells of its sessions.
-ghost use Rattle.std.specs.Prelude.{◌≡◌, ◌≤◌, ◌⊎◌, ℕ, length, position, All, Any, IsTrue};
+ghost use Rattle.std.specs.Prelude.{◌≡◌, ◌≤◌, ◌<◌, ◌⊎◌, ℕ, length, position, All, Any, IfSome, IsTrue};
 ghost use Rattle.std.specs.List.{list_any};
-ghost use Rattle.session_reports.specs.Outcomes.{IsFirst, breaks_off, damage_in, damaged_page, first_damage, has_fault, has_refusal, is_fault, is_refusal, is_stream_end, is_want, lacks_memory, notice_of};
+ghost use Rattle.session_reports.specs.Outcomes.{IsFirst, breaks_off, damage_in, damaged_page, first_damage, has_fault, has_refusal, lacks_memory, notice_of};
+ghost use Rattle.session_reports.specs.Outcomes.{is_fault, is_refusal, is_stream_end, is_want};
 
 use crate::notices::Notice;
 use crate::reports::{Mark, SessionEnd, SessionReport};
@@ -15,14 +16,17 @@ pub fn notice_after<S, K>(sessions: &[SessionReport<S, K>]) -> Notice
 
     // Then each script was read to its end, and each statement accepted.
     ensures done { result ≡ Notice.Done → All (λ r. (r.end ≡ SessionEnd.Whole) × All (λ m. m.refusal ≡ None) r.marks) sessions.now }
-    ensures refused { result ≡ Notice.Refused → All (λ r. r.end ≡ SessionEnd.Whole) sessions.now × Any (λ r. Any (λ m. IsTrue (is_refusal m.refusal)) r.marks) sessions.now }
+    ensures refused { result ≡ Notice.Refused → All (λ r. r.end ≡ SessionEnd.Whole) sessions.now
+        × Any (λ r. Any (λ m. IsTrue (is_refusal m.refusal)) r.marks) sessions.now }
 
     // The disk failed, or a page was damaged, where a reply says so.
     ensures disk { result ≡ Notice.Disk → Any (λ r. Any (λ m. m.refusal ≡ Some Refusal.Disk) r.marks) sessions.now }
-    ensures damaged { (page : ℕ) → result ≡ Notice.Damaged page → Any (λ r. Any (λ m. m.refusal ≡ Some (Refusal.Damaged page)) r.marks) sessions.now }
+    ensures damaged { (page : ℕ) → result ≡ Notice.Damaged page
+        → Any (λ r. Any (λ m. m.refusal ≡ Some (Refusal.Damaged page)) r.marks) sessions.now }
 
     // The least session whose source or sink failed.
-    ensures stream { (session : ℕ) → result ≡ Notice.Stream session → IsFirst (λ r. (r.end ≡ SessionEnd.Source) ⊎ (r.end ≡ SessionEnd.Sink)) session sessions.now }
+    ensures stream { (session : ℕ) → result ≡ Notice.Stream session
+        → IsFirst (λ r. (r.end ≡ SessionEnd.Source) ⊎ (r.end ≡ SessionEnd.Sink)) session sessions.now }
 {
     if is_any_without_memory(sessions) {
         return Notice::Memory;
@@ -69,7 +73,9 @@ fn is_unanswered(mark: &Mark) -> bool
 fn is_any_with_fault<S, K>(sessions: &[SessionReport<S, K>]) -> bool
     ensures { result ≡ list_any has_fault sessions.now }
 {
-    sessions.iter().any(|session| meets_fault(session.marks.as_slice()))
+    sessions
+        .iter()
+        .any(|session| meets_fault(session.marks.as_slice()))
 }
 
 fn meets_fault(marks: &[Mark]) -> bool
@@ -121,10 +127,19 @@ fn first_broken_off<S, K>(sessions: &[SessionReport<S, K>]) -> Option<u32>
     requires { length sessions.now ≤ 16 }
     ensures { result ≡ position breaks_off sessions.now }
 {
-    match sessions.iter().position(|session| is_broken_off(session.end)) {
+    match first_place(sessions) {
         Some(place) => Some(place as u32),
         None => None,
     }
+}
+
+fn first_place<S, K>(sessions: &[SessionReport<S, K>]) -> Option<usize>
+    ensures place { result ≡ position breaks_off sessions.now }
+    ensures within { IfSome result (λ place. place < length sessions.now) }
+{
+    sessions
+        .iter()
+        .position(|session| is_broken_off(session.end))
 }
 
 fn is_broken_off(end: SessionEnd) -> bool
@@ -137,7 +152,9 @@ fn is_broken_off(end: SessionEnd) -> bool
 fn is_any_refused<S, K>(sessions: &[SessionReport<S, K>]) -> bool
     ensures { result ≡ list_any has_refusal sessions.now }
 {
-    sessions.iter().any(|session| meets_refusal(session.marks.as_slice()))
+    sessions
+        .iter()
+        .any(|session| meets_refusal(session.marks.as_slice()))
 }
 
 fn meets_refusal(marks: &[Mark]) -> bool
