@@ -1,6 +1,5 @@
 -- What a session was answered, over a whole history that begins with all that it had seen.
 use Rattle.std.specs.Prelude.{◌≡◌, ◌≤◌, ◌⊎◌, ℕ, List, [], length, Some}
-use Rattle.afl_lexer.specs.Split.{Statement}
 use Rattle.afl_outside.specs.Disk.{Moment}
 use Rattle.afl_trees.specs.Term.{Term}
 use Rattle.afl_trees.specs.Statement.{DerivesText, StopsText}
@@ -14,7 +13,6 @@ use Rattle.session_answers.specs.Replies.{HasLine, IsToldFor}
 use Rattle.session_answers.specs.Reply.{Reply}
 use Rattle.session_answers.specs.Start.{Start}
 use Rattle.session_answers.specs.Told.{entries_in}
-use Rattle.session_reports.specs.declared.reports.Mark.{Mark}
 use Rattle.afl_session.specs.Marked.{IsMarkedBy, ReplyRule}
 use Rattle.afl_session.specs.Session.{AnswerRule}
 

@@ -1,5 +1,5 @@
 -- A statement that is too long, behind a reply at place 3, as its mark tells it.
-use Rattle.std.specs.Prelude.{ℕ, List, [], ◌++◌, None, Some, codes}
+use Rattle.std.specs.Prelude.{ℕ, List, [], None, Some, codes}
 use Rattle.afl_outside.specs.Disk.{Moment}
 use Rattle.afl_lexer.specs.Split.{Statement}
 use Rattle.result_print.specs.declared.refusal.Refusal.TheVariants.{TooLong}
