@@ -1,0 +1,241 @@
+-- What was answered, as more events come.
+use Rattle.std.proofs.Common.{◌≡◌, ◌∙◌, ℕ, ◌+◌, ◌-◌, ◌≤◌, ◌⊎◌, inl, inr, Bool, true, List, [], ◌∷◌, ◌++◌, length, Option, None, Some, ap, refl, sym, subst, arith, append-nil, append_assoc}
+use Rattle.std.specs.List.{list_all}
+use Rattle.std.proofs.lemmas.Bool.{and_parts}
+use Rattle.std.proofs.lemmas.Option.{slice_get_within}
+use Rattle.std.proofs.lemmas.List.Folds.{list_all-append}
+use Rattle.afl_lexer.specs.Split.{Statement, closed_statements, statements}
+use Rattle.afl_outside.specs.Disk.{Moment}
+use Rattle.afl_outside.specs.Source.{SourceState}
+use Rattle.afl_outside.specs.Sink.{SinkState}
+use Rattle.afl_trees.specs.Term.{Term}
+use Rattle.event_core.specs.declared.entry.Entry.TheVariants.{Commit, Pin}
+use Rattle.event_core.specs.declared.entry.Used.{Used}
+use Rattle.plan_changes.specs.declared.change.Change.{Change}
+use Rattle.result_print.specs.declared.refusal.Refusal.{Refusal}
+use Rattle.result_print.specs.declared.refusal.Refusal.TheVariants.{HistoryFull, Typing, Cell, Disk, Damaged, SequenceEnd, Full, Memory}
+use Rattle.session_answers.specs.Acts.{Course, nothing, looking, trying, making}
+use Rattle.session_answers.specs.Answered.{BeganAt, IsAnswered}
+use Rattle.session_answers.specs.Event.{Event}
+use Rattle.session_answers.specs.Replies.{EnteredAt, IsToldFor, WasAt}
+use Rattle.session_answers.specs.Reply.{Reply}
+use Rattle.session_answers.specs.Start.{Start}
+use Rattle.session_answers.specs.Told.{entries_in, is_sealed}
+use Rattle.session_replies.proofs.Beginnings.{reached}
+use Rattle.session_replies.proofs.Staying.{change_later, entered_later, replies_stay}
+use Rattle.session_reports.specs.declared.reports.Mark.{Mark}
+use Rattle.session_reports.specs.declared.reports.SessionEnd.{SessionEnd}
+use Rattle.session_reports.specs.declared.reports.SessionEnd.TheVariants as ends
+use Rattle.afl_session.specs.Histories.{AnswersTextIn, IsAnsweredIn, IsMarkedIn}
+use Rattle.afl_session.specs.Laws.{MarksStay, SessionsStay}
+use Rattle.afl_session.specs.Marked.{AnswersText, IsMarked, IsReplyOf, reply_told}
+use Rattle.afl_session.specs.Session.{AnswerRule, AnswersAll, AnswersFront, AreAnswered, LeavesOne, Replies, Serves, decided}
+
+-- ---- a reply in more events
+
+module _ {D : Type 0} (moment : D → Moment) (origin : Start D) (session pin : ℕ) (old new later own : List Event) (text : List ℕ) (tree : Term) (reply : Reply) where
+  -- the place of a reply was reached, but for one that tells that no memory was found
+  abbrev IsReached : Option Refusal → Type 0
+  IsReached refusal = (reply.place ≤ length (entries_in new)) ⊎ (refusal ≡ Some Memory)
+
+  behind_pin : EnteredAt (length (entries_in old)) (Pin session) pin new → reply.place ≡ pin + 1 → reply.place ≤ length (entries_in new)
+  behind_pin began place = let within = slice_get_within (entries_in new) pin (Pin session) began.is in omega (arith, within, place)
+
+  at_commit : (change : Change) (used : Used) → EnteredAt pin (Commit session change used) reply.place new → reply.place ≤ length (entries_in new)
+  at_commit change used entered = let within = slice_get_within (entries_in new) reply.place (Commit session change used) entered.is in omega (arith, within)
+
+  was_reached : (then : List Event) → WasAt reply.place then new → reply.place ≤ length (entries_in new)
+  was_reached then was =
+      let counted : reply.place ≤ length (entries_in then) = omega (arith, was.count) in
+      subst (λ (events : List Event). reply.place ≤ length (entries_in events)) (sym was.grown) (reached origin then was.later reply.place counted)
+
+  reached_by : (refusal : Option Refusal) (course : Course) → BeganAt session pin old new course → IsToldFor moment origin session pin new own text tree reply refusal course
+      → IsReached refusal
+  reached_by None looking began t = inl (behind_pin began t.0)
+  reached_by None (making change) began t = inl (at_commit change t.0.0 t.0.1)
+  reached_by (Some (Typing span kind)) looking began t = inl t.0.1
+  reached_by (Some (Cell at kind)) looking began t = inl t.0.1
+  reached_by (Some HistoryFull) nothing began t = inl (was_reached t.0 t.1)
+  reached_by (Some Disk) looking began t = inl t.0.1
+  reached_by (Some Disk) (trying change) began t = inl t.0.1
+  reached_by (Some (Damaged page)) looking began t = inl t.0.1
+  reached_by (Some SequenceEnd) (trying change) began t = inl t.0.1
+  reached_by (Some (Full needed free)) (trying change) began t = inl t.0.1
+  reached_by (Some Memory) course began t = inr refl
+  reached_by _ _ began t = absurd t
+
+  -- that no memory was found rests on no place
+  want_stays : (course : Course) → IsToldFor moment origin session pin new own text tree reply (Some Memory) course
+      → IsToldFor moment origin session pin (new ++ later) own text tree reply (Some Memory) course
+  want_stays nothing t = tt
+  want_stays looking t = tt
+  want_stays (trying change) t = (t.0, t.1, reached origin new later t.0 t.2, change_later moment origin new later text tree t.0 t.2 change t.3)
+  want_stays (making change) t = absurd t
+
+  rest_stays : (refusal : Option Refusal) (course : Course) → list_all is_sealed new ≡ true → reply.place ≤ length (entries_in new)
+      → IsToldFor moment origin session pin new own text tree reply refusal course
+      → IsToldFor moment origin session pin (new ++ later) own text tree reply refusal course
+  rest_stays refusal course sealed within t =
+      subst (λ (events : List Event). IsToldFor moment origin session pin (new ++ later) events text tree reply refusal course) (append-nil own)
+      (replies_stay moment origin session pin new later own [] text tree reply refusal course sealed within t)
+
+  told_stays : (refusal : Option Refusal) (course : Course) → list_all is_sealed new ≡ true → BeganAt session pin old new course
+      → IsToldFor moment origin session pin new own text tree reply refusal course
+      → IsToldFor moment origin session pin (new ++ later) own text tree reply refusal course
+  told_stays refusal course sealed began t = elim (reached_by refusal course began t) [
+    | inl within ↦ rest_stays refusal course sealed within t
+    | inr want ↦
+        subst (λ (r : Option Refusal). IsToldFor moment origin session pin (new ++ later) own text tree reply r course) (sym want)
+        (want_stays course (subst (λ (r : Option Refusal). IsToldFor moment origin session pin new own text tree reply r course) want t))
+  ]
+
+-- a statement's pin came where it came
+began_stays : (session pin : ℕ) (old new later : List Event) (course : Course) → BeganAt session pin old new course → BeganAt session pin old (new ++ later) course
+began_stays session pin old new later nothing began = tt
+began_stays session pin old new later looking began = entered_later (length (entries_in old)) (Pin session) pin new later began
+began_stays session pin old new later (trying change) began = entered_later (length (entries_in old)) (Pin session) pin new later began
+began_stays session pin old new later (making change) began = entered_later (length (entries_in old)) (Pin session) pin new later began
+
+-- ---- a mark in more events
+
+module _ {D : Type 0} (moment : D → Moment) (origin : Start D) (session : ℕ) where
+  answer_stays : (old new later : List Event) (last : ℕ) (text : List ℕ) (reply : Reply) → list_all is_sealed new ≡ true
+      → IsAnswered moment origin session last old new text reply → IsAnsweredIn moment origin session (new ++ later) old new last text reply
+  answer_stays old new later last text reply sealed answered = record {
+    own = answered.own;
+    course = answered.course;
+    pin = answered.pin;
+    adds = answered.adds;
+    acts = answered.acts;
+    began = began_stays session answered.pin old new later answered.course answered.began;
+    line = answered.line;
+    told = λ tree derives.
+        let t = answered.told tree derives in
+        (t.0, told_stays moment origin session answered.pin old new later answered.own text tree reply reply.refusal answered.course sealed answered.began t.1);
+    stopped = answered.stopped;
+  }
+
+  reply_stays : (old new later : List Event) (last bytes : ℕ) (text : Option (List ℕ)) (reply : Reply) → list_all is_sealed new ≡ true
+      → IsReplyOf (AnswersText moment origin session) old new last bytes text reply → IsReplyOf (AnswersTextIn moment origin session (new ++ later)) old new last bytes text reply
+  reply_stays old new later last bytes None reply sealed replied = replied
+  reply_stays old new later last bytes (Some text) reply sealed replied = answer_stays old new later last text reply sealed replied
+
+  mark_stays : (old new later : List Event) (last : ℕ) (statement : Statement) (mark : Mark) (written : List ℕ) → list_all is_sealed new ≡ true
+      → IsMarked moment origin session old new last statement mark written → IsMarkedIn moment origin session (new ++ later) old new last statement mark written
+  mark_stays old new later last statement mark written sealed marked = record {
+    start = marked.start;
+    end = marked.end;
+    reply = reply_stays old new later last (statement.end - statement.start) statement.text (reply_told mark written) sealed marked.reply;
+    want = marked.want;
+  }
+
+  -- ---- what was seen only grows
+
+  record Grows (old new : List Event) : Type 0 where
+    more : List Event
+    grown : new ≡ old ++ more
+
+  reply_grows : (old new : List Event) (last bytes : ℕ) (text : Option (List ℕ)) (reply : Reply) → IsReplyOf (AnswersText moment origin session) old new last bytes text reply → Grows old new
+  reply_grows old new last bytes None reply replied = record { more = []; grown = replied.same ∙ sym (append-nil old) }
+  reply_grows old new last bytes (Some text) reply replied = record { more = replied.adds.more; grown = replied.adds.grown }
+
+  all_grow : (old : List Event) (last : ℕ) (ss : List Statement) (ms : List Mark) (ts : List (List ℕ)) (new : List Event)
+      → AreAnswered (IsMarked moment origin session) old last ss ms ts new → Grows old new
+  all_grow old last [] [] [] new all = record { more = []; grown = sym all ∙ sym (append-nil old) }
+  all_grow old last (s ∷ ss) (m ∷ ms) (t ∷ ts) new all =
+      let first : Grows old all.0 = reply_grows old all.0 last (s.end - s.start) s.text (reply_told m t) all.1.reply in
+      let rest : Grows all.0 new = all_grow all.0 m.place ss ms ts new all.2 in
+      record { more = first.more ++ rest.more; grown = rest.grown ∙ ap (λ (es : List Event). es ++ rest.more) first.grown ∙ append_assoc old first.more rest.more }
+  all_grow old last [] [] (t ∷ ts) new all = absurd all
+  all_grow old last [] (m ∷ ms) ts new all = absurd all
+  all_grow old last (s ∷ ss) [] ts new all = absurd all
+  all_grow old last (s ∷ ss) (m ∷ ms) [] new all = absurd all
+
+  sealed_before : (old new more : List Event) → new ≡ old ++ more → list_all is_sealed new ≡ true → list_all is_sealed old ≡ true
+  sealed_before old new more grown sealed =
+      (and_parts (list_all is_sealed old) (list_all is_sealed more) (sym (list_all-append is_sealed old more) ∙ ap (list_all is_sealed) (sym grown) ∙ sealed)).0
+
+  -- ---- all marks in more events
+
+  each_stays : (whole later : List Event) (old : List Event) (last : ℕ) (ss : List Statement) (ms : List Mark) (ts : List (List ℕ)) (new : List Event)
+      → whole ≡ new ++ later → list_all is_sealed new ≡ true → AreAnswered (IsMarked moment origin session) old last ss ms ts new
+      → AreAnswered (IsMarkedIn moment origin session whole) old last ss ms ts new
+  each_stays whole later old last [] [] [] new is sealed all = all
+  each_stays whole later old last (s ∷ ss) (m ∷ ms) (t ∷ ts) new is sealed all =
+      let rest : Grows all.0 new = all_grow all.0 m.place ss ms ts new all.2 in
+      let longer : whole ≡ all.0 ++ (rest.more ++ later) = is ∙ ap (λ (es : List Event). es ++ later) rest.grown ∙ append_assoc all.0 rest.more later in (
+        all.0,
+        subst (λ (es : List Event). IsMarkedIn moment origin session es old all.0 last s m t) (sym longer)
+            (mark_stays old all.0 (rest.more ++ later) last s m t (sealed_before all.0 new rest.more rest.grown sealed) all.1),
+        each_stays whole later all.0 m.place ss ms ts new is sealed all.2,
+      )
+  each_stays whole later old last [] [] (t ∷ ts) new is sealed all = absurd all
+  each_stays whole later old last [] (m ∷ ms) ts new is sealed all = absurd all
+  each_stays whole later old last (s ∷ ss) [] ts new is sealed all = absurd all
+  each_stays whole later old last (s ∷ ss) (m ∷ ms) [] new is sealed all = absurd all
+
+-- ---- what was served, by another rule
+
+module _ (Answered Told : AnswerRule) (old : List Event) (last : ℕ) (new : List Event)
+    (each : (ss : List Statement) (ms : List Mark) (ts : List (List ℕ)) → AreAnswered Answered old last ss ms ts new → AreAnswered Told old last ss ms ts new) where
+  all_told : (ss : List Statement) (ms : List Mark) (written : List ℕ) → AnswersAll Answered old last new ss ms written → AnswersAll Told old last new ss ms written
+  all_told ss ms written all = record { texts = all.texts; each = each ss ms all.texts all.each; whole = all.whole }
+
+  front_told : (ss : List Statement) (ms : List Mark) (written : List ℕ) → AnswersFront Answered old last new ss ms written → AnswersFront Told old last new ss ms written
+  front_told ss ms written front = record {
+    answered = front.answered;
+    unanswered = front.unanswered;
+    in_order = front.in_order;
+    texts = front.texts;
+    begun = front.begun;
+    at_most_one = front.at_most_one;
+    each = each front.answered ms (front.texts ++ front.begun) front.each;
+    front = front.front;
+    unwritten = front.unwritten;
+    parts = front.parts;
+    printed = front.printed;
+  }
+
+  one_told : (ss : List Statement) (ms : List Mark) (written : List ℕ) → LeavesOne Answered old last new ss ms written → LeavesOne Told old last new ss ms written
+  one_told ss ms written left = record {
+    answered = left.answered;
+    next = left.next;
+    rest = left.rest;
+    in_order = left.in_order;
+    all = all_told left.answered ms written left.all;
+  }
+
+  replies_told : (end : SessionEnd) (is_whole : Bool) (read : List ℕ) (ms : List Mark) (written : List ℕ) → Replies Answered old last new end is_whole read ms written
+      → Replies Told old last new end is_whole read ms written
+  replies_told ends.Whole is_whole read ms written replies = (replies.0, all_told (statements read) ms written replies.1)
+  replies_told ends.Source is_whole read ms written replies = (replies.0, all_told (closed_statements read) ms written replies.1)
+  replies_told ends.Sink is_whole read ms written replies = front_told (decided is_whole read) ms written replies
+  replies_told ends.Memory is_whole read ms written replies = front_told (decided is_whole read) ms written replies
+
+  serves_told : (source source' : SourceState) (sink sink' : SinkState) (ms : List Mark) (end : SessionEnd)
+      → Serves Answered old last new source source' sink sink' ms end → Serves Told old last new source source' sink sink' ms end
+  serves_told source source' sink sink' ms end serves = record {
+    read = serves.read;
+    unread = serves.unread;
+    is_whole = serves.is_whole;
+    written = serves.written;
+    gives = serves.gives;
+    takes = serves.takes;
+    replies = replies_told end serves.is_whole serves.read ms serves.written serves.replies;
+    at_end = serves.at_end;
+    source_fault = serves.source_fault;
+    sink_fault = serves.sink_fault;
+    memory = λ is. elim (serves.memory is) [
+      | inl rose ↦ inl rose
+      | inr left ↦ inr (one_told (decided serves.is_whole serves.read) ms serves.written left)
+    ];
+  }
+
+pub marks_stay : {D : Type 0} (moment : D → Moment) → MarksStay moment
+marks_stay moment origin session old new later last statement mark written sealed marked =
+    mark_stays moment origin session old new later last statement mark written sealed marked
+
+pub sessions_stay : {D : Type 0} (moment : D → Moment) → SessionsStay moment
+sessions_stay moment origin session old new later last source source' sink sink' marks end sealed serves =
+    serves_told (IsMarked moment origin session) (IsMarkedIn moment origin session (new ++ later)) old last new
+    (λ ss ms ts. each_stays moment origin session (new ++ later) later old last ss ms ts new refl sealed) source source' sink sink' marks end serves

@@ -1,0 +1,40 @@
+-- What a session was answered, over a whole history that begins with all that it had seen.
+use Rattle.std.specs.Prelude.{◌≡◌, ◌≤◌, ◌⊎◌, ℕ, List, [], length, Some}
+use Rattle.afl_outside.specs.Disk.{Moment}
+use Rattle.afl_trees.specs.Term.{Term}
+use Rattle.afl_trees.specs.Statement.{DerivesText, StopsText}
+use Rattle.afl_trees.specs.declared.kind.ParseKind.{ParseKind}
+use Rattle.result_print.specs.declared.refusal.Refusal.TheVariants.{Memory}
+use Rattle.session_answers.specs.Acts.{acts_for, acts_in, Course}
+use Rattle.session_answers.specs.Answered.{BeganAt, IsStopReply}
+use Rattle.session_answers.specs.Courses.{AddsOwn}
+use Rattle.session_answers.specs.Event.{Event}
+use Rattle.session_answers.specs.Replies.{HasLine, IsToldFor}
+use Rattle.session_answers.specs.Reply.{Reply}
+use Rattle.session_answers.specs.Start.{Start}
+use Rattle.session_answers.specs.Told.{entries_in}
+use Rattle.afl_session.specs.Marked.{IsMarkedBy, ReplyRule}
+use Rattle.afl_session.specs.Session.{AnswerRule}
+
+-- A STATEMENT IN ONE HISTORY: between what its session had seen before and then, it did this of its own; its pin came at that place of the history,
+-- and its reply, which is that of its tree or of its stop, tells at its place of the history what it has to
+pub record IsAnsweredIn {D : Type 0} (moment : D → Moment) (origin : Start D) (session : ℕ) (events old new : List Event)
+    (last : ℕ) (text : List ℕ) (reply : Reply) : Type 0 where
+  pub own : List Event
+  pub course : Course
+  pub pin : ℕ
+  pub adds : AddsOwn session own old new
+  pub acts : acts_in own ≡ acts_for course
+  pub began : BeganAt session pin old events course
+  pub line : HasLine reply reply.refusal
+  pub told : (tree : Term) → DerivesText text tree
+      → (length (entries_in old) ≤ reply.place) × IsToldFor moment origin session pin events own text tree reply reply.refusal course
+  pub stopped : (at : ℕ) (kind : ParseKind) → StopsText text at kind → (own ≡ []) × (IsStopReply last at kind reply ⊎ (reply.refusal ≡ Some Memory))
+
+module _ {D : Type 0} (moment : D → Moment) (origin : Start D) (session : ℕ) (events : List Event) where
+  abbrev pub AnswersTextIn : ReplyRule
+  AnswersTextIn old new last text reply = IsAnsweredIn moment origin session events old new last text reply
+
+  -- A STATEMENT'S MARK, AND THE TEXT THAT IT WAS ANSWERED, in one history
+  abbrev pub IsMarkedIn : AnswerRule
+  IsMarkedIn old new last statement mark written = IsMarkedBy AnswersTextIn old new last statement mark written
