@@ -1,10 +1,11 @@
 -- The answer to a tree, about its pin and its unpin.
-use Rattle.std.proofs.Common.{◌≡◌, ◌∙◌, ◌≤◌, ℕ, true, List, [], ◌∷◌, ◌++◌, length, inl, inr, Option, Some, refl, ap, sym, subst, arith, append-nil}
+use Rattle.std.proofs.Common.{◌≡◌, ◌∙◌, ◌≤◌, ℕ, true, List, [], ◌∷◌, ◌++◌, length, inl, inr, Option, None, Some, refl, ap, sym, subst, arith, append-nil}
 use Rattle.std.specs.List.{list_all}
 use Rattle.std.proofs.lemmas.Bool.{eq-eqb}
 use Rattle.afl_outside.specs.Disk.{Moment}
 use Rattle.afl_trees.specs.Term.{Term}
 use Rattle.event_core.specs.declared.entry.Entry.TheVariants.{Pin, Unpin}
+use Rattle.logical_plan.specs.declared.names.Names.{Names}
 use Rattle.result_print.specs.declared.refusal.Refusal.{Refusal}
 use Rattle.result_print.specs.declared.refusal.Refusal.TheVariants as refusals
 use Rattle.statement_replies.specs.declared.replies.Reply.{Reply as Told}
@@ -31,9 +32,14 @@ use Rattle.session_turns.specs.Under.{IsAnsweredUnder}
 use Rattle.session_answers.specs.Answered.{BeganAt}
 use Rattle.session_answers.specs.Inner.Tree.{IsAnsweredTree}
 use Rattle.session_answers.specs.Reads.{counted, ReadsOnce}
-use Rattle.session_answers.proofs.Counting.{counted_then}
+use Rattle.session_answers.proofs.Counting.{counted_then, refusal_refuses, want_refuses}
 use Rattle.session_answers.proofs.Prefixed.{told_before}
 use Rattle.session_answers.proofs.Tried.{own_first}
+
+-- what is told of a pin as one record is told of its parts
+pub pin_parts : (pinned : Pinned) (session place : ℕ) (names : Names) → pinned ≡ record { session = session; place = place; names = names } →
+    (pinned.session ≡ session) × (pinned.place ≡ place)
+pin_parts pinned session place names e = (ap (λ (p : Pinned). p.session) e, ap (λ (p : Pinned). p.place) e)
 
 -- a turn in which a session entered one entry of its own
 one_adds : (session : ℕ) (event : Event) (old new : List Event) → own_events session (event ∷ []) ≡ event ∷ [] → Adds session (event ∷ []) old new →
@@ -99,12 +105,12 @@ module _ {D : Type 0} (moment : D → Moment) (start : Start D) (session : ℕ) 
   }
 
   -- and so many chunks were counted, as the history then tells it
-  pub is_read_once : list_all is_sealed mid ≡ true → (before after : ℕ) → after ≡ counted start mid pinned.place pinned.names text tree before →
-      ReadsOnce start session old new text tree before after
-  is_read_once whole before after e = record {
+  pub is_read_once : list_all is_sealed mid ≡ true → (before first last after : ℕ) → first ≡ before →
+      last ≡ counted start mid pinned.place pinned.names text tree first → after ≡ last → ReadsOnce start session old new text tree before after
+  is_read_once whole before first last after pins reads unpins = record {
     pin = pinned.place;
     began = entered;
-    reads = e ∙ counted_then moment start session before mid new pinned text tree o whole (under.own ++ Entered (Unpin session) ∷ []) rest_adds;
+    reads = unpins ∙ reads ∙ ap (counted start mid pinned.place pinned.names text tree) pins ∙ counted_then moment start session before mid new pinned text tree o whole (under.own ++ Entered (Unpin session) ∷ []) rest_adds;
   }
 
 -- ---- without a pin
@@ -140,3 +146,10 @@ module _ {D : Type 0} (moment : D → Moment) (start : Start D) (session : ℕ) 
       unpinned (Some refusals.HistoryFull) (ap (λ (words : Told). words.refusal) e) (ap (λ (words : Told). words.text) e) count
       (new, record { later = []; grown = sym (append-nil new); count = count }, why.0)
   full_is_answered entries (inr w) at why = want_is_answered w (at ∙ why.1)
+
+  -- a statement that is refused tells nothing of what it reads
+  pub want_reads : IsWant reply → (before after : ℕ) → reply.refusal ≡ None → ReadsOnce start session old new text tree before after
+  want_reads w before after accepts = absurd (want_refuses reply w accepts)
+
+  pub full_reads : Refuses refusals.HistoryFull reply → (before after : ℕ) → reply.refusal ≡ None → ReadsOnce start session old new text tree before after
+  full_reads r before after accepts = absurd (refusal_refuses refusals.HistoryFull reply r accepts)

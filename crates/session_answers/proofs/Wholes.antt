@@ -1,5 +1,5 @@
 -- The answer to a text: that to its tree, that of its stop, or that no memory was found.
-use Rattle.std.proofs.Common.{◌≡◌, ◌∙◌, ℕ, List, [], length, inl, inr, Option, Some, Ok, Err, refl, ap, sym, subst, arith}
+use Rattle.std.proofs.Common.{◌≡◌, ◌∙◌, ℕ, List, [], length, inl, inr, Option, None, Some, Ok, Err, refl, ap, sym, subst, arith}
 use Rattle.afl_outside.specs.Disk.{Moment}
 use Rattle.afl_parser.specs.declared.fault.ParseFault.TheVariants as stops
 use Rattle.afl_parser.specs.Outcome.{AnswersStop, AnswersTree}
@@ -20,6 +20,8 @@ use Rattle.session_sources.specs.Told.{entries_in}
 use Rattle.session_sources.proofs.CourseLaws.{courses_may_be_empty}
 use Rattle.session_answers.specs.Answered.{IsAnswered, IsStopReply}
 use Rattle.session_answers.specs.Inner.Tree.{IsAnsweredTree}
+use Rattle.session_answers.specs.Reads.{ReadsOnce}
+use Rattle.session_answers.proofs.Counting.{want_refuses}
 
 module _ {D : Type 0} (moment : D → Moment) (start : Start D) (session last : ℕ) (old new : List Event) (text : List ℕ) (reply : Reply) where
   pub tree_is_answered : (tree : Term) → IsAnsweredTree moment start session old new text tree reply → ((t : Term) → DerivesText text t → AnswersTree (Ok tree) t) →
@@ -59,8 +61,15 @@ module _ {D : Type 0} (moment : D → Moment) (start : Start D) (session last : 
     stopped = λ at kind stop. (refl, inr w.1);
   }
 
+  -- a statement that is refused tells nothing of what it reads
+  pub want_reads_none : IsWant reply → (tree : Term) (before after : ℕ) → reply.refusal ≡ None → ReadsOnce start session old old text tree before after
+  want_reads_none w tree before after accepts = absurd (want_refuses reply w accepts)
+
   module _ (at : ℕ) (kind : ParseKind) (place : reply.place ≡ last) (only_tree : (t : Term) → DerivesText text t → AnswersTree (Err (stops.At at kind)) t)
       (only_stop : (there : ℕ) (why : ParseKind) → StopsText text there why → AnswersStop (Err (stops.At at kind)) there why) where
+    pub stop_reads_none : (tree : Term) → DerivesText text tree → (before after : ℕ) → ReadsOnce start session old old text tree before after
+    stop_reads_none tree derives before after = absurd (only_tree tree derives)
+
     stop_words : words_of reply ≡ refused (Parse at kind) → (there : ℕ) (why : ParseKind) → (at ≡ there) × (kind ≡ why) → IsStopReply last there why reply
     stop_words e there why same = record {
       words = e ∙ ap (λ (n : ℕ). refused (Parse n kind)) same.0 ∙ ap (λ (k : ParseKind). refused (Parse there k)) same.1;

@@ -27,7 +27,8 @@ BeganAt session pin old new course = EnteredAt (length (entries_in old)) (Pin se
 
 -- A STATEMENT IS ANSWERED: behind all that its session had seen, and among others' events, it did this; its reply is that of its tree, or that
 -- of its stop, of which it has one; and the reply's place is behind all that the session had seen
-pub record IsAnswered {D : Type 0} (moment : D → Moment) (start : Start D) (session last : ℕ) (old new : List Event) (text : List ℕ) (reply : Reply) : Type 0 where
+pub record IsAnswered {D : Type 0} (moment : D → Moment) (start : Start D) (session last : ℕ) (old new : List Event)
+    (text : List ℕ) (reply : Reply) : Type 0 where
   pub own : List Event
   pub course : Course
   pub pin : ℕ
@@ -35,5 +36,7 @@ pub record IsAnswered {D : Type 0} (moment : D → Moment) (start : Start D) (se
   pub acts : acts_in own ≡ acts_for course
   pub began : BeganAt session pin old new course
   pub line : HasLine reply reply.refusal
-  pub told : (tree : Term) → DerivesText text tree → (length (entries_in old) ≤ reply.place) × IsToldFor moment start session pin new own text tree reply reply.refusal course
-  pub stopped : (at : ℕ) (kind : ParseKind) → StopsText text at kind → (own ≡ []) × (IsStopReply last at kind reply ⊎ (reply.refusal ≡ Some Memory))
+  pub told : (tree : Term) → DerivesText text tree
+      → (length (entries_in old) ≤ reply.place) × IsToldFor moment start session pin new own text tree reply reply.refusal course
+  pub stopped : (at : ℕ) (kind : ParseKind) → StopsText text at kind
+      → (own ≡ []) × (IsStopReply last at kind reply ⊎ (reply.refusal ≡ Some Memory))

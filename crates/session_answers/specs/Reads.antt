@@ -26,7 +26,8 @@ abbrev pub counted : {D : Type 0} → Start D → List Event → ℕ → Names �
 counted start events place names text tree before = min (before + chunks_of start events place (leaves_of names text tree)) (2 ^ 64 - 1)
 
 -- EACH CHUNK OF EACH ARRAY THAT A STATEMENT READS IS READ ONCE, as its own pin sees it: so many were counted before and after
-pub record ReadsOnce {D : Type 0} (start : Start D) (session : ℕ) (old new : List Event) (text : List ℕ) (tree : Term) (before after : ℕ) : Type 0 where
+pub record ReadsOnce {D : Type 0} (start : Start D) (session : ℕ) (old new : List Event)
+    (text : List ℕ) (tree : Term) (before after : ℕ) : Type 0 where
   pub pin : ℕ
   pub began : EnteredAt (length (entries_in old)) (Pin session) pin new
   pub reads : after ≡ counted start new pin (names_before start new pin) text tree before

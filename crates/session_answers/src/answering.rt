@@ -42,9 +42,11 @@ pub fn answer<D: Disk, R: Wait, G: Gate>(
     ensures session { session_of result.1 ≡ session_of seat }
     ensures none { HoldsNone D.moment shared.now result.1 }
     ensures last { last_place result.1 ≡ result.0.place }
-    ensures answered { IsAnswered D.moment (start D.moment shared.now) (session_of seat) (last_place seat) (seen seat) (seen result.1) text.now result.0 }
+    ensures answered { IsAnswered D.moment (start D.moment shared.now) (session_of seat) (last_place seat)
+        (seen seat) (seen result.1) text.now result.0 }
     ensures reads { (tree : Term) → DerivesText text.now tree → result.0.refusal ≡ None
-        → ReadsOnce (start D.moment shared.now) (session_of seat) (seen seat) (seen result.1) text.now tree (read_count seat) (read_count result.1) }
+        → ReadsOnce (start D.moment shared.now) (session_of seat) (seen seat) (seen result.1) text.now tree
+        (read_count seat) (read_count result.1) }
 {
     let (reply, mut seat) = answer_text(rt, alloc, shared, seat, text, number, options, gate);
     seat.keep_last(reply.place);
@@ -69,9 +71,11 @@ fn answer_text<D: Disk, R: Wait, G: Gate>(
     ensures seat { IsSeatOf shared.now result.1 × IsIdle result.1 }
     ensures same { IsSameSeat seat result.1 }
     ensures none { HoldsNone D.moment shared.now result.1 }
-    ensures answered { IsAnswered D.moment (start D.moment shared.now) (session_of seat) (last_place seat) (seen seat) (seen result.1) text.now result.0 }
+    ensures answered { IsAnswered D.moment (start D.moment shared.now) (session_of seat) (last_place seat)
+        (seen seat) (seen result.1) text.now result.0 }
     ensures reads { (tree : Term) → DerivesText text.now tree → result.0.refusal ≡ None
-        → ReadsOnce (start D.moment shared.now) (session_of seat) (seen seat) (seen result.1) text.now tree (read_count seat) (read_count result.1) }
+        → ReadsOnce (start D.moment shared.now) (session_of seat) (seen seat) (seen result.1) text.now tree
+        (read_count seat) (read_count result.1) }
 {
     match parse(alloc, text) {
         Ok(tree) => answer_tree(rt, alloc, shared, seat, text, &tree, number, options, gate),
@@ -106,9 +110,11 @@ fn answer_tree<D: Disk, R: Wait, G: Gate>(
     ensures seat { IsSeatOf shared.now result.1 × IsIdle result.1 }
     ensures same { IsSameSeat seat result.1 }
     ensures none { HoldsNone D.moment shared.now result.1 }
-    ensures answered { IsAnsweredTree D.moment (start D.moment shared.now) (session_of seat) (seen seat) (seen result.1) text.now tree.now result.0 }
+    ensures answered { IsAnsweredTree D.moment (start D.moment shared.now) (session_of seat)
+        (seen seat) (seen result.1) text.now tree.now result.0 }
     ensures reads { result.0.refusal ≡ None
-        → ReadsOnce (start D.moment shared.now) (session_of seat) (seen seat) (seen result.1) text.now tree.now (read_count seat) (read_count result.1) }
+        → ReadsOnce (start D.moment shared.now) (session_of seat) (seen seat) (seen result.1) text.now tree.now
+        (read_count seat) (read_count result.1) }
 {
     let mut seat = seat;
     gate.pass(seat.session(), Point::Statement(number));

@@ -59,7 +59,8 @@ pub(crate) fn commit<D: Disk, R: Wait, G: Gate>(
     ensures reads { read_count result.1 ≡ read_count seat }
     ensures pin { HoldsPin D.moment shared.now result.1 pinned.now }
     ensures answered { (first before : List Event) → AddsNoAct (start D.moment shared.now) pinned.now.session first before (seen seat)
-        → IsAnsweredUnder D.moment (start D.moment shared.now) pinned.now.session pinned.now.place first (seen result.1) text.now tree.now result.0 }
+        → IsAnsweredUnder D.moment (start D.moment shared.now) pinned.now.session pinned.now.place
+        first (seen result.1) text.now tree.now result.0 }
 {
     let mut seat = seat;
     match shared.commit(rt, alloc, &mut seat, pinned, change, changed) {

@@ -49,7 +49,8 @@ pub(crate) fn answer_pinned<D: Disk, R: Wait, G: Gate>(
     ensures seat { IsSeatOf shared.now result.1 × IsIdle result.1 }
     ensures same { IsSameSeat seat result.1 }
     ensures pin { HoldsPin D.moment shared.now result.1 pinned.now }
-    ensures answered { IsAnsweredUnder D.moment (start D.moment shared.now) pinned.now.session pinned.now.place (seen seat) (seen result.1) text.now tree.now result.0 }
+    ensures answered { IsAnsweredUnder D.moment (start D.moment shared.now) pinned.now.session pinned.now.place
+        (seen seat) (seen result.1) text.now tree.now result.0 }
     ensures reads { result.0.refusal ≡ None → read_count result.1
         ≡ counted (start D.moment shared.now) (seen seat) pinned.now.place pinned.now.names text.now tree.now (read_count seat) }
 {

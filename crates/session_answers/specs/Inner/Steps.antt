@@ -22,11 +22,13 @@ use Rattle.session_sources.specs.Told.{ledger_of}
 
 -- a statement was read over what a pin sees, from one seat to the next: this came of it, for which all that it reads was asked for once; or this
 -- is why nothing did
-pub record WasRead {D : Type 0} (moment : D → Moment) (shared : Shared D) (pinned : Pinned) (old new : Seat D) (text : List ℕ) (tree : Term) (result : Result Outcome ExecFault) : Type 0 where
+pub record WasRead {D : Type 0} (moment : D → Moment) (shared : Shared D) (pinned : Pinned) (old new : Seat D)
+    (text : List ℕ) (tree : Term) (result : Result Outcome ExecFault) : Type 0 where
   pub marks : Marks
   pub read : HasRead moment (reading_of shared pinned old new marks)
   pub comes : IfOk result (ComesOver pinned.names (pinned_state moment (unread shared pinned old)) text tree)
-  pub asked : IfOk result (λ outcome. marks.asked ≡ asked_for (pinned_state moment (unread shared pinned old)) pinned.names (check_of tree text pinned.names) outcome)
+  pub asked : IfOk result (λ outcome. marks.asked
+      ≡ asked_for (pinned_state moment (unread shared pinned old)) pinned.names (check_of tree text pinned.names) outcome)
   pub why : IfErr result (SaysWhy moment (reading_of shared pinned old new marks))
 
 -- since its first events a session added these of its own, none of which is an act, and the disk had not failed for its pin before

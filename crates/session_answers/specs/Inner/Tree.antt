@@ -12,7 +12,8 @@ use Rattle.session_answers.specs.Answered.{BeganAt}
 use Rattle.session_outcomes.specs.Reply.{Reply}
 
 -- a statement with this tree was answered, behind all that its session had seen
-pub record IsAnsweredTree {D : Type 0} (moment : D → Moment) (start : Start D) (session : ℕ) (old new : List Event) (text : List ℕ) (tree : Term) (reply : Reply) : Type 0 where
+pub record IsAnsweredTree {D : Type 0} (moment : D → Moment) (start : Start D) (session : ℕ) (old new : List Event)
+    (text : List ℕ) (tree : Term) (reply : Reply) : Type 0 where
   pub own : List Event
   pub course : Course
   pub pin : ℕ

@@ -2,8 +2,7 @@ use Rattle.std.proofs.Common.{◌∙◌, arith, refl, subst}
 use Rattle.check_laws.proofs.ParsedLeaves.{parsed_leaves}
 use Rattle.session_sources.specs.Seats.{last_place, read_count, seen, session_of, start}
 use Rattle.session_answers.specs.Reads.{ReadsOnce}
-use Rattle.session_answers.proofs.Counting.{want_refuses}
-use Rattle.session_answers.proofs.Wholes.{stop_is_whole, tree_is_answered, want_is_whole}
+use Rattle.session_answers.proofs.Wholes.{stop_is_whole, stop_reads_none, tree_is_answered, want_is_whole, want_reads_none}
 use Rattle.session_answers.proofs.answering.answer_text.Goals as goal
 
 pub answer_tree-requires-clause-fit : goal.answer_tree-requires-clause-fit
@@ -33,7 +32,9 @@ returns-in-Err-At g c =
       none = c.requires.none;
       answered = stop_is_whole g.D.Disk.moment (start g.D.Disk.moment c.args.shared.now) (session_of c.args.seat) (last_place c.args.seat) (seen c.args.seat)
           c.args.text.now c.refusal_at.result c.in-Err-At.at c.in-Err-At.kind (e.place ∙ c.last-last.ensures) only_tree only_stop e.words;
-      reads = λ t derives accepted. absurd (only_tree t derives);
+      reads = λ t derives accepted. stop_reads_none g.D.Disk.moment (start g.D.Disk.moment c.args.shared.now) (session_of c.args.seat) (last_place c.args.seat) (seen c.args.seat)
+          c.args.text.now c.refusal_at.result c.in-Err-At.at c.in-Err-At.kind (e.place ∙ c.last-last.ensures) only_tree only_stop t derives
+          (read_count c.args.seat) (read_count c.args.seat);
     }
 
 pub returns-in-Err-Memory : goal.returns-in-Err-Memory
@@ -44,5 +45,6 @@ returns-in-Err-Memory g c =
       none = c.requires.none;
       answered = want_is_whole g.D.Disk.moment (start g.D.Disk.moment c.args.shared.now) (session_of c.args.seat) (last_place c.args.seat) (seen c.args.seat)
           c.args.text.now c.want.result e.want (e.place ∙ c.seen-seen.ensures ∙ c.requires.seat.0.counts);
-      reads = λ t derives accepted. absurd (want_refuses c.want.result e.want accepted);
+      reads = λ t derives accepted. want_reads_none g.D.Disk.moment (start g.D.Disk.moment c.args.shared.now) (session_of c.args.seat) (last_place c.args.seat) (seen c.args.seat)
+          c.args.text.now c.want.result e.want t (read_count c.args.seat) (read_count c.args.seat) accepted;
     }

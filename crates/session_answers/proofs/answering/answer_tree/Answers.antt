@@ -1,14 +1,11 @@
-use Rattle.std.proofs.Common.{◌∙◌, [], ◌∷◌, ap, subst}
+use Rattle.std.proofs.Common.{◌∙◌, [], ◌∷◌, length, ap, subst}
 use Rattle.event_core.specs.declared.entry.Entry.TheVariants.{Unpin}
-use Rattle.store_ledger.specs.declared.pinned.Pinned.{Pinned}
-use Rattle.store_ledger.specs.Ledger.{is_noted}
+use Rattle.event_core.specs.History.{names_at}
+use Rattle.store_ledger.specs.Ledger.{history, is_noted}
 use Rattle.store_state.specs.declared.event.Event.TheVariants.{Entered}
-use Rattle.told_stores.specs.Turns.{Adds}
-use Rattle.session_sources.specs.Seats.{ledger_seen, read_count, seen, session_of, start}
-use Rattle.result_print.specs.declared.refusal.Refusal.TheVariants.{HistoryFull}
-use Rattle.session_answers.specs.Reads.{counted}
-use Rattle.session_answers.proofs.Counting.{refusal_refuses, want_refuses}
-use Rattle.session_answers.proofs.Trees.{is_read_once, full_is_answered, pinned_is_answered, want_is_answered}
+use Rattle.told_stores.specs.Turns.{pin_event, Adds}
+use Rattle.session_sources.specs.Seats.{ledger_found, ledger_seen, read_count, seen, session_of, start}
+use Rattle.session_answers.proofs.Trees.{full_is_answered, full_reads, is_read_once, pin_parts, pinned_is_answered, want_is_answered, want_reads}
 use Rattle.session_answers.proofs.answering.answer_tree.Goals as goal
 
 pub answer_pinned-reply-requires-clause-untried : goal.answer_pinned-reply-requires-clause-untried
@@ -25,17 +22,19 @@ returns-in-Ok g c =
     let u = c.unpin.ensures in
     let reply = c.answer_pinned-reply.result.0 in
     let mid = c.answer_pinned-reply.result.1 in
+    let found = ledger_found moment c.args.shared.now (pin_event (session_of c.args.seat) ∷ []) c.pin.new.seat in
+    let parts = pin_parts c.in-Ok.pinned (session_of c.args.seat) (length found.entries) (names_at found.base (history found)) e.pinned in
     let session = a.same.session ∙ e.same.session in record {
       seat = u.seat;
       same = record { session = u.same.session ∙ session; last = u.same.last ∙ a.same.last ∙ e.same.last };
       none = u.none;
       answered = pinned_is_answered moment began (session_of c.args.seat) (seen c.args.seat) (seen c.pin.new.seat) (seen mid) (seen c.unpin.new.seat) c.in-Ok.pinned c.args.text.now c.args.tree.now reply
-          e.ok (ap (λ (p : Pinned). p.session) e.pinned) (ap (λ (p : Pinned). p.place) e.pinned) e.open.open_pin a.seat.0.sealed
+          e.ok parts.0 parts.1 e.open.open_pin a.seat.0.sealed
           (subst (λ s. Adds s (Entered (Unpin s) ∷ []) (seen mid) (seen c.unpin.new.seat)) session u.adds) a.answered;
       reads = λ accepted. is_read_once moment began (session_of c.args.seat) (seen c.args.seat) (seen c.pin.new.seat) (seen mid) (seen c.unpin.new.seat) c.in-Ok.pinned c.args.text.now c.args.tree.now reply
-          e.ok (ap (λ (p : Pinned). p.session) e.pinned) (ap (λ (p : Pinned). p.place) e.pinned) e.open.open_pin a.seat.0.sealed
-          (subst (λ s. Adds s (Entered (Unpin s) ∷ []) (seen mid) (seen c.unpin.new.seat)) session u.adds) a.answered e.seat.0.sealed (read_count c.args.seat) (read_count c.unpin.new.seat)
-          (u.reads ∙ a.reads accepted ∙ ap (counted began (seen c.pin.new.seat) c.in-Ok.pinned.place c.in-Ok.pinned.names c.args.text.now c.args.tree.now) e.reads);
+          e.ok parts.0 parts.1 e.open.open_pin a.seat.0.sealed
+          (subst (λ s. Adds s (Entered (Unpin s) ∷ []) (seen mid) (seen c.unpin.new.seat)) session u.adds) a.answered e.seat.0.sealed
+          (read_count c.args.seat) (read_count c.pin.new.seat) (read_count mid) (read_count c.unpin.new.seat) e.reads (a.reads accepted) u.reads;
     }
 
 pub returns-in-Err-HistoryFull : goal.returns-in-Err-HistoryFull
@@ -48,7 +47,8 @@ returns-in-Err-HistoryFull g c =
       none = e.none;
       answered = full_is_answered g.D.Disk.moment (start g.D.Disk.moment c.args.shared.now) (session_of c.args.seat) (seen c.args.seat) (seen c.pin.new.seat) c.args.text.now c.args.tree.now
           c.refusal_at.result e.err c.in-Err-HistoryFull.entries r.words (r.place ∙ c.from-place.ensures) cause;
-      reads = λ accepted. absurd (refusal_refuses HistoryFull c.refusal_at.result r.words accepted);
+      reads = full_reads g.D.Disk.moment (start g.D.Disk.moment c.args.shared.now) (session_of c.args.seat) (seen c.args.seat) (seen c.pin.new.seat) c.args.text.now c.args.tree.now
+          c.refusal_at.result e.err r.words (read_count c.args.seat) (read_count c.pin.new.seat);
     }
 
 pub returns-in-Err-Memory : goal.returns-in-Err-Memory
@@ -60,5 +60,6 @@ returns-in-Err-Memory g c =
       none = e.none;
       answered = want_is_answered g.D.Disk.moment (start g.D.Disk.moment c.args.shared.now) (session_of c.args.seat) (seen c.args.seat) (seen c.pin.new.seat) c.args.text.now c.args.tree.now
           c.want.result e.err w.want (w.place ∙ c.seen-seen.ensures ∙ e.seat.0.counts);
-      reads = λ accepted. absurd (want_refuses c.want.result w.want accepted);
+      reads = want_reads g.D.Disk.moment (start g.D.Disk.moment c.args.shared.now) (session_of c.args.seat) (seen c.args.seat) (seen c.pin.new.seat) c.args.text.now c.args.tree.now
+          c.want.result e.err w.want (read_count c.args.seat) (read_count c.pin.new.seat);
     }
