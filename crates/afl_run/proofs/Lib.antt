@@ -1,2 +1,6 @@
+pub mod FormLemmas
 pub mod MakingLemmas
+pub mod OverLemmas
 pub mod Reporting
+pub mod StandardLemmas
+pub mod StreamsLemmas

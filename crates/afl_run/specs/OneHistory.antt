@@ -4,6 +4,8 @@ use Rattle.std.specs.List.{list_all}
 use Rattle.afl_outside.specs.Disk.{Moment}
 use Rattle.afl_outside.specs.Source.{SourceState}
 use Rattle.afl_outside.specs.Sink.{SinkState}
+use Rattle.array_store.specs.declared.start.Start.{Start}
+use Rattle.array_store.specs.Starts.{start_of}
 use Rattle.turn_lock.specs.Owners.{ExtendsByOthers}
 use Rattle.event_core.specs.declared.entry.Entry.{Entry}
 use Rattle.plan_changes.specs.Databases.{Database}
@@ -13,14 +15,11 @@ use Rattle.store_ledger.specs.Ledger.{IsLedger, reap_comes, unused_pages}
 use Rattle.store_state.specs.declared.event.Event.{Event}
 use Rattle.store_state.specs.Events.{events, owner_of}
 use Rattle.store_state.specs.Standings.{BeganAs, Standing}
-use Rattle.told_stores.specs.Start.{Start}
-use Rattle.told_stores.specs.Starts.{start_of}
 use Rattle.told_stores.specs.Told.{is_sealed}
 use Rattle.session_reports.specs.declared.reports.SessionReport.{SessionReport}
 use Rattle.session_reports.specs.declared.notices.Notice.{Notice}
 use Rattle.session_reports.specs.declared.notices.Notice.TheVariants.{Memory}
 use Rattle.afl_session.specs.Marked.{IsMarked}
-use Rattle.session_threads.specs.Sessions.{AreOfSessions}
 use Rattle.run_stores.specs.Held.{HoldsHistory}
 use Rattle.afl_run.specs.Printed.{Prints}
 
@@ -38,8 +37,6 @@ module _ {D S K : Type 0} (moment : D → Moment) (source_state : S → SourceSt
     pub is_history : history ≡ store.ledger.entries
     pub ledger : IsLedger store.ledger
     pub each : (k : ℕ) (other : SessionReport S K) → k < length sessions → IsReportOf (start_of store) k (slice_index_or sessions k other) (events store)
-    -- nothing else is in it: each event is of one of the sessions, or of nobody
-    pub others : AreOfSessions (length sessions) (events store)
     pub pages : free ≡ length (unused_pages store.ledger)
     -- each page that nobody can name is free, or one more entry would pass the limit
     pub reaped : (notice ≡ Memory → ⊥) → reap_comes store.ledger ≡ false

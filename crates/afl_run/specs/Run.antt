@@ -48,50 +48,47 @@ TellsUnrun (notices.NotDatabase page) asked scripts None old new = ⊥
 TellsUnrun (notices.NotDatabase page) asked scripts (Some disk) old new = IfSome disk.first (IsWrongAt page)
 TellsUnrun _ asked scripts device old new = ⊥
 
+-- ---- sessions
+
+-- the reports are those of these scripts, in order, and began as the shelf told; or there is none
+abbrev pub AreOfScripts : {S K : Type 0} → (S → SourceState) → (K → SinkState) → ShelfState → List Word → List (SessionReport S K) → Type 0
+AreOfScripts source_state sink_state shelf scripts sessions =
+    (sessions ≡ []) ⊎ AllZip (λ script report. IsOpenedAs shelf script (source_state report.source) (sink_state report.sink)) scripts sessions
+
+-- after the sessions the notice is what is told of them, unless memory was short
+abbrev pub TellsSessions : {S K : Type 0} → Notice → List (SessionReport S K) → Type 0
+TellsSessions notice sessions = sessions ≢ [] → (notice ≡ notices.Memory) ⊎ (notice ≡ notice_of sessions)
+
+-- the store was opened over the bytes with which the device began, as what they open as, within these limits; and the device is handed back
+pub record BeganFrom {D : Type 0} (moment : D → Moment) (pages limit : ℕ) (device : Option D) (store : Standing D) : Type 0 where
+  pub is_device : device ≡ Some store.disk
+  pub first : (moment store.opened.disk).state.seen ≡ (moment store.disk).state.first
+  pub honest : (moment store.opened.disk).state.honest ≡ (moment store.disk).state.honest
+  pub entries : store.ledger.limit ≡ limit
+  pub page_limit : store.ledger.base.limit ≡ pages
+  pub found : IfSome (moment store.disk).state.first
+      (λ file. (found : Found) × Opens file found × (store.ledger.base ≡ base_core found store.opened.slots.current.root.log pages))
+
 module _ {D S K : Type 0} (moment : D → Moment) (source_state : S → SourceState) (sink_state : K → SinkState) (old new : ShelfState)
     (notice : Notice) (history : List Entry) (sessions : List (SessionReport S K)) (free : ℕ) where
-  -- ---- sessions
-
-  -- the reports are those of these scripts, in order, and began as the shelf told; or there is none
-  abbrev pub AreOfScripts : List Word → Type 0
-  AreOfScripts scripts = (sessions ≡ []) ⊎ AllZip (λ script report. IsOpenedAs old script (source_state report.source) (sink_state report.sink)) scripts sessions
-
-  -- after the sessions the notice is what is told of them, unless memory was short
-  abbrev pub TellsSessions : Type 0
-  TellsSessions = sessions ≢ [] → (notice ≡ notices.Memory) ⊎ (notice ≡ notice_of sessions)
-
-  -- ---- `run`
-
-  -- the store was opened over the bytes with which the device began, as what they open as, within these limits; and the device is handed back
-  pub record BeganFrom (pages limit : ℕ) (device : Option D) (store : Standing D) : Type 0 where
-    pub is_device : device ≡ Some store.disk
-    pub first : (moment store.opened.disk).state.seen ≡ (moment store.disk).state.first
-    pub honest : (moment store.opened.disk).state.honest ≡ (moment store.disk).state.honest
-    pub entries : store.ledger.limit ≡ limit
-    pub page_limit : store.ledger.base.limit ≡ pages
-    pub found : IfSome (moment store.disk).state.first
-        (λ file. (found : Found) × Opens file found × (store.ledger.base ≡ base_core found store.opened.slots.current.root.log pages))
-
-  -- SESSIONS OVER A DEVICE
+  -- SESSIONS OVER A DEVICE, by the words of `run`
   pub record RunsScripts (asked : Word) (scripts : List Word) (pages limit : ℕ) (device : Option D) : Type 0 where
-    pub opened : AreOfScripts scripts
+    pub opened : AreOfScripts source_state sink_state old scripts sessions
     pub is_asked : IfSome device (λ disk. IsOpenedDevice asked old (moment disk).state)
     pub others : LeavesUnasked (asked ∷ stream_names scripts) old new
     pub handed : HandsOutStreams (devices_in device) (length scripts) (length sessions) old new
     pub none : sessions ≡ [] → (history ≡ []) × (free ≡ 0) × TellsUnrun notice asked scripts (state_in moment device) old new
-    pub told : TellsSessions
+    pub told : TellsSessions notice sessions
     pub one : sessions ≢ [] → (store : Standing D) × IsOneHistory moment source_state sink_state sessions notice history free store
-        × BeganFrom pages limit device store
-
-  -- ---- `try`
+        × BeganFrom moment pages limit device store
 
   -- ONE SESSION over an empty database in memory, from the standard input to the standard output
   pub record RunsTry : Type 0 where
-    pub opened : AreOfScripts (standard ∷ [])
+    pub opened : AreOfScripts source_state sink_state old (standard ∷ []) sessions
     pub others : LeavesUnasked (stream_names (standard ∷ [])) old new
     pub handed : HandsOutStreams 0 1 (length sessions) old new
     pub none : sessions ≡ [] → (history ≡ []) × (free ≡ 0) × ((notice ≡ notices.Memory) ⊎ FailsToOpen (standard ∷ []) notice old new)
-    pub told : TellsSessions
+    pub told : TellsSessions notice sessions
     pub one : sessions ≢ [] → (store : Standing D) × IsOneHistory moment source_state sink_state sessions notice history free store
         × BeganAs (moment store.opened.disk).state []
 

@@ -1,5 +1,5 @@
 //! An empty device is made a database.
-ghost use Rattle.std.specs.Prelude.{◌≡◌, IsSome, IfSome};
+ghost use Rattle.std.specs.Prelude.{◌≡◌, [], IsSome, IfSome};
 ghost use Rattle.afl_outside.specs.Disk.{DiskGoesOn};
 ghost use Rattle.session_reports.specs.Notice.{status_of};
 ghost use Rattle.afl_run.specs.Inner.Making.{Makes};

@@ -8,11 +8,12 @@ ghost use Rattle.store_state.specs.Standings.{Standing};
 ghost use Rattle.afl_run.specs.Inner.Over.{IsUnrun, LacksMemory, RunsOver, RunsTo};
 
 use afl_outside::{Disk, Gate, Sink, Source};
+use afl_session::Options;
 use array_store::Store;
 use cell_values::{List, Memory};
 use run_stores::{Limits, StoreRun, close_store, open_store};
 use session_reports::{Notice, Streams};
-use session_threads::{Options, run_sessions};
+use session_threads::run_sessions;
 use std::alloc::Global;
 use std::sync::Wait;
 use std::thread::Threads;

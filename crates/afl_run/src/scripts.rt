@@ -3,18 +3,18 @@ ghost use Rattle.std.specs.Prelude.{◌≡◌, ◌≢◌, ◌≤◌, All, Some, 
 ghost use Rattle.run_opening.specs.Names.{HaveOwnNames, stream_names};
 ghost use Rattle.session_reports.specs.Notice.{status_of};
 ghost use Rattle.afl_run.specs.Run.{RunsScripts};
+ghost use Rattle.afl_run.specs.Inner.Streams.{IsUntouched, RunsOn};
 
+use crate::over::run_over;
 use crate::report::{Report, unrun};
 use afl_outside::{Gate, Shelf};
-use cell_values::List;
 use command_words::Arg;
 use run_opening::{open_device, open_streams};
-use session_reports::{Notice, Streams, status};
+use run_stores::{Limits, StoreRun};
+use session_reports::status;
 use std::alloc::Global;
 use std::sync::Wait;
 use std::thread::Threads;
-use crate::over::run_over;
-use run_stores::{Limits, StoreRun};
 
 /// Opens the device, the streams of the scripts, and the store, and answers each script in a session of its own.
 pub(crate) fn run_scripts<F: Shelf, R: Threads + Wait + Sync, G: Gate>(
@@ -52,8 +52,10 @@ fn run_on<F: Shelf, R: Threads + Wait + Sync, G: Gate>(
 ) -> Report<F>
     requires count { (1 ≤ length scripts.now) × (length scripts.now ≤ 16) }
     requires names { HaveOwnNames scripts.now }
+    requires untouched { IsUntouched (F.Device.moment disk).state }
     ensures status { result.status ≡ status_of result.notice }
-    ensures runs { RunsOn F.Device.moment F.S.state F.K.state disk (F.state shelf) (F.state result.shelf) scripts.now limits result }
+    ensures runs { RunsOn F.Device.moment F.S.state F.K.state (F.state shelf) (F.state result.shelf) result.notice result.history result.sessions
+        result.free_pages disk scripts.now limits.pages limits.history result.disk }
 {
     let mut shelf = shelf;
     match open_streams(alloc, scripts, &mut shelf) {

@@ -7,18 +7,18 @@ ghost use Rattle.afl_run.specs.Inner.Making.{IsEmpty};
 ghost use Rattle.afl_run.specs.Run.{RunsTry};
 
 use crate::database::make;
+use crate::over::run_over;
 use crate::report::{Report, unrun};
 use afl_in_memory::SureDisk;
 use afl_outside::{Gate, Shelf};
 use cell_values::{Bytes, Memory};
 use command_words::Arg;
 use run_opening::open_streams;
+use run_stores::{Limits, StoreRun};
 use session_reports::{Notice, status};
 use std::alloc::Global;
 use std::sync::Wait;
 use std::thread::Threads;
-use crate::over::run_over;
-use run_stores::{Limits, StoreRun};
 
 const LIMITS: Limits = Limits {
     pages: 65_536,
