@@ -21,8 +21,8 @@ use Rattle.session_answers.specs.Replies.{EnteredAt, IsToldFor, WasAt}
 use Rattle.session_answers.specs.Reply.{Reply}
 use Rattle.session_answers.specs.Start.{Start}
 use Rattle.session_answers.specs.Told.{entries_in, is_sealed}
-use Rattle.session_replies.proofs.Beginnings.{reached}
-use Rattle.session_replies.proofs.Staying.{change_later, entered_later, replies_stay}
+use Rattle.session_answers.proofs.Beginnings.{reached}
+use Rattle.session_answers.proofs.Staying.{change_later, entered_later, replies_stay}
 use Rattle.session_reports.specs.declared.reports.Mark.{Mark}
 use Rattle.session_reports.specs.declared.reports.SessionEnd.{SessionEnd}
 use Rattle.session_reports.specs.declared.reports.SessionEnd.TheVariants as ends

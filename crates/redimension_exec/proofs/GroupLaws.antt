@@ -10,6 +10,7 @@ use Rattle.cell_values.specs.declared.schema.Bounds.{Bounds}
 use Rattle.array_rows.specs.Boxes.{is_inside}
 use Rattle.array_rows.specs.Rows.{Coordinate, row_major, IsBefore, IsRising}
 use Rattle.array_rows.proofs.RowsLemmas.{same_coordinate}
+use Rattle.array_rows.proofs.RowSets.{IsRising-rows_where}
 use Rattle.logical_plan.specs.declared.parts.Aggregate.{Aggregate}
 use Rattle.logical_plan.specs.Groups.{group_at}
 use Rattle.logical_plan.specs.Redimension.{Origin, Landing, Landed, lands, drops, breaks, landing_of, after_landing, landed, landed_at}
@@ -21,7 +22,7 @@ use Rattle.redimension_exec.specs.Inner.Gathering.{AreLandings, pairs}
 use Rattle.redimension_exec.specs.Inner.Grouping.{landed_sets}
 use Rattle.redimension_exec.proofs.LandedLaws.{all_landed, whole_of}
 
-abbrev rows_in : List Landed → List Row
+abbrev pub rows_in : List Landed → List Row
 rows_in all = map (λ (l : Landed). l.1) all
 
 before_in : (c : Coordinate) (bounds : Bounds) (all : List Landed) → AllByRecursion (λ l. IsTrue (is_inside bounds l.0) × (row_major c l.1.at.items ≡ Less)) all → IsBefore c (rows_in all)
@@ -78,6 +79,11 @@ same_group g c (l ∷ xs) e =
         ≡ map (λ (m : Landed). m.1) (cond b (l ∷ filter (λ (m : Landed). is_eq (row_major m.0 c)) xs) (filter (λ (m : Landed). is_eq (row_major m.0 c)) xs))
     cases true ih = ap (λ (rows : List Row). l.1 ∷ rows) ih
     cases false ih = ih
+
+-- those that landed at one coordinate rise as all do
+pub at_rises : (all : List Landed) (c : Coordinate) → IsRising (rows_in all) → IsRising (landed_at all c)
+at_rises all c r =
+    subst IsRising (same_group (λ (row : Row). target_in all row.at.items) c all (keys_in all r)) (IsRising-rows_where (λ at. is_eq (row_major (target_in all at) c)) (rows_in all) r)
 
 -- ---- pairs of targets and rows
 

@@ -32,7 +32,7 @@ module _ (origins : List Origin) (bounds : Bounds) (plain : has_counted origins 
       up_none origins (alike_so_far (counted_places origins 0) a first) first plain long ∙ sym (up_none origins (alike_so_far (counted_places origins 0) b first) first plain long) in
       λ i. unless_fault (first_some bad_kind (map (target_value c vs) origins)) (cond (list_any is_null (map (target_value c vs) origins)) drops (landing_at bounds false a (same i)))
 
-  free : (rows : List Row) (a b : List Coordinate) → landed origins bounds false rows a ≡ landed origins bounds false rows b
+  pub free : (rows : List Row) (a b : List Coordinate) → landed origins bounds false rows a ≡ landed origins bounds false rows b
   free [] a b = refl
   free (row ∷ rows) a b =
       (λ i. after_landing (landing_free a b row.at.items row.cell i) row (λ now. landed origins bounds false rows now) a)

@@ -1,4 +1,5 @@
 pub mod ArraysGatherLaws
+pub mod BandGroups
 pub mod CountLaws
 pub mod GroupLaws
 pub mod LandedLaws

@@ -1,3 +1,4 @@
+pub mod Bands
 pub mod Counting
 pub mod Gathering
 pub mod Grouping

@@ -1,6 +1,7 @@
 //! Arrays whose cells are moved to coordinates that their values give.
 
 mod arrays;
+mod bands;
 mod building;
 mod cells;
 mod gathering;

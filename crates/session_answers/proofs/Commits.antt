@@ -21,23 +21,23 @@ use Rattle.store_ledger.specs.declared.pinned.Pinned.{Pinned}
 use Rattle.store_ledger.specs.Ledger.{IsOpenPin, is_noted, is_tried}
 use Rattle.store_state.specs.declared.event.Event.{Event}
 use Rattle.store_state.specs.declared.event.Event.TheVariants.{Acknowledged}
-use Rattle.told_stores.specs.Causes.{IsUncommitted}
-use Rattle.told_stores.specs.CommitFault.{CommitFault}
-use Rattle.told_stores.specs.CommitFault.TheVariants as faults
-use Rattle.told_stores.specs.Tries.{MakesCommit, TriesCommit}
-use Rattle.told_stores.specs.Turns.{own_events, Adds}
-use Rattle.told_stores.proofs.Telling.{entries_in-append}
-use Rattle.session_replies.specs.Acts.{Act, acts_for, acts_in, begins, ends, makes, trying, making}
-use Rattle.session_replies.specs.Fresh.{IsNamedAt}
-use Rattle.session_replies.specs.Refusals.{IsUncommittedReply, IsWant, Refuses}
-use Rattle.session_replies.specs.Replies.{names_before, words_of, HasLine, HoldsSincePin, IsToldFor, Says, SaysChange, WasAt}
-use Rattle.session_replies.specs.declared.reply.Reply.{Reply}
-use Rattle.session_sources.specs.Courses.{AddsOwn}
-use Rattle.session_sources.specs.Start.{Start}
-use Rattle.session_sources.specs.Told.{entries_in, ledger_of, told}
-use Rattle.session_sources.proofs.CourseLaws.{courses_join, courses_keep_notes, turns_are_courses}
-use Rattle.session_outcomes.proofs.Behind.{names_behind}
-use Rattle.session_turns.specs.Under.{IsAnsweredInTurn, IsAnsweredUnder}
+use Rattle.session_turns.specs.Causes.{IsUncommitted}
+use Rattle.session_turns.specs.CommitFault.{CommitFault}
+use Rattle.session_turns.specs.CommitFault.TheVariants as faults
+use Rattle.session_turns.specs.Tries.{MakesCommit, TriesCommit}
+use Rattle.session_turns.specs.Turns.{own_events, Adds}
+use Rattle.session_turns.proofs.Telling.{entries_in-append}
+use Rattle.session_turns.specs.Acts.{Act, acts_for, acts_in, begins, ends, makes, trying, making}
+use Rattle.session_turns.specs.Fresh.{IsNamedAt}
+use Rattle.session_turns.specs.Refusals.{IsUncommittedReply, IsWant, Refuses}
+use Rattle.session_turns.specs.Replies.{names_before, words_of, HasLine, HoldsSincePin, IsToldFor, Says, SaysChange, WasAt}
+use Rattle.session_turns.specs.Reply.{Reply}
+use Rattle.session_turns.specs.Courses.{AddsOwn}
+use Rattle.session_turns.specs.Start.{Start}
+use Rattle.session_turns.specs.Told.{entries_in, ledger_of, told}
+use Rattle.session_turns.proofs.CourseLaws.{courses_join, courses_keep_notes, turns_are_courses}
+use Rattle.session_turns.proofs.Behind.{names_behind}
+use Rattle.session_turns.specs.AnsweredUnder.{IsAnsweredInTurn, IsAnsweredUnder}
 use Rattle.session_answers.specs.Inner.Steps.{AddsNoAct}
 use Rattle.session_answers.proofs.Acts.{acts_behind, fault_is_own}
 use Rattle.session_answers.proofs.Tried.{change_at_commit, commit_place, fault_entries, before_commit, new_is, own_first, says_at_commit, try_acts, within_commit}

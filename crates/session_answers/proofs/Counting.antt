@@ -1,5 +1,5 @@
 -- How many chunks a statement reads.
-use Rattle.std.proofs.Common.{◌≡◌, ◌∙◌, ◌+◌, ◌-◌, ◌^◌, ◌≤◌, ℕ, true, List, [], ◌∷◌, ◌++◌, inl, inr, length, map, min, Option, None, Some, Ok, Err, IsTrue, refl, ap, sym, subst, arith, length-append}
+use Rattle.std.proofs.Common.{◌≡◌, ◌∙◌, ◌+◌, ◌-◌, ◌^◌, ◌≤◌, ℕ, true, List, [], ◌∷◌, inl, inr, length, map, min, Option, None, Ok, Err, refl, ap, sym, subst, arith, length-append}
 use Rattle.std.specs.List.{list_all}
 use Rattle.std.proofs.lemmas.List.{length-map}
 use Rattle.std.proofs.lemmas.Option.{none-some}
@@ -23,7 +23,7 @@ use Rattle.result_print.specs.declared.refusal.Refusal.{Refusal}
 use Rattle.result_print.specs.declared.refusal.Refusal.TheVariants.{Disk, Damaged, Memory}
 use Rattle.statement_answers.specs.declared.outcome.Outcome.{Outcome}
 use Rattle.statement_answers.specs.declared.outcome.Outcome.TheVariants.{Replied, Changes}
-use Rattle.statement_answers.specs.Outcomes.{asked_for, leaves_for, leaves_read}
+use Rattle.statement_answers.specs.Outcomes.{leaves_for, leaves_read}
 use Rattle.statement_replies.specs.declared.replies.Reply.{Reply as Told}
 use Rattle.statement_replies.specs.StatementKinds.{HasChangeKind, HasStatementKind, MayBreak}
 use Rattle.statement_replies.specs.Statements.{Accepted, without_change}
@@ -31,19 +31,19 @@ use Rattle.store_ledger.specs.declared.pinned.Pinned.{Pinned}
 use Rattle.store_ledger.specs.Ledger.{IsOpenPin}
 use Rattle.store_state.specs.declared.event.Event.{Event}
 use Rattle.store_state.specs.Calls.{chunks_at}
-use Rattle.snapshot_manager.specs.declared.seat.Seat.{Seat}
-use Rattle.snapshot_manager.specs.declared.shared.Shared.{Shared}
-use Rattle.session_replies.specs.declared.reply.Reply.{Reply}
-use Rattle.session_replies.specs.Refusals.{IsUnreadReply, IsWant, Refuses}
-use Rattle.session_replies.specs.Replies.{names_before}
-use Rattle.session_replies.proofs.Beginnings.{history_stays, places_see_the_same}
-use Rattle.session_replies.proofs.PinPlaces.{open_pins_are_entered}
-use Rattle.session_sources.specs.Courses.{AddsOwn}
-use Rattle.session_sources.specs.Pinned.{pinned_state, unread}
-use Rattle.session_sources.specs.Seats.{read_count, seen, start}
-use Rattle.session_sources.specs.Start.{Start}
-use Rattle.session_sources.specs.Told.{entries_in, is_sealed, ledger_of, told}
-use Rattle.session_outcomes.proofs.Under.{pin_within}
+use Rattle.session_turns.specs.Seat.{Seat}
+use Rattle.session_turns.specs.Shared.{Shared}
+use Rattle.session_turns.specs.Reply.{Reply}
+use Rattle.session_turns.specs.Refusals.{IsUnreadReply, IsWant, Refuses}
+use Rattle.session_turns.specs.Replies.{names_before}
+use Rattle.session_turns.proofs.Beginnings.{history_stays, places_see_the_same}
+use Rattle.session_turns.proofs.PinPlaces.{open_pins_are_entered}
+use Rattle.session_turns.specs.Courses.{AddsOwn}
+use Rattle.session_turns.specs.Pinned.{pinned_state, unread}
+use Rattle.session_turns.specs.Seats.{read_count, seen, start}
+use Rattle.session_turns.specs.Start.{Start}
+use Rattle.session_turns.specs.Told.{entries_in, is_sealed, ledger_of, told}
+use Rattle.session_turns.proofs.Under.{pin_within}
 use Rattle.session_answers.specs.Inner.Steps.{WasRead}
 use Rattle.session_answers.specs.Reads.{chunks_of, counted, leaves_of}
 

@@ -3,10 +3,10 @@ use Rattle.std.proofs.Common.{◌≡◌, ℕ, List, sym, subst}
 use Rattle.afl_outside.specs.Disk.{Moment}
 use Rattle.afl_trees.specs.Term.{Term}
 use Rattle.store_state.specs.declared.event.Event.{Event}
-use Rattle.snapshot_manager.specs.declared.seat.Seat.{Seat}
-use Rattle.snapshot_manager.specs.declared.shared.Shared.{Shared}
-use Rattle.session_replies.specs.declared.reply.Reply.{Reply}
-use Rattle.session_sources.specs.Seats.{read_count, seen, start, with_last, HoldsNone, IsIdle, IsSeatOf}
+use Rattle.session_turns.specs.Seat.{Seat}
+use Rattle.session_turns.specs.Shared.{Shared}
+use Rattle.session_turns.specs.Reply.{Reply}
+use Rattle.session_turns.specs.Seats.{read_count, seen, start, with_last, HoldsNone, IsIdle, IsSeatOf}
 use Rattle.session_answers.specs.Answered.{IsAnswered}
 use Rattle.session_answers.specs.Reads.{ReadsOnce}
 

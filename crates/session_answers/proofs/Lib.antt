@@ -1,3 +1,5 @@
+pub use Rattle.session_turns.proofs.Beginnings
+pub use Rattle.session_turns.proofs.Staying
 pub mod Acts
 pub mod Commits
 pub mod Counting

@@ -8,10 +8,10 @@ use Rattle.result_print.specs.declared.refusal.Refusal.TheVariants.{TooLong, Par
 use Rattle.store_ledger.specs.declared.note.NoteKind.TheVariants.{Fault}
 use Rattle.store_state.specs.declared.event.Event.{Event}
 use Rattle.store_state.specs.declared.event.Event.TheVariants.{Noted}
-use Rattle.session_replies.specs.Acts.{Course, nothing, looking, trying, making}
-use Rattle.session_replies.specs.Replies.{HasFault, IsToldFor}
-use Rattle.session_replies.specs.declared.reply.Reply.{Reply}
-use Rattle.session_sources.specs.Start.{Start}
+use Rattle.session_turns.specs.Acts.{Course, nothing, looking, trying, making}
+use Rattle.session_turns.specs.Replies.{HasFault, IsToldFor}
+use Rattle.session_turns.specs.Reply.{Reply}
+use Rattle.session_turns.specs.Start.{Start}
 
 module _ {D : Type 0} (moment : D → Moment) (start : Start D) (session pin : ℕ) (events before own : List Event) (text : List ℕ) (tree : Term) (reply : Reply) where
   fault_before : HasFault session own → HasFault session (before ++ own)

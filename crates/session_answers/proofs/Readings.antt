@@ -24,31 +24,31 @@ use Rattle.store_ledger.specs.declared.pinned.Pinned.{Pinned}
 use Rattle.store_ledger.specs.Ledger.{IsOpenPin, is_fault, is_noted}
 use Rattle.store_state.specs.declared.event.Event.{Event}
 use Rattle.store_state.specs.Calls.{IsLeafOf}
-use Rattle.snapshot_manager.specs.declared.seat.Seat.{Seat}
-use Rattle.snapshot_manager.specs.declared.shared.Shared.{Shared}
-use Rattle.session_replies.specs.Acts.{acts_in, begins, ends, looking}
-use Rattle.session_replies.specs.Fresh.{IsNamedAt}
-use Rattle.session_replies.specs.Refusals.{IsUnreadReply}
-use Rattle.session_replies.specs.Replies.{words_of}
-use Rattle.session_replies.specs.declared.reply.Reply.{Reply}
-use Rattle.session_replies.proofs.Beginnings.{history_stays}
-use Rattle.session_sources.specs.declared.reading.Lent.{Lent}
-use Rattle.session_sources.specs.declared.reading.Reading.{Reading}
-use Rattle.session_sources.specs.Courses.{AddsOwn}
-use Rattle.session_sources.specs.Databases.{IsDatabaseOf}
-use Rattle.session_sources.specs.Laws.{PinnedSourcesHoldVersions}
-use Rattle.session_sources.specs.Pinned.{pinned_state, reading_of, unread, HasRead}
-use Rattle.session_sources.specs.Seats.{ledger_seen, seen, session_of, start}
-use Rattle.session_sources.specs.Start.{Start}
-use Rattle.session_sources.specs.Told.{entries_in, ledger_of}
-use Rattle.session_outcomes.specs.BehindPins.{ComesOver, HasDatabaseAt}
-use Rattle.session_outcomes.specs.Changing.{IsReadChange}
-use Rattle.session_outcomes.specs.Told.{IsLookedReply}
-use Rattle.session_outcomes.specs.Under.{SaysWhy, WasPinned}
-use Rattle.session_outcomes.proofs.Behind.{names_behind, open_pin_behind}
-use Rattle.session_outcomes.proofs.Changing.{read_changes_may_be_committed}
-use Rattle.session_outcomes.proofs.Under.{failed_replies_are_told, pin_within, read_replies_are_told}
-use Rattle.session_turns.specs.Under.{IsAnsweredUnder}
+use Rattle.session_turns.specs.Seat.{Seat}
+use Rattle.session_turns.specs.Shared.{Shared}
+use Rattle.session_turns.specs.Acts.{acts_in, begins, ends, looking}
+use Rattle.session_turns.specs.Fresh.{IsNamedAt}
+use Rattle.session_turns.specs.Refusals.{IsUnreadReply}
+use Rattle.session_turns.specs.Replies.{words_of}
+use Rattle.session_turns.specs.Reply.{Reply}
+use Rattle.session_turns.proofs.Beginnings.{history_stays}
+use Rattle.session_turns.specs.Lent.{Lent}
+use Rattle.session_turns.specs.Reading.{Reading}
+use Rattle.session_turns.specs.Courses.{AddsOwn}
+use Rattle.session_turns.specs.Databases.{IsDatabaseOf}
+use Rattle.session_turns.specs.Laws.{PinnedSourcesHoldVersions}
+use Rattle.session_turns.specs.Pinned.{pinned_state, reading_of, unread, HasRead}
+use Rattle.session_turns.specs.Seats.{ledger_seen, seen, session_of, start}
+use Rattle.session_turns.specs.Start.{Start}
+use Rattle.session_turns.specs.Told.{entries_in, ledger_of}
+use Rattle.session_turns.specs.BehindPins.{ComesOver, HasDatabaseAt}
+use Rattle.session_turns.specs.Changing.{IsReadChange}
+use Rattle.session_turns.specs.ToldReplies.{IsLookedReply}
+use Rattle.session_turns.specs.Under.{SaysWhy, WasPinned}
+use Rattle.session_turns.proofs.Behind.{names_behind, open_pin_behind}
+use Rattle.session_turns.proofs.Changing.{read_changes_may_be_committed}
+use Rattle.session_turns.proofs.Under.{failed_replies_are_told, pin_within, read_replies_are_told}
+use Rattle.session_turns.specs.AnsweredUnder.{IsAnsweredUnder}
 use Rattle.session_answers.specs.Inner.Steps.{AddsNoAct, WasRead}
 use Rattle.session_answers.proofs.Acts.{note_acts}
 

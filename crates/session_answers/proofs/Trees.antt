@@ -14,21 +14,21 @@ use Rattle.store_ledger.specs.declared.pinned.Pinned.{Pinned}
 use Rattle.store_ledger.specs.Ledger.{IsOpenPin, IsRefused}
 use Rattle.store_state.specs.declared.event.Event.{Event}
 use Rattle.store_state.specs.declared.event.Event.TheVariants.{Entered}
-use Rattle.told_stores.specs.Turns.{found_before, own_events, pin_event, Adds}
-use Rattle.told_stores.proofs.Turning.{turns_find}
-use Rattle.session_replies.specs.Acts.{Act, Course, begins, nothing, looking, trying, making}
-use Rattle.session_replies.specs.Refusals.{IsWant, Refuses}
-use Rattle.session_replies.specs.Replies.{EnteredAt, HasLine, IsToldFor}
-use Rattle.session_replies.specs.declared.reply.Reply.{Reply}
-use Rattle.session_replies.proofs.ActsJoined.{acts_join}
-use Rattle.session_replies.proofs.Beginnings.{reached}
-use Rattle.session_replies.proofs.PinPlaces.{open_pins_are_entered}
-use Rattle.session_replies.proofs.Staying.{entered_later, replies_stay}
-use Rattle.session_sources.specs.Courses.{AddsOwn}
-use Rattle.session_sources.specs.Start.{Start}
-use Rattle.session_sources.specs.Told.{entries_in, is_sealed, ledger_of}
-use Rattle.session_sources.proofs.CourseLaws.{courses_join, turns_are_courses}
-use Rattle.session_turns.specs.Under.{IsAnsweredUnder}
+use Rattle.session_turns.specs.Turns.{found_before, own_events, pin_event, Adds}
+use Rattle.session_turns.proofs.Turning.{turns_find}
+use Rattle.session_turns.specs.Acts.{Act, Course, begins, nothing, looking, trying, making}
+use Rattle.session_turns.specs.Refusals.{IsWant, Refuses}
+use Rattle.session_turns.specs.Replies.{EnteredAt, HasLine, IsToldFor}
+use Rattle.session_turns.specs.Reply.{Reply}
+use Rattle.session_turns.proofs.ActsJoined.{acts_join}
+use Rattle.session_turns.proofs.Beginnings.{reached}
+use Rattle.session_turns.proofs.PinPlaces.{open_pins_are_entered}
+use Rattle.session_turns.proofs.Staying.{entered_later, replies_stay}
+use Rattle.session_turns.specs.Courses.{AddsOwn}
+use Rattle.session_turns.specs.Start.{Start}
+use Rattle.session_turns.specs.Told.{entries_in, is_sealed, ledger_of}
+use Rattle.session_turns.proofs.CourseLaws.{courses_join, turns_are_courses}
+use Rattle.session_turns.specs.AnsweredUnder.{IsAnsweredUnder}
 use Rattle.session_answers.specs.Answered.{BeganAt}
 use Rattle.session_answers.specs.Inner.Tree.{IsAnsweredTree}
 use Rattle.session_answers.specs.Reads.{counted, ReadsOnce}
@@ -101,6 +101,7 @@ module _ {D : Type 0} (moment : D → Moment) (start : Start D) (session : ℕ) 
     began = began_at session pinned.place old new under.course entered;
     line = under.line;
     later = (let le = behind_old in omega (arith, le, under.since));
+    until = subst (λ (es : List Event). reply.place ≤ length (entries_in es)) (sym unpin_adds.grown) (reached start end unpin_adds.more reply.place under.until);
     told = told;
   }
 
@@ -133,6 +134,7 @@ module _ {D : Type 0} (moment : D → Moment) (start : Start D) (session : ℕ) 
     began = tt;
     line = subst (λ (r : Option Refusal). HasLine reply r) (sym e) line;
     later = subst (λ (n : ℕ). length (entries_in old) ≤ n) (sym at) grown;
+    until = omega (arith, at);
     told = subst (λ (r : Option Refusal). IsToldFor moment start session 0 new [] text tree reply r nothing) (sym e) told;
   }
 

@@ -18,30 +18,30 @@ use Rattle.fresh_laws.specs.Fresh.{AreLeft, SameRoom}
 use Rattle.statement_replies.specs.declared.replies.Reply.{Reply as Told}
 use Rattle.statement_replies.specs.Statements.{Accepted}
 use Rattle.store_ledger.specs.declared.note.NoteKind.TheVariants.{Fault}
-use Rattle.turn_lock.specs.Owners.{is_owned_by}
+use Rattle.session_turns.specs.Owners.{is_owned_by}
 use Rattle.store_ledger.specs.declared.pinned.Pinned.{Pinned}
 use Rattle.store_ledger.specs.Ledger.{IsOpenPin, LedgerState, attempt, note_now}
 use Rattle.store_state.specs.declared.event.Event.{Event}
 use Rattle.store_state.specs.declared.event.Event.TheVariants.{Entered, Noted}
 use Rattle.store_state.specs.Calls.{history_at}
 use Rattle.store_state.specs.Events.{owner_of}
-use Rattle.store_commits.specs.Tried.{IsFaultOrNone}
-use Rattle.told_stores.specs.Growth.{tried_events}
-use Rattle.told_stores.specs.Tries.{is_fresh_since, AreOfTry, TriesCommit}
-use Rattle.told_stores.specs.Turns.{found_before, own_events}
-use Rattle.told_stores.proofs.Sights.{more_history, others_leave_pins, pins_outlast}
-use Rattle.told_stores.proofs.Turning.{turns_find}
-use Rattle.session_replies.specs.Acts.{Act, acts_in, tries}
-use Rattle.session_replies.specs.Fresh.{AreLeftSince, IsNamedAt}
-use Rattle.session_replies.specs.Replies.{Says, SaysChange}
-use Rattle.session_replies.proofs.ActsJoined.{acts_join}
-use Rattle.session_replies.proofs.Beginnings.{history_stays, reached}
-use Rattle.session_replies.proofs.FreshReplies.{fresh_changes_are_said}
-use Rattle.session_replies.proofs.Staying.{change_later, says_later}
-use Rattle.session_sources.specs.Start.{Start}
-use Rattle.session_sources.specs.Told.{entries_in, ledger_of, told}
-use Rattle.session_sources.proofs.CourseLaws.{own_more}
-use Rattle.session_outcomes.proofs.Freshly.{fresh_changes_are_left_since}
+use Rattle.session_turns.specs.Tried.{IsFaultOrNone}
+use Rattle.session_turns.specs.Growth.{tried_events}
+use Rattle.session_turns.specs.Tries.{is_fresh_since, AreOfTry, TriesCommit}
+use Rattle.session_turns.specs.Turns.{found_before, own_events}
+use Rattle.session_turns.proofs.Sights.{more_history, others_leave_pins, pins_outlast}
+use Rattle.session_turns.proofs.Turning.{turns_find}
+use Rattle.session_turns.specs.Acts.{Act, acts_in, tries}
+use Rattle.session_turns.specs.Fresh.{AreLeftSince, IsNamedAt}
+use Rattle.session_turns.specs.Replies.{Says, SaysChange}
+use Rattle.session_turns.proofs.ActsJoined.{acts_join}
+use Rattle.session_turns.proofs.Beginnings.{history_stays, reached}
+use Rattle.session_turns.proofs.FreshReplies.{fresh_changes_are_said}
+use Rattle.session_turns.proofs.Staying.{change_later, says_later}
+use Rattle.session_turns.specs.Start.{Start}
+use Rattle.session_turns.specs.Told.{entries_in, ledger_of, told}
+use Rattle.session_turns.proofs.CourseLaws.{own_more}
+use Rattle.session_turns.proofs.Freshly.{fresh_changes_are_left_since}
 
 -- ---- what the session itself added
 

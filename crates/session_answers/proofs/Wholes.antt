@@ -11,13 +11,13 @@ use Rattle.result_print.specs.declared.refusal.Refusal.TheVariants.{Memory, Pars
 use Rattle.statement_replies.specs.declared.replies.Reply.{Reply as Told}
 use Rattle.statement_replies.specs.Reply.{refused}
 use Rattle.store_state.specs.declared.event.Event.{Event}
-use Rattle.session_replies.specs.Acts.{nothing}
-use Rattle.session_replies.specs.Refusals.{IsWant, Refuses}
-use Rattle.session_replies.specs.Replies.{words_of, HasLine, IsToldFor}
-use Rattle.session_replies.specs.declared.reply.Reply.{Reply}
-use Rattle.session_sources.specs.Start.{Start}
-use Rattle.session_sources.specs.Told.{entries_in}
-use Rattle.session_sources.proofs.CourseLaws.{courses_may_be_empty}
+use Rattle.session_turns.specs.Acts.{nothing}
+use Rattle.session_turns.specs.Refusals.{IsWant, Refuses}
+use Rattle.session_turns.specs.Replies.{words_of, HasLine, IsToldFor}
+use Rattle.session_turns.specs.Reply.{Reply}
+use Rattle.session_turns.specs.Start.{Start}
+use Rattle.session_turns.specs.Told.{entries_in}
+use Rattle.session_turns.proofs.CourseLaws.{courses_may_be_empty}
 use Rattle.session_answers.specs.Answered.{IsAnswered, IsStopReply}
 use Rattle.session_answers.specs.Inner.Tree.{IsAnsweredTree}
 use Rattle.session_answers.specs.Reads.{ReadsOnce}
@@ -38,6 +38,7 @@ module _ {D : Type 0} (moment : D → Moment) (start : Start D) (session last : 
       a.later,
       subst (λ (one : Term). IsToldFor moment start session a.pin new a.own text one reply reply.refusal a.course) (only_tree t derives) a.told,
     );
+    until = λ t derives. a.until;
     stopped = λ at kind stop. absurd (only_stop at kind stop);
   }
 
@@ -58,6 +59,7 @@ module _ {D : Type 0} (moment : D → Moment) (start : Start D) (session last : 
       omega (arith, at),
       subst (λ (r : Option Refusal). IsToldFor moment start session 0 old [] text t reply r nothing) (sym w.1) tt,
     );
+    until = λ t derives. omega (arith, at);
     stopped = λ at kind stop. (refl, inr w.1);
   }
 
@@ -86,6 +88,7 @@ module _ {D : Type 0} (moment : D → Moment) (start : Start D) (session last : 
       began = tt;
       line = refused_line (Some (Parse at kind)) (ap (λ (words : Told). words.refusal) e) (ap (λ (words : Told). words.text) e);
       told = λ t derives. absurd (only_tree t derives);
+      until = λ t derives. absurd (only_tree t derives);
       stopped = λ there why stop. (refl, inl (stop_words e there why (only_stop there why stop)));
     }
     stop_is_whole (inr w) = record {
@@ -97,5 +100,6 @@ module _ {D : Type 0} (moment : D → Moment) (start : Start D) (session last : 
       began = tt;
       line = refused_line (Some Memory) w.1 w.0;
       told = λ t derives. absurd (only_tree t derives);
+      until = λ t derives. absurd (only_tree t derives);
       stopped = λ there why stop. (refl, inr w.1);
     }

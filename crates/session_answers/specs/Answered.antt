@@ -8,12 +8,12 @@ use Rattle.event_core.specs.declared.entry.Entry.TheVariants.{Pin}
 use Rattle.result_print.specs.declared.refusal.Refusal.TheVariants.{Parse, Memory}
 use Rattle.statement_replies.specs.Reply.{refused}
 use Rattle.store_state.specs.declared.event.Event.{Event}
-use Rattle.session_outcomes.specs.Start.{Start}
-use Rattle.session_sources.specs.Told.{entries_in}
-use Rattle.session_sources.specs.Courses.{AddsOwn}
-use Rattle.session_outcomes.specs.Acts.{acts_for, acts_in, Course, nothing}
-use Rattle.session_outcomes.specs.Replies.{words_of, EnteredAt, HasLine, IsToldFor}
-use Rattle.session_outcomes.specs.Reply.{Reply}
+use Rattle.session_turns.specs.Start.{Start}
+use Rattle.session_turns.specs.Told.{entries_in}
+use Rattle.session_turns.specs.Courses.{AddsOwn}
+use Rattle.session_turns.specs.Acts.{acts_for, acts_in, Course, nothing}
+use Rattle.session_turns.specs.Replies.{words_of, EnteredAt, HasLine, IsToldFor}
+use Rattle.session_turns.specs.Reply.{Reply}
 
 -- the reply to a text that no tree derives: where and why it stops. It rests on no entry, and has the place of the session's last reply
 pub record IsStopReply (last at : ℕ) (kind : ParseKind) (reply : Reply) : Type 0 where
@@ -38,5 +38,6 @@ pub record IsAnswered {D : Type 0} (moment : D → Moment) (start : Start D) (se
   pub line : HasLine reply reply.refusal
   pub told : (tree : Term) → DerivesText text tree
       → (length (entries_in old) ≤ reply.place) × IsToldFor moment start session pin new own text tree reply reply.refusal course
+  pub until : (tree : Term) → DerivesText text tree → reply.place ≤ length (entries_in new)
   pub stopped : (at : ℕ) (kind : ParseKind) → StopsText text at kind
       → (own ≡ []) × (IsStopReply last at kind reply ⊎ (reply.refusal ≡ Some Memory))

@@ -1,3 +1,11 @@
+pub use Rattle.session_turns.specs.Acts
+pub use Rattle.session_turns.specs.Courses
+pub use Rattle.session_turns.specs.Replies
+pub use Rattle.session_turns.specs.Reply
+pub use Rattle.session_turns.specs.Seats
+pub use Rattle.session_turns.specs.Start
+pub use Rattle.session_turns.specs.Told
+pub use Rattle.store_state.specs.declared.event.Event
 pub mod Answered
 pub mod Inner
 pub mod Reads

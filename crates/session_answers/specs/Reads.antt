@@ -8,9 +8,9 @@ use Rattle.logical_plan.specs.declared.parts.Leaf.{Leaf}
 use Rattle.statement_answers.specs.Outcomes.{leaves_for}
 use Rattle.store_state.specs.declared.event.Event.{Event}
 use Rattle.store_state.specs.Calls.{chunks_at}
-use Rattle.session_outcomes.specs.Replies.{names_before, EnteredAt}
-use Rattle.session_outcomes.specs.Start.{Start}
-use Rattle.session_sources.specs.Told.{entries_in, told}
+use Rattle.session_turns.specs.Replies.{names_before, EnteredAt}
+use Rattle.session_turns.specs.Start.{Start}
+use Rattle.session_turns.specs.Told.{entries_in, told}
 
 -- how many chunks these leaves have, as a place sees them
 abbrev pub chunks_of : {D : Type 0} → Start D → List Event → ℕ → List Leaf → ℕ

@@ -7,9 +7,9 @@ ghost use Rattle.store_ledger.specs.declared.note.NoteKind.{NoteKind};
 ghost use Rattle.store_ledger.specs.Ledger.{is_noted};
 ghost use Rattle.store_state.specs.Calls.{database_with};
 ghost use Rattle.store_state.specs.Standings.{BeganAs};
-ghost use Rattle.session_sources.specs.Databases.{IsDatabaseOf};
-ghost use Rattle.session_sources.specs.Seats.{ledger_seen, read_count, seen, session_of, start, store_seen, HoldsPin, IsIdle, IsSameSeat, IsSeatOf};
-ghost use Rattle.session_turns.specs.Under.{IsAnsweredUnder};
+ghost use Rattle.session_turns.specs.Databases.{IsDatabaseOf};
+ghost use Rattle.session_turns.specs.Seats.{ledger_seen, read_count, seen, session_of, start, store_seen, HoldsPin, IsIdle, IsSameSeat, IsSeatOf};
+ghost use Rattle.session_turns.specs.AnsweredUnder.{IsAnsweredUnder};
 ghost use Rattle.session_answers.specs.Inner.Steps.{WasRead};
 ghost use Rattle.session_answers.specs.Reads.{counted};
 
@@ -17,9 +17,9 @@ use crate::committing::commit;
 use afl_outside::{Disk, Gate, Point};
 use afl_trees::Tree;
 use chunk_source::ExecFault;
-use session_outcomes::{Reply, at_place, unread};
-use session_sources::{PinnedSource, Seat, Shared, sources_hold_their_versions};
-use session_turns::Options;
+use session_turns::{
+    Options, PinnedSource, Reply, Seat, Shared, at_place, sources_hold_their_versions, unread,
+};
 use statement_answers::{Outcome, outcome_of};
 use std::alloc::Global;
 use std::sync::Wait;

@@ -1,3 +1,15 @@
+pub use Rattle.session_replies.proofs.ActsJoined
+pub use Rattle.session_replies.proofs.Beginnings
+pub use Rattle.session_replies.proofs.FreshReplies
+pub use Rattle.session_replies.proofs.PinPlaces
+pub use Rattle.session_replies.proofs.Staying
+pub use Rattle.session_sources.proofs.CourseLaws
+pub use Rattle.session_sources.proofs.Databases
+pub use Rattle.session_sources.proofs.Sights
+pub use Rattle.session_sources.proofs.Telling
+pub use Rattle.session_sources.proofs.TriedTurns
+pub use Rattle.session_sources.proofs.Turning
+pub use Rattle.session_sources.proofs.VersionLaws
 pub mod Behind
 pub mod Changing
 pub mod Freshly

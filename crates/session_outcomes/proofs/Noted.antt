@@ -12,7 +12,7 @@ use Rattle.session_replies.specs.Replies.{HasFault}
 use Rattle.session_sources.specs.Courses.{AddsOwn, IsFaultAtMost}
 use Rattle.session_sources.proofs.CourseLaws.{courses_keep_notes}
 use Rattle.session_sources.specs.Seats.{seen, session_of, start}
-use Rattle.session_outcomes.specs.Told.{FailuresAreNoted}
+use Rattle.session_outcomes.specs.ToldReplies.{FailuresAreNoted}
 
 fault_in : (session after : ℕ) → Contains (Noted (record { session = session; kind = Fault; after = after }) ∷ []) (Noted (record { session = session; kind = Fault; after = after }))
 fault_in session after = (0, omega arith, refl)

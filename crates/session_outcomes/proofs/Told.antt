@@ -28,7 +28,7 @@ use Rattle.session_replies.specs.Acts.{looking}
 use Rattle.session_replies.specs.Refusals.{IsWant, Refuses}
 use Rattle.session_replies.specs.Replies.{names_before, words_of, HasLine, IsToldFor}
 use Rattle.session_replies.specs.declared.reply.Reply.{Reply}
-use Rattle.session_outcomes.specs.Told.{IsCausedSincePin, IsLookedReply, IsSaidBehindPin, SaidRepliesAreTold, UnreadRepliesAreTold}
+use Rattle.session_outcomes.specs.ToldReplies.{IsCausedSincePin, IsLookedReply, IsSaidBehindPin, SaidRepliesAreTold, UnreadRepliesAreTold}
 
 -- ---- the words of a statement without a change refuse nothing, or for a rule or a cell
 

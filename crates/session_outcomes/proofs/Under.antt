@@ -29,7 +29,7 @@ use Rattle.session_sources.specs.Courses.{AddsAtMostFault, AddsOwn}
 use Rattle.session_sources.specs.Pinned.{unread, HasRead}
 use Rattle.session_sources.specs.Stored.{BeginsPayload}
 use Rattle.session_outcomes.specs.Said.{IsSaid}
-use Rattle.session_outcomes.specs.Told.{IsCause, IsLookedReply}
+use Rattle.session_outcomes.specs.ToldReplies.{IsCause, IsLookedReply}
 use Rattle.session_outcomes.specs.Under.{FailedRepliesAreTold, HasOutcomesWords, ReadRepliesAreTold, SaysWhy, WasPinned}
 use Rattle.session_outcomes.proofs.Behind.{names_behind, open_pin_behind, pinned_outcomes_are_said}
 use Rattle.session_outcomes.proofs.Noted.{failures_are_noted}

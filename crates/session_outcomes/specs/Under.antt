@@ -15,7 +15,7 @@ use Rattle.session_sources.specs.declared.reading.Reading.{Reading}
 use Rattle.session_sources.specs.Courses.{AddsAtMostFault}
 use Rattle.session_sources.specs.Pinned.{pinned_state, unread, HasRead}
 use Rattle.session_outcomes.specs.BehindPins.{ComesOver, HasDatabaseAt}
-use Rattle.session_outcomes.specs.Told.{IsLookedReply}
+use Rattle.session_outcomes.specs.ToldReplies.{IsLookedReply}
 
 module _ {D : Type 0} (moment : D → Moment) (r : Reading D) where
   -- the pin came to a store with the database that its names are of, and no note was under it

@@ -3,7 +3,7 @@ ghost use Rattle.session_outcomes.specs.BehindPins.{PinnedOutcomesAreSaid};
 ghost use Rattle.session_outcomes.specs.Changing.{ReadChangesMayBeCommitted};
 ghost use Rattle.session_outcomes.specs.Freshly.{FreshChangesAreLeftSince};
 ghost use Rattle.session_outcomes.specs.Said.{OutcomesAreSaid};
-ghost use Rattle.session_outcomes.specs.Told.{FailuresAreNoted, SaidRepliesAreTold, UnreadRepliesAreTold};
+ghost use Rattle.session_outcomes.specs.ToldReplies.{FailuresAreNoted, SaidRepliesAreTold, UnreadRepliesAreTold};
 ghost use Rattle.session_outcomes.specs.Under.{FailedRepliesAreTold, ReadRepliesAreTold};
 
 use afl_outside::Disk;

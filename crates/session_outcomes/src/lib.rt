@@ -8,4 +8,7 @@ pub use laws::{
     replies_are_told,
 };
 pub use session_replies::{Reply, at_place, refusal_at, uncommitted, unread, want};
-pub use session_sources::commit;
+pub use session_sources::{
+    Commit, CommitFault, HeldSource, PinnedSource, Seat, Shared, StoreTurn, commit,
+    sources_hold_their_versions,
+};

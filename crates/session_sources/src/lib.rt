@@ -14,4 +14,4 @@ pub use laws::{courses_are_told, sources_hold_their_versions};
 pub use marks::Marks;
 pub use pinned::PinnedSource;
 pub use reading::{Lent, Reading};
-pub use snapshot_manager::{Commit, Seat, Shared, StoreTurn, commit};
+pub use snapshot_manager::{Commit, CommitFault, Seat, Shared, StoreTurn, commit};

@@ -7,19 +7,19 @@ use Rattle.plan_changes.specs.declared.change.Change.{Change}
 use Rattle.event_core.specs.declared.entry.Entry.{Entry}
 use Rattle.event_core.specs.declared.entry.Entry.TheVariants.{Pin, Unpin, Commit, Reap}
 use Rattle.event_core.proofs.Tests.{both_not}
-use Rattle.turn_lock.specs.Owners.{only_of}
+use Rattle.session_outcomes.specs.Owners.{only_of}
 use Rattle.store_ledger.specs.Ledger.{LedgerState}
 use Rattle.store_state.specs.declared.event.Event.{Event}
 use Rattle.store_state.specs.declared.event.Event.TheVariants.{Entered, Acknowledged, Noted}
 use Rattle.store_state.specs.Events.{owner_of}
-use Rattle.store_commits.specs.Growth.{tried_events}
-use Rattle.store_commits.specs.Tried.{IsFaultOrNone}
-use Rattle.told_stores.specs.Turns.{leaves_pin_of, own_events}
-use Rattle.told_stores.proofs.Telling.{entries_in-append}
-use Rattle.session_sources.specs.Courses.{IsFaultAtMost}
-use Rattle.session_sources.specs.Told.{entries_in}
+use Rattle.session_outcomes.specs.Growth.{tried_events}
+use Rattle.session_outcomes.specs.Tried.{IsFaultOrNone}
+use Rattle.session_outcomes.specs.Turns.{leaves_pin_of, own_events}
+use Rattle.session_outcomes.proofs.Telling.{entries_in-append}
+use Rattle.session_outcomes.specs.Courses.{IsFaultAtMost}
+use Rattle.session_outcomes.specs.Told.{entries_in}
 use Rattle.session_outcomes.specs.Acts.{Act, acts_in, acts_of_note, begins, ends, makes, tries}
-use Rattle.session_replies.proofs.ActsJoined.{acts_join}
+use Rattle.session_outcomes.proofs.ActsJoined.{acts_join}
 
 -- ---- what is nobody's is no act
 

@@ -19,7 +19,7 @@ use Rattle.statement_answers.specs.Forms.{a_change, form_said}
 use Rattle.statement_answers.proofs.Saying.{changes_refused}
 use Rattle.statement_replies.specs.declared.replies.Reply.{Reply as Told}
 use Rattle.statement_replies.specs.Reply.{refused}
-use Rattle.turn_lock.specs.declared.seat.Turn.{Turn}
+use Rattle.session_outcomes.specs.Turn.{Turn}
 use Rattle.store_ledger.specs.declared.pinned.Pinned.{Pinned}
 use Rattle.store_ledger.specs.Ledger.{LedgerState, IsOpenPin, is_fault, is_noted}
 use Rattle.store_state.specs.declared.event.Event.{Event}
@@ -28,32 +28,32 @@ use Rattle.store_state.specs.declared.parts.StoreParts.{StoreParts}
 use Rattle.store_state.specs.Calls.{payload_at, IsLeafOf}
 use Rattle.store_state.specs.Events.{events}
 use Rattle.store_state.specs.Standings.{Standing}
-use Rattle.store_commits.specs.Growth.{tried_events}
-use Rattle.store_commits.specs.Tried.{AddsSealed, AddsTried}
-use Rattle.told_stores.specs.Causes.{IsUncommitted}
-use Rattle.told_stores.specs.CommitFault.{CommitFault}
-use Rattle.told_stores.specs.CommitFault.TheVariants as faults
-use Rattle.told_stores.specs.Starts.{start_of}
-use Rattle.told_stores.specs.Turns.{leaves_pin_of}
-use Rattle.told_stores.proofs.Sights.{pins_outlast}
-use Rattle.told_stores.proofs.Telling.{entries_are, entries_in-append}
-use Rattle.told_stores.proofs.TriedTurns.{cause_told}
-use Rattle.session_sources.specs.Databases.{HasDatabase}
-use Rattle.session_sources.specs.Held.{names_now}
-use Rattle.session_sources.specs.Seats.{store_of}
-use Rattle.session_sources.specs.Start.{Start}
-use Rattle.session_sources.specs.Stored.{BeginsPayload}
-use Rattle.session_sources.specs.Told.{entries_in, ledger_of, told, IsTold}
-use Rattle.session_replies.specs.Refusals.{IsUncommittedReply, IsUnreadReply, IsWant, Refuses}
-use Rattle.session_replies.proofs.Staying.{says_later}
+use Rattle.session_outcomes.specs.Growth.{tried_events}
+use Rattle.session_outcomes.specs.Tried.{AddsSealed, AddsTried}
+use Rattle.session_outcomes.specs.Causes.{IsUncommitted}
+use Rattle.session_outcomes.specs.CommitFault.{CommitFault}
+use Rattle.session_outcomes.specs.CommitFault.TheVariants as faults
+use Rattle.session_outcomes.specs.Starts.{start_of}
+use Rattle.session_outcomes.specs.Turns.{leaves_pin_of}
+use Rattle.session_outcomes.proofs.Sights.{pins_outlast}
+use Rattle.session_outcomes.proofs.Telling.{entries_are, entries_in-append}
+use Rattle.session_outcomes.proofs.TriedTurns.{cause_told}
+use Rattle.session_outcomes.specs.Databases.{HasDatabase}
+use Rattle.session_outcomes.specs.Held.{names_now}
+use Rattle.session_outcomes.specs.Seats.{store_of}
+use Rattle.session_outcomes.specs.Start.{Start}
+use Rattle.session_outcomes.specs.Stored.{BeginsPayload}
+use Rattle.session_outcomes.specs.Told.{entries_in, ledger_of, told, IsTold}
+use Rattle.session_outcomes.specs.Refusals.{IsUncommittedReply, IsUnreadReply, IsWant, Refuses}
+use Rattle.session_outcomes.proofs.Staying.{says_later}
 use Rattle.session_outcomes.specs.Acts.{acts_in, looking, making, makes, tries, trying}
 use Rattle.session_outcomes.specs.Replies.{names_before, words_of, EnteredAt, HasLine, IsPayloadPage, IsToldFor, Says, SaysChange, WasUncommitted}
 use Rattle.session_outcomes.specs.Reply.{Reply}
 use Rattle.session_outcomes.specs.Said.{IsSaid}
-use Rattle.session_outcomes.specs.Told.{IsLookedReply}
+use Rattle.session_outcomes.specs.ToldReplies.{IsLookedReply}
 use Rattle.session_outcomes.proofs.Told.{said_replies_are_told}
 use Rattle.session_turns.specs.Inner.Turns.{store_in, Goes, IsRead, IsWhy, KeepsTurn, TellsCommit, goes_short, goes_told, goes_unread, goes_tried}
-use Rattle.session_turns.specs.Under.{IsAnsweredInTurn}
+use Rattle.session_turns.specs.AnsweredUnder.{IsAnsweredInTurn}
 use Rattle.session_turns.proofs.Adding.{all_acts, all_leave, entries_before, fault_acts, fault_leaves, last_entries}
 use Rattle.session_turns.proofs.Present.{names_there, reap_if, said_there, turned_reap}
 use Rattle.session_turns.proofs.Told.{answered, earlier_pin, refuses, Tells}

@@ -8,9 +8,9 @@ use Rattle.afl_types.specs.declared.statements.checking.Typed.TheVariants.{Chang
 use Rattle.event_core.specs.Allowed.{is_pinned}
 use Rattle.statement_answers.specs.Forms.{a_change, form_said}
 use Rattle.statement_answers.proofs.Saying.{forms_said}
-use Rattle.turn_lock.specs.Owners.{ExtendsByOwn}
-use Rattle.turn_lock.specs.Inner.Lent.{turn_with}
-use Rattle.turn_lock.specs.declared.seat.Turn.{Turn}
+use Rattle.session_outcomes.specs.Owners.{ExtendsByOwn}
+use Rattle.session_outcomes.specs.Lent.{turn_with}
+use Rattle.session_outcomes.specs.Turn.{Turn}
 use Rattle.store_ledger.specs.declared.pinned.Pinned.{Pinned}
 use Rattle.store_ledger.specs.Ledger.{LedgerState, IsLedger, IsOpenPin, history, is_noted, is_tried}
 use Rattle.store_ledger.proofs.Keeping.{pinned_of}
@@ -19,21 +19,21 @@ use Rattle.store_state.specs.declared.parts.StoreParts.{StoreParts}
 use Rattle.store_state.specs.At.{standing, AreParts}
 use Rattle.store_state.specs.Events.{events, owner_of}
 use Rattle.store_state.specs.Standings.{Standing}
-use Rattle.told_stores.specs.Growth.{IsCounted}
-use Rattle.told_stores.specs.Starts.{start_of}
-use Rattle.told_stores.proofs.Databases.{stores_have_databases}
-use Rattle.told_stores.proofs.Telling.{stores_are_told}
-use Rattle.snapshot_manager.specs.declared.seat.Seat.{Seat}
-use Rattle.snapshot_manager.specs.declared.shared.Shared.{Shared}
-use Rattle.session_sources.specs.Databases.{HasDatabase}
-use Rattle.session_sources.specs.Held.{names_now}
-use Rattle.session_sources.specs.Seats.{ledger_seen, seen, session_of, start, store_of, HasTurn, HoldsPin}
-use Rattle.session_sources.specs.Start.{Start}
-use Rattle.session_sources.specs.Told.{ledger_of, IsTold}
+use Rattle.session_outcomes.specs.Growth.{IsCounted}
+use Rattle.session_outcomes.specs.Starts.{start_of}
+use Rattle.session_outcomes.proofs.Databases.{stores_have_databases}
+use Rattle.session_outcomes.proofs.Telling.{stores_are_told}
+use Rattle.session_outcomes.specs.Seat.{Seat}
+use Rattle.session_outcomes.specs.Shared.{Shared}
+use Rattle.session_outcomes.specs.Databases.{HasDatabase}
+use Rattle.session_outcomes.specs.Held.{names_now}
+use Rattle.session_outcomes.specs.Seats.{ledger_seen, seen, session_of, start, store_of, HasTurn, HoldsPin}
+use Rattle.session_outcomes.specs.Start.{Start}
+use Rattle.session_outcomes.specs.Told.{ledger_of, IsTold}
 use Rattle.session_outcomes.specs.Reply.{Reply}
 use Rattle.session_outcomes.proofs.Under.{pin_within}
 use Rattle.session_turns.specs.Inner.Turns.{Goes, KeepsTurn}
-use Rattle.session_turns.specs.Under.{IsAnsweredInTurn}
+use Rattle.session_turns.specs.AnsweredUnder.{IsAnsweredInTurn}
 use Rattle.session_turns.proofs.Answered.{goes_answered, goes_open}
 
 -- a tree that is a change over some names is said to be one

@@ -20,22 +20,22 @@ use Rattle.statement_answers.specs.Outcomes.{HasOutcomeKind, IsMadeOf, IsOutcome
 use Rattle.statement_replies.specs.declared.replies.Reply.{Reply as Told}
 use Rattle.statement_replies.specs.Reading.{HoldsVersions}
 use Rattle.statement_replies.specs.Statements.{reply_to}
-use Rattle.turn_lock.specs.Owners.{is_open_to}
-use Rattle.turn_lock.specs.declared.seat.Turn.{Turn}
+use Rattle.session_outcomes.specs.Owners.{is_open_to}
+use Rattle.session_outcomes.specs.Turn.{Turn}
 use Rattle.store_ledger.specs.Ledger.{history, is_noted, is_tried}
 use Rattle.store_state.specs.declared.event.Event.{Event}
 use Rattle.store_state.specs.declared.parts.StoreParts.{StoreParts}
 use Rattle.store_state.specs.Calls.{IsLeafOf}
 use Rattle.store_state.specs.Events.{events, owner_of}
 use Rattle.store_state.specs.Standings.{Standing}
-use Rattle.session_sources.specs.Databases.{HasDatabase}
-use Rattle.session_sources.specs.Held.{held_state, holding_of, names_now, store_then, unheld, HasHeld}
-use Rattle.session_sources.specs.Prepared.{IsAsked, MayBeMade}
-use Rattle.session_sources.specs.Seats.{store_of}
-use Rattle.session_sources.specs.declared.holding.Holding.{Holding}
-use Rattle.session_sources.specs.declared.holding.LentTurn.{LentTurn}
-use Rattle.session_sources.specs.declared.marks.Marks.{Marks}
-use Rattle.session_sources.proofs.VersionLaws.{held_sources_hold_versions}
+use Rattle.session_outcomes.specs.Databases.{HasDatabase}
+use Rattle.session_outcomes.specs.Held.{held_state, holding_of, names_now, store_then, unheld, HasHeld}
+use Rattle.session_outcomes.specs.Prepared.{IsAsked, MayBeMade}
+use Rattle.session_outcomes.specs.Seats.{store_of}
+use Rattle.session_outcomes.specs.Holding.{Holding}
+use Rattle.session_outcomes.specs.LentTurn.{LentTurn}
+use Rattle.session_outcomes.specs.Marks.{Marks}
+use Rattle.session_outcomes.proofs.VersionLaws.{held_sources_hold_versions}
 use Rattle.session_outcomes.specs.BehindPins.{ComesOver}
 use Rattle.session_turns.specs.Inner.Turns.{store_in, IsRead, IsWhy, KeepsTurn}
 use Rattle.session_turns.proofs.Adding.{all_append}

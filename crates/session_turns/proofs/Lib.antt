@@ -1,3 +1,16 @@
+pub use Rattle.session_outcomes.proofs.ActsJoined
+pub use Rattle.session_outcomes.proofs.Beginnings
+pub use Rattle.session_outcomes.proofs.Behind
+pub use Rattle.session_outcomes.proofs.Changing
+pub use Rattle.session_outcomes.proofs.CourseLaws
+pub use Rattle.session_outcomes.proofs.FreshReplies
+pub use Rattle.session_outcomes.proofs.Freshly
+pub use Rattle.session_outcomes.proofs.PinPlaces
+pub use Rattle.session_outcomes.proofs.Sights
+pub use Rattle.session_outcomes.proofs.Staying
+pub use Rattle.session_outcomes.proofs.Telling
+pub use Rattle.session_outcomes.proofs.Turning
+pub use Rattle.session_outcomes.proofs.Under
 pub mod Adding
 pub mod Answered
 pub mod Ending

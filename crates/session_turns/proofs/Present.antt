@@ -14,18 +14,18 @@ use Rattle.event_core.specs.History.{History, names_at, up_to}
 use Rattle.statement_answers.specs.declared.outcome.Outcome.{Outcome}
 use Rattle.statement_answers.specs.Outcomes.{HasOutcomeKind, IsOutcomeOf, IsToldBy}
 use Rattle.statement_replies.specs.Statements.{reply_to}
-use Rattle.turn_lock.specs.declared.seat.Turn.{Turn}
+use Rattle.session_outcomes.specs.Turn.{Turn}
 use Rattle.store_ledger.specs.Ledger.{history}
 use Rattle.store_state.specs.declared.event.Event.{Event}
 use Rattle.store_state.specs.declared.parts.StoreParts.{StoreParts}
 use Rattle.store_state.specs.Calls.{database_with, history_at}
 use Rattle.store_state.specs.Standings.{BeganAs}
-use Rattle.told_stores.specs.Starts.{start_of}
-use Rattle.session_sources.specs.Databases.{HasDatabase, IsDatabaseOf}
-use Rattle.session_sources.specs.Held.{held_state, names_now, unheld}
-use Rattle.session_sources.specs.Seats.{store_of}
-use Rattle.session_sources.specs.Start.{Start}
-use Rattle.session_sources.specs.Told.{entries_in, told}
+use Rattle.session_outcomes.specs.Starts.{start_of}
+use Rattle.session_outcomes.specs.Databases.{HasDatabase, IsDatabaseOf}
+use Rattle.session_outcomes.specs.Held.{held_state, names_now, unheld}
+use Rattle.session_outcomes.specs.Seats.{store_of}
+use Rattle.session_outcomes.specs.Start.{Start}
+use Rattle.session_outcomes.specs.Told.{entries_in, told}
 use Rattle.session_outcomes.specs.BehindPins.{ComesOver}
 use Rattle.session_outcomes.specs.Replies.{names_before}
 use Rattle.session_outcomes.specs.Said.{ComesOf, IsSaid}

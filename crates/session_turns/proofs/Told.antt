@@ -6,18 +6,18 @@ use Rattle.result_print.specs.declared.refusal.Refusal.{Refusal}
 use Rattle.result_print.specs.declared.refusal.Refusal.TheVariants.{TooLong, Parse, HistoryFull, NotBuilt, Typing, Cell, Disk, Damaged, SequenceEnd, Full, Memory}
 use Rattle.statement_replies.specs.declared.replies.Reply.{Reply as Told}
 use Rattle.statement_replies.specs.Reply.{refused}
-use Rattle.turn_lock.specs.Owners.{ExtendsByOwn}
+use Rattle.session_outcomes.specs.Owners.{ExtendsByOwn}
 use Rattle.store_ledger.specs.Ledger.{is_fault, is_noted}
 use Rattle.store_state.specs.declared.event.Event.{Event}
 use Rattle.store_state.specs.Events.{owner_of}
-use Rattle.session_sources.specs.Start.{Start}
-use Rattle.session_sources.specs.Told.{entries_in, ledger_of}
-use Rattle.session_replies.specs.Refusals.{Refuses}
+use Rattle.session_outcomes.specs.Start.{Start}
+use Rattle.session_outcomes.specs.Told.{entries_in, ledger_of}
+use Rattle.session_outcomes.specs.Refusals.{Refuses}
 use Rattle.session_outcomes.specs.Acts.{Act, acts_for, acts_in, begins, ends, Course, looking}
 use Rattle.session_outcomes.specs.Replies.{HasFault, HasLine, IsToldFor}
 use Rattle.session_outcomes.specs.Reply.{Reply}
-use Rattle.told_stores.specs.Turns.{own_events}
-use Rattle.session_turns.specs.Under.{IsAnsweredInTurn}
+use Rattle.session_outcomes.specs.Turns.{own_events}
+use Rattle.session_turns.specs.AnsweredUnder.{IsAnsweredInTurn}
 use Rattle.session_turns.proofs.Adding.{only_acts}
 
 module _ {D : Type 0} (moment : D → Moment) (start : Start D) (session pin : ℕ) (old new : List Event) (text : List ℕ) (tree : Term) (reply : Reply)

@@ -9,14 +9,14 @@ ghost use Rattle.event_core.specs.Allowed.{is_pinned};
 ghost use Rattle.store_ledger.specs.Ledger.{history, is_noted, is_tried};
 ghost use Rattle.store_state.specs.At.{standing};
 ghost use Rattle.store_state.specs.Events.{events};
-ghost use Rattle.told_stores.specs.Starts.{start_of};
-ghost use Rattle.session_sources.specs.Databases.{HasDatabase};
-ghost use Rattle.session_sources.specs.Held.{names_now};
-ghost use Rattle.session_sources.specs.Prepared.{IsAsked};
-ghost use Rattle.session_sources.specs.Seats.{ledger_seen, read_count, seen, start, store_of, HasTurn, HoldsPin, IsIdle, IsSameSeat, IsSeatOf};
-ghost use Rattle.session_sources.specs.Told.{IsTold};
+ghost use Rattle.session_outcomes.specs.Starts.{start_of};
+ghost use Rattle.session_outcomes.specs.Databases.{HasDatabase};
+ghost use Rattle.session_outcomes.specs.Held.{names_now};
+ghost use Rattle.session_outcomes.specs.Prepared.{IsAsked};
+ghost use Rattle.session_outcomes.specs.Seats.{ledger_seen, read_count, seen, start, store_of, HasTurn, HoldsPin, IsIdle, IsSameSeat, IsSeatOf};
+ghost use Rattle.session_outcomes.specs.Told.{IsTold};
 ghost use Rattle.session_turns.specs.Inner.Turns.{store_in, Goes, IsTried, KeepsTurn, TellsCommit};
-ghost use Rattle.session_turns.specs.Under.{IsAnsweredInTurn};
+ghost use Rattle.session_turns.specs.AnsweredUnder.{IsAnsweredInTurn};
 
 use crate::settings::Options;
 use afl_outside::{Disk, Gate};
@@ -25,14 +25,15 @@ use array_geom::Changed;
 use cell_values::Memory;
 use logical_plan::Names;
 use plan_changes::Change;
-use session_outcomes::{Reply, at_place, commit, uncommitted, unread, want};
-use session_sources::{HeldSource, Seat, Shared, StoreTurn};
+use session_outcomes::{
+    CommitFault, HeldSource, Reply, Seat, Shared, StoreTurn, at_place, commit, uncommitted, unread,
+    want,
+};
 use statement_answers::{Outcome, outcome_of};
 use statement_replies::Reply as Words;
 use std::alloc::Global;
 use std::sync::Wait;
 use store_ledger::Pinned;
-use told_stores::CommitFault;
 
 /// Answers a statement over the store of a turn that its seat holds, and ends the turn. Under the pin the statement was a change.
 pub fn answer_held<D: Disk, R: Wait, G: Gate>(

@@ -5,4 +5,8 @@ mod held;
 mod settings;
 
 pub use held::answer_held;
+pub use session_outcomes::{
+    Commit, PinnedSource, Reply, Seat, Shared, at_place, refusal_at, sources_hold_their_versions,
+    uncommitted, unread, want,
+};
 pub use settings::Options;

@@ -1,6 +1,9 @@
+pub use Rattle.told_stores.proofs.Databases
 pub use Rattle.told_stores.proofs.Ended
 pub use Rattle.told_stores.proofs.FreshChanges
 pub use Rattle.told_stores.proofs.Notes
 pub use Rattle.told_stores.proofs.Sights
+pub use Rattle.told_stores.proofs.Telling
+pub use Rattle.told_stores.proofs.TriedTurns
 pub use Rattle.told_stores.proofs.Turning
 pub mod Seating

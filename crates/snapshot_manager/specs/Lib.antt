@@ -1,4 +1,6 @@
 pub use Rattle.prepared_commits.specs.Prepared
+pub use Rattle.told_stores.specs.Causes
+pub use Rattle.told_stores.specs.CommitFault
 pub use Rattle.told_stores.specs.Databases
 pub use Rattle.told_stores.specs.Faults
 pub use Rattle.told_stores.specs.Growth
@@ -6,6 +8,7 @@ pub use Rattle.told_stores.specs.Laws
 pub use Rattle.told_stores.specs.Start
 pub use Rattle.told_stores.specs.Starts
 pub use Rattle.told_stores.specs.Told
+pub use Rattle.told_stores.specs.Tried
 pub use Rattle.told_stores.specs.Tries
 pub use Rattle.told_stores.specs.Turns
 pub use Rattle.told_stores.specs.Worked

@@ -1,7 +1,8 @@
 //! How a store is taken back from its sessions.
 ghost use Rattle.std.specs.Prelude.{◌≡◌, length};
+ghost use Rattle.turn_lock.specs.Owners.{AreOwnedBelow};
 ghost use Rattle.store_state.specs.At.{standing};
-ghost use Rattle.store_state.specs.Events.{events};
+ghost use Rattle.store_state.specs.Events.{events, owner_of};
 ghost use Rattle.told_stores.specs.Starts.{start_of};
 ghost use Rattle.snapshot_manager.specs.Seats.{seats_in_all, start, AreIdleSeats, ExtendEach};
 
@@ -18,6 +19,7 @@ impl<D: Disk> Shared<D> {
         requires seats { AreIdleSeats self seats }
         ensures start { start_of (standing D.moment result) ≡ start D.moment self }
         ensures events { ExtendEach seats (events (standing D.moment result)) }
+        ensures owned { AreOwnedBelow owner_of (seats_in_all self) (events (standing D.moment result)) }
     {
         let Shared { lock, bell } = self;
         drop(bell);

@@ -10,12 +10,12 @@ use Rattle.atomic_table.proofs.Lists.{at_set, set_else, at_longer, at_last}
 use Rattle.turn_lock.specs.declared.view.Claim.{Claim}
 use Rattle.turn_lock.specs.declared.view.SeatView.{SeatView}
 use Rattle.turn_lock.specs.declared.view.Stage.TheVariants.{Idle, Holding}
-use Rattle.turn_lock.specs.Owners.{ExtendsByOthers}
+use Rattle.turn_lock.specs.Owners.{AreOwnedBelow, ExtendsByOthers}
 use Rattle.turn_lock.specs.Inner.Views.{tickets_at, claim, new_claims, first_of, later_of, first_view, spent_view, first_share, later_share, both_shares, ticket_count, number_count, HasNumber}
 use Rattle.turn_lock.specs.Inner.Steps.{Arrives}
 use Rattle.turn_lock.specs.Rule.{total, Fits, IsOneHistory}
 use Rattle.turn_lock.proofs.Basics.{idle_not_holding, same_value, none_not_some}
-use Rattle.turn_lock.proofs.Standing.{has_before, has_after, has_later, new_claims_have, stand_set}
+use Rattle.turn_lock.proofs.Standing.{has_before, has_after, has_later, had_first, had_later, had_either, none_has, new_claims_have, new_claims_below, stand_set, below_set, below_longer}
 use Rattle.turn_lock.proofs.Lists.{set_at, total_set, total_append, total_two, at_end, at_either, all_seen, length-new_claims, new_claim_at}
 
 module _ {V E : Type 0} where
@@ -70,6 +70,8 @@ module _ {V O E : Type 0} (origin : V → O) (entries : V → List E) (owner : E
     waiting = omega arith;
     shared_out = (let n : ℕ = length (new_claims {E = E} 0 seats) in let h : n ≡ seats = length-new_claims E 0 seats in let g : n + 0 ≡ seats = omega arith in g);
     stands = λ n below. (first_view first seats, refl, new_claims_have n seats below);
+    in_range = below_longer seats [] (first_view first seats) (λ n h. new_claims_below n seats h) (λ j v there. absurd (some-ne-none v (sym there)));
+    owned = refl;
     slot = inl (x, refl, same, empty, λ j v there. ⊎_elim (λ h. absurd (some-ne-none v (sym h))) (λ h. same_view (first_view first seats) v refl h.1) (at_end [] (first_view first seats) v j there));
   }
 
@@ -92,6 +94,8 @@ module _ {V O E : Type 0} (origin : V → O) (entries : V → List E) (owner : E
       waiting = (let a : k.next ≡ k.served + total ticket_count s.views = k.waiting in let b = total_append ticket_count s.views (spent_view ∷ []) in omega arith);
       shared_out = (let a : total number_count s.views ≡ seats = k.shared_out in let b = total_append number_count s.views (spent_view ∷ []) in omega arith);
       stands = λ n below. let old = k.stands n below in (old.0, at_longer s.views (spent_view ∷ []) (k.holder n) old.0 old.1, old.2);
+      in_range = below_longer seats s.views spent_view (λ n h. none_has n h) k.in_range;
+      owned = k.owned;
       slot = ⊎_elim
           (λ h. inl (h.0, h.1, h.2, h.3, λ j v there. ⊎_elim (h.4 j v) (λ t. same_view spent_view v refl t.1) (at_end s.views spent_view v j there)))
           (λ h. inr (h.0, (h.1.0, h.1.1, at_longer s.views (spent_view ∷ []) h.1.0 h.1.1 h.1.2, h.1.3)))
@@ -157,6 +161,9 @@ module _ {V O E : Type 0} (origin : V → O) (entries : V → List E) (owner : E
             (λ ne. let old = stand_set n k.holder s.views id v left at
             (λ h. subst (HasNumber n) (sym (ap later_of are)) (has_later n number v.claims (new_claims (suc number) more) are ne h)) (k.stands n below) in
             (old.0, ap (get_elem? (set s.views id left ++ right ∷ [])) (else n ne) ∙ at_longer (set s.views id left) (right ∷ []) (k.holder n) old.0 old.1, old.2));
+        in_range = below_longer seats (set s.views id left) right (λ n h. k.in_range id v at n (had_first n v.claims h))
+            (below_set seats s.views id left (λ n h. k.in_range id v at n (had_later n v.claims h)) k.in_range);
+        owned = k.owned;
         slot = ⊎_elim
             (λ h. inl (
               h.0,
@@ -222,6 +229,9 @@ module _ {V O E : Type 0} (origin : V → O) (entries : V → List E) (owner : E
             ))
             (λ no. let kept = stand_set n k.holder s.views id v both at (has_after n w.claims v.claims) old in
             (kept.0, ap (get_elem? (set mid other spent_view)) (stays n (k.holder n) refl no) ∙ (set_else mid other (k.holder n) spent_view no ∙ kept.1), kept.2));
+        in_range = below_set seats mid other spent_view (λ n h. none_has n h)
+            (below_set seats s.views id both (λ n h. ⊎_elim (k.in_range other w there n) (k.in_range id v at n) (had_either n w.claims v.claims h)) k.in_range);
+        owned = k.owned;
         slot = ⊎_elim
             (λ h. inl (
               h.0,
@@ -236,9 +246,9 @@ module _ {V O E : Type 0} (origin : V → O) (entries : V → List E) (owner : E
             k.slot;
       }
 
-  -- once a seat has every number, the value is at home, and extends all that was seen
+  -- once a seat has every number, the value is at home, it extends all that was seen, and no other number owns an entry
   pub ends : (id : ℕ) (v : D) (ws : List ℕ) (xs : List S) → v.stage ≡ Idle → length v.claims ≡ seats → Final (Seen K id v) ws xs
-      → (x : V) × (get_elem? xs 0 ≡ some (Some x)) × (origin x ≡ origin first) × ((i : ℕ) (c : Claim E) → get_elem? v.claims i ≡ some c → ExtendsByOthers owner c.number c.seen (entries x))
+      → (x : V) × (get_elem? xs 0 ≡ some (Some x)) × (origin x ≡ origin first) × ((i : ℕ) (c : Claim E) → get_elem? v.claims i ≡ some c → ExtendsByOthers owner c.number c.seen (entries x)) × AreOwnedBelow owner seats (entries x)
   ends id v ws xs idle all last = let s = last.0 in let k = last.1.0 in let at = last.1.1 in
       ⊎_elim
       (λ h. (
@@ -246,6 +256,7 @@ module _ {V O E : Type 0} (origin : V → O) (entries : V → List E) (owner : E
         last.4 0 (Some h.0) (ap (λ hs. get_elem? hs 0) h.1),
         h.2,
         λ i c at_c. subst (ExtendsByOthers owner c.number c.seen) (sym h.3) ((k.each id v at).claimed i c at_c).1,
+        subst (AreOwnedBelow owner seats) (sym h.3) k.owned,
       ))
       (λ h. let j : ℕ = h.1.0 in let w : D = h.1.1 in
       let two = total_two number_count s.views j id w v (other_view s.views id j v w idle at h.1.2 h.1.3) h.1.2 at in
@@ -255,10 +266,10 @@ module _ {V O E : Type 0} (origin : V → O) (entries : V → List E) (owner : E
 
   -- the same, of the value that is found
   pub value_at_end : (id : ℕ) (v : D) (ws : List ℕ) (xs : List S) (y : V) → v.stage ≡ Idle → length v.claims ≡ seats → Final (Seen K id v) ws xs → get_elem? xs 0 ≡ some (Some y)
-      → (origin y ≡ origin first) × ((i : ℕ) (c : Claim E) → get_elem? v.claims i ≡ some c → ExtendsByOthers owner c.number c.seen (entries y))
+      → (origin y ≡ origin first) × ((i : ℕ) (c : Claim E) → get_elem? v.claims i ≡ some c → ExtendsByOthers owner c.number c.seen (entries y)) × AreOwnedBelow owner seats (entries y)
   value_at_end id v ws xs y idle all last found = let e = ends id v ws xs idle all last in
       let same : e.0 ≡ y = same_value e.0 y (some-injective (Some e.0) (Some y) (sym e.1 ∙ found)) in
-      (ap origin (sym same) ∙ e.2, λ i c at. subst (λ z. ExtendsByOthers owner c.number c.seen (entries z)) same (e.3 i c at))
+      (ap origin (sym same) ∙ e.2, (λ i c at. subst (λ z. ExtendsByOthers owner c.number c.seen (entries z)) same (e.3 i c at)), subst (λ z. AreOwnedBelow owner seats (entries z)) same e.4)
 
   pub none_at_end : (id : ℕ) (v : D) (ws : List ℕ) (xs : List S) → v.stage ≡ Idle → length v.claims ≡ seats → Final (Seen K id v) ws xs → get_elem? xs 0 ≡ some None → ⊥
   none_at_end id v ws xs idle all last found = let e = ends id v ws xs idle all last in none_not_some e.0 (sym (some-injective (Some e.0) None (sym e.1 ∙ found)))

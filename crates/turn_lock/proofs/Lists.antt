@@ -1,8 +1,8 @@
 -- Lists read by place, totals over them, and whose their entries are.
-use Rattle.std.proofs.Common.{◌≡◌, ◌≢◌, ℕ, zero, suc, ◌+◌, ◌≤◌, ◌⊎◌, inl, inr, ⊎_elim, Bool, true, false, not, ◌&&◌, List, [], ◌∷◌, ◌++◌, map, length, set, sym, refl, ap, ◌∙◌, arith, Option, Some, None, append_assoc, append-nil, ne_eqb, true-eqb}
+use Rattle.std.proofs.Common.{◌≡◌, ◌≢◌, ℕ, zero, suc, ◌+◌, ◌<◌, ◌≤◌, ◌⊎◌, inl, inr, ⊎_elim, Bool, true, false, not, ◌&&◌, List, [], ◌∷◌, ◌++◌, map, length, set, sym, refl, ap, subst, ◌∙◌, arith, Option, Some, None, append_assoc, append-nil, ne_eqb, true-eqb, false-eqb, lt-ltb, ltb-true}
 use mathlib.Core.Option.{some, some-injective, some-ne-none}
 use lib.ListN.{get_elem?}
-use Rattle.turn_lock.specs.Owners.{is_owned_by, is_open_to, none_of, only_of, ExtendsByOthers, ExtendsByOwn}
+use Rattle.turn_lock.specs.Owners.{is_owned_by, is_open_to, is_owned_below, none_of, only_of, AreOwnedBelow, ExtendsByOthers, ExtendsByOwn}
 use Rattle.turn_lock.specs.declared.view.Claim.{Claim}
 use Rattle.turn_lock.specs.Inner.Views.{claim, new_claims}
 use Rattle.turn_lock.specs.Rule.{total}
@@ -34,6 +34,20 @@ other_owner : (o : Option ℕ) (k j : ℕ) → j ≢ k → is_open_to o k ≡ tr
 other_owner None k j ne is = refl
 other_owner (Some m) k j ne is = let same : m ≡ k = true-eqb m k (sym is) in ap not (ne_eqb m j (λ e. ne (sym e ∙ same)))
 
+-- what is open to a seat is owned below any number above that seat's
+open_below : (o : Option ℕ) (k n : ℕ) → k < n → is_open_to o k ≡ true → is_owned_below o n ≡ true
+open_below None k n lt is = refl
+open_below (Some m) k n lt is = let same : m ≡ k = true-eqb m k (sym is) in lt-ltb m n (omega arith)
+
+is_false : (b : Bool) → not b ≡ true → false ≡ b
+is_false true e = cc
+is_false false e = refl
+
+-- what is owned below a number, and not by the seat right before it
+below_less : (o : Option ℕ) (n : ℕ) → is_owned_below o (n + 1) ≡ true → not (is_owned_by o n) ≡ true → is_owned_below o n ≡ true
+below_less None n is other = refl
+below_less (Some m) n is other = let below : m < n + 1 = ltb-true m (n + 1) is in let ne : m ≢ n = false-eqb m n (is_false _ other) in lt-ltb m n (omega arith)
+
 and_left : (a b : Bool) → a && b ≡ true → a ≡ true
 and_left true b e = refl
 and_left false b e = cc
@@ -53,6 +67,24 @@ module _ {E : Type 0} (owner : E → Option ℕ) where
   pub none_append : (k : ℕ) (xs ys : List E) → none_of owner k xs ≡ true → none_of owner k ys ≡ true → none_of owner k (xs ++ ys) ≡ true
   none_append k [] ys a b = b
   none_append k (x ∷ xs) ys a b = both _ _ (and_left _ _ a) (none_append k xs ys (and_right (not (is_owned_by (owner x) k)) _ a) b)
+
+  pub own_below : (k n : ℕ) (es : List E) → k < n → only_of owner k es ≡ true → AreOwnedBelow owner n es
+  own_below k n [] lt is = refl
+  own_below k n (e ∷ es) lt is = both _ _ (open_below (owner e) k n lt (and_left _ _ is)) (own_below k n es lt (and_right (is_open_to (owner e) k) _ is))
+
+  pub below_append : (n : ℕ) (xs ys : List E) → AreOwnedBelow owner n xs → AreOwnedBelow owner n ys → AreOwnedBelow owner n (xs ++ ys)
+  below_append n [] ys a b = b
+  below_append n (x ∷ xs) ys a b = both _ _ (and_left _ _ a) (below_append n xs ys (and_right (is_owned_below (owner x) n) _ a) b)
+
+  -- where the last seat owns nothing, only those before it do
+  pub below_one_less : (n : ℕ) (es : List E) → AreOwnedBelow owner (n + 1) es → none_of owner n es ≡ true → AreOwnedBelow owner n es
+  below_one_less n [] is none = refl
+  below_one_less n (e ∷ es) is none = both _ _ (below_less (owner e) n (and_left _ _ is) (and_left _ _ none))
+      (below_one_less n es (and_right (is_owned_below (owner e) (n + 1)) _ is) (and_right (not (is_owned_by (owner e) n)) _ none))
+
+  -- after a turn of a seat below that number
+  pub still_below : (k n : ℕ) (log more : List E) → k < n → AreOwnedBelow owner n log → ExtendsByOwn owner k log more → AreOwnedBelow owner n more
+  still_below k n log xs lt old new = subst (AreOwnedBelow owner n) (sym new.1) (below_append n log new.0 old (own_below k n new.0 lt new.2))
 
   -- what one seat has seen, after another seat's turn
   pub still_extends : (k j : ℕ) (seen log more : List E) → j ≢ k → ExtendsByOthers owner j seen log → ExtendsByOwn owner k log more → ExtendsByOthers owner j seen more
@@ -106,3 +138,9 @@ module _ {E : Type 0} where
   new_claim_at k zero i c e = absurd (some-ne-none c (sym e))
   new_claim_at k (suc n) zero c e = let same = sym (some-injective (claim k []) c e) in (ap (λ (d : Claim E). d.number) same ∙ (let g : k ≡ k + 0 = omega arith in g), ap (λ (d : Claim E). d.seen) same)
   new_claim_at k (suc n) (suc i) c e = let h = new_claim_at (suc k) n i c e in (h.0 ∙ (let g : suc k + i ≡ k + suc i = omega arith in g), h.1)
+
+  pub new_claim_below : (k n i : ℕ) (c : Claim E) → get_elem? (new_claims k n) i ≡ some c → c.number < k + n
+  new_claim_below k zero i c e = absurd (some-ne-none c (sym e))
+  new_claim_below k (suc n) zero c e = let m : ℕ = c.number in let same : k ≡ m = ap (λ (d : Claim E). d.number) (some-injective (claim k []) c e) in
+      let g : m < k + suc n = omega arith in g
+  new_claim_below k (suc n) (suc i) c e = let m : ℕ = c.number in let h : m < suc k + n = new_claim_below (suc k) n i c e in let g : m < k + suc n = omega arith in g

@@ -17,8 +17,8 @@ use Rattle.turn_lock.specs.Inner.Views.{tickets_at, claim, claims_seeing, AllHav
 use Rattle.turn_lock.specs.Inner.Steps.{Draws, Serves, Looks, Counts}
 use Rattle.turn_lock.specs.Rule.{total, InStage, Fits, IsOut, IsOneHistory}
 use Rattle.turn_lock.proofs.Basics.{idle_not_holding, waiting_not_holding, same_value}
-use Rattle.turn_lock.proofs.Standing.{has_renewed, stand_set}
-use Rattle.turn_lock.proofs.Lists.{set_at, total_set, total_le, at_mapped, still_extends, all_seen}
+use Rattle.turn_lock.proofs.Standing.{has_renewed, had_renewed, stand_set, below_set}
+use Rattle.turn_lock.proofs.Lists.{set_at, total_set, total_le, at_mapped, still_extends, still_below, all_seen}
 
 -- a word that counts modulo 2^64 goes on by 1
 next_word : (n : ℕ) → (n % 2 ^ 64 + 1) % 2 ^ 64 ≡ (n + 1) % 2 ^ 64
@@ -111,6 +111,8 @@ module _ {V O E : Type 0} (origin : V → O) (entries : V → List E) (owner : E
           waiting = (let a : next ≡ k.served + total ticket_count s.views = k.waiting in omega arith);
           shared_out = (let a : total number_count s.views ≡ seats = k.shared_out in omega arith);
           stands = λ n below. stand_set n k.holder s.views id me.0 w at (λ h. h) (k.stands n below);
+          in_range = below_set seats s.views id w (k.in_range id me.0 at) k.in_range;
+          owned = k.owned;
           slot = ⊎_elim
               (λ h. inl (h.0, h.1, h.2, h.3, λ j v there. ⊎_elim (λ t. subst (λ (u : D). u.stage ≢ Holding) t.1 (waiting_not_holding Waiting refl)) (λ t. h.4 j v t.1) (at_set s.views id j w v there)))
               (λ h. let j : ℕ = h.1.0 in let v : D = h.1.1 in
@@ -170,6 +172,8 @@ module _ {V O E : Type 0} (origin : V → O) (entries : V → List E) (owner : E
           waiting = (let a : k.next ≡ k.served + total ticket_count s.views = k.waiting in omega arith);
           shared_out = (let a : total number_count s.views ≡ seats = k.shared_out in omega arith);
           stands = λ n below. stand_set n k.holder s.views id me.0 w at (has_renewed n (entries x) me.0.claims) (k.stands n below);
+          in_range = below_set seats s.views id w (λ m h. k.in_range id me.0 at m (had_renewed m (entries x) me.0.claims h)) k.in_range;
+          owned = k.owned;
           slot = inr (ap (λ hs. set hs 0 none) h.1, (id, w, set_at s.views id me.0 w at, refl));
         },
         (
@@ -258,6 +262,8 @@ module _ {V O E : Type 0} (origin : V → O) (entries : V → List E) (owner : E
           waiting = (let a : k.next ≡ k.served + total ticket_count s.views = k.waiting in omega arith);
           shared_out = (let a : total number_count s.views ≡ seats = k.shared_out in omega arith);
           stands = λ n below. stand_set n k.holder s.views id me.0 w at (has_renewed n xs me.0.claims) (k.stands n below);
+          in_range = below_set seats s.views id w (λ m h. k.in_range id me.0 at m (had_renewed m xs me.0.claims h)) k.in_range;
+          owned = still_below owner number seats k.log xs (k.in_range id me.0 at number (0, claim number seen, mine, refl)) k.owned added;
           slot = inr (now.4.0, (id, w, set_at s.views id me.0 w at, refl));
         },
         (refl, refl, refl, refl),
@@ -295,6 +301,8 @@ module _ {V O E : Type 0} (origin : V → O) (entries : V → List E) (owner : E
           waiting = (let a : k.next ≡ k.served + total ticket_count s.views = k.waiting in omega arith);
           shared_out = (let a : total number_count s.views ≡ seats = k.shared_out in omega arith);
           stands = λ n below. stand_set n k.holder s.views id me.0 w at (λ h. h) (k.stands n below);
+          in_range = below_set seats s.views id w (k.in_range id me.0 at) k.in_range;
+          owned = k.owned;
           slot = inl (
             x,
             (λ i. put_back (now.4.0 i) (has i)),

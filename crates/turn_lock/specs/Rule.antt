@@ -9,7 +9,7 @@ use Rattle.turn_lock.specs.declared.view.Claim.{Claim}
 use Rattle.turn_lock.specs.declared.view.SeatView.{SeatView}
 use Rattle.turn_lock.specs.declared.view.Stage.{Stage}
 use Rattle.turn_lock.specs.declared.view.Stage.TheVariants.{Idle, Waiting, Holding}
-use Rattle.turn_lock.specs.Owners.{ExtendsByOthers}
+use Rattle.turn_lock.specs.Owners.{AreOwnedBelow, ExtendsByOthers}
 use Rattle.turn_lock.specs.Inner.Views.{HasNumber, AllHaveSeen, ticket_count, number_count}
 
 -- f of each, added up
@@ -21,6 +21,10 @@ module _ {V E : Type 0} where
   -- the number n stands in the view that `holder` names
   abbrev pub Stands : ℕ → (ℕ → ℕ) → List (SeatView V E) → Type 0
   Stands n holder views = (v : SeatView V E) × (get_elem? views (holder n) ≡ some v) × HasNumber n v.claims
+
+  -- each number that stands in a view is below n
+  abbrev pub AreBelow : ℕ → List (SeatView V E) → Type 0
+  AreBelow n views = (id : ℕ) (v : SeatView V E) → get_elem? views id ≡ some v → (m : ℕ) → HasNumber m v.claims → m < n
 
   -- A ticket that is out lies from the ticket served up to the next one, and no other seat drew it.
   -- The seat that has its turn has the ticket served, and has seen the whole list
@@ -68,4 +72,7 @@ module _ {V O E : Type 0} (origin : V → O) (entries : V → List E) (owner : E
     -- each number is with one seat
     pub shared_out : total number_count s.views ≡ seats
     pub stands : (n : ℕ) → n < seats → Stands n holder s.views
+    pub in_range : AreBelow seats s.views
+    -- no entry is owned by a number that no seat has
+    pub owned : AreOwnedBelow owner seats log
     pub slot : AtHome origin entries first log s.homes s.views ⊎ IsOut origin entries s.homes s.views

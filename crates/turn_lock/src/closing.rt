@@ -22,6 +22,7 @@ pub struct Closing<V: History> {
 impl<V: History> TurnLock<V> {
     ghost use Rattle.std.specs.Prelude.{[], length};
     ghost use Rattle.turn_lock.specs.Closings.{lock_of, claims_of};
+    ghost use Rattle.turn_lock.specs.Owners.{AreOwnedBelow};
     ghost use Rattle.turn_lock.specs.Seats.{first_value, seat_count, AreIdleSeats, ExtendsEach};
 
     /// Ends the lock, once it has all its seats again.
@@ -30,6 +31,7 @@ impl<V: History> TurnLock<V> {
         requires seats { AreIdleSeats self seats }
         ensures origin { V.origin result ≡ V.origin (first_value self) }
         ensures entries { ExtendsEach V.owner seats (V.entries result) }
+        ensures owned { AreOwnedBelow V.owner (seat_count self) (V.entries result) }
     {
         let mut closing = self.closing();
         while let Some(last) = seats.pop() {
@@ -51,7 +53,7 @@ impl<V: History> TurnLock<V> {
 impl<V: History> Closing<V> {
     ghost use Rattle.std.specs.Prelude.{◌∷◌, length, All};
     ghost use Rattle.turn_lock.specs.Closings.{lock_of, claims_of};
-    ghost use Rattle.turn_lock.specs.Owners.{ExtendsByOthers};
+    ghost use Rattle.turn_lock.specs.Owners.{AreOwnedBelow, ExtendsByOthers};
     ghost use Rattle.turn_lock.specs.Seats.{first_value, seat_count, claim_of, IsSeatOf, IsIdle};
 
     /// Takes a seat of the lock, which has no turn.
@@ -70,6 +72,7 @@ impl<V: History> Closing<V> {
         requires { length (claims_of self) ≡ seat_count (lock_of self) }
         ensures origin { V.origin result ≡ V.origin (first_value (lock_of self)) }
         ensures entries { All (λ c. ExtendsByOthers V.owner c.number c.seen (V.entries result)) (claims_of self) }
+        ensures owned { AreOwnedBelow V.owner (seat_count (lock_of self)) (V.entries result) }
     {
         let Closing { lock, all } = self;
         let TurnLock { table } = lock;

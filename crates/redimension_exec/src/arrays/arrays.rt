@@ -1,21 +1,23 @@
 //! Redimensions, with aggregates or without.
-ghost use Rattle.std.specs.Prelude.{◌≡◌, ◌≤◌, None, length, IsTrue, IfOk};
+ghost use Rattle.std.specs.Prelude.{◌≡◌, ℕ, ◌≤◌, ◌<◌, ◌^◌, None, List as Items, length, IsTrue, IfOk};
 ghost use Rattle.cell_values.specs.Schemas.{IsValid};
-ghost use Rattle.array_parts.specs.Cores.{HasCells, HaveCells, meant_by_cores};
+ghost use Rattle.cell_values.specs.declared.schema.Dimension.{Dimension};
+ghost use Rattle.array_parts.specs.Cores.{HasCells, HaveCells, cores_of, meant_by_cores};
 ghost use Rattle.array_geom.specs.Geometry.{overlaps};
-ghost use Rattle.array_geom.specs.Link.{Is};
+ghost use Rattle.array_geom.specs.Link.{Is, NumbersRise, core_rows, numbers};
 ghost use Rattle.logical_plan.specs.Meaning.{redimensioned_from};
 ghost use Rattle.logical_plan.specs.Typing.{redimensions};
 
 use crate::arrays::building::{broken_target, fitted_array};
 use crate::arrays::cells::redimension_cells;
-use crate::arrays::gathering::gathered_rows;
+use crate::arrays::gathering::{gathered_in_bands, gathered_rows};
+use area_cells::{are_few, are_rising};
 use array_geom::ChunkedArray;
 use cell_values::{Memory, Schema};
 use exec_group::rows_of_cores;
 use logical_plan::Aggregate;
 
-/// The redimension with aggregates of an array that is not broken.
+/// The redimension with aggregates of an array that is not broken, from all its rows.
 fn of_whole(
     array: ChunkedArray,
     target: &Schema,
@@ -34,6 +36,62 @@ fn of_whole(
     match gathered_rows(&source, target, aggs, rows)? {
         Ok(rows) => fitted_array(target, rows),
         Err(broken) => broken_target(target, &broken),
+    }
+}
+
+/// The redimension with aggregates of an array that is not broken, band by band.
+fn of_bands(
+    array: &ChunkedArray,
+    target: &Schema,
+    aggs: &[Aggregate],
+) -> Result<ChunkedArray, Memory>
+    requires whole { array.now.broken ≡ None }
+    requires cells { HaveCells array.now.schema array.now.margins.items array.now.chunks }
+    requires rise { NumbersRise (numbers array.now.chunks) }
+    requires chunks { 0 < length array.now.chunks }
+    requires counted { length (cores_of array.now) < 2 ^ 63 }
+    requires valid { IsValid target.now }
+    requires typed { IsTrue (redimensions array.now.schema target.now aggs.now) }
+    requires some { 1 ≤ length aggs.now }
+    ensures array { IfOk result (λ made. Is made (redimensioned_from target.now aggs.now (meant_by_cores array.now))) }
+    ensures margins { IfOk result (λ made. made.margins.items ≡ overlaps target.now.dimensions) }
+{
+    match gathered_in_bands(array, target, aggs)? {
+        Ok(rows) => fitted_array(target, rows),
+        Err(broken) => broken_target(target, &broken),
+    }
+}
+
+/// Whether an array has bands: chunks whose numbers rise, as those of an array do, with cells that can be counted.
+fn has_bands(array: &ChunkedArray) -> bool
+    ensures rise { IsTrue result → NumbersRise (numbers array.now.chunks) }
+    ensures some { IsTrue result → 0 < length array.now.chunks }
+    ensures few { IsTrue result → (dims : Items Dimension) (margins : Items ℕ) → length (core_rows dims margins array.now.chunks) < 2 ^ 63 }
+{
+    let chunks = array.chunks.as_slice();
+    !chunks.is_empty() && are_rising(chunks, array.schema.dimensions.len()) && are_few(chunks)
+}
+
+/// The redimension with aggregates of an array that is not broken.
+fn of_array(
+    array: ChunkedArray,
+    target: &Schema,
+    aggs: &[Aggregate],
+) -> Result<ChunkedArray, Memory>
+    requires whole { array.broken ≡ None }
+    requires cells { HaveCells array.schema array.margins.items array.chunks }
+    requires valid { IsValid target.now }
+    requires typed { IsTrue (redimensions array.schema target.now aggs.now) }
+    requires some { 1 ≤ length aggs.now }
+    ensures array { IfOk result (λ made. Is made (redimensioned_from target.now aggs.now (meant_by_cores array))) }
+    ensures margins { IfOk result (λ made. made.margins.items ≡ overlaps target.now.dimensions) }
+{
+    if has_bands(&array) {
+        let made = of_bands(&array, target, aggs);
+        drop(array);
+        made
+    } else {
+        of_whole(array, target, aggs)
     }
 }
 
@@ -58,6 +116,6 @@ pub fn redimension(
     }
     match &array.broken {
         Some(broken) => broken_target(target, broken),
-        None => of_whole(array, target, aggs),
+        None => of_array(array, target, aggs),
     }
 }

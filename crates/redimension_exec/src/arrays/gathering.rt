@@ -3,11 +3,15 @@ ghost use Rattle.std.specs.Prelude.{◌≡◌, ◌≤◌, ◌<◌, ◌^◌, leng
 ghost use Rattle.cell_values.specs.Schemas.{IsValid};
 ghost use Rattle.array_rows.specs.Arrays.{AreRowsOf};
 ghost use Rattle.array_rows.specs.Boxes.{bounds_of};
+ghost use Rattle.array_geom.specs.Link.{NumbersRise, numbers};
+ghost use Rattle.array_parts.specs.Cores.{HaveCells, cores_of};
 ghost use Rattle.logical_plan.specs.Redimension.{gathered_rows, origin_of};
 ghost use Rattle.logical_plan.specs.Typing.{redimensions};
 
+use crate::arrays::bands::groups_in_bands;
 use crate::arrays::groups::groups_landed;
 use crate::arrays::ordering::aggregates_named;
+use array_geom::ChunkedArray;
 use cell_values::{Broken, List, Memory, Row, Schema};
 use exec_group::rows_told;
 use logical_plan::Aggregate;
@@ -31,6 +35,39 @@ pub(crate) fn gathered_rows(
 {
     let ordered = aggregates_named(&target.attributes, aggregates)?;
     match groups_landed(source, target, ordered.as_slice(), rows)? {
+        Err(broken) => Ok(Err(broken)),
+        Ok(groups) => {
+            let told = rows_told(groups)?;
+            Ok(Ok(told))
+        }
+    }
+}
+
+/// The same of the rows of an array's cores, band by band.
+#[tactic(auto, using(crate::proofs::MeantLaws::few_dimensions))]
+pub(crate) fn gathered_in_bands(
+    array: &ChunkedArray,
+    target: &Schema,
+    aggregates: &[Aggregate],
+) -> Result<Result<List<Row>, Broken>, Memory>
+    requires cells { HaveCells array.now.schema array.now.margins.items array.now.chunks }
+    requires rise { NumbersRise (numbers array.now.chunks) }
+    requires chunks { 0 < length array.now.chunks }
+    requires counted { length (cores_of array.now) < 2 ^ 63 }
+    requires valid { IsValid target.now }
+    requires typed { IsTrue (redimensions array.now.schema target.now aggregates.now) }
+    requires some { 1 ≤ length aggregates.now }
+    ensures values { IfOk result (λ made. made ≡ gathered_rows (map (origin_of array.now.schema) target.now.dimensions) (bounds_of target.now.dimensions) target.now.attributes aggregates.now (cores_of array.now)) }
+    ensures rows { IfOk result (λ made. IfOk made (AreRowsOf target.now)) }
+{
+    let ordered = aggregates_named(&target.attributes, aggregates)?;
+    match groups_in_bands(
+        &array.schema,
+        target,
+        ordered.as_slice(),
+        &array.margins,
+        array.chunks.as_slice(),
+    )? {
         Err(broken) => Ok(Err(broken)),
         Ok(groups) => {
             let told = rows_told(groups)?;

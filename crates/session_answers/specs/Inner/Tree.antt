@@ -3,13 +3,13 @@ use Rattle.std.specs.Prelude.{◌≡◌, ◌≤◌, ℕ, List, length}
 use Rattle.afl_outside.specs.Disk.{Moment}
 use Rattle.afl_trees.specs.Term.{Term}
 use Rattle.store_state.specs.declared.event.Event.{Event}
-use Rattle.session_outcomes.specs.Start.{Start}
-use Rattle.session_sources.specs.Told.{entries_in}
-use Rattle.session_sources.specs.Courses.{AddsOwn}
-use Rattle.session_outcomes.specs.Acts.{acts_for, acts_in, Course}
-use Rattle.session_outcomes.specs.Replies.{HasLine, IsToldFor}
+use Rattle.session_turns.specs.Start.{Start}
+use Rattle.session_turns.specs.Told.{entries_in}
+use Rattle.session_turns.specs.Courses.{AddsOwn}
+use Rattle.session_turns.specs.Acts.{acts_for, acts_in, Course}
+use Rattle.session_turns.specs.Replies.{HasLine, IsToldFor}
 use Rattle.session_answers.specs.Answered.{BeganAt}
-use Rattle.session_outcomes.specs.Reply.{Reply}
+use Rattle.session_turns.specs.Reply.{Reply}
 
 -- a statement with this tree was answered, behind all that its session had seen
 pub record IsAnsweredTree {D : Type 0} (moment : D → Moment) (start : Start D) (session : ℕ) (old new : List Event)
@@ -22,4 +22,5 @@ pub record IsAnsweredTree {D : Type 0} (moment : D → Moment) (start : Start D)
   pub began : BeganAt session pin old new course
   pub line : HasLine reply reply.refusal
   pub later : length (entries_in old) ≤ reply.place
+  pub until : reply.place ≤ length (entries_in new)
   pub told : IsToldFor moment start session pin new own text tree reply reply.refusal course

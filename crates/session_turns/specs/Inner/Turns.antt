@@ -9,21 +9,21 @@ use Rattle.plan_changes.specs.declared.change.Change.{Change}
 use Rattle.statement_answers.specs.declared.outcome.Outcome.{Outcome}
 use Rattle.statement_answers.specs.declared.outcome.Outcome.TheVariants.{Replied, Changes}
 use Rattle.statement_replies.specs.declared.replies.Reply.{Reply as Told}
-use Rattle.turn_lock.specs.Owners.{ExtendsByOwn}
-use Rattle.turn_lock.specs.declared.seat.Turn.{Turn}
+use Rattle.session_sources.specs.Owners.{ExtendsByOwn}
+use Rattle.session_sources.specs.Turn.{Turn}
 use Rattle.store_state.specs.declared.parts.StoreParts.{StoreParts}
 use Rattle.store_state.specs.At.{standing}
 use Rattle.store_state.specs.Events.{events, owner_of}
 use Rattle.store_state.specs.Standings.{Standing}
-use Rattle.store_commits.specs.Tried.{AddsSealed, AddsTried}
-use Rattle.told_stores.specs.Causes.{IsUncommitted}
-use Rattle.told_stores.specs.CommitFault.{CommitFault}
-use Rattle.told_stores.specs.Starts.{start_of}
-use Rattle.snapshot_manager.specs.declared.seat.Seat.{Seat}
+use Rattle.session_sources.specs.Tried.{AddsSealed, AddsTried}
+use Rattle.session_sources.specs.Causes.{IsUncommitted}
+use Rattle.session_sources.specs.CommitFault.{CommitFault}
+use Rattle.session_sources.specs.Starts.{start_of}
+use Rattle.session_sources.specs.Seat.{Seat}
 use Rattle.session_sources.specs.Seats.{store_of, HasTurn}
 use Rattle.session_sources.specs.Held.{held_state, holding_of, names_now, unheld, HasHeld}
 use Rattle.session_sources.specs.declared.marks.Marks.{Marks}
-use Rattle.session_replies.specs.Refusals.{IsUncommittedReply, IsUnreadReply, IsWant}
+use Rattle.session_outcomes.specs.Refusals.{IsUncommittedReply, IsUnreadReply, IsWant}
 use Rattle.session_outcomes.specs.BehindPins.{ComesOver}
 use Rattle.session_outcomes.specs.Replies.{words_of}
 use Rattle.session_outcomes.specs.Reply.{Reply}

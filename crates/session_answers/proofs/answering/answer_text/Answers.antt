@@ -1,6 +1,6 @@
 use Rattle.std.proofs.Common.{◌∙◌, arith, refl, subst}
 use Rattle.check_laws.proofs.ParsedLeaves.{parsed_leaves}
-use Rattle.session_sources.specs.Seats.{last_place, read_count, seen, session_of, start}
+use Rattle.session_turns.specs.Seats.{last_place, read_count, seen, session_of, start}
 use Rattle.session_answers.specs.Reads.{ReadsOnce}
 use Rattle.session_answers.proofs.Wholes.{stop_is_whole, stop_reads_none, tree_is_answered, want_is_whole, want_reads_none}
 use Rattle.session_answers.proofs.answering.answer_text.Goals as goal

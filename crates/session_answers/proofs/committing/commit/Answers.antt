@@ -1,8 +1,8 @@
 use Rattle.std.proofs.Common.{◌∙◌, ◌+◌, [], ap, subst, sym}
-use Rattle.told_stores.specs.Turns.{Adds}
-use Rattle.session_replies.specs.Refusals.{IsUncommittedReply}
-use Rattle.session_outcomes.proofs.Under.{pin_within}
-use Rattle.session_sources.specs.Seats.{seen, session_of, start}
+use Rattle.session_turns.specs.Turns.{Adds}
+use Rattle.session_turns.specs.Refusals.{IsUncommittedReply}
+use Rattle.session_turns.proofs.Under.{pin_within}
+use Rattle.session_turns.specs.Seats.{seen, session_of, start}
 use Rattle.session_answers.proofs.Commits.{change_under, held_behind, made_is_answered, refused_is_answered, still_untried}
 use Rattle.session_answers.proofs.Readings.{named_behind}
 use Rattle.session_answers.proofs.committing.commit.Goals as goal

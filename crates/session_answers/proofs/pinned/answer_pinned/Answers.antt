@@ -1,5 +1,5 @@
 use Rattle.std.proofs.Common.{◌∙◌, Ok, ap, subst, sym}
-use Rattle.session_sources.specs.Seats.{seen}
+use Rattle.session_turns.specs.Seats.{seen}
 use Rattle.session_answers.specs.Inner.Steps.{WasRead}
 use Rattle.session_answers.proofs.Readings.{change_is_read, database_now, no_act, replied_is_answered, unread_is_answered}
 use Rattle.session_answers.proofs.Counting.{change_counts, replied_counts, unread_refuses}

@@ -1,6 +1,6 @@
 use Rattle.std.proofs.Common.{arith}
-use Rattle.session_outcomes.proofs.Under.{pin_within}
-use Rattle.session_sources.specs.Seats.{seen, start}
+use Rattle.session_turns.proofs.Under.{pin_within}
+use Rattle.session_turns.specs.Seats.{seen, start}
 use Rattle.session_answers.proofs.pinned.behind.Goals as goal
 
 pub overflow_add-result : goal.overflow_add-result

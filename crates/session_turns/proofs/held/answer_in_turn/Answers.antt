@@ -1,11 +1,11 @@
 use Rattle.std.proofs.Common.{◌≡◌, ◌∙◌, IsTrue, false, ap, length, subst, sym}
 use Rattle.plan_changes.specs.Stored.{AreStored}
 use Rattle.event_core.specs.Allowed.{is_pinned}
-use Rattle.turn_lock.specs.Inner.Lent.{turn_with}
+use Rattle.session_outcomes.specs.Lent.{turn_with}
 use Rattle.store_ledger.specs.Ledger.{history, is_noted, is_tried}
 use Rattle.store_state.specs.At.{standing}
-use Rattle.session_sources.specs.Databases.{HasDatabase}
-use Rattle.session_sources.specs.Held.{names_now}
+use Rattle.session_outcomes.specs.Databases.{HasDatabase}
+use Rattle.session_outcomes.specs.Held.{names_now}
 use Rattle.session_turns.specs.Inner.Turns.{Goes, KeepsTurn, goes_short}
 use Rattle.session_turns.proofs.Going.{keeps_same}
 use Rattle.session_turns.proofs.held.answer_in_turn.Goals as goal

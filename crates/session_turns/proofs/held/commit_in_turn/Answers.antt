@@ -1,8 +1,8 @@
 use Rattle.std.proofs.Common.{◌≡◌, ◌∙◌, ap, length, subst}
 use Rattle.store_state.specs.At.{standing}
 use Rattle.store_state.specs.Events.{events}
-use Rattle.told_stores.specs.Starts.{start_of}
-use Rattle.told_stores.proofs.TriedTurns.{commit_extends, commit_start}
+use Rattle.session_outcomes.specs.Starts.{start_of}
+use Rattle.session_outcomes.proofs.TriedTurns.{commit_extends, commit_start}
 use Rattle.session_turns.specs.Inner.Turns.{store_in, IsTried, TellsCommit}
 use Rattle.session_turns.proofs.held.commit_in_turn.Goals as goal
 

@@ -1,7 +1,7 @@
 use Rattle.std.proofs.Common.{◌∙◌, ◌∷◌, ◌++◌, map, ap, sym, subst, length, All}
 use Rattle.std.proofs.lemmas.List.{length-map}
 use Rattle.turn_lock.specs.Closings.{claims_of, lock_of}
-use Rattle.turn_lock.specs.Owners.{ExtendsByOthers}
+use Rattle.turn_lock.specs.Owners.{AreOwnedBelow, ExtendsByOthers}
 use Rattle.turn_lock.specs.Seats.{claim_of, seat_count, IsSeatOf as IsLockSeatOf, IsIdle as HasNoTurn}
 use Rattle.turn_lock.specs.declared.view.Claim.{Claim}
 use Rattle.turn_lock.proofs.Gathering.{all_left, all_last, all_unmapped, gathered}
@@ -43,3 +43,7 @@ returns-clause-events g c =
     let all = ap (λ seats. map seat_claim seats ++ claims_of c.loop-last.closing) (sym c.in_default.ensures.0) ∙ i.claimed in
     let P : Claim Event → Type 0 = λ claim. ExtendsByOthers owner_of claim.number claim.seen (events (standing g.D.Disk.moment c.end.result)) in
     all_unmapped P seat_claim c.args.seats (subst (All P) all c.end.ensures.entries)
+
+pub returns-clause-owned : goal.returns-clause-owned
+returns-clause-owned g c =
+    subst (λ lock. AreOwnedBelow owner_of (seat_count lock) (events (standing g.D.Disk.moment c.end.result))) c.loop-last.invariant.same c.end.ensures.owned

@@ -1,7 +1,7 @@
 use Rattle.std.proofs.Common.{◌∙◌, ◌++◌, map, ap, sym, subst, length, All}
 use Rattle.std.proofs.lemmas.List.{length-map}
 use Rattle.turn_lock.specs.Closings.{claims_of}
-use Rattle.turn_lock.specs.Owners.{ExtendsByOthers}
+use Rattle.turn_lock.specs.Owners.{AreOwnedBelow, ExtendsByOthers}
 use Rattle.turn_lock.specs.Seats.{claim_of, seat_count, IsSeatOf, IsIdle, AreIdleSeats}
 use Rattle.turn_lock.specs.declared.view.Claim.{Claim}
 use Rattle.turn_lock.proofs.Gathering.{all_left, all_last, all_unmapped, gathered}
@@ -27,3 +27,6 @@ pub returns-clause-entries : goal.returns-clause-entries
 returns-clause-entries g c = let i = c.loop-last.invariant in let all = ap (λ ss. map claim_of ss ++ claims_of c.loop-last.closing) (sym c.in_default.ensures.0) ∙ i.claimed in
     let P : Claim g.row.V-Entry.Denot → Type 0 = λ e. ExtendsByOthers g.V.History.owner e.number e.seen (g.V.History.entries c.end.result) in
     all_unmapped P claim_of c.args.seats (subst (All P) all c.end.ensures.entries)
+
+pub returns-clause-owned : goal.returns-clause-owned
+returns-clause-owned g c = subst (λ l. AreOwnedBelow g.V.History.owner (seat_count l) (g.V.History.entries c.end.result)) c.loop-last.invariant.same c.end.ensures.owned

@@ -5,8 +5,8 @@ use Rattle.afl_trees.specs.Term.{Term}
 use Rattle.store_ledger.specs.Ledger.{is_fault, is_noted}
 use Rattle.store_state.specs.declared.event.Event.{Event}
 use Rattle.session_outcomes.specs.Start.{Start}
-use Rattle.session_sources.specs.Told.{entries_in, ledger_of}
-use Rattle.session_sources.specs.Courses.{AddsOwn}
+use Rattle.session_outcomes.specs.Told.{entries_in, ledger_of}
+use Rattle.session_outcomes.specs.Courses.{AddsOwn}
 use Rattle.session_outcomes.specs.Acts.{acts_for, acts_in, begins, ends, Course}
 use Rattle.session_outcomes.specs.Replies.{HasFault, HasLine, IsToldFor}
 use Rattle.session_outcomes.specs.Reply.{Reply}
