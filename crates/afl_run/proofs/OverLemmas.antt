@@ -1,6 +1,5 @@
 -- What came of sessions over a disk.
-use Rattle.std.proofs.Common.{◌≡◌, ◌⊎◌, ℕ, ◌<◌, Bool, true, ◌&&◌, List, [], ◌∷◌, ◌++◌, length, inl, inr, refl, sym, ◌∙◌, ap, subst, arith}
-use Rattle.mathlib.Core.List.{append_assoc}
+use Rattle.std.proofs.Common.{append_assoc, ◌≡◌, ◌⊎◌, ℕ, ◌<◌, Bool, true, ◌&&◌, List, [], ◌∷◌, ◌++◌, length, inl, inr, refl, sym, ◌∙◌, ap, subst, arith}
 use Rattle.std.specs.List.{list_all}
 use Rattle.std.proofs.lemmas.Bool.{and_from}
 use Rattle.std.proofs.lemmas.List.Folds.{list_all-append}
@@ -11,7 +10,7 @@ use Rattle.array_store.specs.declared.start.Start.{Start}
 use Rattle.array_store.specs.Starts.{start_of}
 use Rattle.event_core.specs.declared.entry.Entry.TheVariants.{Reap}
 use Rattle.page_chain.proofs.RunLemmas.{goes}
-use Rattle.turn_lock.specs.Owners.{ExtendsByOthers, none_of}
+use Rattle.turn_lock.specs.Owners.{AreOwnedBelow, ExtendsByOthers, is_owned_below, none_of}
 use Rattle.store_opening.specs.declared.opening.Limits.{Limits}
 use Rattle.store_state.specs.declared.event.Event.{Event}
 use Rattle.store_state.specs.declared.event.Event.TheVariants.{Entered}
@@ -35,6 +34,15 @@ reap_is_nobodys session more reap = elim reap [
   | inr is ↦ ap (λ (es : List Event). none_of owner_of session es) is
 ]
 
+still_owned : (count : ℕ) (old more new : List Event) → AreOwnedBelow owner_of count old → IsReap more → new ≡ old ++ more → AreOwnedBelow owner_of count new
+still_owned count old more new owned reap grown =
+    ap (λ (es : List Event). list_all (λ e. is_owned_below (owner_of e) count) es) grown ∙ list_all-append (λ e. is_owned_below (owner_of e) count) old more
+    ∙ and_from (list_all (λ e. is_owned_below (owner_of e) count) old) (list_all (λ e. is_owned_below (owner_of e) count) more) owned
+    (elim reap [
+      | inl is ↦ ap (λ (es : List Event). list_all (λ e. is_owned_below (owner_of e) count) es) is
+      | inr is ↦ ap (λ (es : List Event). list_all (λ e. is_owned_below (owner_of e) count) es) is
+    ])
+
 -- what a session had seen is a beginning of a longer history, if none of what came is its own
 still_others : (session : ℕ) (seen old more new : List Event) → ExtendsByOthers owner_of session seen old → none_of owner_of session more ≡ true → new ≡ old ++ more
     → ExtendsByOthers owner_of session seen new
@@ -55,14 +63,15 @@ module _ {D S K : Type 0} (moment : D → Moment) (source_state : S → SourceSt
   -- the sessions ran, and the store was closed
   pub runs_to : (start : Start D) (streams : List (Streams S K)) (shared end : Standing D) (reports : List (SessionReport S K)) (run : StoreRun D S K)
       → start_of shared ≡ start → length reports ≡ length streams → AreSessionsOf moment source_state sink_state start streams reports (events shared)
-      → (run.notice ≡ Memory) ⊎ (run.notice ≡ notice_of reports) → run.sessions ≡ reports → IsClosed moment shared end run
+      → AreOwnedBelow owner_of (length streams) (events shared) → (run.notice ≡ Memory) ⊎ (run.notice ≡ notice_of reports) → run.sessions ≡ reports → IsClosed moment shared end run
       → RunsTo moment source_state sink_state start streams end run
-  runs_to start streams shared end reports run began count each told is closed = record {
+  runs_to start streams shared end reports run began count each owned told is closed = record {
     began = closed.start ∙ began;
     ends = closed.ends;
     count = ap length is ∙ count;
     each = subst (λ (rs : List (SessionReport S K)). AreSessionsOf moment source_state sink_state start streams rs (events end)) (sym is)
         (reaped_later start streams reports (events shared) closed.more (events end) each closed.reap closed.grown);
+    others = still_owned (length streams) (events shared) closed.more (events end) owned closed.reap closed.grown;
     told = subst (λ (rs : List (SessionReport S K)). (run.notice ≡ Memory) ⊎ (run.notice ≡ notice_of rs)) (sym is) told;
   }
 

@@ -22,7 +22,7 @@ use Rattle.session_reports.specs.declared.reports.Streams.{Streams}
 use Rattle.afl_run.specs.Run.{RunsTry}
 use Rattle.afl_run.specs.Inner.Making.{IsEmpty, Makes}
 use Rattle.afl_run.specs.Inner.Over.{IsUnrun, RunsOver}
-use Rattle.afl_run.proofs.StreamsLemmas.{one_history, reports_opened, zip_length}
+use Rattle.afl_run.proofs.StreamsLemmas.{leaves_same, one_history, reports_opened, zip_length}
 
 -- ---- an empty database in memory
 
@@ -129,3 +129,9 @@ module _ {S K : Type 0} (source_state : S → SourceState) (sink_state : K → S
     pub tries_ran : IsUnrun sure_disk_moment disk run ⊎ ((end : Standing SureBytes) × RunsOver sure_disk_moment source_state sink_state disk limits streams end run)
         → RunsTry sure_disk_moment source_state sink_state old now run.notice run.history run.sessions run.free_pages
     tries_ran ran = elim ran [ | inl unrun ↦ tries_unrun unrun | inr over ↦ tries_over over.0 over.1 ]
+
+-- nothing was opened
+pub tries_not : {S K : Type 0} (source_state : S → SourceState) (sink_state : K → SinkState) (old : ShelfState)
+    → RunsTry sure_disk_moment source_state sink_state old old notices.Memory [] [] 0
+tries_not source_state sink_state old =
+    tries_nothing source_state sink_state old old notices.Memory (leaves_same (stream_names (standard ∷ [])) old) (0, omega arith, λ fits. omega arith) (inl refl)

@@ -13,9 +13,10 @@ use Rattle.event_core.specs.declared.entry.Entry.{Entry}
 use Rattle.file_meaning.specs.Opening.{IsWrongAt, Opens}
 use Rattle.file_meaning.specs.declared.found.Found.{Found}
 use Rattle.store_bases.specs.Bases.{base_core}
+use Rattle.turn_lock.specs.Owners.{AreOwnedBelow}
 use Rattle.store_opening.specs.declared.opening.Limits.{Limits}
 use Rattle.store_state.specs.Standings.{Standing}
-use Rattle.store_state.specs.Events.{events}
+use Rattle.store_state.specs.Events.{events, owner_of}
 use Rattle.run_opening.specs.Names.{Word, reply_name, stream_names}
 use Rattle.run_opening.specs.Opened.{AreOpenedFor, FailsToOpen, FailsToOpenDevice, HandsOut, HandsOutSome, IsOpenedDevice, IsOpenedFor, IsUnopened, LeavesUnasked}
 use Rattle.run_opening.proofs.OpeningLemmas.{back_all, front_all}
@@ -112,6 +113,7 @@ module _ {D S K : Type 0} (moment : D → Moment) (source_state : S → SourceSt
     is_history = over.runs.ends.is_history;
     ledger = over.runs.ends.ledger;
     each = report_prints (start_of end) run.sessions end over.runs.count over.runs.each;
+    others = subst (λ (n : ℕ). AreOwnedBelow owner_of n (events end)) (sym over.runs.count) over.runs.others;
     pages = over.runs.ends.pages;
     reaped = over.runs.ends.reaped;
     cells = over.runs.ends.cells;
@@ -250,7 +252,7 @@ leaves_asked asked names old mid new others leaves = record {
     rest : (n : Word) → All (λ m. n ≢ m) (asked ∷ names) → All (λ m. n ≢ m) names
     rest n all k d lt = all (suc k) d (omega (arith, lt))
 
-leaves_same : (names : List Word) (s : ShelfState) → LeavesUnasked names s s
+pub leaves_same : (names : List Word) (s : ShelfState) → LeavesUnasked names s s
 leaves_same names s = record { scripts = λ n all. refl; replies = λ n all. refl; devices = λ n all. refl; later = omega arith; wants_later = omega arith }
 
 -- the shelf tells of this script and its reply what it told
@@ -344,3 +346,7 @@ module _ {D S K : Type 0} (moment : D → Moment) (source_state : S → SourceSt
     told = λ ran. absurd (ran refl);
     one = λ ran. absurd (ran refl);
   }
+
+-- where memory was short, nothing more need be told
+pub fails_or_memory : {X Memory Fails : Type 0} → (Memory × X) ⊎ Fails → Memory ⊎ Fails
+fails_or_memory fails = elim fails [ | inl memory ↦ inl memory.0 | inr why ↦ inr why ]

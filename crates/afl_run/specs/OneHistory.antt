@@ -6,7 +6,7 @@ use Rattle.afl_outside.specs.Source.{SourceState}
 use Rattle.afl_outside.specs.Sink.{SinkState}
 use Rattle.array_store.specs.declared.start.Start.{Start}
 use Rattle.array_store.specs.Starts.{start_of}
-use Rattle.turn_lock.specs.Owners.{ExtendsByOthers}
+use Rattle.turn_lock.specs.Owners.{AreOwnedBelow, ExtendsByOthers}
 use Rattle.event_core.specs.declared.entry.Entry.{Entry}
 use Rattle.plan_changes.specs.Databases.{Database}
 use Rattle.file_meaning.specs.Opening.{Opens}
@@ -37,6 +37,8 @@ module _ {D S K : Type 0} (moment : D → Moment) (source_state : S → SourceSt
     pub is_history : history ≡ store.ledger.entries
     pub ledger : IsLedger store.ledger
     pub each : (k : ℕ) (other : SessionReport S K) → k < length sessions → IsReportOf (start_of store) k (slice_index_or sessions k other) (events store)
+    -- nothing else is in it: each event is of one of the sessions, or of nobody
+    pub others : AreOwnedBelow owner_of (length sessions) (events store)
     pub pages : free ≡ length (unused_pages store.ledger)
     -- each page that nobody can name is free, or one more entry would pass the limit
     pub reaped : (notice ≡ Memory → ⊥) → reap_comes store.ledger ≡ false

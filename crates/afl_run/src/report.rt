@@ -32,7 +32,7 @@ pub(crate) fn unrun<F: Shelf>(
     disk: Option<F::Device>,
     shelf: F,
 ) -> Report<F>
-    ensures status { result.status ≡ status_of notice }
+    ensures status { result.status ≡ status_of result.notice }
     ensures notice { result.notice ≡ notice }
     ensures history { result.history ≡ [] }
     ensures sessions { result.sessions ≡ [] }

@@ -91,7 +91,7 @@ fn run_standard<F: Shelf, R: Threads + Wait + Sync, G: Gate>(
 }
 
 fn report_of<F: Shelf>(run: StoreRun<SureDisk, F::S, F::K>, shelf: F) -> Report<F>
-    ensures status { result.status ≡ status_of run.notice }
+    ensures status { result.status ≡ status_of result.notice }
     ensures notice { result.notice ≡ run.notice }
     ensures history { result.history ≡ run.history }
     ensures sessions { result.sessions ≡ run.sessions }

@@ -11,9 +11,10 @@ use Rattle.run_stores.specs.declared.closing.StoreRun.{StoreRun}
 use Rattle.session_reports.specs.Outcomes.{notice_of}
 use Rattle.session_reports.specs.declared.notices.Notice.TheVariants.{Memory}
 use Rattle.session_reports.specs.declared.reports.Streams.{Streams}
+use Rattle.turn_lock.specs.Owners.{AreOwnedBelow}
 use Rattle.session_threads.specs.Sessions.{AreSessionsOf}
 use Rattle.store_opening.specs.declared.opening.Limits.{Limits}
-use Rattle.store_state.specs.Events.{events}
+use Rattle.store_state.specs.Events.{events, owner_of}
 use Rattle.store_state.specs.Standings.{Standing}
 
 module _ {D S K : Type 0} where
@@ -39,6 +40,7 @@ module _ {D S K : Type 0} (moment : D → Moment) (source_state : S → SourceSt
     pub ends : EndsWith moment end run
     pub count : length run.sessions ≡ length streams
     pub each : AreSessionsOf moment source_state sink_state start streams run.sessions (events end)
+    pub others : AreOwnedBelow owner_of (length streams) (events end)
     pub told : (run.notice ≡ Memory) ⊎ (run.notice ≡ notice_of run.sessions)
 
   pub record RunsOver (disk : D) (limits : Limits) (streams : List (Streams S K)) (end : Standing D) (run : StoreRun D S K) : Type 0 where
