@@ -1,5 +1,5 @@
 -- What follows for a report of what words it is.
-use Rattle.std.proofs.Common.{◌≡◌, ◌≢◌, ◌⊎◌, ℕ, zero, suc, Bool, true, false, ◌+◌, ◌<◌, ◌≤◌, List, [], ◌∷◌, length, drop, All, codes, Option, Some, None, IfSome, slice_get, inl, inr, refl, sym, ◌∙◌, ap, subst, arith}
+use Rattle.std.proofs.Common.{◌≡◌, ◌≢◌, ◌⊎◌, ℕ, zero, suc, Bool, true, false, ◌+◌, ◌<◌, ◌≤◌, List, [], ◌∷◌, length, get_or, drop, All, codes, Option, Some, None, IfSome, slice_get, inl, inr, refl, sym, ◌∙◌, ap, subst, arith}
 use Rattle.afl_outside.specs.Disk.{DiskState, Moment}
 use Rattle.afl_outside.specs.Source.{SourceState}
 use Rattle.afl_outside.specs.Sink.{SinkState}
@@ -68,6 +68,15 @@ module _ (words : List Word) (device pages history first : ℕ) (one : IsForm wo
 
 -- ---- what stands where
 
+value_of : Option Word → Word
+value_of None = []
+value_of (Some word) = word
+
+pub get_is : (words : List Word) (k : ℕ) (other : Word) → k < length words → Some (get_or words k other) ≡ slice_get words k
+get_is [] k other lt = absurd (omega (arith, lt))
+get_is (w ∷ words) zero other lt = refl
+get_is (w ∷ words) (suc k) other lt = get_is words k other (omega (arith, lt))
+
 get_within : (words : List Word) (k : ℕ) (word : Word) → slice_get words k ≡ Some word → k < length words
 get_within [] k word is = absurd (cc (is))
 get_within (w ∷ words) zero word is = omega arith
@@ -75,13 +84,17 @@ get_within (w ∷ words) (suc k) word is = let rest = get_within words k word is
 
 -- ---- usage is told of words that have no form alone
 
+IsOther : Notice → Type 0
+IsOther (notices.Usage word) = ⊥
+IsOther _ = Unit {0}
+
 of_sessions : (want fault : Bool) (page session : Option ℕ) (refused : Bool) (word : ℕ) → told_by want fault page session refused ≡ notices.Usage word → ⊥
-of_sessions true fault page session refused word is = absurd (cc (is))
-of_sessions false true page session refused word is = absurd (cc (is))
-of_sessions false false (Some at) session refused word is = absurd (cc (is))
-of_sessions false false None (Some at) refused word is = absurd (cc (is))
-of_sessions false false None None true word is = absurd (cc (is))
-of_sessions false false None None false word is = absurd (cc (is))
+of_sessions true fault page session refused word is = subst IsOther is tt
+of_sessions false true page session refused word is = subst IsOther is tt
+of_sessions false false (Some at) session refused word is = subst IsOther is tt
+of_sessions false false None (Some at) refused word is = subst IsOther is tt
+of_sessions false false None None true word is = subst IsOther is tt
+of_sessions false false None None false word is = subst IsOther is tt
 
 sessions_tell : {S K : Type 0} (notice : Notice) (sessions : List (SessionReport S K)) (word : ℕ) → (notice ≡ notices.Memory) ⊎ (notice ≡ notice_of sessions) → notice ≡ notices.Usage word → ⊥
 sessions_tell notice sessions word told is = elim told [
@@ -147,17 +160,14 @@ module _ (words : List Word) (device pages history first : ℕ) (one : IsForm wo
 
   pub apart_from_device : (name : Word) → Some name ≡ slice_get words device → All (λ other. name ≢ other) (stream_names (drop first words))
   apart_from_device name is =
-      let same : name ≡ one.1.device = some_is (is ∙ its_device) in
+      let same : name ≡ one.1.device = ap value_of (is ∙ its_device) in
       subst (λ (l : List Word). All (λ other. name ≢ other) (stream_names l)) (sym its_scripts)
       (subst (λ (n : Word). All (λ other. n ≢ other) (stream_names one.1.scripts)) (sym same) (device_apart one.1.device one.1.scripts one.1.different))
-    where
-      some_is : {A : Type 0} {a b : A} → Some a ≡ Some b → a ≡ b
-      some_is {A} {a} {b} is = cc (is)
 
   -- any reading of the words as `run` names the same
   module _ (p h f : ℕ) (run : IsRun words p h f) where
     pub same_device : (name : Word) → Some name ≡ slice_get words device → name ≡ run.device
-    same_device name is = let both = is ∙ ap (slice_get words) one.0 ∙ (keep_places.1 words p h f run).0 in cc (both)
+    same_device name is = let both = is ∙ ap (slice_get words) one.0 ∙ (keep_places.1 words p h f run).0 in ap value_of both
 
     pub same_scripts : drop first words ≡ run.scripts
     same_scripts = ap (λ (n : ℕ). drop n words) (same_first words device pages history first one p h f run) ∙ (keep_places.1 words p h f run).1
@@ -183,4 +193,4 @@ module _ (words : List Word) (device : ℕ) (one : IsForm words (Init device)) w
   init_within = get_within words device one.1.device init_device
 
   pub same_init : (init : IsInit words) (name : Word) → Some name ≡ slice_get words device → name ≡ init.device
-  same_init init name is = let both = is ∙ ap (slice_get words) one.0 ∙ keep_places.0 words init in cc (both)
+  same_init init name is = let both = is ∙ ap (slice_get words) one.0 ∙ keep_places.0 words init in ap value_of both

@@ -1,6 +1,7 @@
 -- What a run over an empty database in memory reports.
 use Rattle.std.proofs.Common.{◌≡◌, ◌≢◌, ◌⊎◌, ℕ, ◌+◌, ◌<◌, ◌≤◌, Bool, true, IsTrue, List, [], ◌∷◌, length, Option, Some, None, IfSome, inl, inr, refl, sym, ◌∙◌, ap, subst, arith}
 use Rattle.std.specs.Prelude.{Result, Ok, Err}
+use Rattle.afl_outside.specs.Counts.{risen}
 use Rattle.afl_outside.specs.Disk.{DiskGoesOn, Moment, Only}
 use Rattle.afl_outside.specs.Source.{SourceState}
 use Rattle.afl_outside.specs.Sink.{SinkState}
@@ -12,7 +13,7 @@ use Rattle.file_meaning.specs.Opening.{IsWrongAt, opened}
 use Rattle.page_file.specs.Start.{IsEmptyDatabase}
 use Rattle.store_opening.specs.declared.opening.Limits.{Limits}
 use Rattle.store_state.specs.Standings.{BeganAs, Standing}
-use Rattle.run_opening.specs.Names.{HaveOwnNames, Word, standard, stream_names}
+use Rattle.run_opening.specs.Names.{Word, standard, stream_names}
 use Rattle.run_opening.specs.Opened.{AreOpenedFor, FailsToOpen, HandsOut, HandsOutSome, IsOpenedFor, LeavesUnasked}
 use Rattle.run_stores.specs.Began.{BeganOver, TellsUnopened}
 use Rattle.run_stores.specs.declared.closing.StoreRun.{StoreRun}
@@ -43,7 +44,7 @@ never_wrong page file form wrong = let opens = opened_is file form in absurd (cc
 pub only_memory : (notice : Notice) (disk later : SureBytes) → IsEmpty (sure_disk_moment disk) → TellsUnopened notice (sure_disk_moment disk).state (sure_disk_moment later).state
     → notice ≡ notices.Memory
 only_memory notices.Memory disk later empty tells = refl
-only_memory notices.Disk disk later empty tells = absurd (omega (arith, tells))
+only_memory notices.Disk disk later empty tells = let rose : risen 0 ≤ 0 = tells in absurd (omega (arith, rose))
 only_memory (notices.NotDatabase page) disk later empty tells =
     absurd (never_wrong page empty.file empty.form (subst (λ (o : Option (List ℕ)). IfSome o (IsWrongAt page)) empty.read tells))
 only_memory notices.Done disk later empty tells = absurd tells
@@ -62,11 +63,6 @@ began_empty moment disk limits end began empty = record {
   tells = began.synced.seen ∙ empty.read;
   stands = made_stands empty.file empty.form;
 }
-
--- ---- the one name
-
-pub one_name : (names : List Word) → names ≡ standard ∷ [] → HaveOwnNames names
-one_name names is = subst (λ (l : List Word). HaveOwnNames l) (sym is) (record { apart = λ i j d lt within. absurd (omega (arith, lt, within)); replies_apart = λ i j d lt within. absurd (omega (arith, lt, within)) })
 
 module _ {S K : Type 0} (source_state : S → SourceState) (sink_state : K → SinkState) (old now : ShelfState) where
   pub tries_nothing : (told : Notice) → LeavesUnasked (stream_names (standard ∷ [])) old now → HandsOutSome 1 old now

@@ -43,7 +43,7 @@ pub zip_length : {A B : Type 0} (P : A → B → Type 0) (xs : List A) (ys : Lis
 zip_length P [] [] all = refl
 zip_length P [] (y ∷ ys) all = absurd all
 zip_length P (x ∷ xs) [] all = absurd all
-zip_length P (x ∷ xs) (y ∷ ys) all = ap suc (zip_length P xs ys all.1)
+zip_length P (x ∷ xs) (y ∷ ys) all = let rest = zip_length P xs ys all.1 in omega (arith, rest)
 
 -- what follows of each pair whose first part is among these
 zip_each : {A B : Type 0} (P Q : A → B → Type 0) (R : A → Type 0) (xs : List A) (ys : List B) → All R xs → ((x : A) (y : B) → R x → P x y → Q x y)
@@ -63,11 +63,6 @@ map_all : {A B : Type 0} (f : A → B) (P : B → Type 0) (xs : List A) → All 
 map_all f P [] all k d lt = absurd (omega (arith, lt))
 map_all f P (x ∷ xs) all zero d lt = all zero (f d) (omega arith)
 map_all f P (x ∷ xs) all (suc k) d lt = map_all f P xs (λ j e le. all (suc j) e (omega (arith, le))) k d (omega (arith, lt))
-
--- a list that is empty, or has a session
-by_sessions : {A B : Type 0} (xs : List A) → (xs ≡ [] → B) → (xs ≢ [] → B) → B
-by_sessions [] none some = none refl
-by_sessions (x ∷ xs) none some = some (λ is. absurd (cc (is)))
 
 pub begun : {S K : Type 0} (source_state : S → SourceState) (sink_state : K → SinkState) (shelf : ShelfState) (scripts : List Word) (streams : List (Streams S K))
     → AreOpenedFor source_state sink_state shelf scripts streams → All (λ own. StandsAfter [] own.splitter) streams

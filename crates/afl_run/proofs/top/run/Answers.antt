@@ -1,0 +1,100 @@
+use Rattle.std.proofs.Common.{◌≡◌, ℕ, Some, refl, ◌∙◌, ap, subst}
+use Rattle.afl_outside.specs.Shelf.{ShelfState}
+use Rattle.command_words.specs.declared.forms.Form.TheVariants.{Try, Init, Run}
+use Rattle.command_words.specs.Faults.{IsFault}
+use Rattle.command_words.specs.Forms.{IsForm}
+use Rattle.command_words.proofs.Answering.{one_place}
+use Rattle.run_opening.specs.Names.{Word}
+use Rattle.session_reports.specs.declared.notices.Notice.TheVariants.{Usage}
+use Rattle.afl_run.specs.Run.{MakesDatabase}
+use Rattle.afl_run.proofs.FormLemmas.{apart_from_device, device_within, get_is, init_or_run, init_or_try, init_tells, init_within, names_apart, run_or_init, run_or_try, runs_as, same_init, scripts_tell, scripts_within, some_scripts, try_or_init, try_or_run, try_tells, usage_place}
+use Rattle.afl_run.proofs.top.run.Goals as goal
+
+pub returns-in-Ok-Try : goal.returns-in-Ok-Try
+returns-in-Ok-Try g c =
+    let state = g.F.Shelf.state in
+    let words = c.args.words.now in
+    let one : IsForm words Try = (c.form_of.ensures.form Try).0 c.in-Ok-Try.is in
+    let r = c.run_try.result in
+    let e = c.run_try.ensures in
+    let tells = try_tells _ g.F.S.Source.state g.F.K.Sink.state (state c.args.shelf) (state r.shelf) r.notice r.history r.free_pages r.sessions e.runs in
+    record {
+      status = e.status;
+      usage = λ word. (λ is. absurd (tells word is), λ is. absurd (is.no_form Try one));
+      untouched = λ word is. absurd (tells word is);
+      runs = λ pages history first run. absurd (try_or_run words pages history first one run);
+      tries = λ is. e.runs;
+      makes = λ init. absurd (try_or_init words one init);
+      no_session = λ init. absurd (try_or_init words one init);
+      no_device = λ is. e.disk;
+    }
+
+pub returns-in-Ok-Init : goal.returns-in-Ok-Init
+returns-in-Ok-Init g c =
+    let moment = g.F.Device.Disk.moment in
+    let state = g.F.Shelf.state in
+    let words = c.args.words.now in
+    let device = c.in-Ok-Init.device in
+    let one : IsForm words (Init device) = (c.form_of.ensures.form (Init device)).0 c.in-Ok-Init.is in
+    let old = state c.args.shelf in
+    let r = c.run_init.result in
+    let e = c.run_init.ensures in
+    let tells = init_tells moment old (state r.shelf) r.notice _ r.disk e.makes in
+    let named = ap Some c.as_str.ensures ∙ get_is words device _ (init_within words device one) in
+    record {
+      status = e.status;
+      usage = λ word. (λ is. absurd (tells word is), λ is. absurd (is.no_form (Init device) one));
+      untouched = λ word is. absurd (tells word is);
+      runs = λ pages history first run. absurd (init_or_run words device pages history first one run);
+      tries = λ is. absurd (init_or_try words device one is);
+      makes = λ init. subst (λ (asked : Word). MakesDatabase moment old (state r.shelf) r.notice asked r.disk) (same_init words device one init _ named) e.makes;
+      no_session = λ init. (e.sessions, e.history, e.free_pages);
+      no_device = λ is. absurd (init_or_try words device one is);
+    }
+
+pub returns-in-Ok-Run : goal.returns-in-Ok-Run
+returns-in-Ok-Run g c =
+    let moment = g.F.Device.Disk.moment in
+    let source = g.F.S.Source.state in
+    let sink = g.F.K.Sink.state in
+    let state = g.F.Shelf.state in
+    let words = c.args.words.now in
+    let form = c.in-Ok-Run in
+    let one : IsForm words (Run form.device form.pages form.history form.scripts) = (c.form_of.ensures.form (Run form.device form.pages form.history form.scripts)).0 form.is in
+    let old = state c.args.shelf in
+    let r = c.run_scripts.result in
+    let e = c.run_scripts.ensures in
+    let tells = scripts_tell moment source sink old (state r.shelf) r.notice r.history r.free_pages r.sessions _ _ _ _ r.disk e.runs in
+    let named = get_is words form.device _ (device_within words form.device form.pages form.history form.scripts one) in
+    record {
+      status = e.status;
+      usage = λ word. (λ is. absurd (tells word is), λ is. absurd (is.no_form (Run form.device form.pages form.history form.scripts) one));
+      untouched = λ word is. absurd (tells word is);
+      runs = λ pages history first run. runs_as words form.device form.pages form.history form.scripts one pages history first run moment source sink old (state r.shelf)
+          r.notice r.history r.sessions r.free_pages r.disk _ named e.runs;
+      tries = λ is. absurd (run_or_try words form.device form.pages form.history form.scripts one is);
+      makes = λ init. absurd (run_or_init words form.device form.pages form.history form.scripts one init);
+      no_session = λ init. absurd (run_or_init words form.device form.pages form.history form.scripts one init);
+      no_device = λ is. absurd (run_or_try words form.device form.pages form.history form.scripts one is);
+    }
+
+pub returns-in-Err : goal.returns-in-Err
+returns-in-Err g c =
+    let words = c.args.words.now in
+    let place = c.in-Err.word in
+    let fault : IsFault words place = (c.form_of.ensures.fault place).0 c.in-Err.is in
+    let r = c.unrun.result in
+    let e = c.unrun.ensures in
+    record {
+      status = e.status;
+      usage = λ word. (
+        λ is. subst (λ (n : ℕ). IsFault words n) (usage_place r.notice place word e.notice is) fault,
+        λ other. e.notice ∙ ap Usage (one_place words place word fault other),
+      );
+      untouched = λ word is. e.shelf;
+      runs = λ pages history first run. absurd (fault.no_form (Run 1 pages history first) (refl, run));
+      tries = λ is. absurd (fault.no_form Try is);
+      makes = λ init. absurd (fault.no_form (Init 1) (refl, init));
+      no_session = λ init. absurd (fault.no_form (Init 1) (refl, init));
+      no_device = λ is. e.disk;
+    }
