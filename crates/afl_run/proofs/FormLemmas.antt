@@ -1,5 +1,5 @@
 -- What follows for a report of what words it is.
-use Rattle.std.proofs.Common.{◌≡◌, ◌≢◌, ◌⊎◌, ℕ, zero, suc, Bool, true, false, ◌+◌, ◌<◌, ◌≤◌, List, [], ◌∷◌, length, get_or, drop, All, codes, Option, Some, None, IfSome, slice_get, inl, inr, refl, sym, ◌∙◌, ap, subst, arith}
+use Rattle.std.proofs.Common.{◌≡◌, ◌≢◌, ◌⊎◌, ℕ, zero, suc, Bool, true, false, ◌+◌, ◌<◌, ◌≤◌, List, [], ◌∷◌, length, drop, All, codes, Option, Some, None, IfSome, slice_get, inl, inr, refl, sym, ◌∙◌, ap, subst, arith}
 use Rattle.afl_outside.specs.Disk.{DiskState, Moment}
 use Rattle.afl_outside.specs.Source.{SourceState}
 use Rattle.afl_outside.specs.Sink.{SinkState}
@@ -41,15 +41,15 @@ module _ (words : List Word) where
   pub init_or_try : (device : ℕ) → IsForm words (Init device) → IsForm words Try → ⊥
   init_or_try device one other = let is = one_form words (Init device) Try one other in absurd (cc (is))
 
-pages_in : Form → ℕ
+abbrev pages_in : Form → ℕ
 pages_in (Run device pages history first) = pages
 pages_in _ = 0
 
-history_in : Form → ℕ
+abbrev history_in : Form → ℕ
 history_in (Run device pages history first) = history
 history_in _ = 0
 
-first_in : Form → ℕ
+abbrev first_in : Form → ℕ
 first_in (Run device pages history first) = first
 first_in _ = 0
 
@@ -68,14 +68,9 @@ module _ (words : List Word) (device pages history first : ℕ) (one : IsForm wo
 
 -- ---- what stands where
 
-value_of : Option Word → Word
+abbrev value_of : Option Word → Word
 value_of None = []
 value_of (Some word) = word
-
-pub get_is : (words : List Word) (k : ℕ) (other : Word) → k < length words → Some (get_or words k other) ≡ slice_get words k
-get_is [] k other lt = absurd (omega (arith, lt))
-get_is (w ∷ words) zero other lt = refl
-get_is (w ∷ words) (suc k) other lt = get_is words k other (omega (arith, lt))
 
 get_within : (words : List Word) (k : ℕ) (word : Word) → slice_get words k ≡ Some word → k < length words
 get_within [] k word is = absurd (cc (is))
@@ -84,7 +79,7 @@ get_within (w ∷ words) (suc k) word is = let rest = get_within words k word is
 
 -- ---- usage is told of words that have no form alone
 
-IsOther : Notice → Type 0
+abbrev IsOther : Notice → Type 0
 IsOther (notices.Usage word) = ⊥
 IsOther _ = Unit {0}
 
@@ -130,12 +125,12 @@ init_tells moment old new notice asked None made word is = elim (made.unopened r
 ]
 init_tells moment old new notice asked (Some d) made word is = subst (λ (n : Notice). TellsDevice n (moment d)) is made.made
 
+abbrev place_in : Notice → ℕ
+place_in (notices.Usage word) = word
+place_in _ = 0
+
 pub usage_place : (notice : Notice) (place word : ℕ) → notice ≡ notices.Usage place → notice ≡ notices.Usage word → place ≡ word
-usage_place notice place word is told = ap at (sym is ∙ told)
-  where
-    at : Notice → ℕ
-    at (notices.Usage n) = n
-    at _ = 0
+usage_place notice place word is told = ap place_in (sym is ∙ told)
 
 -- ---- the words of `run` and of `init`
 

@@ -143,7 +143,7 @@ tells_stream notice asked scripts device old new fails = elim fails [
 
 module _ {D S K : Type 0} (moment : D → Moment) (source_state : S → SourceState) (sink_state : K → SinkState) (old now : ShelfState) (disk : D) (scripts : List Word)
     (limits : Limits) (others : LeavesUnasked (stream_names scripts) old now) where
-  on_unopened : (told : Notice) → HandsOutSome (length scripts) old now → (told ≡ notices.Memory) ⊎ FailsToOpen scripts told old now
+  pub on_unopened : (told : Notice) → HandsOutSome (length scripts) old now → (told ≡ notices.Memory) ⊎ FailsToOpen scripts told old now
       → RunsOn moment source_state sink_state old now told [] [] 0 disk scripts limits.pages limits.history (Some disk)
   on_unopened told some fails = record {
     opened = inl refl;
@@ -212,7 +212,7 @@ module _ {D S K : Type 0} (moment : D → Moment) (source_state : S → SourceSt
         one = λ ran. (end, one_history moment source_state sink_state old scripts streams opened disk limits run end over, began_from);
       }
 
-    on_ran : IsUnrun moment disk run ⊎ ((end : Standing D) × RunsOver moment source_state sink_state disk limits streams end run)
+    pub on_ran : IsUnrun moment disk run ⊎ ((end : Standing D) × RunsOver moment source_state sink_state disk limits streams end run)
         → RunsOn moment source_state sink_state old now run.notice run.history run.sessions run.free_pages disk scripts limits.pages limits.history (Some run.disk)
     on_ran ran = elim ran [ | inl unrun ↦ on_unrun unrun | inr over ↦ on_over over.0 over.1 ]
 
@@ -251,7 +251,7 @@ pub leaves_same : (names : List Word) (s : ShelfState) → LeavesUnasked names s
 leaves_same names s = record { scripts = λ n all. refl; replies = λ n all. refl; devices = λ n all. refl; later = omega arith; wants_later = omega arith }
 
 -- the shelf tells of this script and its reply what it told
-IsToldTheSame : ShelfState → ShelfState → Word → Type 0
+abbrev IsToldTheSame : ShelfState → ShelfState → Word → Type 0
 IsToldTheSame old mid script = (mid.scripts script ≡ old.scripts script) × (mid.replies (reply_name script) ≡ old.replies (reply_name script))
 
 module _ (asked : Word) (scripts : List Word) (old mid : ShelfState) (others : LeavesOthers asked old mid) (apart : All (λ m. asked ≢ m) (stream_names scripts)) where

@@ -1,5 +1,5 @@
 //! The top call.
-ghost use Rattle.std.specs.Prelude.{◌≡◌, ◌↔◌, ℕ, [], ◌∷◌, codes};
+ghost use Rattle.std.specs.Prelude.{◌≡◌, ◌<◌, ◌↔◌, ℕ, [], ◌∷◌, Some, codes, drop, length, slice_get};
 ghost use Rattle.command_words.specs.Faults.{IsFault};
 ghost use Rattle.command_words.specs.Forms.{IsInit, IsRun};
 ghost use Rattle.session_reports.specs.Notice.{status_of};
@@ -11,12 +11,12 @@ use crate::report::{Report, unrun};
 use crate::scripts::run_scripts;
 use crate::standard::run_try;
 use afl_outside::{Gate, Shelf};
-use command_words::{Arg, Form, form_of, forms_keep_their_places, forms_are_unique};
+use command_words::{Arg, Form, form_of};
+use run_stores::Limits;
 use session_reports::Notice;
 use std::alloc::Global;
 use std::sync::Wait;
 use std::thread::Threads;
-use run_stores::Limits;
 
 /// Runs what the words say. `run` answers scripts over the database of a device, each in a session of its own; `try` answers the standard input
 /// on the standard output, over an empty database in memory; `init` makes a device, which must be empty, a database with no array.
@@ -47,7 +47,10 @@ pub fn run<F: Shelf, R: Threads + Wait + Sync, G: Gate>(
 {
     match form_of(words) {
         Ok(Form::Try) => run_try(rt, alloc, shelf, gate),
-        Ok(Form::Init { device }) => run_init(alloc, words[device].as_str(), shelf),
+        Ok(Form::Init { device }) => {
+            let name = word_at(words, device);
+            run_init(alloc, name.as_str(), shelf)
+        }
         Ok(Form::Run {
             device,
             pages,
@@ -55,8 +58,24 @@ pub fn run<F: Shelf, R: Threads + Wait + Sync, G: Gate>(
             scripts,
         }) => {
             let limits = Limits { pages, history };
-            run_scripts(rt, alloc, &words[device], &words[scripts..], limits, shelf, gate)
+            let target = word_at(words, device);
+            let listed = words_from(words, scripts);
+            run_scripts(rt, alloc, target, listed, limits, shelf, gate)
         }
         Err(word) => unrun(alloc, Notice::Usage { word }, None, shelf),
     }
+}
+
+fn word_at(words: &[Arg], place: usize) -> &Arg
+    requires { place < length words.now }
+    ensures { Some result.now ≡ slice_get words.now place }
+{
+    &words[place]
+}
+
+fn words_from(words: &[Arg], place: usize) -> &[Arg]
+    requires { place < length words.now }
+    ensures { result.now ≡ drop place words.now }
+{
+    &words[place..]
 }

@@ -22,6 +22,6 @@ returns-in-Err g c =
     let moment = g.D.Disk.moment in
     let e = c.in-Err.ensures in
     record {
-      same = subst (λ (r : StoreRun g.D g.S g.K). DiskGoesOn (moment c.args.disk).state (moment r.disk).state) (sym c.unrun.ensures) e.same;
+      same = subst (λ (r : StoreRun g.row.D.Denot g.row.S.Denot g.row.K.Denot). DiskGoesOn (moment c.args.disk).state (moment r.disk).state) (sym c.unrun.ensures) e.same;
       run = inl (unopened_as moment g.S.Source.state g.K.Sink.state c.args.disk c.in-Err.disk c.in-Err.notice c.unrun.result c.unrun.ensures e.cause);
     }

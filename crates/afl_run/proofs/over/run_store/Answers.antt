@@ -17,4 +17,4 @@ pub returns-in-Err : goal.returns-in-Err
 returns-in-Err g c =
     let moment = g.D.Disk.moment in
     inl (unrun_as moment g.S.Source.state g.K.Sink.state (standing moment c.args.store) _ _ c.unrun.result c.unrun.ensures refl
-        (c.close.ensures.disk ∙ ap (λ (parts : StoreParts g.D). parts.file.disk) c.in-Err.ensures.err.0))
+        (c.close-disk.ensures.disk ∙ ap (λ (parts : StoreParts g.row.D.Denot). parts.file.disk) c.in-Err.ensures.err.0))

@@ -1,4 +1,4 @@
-use Rattle.std.proofs.Common.{◌×◌, ◌≤◌, ℕ, List, Option, length, inl, sym, subst}
+use Rattle.std.proofs.Common.{◌≤◌, ℕ, List, Option, length, inl, sym, subst}
 use Rattle.afl_outside.specs.Shelf.{ShelfState}
 use Rattle.event_core.specs.declared.entry.Entry.{Entry}
 use Rattle.run_opening.specs.Opened.{IsOpenedFor}
@@ -32,7 +32,7 @@ returns-in-Ok-clause-runs g c =
     let e = c.report_of.ensures in
     let s = c.in-Ok.ensures in
     reported state
-        (λ (now : ShelfState) (n : Notice) (h : List Entry) (reports : List (SessionReport g.F.S g.F.K)) (f : ℕ) (d : Option g.F.Device).
+        (λ (now : ShelfState) (n : Notice) (h : List Entry) (reports : List (SessionReport g.row.F-S.Denot g.row.F-K.Denot)) (f : ℕ) (d : Option g.row.F-Device.Denot).
             RunsOn moment source sink old now n h reports f c.args.disk scripts limits.pages limits.history d)
         r.shelf c.open_streams.new.shelf r.notice run.notice r.history run.history r.sessions run.sessions r.free_pages run.free_pages r.disk _
         e.shelf e.notice e.history e.sessions e.free_pages e.disk
@@ -52,7 +52,7 @@ returns-in-Err-clause-runs g c =
     let e = c.unrun.ensures in
     let s = c.in-Err.ensures in
     reported state
-        (λ (now : ShelfState) (n : Notice) (h : List Entry) (reports : List (SessionReport g.F.S g.F.K)) (f : ℕ) (d : Option g.F.Device).
+        (λ (now : ShelfState) (n : Notice) (h : List Entry) (reports : List (SessionReport g.row.F-S.Denot g.row.F-K.Denot)) (f : ℕ) (d : Option g.row.F-Device.Denot).
             RunsOn moment source sink old now n h reports f c.args.disk scripts limits.pages limits.history d)
         r.shelf c.open_streams.new.shelf r.notice c.in-Err.notice r.history _ r.sessions _ r.free_pages _ r.disk _
         e.shelf e.notice e.history e.sessions e.free_pages e.disk

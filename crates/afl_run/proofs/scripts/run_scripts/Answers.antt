@@ -41,7 +41,7 @@ returns-in-Err-clause-runs g c =
     let e = c.unrun.ensures in
     let s = c.in-Err.ensures in
     reported state
-        (λ (now : ShelfState) (n : Notice) (h : List Entry) (reports : List (SessionReport g.F.S g.F.K)) (f : ℕ) (d : Option g.F.Device).
+        (λ (now : ShelfState) (n : Notice) (h : List Entry) (reports : List (SessionReport g.row.F-S.Denot g.row.F-K.Denot)) (f : ℕ) (d : Option g.row.F-Device.Denot).
             RunsScripts moment source sink old now n h reports f c.args.device.now scripts limits.pages limits.history d)
         r.shelf c.open_device.new.shelf r.notice c.in-Err.notice r.history _ r.sessions _ r.free_pages _ r.disk _
         e.shelf e.notice e.history e.sessions e.free_pages e.disk

@@ -1,4 +1,4 @@
-use Rattle.std.proofs.Common.{◌≡◌, ◌×◌, ◌⊎◌, ℕ, List, Option, None, length, refl, subst}
+use Rattle.std.proofs.Common.{◌≡◌, ◌⊎◌, ℕ, List, Option, None, length, refl, subst}
 use Rattle.afl_outside.specs.Shelf.{ShelfState}
 use Rattle.afl_in_memory.specs.Inner.Records.{SureBytes, sure_disk_moment}
 use Rattle.event_core.specs.declared.entry.Entry.{Entry}
@@ -29,7 +29,7 @@ returns-in-Ok-clause-runs g c =
     let s = c.in-Ok.ensures in
     let is = c.requires.name in
     reported state
-        (λ (now : ShelfState) (n : Notice) (h : List Entry) (reports : List (SessionReport g.F.S g.F.K)) (f : ℕ) (d : Option SureBytes).
+        (λ (now : ShelfState) (n : Notice) (h : List Entry) (reports : List (SessionReport g.row.F-S.Denot g.row.F-K.Denot)) (f : ℕ) (d : Option SureBytes).
             RunsTry sure_disk_moment source sink old now n h reports f)
         r.shelf c.open_streams.new.shelf r.notice run.notice r.history run.history r.sessions run.sessions r.free_pages run.free_pages None None
         e.shelf e.notice e.history e.sessions e.free_pages refl
@@ -50,7 +50,7 @@ returns-in-Err-clause-runs g c =
     let s = c.in-Err.ensures in
     let is = c.requires.name in
     reported state
-        (λ (now : ShelfState) (n : Notice) (h : List Entry) (reports : List (SessionReport g.F.S g.F.K)) (f : ℕ) (d : Option SureBytes).
+        (λ (now : ShelfState) (n : Notice) (h : List Entry) (reports : List (SessionReport g.row.F-S.Denot g.row.F-K.Denot)) (f : ℕ) (d : Option SureBytes).
             RunsTry sure_disk_moment source sink old now n h reports f)
         r.shelf c.open_streams.new.shelf r.notice c.in-Err.notice r.history _ r.sessions _ r.free_pages _ None None
         e.shelf e.notice e.history e.sessions e.free_pages refl

@@ -1,14 +1,40 @@
-use Rattle.std.proofs.Common.{◌≡◌, ℕ, Some, refl, ◌∙◌, ap, subst}
+use Rattle.std.proofs.Common.{◌≡◌, ◌≢◌, ◌≤◌, ℕ, List, length, All, Some, refl, sym, ◌∙◌, ap, subst}
 use Rattle.afl_outside.specs.Shelf.{ShelfState}
 use Rattle.command_words.specs.declared.forms.Form.TheVariants.{Try, Init, Run}
 use Rattle.command_words.specs.Faults.{IsFault}
 use Rattle.command_words.specs.Forms.{IsForm}
 use Rattle.command_words.proofs.Answering.{one_place}
-use Rattle.run_opening.specs.Names.{Word}
+use Rattle.run_opening.specs.Names.{HaveOwnNames, Word, stream_names}
 use Rattle.session_reports.specs.declared.notices.Notice.TheVariants.{Usage}
-use Rattle.afl_run.specs.Run.{MakesDatabase}
-use Rattle.afl_run.proofs.FormLemmas.{apart_from_device, device_within, get_is, init_or_run, init_or_try, init_tells, init_within, names_apart, run_or_init, run_or_try, runs_as, same_init, scripts_tell, scripts_within, some_scripts, try_or_init, try_or_run, try_tells, usage_place}
+use Rattle.afl_run.specs.Run.{MakesDatabase, RunsScripts}
+use Rattle.afl_run.proofs.FormLemmas.{apart_from_device, device_within, init_or_run, init_or_try, init_tells, init_within, names_apart, run_or_init, run_or_try, runs_as, same_init, scripts_tell, scripts_within, some_scripts, try_or_init, try_or_run, try_tells, usage_place}
 use Rattle.afl_run.proofs.top.run.Goals as goal
+
+pub word_at-name-requires : goal.word_at-name-requires
+word_at-name-requires g c κs within = init_within c.args.words.now c.in-Ok-Init.device ((c.form_of.ensures.form (Init c.in-Ok-Init.device)).0 c.in-Ok-Init.is)
+
+pub word_at-target-requires : goal.word_at-target-requires
+word_at-target-requires g c κs within =
+    let form = c.in-Ok-Run in
+    device_within c.args.words.now form.device form.pages form.history form.scripts ((c.form_of.ensures.form (Run form.device form.pages form.history form.scripts)).0 form.is)
+
+pub words_from-listed-requires : goal.words_from-listed-requires
+words_from-listed-requires g c κs within =
+    let form = c.in-Ok-Run in
+    scripts_within c.args.words.now form.device form.pages form.history form.scripts ((c.form_of.ensures.form (Run form.device form.pages form.history form.scripts)).0 form.is)
+
+pub run_scripts-requires : goal.run_scripts-requires
+run_scripts-requires g c κs within =
+    let words = c.args.words.now in
+    let form = c.in-Ok-Run in
+    let one : IsForm words (Run form.device form.pages form.history form.scripts) = (c.form_of.ensures.form (Run form.device form.pages form.history form.scripts)).0 form.is in
+    let listed = c.words_from-listed.ensures in
+    record {
+      count = subst (λ (scripts : List Word). (1 ≤ length scripts) × (length scripts ≤ 16)) (sym listed) (some_scripts words form.device form.pages form.history form.scripts one);
+      names = subst (λ (scripts : List Word). HaveOwnNames scripts) (sym listed) (names_apart words form.device form.pages form.history form.scripts one);
+      apart = subst (λ (scripts : List Word). All (λ name. c.word_at-target.result.now ≢ name) (stream_names scripts)) (sym listed)
+          (apart_from_device words form.device form.pages form.history form.scripts one c.word_at-target.result.now c.word_at-target.ensures);
+    }
 
 pub returns-in-Ok-Try : goal.returns-in-Ok-Try
 returns-in-Ok-Try g c =
@@ -40,7 +66,7 @@ returns-in-Ok-Init g c =
     let r = c.run_init.result in
     let e = c.run_init.ensures in
     let tells = init_tells moment old (state r.shelf) r.notice _ r.disk e.makes in
-    let named = ap Some c.as_str.ensures ∙ get_is words device _ (init_within words device one) in
+    let named = ap Some c.as_str.ensures ∙ c.word_at-name.ensures in
     record {
       status = e.status;
       usage = λ word. (λ is. absurd (tells word is), λ is. absurd (is.no_form (Init device) one));
@@ -64,14 +90,15 @@ returns-in-Ok-Run g c =
     let old = state c.args.shelf in
     let r = c.run_scripts.result in
     let e = c.run_scripts.ensures in
-    let tells = scripts_tell moment source sink old (state r.shelf) r.notice r.history r.free_pages r.sessions _ _ _ _ r.disk e.runs in
-    let named = get_is words form.device _ (device_within words form.device form.pages form.history form.scripts one) in
+    let runs = subst (λ (scripts : List Word). RunsScripts moment source sink old (state r.shelf) r.notice r.history r.sessions r.free_pages c.word_at-target.result.now scripts
+        form.pages form.history r.disk) c.words_from-listed.ensures e.runs in
+    let tells = scripts_tell moment source sink old (state r.shelf) r.notice r.history r.free_pages r.sessions _ _ _ _ r.disk runs in
     record {
       status = e.status;
       usage = λ word. (λ is. absurd (tells word is), λ is. absurd (is.no_form (Run form.device form.pages form.history form.scripts) one));
       untouched = λ word is. absurd (tells word is);
       runs = λ pages history first run. runs_as words form.device form.pages form.history form.scripts one pages history first run moment source sink old (state r.shelf)
-          r.notice r.history r.sessions r.free_pages r.disk _ named e.runs;
+          r.notice r.history r.sessions r.free_pages r.disk c.word_at-target.result.now c.word_at-target.ensures runs;
       tries = λ is. absurd (run_or_try words form.device form.pages form.history form.scripts one is);
       makes = λ init. absurd (run_or_init words form.device form.pages form.history form.scripts one init);
       no_session = λ init. absurd (run_or_init words form.device form.pages form.history form.scripts one init);
