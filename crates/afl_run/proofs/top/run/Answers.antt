@@ -1,4 +1,4 @@
-use Rattle.std.proofs.Common.{◌≡◌, ◌≢◌, ◌≤◌, ℕ, List, length, All, Some, refl, sym, ◌∙◌, ap, subst}
+use Rattle.std.proofs.Common.{◌≡◌, ◌≢◌, ◌≤◌, ℕ, List, length, All, Some, Ok, refl, sym, ◌∙◌, ap, subst}
 use Rattle.afl_outside.specs.Shelf.{ShelfState}
 use Rattle.command_words.specs.declared.forms.Form.TheVariants.{Try, Init, Run}
 use Rattle.command_words.specs.Faults.{IsFault}
@@ -11,36 +11,49 @@ use Rattle.afl_run.proofs.FormLemmas.{apart_from_device, device_within, init_or_
 use Rattle.afl_run.proofs.top.run.Goals as goal
 
 pub word_at-name-requires : goal.word_at-name-requires
-word_at-name-requires g c κs within = init_within c.args.words.now c.in-Ok-Init.device ((c.form_of.ensures.form (Init c.in-Ok-Init.device)).0 c.in-Ok-Init.is)
+word_at-name-requires g c = init_within c.args.words.now c.in-Ok-Init.device ((c.form_of.ensures.form (Init c.in-Ok-Init.device)).0 (c.in-Ok-Init.is ∙ ap Ok c.in-Ok-Init.field-0-is))
 
 pub word_at-target-requires : goal.word_at-target-requires
-word_at-target-requires g c κs within =
+word_at-target-requires g c =
     let form = c.in-Ok-Run in
-    device_within c.args.words.now form.device form.pages form.history form.scripts ((c.form_of.ensures.form (Run form.device form.pages form.history form.scripts)).0 form.is)
+    device_within c.args.words.now form.device form.pages form.history form.scripts ((c.form_of.ensures.form (Run form.device form.pages form.history form.scripts)).0 (form.is ∙ ap Ok form.field-0-is))
 
 pub words_from-listed-requires : goal.words_from-listed-requires
-words_from-listed-requires g c κs within =
+words_from-listed-requires g c =
     let form = c.in-Ok-Run in
-    scripts_within c.args.words.now form.device form.pages form.history form.scripts ((c.form_of.ensures.form (Run form.device form.pages form.history form.scripts)).0 form.is)
+    scripts_within c.args.words.now form.device form.pages form.history form.scripts ((c.form_of.ensures.form (Run form.device form.pages form.history form.scripts)).0 (form.is ∙ ap Ok form.field-0-is))
 
-pub run_scripts-requires : goal.run_scripts-requires
-run_scripts-requires g c κs within =
+pub run_scripts-requires-clause-count : goal.run_scripts-requires-clause-count
+run_scripts-requires-clause-count g c κs within =
     let words = c.args.words.now in
     let form = c.in-Ok-Run in
-    let one : IsForm words (Run form.device form.pages form.history form.scripts) = (c.form_of.ensures.form (Run form.device form.pages form.history form.scripts)).0 form.is in
-    let listed = c.words_from-listed.ensures in
-    record {
-      count = subst (λ (scripts : List Word). (1 ≤ length scripts) × (length scripts ≤ 16)) (sym listed) (some_scripts words form.device form.pages form.history form.scripts one);
-      names = subst (λ (scripts : List Word). HaveOwnNames scripts) (sym listed) (names_apart words form.device form.pages form.history form.scripts one);
-      apart = subst (λ (scripts : List Word). All (λ name. c.word_at-target.result.now ≢ name) (stream_names scripts)) (sym listed)
-          (apart_from_device words form.device form.pages form.history form.scripts one c.word_at-target.result.now c.word_at-target.ensures);
-    }
+    let one : IsForm words (Run form.device form.pages form.history form.scripts) =
+        (c.form_of.ensures.form (Run form.device form.pages form.history form.scripts)).0 (form.is ∙ ap Ok form.field-0-is) in
+    subst (λ (scripts : List Word). (1 ≤ length scripts) × (length scripts ≤ 16)) (sym c.words_from-listed.ensures)
+    (some_scripts words form.device form.pages form.history form.scripts one)
+
+pub run_scripts-requires-clause-names : goal.run_scripts-requires-clause-names
+run_scripts-requires-clause-names g c κs within =
+    let words = c.args.words.now in
+    let form = c.in-Ok-Run in
+    let one : IsForm words (Run form.device form.pages form.history form.scripts) =
+        (c.form_of.ensures.form (Run form.device form.pages form.history form.scripts)).0 (form.is ∙ ap Ok form.field-0-is) in
+    subst (λ (scripts : List Word). HaveOwnNames scripts) (sym c.words_from-listed.ensures) (names_apart words form.device form.pages form.history form.scripts one)
+
+pub run_scripts-requires-clause-apart : goal.run_scripts-requires-clause-apart
+run_scripts-requires-clause-apart g c κs within =
+    let words = c.args.words.now in
+    let form = c.in-Ok-Run in
+    let one : IsForm words (Run form.device form.pages form.history form.scripts) =
+        (c.form_of.ensures.form (Run form.device form.pages form.history form.scripts)).0 (form.is ∙ ap Ok form.field-0-is) in
+    subst (λ (scripts : List Word). All (λ name. c.word_at-target.result.now ≢ name) (stream_names scripts)) (sym c.words_from-listed.ensures)
+    (apart_from_device words form.device form.pages form.history form.scripts one c.word_at-target.result.now c.word_at-target.ensures)
 
 pub returns-in-Ok-Try : goal.returns-in-Ok-Try
 returns-in-Ok-Try g c =
     let state = g.F.Shelf.state in
     let words = c.args.words.now in
-    let one : IsForm words Try = (c.form_of.ensures.form Try).0 c.in-Ok-Try.is in
+    let one : IsForm words Try = (c.form_of.ensures.form Try).0 (c.in-Ok-Try.is ∙ ap Ok c.in-Ok-Try.field-0-is) in
     let r = c.run_try.result in
     let e = c.run_try.ensures in
     let tells = try_tells _ g.F.S.Source.state g.F.K.Sink.state (state c.args.shelf) (state r.shelf) r.notice r.history r.free_pages r.sessions e.runs in
@@ -61,7 +74,7 @@ returns-in-Ok-Init g c =
     let state = g.F.Shelf.state in
     let words = c.args.words.now in
     let device = c.in-Ok-Init.device in
-    let one : IsForm words (Init device) = (c.form_of.ensures.form (Init device)).0 c.in-Ok-Init.is in
+    let one : IsForm words (Init device) = (c.form_of.ensures.form (Init device)).0 (c.in-Ok-Init.is ∙ ap Ok c.in-Ok-Init.field-0-is) in
     let old = state c.args.shelf in
     let r = c.run_init.result in
     let e = c.run_init.ensures in
@@ -86,7 +99,7 @@ returns-in-Ok-Run g c =
     let state = g.F.Shelf.state in
     let words = c.args.words.now in
     let form = c.in-Ok-Run in
-    let one : IsForm words (Run form.device form.pages form.history form.scripts) = (c.form_of.ensures.form (Run form.device form.pages form.history form.scripts)).0 form.is in
+    let one : IsForm words (Run form.device form.pages form.history form.scripts) = (c.form_of.ensures.form (Run form.device form.pages form.history form.scripts)).0 (form.is ∙ ap Ok form.field-0-is) in
     let old = state c.args.shelf in
     let r = c.run_scripts.result in
     let e = c.run_scripts.ensures in
