@@ -83,7 +83,8 @@ module _ {S K : Type 0} (source_state : S → SourceState) (sink_state : K → S
   }
 
   module _ (disk : SureBytes) (limits : Limits) (streams : List (Streams S K)) (run : StoreRun SureBytes S K) (empty : IsEmpty (sure_disk_moment disk))
-      (opened : AreOpenedFor source_state sink_state old (standard ∷ []) streams) (others : LeavesUnasked (stream_names (standard ∷ [])) old now) (hands : HandsOut 1 old now) where
+      (opened : AreOpenedFor source_state sink_state old (standard ∷ []) streams) (others : LeavesUnasked (stream_names (standard ∷ [])) old now) (hands : HandsOut 1 old now)
+      (history_given : limits.history ≡ 1048576) (pages_given : limits.pages ≡ 65536) where
     tries_unrun : IsUnrun sure_disk_moment disk run → RunsTry sure_disk_moment source_state sink_state old now run.notice run.history run.sessions run.free_pages
     tries_unrun unrun = record {
       opened = inl unrun.none;
@@ -118,7 +119,11 @@ module _ {S K : Type 0} (source_state : S → SourceState) (sink_state : K → S
           one = λ ran. (
             end,
             one_history sure_disk_moment source_state sink_state old (standard ∷ []) streams opened disk limits run end over,
-            began_empty sure_disk_moment disk limits end over.opened empty,
+            record {
+              database = began_empty sure_disk_moment disk limits end over.opened empty;
+              entries = over.opened.entries ∙ history_given;
+              page_limit = over.opened.pages ∙ pages_given;
+            },
           );
         }
 

@@ -69,6 +69,12 @@ pub record BeganFrom {D : Type 0} (moment : D → Moment) (pages limit : ℕ) (d
   pub found : IfSome (moment store.disk).state.first
       (λ file. (found : Found) × Opens file found × (store.ledger.base ≡ base_core found store.opened.slots.current.root.log pages))
 
+-- the store was opened over a database of no arrays, within these limits
+pub record BeganEmpty {D : Type 0} (moment : D → Moment) (store : Standing D) : Type 0 where
+  pub database : BeganAs (moment store.opened.disk).state []
+  pub entries : store.ledger.limit ≡ 1048576
+  pub page_limit : store.ledger.base.limit ≡ 65536
+
 module _ {D S K : Type 0} (moment : D → Moment) (source_state : S → SourceState) (sink_state : K → SinkState) (old new : ShelfState)
     (notice : Notice) (history : List Entry) (sessions : List (SessionReport S K)) (free : ℕ) where
   -- SESSIONS OVER A DEVICE, by the words of `run`
@@ -90,7 +96,7 @@ module _ {D S K : Type 0} (moment : D → Moment) (source_state : S → SourceSt
     pub none : sessions ≡ [] → (history ≡ []) × (free ≡ 0) × ((notice ≡ notices.Memory) ⊎ FailsToOpen (standard ∷ []) notice old new)
     pub told : TellsSessions notice sessions
     pub one : sessions ≢ [] → (store : Standing D) × IsOneHistory moment source_state sink_state sessions notice history free store
-        × BeganAs (moment store.opened.disk).state []
+        × BeganEmpty moment store
 
 -- ---- `init`
 

@@ -32,6 +32,8 @@ pub fn run<F: Shelf, R: Threads + Wait + Sync, G: Gate>(
     // Exactly where the words have no form, and at the first word that none has there. Then nothing is touched.
     ensures usage { (word : ℕ) → (result.notice ≡ Notice.Usage word) ↔ IsFault words.now word }
     ensures untouched { (word : ℕ) → result.notice ≡ Notice.Usage word → result.shelf ≡ shelf }
+    ensures nothing { (word : ℕ) → result.notice ≡ Notice.Usage word
+        → (result.sessions ≡ []) × (result.history ≡ []) × (result.free_pages ≡ 0) × (result.disk ≡ None) }
 
     ensures runs { (pages history first : ℕ) (run : IsRun words.now pages history first)
         → RunsScripts F.Device.moment F.S.state F.K.state (F.state shelf) (F.state result.shelf) result.notice result.history result.sessions

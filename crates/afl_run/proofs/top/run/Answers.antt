@@ -61,6 +61,7 @@ returns-in-Ok-Try g c =
       status = e.status;
       usage = λ word. (λ is. absurd (tells word is), λ is. absurd (is.no_form Try one));
       untouched = λ word is. absurd (tells word is);
+      nothing = λ word is. absurd (tells word is);
       runs = λ pages history first run. absurd (try_or_run words pages history first one run);
       tries = λ is. e.runs;
       makes = λ init. absurd (try_or_init words one init);
@@ -84,6 +85,7 @@ returns-in-Ok-Init g c =
       status = e.status;
       usage = λ word. (λ is. absurd (tells word is), λ is. absurd (is.no_form (Init device) one));
       untouched = λ word is. absurd (tells word is);
+      nothing = λ word is. absurd (tells word is);
       runs = λ pages history first run. absurd (init_or_run words device pages history first one run);
       tries = λ is. absurd (init_or_try words device one is);
       makes = λ init. subst (λ (asked : Word). MakesDatabase moment old (state r.shelf) r.notice asked r.disk) (same_init words device one init _ named) e.makes;
@@ -110,6 +112,7 @@ returns-in-Ok-Run g c =
       status = e.status;
       usage = λ word. (λ is. absurd (tells word is), λ is. absurd (is.no_form (Run form.device form.pages form.history form.scripts) one));
       untouched = λ word is. absurd (tells word is);
+      nothing = λ word is. absurd (tells word is);
       runs = λ pages history first run. runs_as words form.device form.pages form.history form.scripts one pages history first run moment source sink old (state r.shelf)
           r.notice r.history r.sessions r.free_pages r.disk c.word_at-target.result.now c.word_at-target.ensures runs;
       tries = λ is. absurd (run_or_try words form.device form.pages form.history form.scripts one is);
@@ -132,6 +135,7 @@ returns-in-Err g c =
         λ other. e.notice ∙ ap Usage (one_place words place word fault other),
       );
       untouched = λ word is. e.shelf;
+      nothing = λ word is. (e.sessions, e.history, e.free_pages, e.disk);
       runs = λ pages history first run. absurd (fault.no_form (Run 1 pages history first) (refl, run));
       tries = λ is. absurd (fault.no_form Try is);
       makes = λ init. absurd (fault.no_form (Init 1) (refl, init));
