@@ -7,7 +7,7 @@ use Rattle.afl_outside.specs.Source.{SourceState, IsNewSource}
 use Rattle.afl_outside.specs.Sink.{SinkState, IsNewSink}
 use Rattle.afl_outside.specs.Shelf.{ShelfState}
 use Rattle.afl_outside.proofs.Streams.{wrote_all}
-use Rattle.afl_session.specs.Session.{AnswerRule, Serves}
+use Rattle.session_threads.specs.Session.{AnswerRule, Serves}
 use Rattle.store_state.specs.declared.event.Event.{Event}
 use Rattle.run_opening.specs.Names.{Word, reply_name}
 use Rattle.run_opening.specs.Opened.{IsOpenedFor, IsSinkOf, IsSourceOf}

@@ -19,7 +19,7 @@ use Rattle.told_stores.specs.Told.{is_sealed}
 use Rattle.session_reports.specs.declared.reports.SessionReport.{SessionReport}
 use Rattle.session_reports.specs.declared.notices.Notice.{Notice}
 use Rattle.session_reports.specs.declared.notices.Notice.TheVariants.{Memory}
-use Rattle.afl_session.specs.Marked.{IsMarked}
+use Rattle.session_threads.specs.Marked.{IsMarked}
 use Rattle.run_stores.specs.Held.{HoldsHistory}
 use Rattle.afl_run.specs.Printed.{Prints}
 

@@ -8,7 +8,7 @@ ghost use Rattle.store_state.specs.Standings.{Standing};
 ghost use Rattle.afl_run.specs.Inner.Over.{IsUnrun, LacksMemory, RunsOver, RunsTo};
 
 use afl_outside::{Disk, Gate, Sink, Source};
-use afl_session::Options;
+use session_threads::Options;
 use array_store::Store;
 use cell_values::{List, Memory};
 use run_stores::{Limits, StoreRun, close_store, open_store};

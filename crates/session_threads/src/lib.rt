@@ -8,3 +8,4 @@ mod run;
 
 pub use run::run_sessions;
 pub use session_reports::Streams;
+pub use afl_session::Options;
