@@ -1,3 +1,5 @@
+pub use Rattle.logical_plan.specs.declared.names.NameEntry
+pub use Rattle.logical_plan.specs.declared.names.Names
 pub mod Allowed
 pub mod Changes
 pub mod Databases
