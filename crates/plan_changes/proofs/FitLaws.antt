@@ -23,11 +23,11 @@ use Rattle.cell_values.specs.declared.schema.Schema.{Schema}
 use Rattle.cell_values.specs.Cells.{is_of_kind, AreOfKinds, IsCellOf}
 use Rattle.cell_values.specs.Nulls.{is_null}
 use Rattle.cell_values.specs.Schemas.{IsValid}
-use Rattle.array_rows.specs.Arrays.{AreRowsOf}
-use Rattle.array_rows.specs.Boxes.{is_inside, corners, bounds_of}
-use Rattle.array_rows.specs.Cellwise.{put_first}
-use Rattle.array_rows.specs.Rows.{Coordinate, placed}
-use Rattle.array_rows.proofs.RowsLemmas.{IsRising-cell_wise}
+use Rattle.logical_plan.specs.Arrays.{AreRowsOf}
+use Rattle.logical_plan.specs.Boxes.{is_inside, corners, bounds_of}
+use Rattle.logical_plan.specs.Cellwise.{put_first}
+use Rattle.logical_plan.specs.Rows.{Coordinate, placed}
+use Rattle.logical_plan.proofs.RowsLemmas.{IsRising-cell_wise}
 use Rattle.expr_nulls.specs.Typing.{same_kind}
 use Rattle.logical_plan.specs.CellOps.{fit_value, fit_values, fit_cell, fit_rows}
 use Rattle.logical_plan.specs.Faults.{fault_in, fault_here, first_fault}

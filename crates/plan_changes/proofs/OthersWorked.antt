@@ -5,7 +5,7 @@ use Rattle.cell_values.specs.declared.datum.Datum.TheVariants.{Int}
 use Rattle.cell_values.specs.declared.datum.Row.{Row}
 use Rattle.cell_values.specs.declared.schema.Schema.{Schema}
 use Rattle.cell_values.specs.declared.schema.Kind.TheVariants.{Int64}
-use Rattle.array_rows.specs.Rows.{placed}
+use Rattle.logical_plan.specs.Rows.{placed}
 use Rattle.logical_plan.specs.Meaning.{meaning, whole}
 use Rattle.logical_plan.specs.Query.{scanned, listed}
 use Rattle.plan_changes.specs.declared.change.Change.{Change}

@@ -6,7 +6,7 @@ use Rattle.cell_values.specs.declared.datum.Datum.TheVariants.{Int}
 use Rattle.cell_values.specs.declared.datum.Row.{Row}
 use Rattle.cell_values.specs.declared.schema.Schema.{Schema}
 use Rattle.cell_values.specs.declared.schema.Kind.TheVariants.{Int64}
-use Rattle.array_rows.specs.Rows.{placed}
+use Rattle.logical_plan.specs.Rows.{placed}
 use Rattle.logical_plan.specs.PlanSchema.{schema_of}
 use Rattle.logical_plan.specs.Query.{Query, scanned, aggregated}
 use Rattle.logical_plan.specs.declared.parts.AggFunction.TheVariants.{CountAll}
