@@ -21,7 +21,7 @@ use snapshot_manager::{Seat, Shared};
 use std::alloc::Global;
 use std::sync::Wait;
 use std::thread::Threads;
-use told_stores::Store;
+use snapshot_manager::Store;
 
 /// Answers a script for each of these streams over a store in which nothing was done yet, each session on a thread of its own, and
 /// reaps beside them. Without memory nothing is done, and all comes back.
