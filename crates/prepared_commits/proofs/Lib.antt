@@ -1,1 +1,4 @@
+pub use Rattle.store_state.proofs.AtOn
 pub use Rattle.store_state.proofs.Finds
+pub use Rattle.store_state.proofs.KeptOn
+pub use Rattle.store_state.proofs.Lists
