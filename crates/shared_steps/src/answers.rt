@@ -2,7 +2,7 @@
 
 use cell_values::Memory;
 use test_stores::Answer as StoreAnswer;
-use told_stores::CommitFault;
+use snapshot_manager::CommitFault;
 
 /// What a step is answered.
 #[derive(Drop)]

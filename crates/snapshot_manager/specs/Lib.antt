@@ -1,5 +1,6 @@
 pub use Rattle.prepared_commits.specs.Prepared
 pub use Rattle.told_stores.specs.Causes
+pub use Rattle.told_stores.specs.Changes
 pub use Rattle.told_stores.specs.CommitFault
 pub use Rattle.told_stores.specs.Databases
 pub use Rattle.told_stores.specs.Faults
