@@ -16,4 +16,4 @@ pub use lookups::{
 };
 pub use names::{changed_names, from_number};
 pub use others::{has_its_names, other_arrays_stay};
-pub use logical_plan::NameEntry;
+pub use logical_plan::{NameEntry, Names};
