@@ -6,7 +6,7 @@ use Rattle.std.proofs.lemmas.List.{length-append, length-drop}
 use Rattle.std.proofs.lemmas.List.Sums.{sum_by-cons}
 use Rattle.cell_values.specs.Naming.{IsName}
 use Rattle.cell_values.specs.declared.schema.Schema.{Schema}
-use Rattle.logical_plan.specs.declared.names.NameEntry.{NameEntry}
+use Rattle.version_catalog.specs.NameEntry.{NameEntry}
 use Rattle.version_catalog.specs.Change.{Change}
 use Rattle.version_catalog.specs.Change.TheVariants.{Create, Store, Insert, Remove, RemoveVersions}
 use Rattle.version_catalog.specs.Allowed.{has_room, has_number}

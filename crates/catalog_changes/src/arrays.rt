@@ -7,7 +7,7 @@ ghost use Rattle.version_catalog.specs.Stored.{is_before};
 ghost use Rattle.catalog_changes.specs.Records.{entries_of, is_array, with_new, with_directory, from_version, without};
 
 use cell_values::{List, Memory, Name, Schema};
-use logical_plan::NameEntry;
+use version_catalog::NameEntry;
 use version_catalog::{from_number, is_before, is_same};
 use version_catalog::{BlobAt, CatalogArray};
 
