@@ -1,4 +1,6 @@
 pub use Rattle.version_catalog.specs.Catalogs
+pub use Rattle.version_catalog.specs.Databases
+pub use Rattle.version_catalog.specs.Stored
 pub use Rattle.version_catalog.specs.Table
 pub use Rattle.version_catalog.specs.declared.rules.catalog.BlobAt
 pub use Rattle.version_catalog.specs.declared.rules.catalog.Catalog
