@@ -16,7 +16,7 @@ use Rattle.version_reaper.specs.contracts.page_set.PageSet as pages
 use Rattle.lean_core.specs.contracts.state.LeanCore as lean
 use Rattle.store_ledger.specs.contracts.note.Note as note
 use Rattle.store_ledger.specs.contracts.ledger.Ledger as ledger
-use Rattle.array_store.specs.contracts.store.Store as store
+use Rattle.snapshot_manager.specs.Store as store
 use Rattle.snapshot_manager.specs.contracts.seat.Seat as seat
 use Rattle.snapshot_manager.specs.contracts.shared.Shared as shared
 use Rattle.afl_lexer.specs.contracts.splitter.Splitter as splitter
