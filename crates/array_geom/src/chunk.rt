@@ -2,7 +2,7 @@
 ghost use Rattle.std.specs.Prelude.{◌≡◌, IfOk};
 
 use cell_columns::Cells;
-use cell_values::{Broken, ChunkAt, Copies, List, Margins, Memory, Schema, copy_numbers};
+use array_rows::{Broken, ChunkAt, Copies, List, Margins, Memory, Schema, copy_numbers};
 
 /// The cells of a chunk's core and of its margins, by their rising positions in the chunk's frame.
 #[derive(Drop)]

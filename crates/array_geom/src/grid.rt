@@ -4,7 +4,7 @@ ghost use Rattle.array_geom.specs.Geometry.{coordinate_in, position_in, volume};
 ghost use Rattle.array_geom.specs.Inner.Ranges.{IsGrid, AreLow, AreLengths, is_in_grid};
 
 use arrayvec::ArrayVec;
-use cell_values::Coord;
+use array_rows::Coord;
 
 /// How long a box is in each dimension.
 pub type Lengths = ArrayVec<u64, 6>;
