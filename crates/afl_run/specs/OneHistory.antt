@@ -15,7 +15,7 @@ use Rattle.store_ledger.specs.Ledger.{IsLedger, reap_comes, unused_pages}
 use Rattle.store_state.specs.declared.event.Event.{Event}
 use Rattle.store_state.specs.Events.{events, owner_of}
 use Rattle.store_state.specs.Standings.{BeganAs, Standing}
-use Rattle.told_stores.specs.Told.{is_sealed}
+use Rattle.session_threads.specs.Told.{is_sealed}
 use Rattle.session_reports.specs.declared.reports.SessionReport.{SessionReport}
 use Rattle.session_reports.specs.declared.notices.Notice.{Notice}
 use Rattle.session_reports.specs.declared.notices.Notice.TheVariants.{Memory}
