@@ -2,7 +2,7 @@
 ghost use Rattle.test_stores.specs.Holds.{HasNoPins};
 
 use crate::versions::whole;
-use array_store::Store;
+use test_stores::Store;
 use cell_values::{Bytes, Memory};
 use std::alloc::Global;
 use store_opening::Limits;

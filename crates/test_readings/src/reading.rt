@@ -10,7 +10,7 @@ ghost use Rattle.test_stores.specs.Holds.{LeavesAll};
 
 use afl_outside::Disk;
 use array_geom::{Chunk, ChunkedArray, margins_of};
-use array_store::Store;
+use test_stores::Store;
 use cell_values::{Bytes, List, Memory, Name, Row};
 use chunk_cells::into_rows;
 use logical_plan::{Leaf, NameEntry, Names};

@@ -5,7 +5,7 @@ ghost use Rattle.test_stores.specs.Holds.{HasNoPins};
 
 use crate::reading::{cells, leaf_of};
 use afl_outside::Disk;
-use array_store::Store;
+use test_stores::Store;
 use cell_values::{Bytes, Memory};
 use logical_plan::NameEntry;
 use std::alloc::Global;

@@ -17,3 +17,4 @@ pub use holds::Hold;
 pub use opening::opened;
 pub use pins::{pinned, reaped, unpinned};
 pub use statements::{Refused, statement};
+pub use array_store::Store;
