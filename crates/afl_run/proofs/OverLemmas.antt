@@ -6,8 +6,8 @@ use Rattle.std.proofs.lemmas.List.Folds.{list_all-append}
 use Rattle.afl_outside.specs.Disk.{DiskGoesOn, DiskState, Moment}
 use Rattle.afl_outside.specs.Source.{SourceState}
 use Rattle.afl_outside.specs.Sink.{SinkState}
-use Rattle.array_store.specs.declared.start.Start.{Start}
-use Rattle.array_store.specs.Starts.{start_of}
+use Rattle.run_stores.specs.Start.{Start}
+use Rattle.run_stores.specs.Starts.{start_of}
 use Rattle.event_core.specs.declared.entry.Entry.TheVariants.{Reap}
 use Rattle.page_chain.proofs.RunLemmas.{goes}
 use Rattle.turn_lock.specs.Owners.{AreOwnedBelow, ExtendsByOthers, is_owned_below, none_of}

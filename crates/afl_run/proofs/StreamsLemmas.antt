@@ -7,8 +7,8 @@ use Rattle.afl_outside.specs.Disk.{DiskGoesOn, DiskState, IsNewDisk, Moment}
 use Rattle.afl_outside.specs.Source.{SourceState}
 use Rattle.afl_outside.specs.Sink.{SinkState}
 use Rattle.afl_outside.specs.Shelf.{LeavesOthers, ShelfState}
-use Rattle.array_store.specs.declared.start.Start.{Start}
-use Rattle.array_store.specs.Starts.{start_of}
+use Rattle.run_stores.specs.Start.{Start}
+use Rattle.run_stores.specs.Starts.{start_of}
 use Rattle.event_core.specs.declared.entry.Entry.{Entry}
 use Rattle.file_meaning.specs.Opening.{IsWrongAt, Opens}
 use Rattle.file_meaning.specs.declared.found.Found.{Found}

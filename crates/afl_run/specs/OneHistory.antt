@@ -4,8 +4,8 @@ use Rattle.std.specs.List.{list_all}
 use Rattle.afl_outside.specs.Disk.{Moment}
 use Rattle.afl_outside.specs.Source.{SourceState}
 use Rattle.afl_outside.specs.Sink.{SinkState}
-use Rattle.array_store.specs.declared.start.Start.{Start}
-use Rattle.array_store.specs.Starts.{start_of}
+use Rattle.run_stores.specs.Start.{Start}
+use Rattle.run_stores.specs.Starts.{start_of}
 use Rattle.turn_lock.specs.Owners.{AreOwnedBelow, ExtendsByOthers}
 use Rattle.event_core.specs.declared.entry.Entry.{Entry}
 use Rattle.plan_changes.specs.Databases.{Database}

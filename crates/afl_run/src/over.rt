@@ -2,14 +2,14 @@
 ghost use Rattle.std.specs.Prelude.{◌≡◌, ◌≤◌, ◌⊎◌, [], All, length};
 ghost use Rattle.afl_lexer.specs.Inner.Standing.{StandsAfter};
 ghost use Rattle.afl_outside.specs.Disk.{DiskGoesOn};
-ghost use Rattle.array_store.specs.Starts.{start_of};
+ghost use Rattle.run_stores.specs.Starts.{start_of};
 ghost use Rattle.store_state.specs.At.{standing};
 ghost use Rattle.store_state.specs.Standings.{Standing};
 ghost use Rattle.afl_run.specs.Inner.Over.{IsUnrun, LacksMemory, RunsOver, RunsTo};
 
 use afl_outside::{Disk, Gate, Sink, Source};
 use session_threads::Options;
-use array_store::Store;
+use run_stores::Store;
 use cell_values::{List, Memory};
 use run_stores::{Limits, StoreRun, close_store, open_store};
 use session_reports::{Notice, Streams};

@@ -7,3 +7,4 @@ mod opening;
 pub use closing::{StoreRun, close_store};
 pub use opening::open_store;
 pub use store_opening::Limits;
+pub use array_store::Store;

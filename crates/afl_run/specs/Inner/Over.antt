@@ -3,8 +3,8 @@ use Rattle.std.specs.Prelude.{◌≡◌, ◌⊎◌, List, [], length}
 use Rattle.afl_outside.specs.Disk.{Moment}
 use Rattle.afl_outside.specs.Source.{SourceState}
 use Rattle.afl_outside.specs.Sink.{SinkState}
-use Rattle.array_store.specs.declared.start.Start.{Start}
-use Rattle.array_store.specs.Starts.{start_of}
+use Rattle.run_stores.specs.Start.{Start}
+use Rattle.run_stores.specs.Starts.{start_of}
 use Rattle.run_stores.specs.Began.{BeganOver, TellsUnopened}
 use Rattle.run_stores.specs.Ends.{EndsWith}
 use Rattle.run_stores.specs.declared.closing.StoreRun.{StoreRun}

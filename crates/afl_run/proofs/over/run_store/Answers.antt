@@ -1,5 +1,5 @@
 use Rattle.std.proofs.Common.{◌∙◌, ap, inl, inr, refl}
-use Rattle.array_store.specs.Starts.{start_of}
+use Rattle.run_stores.specs.Starts.{start_of}
 use Rattle.store_state.specs.At.{standing}
 use Rattle.store_state.specs.declared.parts.StoreParts.{StoreParts}
 use Rattle.afl_run.proofs.OverLemmas.{runs_to, unrun_as}
