@@ -3,6 +3,7 @@ pub use Rattle.store_state.specs.Calls
 pub use Rattle.store_state.specs.Cells
 pub use Rattle.store_state.specs.Inner.Keeping
 pub use Rattle.store_state.specs.Kept
+pub use Rattle.store_state.specs.Payloads
 pub use Rattle.store_state.specs.Standings
 pub use Rattle.store_state.specs.Worked
 pub mod Needs
