@@ -7,9 +7,9 @@ ghost use Rattle.event_core.specs.Cells.{at};
 ghost use Rattle.file_meaning.specs.Standing.{Stands};
 ghost use Rattle.commit_writes.specs.declared.stopped.Stopped.{Stopped};
 ghost use Rattle.store_ledger.specs.Ledger.{history};
-ghost use Rattle.store_state.specs.At.{AreParts, keeping, standing};
-ghost use Rattle.store_state.specs.Calls.{NotesFault};
-ghost use Rattle.store_state.specs.Standings.{BeganAs};
+ghost use Rattle.prepared_commits.specs.At.{AreParts, keeping, standing};
+ghost use Rattle.prepared_commits.specs.Calls.{NotesFault};
+ghost use Rattle.prepared_commits.specs.Standings.{BeganAs};
 ghost use Rattle.prepared_commits.specs.Prepared.{IsPreparedFor};
 ghost use Rattle.store_steps.specs.Steps.{sealed, sealed_keeping, sealed_ledger, stopped};
 ghost use Rattle.store_cells.specs.Moves.{MayLeave};
@@ -19,7 +19,7 @@ use crate::laws::commits_hold;
 use crate::writing::write_prepared;
 use afl_outside::{Disk, Failed};
 use prepared_commits::Prepared;
-use store_state::StoreParts;
+use prepared_commits::StoreParts;
 
 /// Commits what is prepared: writes it, and then adds its entry. This takes no memory. Where the device fails, names and history stay as
 /// they are, and the change may be in doubt.
