@@ -3,9 +3,9 @@ use Rattle.std.proofs.Common.{◌≡◌, Bool, true, false, Result, Ok, Err, IfO
 use Rattle.afl_outside.specs.Disk.{DiskGoesOn, Moment}
 use Rattle.page_file.specs.FilesOpened.{OpenFile}
 use Rattle.page_slots.proofs.PutLemmas.{goes_twice}
-use Rattle.store_state.specs.declared.parts.StoreParts.{StoreParts}
-use Rattle.store_state.specs.At.{AreParts, standing}
-use Rattle.store_state.specs.Standings.{Standing}
+use Rattle.store_opening.specs.StoreParts.{StoreParts}
+use Rattle.store_opening.specs.At.{AreParts, standing}
+use Rattle.store_opening.specs.Standings.{Standing}
 use Rattle.array_store.specs.Kept.{IsStore}
 
 -- the file as it was opened, and the disk, are the same

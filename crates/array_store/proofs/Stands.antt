@@ -9,9 +9,9 @@ use Rattle.file_meaning.specs.Standing.{Stands}
 use Rattle.commit_writes.specs.declared.stopped.Stopped.{Stopped}
 use Rattle.event_core.specs.declared.entry.Entry.{Entry}
 use Rattle.event_core.specs.Cells.{at}
-use Rattle.store_state.specs.declared.parts.StoreParts.{StoreParts}
-use Rattle.store_state.specs.At.{AreParts, standing}
-use Rattle.store_state.specs.Standings.{Standing, BeganAs, StandsFor, database_at}
+use Rattle.store_opening.specs.StoreParts.{StoreParts}
+use Rattle.store_opening.specs.At.{AreParts, standing}
+use Rattle.store_opening.specs.Standings.{Standing, BeganAs, StandsFor, database_at}
 use Rattle.prepared_commits.specs.declared.prepared.Prepared.{Prepared}
 use Rattle.store_sealing.specs.Steps.{sealed, stopped}
 use Rattle.store_opening.specs.declared.opening.Limits.{Limits}

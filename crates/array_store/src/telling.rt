@@ -1,7 +1,7 @@
 //! What holds of each store.
 ghost use Rattle.afl_outside.specs.Disk.{DiskGoesOn};
 ghost use Rattle.store_ledger.specs.Ledger.{IsLedger};
-ghost use Rattle.store_state.specs.At.{AreParts, standing};
+ghost use Rattle.store_opening.specs.At.{AreParts, standing};
 ghost use Rattle.array_store.specs.Growth.{IsCounted};
 
 use crate::Store;

@@ -1,7 +1,7 @@
 use Rattle.std.proofs.Common.{subst}
 use Rattle.afl_outside.specs.Disk.{DiskGoesOn}
 use Rattle.store_ledger.specs.Ledger.{IsLedger}
-use Rattle.store_state.specs.At.{AreParts, standing}
+use Rattle.store_opening.specs.At.{AreParts, standing}
 use Rattle.array_store.specs.Growth.{IsCounted}
 use Rattle.array_store.proofs.Added.{is_counted}
 use Rattle.array_store.proofs.store.Store.is_at.Goals as goal

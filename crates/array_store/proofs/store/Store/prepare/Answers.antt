@@ -2,8 +2,8 @@ use Rattle.std.proofs.Common.{◌≡◌, Bool, false, IsTrue, sym, subst, [], �
 use Rattle.event_core.specs.Allowed.{is_pinned}
 use Rattle.event_core.specs.Bases.{sequence_at}
 use Rattle.store_ledger.specs.Ledger.{history, is_noted, is_tried}
-use Rattle.store_state.specs.At.{keeping, standing}
-use Rattle.store_state.specs.Standings.{base_of, with_entries}
+use Rattle.store_opening.specs.At.{keeping, standing}
+use Rattle.store_opening.specs.Standings.{base_of, with_entries}
 use Rattle.prepared_commits.specs.Needs.{needs}
 use Rattle.prepared_commits.specs.Prepared.{IsAsked}
 use Rattle.store_preparing.specs.Left.{FitsIn, HasNext, IsLeft, reaped_if, tried_now}

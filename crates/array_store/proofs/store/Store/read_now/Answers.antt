@@ -1,8 +1,8 @@
 use Rattle.std.proofs.Common.{length, IfErr, sym, subst, ap}
-use Rattle.store_state.specs.At.{standing}
-use Rattle.store_state.specs.Calls.{IsUnread, payload_at}
-use Rattle.store_state.specs.Payloads.{HasTold, WasDamagedAt}
-use Rattle.store_state.specs.Standings.{BeganAs}
+use Rattle.store_opening.specs.At.{standing}
+use Rattle.store_opening.specs.Calls.{IsUnread, payload_at}
+use Rattle.store_opening.specs.Payloads.{HasTold, WasDamagedAt}
+use Rattle.store_opening.specs.Standings.{BeganAs}
 use Rattle.array_store.proofs.Added.{adds_fault}
 use Rattle.array_store.proofs.Going.{moves}
 use Rattle.array_store.proofs.store.Store.read_now.Goals as goal

@@ -1,8 +1,8 @@
-use Rattle.store_state.specs.At.{standing}
+use Rattle.store_opening.specs.At.{standing}
 use Rattle.array_store.proofs.Added.{adds_reap, if_ok}
 use Rattle.std.proofs.Common.{[], ◌∷◌, refl}
 use Rattle.event_core.specs.declared.entry.Entry.TheVariants.{Reap}
-use Rattle.store_state.specs.Standings.{with_entries}
+use Rattle.store_opening.specs.Standings.{with_entries}
 use Rattle.array_store.proofs.Going.{by_choice, stays, unmoved}
 use Rattle.array_store.proofs.store.Store.reap.Goals as goal
 

@@ -1,5 +1,5 @@
 use Rattle.std.proofs.Common.{MatchResult, sym, subst}
-use Rattle.store_state.specs.At.{standing}
+use Rattle.store_opening.specs.At.{standing}
 use Rattle.prepared_commits.specs.Prepared.{IsPreparedFor}
 use Rattle.store_sealing.proofs.Sealed.{HasCome}
 use Rattle.array_store.specs.Growth.{AddsFault}

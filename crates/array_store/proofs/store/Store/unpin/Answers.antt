@@ -1,6 +1,6 @@
 use Rattle.std.proofs.Common.{refl, sym, subst}
 use Rattle.event_core.specs.declared.entry.Entry.TheVariants.{Unpin}
-use Rattle.store_state.specs.At.{standing}
+use Rattle.store_opening.specs.At.{standing}
 use Rattle.array_store.proofs.Added.{adds_entry}
 use Rattle.array_store.proofs.Going.{IsUnmoved, stays}
 use Rattle.array_store.proofs.store.Store.unpin.Goals as goal
