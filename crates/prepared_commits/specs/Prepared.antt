@@ -23,7 +23,7 @@ use Rattle.event_core.specs.Ready.{IsReadyOver}
 use Rattle.event_core.specs.Replay.{core_at}
 use Rattle.store_ledger.specs.Ledger.{has_room, history, is_noted, is_tried}
 use Rattle.store_versions.specs.Rows.{IsReadyFor}
-use Rattle.commit_costs.specs.Costs.{cost_from}
+use Rattle.store_state.specs.Costs.{cost_from}
 use Rattle.commit_writes.specs.Commits.{IsBlobSized, IsChainSized}
 use Rattle.store_state.specs.Laid.{Laid}
 use Rattle.store_state.specs.Changes.{ComesWith, AreValid, IsChangeOf}

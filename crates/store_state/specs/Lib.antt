@@ -1,5 +1,6 @@
 pub use Rattle.found_rows.specs.Changes
 pub use Rattle.found_rows.specs.Commits
+pub use Rattle.found_rows.specs.Costs
 pub use Rattle.found_rows.specs.Laid
 pub use Rattle.found_rows.specs.Versions
 pub use Rattle.found_rows.specs.Written
