@@ -34,7 +34,7 @@ use Rattle.check_groups.specs.Groups.{aggregate_parts}
 use Rattle.check_groups.specs.Windows.{window_parts}
 use Rattle.check_joins.specs.Crosses.{cross_parts}
 use Rattle.check_joins.specs.JoinSchemas.{joined_schema}
-use Rattle.check_redimension.specs.Redimension.{redimension_parts}
+use Rattle.afl_types.specs.Redimension.{redimension_parts}
 use Rattle.afl_types.specs.Calls.{call_of, fits_count, fits_two, ruled, ruled_two}
 use Rattle.afl_types.specs.Content.{content_span}
 use Rattle.afl_types.specs.Queries.{called, over, over_two, query_of}
