@@ -1,7 +1,7 @@
 -- What is told of a statement that was read under a pin.
-use Rattle.std.proofs.Common.{◌≡◌, ◌+◌, ◌<◌, ◌≤◌, ℕ, true, List, [], length, slice_index, Option, IfSome, IsSomeAnd, sym, subst, arith}
+use Rattle.std.proofs.Common.{◌≡◌, ◌+◌, ◌<◌, ◌∙◌, ◌≤◌, inl, ℕ, true, List, [], length, slice_index, Option, Some, IfSome, IsSomeAnd, sym, subst, arith}
 use Rattle.std.specs.List.{list_all}
-use Rattle.std.proofs.lemmas.Option.{slice_get_within}
+use Rattle.std.proofs.lemmas.Option.{none-some, slice_get_within}
 use Rattle.afl_outside.specs.Disk.{Moment}
 use Rattle.afl_trees.specs.Term.{Term}
 use Rattle.logical_plan.specs.declared.names.Names.{Names}
@@ -19,9 +19,8 @@ use Rattle.session_sources.specs.Told.{entries_in, is_sealed, ledger_of, told}
 use Rattle.session_sources.specs.Seats.{seen, session_of, start}
 use Rattle.session_replies.specs.Acts.{looking}
 use Rattle.session_replies.specs.Refusals.{IsUnreadReply}
-use Rattle.session_replies.specs.Replies.{words_of, HasFault, HoldsSincePin, IsPayloadPage, IsToldFor}
+use Rattle.session_replies.specs.Replies.{words_of, BeganAsNone, HasFault, IsPayloadPage, IsToldFor}
 use Rattle.session_replies.specs.declared.reply.Reply.{Reply}
-use Rattle.session_replies.proofs.Beginnings.{reached}
 use Rattle.session_replies.proofs.PinPlaces.{open_pins_are_entered}
 use Rattle.session_replies.proofs.Staying.{page_later, replies_stay}
 use Rattle.session_sources.specs.declared.reading.Reading.{Reading}
@@ -50,9 +49,6 @@ module _ {D : Type 0} (moment : D → Moment) (began : Start D) (session pin oth
     told = subst (λ (es : List Event). IsToldFor moment began session pin es own text tree reply reply.refusal looking) (sym adds.grown)
         (replies_stay moment began session pin old adds.more [] own text tree reply reply.refusal looking sealed within t.told);
   }
-
-  later_since : reply.place ≡ pin + 1 → HoldsSincePin moment began session pin new own text tree reply
-  later_since at = (omega (arith, at), subst (λ (es : List Event). reply.place ≤ length (entries_in es)) (sym adds.grown) (reached began old adds.more reply.place within))
 
   later_page : (page : ℕ) → IsPayloadPage began old reply.place page → IsPayloadPage began new reply.place page
   later_page page p = subst (λ (es : List Event). IsPayloadPage began es reply.place page) (sym adds.grown)
@@ -85,27 +81,32 @@ module _ {D : Type 0} (moment : D → Moment) (r : Reading D) (text : List ℕ) 
   words_told comes = later_told moment began r.lent.pinned.session r.lent.pinned.place (session_of r.lent.seat) (seen r.lent.seat) (seen r.seat) adds.own text tree reply
       adds.adds read.lent.sealed within_seen
       (said_replies_are_told moment began r.lent.pinned.session r.lent.pinned.place (seen r.lent.seat) [] text tree reply (record {
-        since = (omega (arith, at), within_seen);
         behind = at;
         said = subst (λ (place : ℕ). IsSaid moment began (seen r.lent.seat) text tree place (Replied (words_of reply))) (sym at)
             (pinned_outcomes_are_said moment (unread r.lent.shared r.lent.pinned r.lent.seat) text tree (Replied (words_of reply)) read.lent_pin.open_pin was.database comes);
       }))
 
-  cause : (fault : ExecFault) → SaysWhy moment r fault →
-      IsCause moment began r.lent.pinned.session r.lent.pinned.place (seen r.seat) adds.own text tree reply fault
-  cause Source failed = subst (λ (session : ℕ). HasFault session adds.own) (sym read.lent_pin.own) (failures_are_noted moment r read failed was.untried adds)
-  cause (Damaged page) e = later_page moment began r.lent.pinned.session r.lent.pinned.place (session_of r.lent.seat) (seen r.lent.seat) (seen r.seat) adds.own text tree reply
+  damaged_page : (page : ℕ) → r.marks.damaged ≡ Some page → IsPayloadPage began (seen r.seat) reply.place page
+  damaged_page page e = later_page moment began r.lent.pinned.session r.lent.pinned.place (session_of r.lent.seat) (seen r.lent.seat) (seen r.seat) adds.own text tree reply
       adds.adds read.lent.sealed within_seen page
       (subst (λ (place : ℕ). IsPayloadPage began (seen r.lent.seat) place page) (sym at)
       (page_behind began (seen r.lent.seat) r.lent.pinned page read.lent_pin.open_pin
       (subst (λ (found : Option ℕ). IfSome found (BeginsPayload r.lent.pinned.names (told began (seen r.lent.seat)) r.lent.pinned.place)) e read.damaged)))
+
+  -- a database that the file began as has no damage
+  none_began : (page : ℕ) → r.marks.damaged ≡ Some page → BeganAsNone moment began
+  none_began page e db is = none-some page (sym (read.whole db is) ∙ e)
+
+  cause : (fault : ExecFault) → SaysWhy moment r fault →
+      IsCause moment began r.lent.pinned.session r.lent.pinned.place (seen r.seat) adds.own text tree reply fault
+  cause Source failed = subst (λ (session : ℕ). HasFault session adds.own) (sym read.lent_pin.own) (failures_are_noted moment r read failed was.untried adds)
+  cause (Damaged page) e = (damaged_page page e, none_began page e)
   cause Memory e = tt
 
   fault_told : (fault : ExecFault) → SaysWhy moment r fault → IsUnreadReply fault reply →
       IsLookedReply moment began r.lent.pinned.session r.lent.pinned.place (seen r.seat) adds.own text tree reply
   fault_told fault why u = unread_replies_are_told moment began r.lent.pinned.session r.lent.pinned.place (seen r.seat) adds.own text tree reply fault (record {
-    since = later_since moment began r.lent.pinned.session r.lent.pinned.place (session_of r.lent.seat) (seen r.lent.seat) (seen r.seat) adds.own text tree reply
-        adds.adds read.lent.sealed within_seen at;
+    holds = inl at;
     cause = cause fault why;
     unread = u;
   })

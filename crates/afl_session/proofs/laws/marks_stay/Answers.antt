@@ -8,5 +8,5 @@ unfolding digits
 returns g c = record {
   stay = marks_stay g.D.Disk.moment;
   sessions = sessions_stay g.D.Disk.moment;
-  worked = λ origin. record { start = refl; end = refl; reply = record { same = refl; place = refl; words = inl refl }; want = λ is. absurd (cc (is)) };
+  worked = λ origin. record { start = refl; end = refl; reply = record { same = refl; words = inl (refl, refl) }; want = λ is. absurd (cc (is)) };
 }
