@@ -7,7 +7,7 @@ use Rattle.afl_trees.specs.Statement.{DerivesText, StopsText}
 use Rattle.afl_trees.specs.Term.{Term}
 use Rattle.afl_trees.specs.declared.kind.ParseKind.{ParseKind}
 use Rattle.result_print.specs.declared.refusal.Refusal.{Refusal}
-use Rattle.result_print.specs.declared.refusal.Refusal.TheVariants.{HistoryFull, Memory, Parse}
+use Rattle.result_print.specs.declared.refusal.Refusal.TheVariants.{Memory, Parse}
 use Rattle.statement_replies.specs.declared.replies.Reply.{Reply as Told}
 use Rattle.statement_replies.specs.Reply.{refused}
 use Rattle.store_state.specs.declared.event.Event.{Event}

@@ -109,32 +109,32 @@ module _ {D : Type 0} (moment : D → Moment) (shared : Shared D) (seat : Seat D
         abbrev began : Start D
         began = start_of (standing moment parts)
 
-        abbrev then : List Event
-        then = events (standing moment next)
+        abbrev last_events : List Event
+        last_events = events (standing moment next)
 
-        open_there : IsOpenPin (ledger_of began then) pinned
+        open_there : IsOpenPin (ledger_of began last_events) pinned
         open_there =
             goes_open moment pinned.session old last text tree reply keeps_last database_here told_last pinned.place within_here pinned refl goes_last
             (subst (λ (es : List Event). IsOpenPin (ledger_of began es) pinned) (sym events_here)
             (subst (λ (start : Start D). IsOpenPin (ledger_of start (seen seat)) pinned) (sym start_here) pin.open_pin))
 
         -- right behind the pin the statement was a change
-        change_there : (change : Change) → check_of tree text pinned.names ≡ Ok (AChange change) → IsChangeAt began then text tree (pinned.place + 1)
-        change_there change e = (change, ap (λ (names : Names). check_of tree text names) (names_behind began then pinned open_there) ∙ e)
+        change_there : (change : Change) → check_of tree text pinned.names ≡ Ok (AChange change) → IsChangeAt began last_events text tree (pinned.place + 1)
+        change_there change e = (change, ap (λ (names : Names). check_of tree text names) (names_behind began last_events pinned open_there) ∙ e)
 
         pub answered_last : (change : Change) → check_of tree text pinned.names ≡ Ok (AChange change) →
             IsAnsweredInTurn moment (start moment shared) pinned.session pinned.place (seen seat) (seen after) text tree reply
         answered_last change e =
             subst (λ (es : List Event). IsAnsweredInTurn moment (start moment shared) pinned.session pinned.place (seen seat) es text tree reply) (sym seen_is)
-            (subst (λ (es : List Event). IsAnsweredInTurn moment (start moment shared) pinned.session pinned.place es then text tree reply) events_here
-            (subst (λ (start : Start D). IsAnsweredInTurn moment start pinned.session pinned.place (events (standing moment parts)) then text tree reply) start_here
+            (subst (λ (es : List Event). IsAnsweredInTurn moment (start moment shared) pinned.session pinned.place es last_events text tree reply) events_here
+            (subst (λ (start : Start D). IsAnsweredInTurn moment start pinned.session pinned.place (events (standing moment parts)) last_events text tree reply) start_here
             (goes_answered moment pinned.session old last text tree reply keeps_last database_here told_last pinned.place within_here
             (change_said change text tree pinned e) (change_there change e) goes_last)))
 
         open_last : IsOpenPin (ledger_of (start moment shared) (seen after)) pinned
         open_last =
             subst (λ (es : List Event). IsOpenPin (ledger_of (start moment shared) es) pinned) (sym seen_is)
-            (subst (λ (start : Start D). IsOpenPin (ledger_of start then) pinned) start_here open_there)
+            (subst (λ (start : Start D). IsOpenPin (ledger_of start last_events) pinned) start_here open_there)
 
         pub pin_last : session_of after ≡ session_of seat → HoldsPin moment shared after pinned
         pin_last mine = record { own = pin.own ∙ sym mine; open_pin = open_last }
