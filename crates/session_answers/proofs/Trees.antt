@@ -1,7 +1,7 @@
 -- The answer to a tree, about its pin and its unpin.
-use Rattle.std.proofs.Common.{◌≡◌, ◌∙◌, ◌≤◌, ℕ, true, List, [], ◌∷◌, ◌++◌, length, inl, inr, Option, None, Some, refl, ap, sym, subst, arith, append-nil}
+use Rattle.std.proofs.Common.{◌≡◌, ◌∙◌, ◌≤◌, ℕ, Bool, true, false, List, [], ◌∷◌, ◌++◌, length, inl, inr, Option, None, Some, refl, ap, sym, subst, arith, append-nil}
 use Rattle.std.specs.List.{list_all}
-use Rattle.std.proofs.lemmas.Bool.{eq-eqb}
+use Rattle.std.proofs.lemmas.Bool.{eq-eqb, true≢false}
 use Rattle.afl_outside.specs.Disk.{Moment}
 use Rattle.afl_trees.specs.Term.{Term}
 use Rattle.event_core.specs.declared.entry.Entry.TheVariants.{Pin, Unpin}
@@ -52,10 +52,14 @@ began_at session pin old new looking e = e
 began_at session pin old new (trying change) e = e
 began_at session pin old new (making change) e = e
 
+has_acts : List Act → Bool
+has_acts [] = false
+has_acts (act ∷ acts) = true
+
 -- under a pin nobody is told that the history is full
 never_full : {D : Type 0} (moment : D → Moment) (start : Start D) (session pin : ℕ) (new own : List Event) (text : List ℕ) (tree : Term) (reply : Reply) (acts : List Act)
     (course : Course) → begins ∷ acts ≡ acts_for course → IsToldFor moment start session pin new own text tree reply (Some refusals.HistoryFull) course → ⊥
-never_full moment start session pin new own text tree reply acts nothing e t = absurd (cc (e))
+never_full moment start session pin new own text tree reply acts nothing e t = true≢false (ap has_acts e)
 never_full moment start session pin new own text tree reply acts looking e t = t
 never_full moment start session pin new own text tree reply acts (trying change) e t = t
 never_full moment start session pin new own text tree reply acts (making change) e t = t
