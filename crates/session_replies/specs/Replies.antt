@@ -3,7 +3,8 @@
 -- What holds at a place holds of the database after the commits before it. The reply to a query, and to a statement that lists something,
 -- holds behind the statement's own pin. That of an accepted change holds before the change's own commit. A refusal for a rule or a cell
 -- holds behind the pin, or, of a change, in the turn of the commit.
-use Rattle.std.specs.Prelude.{◌≡◌, ◌≤◌, ◌<◌, ◌+◌, ◌-◌, ◌^◌, ◌⊎◌, ℕ, false, List, [], ◌++◌, Contains, length, slice_get, slice_index, Option, None, Some, IsSomeAnd, Ok}
+use Rattle.std.specs.Prelude.{◌≡◌, ◌≤◌, ◌<◌, ◌+◌, ◌-◌, ◌^◌, ◌⊎◌, ◌++◌, ℕ}
+use Rattle.std.specs.Prelude.{false, List, [], Contains, length, slice_get, slice_index, Option, None, Some, IsSomeAnd, Ok}
 use Rattle.arrayvec.specs.ArrayVec.{ArrayVec}
 use Rattle.afl_outside.specs.Disk.{Moment}
 use Rattle.afl_trees.specs.Term.{Term}
