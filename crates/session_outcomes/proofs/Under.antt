@@ -1,5 +1,5 @@
 -- What is told of a statement that was read under a pin.
-use Rattle.std.proofs.Common.{◌≡◌, ◌+◌, ◌<◌, ◌∙◌, ◌≤◌, inl, ℕ, true, List, [], length, slice_index, Option, Some, IfSome, IsSomeAnd, sym, subst, arith}
+use Rattle.std.proofs.Common.{◌≡◌, ◌+◌, ◌<◌, ◌∙◌, ◌≤◌, inl, ℕ, true, List, [], length, slice_index, Option, Some, IfSome, IsSomeAnd, ap, sym, subst, arith}
 use Rattle.std.specs.List.{list_all}
 use Rattle.std.proofs.lemmas.Option.{none-some, slice_get_within}
 use Rattle.afl_outside.specs.Disk.{Moment}
@@ -9,7 +9,9 @@ use Rattle.chunk_map.specs.declared.directory.DirEntry.{DirEntry}
 use Rattle.chunk_source.specs.declared.reading.fault.ExecFault.{ExecFault}
 use Rattle.chunk_source.specs.declared.reading.fault.ExecFault.TheVariants.{Source, Damaged, Memory}
 use Rattle.event_core.specs.declared.entry.Entry.TheVariants.{Pin}
+use Rattle.afl_types.specs.Checking.{check_of}
 use Rattle.statement_answers.specs.declared.outcome.Outcome.TheVariants.{Replied}
+use Rattle.statement_answers.specs.Outcomes.{MayFail}
 use Rattle.store_ledger.specs.declared.pinned.Pinned.{Pinned}
 use Rattle.store_ledger.specs.Ledger.{IsOpenPin}
 use Rattle.store_state.specs.declared.event.Event.{Event}
@@ -19,7 +21,7 @@ use Rattle.session_sources.specs.Told.{entries_in, is_sealed, ledger_of, told}
 use Rattle.session_sources.specs.Seats.{seen, session_of, start}
 use Rattle.session_replies.specs.Acts.{looking}
 use Rattle.session_replies.specs.Refusals.{IsUnreadReply}
-use Rattle.session_replies.specs.Replies.{words_of, BeganAsNone, HasFault, IsPayloadPage, IsToldFor}
+use Rattle.session_replies.specs.Replies.{names_before, words_of, BeganAsNone, HasFault, IsPayloadPage, IsToldFor}
 use Rattle.session_replies.specs.declared.reply.Reply.{Reply}
 use Rattle.session_replies.proofs.PinPlaces.{open_pins_are_entered}
 use Rattle.session_replies.proofs.Staying.{page_later, replies_stay}
@@ -103,11 +105,15 @@ module _ {D : Type 0} (moment : D → Moment) (r : Reading D) (text : List ℕ) 
   cause (Damaged page) e = (damaged_page page e, none_began page e)
   cause Memory e = tt
 
-  fault_told : (fault : ExecFault) → SaysWhy moment r fault → IsUnreadReply fault reply →
+  names_there : names_before began (seen r.seat) reply.place ≡ r.lent.pinned.names
+  names_there = ap (names_before began (seen r.seat)) at ∙ names_behind began (seen r.seat) r.lent.pinned read.pin.open_pin
+
+  fault_told : (fault : ExecFault) → SaysWhy moment r fault → MayFail fault (check_of tree text r.lent.pinned.names) → IsUnreadReply fault reply →
       IsLookedReply moment began r.lent.pinned.session r.lent.pinned.place (seen r.seat) adds.own text tree reply
-  fault_told fault why u = unread_replies_are_told moment began r.lent.pinned.session r.lent.pinned.place (seen r.seat) adds.own text tree reply fault (record {
+  fault_told fault why may u = unread_replies_are_told moment began r.lent.pinned.session r.lent.pinned.place (seen r.seat) adds.own text tree reply fault (record {
     holds = inl at;
     cause = cause fault why;
+    allowed = subst (λ (names : Names). MayFail fault (check_of tree text names)) (sym names_there) may;
     unread = u;
   })
 
@@ -115,4 +121,4 @@ pub read_replies_are_told : {D : Type 0} (moment : D → Moment) → ReadReplies
 read_replies_are_told moment r text tree reply read was comes at adds = words_told moment r text tree reply read was at adds comes
 
 pub failed_replies_are_told : {D : Type 0} (moment : D → Moment) → FailedRepliesAreTold moment
-failed_replies_are_told moment r text tree reply fault read was why u at adds = fault_told moment r text tree reply read was at adds fault why u
+failed_replies_are_told moment r text tree reply fault read was why may u at adds = fault_told moment r text tree reply read was at adds fault why may u

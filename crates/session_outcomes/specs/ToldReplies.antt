@@ -4,7 +4,9 @@ use Rattle.afl_outside.specs.Disk.{Moment}
 use Rattle.afl_trees.specs.Term.{Term}
 use Rattle.chunk_source.specs.declared.reading.fault.ExecFault.{ExecFault}
 use Rattle.chunk_source.specs.declared.reading.fault.ExecFault.TheVariants.{Source, Damaged, Memory}
+use Rattle.afl_types.specs.Checking.{check_of}
 use Rattle.statement_answers.specs.declared.outcome.Outcome.TheVariants.{Replied}
+use Rattle.statement_answers.specs.Outcomes.{MayFail}
 use Rattle.store_ledger.specs.declared.note.NoteKind.{NoteKind}
 use Rattle.store_ledger.specs.Ledger.{is_noted}
 use Rattle.store_state.specs.declared.event.Event.{Event}
@@ -12,7 +14,7 @@ use Rattle.session_sources.specs.Start.{Start}
 use Rattle.session_sources.specs.Seats.{ledger_seen, seen, session_of, start}
 use Rattle.session_replies.specs.Acts.{looking}
 use Rattle.session_replies.specs.Refusals.{IsUnreadReply}
-use Rattle.session_replies.specs.Replies.{words_of, BeganAsNone, HasFault, HasLine, HoldsBehindPin, HoldsWhereRefused, IsPayloadPage, IsToldFor}
+use Rattle.session_replies.specs.Replies.{names_before, words_of, BeganAsNone, HasFault, HasLine, HoldsBehindPin, HoldsWhereRefused, IsPayloadPage, IsToldFor}
 use Rattle.session_replies.specs.declared.reply.Reply.{Reply}
 use Rattle.session_sources.specs.declared.reading.Reading.{Reading}
 use Rattle.session_sources.specs.Courses.{AddsAtMostFault}
@@ -39,6 +41,7 @@ module _ {D : Type 0} (moment : D â†’ Moment) (start : Start D) (session pin : â
   pub record IsCausedSincePin (fault : ExecFault) : Type 0 where
     pub holds : HoldsWhereRefused moment start session pin events own text tree reply
     pub cause : IsCause fault
+    pub allowed : MayFail fault (check_of tree text (names_before start events reply.place))
     pub unread : IsUnreadReply fault reply
 
 -- WHAT IS SAID BEHIND A PIN IS TOLD by the reply of these words, and why a source gave no answer by the reply that refuses for it

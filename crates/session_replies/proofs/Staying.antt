@@ -32,7 +32,7 @@ use Rattle.told_stores.specs.Told.{entries_in, is_sealed, told}
 use Rattle.told_stores.proofs.Telling.{entries_in-append}
 use Rattle.session_replies.specs.Acts.{Course, nothing, looking, trying, making}
 use Rattle.session_replies.specs.Laws.{RepliesStay}
-use Rattle.session_replies.specs.Replies.{names_before, EnteredAt, HadNoRoom, HadRoomFor, HasFault, HoldsSincePin, HoldsWhereRefused, IsChangeAt, IsPayloadPage, IsToldFor, Says, SaysChange, WasAt, WasUncommitted}
+use Rattle.session_replies.specs.Replies.{names_before, EnteredAt, HadNoRoom, HadRoomFor, HasFault, HoldsSincePin, HoldsWhereRefused, IsAllowedAt, IsChangeAt, IsPayloadPage, IsToldFor, Says, SaysChange, WasAt, WasUncommitted}
 use Rattle.session_replies.specs.declared.reply.Reply.{Reply}
 use Rattle.session_replies.proofs.Beginnings.{history_stays, places_see_the_same, reached}
 
@@ -88,6 +88,9 @@ module _ {D : Type 0} (moment : D → Moment) (start : Start D) (old more : List
     begins = subst (λ (found : Option DirEntry). IsSomeAnd found (λ entry. page ≡ slice_index entry.pages 0))
         (sym ((places_see_the_same start old more place within sealed).payloads p.leaf p.at)) p.begins;
   }
+
+  allowed_later : IsAllowedAt start old text tree place → IsAllowedAt start (old ++ more) text tree place
+  allowed_later a = (a.0, ap (λ (names : Names). check_of tree text names) names_stay ∙ a.1)
 
   -- what is needed at a history is needed there whatever comes later
   fits_later : (h : History) (change : Change) → FitsAfter moment (told start old) h change → FitsAfter moment (told start (old ++ more)) h change
@@ -156,11 +159,16 @@ module _ {D : Type 0} (moment : D → Moment) (start : Start D) (session pin : �
   told_stays (Some (Typing span kind)) (trying change) t = absurd t
   told_stays (Some (Typing span kind)) (making change) t = absurd t
   told_stays (Some Disk) nothing t = absurd t
-  told_stays (Some Disk) looking t = (where_stays t.0, fault_stays t.1)
+  told_stays (Some Disk) looking t = (where_stays t.0, fault_stays t.1, allowed_later moment start old more text tree reply.place within t.2)
   told_stays (Some Disk) (trying change) t = (since_stays t.0, fault_stays t.1, uncommitted_stays change (faults.Disk reply.place) t.2)
   told_stays (Some Disk) (making change) t = absurd t
   told_stays (Some (Damaged page)) nothing t = absurd t
-  told_stays (Some (Damaged page)) looking t = (where_stays t.0, page_later moment start old more text tree reply.place within page sealed t.1, t.2)
+  told_stays (Some (Damaged page)) looking t = (
+    where_stays t.0,
+    page_later moment start old more text tree reply.place within page sealed t.1,
+    t.2,
+    allowed_later moment start old more text tree reply.place within t.3,
+  )
   told_stays (Some (Damaged page)) (trying change) t = absurd t
   told_stays (Some (Damaged page)) (making change) t = absurd t
   told_stays (Some (Cell at kind)) nothing t = absurd t

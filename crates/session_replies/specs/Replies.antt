@@ -13,6 +13,7 @@ use Rattle.logical_plan.specs.declared.parts.Leaf.{Leaf}
 use Rattle.plan_changes.specs.declared.change.Change.{Change}
 use Rattle.plan_changes.specs.Databases.{Database}
 use Rattle.afl_types.specs.Checking.{check_of}
+use Rattle.afl_types.specs.declared.statements.checking.Typed.{Typed}
 use Rattle.afl_types.specs.declared.statements.checking.Typed.TheVariants.{Change as AChange}
 use Rattle.event_core.specs.declared.entry.Entry.{Entry}
 use Rattle.event_core.specs.declared.entry.Entry.TheVariants.{Commit}
@@ -62,6 +63,10 @@ pub record SaysChange {D : Type 0} (moment : D → Moment) (start : Start D) (ev
 -- by the names at a place it is a change
 abbrev pub IsChangeAt : {D : Type 0} → Start D → List Event → List ℕ → Term → ℕ → Type 0
 IsChangeAt start events text tree place = (change : Change) × (check_of tree text (names_before start events place) ≡ Ok (AChange change))
+
+-- by the names at a place it breaks no rule
+abbrev pub IsAllowedAt : {D : Type 0} → Start D → List Event → List ℕ → Term → ℕ → Type 0
+IsAllowedAt start events text tree place = (typed : Typed) × (check_of tree text (names_before start events place) ≡ Ok typed)
 
 -- an entry came at a place, behind so many entries
 pub record EnteredAt (least : ℕ) (entry : Entry) (place : ℕ) (events : List Event) : Type 0 where
@@ -142,9 +147,10 @@ module _ {D : Type 0} (moment : D → Moment) (start : Start D) (session pin : �
   IsToldFor (Some (Typing span kind)) looking = HoldsWhereRefused × SaysReply
   IsToldFor (Some (Cell at kind)) looking = HoldsWhereRefused × SaysReply
   IsToldFor (Some HistoryFull) nothing = (then : List Event) × WasAt reply.place then new × (has_room (ledger_of start then) 4 ≡ false)
-  IsToldFor (Some Disk) looking = HoldsWhereRefused × HasFault session own
+  IsToldFor (Some Disk) looking = HoldsWhereRefused × HasFault session own × IsAllowedAt start new text tree reply.place
   IsToldFor (Some Disk) (trying change) = HoldsSincePin × HasFault session own × WasUncommitted change (faults.Disk reply.place)
   IsToldFor (Some (Damaged page)) looking = HoldsWhereRefused × IsPayloadPage start new reply.place page × BeganAsNone moment start
+      × IsAllowedAt start new text tree reply.place
   IsToldFor (Some SequenceEnd) (trying change) = HoldsSincePin × WasUncommitted change (faults.SequenceEnd reply.place)
   IsToldFor (Some (Full needed free)) (trying change) = HoldsSincePin × WasUncommitted change (faults.Full needed free reply.place)
   IsToldFor (Some Memory) nothing = Unit {0}

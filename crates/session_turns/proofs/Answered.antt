@@ -6,6 +6,7 @@ use Rattle.std.proofs.lemmas.Option.{none-some}
 use Rattle.afl_outside.specs.Disk.{Moment}
 use Rattle.afl_trees.specs.Term.{Term}
 use Rattle.array_geom.specs.declared.chunk.Changed.{Changed}
+use Rattle.afl_types.specs.Checking.{check_of}
 use Rattle.chunk_source.specs.declared.reading.fault.ExecFault.{ExecFault}
 use Rattle.chunk_source.specs.declared.reading.fault.ExecFault.TheVariants.{Source, Damaged as Spoiled, Memory as Wanting}
 use Rattle.logical_plan.specs.declared.names.Names.{Names}
@@ -18,6 +19,7 @@ use Rattle.result_print.specs.declared.refusal.Refusal.TheVariants.{Disk, Damage
 use Rattle.statement_answers.specs.declared.outcome.Outcome.{Outcome}
 use Rattle.statement_answers.specs.declared.outcome.Outcome.TheVariants.{Replied, Changes}
 use Rattle.statement_answers.specs.Forms.{a_change, form_said}
+use Rattle.statement_answers.specs.Outcomes.{IsAllowed, MayFail}
 use Rattle.statement_answers.proofs.Saying.{changes_refused}
 use Rattle.statement_replies.specs.declared.replies.Reply.{Reply as Told}
 use Rattle.statement_replies.specs.Reply.{refused}
@@ -49,7 +51,7 @@ use Rattle.session_outcomes.specs.Told.{entries_in, ledger_of, told, IsTold}
 use Rattle.session_outcomes.specs.Refusals.{IsUncommittedReply, IsUnreadReply, IsWant, Refuses}
 use Rattle.session_outcomes.proofs.Staying.{says_later}
 use Rattle.session_outcomes.specs.Acts.{acts_in, looking, making, makes, tries, trying}
-use Rattle.session_outcomes.specs.Replies.{names_before, words_of, BeganAsNone, EnteredAt, HadRoomFor, HasLine, HoldsWhereRefused, IsChangeAt, IsPayloadPage, IsToldFor, Says, SaysChange, WasUncommitted}
+use Rattle.session_outcomes.specs.Replies.{names_before, words_of, BeganAsNone, EnteredAt, HadRoomFor, HasLine, HoldsWhereRefused, IsAllowedAt, IsChangeAt, IsPayloadPage, IsToldFor, Says, SaysChange, WasUncommitted}
 use Rattle.session_outcomes.specs.Reply.{Reply}
 use Rattle.session_outcomes.specs.Said.{IsSaid}
 use Rattle.session_outcomes.specs.ToldReplies.{IsLookedReply}
@@ -141,6 +143,13 @@ module _ {D : Type 0} (moment : D → Moment) (session : ℕ) (old new : Turn (S
     read_history : reverse (entries_in (events n)) ≡ reap_if false (reverse s.ledger.entries)
     read_history = ap (λ (es : List Entry). reverse es) (entries_are n ∙ same_entries)
 
+    -- the names at its place are those over which it was read
+    names_told : reply.place ≡ length n.ledger.entries → names_before began (events n) reply.place ≡ names_now s.ledger
+    names_told at = ap (names_before began (events n)) (at_end few_more at) ∙ names_there moment session old has (events n) false read_history
+
+    allowed_told : reply.place ≡ length n.ledger.entries → IsAllowed (check_of tree text (names_now s.ledger)) → IsAllowedAt began (events n) text tree reply.place
+    allowed_told at a = (a.0, ap (λ (names : Names). check_of tree text names) (names_told at) ∙ a.1)
+
     -- a damaged page is told of an array that can be named
     page_told : (page : ℕ) → reply.place ≡ length n.ledger.entries → read.marks.damaged ≡ Some page → IsPayloadPage began (events n) reply.place page
     page_told page at e =
@@ -154,8 +163,7 @@ module _ {D : Type 0} (moment : D → Moment) (session : ℕ) (old new : Turn (S
         record {
           leaf = b.leaf;
           at = b.number;
-          named = subst (λ (names : Names). IsLeafOf names b.leaf)
-              (sym (ap (names_before began (events n)) (at_end few_more at) ∙ names_there moment session old has (events n) false read_history)) b.of;
+          named = subst (λ (names : Names). IsLeafOf names b.leaf) (sym (names_told at)) b.of;
           begins = subst (λ found. IsSomeAnd found (λ entry. page ≡ slice_index entry.pages 0)) seen b.begins;
         }
 
@@ -216,16 +224,17 @@ module _ {D : Type 0} (moment : D → Moment) (session : ℕ) (old new : Turn (S
         refuses moment began session pin (events s) (events n) text tree reply keeps.extends before_unread within_unread
         looking [] (read_acts (Err fault) read) refl refusal line r says (λ own noted. tt)
 
-    unread_by : (why : ExecFault) → IsWhy read.marks why → IsUnreadReply why reply → Answer
-    unread_by Source why r = refuses_unread Disk (λ e. e) r (λ own noted. (refused_later own, noted (noted_after (read.held.faults why))))
-    unread_by (Spoiled page) why r = refuses_unread (Damaged page) (λ e. e) r
-        (λ own noted. (refused_later own, page_told (Err fault) read page at why, none_began (Err fault) read page why))
-    unread_by Wanting why w =
+    unread_by : (why : ExecFault) → IsWhy read.marks why → MayFail why (check_of tree text (names_now s.ledger)) → IsUnreadReply why reply → Answer
+    unread_by Source why may r = refuses_unread Disk (λ e. e) r
+        (λ own noted. (refused_later own, noted (noted_after (read.held.faults why)), allowed_told (Err fault) read at may))
+    unread_by (Spoiled page) why may r = refuses_unread (Damaged page) (λ e. e) r
+        (λ own noted. (refused_later own, page_told (Err fault) read page at why, none_began (Err fault) read page why, allowed_told (Err fault) read at may))
+    unread_by Wanting why may w =
         answered moment began session pin (events s) (events n) text tree reply keeps.extends before_unread within_unread
         looking [] (read_acts (Err fault) read) refl (Some Memory) w.1 w.0 (λ own noted. tt)
 
     unread_answer : IsUnreadReply fault reply → Answer
-    unread_answer r = unread_by fault read.why r
+    unread_answer r = unread_by fault read.why read.allowed r
 
   -- ---- its change was tried
 

@@ -63,8 +63,8 @@ module _ {D : Type 0} (moment : D â†’ Moment) (start : Start D) (session pin : â
     earlier_pin later own HistoryFull t = absurd t
     earlier_pin later own NotBuilt t = absurd t
     earlier_pin later own (Typing span kind) t = (later_refused own, t.1)
-    earlier_pin later own Disk t = (later_refused own, t.1)
-    earlier_pin later own (Damaged page) t = (later_refused own, t.1, t.2)
+    earlier_pin later own Disk t = (later_refused own, t.1, t.2)
+    earlier_pin later own (Damaged page) t = (later_refused own, t.1, t.2, t.3)
     earlier_pin later own (Cell at kind) t = (later_refused own, t.1)
     earlier_pin later own SequenceEnd t = absurd t
     earlier_pin later own (Full needed free) t = absurd t

@@ -7,7 +7,9 @@ use Rattle.chunk_source.specs.declared.reading.fault.ExecFault.{ExecFault}
 use Rattle.chunk_source.specs.declared.reading.fault.ExecFault.TheVariants.{Source, Damaged, Memory}
 use Rattle.plan_changes.specs.declared.change.Change.{Change}
 use Rattle.statement_answers.specs.declared.outcome.Outcome.{Outcome}
+use Rattle.afl_types.specs.Checking.{check_of}
 use Rattle.statement_answers.specs.declared.outcome.Outcome.TheVariants.{Replied, Changes}
+use Rattle.statement_answers.specs.Outcomes.{MayFail}
 use Rattle.statement_replies.specs.declared.replies.Reply.{Reply as Told}
 use Rattle.session_sources.specs.Owners.{ExtendsByOwn}
 use Rattle.session_sources.specs.Turn.{Turn}
@@ -53,6 +55,7 @@ pub record IsRead {D : Type 0} (moment : D → Moment) (session : ℕ) (old new 
   pub held : HasHeld moment (holding_of session old new marks)
   pub comes : IfOk outcome (ComesOver (names_now (store_of old).ledger) (held_state moment (unheld session old)) text tree)
   pub why : IfErr outcome (IsWhy marks)
+  pub allowed : IfErr outcome (λ fault. MayFail fault (check_of tree text (names_now (store_of old).ledger)))
 
 -- the reply to a commit that was tried, when so many entries were seen then
 abbrev pub TellsCommit : ℕ → Told → Result ℕ CommitFault → Reply → Type 0
