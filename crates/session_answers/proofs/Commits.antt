@@ -30,7 +30,7 @@ use Rattle.session_turns.proofs.Telling.{entries_in-append}
 use Rattle.session_turns.specs.Acts.{Act, acts_for, acts_in, begins, ends, makes, trying, making}
 use Rattle.session_turns.specs.Fresh.{IsNamedAt}
 use Rattle.session_turns.specs.Refusals.{IsUncommittedReply, IsWant, Refuses}
-use Rattle.session_turns.specs.Replies.{names_before, words_of, HasLine, HoldsSincePin, IsToldFor, Says, SaysChange, WasAt}
+use Rattle.session_turns.specs.Replies.{names_before, words_of, HadRoomFor, HasLine, HoldsSincePin, IsToldFor, Says, SaysChange, WasAt}
 use Rattle.session_turns.specs.Reply.{Reply}
 use Rattle.session_turns.specs.Courses.{AddsOwn}
 use Rattle.session_turns.specs.Start.{Start}
@@ -187,7 +187,11 @@ module _ {D : Type 0} (moment : D → Moment) (start : Start D) (pinned : Pinned
     refused_is_answered (faults.Disk place) u why =
         let at : reply.place ≡ here = u.1 ∙ why.0 ∙ count in
         refusing Disk u.0 at (λ line. line)
-        (holds at, fault_is_own start pinned.session own first new adds a.untried why.1 (trying change) acts, said at)
+        (
+          holds at,
+          fault_is_own start pinned.session own first new adds a.untried why.1 (trying change) acts,
+          (said at, (new, was at, subst (λ (p : ℕ). IsUncommitted moment pinned.session change (told start new) (faults.Disk p)) (sym u.1) why)),
+        )
     refused_is_answered faults.Memory u why = wanting u.0 (u.1 ∙ count)
 
   -- ---- one that was made
@@ -219,9 +223,10 @@ module _ {D : Type 0} (moment : D → Moment) (start : Start D) (pinned : Pinned
         (ap acts_in (own_first pinned.session pinned.session (Acknowledged (Commit pinned.session change m.used) m.moment m.directory) [] refl
         (eq-eqb pinned.session pinned.session refl)))))
 
-    pub made_is_answered : (words : Told) → Says moment start old text tree (pinned.place + 1) (record { reply = words; change = Some change }) →
+    -- there was room for it where it came
+    pub made_is_answered : (words : Told) → HadRoomFor moment start new reply.place change → Says moment start old text tree (pinned.place + 1) (record { reply = words; change = Some change }) →
         words_of reply ≡ words → reply.place + 1 ≡ length (entries_in new) → Answered
-    made_is_answered words says_words same last =
+    made_is_answered words room says_words same last =
         let accepted : reply.refusal ≡ None = ap (λ (w : Told). w.refusal) same ∙ said_accepts moment start old text tree (pinned.place + 1) change words says says_words in
         let count : length (entries_in new) ≡ made_at + 1 =
         ap (λ (es : List Entry). length es) made_entries ∙ length-append (entries_in front) (Commit pinned.session change m.used ∷ []) in
@@ -249,5 +254,6 @@ module _ {D : Type 0} (moment : D → Moment) (start : Start D) (pinned : Pinned
             ),
             subst (λ (w : Told). Says moment start new text tree reply.place (record { reply = w; change = Some change })) (sym same)
                 (subst (λ (place : ℕ). Says moment start new text tree place (record { reply = words; change = Some change })) (sym at) says_here),
+            room,
           );
         }

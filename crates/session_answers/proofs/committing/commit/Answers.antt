@@ -1,6 +1,7 @@
 use Rattle.std.proofs.Common.{◌∙◌, ◌+◌, [], ap, subst, sym}
 use Rattle.session_turns.specs.Turns.{Adds}
 use Rattle.session_turns.specs.Refusals.{IsUncommittedReply}
+use Rattle.session_turns.specs.Replies.{HadRoomFor}
 use Rattle.session_turns.proofs.Under.{pin_within}
 use Rattle.session_turns.specs.Seats.{seen, session_of, start}
 use Rattle.session_answers.proofs.Commits.{change_under, held_behind, made_is_answered, refused_is_answered, still_untried}
@@ -31,13 +32,17 @@ returns-in-Ok-Done g c =
     let said = c.at_place.ensures in
     let idle = rw c.in-Ok-Done.field-0-is at e.idle in
     let done = rw c.in-Ok-Done.field-0-is at e.done in
+    let next = rw c.in-Ok-Done.field-0-is at e.next in
+    let fits = rw c.in-Ok-Done.field-0-is at e.fits in
     let place = rw c.in-Ok-Done.field-0-is at e.place in record {
       seat = (e.seat, idle);
       same = e.same;
       reads = e.reads;
       pin = e.pin;
       answered = λ first before a. made_is_answered moment began c.args.pinned.now c.args.change first before old (seen c.commit.new.seat) c.args.text.now c.args.tree.now c.at_place.result
-          a o (pin_within began old c.args.pinned.now o) (named_behind moment began old c.args.pinned.now o r.database) r.typed done c.args.words r.said said.words
+          a o (pin_within began old c.args.pinned.now o) (named_behind moment began old c.args.pinned.now o r.database) r.typed done c.args.words
+          (subst (λ place. HadRoomFor moment began (seen c.commit.new.seat) place c.args.change) (sym said.place) (record { next = next; fits = fits }))
+          r.said said.words
           (ap (λ place. place + 1) said.place ∙ place);
     }
 
