@@ -176,9 +176,9 @@ module _ (words : List Word) (device pages history first : ℕ) (one : IsForm wo
         subst (λ (w : Word). RunsScripts moment source_state sink_state old new notice entries sessions free w run.scripts p h disk) (same_device name is)
         (subst (λ (l : List Word). RunsScripts moment source_state sink_state old new notice entries sessions free name l p h disk) same_scripts
         (subst (λ (n : ℕ). RunsScripts moment source_state sink_state old new notice entries sessions free name (drop first words) n h disk)
-            (same_pages words device pages history first one p h f run)
+        (same_pages words device pages history first one p h f run)
         (subst (λ (n : ℕ). RunsScripts moment source_state sink_state old new notice entries sessions free name (drop first words) pages n disk)
-            (same_history words device pages history first one p h f run) runs)))
+        (same_history words device pages history first one p h f run) runs)))
 
 module _ (words : List Word) (device : ℕ) (one : IsForm words (Init device)) where
   pub init_device : slice_get words device ≡ Some one.1.device

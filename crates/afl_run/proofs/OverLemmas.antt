@@ -107,10 +107,10 @@ module _ {D S K : Type 0} (moment : D → Moment) (source_state : S → SourceSt
   disk_goes_on disk limits streams store run began same ran = elim ran [
     | inl lacks ↦ subst (λ (d : D). DiskGoesOn (moment disk).state (moment d).state) (sym lacks.is_disk) same
     | inr runs ↦
-      let end = runs.0 in
-      let over = runs_over disk limits streams store end run began runs.1 in
-      subst (λ (d : D). DiskGoesOn (moment disk).state (moment d).state) (sym over.runs.ends.is_disk)
-      (goes (moment disk).state (moment end.opened.disk).state (moment end.disk).state over.opened.synced.same over.runs.ends.goes_on)
+        let end = runs.0 in
+        let over = runs_over disk limits streams store end run began runs.1 in
+        subst (λ (d : D). DiskGoesOn (moment disk).state (moment d).state) (sym over.runs.ends.is_disk)
+        (goes (moment disk).state (moment end.opened.disk).state (moment end.disk).state over.opened.synced.same over.runs.ends.goes_on)
   ]
 
   -- what is told where no session ran

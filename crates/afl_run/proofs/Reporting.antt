@@ -58,9 +58,10 @@ zip_places P Q R [] [] (z ∷ zs) step count all places = absurd (omega (arith, 
 zip_places P Q R [] (y ∷ ys) zs step count all places = absurd all
 zip_places P Q R (x ∷ xs) [] zs step count all places = absurd all
 zip_places P Q R (x ∷ xs) (y ∷ ys) [] step count all places = absurd (omega (arith, count))
-zip_places P Q R (x ∷ xs) (y ∷ ys) (z ∷ zs) step count all places =
-    (step x y z all.0 (places zero y z (omega arith)),
-    zip_places P Q R xs ys zs step (omega (arith, count)) all.1 (λ k b c within. places (suc k) b c (omega (arith, within))))
+zip_places P Q R (x ∷ xs) (y ∷ ys) (z ∷ zs) step count all places = (
+  step x y z all.0 (places zero y z (omega arith)),
+  zip_places P Q R xs ys zs step (omega (arith, count)) all.1 (λ k b c within. places (suc k) b c (omega (arith, within))),
+)
 
 -- what holds of the streams of each script holds of those of each place
 pub zip_at : {A B : Type 0} (P : A → B → Type 0) (xs : List A) (ys : List B) (k : ℕ) (x : A) (y : B) → AllZip P xs ys → k < length ys → P (get_or xs k x) (get_or ys k y)

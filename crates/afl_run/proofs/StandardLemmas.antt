@@ -129,7 +129,7 @@ module _ {S K : Type 0} (source_state : S → SourceState) (sink_state : K → S
 
     pub tries_ran : IsUnrun sure_disk_moment disk run ⊎ ((end : Standing SureBytes) × RunsOver sure_disk_moment source_state sink_state disk limits streams end run)
         → RunsTry sure_disk_moment source_state sink_state old now run.notice run.history run.sessions run.free_pages
-    tries_ran ran = elim ran [ | inl unrun ↦ tries_unrun unrun | inr over ↦ tries_over over.0 over.1 ]
+    tries_ran ran = elim ran [ inl unrun ↦ tries_unrun unrun | inr over ↦ tries_over over.0 over.1 ]
 
 -- nothing was opened
 pub tries_not : {S K : Type 0} (source_state : S → SourceState) (sink_state : K → SinkState) (old : ShelfState)

@@ -214,7 +214,7 @@ module _ {D S K : Type 0} (moment : D → Moment) (source_state : S → SourceSt
 
     pub on_ran : IsUnrun moment disk run ⊎ ((end : Standing D) × RunsOver moment source_state sink_state disk limits streams end run)
         → RunsOn moment source_state sink_state old now run.notice run.history run.sessions run.free_pages disk scripts limits.pages limits.history (Some run.disk)
-    on_ran ran = elim ran [ | inl unrun ↦ on_unrun unrun | inr over ↦ on_over over.0 over.1 ]
+    on_ran ran = elim ran [ inl unrun ↦ on_unrun unrun | inr over ↦ on_over over.0 over.1 ]
 
 -- ---- a report that has these parts
 
@@ -271,7 +271,7 @@ module _ (asked : Word) (scripts : List Word) (old mid : ShelfState) (others : L
       some_each (λ script. IsUnopened script mid new) (λ script. IsUnopened script old new) (IsToldTheSame old mid) scripts stream.0 told_same
           (λ script same is. record {
             rose = rose_since old.faults mid.faults new.faults others.later is.rose;
-            untold = elim is.untold [ | inl none ↦ inl (sym same.0 ∙ none) | inr none ↦ inr (sym same.1 ∙ none) ];
+            untold = elim is.untold [ inl none ↦ inl (sym same.0 ∙ none) | inr none ↦ inr (sym same.1 ∙ none) ];
           })
           stream.2,
     )
@@ -334,14 +334,18 @@ module _ {D S K : Type 0} (moment : D → Moment) (source_state : S → SourceSt
     is_asked = tt;
     others = leaves_asked asked (stream_names scripts) old now now others (leaves_same (stream_names scripts) now);
     handed = record { replies = 0; handed = λ fits. omega (arith, handed); most = omega arith; reported = inl refl };
-    none = λ is. (refl, refl, elim fails [
-      | inl want ↦ subst (λ (n : Notice). TellsUnrun n asked scripts None old now) (sym want.0) tt
-      | inr fault ↦ subst (λ (n : Notice). TellsUnrun n asked scripts None old now) (sym fault.0) (inr (refl, fault.1, fault.2))
-    ]);
+    none = λ is. (
+      refl,
+      refl,
+      elim fails [
+        | inl want ↦ subst (λ (n : Notice). TellsUnrun n asked scripts None old now) (sym want.0) tt
+        | inr fault ↦ subst (λ (n : Notice). TellsUnrun n asked scripts None old now) (sym fault.0) (inr (refl, fault.1, fault.2))
+      ],
+    );
     told = λ ran. absurd (ran refl);
     one = λ ran. absurd (ran refl);
   }
 
 -- where memory was short, nothing more need be told
 pub fails_or_memory : {X Memory Fails : Type 0} → (Memory × X) ⊎ Fails → Memory ⊎ Fails
-fails_or_memory fails = elim fails [ | inl memory ↦ inl memory.0 | inr why ↦ inr why ]
+fails_or_memory fails = elim fails [ inl memory ↦ inl memory.0 | inr why ↦ inr why ]

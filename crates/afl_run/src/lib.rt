@@ -10,7 +10,5 @@ mod top;
 
 pub use command_words::Arg;
 pub use report::Report;
-pub use session_reports::{
-    Mark, Notice, Refusal, SessionEnd, SessionReport, notice_line,
-};
+pub use session_reports::{Mark, Notice, Refusal, SessionEnd, SessionReport, notice_line};
 pub use top::run;

@@ -8,12 +8,10 @@ ghost use Rattle.store_state.specs.Standings.{Standing};
 ghost use Rattle.afl_run.specs.Inner.Over.{IsUnrun, LacksMemory, RunsOver, RunsTo};
 
 use afl_outside::{Disk, Gate, Sink, Source};
-use session_threads::Options;
-use run_stores::Store;
 use cell_values::{List, Memory};
-use run_stores::{Limits, StoreRun, close_store, open_store};
+use run_stores::{Limits, Store, StoreRun, close_store, open_store};
 use session_reports::{Notice, Streams};
-use session_threads::run_sessions;
+use session_threads::{Options, run_sessions};
 use std::alloc::Global;
 use std::sync::Wait;
 use std::thread::Threads;

@@ -53,12 +53,14 @@ pub fn run<F: Shelf, R: Threads + Wait + Sync, G: Gate>(
             let name = word_at(words, device);
             run_init(alloc, name.as_str(), shelf)
         }
-        Ok(Form::Run {
-            device,
-            pages,
-            history,
-            scripts,
-        }) => {
+        Ok(
+            Form::Run {
+                device,
+                pages,
+                history,
+                scripts,
+            },
+        ) => {
             let limits = Limits { pages, history };
             let target = word_at(words, device);
             let listed = words_from(words, scripts);

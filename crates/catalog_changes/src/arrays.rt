@@ -7,9 +7,7 @@ ghost use Rattle.version_catalog.specs.Stored.{is_before};
 ghost use Rattle.catalog_changes.specs.Records.{entries_of, is_array, with_new, with_directory, from_version, without};
 
 use cell_values::{List, Memory, Name, Schema};
-use version_catalog::NameEntry;
-use version_catalog::{from_number, is_before, is_same};
-use version_catalog::{BlobAt, CatalogArray};
+use version_catalog::{BlobAt, CatalogArray, NameEntry, from_number, is_before, is_same};
 
 /// How many arrays come before a name.
 fn place_of(arrays: &List<CatalogArray>, name: &Name) -> usize

@@ -9,8 +9,7 @@ ghost use Rattle.catalog_changes.specs.Changed.{stored_by, record_for, has_its_d
 use crate::arrays::{from_version, with_directory, with_first, with_new, without};
 use crate::rules::has_array;
 use cell_values::{List, Memory, Name, Schema};
-use version_catalog::Change;
-use version_catalog::{BlobAt, Catalog, CatalogArray, CatalogRecord};
+use version_catalog::{BlobAt, Catalog, CatalogArray, CatalogRecord, Change};
 
 /// The arrays after a record that they allow.
 fn recorded(arrays: List<CatalogArray>, entry: &CatalogRecord) -> Result<List<CatalogArray>, Memory>

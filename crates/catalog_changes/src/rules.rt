@@ -7,8 +7,7 @@ ghost use Rattle.version_catalog.specs.Changes.{has_array, last_of, newest_of};
 ghost use Rattle.catalog_changes.specs.Records.{entries_of, is_array, newest_in, is_allowed};
 
 use cell_values::{List, Name};
-use version_catalog::{is_same, last_of};
-use version_catalog::{Catalog, CatalogArray, CatalogRecord};
+use version_catalog::{Catalog, CatalogArray, CatalogRecord, is_same, last_of};
 
 fn any_array(arrays: &List<CatalogArray>, name: &Name) -> bool
     ensures { result ≡ list_any (is_array name.now) arrays.now }

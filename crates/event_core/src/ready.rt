@@ -14,8 +14,7 @@ use crate::marks::Marks;
 use crate::next::{NextPages, changed_pages, next_pages};
 use crate::{Core, Used};
 use cell_values::{List, Memory};
-use plan_changes::Names;
-use plan_changes::{Change, changed_names};
+use plan_changes::{Change, Names, changed_names};
 use std::marker::Model;
 use std::snapshot::Snapshot;
 

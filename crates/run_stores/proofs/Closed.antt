@@ -41,8 +41,8 @@ closed {D} moment old reaped end run is same at ledger goes_on disk history page
           is_disk = disk;
           is_history = history;
           ledger = ledger;
-        ordered = at.kept.in_order.ordered;
-        counted = at.kept.noted;
+          ordered = at.kept.in_order.ordered;
+          counted = at.kept.noted;
           pages = pages ∙ ap (λ (p : StoreParts D). length (unused_pages p.ledger)) (sym same);
           reaped = now.done;
           cells = holds moment end at;

@@ -4,7 +4,7 @@
 mod closing;
 mod opening;
 
+pub use array_store::Store;
 pub use closing::{StoreRun, close_store};
 pub use opening::open_store;
 pub use store_opening::Limits;
-pub use array_store::Store;

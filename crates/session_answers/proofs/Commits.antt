@@ -186,8 +186,7 @@ module _ {D : Type 0} (moment : D → Moment) (start : Start D) (pinned : Pinned
         (holds at, (said at, (new, was at, subst (λ (p : ℕ). IsUncommitted moment pinned.session change (told start new) (faults.Full needed free p)) (sym u.1) why)))
     refused_is_answered (faults.Disk place) u why =
         let at : reply.place ≡ here = u.1 ∙ why.0 ∙ count in
-        refusing Disk u.0 at (λ line. line)
-        (
+        refusing Disk u.0 at (λ line. line) (
           holds at,
           fault_is_own start pinned.session own first new adds a.untried why.1 (trying change) acts,
           (said at, (new, was at, subst (λ (p : ℕ). IsUncommitted moment pinned.session change (told start new) (faults.Disk p)) (sym u.1) why)),

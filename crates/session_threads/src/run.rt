@@ -17,11 +17,10 @@ use afl_outside::{Disk, Gate, Sink, Source};
 use afl_session::{Options, SessionReport};
 use cell_values::{List, Memory};
 use session_reports::Streams;
-use snapshot_manager::{Seat, Shared};
+use snapshot_manager::{Seat, Shared, Store};
 use std::alloc::Global;
 use std::sync::Wait;
 use std::thread::Threads;
-use snapshot_manager::Store;
 
 /// Answers a script for each of these streams over a store in which nothing was done yet, each session on a thread of its own, and
 /// reaps beside them. Without memory nothing is done, and all comes back.

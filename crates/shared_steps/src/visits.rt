@@ -15,12 +15,11 @@ use afl_outside::Disk;
 use array_geom::Changed;
 use cell_values::Name;
 use plan_changes::{Change, changed_name, has_its_names, newest_of};
-use snapshot_manager::{Commit, Seat, Shared, StoreTurn};
+use snapshot_manager::{Commit, Seat, Shared, Store, StoreTurn};
 use std::alloc::Global;
 use std::sync::Wait;
 use store_ledger::{PinFault, Pinned};
 use test_stores::{Answer as StoreAnswer, Offer, offer_over};
-use snapshot_manager::Store;
 
 /// What a session has of a shared store.
 #[derive(Drop)]

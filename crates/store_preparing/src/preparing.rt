@@ -23,12 +23,11 @@ use array_geom::Changed;
 use cell_values::Memory;
 use page_file::PageFile;
 use plan_changes::Change;
-use prepared_commits::{PrepareFault, Prepared};
+use prepared_commits::{PrepareFault, Prepared, StoreParts};
 use prepared_costs::{Written, commits_need_what_they_cost, draft};
 use prepared_parts::prepared_over;
 use std::alloc::Global;
 use std::snapshot::Snapshot;
-use prepared_commits::StoreParts;
 use store_versions::ReadyVersion;
 
 /// What is written of the chunks of a change, which are let go.

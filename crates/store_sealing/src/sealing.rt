@@ -18,8 +18,7 @@ use crate::finishing::finish;
 use crate::laws::commits_hold;
 use crate::writing::write_prepared;
 use afl_outside::{Disk, Failed};
-use prepared_commits::Prepared;
-use prepared_commits::StoreParts;
+use prepared_commits::{Prepared, StoreParts};
 
 /// Commits what is prepared: writes it, and then adds its entry. This takes no memory. Where the device fails, names and history stay as
 /// they are, and the change may be in doubt.

@@ -103,7 +103,11 @@ fn tell_words(rt: &(impl Print + AllocGlobal + Threads + Wait + Sync), text: &[u
 }
 
 /// Runs `init db` over a device of so many zero bytes, whose listed calls fail.
-fn tell_device(rt: &(impl Print + AllocGlobal + Threads + Wait + Sync), length: usize, fails: &[u64]) -> Result<()> {
+fn tell_device(
+    rt: &(impl Print + AllocGlobal + Threads + Wait + Sync),
+    length: usize,
+    fails: &[u64],
+) -> Result<()> {
     let alloc = rt.alloc();
     let shelf = device_of(alloc, length, fails)?;
     let words = [

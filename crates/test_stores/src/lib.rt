@@ -11,10 +11,10 @@ mod pins;
 mod statements;
 
 pub use answers::Answer;
+pub use array_store::Store;
 pub use changes::{Offer, offer_over};
 pub use commits::{changed, once};
 pub use holds::Hold;
 pub use opening::opened;
 pub use pins::{pinned, reaped, unpinned};
 pub use statements::{Refused, statement};
-pub use array_store::Store;

@@ -7,8 +7,7 @@ ghost use Rattle.check_rules.specs.NewSchema.{by_new_schema, of_new_schema};
 
 use crate::rules::{TypeFault, broken};
 use cell_values::{Attribute, Dimension, Memory, Schema, Span};
-use plan_schemas::{Plan, let_go};
-use plan_schemas::schema_of;
+use plan_schemas::{Plan, let_go, schema_of};
 use schema_grammar::TypeKind;
 use std::alloc::Global;
 

@@ -9,7 +9,7 @@ returns-in-Ok-clause-makes g c =
     let r = c.made.result in
     let e = c.made.ensures in
     makes moment state c.args.name.now (state c.args.shelf) c.open_device.new.shelf r.shelf (moment c.in-Ok.disk) r.notice r.disk
-        device.new device.content device.others device.handed e.shelf e.same e.tells e.opened
+    device.new device.content device.others device.handed e.shelf e.same e.tells e.opened
 
 pub returns-in-Err-clause-makes : goal.returns-in-Err-clause-makes
 returns-in-Err-clause-makes g c =
@@ -18,4 +18,4 @@ returns-in-Err-clause-makes g c =
     let r = c.unrun.result in
     let e = c.unrun.ensures in
     makes_nothing g.F.Device.Disk.moment state c.args.name.now (state c.args.shelf) c.open_device.new.shelf r.shelf c.in-Err.notice r.notice r.disk
-        told.cause told.others told.handed e.shelf e.notice e.disk
+    told.cause told.others told.handed e.shelf e.notice e.disk

@@ -29,14 +29,14 @@ returns-in-Ok-clause-runs g c =
     let s = c.in-Ok.ensures in
     let is = c.requires.name in
     reported state
-        (λ (now : ShelfState) (n : Notice) (h : List Entry) (reports : List (SessionReport g.row.F-S.Denot g.row.F-K.Denot)) (f : ℕ) (d : Option SureBytes).
-            RunsTry sure_disk_moment source sink old now n h reports f)
-        r.shelf c.open_streams.new.shelf r.notice run.notice r.history run.history r.sessions run.sessions r.free_pages run.free_pages None None
-        e.shelf e.notice e.history e.sessions e.free_pages refl
-        (tries_ran source sink old now c.args.disk (record { pages = 65536; history = 1048576 }) c.in-Ok.streams run c.requires.empty
-            (subst (λ (names : List Word). AreOpenedFor source sink old names c.in-Ok.streams) is s.opened)
-            (subst (λ (names : List Word). LeavesUnasked (stream_names names) old now) is s.others)
-            (subst (λ (names : List Word). HandsOut (length names) old now) is s.handed) refl refl c.run_over-run.ensures.run)
+    (λ (now : ShelfState) (n : Notice) (h : List Entry) (reports : List (SessionReport g.row.F-S.Denot g.row.F-K.Denot)) (f : ℕ) (d : Option SureBytes).
+    RunsTry sure_disk_moment source sink old now n h reports f)
+    r.shelf c.open_streams.new.shelf r.notice run.notice r.history run.history r.sessions run.sessions r.free_pages run.free_pages None None
+    e.shelf e.notice e.history e.sessions e.free_pages refl
+    (tries_ran source sink old now c.args.disk (record { pages = 65536; history = 1048576 }) c.in-Ok.streams run c.requires.empty
+    (subst (λ (names : List Word). AreOpenedFor source sink old names c.in-Ok.streams) is s.opened)
+    (subst (λ (names : List Word). LeavesUnasked (stream_names names) old now) is s.others)
+    (subst (λ (names : List Word). HandsOut (length names) old now) is s.handed) refl refl c.run_over-run.ensures.run)
 
 pub returns-in-Err-clause-runs : goal.returns-in-Err-clause-runs
 returns-in-Err-clause-runs g c =
@@ -50,11 +50,11 @@ returns-in-Err-clause-runs g c =
     let s = c.in-Err.ensures in
     let is = c.requires.name in
     reported state
-        (λ (now : ShelfState) (n : Notice) (h : List Entry) (reports : List (SessionReport g.row.F-S.Denot g.row.F-K.Denot)) (f : ℕ) (d : Option SureBytes).
-            RunsTry sure_disk_moment source sink old now n h reports f)
-        r.shelf c.open_streams.new.shelf r.notice c.in-Err.notice r.history _ r.sessions _ r.free_pages _ None None
-        e.shelf e.notice e.history e.sessions e.free_pages refl
-        (tries_nothing source sink old now c.in-Err.notice
-            (subst (λ (names : List Word). LeavesUnasked (stream_names names) old now) is s.others)
-            (subst (λ (names : List Word). HandsOutSome (length names) old now) is s.some)
-            (fails_or_memory (subst (λ (names : List Word). ((c.in-Err.notice ≡ Memory) × (c.open_streams.new.shelf ≡ c.args.shelf)) ⊎ FailsToOpen names c.in-Err.notice old now) is s.cause)))
+    (λ (now : ShelfState) (n : Notice) (h : List Entry) (reports : List (SessionReport g.row.F-S.Denot g.row.F-K.Denot)) (f : ℕ) (d : Option SureBytes).
+    RunsTry sure_disk_moment source sink old now n h reports f)
+    r.shelf c.open_streams.new.shelf r.notice c.in-Err.notice r.history _ r.sessions _ r.free_pages _ None None
+    e.shelf e.notice e.history e.sessions e.free_pages refl
+    (tries_nothing source sink old now c.in-Err.notice
+    (subst (λ (names : List Word). LeavesUnasked (stream_names names) old now) is s.others)
+    (subst (λ (names : List Word). HandsOutSome (length names) old now) is s.some)
+    (fails_or_memory (subst (λ (names : List Word). ((c.in-Err.notice ≡ Memory) × (c.open_streams.new.shelf ≡ c.args.shelf)) ⊎ FailsToOpen names c.in-Err.notice old now) is s.cause)))

@@ -19,7 +19,7 @@ returns-in-Err-standard_name-clause-runs g c =
     let r = c.unrun.result in
     let e = c.unrun.ensures in
     reported state
-        (λ (now : ShelfState) (n : Notice) (h : List Entry) (reports : List (SessionReport g.row.F-S.Denot g.row.F-K.Denot)) (f : ℕ) (d : Option SureBytes).
-            RunsTry sure_disk_moment source sink old now n h reports f)
-        r.shelf c.args.shelf r.notice Memory r.history _ r.sessions _ r.free_pages _ None None
-        e.shelf e.notice e.history e.sessions e.free_pages refl (tries_not source sink old)
+    (λ (now : ShelfState) (n : Notice) (h : List Entry) (reports : List (SessionReport g.row.F-S.Denot g.row.F-K.Denot)) (f : ℕ) (d : Option SureBytes).
+    RunsTry sure_disk_moment source sink old now n h reports f)
+    r.shelf c.args.shelf r.notice Memory r.history _ r.sessions _ r.free_pages _ None None
+    e.shelf e.notice e.history e.sessions e.free_pages refl (tries_not source sink old)

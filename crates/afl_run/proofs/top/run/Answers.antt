@@ -28,7 +28,7 @@ run_scripts-requires-clause-count g c κs within =
     let words = c.args.words.now in
     let form = c.in-Ok-Run in
     let one : IsForm words (Run form.device form.pages form.history form.scripts) =
-        (c.form_of.ensures.form (Run form.device form.pages form.history form.scripts)).0 (form.is ∙ ap Ok form.field-0-is) in
+    (c.form_of.ensures.form (Run form.device form.pages form.history form.scripts)).0 (form.is ∙ ap Ok form.field-0-is) in
     subst (λ (scripts : List Word). (1 ≤ length scripts) × (length scripts ≤ 16)) (sym c.words_from-listed.ensures)
     (some_scripts words form.device form.pages form.history form.scripts one)
 
@@ -37,7 +37,7 @@ run_scripts-requires-clause-names g c κs within =
     let words = c.args.words.now in
     let form = c.in-Ok-Run in
     let one : IsForm words (Run form.device form.pages form.history form.scripts) =
-        (c.form_of.ensures.form (Run form.device form.pages form.history form.scripts)).0 (form.is ∙ ap Ok form.field-0-is) in
+    (c.form_of.ensures.form (Run form.device form.pages form.history form.scripts)).0 (form.is ∙ ap Ok form.field-0-is) in
     subst (λ (scripts : List Word). HaveOwnNames scripts) (sym c.words_from-listed.ensures) (names_apart words form.device form.pages form.history form.scripts one)
 
 pub run_scripts-requires-clause-apart : goal.run_scripts-requires-clause-apart
@@ -45,7 +45,7 @@ run_scripts-requires-clause-apart g c κs within =
     let words = c.args.words.now in
     let form = c.in-Ok-Run in
     let one : IsForm words (Run form.device form.pages form.history form.scripts) =
-        (c.form_of.ensures.form (Run form.device form.pages form.history form.scripts)).0 (form.is ∙ ap Ok form.field-0-is) in
+    (c.form_of.ensures.form (Run form.device form.pages form.history form.scripts)).0 (form.is ∙ ap Ok form.field-0-is) in
     subst (λ (scripts : List Word). All (λ name. c.word_at-target.result.now ≢ name) (stream_names scripts)) (sym c.words_from-listed.ensures)
     (apart_from_device words form.device form.pages form.history form.scripts one c.word_at-target.result.now c.word_at-target.ensures)
 
@@ -106,7 +106,7 @@ returns-in-Ok-Run g c =
     let r = c.run_scripts.result in
     let e = c.run_scripts.ensures in
     let runs = subst (λ (scripts : List Word). RunsScripts moment source sink old (state r.shelf) r.notice r.history r.sessions r.free_pages c.word_at-target.result.now scripts
-        form.pages form.history r.disk) c.words_from-listed.ensures e.runs in
+    form.pages form.history r.disk) c.words_from-listed.ensures e.runs in
     let tells = scripts_tell moment source sink old (state r.shelf) r.notice r.history r.free_pages r.sessions _ _ _ _ r.disk runs in
     record {
       status = e.status;
