@@ -1,7 +1,7 @@
 //! Tells for each line of standard input the tokens of a text, the pieces of a script or the schema that a text has, or
 //! where and why it has none.
 //!
-//! In a line `{64 n}` stands for 64 of `n`, and `^0a` for the byte of that number. `tokens TEXT` is answered by each token
+//! In a line `^0a` stands for the byte of that number, and then `{64 n}` for 64 of `n`. `tokens TEXT` is answered by each token
 //! with its place, `split TEXT` by each piece of a script, `schema 1 TEXT` by the schema that begins at token 1, and
 //! `tree TEXT` by the schema as it is written. `array A 4 1,3 SCHEMA`, an array with its next number and its versions, is
 //! answered by the texts of `show` and `versions`, of a store and of another change, `list` and such arrays with `|` between
@@ -19,24 +19,18 @@ use pieces::push_pieces;
 use replies::{push_array, push_list, push_refusal};
 use schemas::{push_schema, push_tree};
 use std::alloc::Global;
-use std::str::from_utf8;
 use test_kit::{bytes_of, text_of};
 use tokens::push_tokens;
 
 /// How many bytes a statement may have.
 const LIMIT: usize = 1_048_576;
 
-/// The bytes that a text without repeats stands for.
-fn bytes_in(alloc: Global, text: &Bytes) -> Result<Bytes, Memory> {
-    bytes_of(alloc, from_utf8(text.as_slice()).unwrap_or(""))
-}
-
 /// The bytes that a line stands for.
 fn script_of(alloc: Global, line: &str) -> Result<Bytes, Memory> {
-    let text = text_of(alloc, line.as_bytes())?;
-    let bytes = bytes_in(alloc, &text);
-    drop(text);
-    bytes
+    let bytes = bytes_of(alloc, line)?;
+    let text = text_of(alloc, bytes.as_slice());
+    drop(bytes);
+    text
 }
 
 /// Adds the tokens or the schema of a text.
@@ -52,19 +46,34 @@ fn push_read(out: &mut String, word: &str, text: &[u8]) -> Result<()> {
     }
 }
 
+/// Adds the pieces of a script.
+fn push_split(out: &mut String, line: &str) -> Result<()> {
+    let script = script_of(*out.allocator(), line)?;
+    let told = push_pieces(out, script.as_slice());
+    drop(script);
+    Ok(told?)
+}
+
+/// Adds what is read of the text that a line stands for.
+fn push_line(out: &mut String, word: &str, line: &str) -> Result<()> {
+    let text = script_of(*out.allocator(), line)?;
+    let told = push_read(out, word, text.as_slice());
+    drop(text);
+    told
+}
+
 /// Adds the answer to a line.
 fn push_answer(out: &mut String, line: &str) -> Result<()> {
-    let alloc = *out.allocator();
     match line.split_once(' ') {
-        Some(("split", script)) => push_pieces(out, script_of(alloc, script)?.as_slice()),
+        Some(("split", script)) => push_split(out, script),
         Some(("schema", rest)) => {
             let (from, text) = rest.split_once(' ').unwrap_or((rest, ""));
-            push_read(out, from, script_of(alloc, text)?.as_slice())
+            push_line(out, from, text)
         }
         Some(("array", array)) => push_array(out, array),
         Some(("list", arrays)) => push_list(out, arrays),
         Some(("refusal", refusal)) => push_refusal(out, refusal),
-        Some((word, text)) => push_read(out, word, script_of(alloc, text)?.as_slice()),
+        Some((word, text)) => push_line(out, word, text),
         None => Ok(()),
     }
 }

@@ -1,7 +1,7 @@
 -- After one byte more the splitter stands after it.
 use Rattle.std.proofs.Common.{take}
 use Rattle.std.proofs.lemmas.List.{take_more}
-use Rattle.test_language.proofs.pieces.push_pieces.Goals as goal
+use Rattle.test_language.proofs.pieces.push_all.Goals as goal
 
 pub loop-byte-preserved : goal.loop-byte-preserved
 loop-byte-preserved c =
