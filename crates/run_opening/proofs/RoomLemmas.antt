@@ -1,5 +1,5 @@
 -- The streams of sessions are put together.
-use Rattle.std.proofs.Common.{◌≡◌, ℕ, suc, ◌+◌, List, [], ◌∷◌, ◌++◌, length, map, remove, slice_get, Option, Some, refl, sym, ◌∙◌, ap, ap₂, subst, arith, append_assoc}
+use Rattle.std.proofs.Common.{◌≡◌, suc, ◌+◌, List, [], ◌∷◌, ◌++◌, length, map, remove, slice_get, Some, refl, sym, ◌∙◌, ap, arith, append_assoc}
 use Rattle.std.specs.List.{AllByRecursion, AllZip}
 use Rattle.afl_lexer.specs.Inner.Standing.{Splitting, StandsAfter}
 use Rattle.afl_outside.specs.Source.{SourceState}

@@ -1,6 +1,6 @@
 //! The device of a run.
 ghost use Rattle.std.specs.Prelude.{◌≡◌, IfOk, IfErr, IfSome, MatchResult};
-ghost use Rattle.afl_outside.specs.Counts.{Rose, risen};
+ghost use Rattle.afl_outside.specs.Counts.{risen};
 ghost use Rattle.afl_outside.specs.Disk.{IsNewDisk};
 ghost use Rattle.afl_outside.specs.Shelf.{LeavesOthers};
 ghost use Rattle.run_opening.specs.Opened.{FailsToOpenDevice};

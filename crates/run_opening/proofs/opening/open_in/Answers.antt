@@ -1,5 +1,4 @@
-use Rattle.std.proofs.Common.{◌≡◌, ◌∙◌, length, map, List, ap, arith, sym, subst}
-use Rattle.session_reports.specs.declared.reports.Streams.{Streams}
+use Rattle.std.proofs.Common.{◌∙◌, length, map, List, arith, sym, subst}
 use Rattle.run_opening.specs.Names.{Word, reply_name}
 use Rattle.run_opening.specs.Opened.{AreOpenedFor, HandsOut, IsSinkOf, IsSourceOf, LeavesUnasked}
 use Rattle.run_opening.proofs.OpeningLemmas.{fails_from_reply, hands_none, hands_since, hands_some_since, leaves_both, leaves_front, names_count, sinks_of}
