@@ -1,7 +1,7 @@
-pub mod BuiltStatements
-pub mod Calls
-pub mod Ending
+pub mod CauseLemmas
+pub mod FormLemmas
 pub mod MakingLemmas
-pub mod NoArrays
-pub mod Reports
-pub mod ServingLemmas
+pub mod OverLemmas
+pub mod Reporting
+pub mod StandardLemmas
+pub mod StreamsLemmas

@@ -1,14 +1,17 @@
 -- What a run that makes a database reports.
-use Rattle.std.proofs.Common.{◌≡◌, ◌≢◌, ◌⊎◌, ℕ, ◌+◌, ◌^◌, ◌<◌, List, [], ◌∷◌, length, Option, None, Some, IsSome, IfSome, Bool, IsTrue, refl, sym, ◌∙◌, ap, subst, arith, inl, inr}
+use Rattle.std.proofs.Common.{◌≡◌, ◌≢◌, ◌⊎◌, ℕ, zero, ◌+◌, ◌^◌, ◌<◌, List, [], ◌∷◌, length, All, Option, None, Some, IsSome, IfSome, Bool, IsTrue, refl, sym, ◌∙◌, ap, subst, arith, inl, inr}
 use Rattle.afl_outside.specs.Counts.{Rose, risen}
 use Rattle.afl_outside.specs.Disk.{DiskGoesOn, IsNewDisk, Moment, Only}
-use Rattle.afl_outside.specs.Shelf.{ShelfState}
+use Rattle.afl_outside.specs.Shelf.{LeavesOthers, ShelfState}
 use Rattle.page_file.specs.Start.{IsEmptyDatabase}
 use Rattle.file_laws.proofs.Made.{made_stands}
-use Rattle.afl_run.specs.Init.{HoldsNoArrays, IsOpenedDevice, TellsDevice, TellsNoDevice, notice_by, opened}
+use Rattle.run_opening.specs.Names.{Word}
+use Rattle.run_opening.specs.Opened.{FailsToOpenDevice, IsOpenedDevice, LeavesUnasked}
+use Rattle.session_reports.specs.declared.notices.Notice.{Notice}
+use Rattle.session_reports.specs.declared.notices.Notice.TheVariants.{Done, Refused, Usage, Disk, Stream, Memory, NotDatabase, NotEmpty, Damaged}
+use Rattle.afl_run.specs.Init.{HoldsNoArrays, TellsDevice, notice_by}
 use Rattle.afl_run.specs.Inner.Making.{Makes}
-use Rattle.afl_run.specs.declared.report.Notice.{Notice}
-use Rattle.afl_run.specs.declared.report.Notice.TheVariants.{Done, Refused, Usage, Disk, Stream, Memory, NotEmpty}
+use Rattle.afl_run.specs.Run.{MakesDatabase}
 
 -- what is known of a shelf is known of one that is equal
 pub at_shelf : {F : Type 0} (state : F → ShelfState) (P : ShelfState → Type 0) (x y : F) → x ≡ y → P (state y) → P (state x)
@@ -20,36 +23,21 @@ holds_none : (disk : Moment) (o : Option (List ℕ)) → IfSome o (λ _. (file :
 holds_none disk None made = tt
 holds_none disk (Some bytes) made = (made.0, record { read = made.1; form = made.2; stands = made_stands made.0 made.2; left = made.3 })
 
--- ---- words, and what was handed out
-
-pub has_form : (o : Option ℕ) (word : ℕ) → o ≡ None → o ≡ Some word → ⊥
-has_form o word form is = absurd (cc (form, is))
-
-pub is_named : (name : List ℕ) (o : Option (List ℕ)) → Some name ≡ o → o ≡ None → ⊥
-is_named name o named none = absurd (cc (named, none))
-
-pub handed_devices : (before sessions devices now : ℕ) → sessions ≡ 0 → (before + devices < 2 ^ 64 → now ≡ before + devices) → before + (sessions + devices) < 2 ^ 64 → now ≡ before + (sessions + devices)
-handed_devices before sessions devices now none handed fits = let is : now ≡ before + devices = handed (omega (arith, none, fits)) in omega (arith, none, is)
-
-pub handed_sessions : (before sessions devices now : ℕ) → devices ≡ 0 → (before + sessions < 2 ^ 64 → now ≡ before + sessions) → before + (sessions + devices) < 2 ^ 64 → now ≡ before + (sessions + devices)
-handed_sessions before sessions devices now none handed fits = let is : now ≡ before + sessions = handed (omega (arith, none, fits)) in omega (arith, none, is)
-
-pub none_opened : {D : Type 0} (disk : Option D) → disk ≡ None → opened disk ≡ 0
-none_opened {D} disk is = ap (λ (o : Option D). opened o) is
-
-pub handed_one : {D : Type 0} (disk : Option D) (before now : ℕ) → IsSome disk → now ≡ risen before → before + opened disk < 2 ^ 64 → now ≡ before + opened disk
-handed_one None before now some handed fits = absurd (cc (some))
-handed_one (Some d) before now some handed fits = omega (arith, handed, fits)
-
-pub handed_none : (devices before now : ℕ) → devices ≡ 0 → now ≡ before → now ≡ before + devices
-handed_none devices before now none handed = omega (arith, none, handed)
+pub only_asked : (asked : Word) (old new : ShelfState) → LeavesOthers asked old new → LeavesUnasked (asked ∷ []) old new
+only_asked asked old new others = record {
+  scripts = λ n all. others.scripts n (all zero n (omega arith));
+  replies = λ n all. others.replies n (all zero n (omega arith));
+  devices = λ n all. others.devices n (all zero n (omega arith));
+  later = others.later;
+  wants_later = others.wants_later;
+}
 
 -- a device as it was handed out, and later
-module _ (asked : List ℕ) (old new : Moment) (handed : IsNewDisk asked old.state) (goes : DiskGoesOn old.state new.state) where
+module _ (asked : Word) (old new : Moment) (handed : IsNewDisk asked old.state) (goes : DiskGoesOn old.state new.state) where
   began : old.state.seen ≡ new.state.first
   began = handed.seen ∙ sym goes.first
 
-  opened_as : (shelf : ShelfState) → IfSome (shelf.devices asked) (λ bytes. old.state.first ≡ Some bytes) → IsOpenedDevice asked shelf new.state
+  pub opened_as : (shelf : ShelfState) → IfSome (shelf.devices asked) (λ bytes. old.state.first ≡ Some bytes) → IsOpenedDevice asked shelf new.state
   opened_as shelf content = record {
     name_told = subst (λ (o : Option (List ℕ)). IfSome o (λ told. told ≡ asked)) (sym goes.name) handed.name;
     content = subst (λ (o : Option (List ℕ)). IfSome (shelf.devices asked) (λ bytes. o ≡ Some bytes)) (sym goes.first) content;
@@ -67,63 +55,10 @@ module _ (asked : List ℕ) (old new : Moment) (handed : IsNewDisk asked old.sta
   tells Refused makes = absurd makes
   tells (Usage word) makes = absurd makes
   tells (Stream session) makes = absurd makes
+  tells (NotDatabase page) makes = absurd makes
+  tells (Damaged page) makes = absurd makes
 
-pub opened_device : {D : Type 0} (moment : D → Moment) (asked : List ℕ) (shelf : ShelfState) (old : Moment) (disk : Option D) → IsNewDisk asked old.state
-    → IfSome (shelf.devices asked) (λ bytes. old.state.first ≡ Some bytes) → IfSome disk (λ d. DiskGoesOn old.state (moment d).state)
-    → IfSome disk (λ d. IsOpenedDevice asked shelf (moment d).state)
-opened_device moment asked shelf old None handed content goes = tt
-opened_device moment asked shelf old (Some d) handed content goes = opened_as asked old (moment d) handed goes shelf content
-
-pub tells_device : {D : Type 0} (moment : D → Moment) (asked : List ℕ) (old : Moment) (notice : Notice) (disk : Option D) → IsNewDisk asked old.state
-    → IfSome disk (λ d. DiskGoesOn old.state (moment d).state) → IfSome disk (λ d. Makes notice old (moment d)) → IfSome disk (λ d. TellsDevice notice (moment d))
-tells_device moment asked old notice None handed goes makes = tt
-tells_device moment asked old notice (Some d) handed goes makes = tells asked old (moment d) handed goes notice makes
-
--- the shelf opened no device
-pub tells_no_device : (notice : Notice) (asked : List ℕ) (old new : ShelfState)
-    → ((notice ≡ Memory) × Rose old.wants new.wants) ⊎ ((notice ≡ Disk) × (Rose old.faults new.faults × (old.devices asked ≡ None))) → TellsNoDevice notice asked old new
-tells_no_device notice asked old new told = elim told [
-  | inl want ↦ subst (λ (n : Notice). TellsNoDevice n asked old new) (sym want.0) want.1
-  | inr fault ↦ subst (λ (n : Notice). TellsNoDevice n asked old new) (sym fault.0) (fault.1.0, fault.1.1)
-]
-
--- ---- what the notice is
-
--- a notice of a run that makes a database
-abbrev pub IsOfInit : Notice → Type 0
-IsOfInit Refused = ⊥
-IsOfInit (Usage word) = ⊥
-IsOfInit (Stream session) = ⊥
-IsOfInit _ = Unit {0}
-
-of_device : (notice : Notice) (disk : Moment) → TellsDevice notice disk → IsOfInit notice
-of_device Done disk tells = tt
-of_device Disk disk tells = tt
-of_device Memory disk tells = tt
-of_device (NotEmpty count) disk tells = tt
-of_device Refused disk tells = tells
-of_device (Usage word) disk tells = tells
-of_device (Stream session) disk tells = tells
-
-of_none : (notice : Notice) (asked : List ℕ) (old new : ShelfState) → TellsNoDevice notice asked old new → IsOfInit notice
-of_none Done asked old new tells = absurd tells
-of_none Disk asked old new tells = tt
-of_none Memory asked old new tells = tt
-of_none (NotEmpty count) asked old new tells = absurd tells
-of_none Refused asked old new tells = tells
-of_none (Usage word) asked old new tells = tells
-of_none (Stream session) asked old new tells = tells
-
-pub is_of_init : {D : Type 0} (moment : D → Moment) (disk : Option D) (notice : Notice) (asked : List ℕ) (old new : ShelfState)
-    → IfSome disk (λ d. TellsDevice notice (moment d)) → (disk ≡ None → TellsNoDevice notice asked old new) → IsOfInit notice
-is_of_init moment None notice asked old new tells unopened = of_none notice asked old new (unopened refl)
-is_of_init moment (Some d) notice asked old new tells unopened = of_device notice (moment d) tells
-
--- a length is told of a device alone
-pub has_device : {D : Type 0} (disk : Option D) (notice : Notice) (asked : List ℕ) (old new : ShelfState) (count : ℕ)
-    → (disk ≡ None → TellsNoDevice notice asked old new) → notice ≡ NotEmpty count → IsSome disk
-has_device None notice asked old new count unopened is = absurd (subst (λ (n : Notice). TellsNoDevice n asked old new) is (unopened refl))
-has_device (Some d) notice asked old new count unopened is = refl
+-- ---- what these bytes decide
 
 by_no_byte : (bytes : List ℕ) → length bytes ≡ 0 → Done ≡ notice_by bytes
 by_no_byte [] none = refl
@@ -143,21 +78,63 @@ by_bytes (NotEmpty count) disk bytes first tells calm = inl (by_count count byte
 by_bytes Refused disk bytes first tells calm = absurd tells
 by_bytes (Usage word) disk bytes first tells calm = absurd tells
 by_bytes (Stream session) disk bytes first tells calm = absurd tells
+by_bytes (NotDatabase page) disk bytes first tells calm = absurd tells
+by_bytes (Damaged page) disk bytes first tells calm = absurd tells
+
+module _ (notice : Notice) (old new : Moment) (goes : DiskGoesOn old.state new.state) (tells : TellsDevice notice new) where
+  complete_of : (o : Option (List ℕ)) → IfSome o (λ bytes. old.state.first ≡ Some bytes)
+      → IfSome o (λ bytes. (Rose 0 new.state.faults → ⊥) → (notice ≡ notice_by bytes) ⊎ (notice ≡ Memory))
+  complete_of None content = tt
+  complete_of (Some bytes) content = λ calm. by_bytes notice new bytes (goes.first ∙ content) tells calm
 
 -- a shelf that told that it opens the device has not opened it
-by_want : (notice : Notice) (asked bytes : List ℕ) (old new : ShelfState) → old.devices asked ≡ Some bytes → TellsNoDevice notice asked old new → notice ≡ Memory
-by_want Memory asked bytes old new told tells = refl
-by_want Disk asked bytes old new told tells = let none = tells.1 in absurd (cc (told, none))
-by_want Done asked bytes old new told tells = absurd tells
-by_want (NotEmpty count) asked bytes old new told tells = absurd tells
-by_want Refused asked bytes old new told tells = absurd tells
-by_want (Usage word) asked bytes old new told tells = absurd tells
-by_want (Stream session) asked bytes old new told tells = absurd tells
+complete_none : (asked : Word) (notice : Notice) (old new : ShelfState) (o : Option (List ℕ)) → old.devices asked ≡ o → FailsToOpenDevice asked notice old new
+    → IfSome o (λ bytes. Unit {0} → (notice ≡ notice_by bytes) ⊎ (notice ≡ Memory))
+complete_none asked notice old new None told fails = tt
+complete_none asked notice old new (Some bytes) told fails = λ calm. elim fails [
+  | inl want ↦ inr want.0
+  | inr fault ↦ let none = fault.2 in absurd (cc (told, none))
+]
 
-pub is_by_bytes : {D : Type 0} (moment : D → Moment) (disk : Option D) (notice : Notice) (asked : List ℕ) (old new : ShelfState) (o : Option (List ℕ)) → old.devices asked ≡ o
-    → IfSome disk (λ d. IsOpenedDevice asked old (moment d).state) → IfSome disk (λ d. TellsDevice notice (moment d)) → (disk ≡ None → TellsNoDevice notice asked old new)
-    → IfSome o (λ bytes. IfSome disk (λ d. Rose 0 (moment d).state.faults → ⊥) → (notice ≡ notice_by bytes) ⊎ (notice ≡ Memory))
-is_by_bytes moment disk notice asked old new None told device tells unopened = tt
-is_by_bytes moment None notice asked old new (Some bytes) told device tells unopened = λ calm. inr (by_want notice asked bytes old new told (unopened refl))
-is_by_bytes moment (Some d) notice asked old new (Some bytes) told device tells unopened = λ calm.
-    by_bytes notice (moment d) bytes (subst (λ (o : Option (List ℕ)). IfSome o (λ b. (moment d).state.first ≡ Some b)) told device.content) tells calm
+module _ {D F : Type 0} (moment : D → Moment) (state : F → ShelfState) (asked : Word) (before : ShelfState) where
+  makes_at : (now : ShelfState) (disk : Moment) (notice : Notice) (device : Option D) → IsNewDisk asked disk.state
+      → IfSome (before.devices asked) (λ bytes. disk.state.first ≡ Some bytes) → LeavesOthers asked before now → now.handed ≡ risen before.handed
+      → IfSome device (λ d. DiskGoesOn disk.state (moment d).state) → IfSome device (λ d. Makes notice disk (moment d)) → IsSome device
+      → MakesDatabase moment before now notice asked device
+  makes_at now disk notice None new content others handed goes makes some = absurd (cc (some))
+  makes_at now disk notice (Some d) new content others handed goes makes some = record {
+    is_asked = opened_as asked disk (moment d) new goes before content;
+    others = only_asked asked before now others;
+    handed = λ fits. omega (arith, handed, fits);
+    made = tells asked disk (moment d) new goes notice makes;
+    unopened = λ none. absurd (cc (none));
+    complete = complete_of notice disk (moment d) goes (tells asked disk (moment d) new goes notice makes) (before.devices asked) content;
+  }
+
+  -- the device was opened, and what is reported of it is what came of it then
+  pub makes : (shelf after : F) (disk : Moment) (notice : Notice) (device : Option D) → IsNewDisk asked disk.state
+      → IfSome (before.devices asked) (λ bytes. disk.state.first ≡ Some bytes) → LeavesOthers asked before (state shelf) → (state shelf).handed ≡ risen before.handed
+      → after ≡ shelf → IfSome device (λ d. DiskGoesOn disk.state (moment d).state) → IfSome device (λ d. Makes notice disk (moment d)) → IsSome device
+      → MakesDatabase moment before (state after) notice asked device
+  makes shelf after disk notice device new content others handed is goes made some =
+      at_shelf state (λ (s : ShelfState). MakesDatabase moment before s notice asked device) after shelf is
+      (makes_at (state shelf) disk notice device new content others handed goes made some)
+
+  makes_none : (now : ShelfState) (notice : Notice) → FailsToOpenDevice asked notice before now → LeavesOthers asked before now → now.handed ≡ before.handed
+      → MakesDatabase moment before now notice asked None
+  makes_none now notice fails others handed = record {
+    is_asked = tt;
+    others = only_asked asked before now others;
+    handed = λ fits. omega (arith, handed);
+    made = tt;
+    unopened = λ none. fails;
+    complete = complete_none asked notice before now (before.devices asked) refl fails;
+  }
+
+  -- the device was not opened
+  pub makes_nothing : (shelf after : F) (told notice : Notice) (device : Option D) → FailsToOpenDevice asked told before (state shelf) → LeavesOthers asked before (state shelf)
+      → (state shelf).handed ≡ before.handed → after ≡ shelf → notice ≡ told → device ≡ None → MakesDatabase moment before (state after) notice asked device
+  makes_nothing shelf after told notice device fails others handed is same none =
+      at_shelf state (λ (s : ShelfState). MakesDatabase moment before s notice asked device) after shelf is
+      (subst (λ (n : Notice). MakesDatabase moment before (state shelf) n asked device) (sym same)
+      (subst (λ (o : Option D). MakesDatabase moment before (state shelf) told asked o) (sym none) (makes_none (state shelf) told fails others handed)))

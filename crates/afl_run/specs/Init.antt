@@ -1,22 +1,11 @@
 -- What a run that makes a database reports.
-use Rattle.std.specs.Prelude.{◌≡◌, ◌≢◌, ℕ, List, [], ◌∷◌, length, Option, None, Some, IfSome, IsTrue}
+use Rattle.std.specs.Prelude.{◌≡◌, ◌≢◌, ℕ, List, [], ◌∷◌, length, Some, IfSome, IsTrue}
 use Rattle.afl_outside.specs.Counts.{Rose}
-use Rattle.afl_outside.specs.Disk.{DiskState, Moment, Only}
-use Rattle.afl_outside.specs.Shelf.{ShelfState}
+use Rattle.afl_outside.specs.Disk.{Moment, Only}
 use Rattle.page_file.specs.Start.{IsEmptyDatabase}
 use Rattle.file_meaning.specs.Standing.{Stands}
-use Rattle.afl_run.specs.declared.report.Notice.{Notice}
-use Rattle.afl_run.specs.declared.report.Notice.TheVariants.{Done, Disk, Memory, NotEmpty}
-
--- how many devices there are
-abbrev pub opened : {D : Type 0} → Option D → ℕ
-opened None = 0
-opened (Some disk) = 1
-
--- a device has this name, where it tells names, and began as the shelf told
-pub record IsOpenedDevice (asked : List ℕ) (shelf : ShelfState) (disk : DiskState) : Type 0 where
-  pub name_told : IfSome disk.name (λ told. told ≡ asked)
-  pub content : IfSome (shelf.devices asked) (λ bytes. disk.first ≡ Some bytes)
+use Rattle.session_reports.specs.declared.notices.Notice.{Notice}
+use Rattle.session_reports.specs.declared.notices.Notice.TheVariants.{Done, Disk, Memory, NotEmpty}
 
 -- the disk reads as this file of three pages, which stands for no arrays, and a crash leaves nothing else
 pub record HoldsNoArrays (file : List ℕ) (disk : Moment) : Type 0 where
@@ -37,12 +26,6 @@ TellsDevice Disk disk = Rose 0 disk.state.faults
 TellsDevice Memory disk = Rose 0 disk.state.wants
 TellsDevice (NotEmpty count) disk = IfSome disk.state.first (λ bytes. (count ≡ length bytes) × (count ≢ 0)) × (disk.state.seen ≡ disk.state.first)
 TellsDevice _ disk = ⊥
-
--- what the notice tells where the device was not opened: the shelf's count rose, which had not told that it opens it
-abbrev pub TellsNoDevice : Notice → List ℕ → ShelfState → ShelfState → Type 0
-TellsNoDevice Disk asked old new = Rose old.faults new.faults × (old.devices asked ≡ None)
-TellsNoDevice Memory asked old new = Rose old.wants new.wants
-TellsNoDevice _ asked old new = ⊥
 
 -- what these bytes of a device decide, where none of its calls fails
 abbrev pub notice_by : List ℕ → Notice

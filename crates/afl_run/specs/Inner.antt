@@ -1,2 +1,3 @@
 pub mod Making
-pub mod Serving
+pub mod Over
+pub mod Streams

@@ -1,10 +1,5 @@
-pub mod Answered
 pub mod Init
 pub mod Inner
-pub mod Laws
-pub mod Notice
-pub mod Reply
+pub mod OneHistory
+pub mod Printed
 pub mod Run
-pub mod Session
-pub mod Unbuilt
-pub mod Words

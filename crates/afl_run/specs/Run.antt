@@ -1,48 +1,144 @@
--- What the top call reports.
-use Rattle.std.specs.Prelude.{◌≡◌, ◌⊎◌, ℕ, Bool, true, List, [], ◌∷◌, ◌++◌, None, Some, IfSome, codes}
-use Rattle.std.specs.Io.KnownBytes.{IsAtEnd}
+-- What the top call reports, by the words.
+use Rattle.std.specs.Prelude.{◌≡◌, ◌≢◌, ◌⊎◌, ℕ, ◌+◌, ◌≤◌, List, [], ◌∷◌, length, All, Option, None, Some, IfSome, IsSome, IsTrue}
+use Rattle.std.specs.List.{AllZip}
 use Rattle.afl_outside.specs.Counts.{Rose}
+use Rattle.afl_outside.specs.Disk.{DiskState, Moment}
 use Rattle.afl_outside.specs.Source.{SourceState}
 use Rattle.afl_outside.specs.Sink.{SinkState}
-use Rattle.afl_outside.specs.Shelf.{ShelfState}
-use Rattle.afl_run.specs.Session.{AnswerRule, LeavesOne, Replies, decided}
-use Rattle.afl_run.specs.declared.report.Mark.{Mark}
-use Rattle.afl_run.specs.declared.report.SessionEnd.{SessionEnd}
-use Rattle.afl_run.specs.declared.report.SessionEnd.TheVariants.{Source, Sink, Memory}
+use Rattle.afl_outside.specs.Shelf.{LeavesOthers, ShelfState}
+use Rattle.event_core.specs.declared.entry.Entry.{Entry}
+use Rattle.file_meaning.specs.Opening.{IsWrongAt}
+use Rattle.store_state.specs.Standings.{BeganAs, Standing}
+use Rattle.run_opening.specs.Names.{Word, standard, stream_names}
+use Rattle.run_opening.specs.Opened.{FailsToOpen, FailsToOpenDevice, HandsOut, IsOpenedDevice, LeavesUnasked, StopsAt}
+use Rattle.session_reports.specs.Outcomes.{notice_of}
+use Rattle.session_reports.specs.declared.reports.SessionReport.{SessionReport}
+use Rattle.session_reports.specs.declared.notices.Notice.{Notice}
+use Rattle.session_reports.specs.declared.notices.Notice.TheVariants as notices
+use Rattle.run_stores.specs.Began.{IsOpenedFrom}
+use Rattle.run_stores.specs.Starts.{start_of}
+use Rattle.afl_run.specs.Init.{TellsDevice, notice_by}
+use Rattle.afl_run.specs.OneHistory.{IsOneHistory}
+use Rattle.afl_run.specs.Printed.{IsOpenedAs}
 
--- the name of the standard streams
-abbrev pub standard : List ℕ
-standard = codes "-"
+-- how many devices there are
+abbrev pub devices_in : {D : Type 0} → Option D → ℕ
+devices_in None = 0
+devices_in (Some disk) = 1
 
--- there is one, and it has P
-abbrev pub Only : {A : Type 0} → (A → Type 0) → List A → Type 0
-Only P [] = ⊥
-Only P (x ∷ []) = P x
-Only P (x ∷ y ∷ xs) = ⊥
+abbrev pub state_in : {D : Type 0} → (D → Moment) → Option D → Option DiskState
+state_in moment None = None
+state_in moment (Some disk) = Some (moment disk).state
 
--- the source and the sink have this name, where they tell names, and began as the shelf told
-pub record IsOpenedAs (asked : List ℕ) (shelf : ShelfState) (source : SourceState) (sink : SinkState) : Type 0 where
-  pub source_name : IfSome source.name (λ told. told ≡ asked)
-  pub sink_name : IfSome sink.name (λ told. told ≡ asked)
-  pub script : IfSome (shelf.scripts asked) (λ bytes. source.first ≡ Some bytes)
-  pub reply : IfSome (shelf.replies asked) (λ bytes. sink.first ≡ Some bytes)
+-- What can be written and was handed out is the device, and replies: those in the reports, or, where there are none, some that were opened before
+-- something failed
+pub record HandsOutStreams (devices scripts reports : ℕ) (old new : ShelfState) : Type 0 where
+  pub replies : ℕ
+  pub handed : HandsOut (devices + replies) old new
+  pub most : replies ≤ scripts
+  pub reported : (reports ≡ 0) ⊎ (replies ≡ reports)
 
--- A session's streams at its end. What was read, and what was not looked at, are the script without the bytes that the source
--- has left. Behind its first bytes the sink holds what was written.
-pub record Prints (Answered : AnswerRule) (source : SourceState) (sink : SinkState) (marks : List Mark) (end : SessionEnd) : Type 0 where
-  pub read : List ℕ
-  pub unread : List ℕ
-  pub is_whole : Bool
-  pub written : List ℕ
-  pub script : IfSome source.first (λ script. (left : List ℕ) × (source.left ≡ Some left) × (script ≡ (read ++ unread) ++ left))
-  pub text : IfSome sink.first (λ begun. sink.held ≡ Some (begun ++ written))
-  pub replies : Replies Answered end is_whole read marks written
-  pub at_end : is_whole ≡ true → IsAtEnd source.left × (unread ≡ [])
-  pub source_fault : end ≡ Source → Rose 0 source.faults × (unread ≡ [])
-  pub sink_fault : end ≡ Sink → Rose 0 sink.faults
-  pub memory : end ≡ Memory → Rose 0 sink.wants ⊎ LeavesOne Answered (decided is_whole read) marks written
+-- Where no session ran, of the device if it was opened: its count rose, or what it began with is no database, first at this page; or else of the shelf
+abbrev pub TellsUnrun : Notice → Word → List Word → Option DiskState → ShelfState → ShelfState → Type 0
+TellsUnrun notices.Memory asked scripts device old new = Unit {0}
+TellsUnrun notices.Disk asked scripts None old new = FailsToOpenDevice asked notices.Disk old new
+TellsUnrun notices.Disk asked scripts (Some disk) old new = Rose 0 disk.faults
+TellsUnrun (notices.Stream session) asked scripts None old new = ⊥
+TellsUnrun (notices.Stream session) asked scripts (Some disk) old new = FailsToOpen scripts (notices.Stream session) old new
+TellsUnrun (notices.NotDatabase page) asked scripts None old new = ⊥
+TellsUnrun (notices.NotDatabase page) asked scripts (Some disk) old new = IfSome disk.first (IsWrongAt page)
+TellsUnrun _ asked scripts device old new = ⊥
 
--- a count of the shelf rose, which had not told that it opens the script and the reply of this name
-pub record IsUnopened (asked : List ℕ) (old new : ShelfState) : Type 0 where
-  pub rose : Rose old.faults new.faults
-  pub untold : (old.scripts asked ≡ None) ⊎ (old.replies asked ≡ None)
+-- the store was to be opened when it failed
+abbrev pub IsOfStore : Notice → Type 0
+IsOfStore notices.Disk = Unit {0}
+IsOfStore (notices.NotDatabase page) = Unit {0}
+IsOfStore _ = ⊥
+
+-- Without a device nothing was handed out; where the store was to be opened, the device and a reply for each script
+pub record HandsOutInOrder {D : Type 0} (device : Option D) (scripts : ℕ) (notice : Notice) (old new : ShelfState) : Type 0 where
+  pub none : device ≡ None → HandsOut 0 old new
+  pub all : IfSome device (λ disk. IsOfStore notice → HandsOut (1 + scripts) old new)
+
+-- ---- sessions
+
+-- the scripts were answered, but for memory
+abbrev pub IsOfAnswers : Notice → Type 0
+IsOfAnswers notices.Done = Unit {0}
+IsOfAnswers notices.Refused = Unit {0}
+IsOfAnswers notices.Memory = Unit {0}
+IsOfAnswers _ = ⊥
+
+-- the reports are those of these scripts, in order, and began as the shelf told; or there is none
+abbrev pub AreOfScripts : {S K : Type 0} → (S → SourceState) → (K → SinkState) → ShelfState → List Word → List (SessionReport S K) → Type 0
+AreOfScripts source_state sink_state shelf scripts sessions =
+    (sessions ≡ []) ⊎ AllZip (λ script report. IsOpenedAs shelf script (source_state report.source) (sink_state report.sink)) scripts sessions
+
+-- after the sessions the notice is what is told of them, unless memory was short
+abbrev pub TellsSessions : {S K : Type 0} → Notice → List (SessionReport S K) → Type 0
+TellsSessions notice sessions = sessions ≢ [] → (notice ≡ notices.Memory) ⊎ (notice ≡ notice_of sessions)
+
+-- the store was opened over the bytes with which the device began, as what they open as: their root and its log, their versions and their base; within
+-- these limits. And the device is handed back
+pub record BeganFrom {D : Type 0} (moment : D → Moment) (pages limit : ℕ) (device : Option D) (store : Standing D) : Type 0 where
+  pub is_device : device ≡ Some store.disk
+  pub first : (moment store.opened.disk).state.seen ≡ (moment store.disk).state.first
+  pub honest : (moment store.opened.disk).state.honest ≡ (moment store.disk).state.honest
+  pub entries : store.ledger.limit ≡ limit
+  pub page_limit : store.ledger.base.limit ≡ pages
+  pub found : IfSome (moment store.disk).state.first (λ file. IsOpenedFrom pages file (start_of store))
+
+-- the store was opened over a database of no arrays, within these limits
+pub record BeganEmpty {D : Type 0} (moment : D → Moment) (store : Standing D) : Type 0 where
+  pub database : BeganAs (moment store.opened.disk).state []
+  pub found : IfSome (moment store.opened.disk).state.seen (λ file. IsOpenedFrom 65536 file (start_of store))
+  pub entries : store.ledger.limit ≡ 1048576
+  pub page_limit : store.ledger.base.limit ≡ 65536
+
+module _ {D S K : Type 0} (moment : D → Moment) (source_state : S → SourceState) (sink_state : K → SinkState) (old new : ShelfState)
+    (notice : Notice) (history : List Entry) (sessions : List (SessionReport S K)) (free : ℕ) where
+  -- SESSIONS OVER A DEVICE, by the words of `run`
+  pub record RunsScripts (asked : Word) (scripts : List Word) (pages limit : ℕ) (device : Option D) : Type 0 where
+    pub opened : AreOfScripts source_state sink_state old scripts sessions
+    pub is_asked : IfSome device (λ disk. IsOpenedDevice asked old (moment disk).state)
+    pub others : LeavesUnasked (asked ∷ stream_names scripts) old new
+    pub handed : HandsOutStreams (devices_in device) (length scripts) (length sessions) old new
+    pub in_order : HandsOutInOrder device (length scripts) notice old new
+    -- once the device was opened, the first stream that failed decided, and nothing behind it was asked for
+    pub first : sessions ≡ [] → IfSome device (λ _. (opened : ShelfState) × LeavesOthers asked old opened × StopsAt source_state sink_state scripts opened new notice)
+    -- where no session ran, nothing was written to the device
+    pub unwritten : sessions ≡ [] → IfSome device (λ disk. (moment disk).state.seen ≡ (moment disk).state.first)
+    pub none : sessions ≡ [] → (history ≡ []) × (free ≡ 0) × TellsUnrun notice asked scripts (state_in moment device) old new
+    pub told : TellsSessions notice sessions
+    pub one : sessions ≢ [] → (store : Standing D) × IsOneHistory moment source_state sink_state sessions notice history free store
+        × BeganFrom moment pages limit device store
+
+  -- ONE SESSION over an empty database in memory, from the standard input to the standard output
+  pub record RunsTry : Type 0 where
+    pub opened : AreOfScripts source_state sink_state old (standard ∷ []) sessions
+    pub others : LeavesUnasked (stream_names (standard ∷ [])) old new
+    pub handed : HandsOutStreams 0 1 (length sessions) old new
+    pub none : sessions ≡ [] → (history ≡ []) × (free ≡ 0) × ((notice ≡ notices.Memory) ⊎ FailsToOpen (standard ∷ []) notice old new)
+    pub told : TellsSessions notice sessions
+    pub first : sessions ≡ [] → StopsAt source_state sink_state (standard ∷ []) old new notice
+    -- its disk never fails, and is never damaged
+    pub disk : notice ≢ notices.Disk
+    pub damaged : (page : ℕ) → notice ≢ notices.Damaged page
+    -- where the shelf tells that it opens both streams, and no count of theirs rose, the script was answered, but for memory
+    pub complete : IsSome (old.scripts standard) → IsSome (old.replies standard)
+        → All (λ report. (Rose 0 (source_state report.source).faults → ⊥) × (Rose 0 (sink_state report.sink).faults → ⊥)) sessions → IsOfAnswers notice
+    pub one : sessions ≢ [] → (store : Standing D) × IsOneHistory moment source_state sink_state sessions notice history free store
+        × BeganEmpty moment store
+
+-- ---- `init`
+
+-- what is told of the device, or where there is none, of the shelf; and, where the shelf told with which bytes it opens the device, and no call on it failed,
+-- these alone decide the notice, but for memory
+pub record MakesDatabase {D : Type 0} (moment : D → Moment) (old new : ShelfState) (notice : Notice) (asked : Word) (device : Option D) : Type 0 where
+  pub is_asked : IfSome device (λ disk. IsOpenedDevice asked old (moment disk).state)
+  pub others : LeavesUnasked (asked ∷ []) old new
+  pub handed : HandsOut (devices_in device) old new
+  pub made : IfSome device (λ disk. TellsDevice notice (moment disk))
+  pub unopened : device ≡ None → FailsToOpenDevice asked notice old new
+  pub complete : IfSome (old.devices asked) (λ bytes. IfSome device (λ disk. Rose 0 (moment disk).state.faults → ⊥)
+      → (notice ≡ notice_by bytes) ⊎ (notice ≡ notices.Memory))

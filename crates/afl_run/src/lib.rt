@@ -1,18 +1,14 @@
 //! The top call of the shell.
 #![tactic(auto)]
 
-mod arg;
-mod laws;
-mod reply;
+mod database;
+mod over;
 mod report;
-mod session;
-mod streams;
+mod scripts;
+mod standard;
 mod top;
-mod unbuilt;
 
-pub use arg::Arg;
-pub use laws::built_statements_are_queries;
-pub use report::{Mark, Notice, Report, SessionEnd, SessionReport, notice_line};
-pub use result_print::Refusal;
-pub use session::serve;
+pub use command_words::Arg;
+pub use report::Report;
+pub use session_reports::{Mark, Notice, Refusal, SessionEnd, SessionReport, notice_line};
 pub use top::run;

@@ -1,67 +1,12 @@
-//! What sessions and runs report.
-ghost use Rattle.std.specs.Prelude.{◌≡◌, ◌++◌, IfOk};
-ghost use Rattle.std.specs.Fmt.{decimal};
-ghost use Rattle.afl_run.specs.Notice.{line_of_notice};
+//! What a run reports.
+ghost use Rattle.std.specs.Prelude.{◌≡◌, []};
+ghost use Rattle.session_reports.specs.Notice.{status_of};
 
 use afl_outside::Shelf;
-use cell_values::{Bytes, List, Memory};
-use itoa::Buffer;
-use result_print::Refusal;
+use cell_values::List;
+use event_core::Entry;
+use session_reports::{Notice, SessionReport, status};
 use std::alloc::Global;
-
-/// What became of a statement.
-#[derive(Debug, Drop)]
-pub struct Mark {
-    /// Its first byte's place in the script.
-    pub start: u64,
-    /// The place behind its last byte.
-    pub end: u64,
-    /// How many entries of the history its reply rests on: 0, since there is no history yet.
-    pub place: u64,
-    pub refusal: Option<Refusal>,
-}
-
-/// How a session ended.
-#[derive(Clone, Copy, Debug, PartialEq, Eq)]
-pub enum SessionEnd {
-    /// The script was read to its end, and each statement answered.
-    Whole,
-    /// The source failed.
-    Source,
-    /// The sink failed.
-    Sink,
-    /// No memory was found.
-    Memory,
-}
-
-/// A session at its end.
-#[derive(Debug, Drop)]
-pub struct SessionReport<S, K> {
-    pub source: S,
-    pub sink: K,
-    /// The marks of the statements that were answered, in order.
-    pub marks: List<Mark>,
-    pub end: SessionEnd,
-}
-
-/// How a run ended.
-#[derive(Clone, Copy, Debug, PartialEq, Eq)]
-pub enum Notice {
-    /// Each statement was accepted, or the database was made.
-    Done,
-    /// Some statement was refused.
-    Refused,
-    /// The words have no form, first at this word.
-    Usage { word: u32 },
-    /// The disk failed, or the shelf that was to open it.
-    Disk,
-    /// A stream of this session failed.
-    Stream { session: u32 },
-    /// No memory was found.
-    Memory,
-    /// The device that was to be made a database has this many bytes.
-    NotEmpty { length: u64 },
-}
 
 /// A run at its end.
 #[derive(Drop)]
@@ -69,39 +14,39 @@ pub struct Report<F: Shelf> {
     /// The status with which the program ends.
     pub status: u8,
     pub notice: Notice,
+    /// What all sessions did to the store, the oldest first.
+    pub history: List<Entry>,
+    /// A report for each script, in order.
     pub sessions: List<SessionReport<F::S, F::K>>,
+    /// How many pages nobody can name.
+    pub free_pages: u64,
     /// The disk, wherever it was opened.
     pub disk: Option<F::Device>,
     pub shelf: F,
 }
 
-/// The line that a notice is printed as: none where the replies say all.
-pub fn notice_line(alloc: Global, notice: &Notice) -> Result<Bytes, Memory>
-    ensures { IfOk result (λ line. line ≡ line_of_notice notice.now) }
+/// A report of a run in which no session ran.
+pub(crate) fn unrun<F: Shelf>(
+    alloc: Global,
+    notice: Notice,
+    disk: Option<F::Device>,
+    shelf: F,
+) -> Report<F>
+    ensures status { result.status ≡ status_of result.notice }
+    ensures notice { result.notice ≡ notice }
+    ensures history { result.history ≡ [] }
+    ensures sessions { result.sessions ≡ [] }
+    ensures free_pages { result.free_pages ≡ 0 }
+    ensures disk { result.disk ≡ disk }
+    ensures shelf { result.shelf ≡ shelf }
 {
-    match notice {
-        Notice::Done | Notice::Refused => Ok(Bytes::new(alloc)),
-        Notice::Usage { word } => {
-            numbered_line(alloc, b"aflshell: usage at word ", u64::from(*word), b"\n")
-        }
-        Notice::Disk => Bytes::from_slice(alloc, b"aflshell: disk fault\n"),
-        Notice::Stream { session } => {
-            let words = b"aflshell: stream fault in session ";
-            numbered_line(alloc, words, u64::from(*session), b"\n")
-        }
-        Notice::Memory => Bytes::from_slice(alloc, b"aflshell: out of memory\n"),
-        Notice::NotEmpty { length } => {
-            numbered_line(alloc, b"aflshell: not empty: ", *length, b" bytes\n")
-        }
+    Report {
+        status: status(notice),
+        notice,
+        history: List::new(alloc),
+        sessions: List::new(alloc),
+        free_pages: 0,
+        disk,
+        shelf,
     }
-}
-
-fn numbered_line(alloc: Global, words: &[u8], number: u64, end: &[u8]) -> Result<Bytes, Memory>
-    ensures { IfOk result (λ line. line ≡ words.now ++ decimal number ++ end.now) }
-{
-    let mut buffer = Buffer::new();
-    let mut line = Bytes::from_slice(alloc, words)?;
-    line.extend(buffer.format(number).as_bytes())?;
-    line.extend(end)?;
-    Ok(line)
 }

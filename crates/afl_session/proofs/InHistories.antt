@@ -15,7 +15,7 @@ use Rattle.session_answers.specs.Replies.{IsToldFor}
 use Rattle.session_answers.specs.Reply.{Reply}
 use Rattle.session_answers.specs.Start.{Start}
 use Rattle.session_answers.specs.Told.{entries_in, is_sealed}
-use Rattle.session_answers.proofs.Staying.{entered_later, replies_stay}
+use Rattle.session_answers.proofs.Staying.{entered_later, no_room_later, replies_stay}
 use Rattle.session_reports.specs.declared.reports.Mark.{Mark}
 use Rattle.session_reports.specs.declared.reports.SessionEnd.{SessionEnd}
 use Rattle.session_reports.specs.declared.reports.SessionEnd.TheVariants as ends
@@ -51,6 +51,7 @@ module _ {D : Type 0} (moment : D → Moment) (origin : Start D) (session : ℕ)
               (replies_stay moment origin session answered.pin new later answered.own [] text tree reply reply.refusal answered.course sealed (answered.until tree derives) t.1),
         );
     until = answered.until;
+    full = λ tree derives is. no_room_later origin old new later reply.place (answered.full tree derives is);
     stopped = answered.stopped;
   }
 

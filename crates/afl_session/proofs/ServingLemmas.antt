@@ -57,8 +57,8 @@ module _ {D : Type 0} (moment : D → Moment) (origin : Start D) (session : ℕ)
   empty_text : (old new : List Event) (last bytes : ℕ) (text : Option (List ℕ)) (reply : Reply) → IsReplyOf (AnswersText moment origin session) old new last bytes text reply
       → is_want reply.refusal ≡ true → reply.text ≡ []
   empty_text old new last bytes None reply replied want = elim replied.words [
-    | inl told ↦ let other : is_want reply.refusal ≡ false = ap (λ (words : Words). is_want words.refusal) told in absurd (cc (want, other))
-    | inr none ↦ none.0
+    | inl told ↦ let other : is_want reply.refusal ≡ false = ap (λ (words : Words). is_want words.refusal) told.0 in absurd (cc (want, other))
+    | inr none ↦ none.0.0
   ]
   empty_text old new last bytes (Some text) reply replied want = empty_line reply reply.refusal replied.line want
 

@@ -4,12 +4,13 @@ use Rattle.afl_outside.specs.Disk.{Moment}
 use Rattle.afl_trees.specs.Term.{Term}
 use Rattle.afl_trees.specs.Statement.{DerivesText, StopsText}
 use Rattle.afl_trees.specs.declared.kind.ParseKind.{ParseKind}
-use Rattle.result_print.specs.declared.refusal.Refusal.TheVariants.{Memory}
+use Rattle.result_print.specs.declared.refusal.Refusal.TheVariants.{HistoryFull}
 use Rattle.session_answers.specs.Acts.{acts_for, acts_in, Course}
 use Rattle.session_answers.specs.Answered.{BeganAt, IsStopReply}
 use Rattle.session_answers.specs.Courses.{AddsOwn}
 use Rattle.session_answers.specs.Event.{Event}
-use Rattle.session_answers.specs.Replies.{HasLine, IsToldFor}
+use Rattle.session_answers.specs.Refusals.{IsWantBetween}
+use Rattle.session_answers.specs.Replies.{HadNoRoom, HasLine, IsToldFor}
 use Rattle.session_answers.specs.Reply.{Reply}
 use Rattle.session_answers.specs.Start.{Start}
 use Rattle.session_answers.specs.Told.{entries_in}
@@ -30,7 +31,8 @@ pub record IsAnsweredIn {D : Type 0} (moment : D → Moment) (origin : Start D) 
   pub told : (tree : Term) → DerivesText text tree
       → (length (entries_in old) ≤ reply.place) × IsToldFor moment origin session pin events own text tree reply reply.refusal course
   pub until : (tree : Term) → DerivesText text tree → reply.place ≤ length (entries_in new)
-  pub stopped : (at : ℕ) (kind : ParseKind) → StopsText text at kind → (own ≡ []) × (IsStopReply last at kind reply ⊎ (reply.refusal ≡ Some Memory))
+  pub full : (tree : Term) → DerivesText text tree → reply.refusal ≡ Some HistoryFull → HadNoRoom origin old events reply.place
+  pub stopped : (at : ℕ) (kind : ParseKind) → StopsText text at kind → (own ≡ []) × (IsStopReply last at kind reply ⊎ IsWantBetween old new reply)
 
 module _ {D : Type 0} (moment : D → Moment) (origin : Start D) (session : ℕ) (events : List Event) where
   abbrev pub AnswersTextIn : ReplyRule

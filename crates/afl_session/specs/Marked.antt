@@ -1,7 +1,8 @@
 -- The mark of a statement that a session was answered, and the text that was written for it.
 --
 -- A statement that is too long is told so: its session does nothing for it, and its place is that of the last reply. Any other is answered as
--- its text says. Where no memory was found for a reply, its text is empty, and the line of that is written.
+-- its text says. Where no memory was found for a reply, its text is empty, the line of that is written, and its place is behind all that the
+-- session had seen.
 use Rattle.std.specs.Prelude.{◌≡◌, ◌⊎◌, ℕ, ◌-◌, if◌then◌else◌, List, [], Option, None, Some}
 use Rattle.afl_lexer.specs.Split.{Statement}
 use Rattle.afl_outside.specs.Disk.{Moment}
@@ -9,6 +10,7 @@ use Rattle.result_print.specs.declared.refusal.Refusal.TheVariants.{Memory}
 use Rattle.statement_replies.specs.Reply.{memory_line, too_long}
 use Rattle.session_answers.specs.Answered.{IsAnswered}
 use Rattle.session_answers.specs.Event.{Event}
+use Rattle.session_answers.specs.Refusals.{IsWantBetween}
 use Rattle.session_answers.specs.Replies.{words_of}
 use Rattle.session_answers.specs.Reply.{Reply}
 use Rattle.session_answers.specs.Start.{Start}
@@ -25,11 +27,10 @@ abbrev pub reply_told : Mark → List ℕ → Reply
 reply_told mark written =
     record { text = if is_want mark.refusal then [] else written; refusal = mark.refusal; place = mark.place }
 
--- the reply to a statement of too many bytes: that, or that no memory was found. Its session did nothing, and its place is that of the last one
+-- the reply to a statement of too many bytes: that, at the place of the last reply; or that no memory was found. Its session did nothing
 pub record IsTooLongReply (old new : List Event) (last bytes : ℕ) (reply : Reply) : Type 0 where
   pub same : new ≡ old
-  pub place : reply.place ≡ last
-  pub words : (words_of reply ≡ too_long bytes) ⊎ ((reply.text ≡ []) × (reply.refusal ≡ Some Memory))
+  pub words : ((words_of reply ≡ too_long bytes) × (reply.place ≡ last)) ⊎ IsWantBetween old new reply
 
 -- what has to hold of a text and its reply, between what its session had seen before and then, and behind the place of its last reply
 abbrev pub ReplyRule : Type 1

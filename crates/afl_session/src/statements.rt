@@ -4,13 +4,13 @@ ghost use Rattle.afl_outside.specs.Counts.{Rose};
 ghost use Rattle.afl_outside.specs.Sink.{Takes};
 ghost use Rattle.session_answers.specs.Seats.{last_place, seen, session_of, start, HoldsNone, IsIdle, IsSeatOf};
 ghost use Rattle.afl_session.specs.Inner.Serving.{GoesOn, mark_at, reached, statement_at};
-ghost use Rattle.afl_session.specs.Marked.{AnswersText, IsMarked, IsReplyOf, written_for};
+ghost use Rattle.afl_session.specs.Marked.{AnswersText, IsMarked, IsReplyOf, IsTooLongReply, written_for};
 ghost use Rattle.session_reports.specs.Outcomes.{is_want};
 
 use crate::streams::{Stopped, write_whole};
 use afl_outside::{Disk, Gate, Sink};
 use result_print::Refusal;
-use session_answers::{Options, Reply, Seat, Shared, answer, refusal_at};
+use session_answers::{Options, Reply, Seat, Shared, answer, refusal_or_want};
 use session_reports::Mark;
 use std::alloc::{AllocError, Global};
 use std::sync::Wait;
@@ -41,12 +41,41 @@ fn reply_to<D: Disk, R: Wait, G: Gate>(
 {
     match text {
         Some(text) => answer(rt, alloc, shared, seat, text, number, options, gate),
-        None => {
-            let bytes = to.saturating_sub(from);
-            let last = seat.last();
-            (refusal_at(alloc, Refusal::TooLong { bytes }, last), seat)
-        }
+        None => too_long(alloc, shared, seat, from, to),
     }
+}
+
+/// How many bytes stand between two places.
+fn length_between(from: u64, to: u64) -> u64
+    ensures { result ≡ to - from }
+{
+    to.saturating_sub(from)
+}
+
+/// The reply to a statement of too many bytes between these places. Its session keeps the reply's place.
+fn too_long<D: Disk>(
+    alloc: Global,
+    shared: &Shared<D>,
+    seat: Seat<D>,
+    from: u64,
+    to: u64,
+) -> (Reply, Seat<D>)
+    requires seat { IsSeatOf shared.now seat × IsIdle seat }
+    requires none { HoldsNone D.moment shared.now seat }
+    ensures seat { IsSeatOf shared.now result.1 × IsIdle result.1 }
+    ensures session { session_of result.1 ≡ session_of seat }
+    ensures none { HoldsNone D.moment shared.now result.1 }
+    ensures last { last_place result.1 ≡ result.0.place }
+    ensures answered { IsTooLongReply (seen seat) (seen result.1) (last_place seat) (to - from) result.0 }
+{
+    let _ = shared;
+    let mut seat = seat;
+    let last = seat.last();
+    let count = seat.seen();
+    let bytes = length_between(from, to);
+    let reply = refusal_or_want(alloc, Refusal::TooLong { bytes }, last, count);
+    seat.keep_last(reply.place);
+    (reply, seat)
 }
 
 /// Whether no memory was found for a reply.

@@ -1,3 +1,14 @@
+pub use Rattle.check_queries.specs.Arrays
+pub use Rattle.check_queries.specs.Calls
+pub use Rattle.check_queries.specs.Content
+pub use Rattle.check_queries.specs.GroupCalls
+pub use Rattle.check_queries.specs.JoinCalls
+pub use Rattle.check_queries.specs.MovedCalls
+pub use Rattle.check_queries.specs.Queries
+pub use Rattle.check_queries.specs.Redimension
+pub use Rattle.check_queries.specs.declared.call.Call
+pub use Rattle.check_queries.specs.declared.call.OverSource
+pub use Rattle.check_queries.specs.declared.call.OverTwo
 pub mod Changes
 pub mod Checking
 pub mod Place

@@ -7,24 +7,32 @@ use afl_run::Arg;
 const HELP: &str = "\
 usage: aflshell try
        aflshell init DB
+       aflshell run DB [--pages N] [--history N] SCRIPT..
 
   try        answers the statements of standard input on standard output,
-             over an empty database
+             over an empty database in memory
   init DB    makes the file DB, which must be new or empty, a database
              with no array
+  run DB     answers 1 to 16 scripts over the database in the file DB, each in
+             a session of its own and all side by side. The replies to the
+             script FILE are written to FILE.out; the script '-' is standard
+             input, and its replies go to standard output
+  --pages    at most so many pages of 4096 bytes, 16 to 1048576 (65536)
+  --history  at most so many entries of history, 16 to 1048576 (1048576)
 
-A statement is an AFL query. A ';' stands between statements, and the last one
-needs none. Changes and listings, as store(..) and list(..), are read, and
-answered 'error: not built'. Types are int64, string and bool.
+A statement is an AFL query or a change. A ';' stands between statements, and
+the last one needs none. Types are int64, string and bool.
 
 The exit status is
   0  where each statement was answered, or the database was made,
   1  where some statement was refused,
   2  where the words have no form,
   3  where the file DB failed,
-  4  where standard input or output failed,
+  4  where a script or its reply failed,
   5  where memory ran out,
-  7  where the file DB was not empty.
+  6  where the file DB is no database,
+  7  where the file DB was not empty,
+  8  where a page of the file DB is damaged.
 ";
 
 const VERSION: &str = "aflshell 0.1.0\n";

@@ -46,7 +46,7 @@ fn main(rt: HostRuntime) -> ExitCode {
     if let Some(text) = own_answer(&words) {
         return answer(&rt, alloc, text);
     }
-    let report = run(alloc, &words, HostShelf::new(rt), &OpenGate);
+    let report = run(&rt, alloc, &words, HostShelf::new(rt), &OpenGate);
     print_notice(&rt, alloc, &report.notice);
     ExitCode::from(report.status)
 }

@@ -4,7 +4,7 @@ use Rattle.std.specs.Prelude.{int_le, unsigned_abs}
 use Rattle.std.specs.Int.{int_min, int_max}
 use Rattle.std.proofs.lemmas.Int.{ints, clamps}
 use Rattle.std.proofs.Math.Nat.{div-mul-le_self, lt-div-mul-add}
-use Rattle.cell_values.specs.declared.schema.Dimension.{Dimension}
+use Rattle.array_rows.specs.Dimension.{Dimension}
 use Rattle.array_rows.specs.Rows.{Coordinate}
 use Rattle.array_rows.specs.Boxes.{is_inside, bounds_of}
 use Rattle.array_geom.specs.Geometry.{ChunkNumber, chunk_of, first_in, last_in, core, frame, has_core}

@@ -1,7 +1,7 @@
 -- What the tests ask of their example.
 use Rattle.std.proofs.Common.{◌≡◌, ℕ, pos, negsuc, true, List, [], ◌∷◌, refl, sym, subst, arith}
-use Rattle.cell_values.specs.declared.schema.Schema.{Schema}
-use Rattle.cell_values.specs.Schemas.{IsValid}
+use Rattle.array_rows.specs.Schema.{Schema}
+use Rattle.array_rows.specs.Schemas.{IsValid}
 use Rattle.array_rows.specs.Rows.{Coordinate}
 use Rattle.array_rows.specs.Boxes.{corners, bounds_of, is_inside}
 use Rattle.array_geom.specs.Areas.{is_in_range, shifted}

@@ -4,10 +4,10 @@ use Rattle.std.specs.List.{AllByRecursion}
 use Rattle.std.specs.Ordering.{is_eq}
 use Rattle.std.specs.declared.cmp.Ordering.{Ordering}
 use Rattle.std.specs.declared.cmp.Ordering.TheVariants.{Less, Equal, Greater}
-use Rattle.cell_values.specs.declared.datum.Cell.{Cell}
-use Rattle.cell_values.specs.declared.datum.Row.{Row}
-use Rattle.cell_values.specs.declared.schema.Bounds.{Bounds}
-use Rattle.cell_values.specs.declared.schema.Dimension.{Dimension}
+use Rattle.array_rows.specs.Cell.{Cell}
+use Rattle.array_rows.specs.Row.{Row}
+use Rattle.array_rows.specs.Bounds.{Bounds}
+use Rattle.array_rows.specs.Dimension.{Dimension}
 use Rattle.array_rows.specs.Arrays.{AreRows}
 use Rattle.array_rows.specs.Boxes.{is_inside, within, bounds_of}
 use Rattle.array_rows.specs.Rows.{Coordinate, row_major, cell_at, put_all}

@@ -1,13 +1,13 @@
 -- Two cells in the middle of four places: two chunks, each with a copy of the other's cell.
 use Rattle.std.proofs.Common.{◌≡◌, ℕ, zero, suc, ◌<◌, pos, Bool, true, false, cond, ◌||◌, List, [], ◌∷◌, length, None, Ok, refl, sym, ◌∙◌, codes, arith}
 use Rattle.std.specs.Ordering.{is_eq}
-use Rattle.cell_values.specs.declared.datum.Cell.{Cell}
-use Rattle.cell_values.specs.declared.datum.Cell.TheVariants.{Full}
-use Rattle.cell_values.specs.declared.datum.Datum.TheVariants.{Int}
-use Rattle.cell_values.specs.declared.datum.Row.{Row}
-use Rattle.cell_values.specs.declared.schema.Dimension.{Dimension}
-use Rattle.cell_values.specs.declared.schema.Kind.TheVariants.{Int64}
-use Rattle.cell_values.specs.declared.schema.Schema.{Schema}
+use Rattle.array_rows.specs.Cell.{Cell}
+use Rattle.array_rows.specs.Cell.TheVariants.{Full}
+use Rattle.array_rows.specs.Datum.TheVariants.{Int}
+use Rattle.array_rows.specs.Row.{Row}
+use Rattle.array_rows.specs.Dimension.{Dimension}
+use Rattle.array_rows.specs.Kind.TheVariants.{Int64}
+use Rattle.array_rows.specs.Schema.{Schema}
 use Rattle.array_rows.specs.Arrays.{AreRowsOf}
 use Rattle.array_rows.specs.Boxes.{is_inside}
 use Rattle.array_rows.specs.Rows.{Coordinate, placed}

@@ -4,7 +4,7 @@ use Rattle.std.specs.Bool.{◌==◌}
 use Rattle.std.specs.Prelude.{int_le, pos}
 use Rattle.std.proofs.lemmas.List.{take_all}
 use Rattle.std.specs.Int.{int_min, int_max}
-use Rattle.cell_values.specs.declared.schema.Dimension.{Dimension}
+use Rattle.array_rows.specs.Dimension.{Dimension}
 use Rattle.array_rows.specs.Boxes.{by_pairs}
 use Rattle.array_geom.specs.Areas.{are_ordered}
 use Rattle.array_geom.specs.Geometry.{first_in, last_in}

@@ -3,9 +3,9 @@ use Rattle.std.proofs.Common.{◌≡◌, ℕ, suc, ◌+◌, ◌-◌, ◌*◌, �
 use Rattle.std.specs.Prelude.{int_le, nat_le}
 use Rattle.std.specs.List.{list_all}
 use Rattle.std.proofs.lemmas.Int.{ints}
-use Rattle.cell_values.specs.declared.schema.Dimension.{Dimension}
-use Rattle.cell_values.specs.declared.schema.Schema.{Schema}
-use Rattle.cell_values.specs.Schemas.{is_bound, bounds_in_range, bounds_in_order, has_chunk, overlap_fits, is_dimension, has_attributes, has_dimensions, are_distinct, names_of, frame_length, frame_size, frame_fits, IsValid}
+use Rattle.array_rows.specs.Dimension.{Dimension}
+use Rattle.array_rows.specs.Schema.{Schema}
+use Rattle.array_rows.specs.Schemas.{is_bound, bounds_in_range, bounds_in_order, has_chunk, overlap_fits, is_dimension, has_attributes, has_dimensions, are_distinct, names_of, frame_length, frame_size, frame_fits, IsValid}
 use Rattle.array_rows.specs.Rows.{Coordinate}
 use Rattle.array_rows.specs.Boxes.{is_inside}
 use Rattle.array_geom.specs.declared.grid.Grid.{Grid}

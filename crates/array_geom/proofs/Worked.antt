@@ -1,8 +1,8 @@
 -- Two dimensions of four and six places in chunks of two and three with an overlap of one, and the greatest frames.
 use Rattle.std.proofs.Common.{◌≡◌, refl, pos, negsuc, true, false, List, [], ◌∷◌, codes, arith}
-use Rattle.cell_values.specs.declared.schema.Dimension.{Dimension}
-use Rattle.cell_values.specs.declared.datum.Cell.TheVariants.{Full}
-use Rattle.cell_values.specs.declared.datum.Datum.TheVariants.{Null, Int}
+use Rattle.array_rows.specs.Dimension.{Dimension}
+use Rattle.array_rows.specs.Cell.TheVariants.{Full}
+use Rattle.array_rows.specs.Datum.TheVariants.{Null, Int}
 use Rattle.array_rows.specs.Boxes.{corners}
 use Rattle.array_geom.specs.declared.chunk.Chunk.{Chunk}
 use Rattle.array_geom.specs.Geometry.{chunk_of, core, core_meets, frame, frame_lengths, has_core, coordinate_at, position_of, HasFrame}

@@ -1,8 +1,8 @@
 -- Boxes that are moved, and whether they hold anything.
 use Rattle.std.specs.Prelude.{◌≡◌, ℤ, ◌+ℤ◌, int_le, Bool, true, false, ◌&&◌, List, [], ◌∷◌, length}
 use Rattle.std.specs.List.{list_all}
-use Rattle.cell_values.specs.declared.schema.Bounds.{Bounds}
-use Rattle.cell_values.specs.Table.{fits_int64}
+use Rattle.array_rows.specs.Bounds.{Bounds}
+use Rattle.array_rows.specs.Table.{fits_int64}
 use Rattle.array_rows.specs.Rows.{Coordinate}
 use Rattle.array_rows.specs.Boxes.{by_pairs, corners}
 

@@ -1,8 +1,8 @@
 -- What a chunk of an array holds.
 use Rattle.std.specs.Prelude.{◌≡◌, ℕ, ◌<◌, List, [], ◌∷◌, length, IsTrue, ⊤}
 use Rattle.std.specs.List.{AllByRecursion, list_any}
-use Rattle.cell_values.specs.declared.schema.Schema.{Schema}
-use Rattle.cell_values.specs.Cells.{IsCellOf}
+use Rattle.array_rows.specs.Schema.{Schema}
+use Rattle.array_rows.specs.Cells.{IsCellOf}
 use Rattle.array_geom.specs.declared.chunk.Chunk.{Chunk}
 use Rattle.array_rows.specs.Boxes.{is_inside, bounds_of}
 use Rattle.array_geom.specs.Geometry.{HasFrame, core, coordinate_at, frame_lengths, volume}

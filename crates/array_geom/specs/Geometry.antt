@@ -2,10 +2,10 @@
 -- core is what the bounds leave of it, its frame is all of it with a margin on both sides, whatever the bounds are.
 use Rattle.std.specs.Prelude.{◌≡◌, ℕ, ◌+◌, ◌-◌, ◌*◌, ◌/◌, ◌%◌, ◌≤◌, ◌^◌, ℤ, pos, ◌+ℤ◌, ◌-ℤ◌, int_le, unsigned_abs, Bool, true, false, ◌&&◌, List, [], ◌∷◌, map, length, IsTrue}
 use Rattle.std.specs.Int.{int_min}
-use Rattle.cell_values.specs.declared.schema.Bounds.{Bounds}
-use Rattle.cell_values.specs.declared.schema.Dimension.{Dimension}
-use Rattle.cell_values.specs.declared.schema.Schema.{Schema}
-use Rattle.cell_values.specs.Schemas.{IsValid}
+use Rattle.array_rows.specs.Bounds.{Bounds}
+use Rattle.array_rows.specs.Dimension.{Dimension}
+use Rattle.array_rows.specs.Schema.{Schema}
+use Rattle.array_rows.specs.Schemas.{IsValid}
 use Rattle.array_rows.specs.Rows.{Coordinate}
 use Rattle.array_rows.specs.Boxes.{by_pairs, corners, meet}
 use Rattle.array_geom.specs.Areas.{holds_some}

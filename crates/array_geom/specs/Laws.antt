@@ -1,9 +1,9 @@
 -- Laws of boxes, cores, frames and places.
 use Rattle.std.specs.Prelude.{◌≡◌, ℕ, ◌<◌, ◌&&◌, List, length, IsTrue}
-use Rattle.cell_values.specs.declared.datum.Row.{Row}
-use Rattle.cell_values.specs.declared.schema.Bounds.{Bounds}
-use Rattle.cell_values.specs.declared.schema.Schema.{Schema}
-use Rattle.cell_values.specs.Schemas.{IsValid}
+use Rattle.array_rows.specs.Row.{Row}
+use Rattle.array_rows.specs.Bounds.{Bounds}
+use Rattle.array_rows.specs.Schema.{Schema}
+use Rattle.array_rows.specs.Schemas.{IsValid}
 use Rattle.array_rows.specs.Rows.{Coordinate}
 use Rattle.array_rows.specs.Boxes.{is_inside, meet, bounds_of}
 use Rattle.array_geom.specs.declared.chunk.ChunkedArray.{ChunkedArray}

@@ -6,12 +6,12 @@ use Rattle.std.specs.Ordering.{nat_cmp, is_eq}
 use Rattle.std.specs.declared.cmp.Ordering.{Ordering}
 use Rattle.std.specs.declared.cmp.Ordering.TheVariants.{Less}
 use Rattle.std.specs.Cmp.Lexicographic.{slice_cmp}
-use Rattle.cell_values.specs.declared.datum.Broken.{Broken}
-use Rattle.cell_values.specs.declared.datum.Cell.{Cell}
-use Rattle.cell_values.specs.declared.datum.Row.{Row}
-use Rattle.cell_values.specs.declared.schema.Dimension.{Dimension}
-use Rattle.cell_values.specs.declared.schema.Schema.{Schema}
-use Rattle.cell_values.specs.Schemas.{IsValid}
+use Rattle.array_rows.specs.Broken.{Broken}
+use Rattle.array_rows.specs.Cell.{Cell}
+use Rattle.array_rows.specs.Row.{Row}
+use Rattle.array_rows.specs.Dimension.{Dimension}
+use Rattle.array_rows.specs.Schema.{Schema}
+use Rattle.array_rows.specs.Schemas.{IsValid}
 use Rattle.array_rows.specs.Arrays.{AreRowsOf, Meant}
 use Rattle.array_rows.specs.Boxes.{by_pairs, within}
 use Rattle.array_rows.specs.Rows.{placed, put_all}

@@ -2,12 +2,12 @@
 ghost use Rattle.std.specs.Prelude.{◌≡◌, ◌+◌, ◌≤◌, ◌++◌, length, IsTrue};
 ghost use Rattle.std.specs.Int.{int_max, int_min};
 ghost use Rattle.std.specs.List.{list_all};
-ghost use Rattle.cell_values.specs.Table.{fits_int64};
-ghost use Rattle.cell_values.specs.declared.schema.Bounds.{Bounds as Area};
+ghost use Rattle.array_rows.specs.Table.{fits_int64};
+ghost use Rattle.array_rows.specs.Bounds.{Bounds as Area};
 ghost use Rattle.array_rows.specs.Boxes.{by_pairs, is_between, is_inside, meet};
 ghost use Rattle.array_geom.specs.Areas.{is_in_range, moved_by, shifted};
 
-use cell_values::{Bounds, Coord};
+use array_rows::{Bounds, Coord};
 
 /// The calls of a box of coordinates.
 pub trait Boxes {

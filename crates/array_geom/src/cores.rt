@@ -2,13 +2,13 @@
 ghost use Rattle.std.specs.Prelude.{◌≡◌, ◌+◌, ◌*◌, ◌/◌, ◌≤◌, ◌<◌, ℕ, ℤ, pos, ◌≤ℤ◌, ◌+ℤ◌, ◌-ℤ◌, ◌++◌, List as Items, filter, map, length, int_le, unsigned_abs, IsTrue, IfOk};
 ghost use Rattle.std.specs.List.{AllByRecursion};
 ghost use Rattle.std.specs.Int.{int_min, int_max};
-ghost use Rattle.cell_values.specs.Schemas.{IsValid};
+ghost use Rattle.array_rows.specs.Schemas.{IsValid};
 ghost use Rattle.array_rows.specs.Boxes.{bounds_of, by_pairs, is_inside, is_between};
 ghost use Rattle.array_geom.specs.Areas.{are_ordered};
 ghost use Rattle.array_geom.specs.Geometry.{chunk_of, core, core_meets, first_in, has_core, last_in};
 ghost use Rattle.array_geom.specs.Inner.Ranges.{IsNear, AreNear};
 
-use cell_values::{Bounds, ChunkAt, Coord, Dimension, List, Memory, Schema, copy_numbers};
+use array_rows::{Bounds, ChunkAt, Coord, Dimension, List, Memory, Schema, copy_numbers};
 use std::alloc::Global;
 
 /// The number of the chunk that has a place in its core.

@@ -6,7 +6,7 @@ ghost use Rattle.array_geom.specs.Inner.Ranges.{IsNear, AreNear, IsGrid, AreMarg
 
 use crate::cores::{first_of, last_of};
 use crate::{Grid, Lengths};
-use cell_values::{Bounds, ChunkAt, Coord, Dimension, Margins, Schema};
+use array_rows::{Bounds, ChunkAt, Coord, Dimension, Margins, Schema};
 
 /// The first number of a frame.
 fn low_of(d: &Dimension, margin: u64, k: u64) -> i64

@@ -3,8 +3,8 @@ ghost use Rattle.std.specs.Prelude.{◌≡◌, ℤ, ◌+◌, ◌*◌, ◌%◌, �
 ghost use Rattle.array_geom.specs.Geometry.{coordinate_in, position_in, volume};
 ghost use Rattle.array_geom.specs.Inner.Ranges.{IsGrid, AreLow, AreLengths, is_in_grid};
 
+use array_rows::Coord;
 use arrayvec::ArrayVec;
-use cell_values::Coord;
 
 /// How long a box is in each dimension.
 pub type Lengths = ArrayVec<u64, 6>;

@@ -1,9 +1,9 @@
 //! The margins with which the chunks of a schema are stored.
 ghost use Rattle.std.specs.Prelude.{◌≡◌, ◌+◌, ◌≤◌, ◌++◌, length};
-ghost use Rattle.cell_values.specs.Schemas.{IsValid};
+ghost use Rattle.array_rows.specs.Schemas.{IsValid};
 ghost use Rattle.array_geom.specs.Geometry.{overlaps};
 
-use cell_values::{Dimension, Margins, Schema};
+use array_rows::{Dimension, Margins, Schema};
 
 fn push_overlaps(margins: &mut Margins, dims: &[Dimension])
     requires { length margins.old.items + length dims.now ≤ 6 }

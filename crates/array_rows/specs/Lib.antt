@@ -1,3 +1,14 @@
+pub use Rattle.cell_values.specs.Cells
+pub use Rattle.cell_values.specs.Schemas
+pub use Rattle.cell_values.specs.Table
+pub use Rattle.cell_values.specs.declared.datum.Broken
+pub use Rattle.cell_values.specs.declared.datum.Cell
+pub use Rattle.cell_values.specs.declared.datum.Datum
+pub use Rattle.cell_values.specs.declared.datum.Row
+pub use Rattle.cell_values.specs.declared.schema.Bounds
+pub use Rattle.cell_values.specs.declared.schema.Dimension
+pub use Rattle.cell_values.specs.declared.schema.Kind
+pub use Rattle.cell_values.specs.declared.schema.Schema
 pub mod Arrays
 pub mod Boxes
 pub mod Cellwise

@@ -17,13 +17,13 @@ use Rattle.store_ledger.specs.Ledger.{Event as LedgerEvent, LedgerState, IsLedge
 use Rattle.store_ledger.proofs.Events.{events_grow_by_entries, events_grow_by_notes}
 use Rattle.store_ledger.proofs.Told.{notes_are_within}
 use Rattle.afl_outside.specs.Disk.{Moment}
-use Rattle.store_state.specs.declared.event.Event.{Event}
-use Rattle.store_state.specs.declared.event.Event.TheVariants.{Entered, Acknowledged, Noted}
-use Rattle.store_state.specs.declared.parts.StoreParts.{StoreParts}
-use Rattle.store_state.specs.At.{AreParts, standing}
-use Rattle.store_state.specs.Calls.{NotesFault}
-use Rattle.store_state.specs.Events.{Seal, events, sealed}
-use Rattle.store_state.specs.Standings.{Standing, with_entries}
+use Rattle.store_opening.specs.Event.{Event}
+use Rattle.store_opening.specs.Event.TheVariants.{Entered, Acknowledged, Noted}
+use Rattle.store_opening.specs.StoreParts.{StoreParts}
+use Rattle.store_opening.specs.At.{AreParts, standing}
+use Rattle.store_opening.specs.Calls.{NotesFault}
+use Rattle.store_opening.specs.Events.{Seal, events, sealed}
+use Rattle.store_opening.specs.Standings.{Standing, with_entries}
 use Rattle.array_store.specs.Growth.{AddsEvents, AddsFault, IsCounted, fault_events, is_plain}
 use Rattle.array_store.specs.Laws.{EntriesAddEvents, CommitsAddEvents, NotesAddEvents, FaultsAddEvents}
 

@@ -9,8 +9,8 @@ use Rattle.event_core.specs.declared.entry.Entry.TheVariants.{Pin, Unpin, Commit
 use Rattle.event_core.proofs.Tests.{both_not}
 use Rattle.store_ledger.specs.declared.note.Note.{Note}
 use Rattle.store_ledger.specs.Ledger.{Event as LedgerEvent, entered, noted, events_from, events as ledger_events}
-use Rattle.store_state.specs.Events.{Seal, events, sealed}
-use Rattle.store_state.specs.Standings.{Standing}
+use Rattle.store_opening.specs.Events.{Seal, events, sealed}
+use Rattle.store_opening.specs.Standings.{Standing}
 
 here_le : (place n : ℕ) → nat_eq n place ≡ true → nat_le place n ≡ true
 here_le place n e = grind (arith, nat_tests)

@@ -9,9 +9,9 @@ use Rattle.file_meaning.specs.Standing.{Stands}
 use Rattle.commit_writes.specs.declared.stopped.Stopped.{Stopped}
 use Rattle.event_core.specs.declared.entry.Entry.{Entry}
 use Rattle.event_core.specs.Cells.{at}
-use Rattle.store_state.specs.declared.parts.StoreParts.{StoreParts}
-use Rattle.store_state.specs.At.{AreParts, standing}
-use Rattle.store_state.specs.Standings.{Standing, BeganAs, StandsFor, database_at}
+use Rattle.store_opening.specs.StoreParts.{StoreParts}
+use Rattle.store_opening.specs.At.{AreParts, standing}
+use Rattle.store_opening.specs.Standings.{Standing, BeganAs, StandsFor, database_at}
 use Rattle.prepared_commits.specs.declared.prepared.Prepared.{Prepared}
 use Rattle.store_sealing.specs.Steps.{sealed, stopped}
 use Rattle.store_opening.specs.declared.opening.Limits.{Limits}
@@ -33,7 +33,7 @@ new_stands moment limits parts is new db began image left =
     (subst (λ (entries : List Entry). StandsFor (at db (reverse entries)) parts.doubt image) new.entries (images_stand moment parts is db began image left))
 
 -- of one over which a commit was sealed, or stopped
-same_opened : {D : Type 0} (moment : D → Moment) (old new : StoreParts D) (p : Prepared) (result : Result ℕ Failed)
+pub same_opened : {D : Type 0} (moment : D → Moment) (old new : StoreParts D) (p : Prepared) (result : Result ℕ Failed)
     → IfOk result (λ place. (place ≡ length old.ledger.entries) × (standing moment new ≡ sealed moment (standing moment old) p new.ledger new.file.disk))
     → OnErr result ((stage : Stopped) × (standing moment new ≡ stopped stage (standing moment old) p new.ledger new.file.disk))
     → new.opened.value ≡ old.opened.value

@@ -7,10 +7,10 @@ use Rattle.event_core.specs.declared.entry.Entry.TheVariants.{Reap}
 use Rattle.store_ledger.specs.declared.note.Note.{Note}
 use Rattle.plan_changes.specs.declared.change.Change.{Change}
 use Rattle.store_ledger.specs.Ledger.{attempt, note_now}
-use Rattle.store_state.specs.declared.event.Event.{Event}
-use Rattle.store_state.specs.declared.event.Event.TheVariants.{Entered, Noted}
-use Rattle.store_state.specs.Events.{events}
-use Rattle.store_state.specs.Standings.{Standing, with_notes}
+use Rattle.store_opening.specs.Event.{Event}
+use Rattle.store_opening.specs.Event.TheVariants.{Entered, Noted}
+use Rattle.store_opening.specs.Events.{events}
+use Rattle.store_opening.specs.Standings.{Standing, with_notes}
 use Rattle.prepared_commits.specs.declared.fault.PrepareFault.{PrepareFault}
 use Rattle.prepared_commits.specs.declared.fault.PrepareFault.TheVariants.{SequenceEnd, Full, Memory}
 use Rattle.store_preparing.specs.Parts.{is_short}

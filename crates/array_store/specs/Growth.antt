@@ -8,10 +8,10 @@ use Rattle.event_core.specs.Bases.{commits}
 use Rattle.plan_changes.specs.declared.change.Change.{Change}
 use Rattle.store_ledger.specs.declared.note.NoteKind.TheVariants.{Fault}
 use Rattle.store_ledger.specs.Ledger.{LedgerState, AreWithin, attempt, history, is_fault, is_noted, note_now}
-use Rattle.store_state.specs.declared.event.Event.{Event}
-use Rattle.store_state.specs.declared.event.Event.TheVariants.{Entered, Noted}
-use Rattle.store_state.specs.Events.{events}
-use Rattle.store_state.specs.Standings.{Standing}
+use Rattle.store_opening.specs.Event.{Event}
+use Rattle.store_opening.specs.Event.TheVariants.{Entered, Noted}
+use Rattle.store_opening.specs.Events.{events}
+use Rattle.store_opening.specs.Standings.{Standing}
 use Rattle.array_store.specs.Starts.{start_of}
 
 -- the store has these events more, behind all others, and its start is the same

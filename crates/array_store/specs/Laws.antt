@@ -7,8 +7,8 @@ use Rattle.event_core.specs.declared.entry.Entry.TheVariants.{Commit}
 use Rattle.event_core.specs.declared.entry.Used.{Used}
 use Rattle.store_ledger.specs.declared.note.Note.{Note}
 use Rattle.store_ledger.specs.Ledger.{with_entries as more_entries, with_fault}
-use Rattle.store_state.specs.declared.event.Event.TheVariants.{Entered, Acknowledged, Noted}
-use Rattle.store_state.specs.Standings.{Standing, with_entries, with_notes}
+use Rattle.store_opening.specs.Event.TheVariants.{Entered, Acknowledged, Noted}
+use Rattle.store_opening.specs.Standings.{Standing, with_entries, with_notes}
 use Rattle.array_store.specs.Growth.{AddsEvents, IsCounted, fault_events, is_plain}
 
 -- one more entry that is no commit is the last event

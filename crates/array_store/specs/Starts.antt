@@ -1,7 +1,7 @@
 -- How a store began.
 use Rattle.std.specs.Prelude.{map}
 use Rattle.store_versions.specs.Versions.{MadeVersion}
-use Rattle.store_state.specs.Standings.{Standing}
+use Rattle.store_opening.specs.Standings.{Standing}
 use Rattle.array_store.specs.declared.start.FirstVersion.{FirstVersion}
 use Rattle.array_store.specs.declared.start.Start.{Start}
 

@@ -3,8 +3,8 @@ ghost use Rattle.std.specs.Prelude.{◌≡◌, ℕ, List, IfSome, IfOk, IfErr, M
 ghost use Rattle.page_slots.specs.Puts.{OnlySyncs};
 ghost use Rattle.plan_changes.specs.Databases.{Database};
 ghost use Rattle.file_meaning.specs.Standing.{Stands};
-ghost use Rattle.store_state.specs.At.{standing};
-ghost use Rattle.store_state.specs.Standings.{BeganAs};
+ghost use Rattle.store_opening.specs.At.{standing};
+ghost use Rattle.store_opening.specs.Standings.{BeganAs};
 ghost use Rattle.store_opening.specs.Opened.{HasCause, HasFound, IsNew, IsToldBy, WasOpened};
 
 use crate::Store;

@@ -8,11 +8,11 @@ ghost use Rattle.event_core.specs.Allowed.{is_pinned};
 ghost use Rattle.event_core.specs.Cells.{at};
 ghost use Rattle.event_core.specs.History.{names_at};
 ghost use Rattle.store_ledger.specs.Ledger.{IsOpenPin, history};
-ghost use Rattle.store_state.specs.At.{keeping, standing};
-ghost use Rattle.store_state.specs.Calls.{chunks_at, database_with, history_at, payload_at, IsLeafOf, IsUnread, NotesFault};
-ghost use Rattle.store_state.specs.Payloads.{HasTold, WasDamagedAt};
-ghost use Rattle.store_state.specs.Standings.{database_at, BeganAs};
-ghost use Rattle.store_state.specs.declared.fault.ReadFault.TheVariants.{Damaged};
+ghost use Rattle.store_opening.specs.At.{keeping, standing};
+ghost use Rattle.store_opening.specs.Calls.{chunks_at, database_with, history_at, payload_at, IsLeafOf, IsUnread, NotesFault};
+ghost use Rattle.store_opening.specs.Payloads.{HasTold, WasDamagedAt};
+ghost use Rattle.store_opening.specs.Standings.{database_at, BeganAs};
+ghost use Rattle.store_opening.specs.ReadFault.TheVariants.{Damaged};
 ghost use Rattle.array_store.specs.Growth.{AddsFault};
 
 use crate::Store;
@@ -22,7 +22,7 @@ use cell_values::{ChunkAt, List, Memory};
 use logical_plan::Leaf;
 use std::alloc::Global;
 use store_ledger::Pinned;
-use store_state::{ReadFault, listed, listed_now, read_chunk, read_now};
+use store_opening::{ReadFault, listed, listed_now, read_chunk, read_now};
 
 impl<D: Disk> Store<D> {
     /// The numbers of a leaf's chunks under a pin, rising.

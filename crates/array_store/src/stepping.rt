@@ -5,10 +5,10 @@ ghost use Rattle.event_core.specs.Allowed.{is_pinned};
 ghost use Rattle.event_core.specs.History.{names_at};
 ghost use Rattle.store_ledger.specs.declared.note.NoteKind.{NoteKind};
 ghost use Rattle.store_ledger.specs.Ledger.{IsOpenPin, IsRefused, has_room, history, is_noted, reap_comes};
-ghost use Rattle.store_state.specs.declared.event.Event.TheVariants.{Entered};
+ghost use Rattle.store_opening.specs.Event.TheVariants.{Entered};
 ghost use Rattle.store_versions.specs.Rows.{needed_rows, places_at};
-ghost use Rattle.store_state.specs.At.{keeping, standing};
-ghost use Rattle.store_state.specs.Standings.{with_entries};
+ghost use Rattle.store_opening.specs.At.{keeping, standing};
+ghost use Rattle.store_opening.specs.Standings.{with_entries};
 ghost use Rattle.array_store.specs.Growth.{AddsEvents};
 
 use crate::Store;
@@ -16,7 +16,7 @@ use crate::store::is_ledger;
 use afl_outside::Disk;
 use cell_values::Memory;
 use store_ledger::{PinFault, Pinned};
-use store_state::{pin, reap, unpin};
+use store_opening::{pin, reap, unpin};
 
 impl<D: Disk> Store<D> {
     /// A session begins to see what can be named now.

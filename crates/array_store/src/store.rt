@@ -4,8 +4,8 @@ ghost use Rattle.plan_changes.specs.Databases.{Database};
 ghost use Rattle.plan_changes.specs.Stored.{AreStored};
 ghost use Rattle.event_core.specs.History.{names_at};
 ghost use Rattle.store_ledger.specs.Ledger.{IsLedger, history, unused_pages};
-ghost use Rattle.store_state.specs.At.{standing};
-ghost use Rattle.store_state.specs.Standings.{BeganAs, StandsFor, database_at};
+ghost use Rattle.store_opening.specs.At.{standing};
+ghost use Rattle.store_opening.specs.Standings.{BeganAs, StandsFor, database_at};
 
 use crate::Start;
 use afl_outside::Disk;
@@ -14,7 +14,7 @@ use event_core::Entry;
 use logical_plan::Names;
 use std::marker::Model;
 use store_ledger::Ledger;
-use store_state::{Event, StoreParts};
+use store_opening::{Event, StoreParts};
 use turn_lock::History;
 
 /// A store: an array database in a file, with the history of what was done since it was opened.
@@ -24,7 +24,7 @@ pub struct Store<D: Disk> {
 }
 
 impl<D: Disk> Model for Store<D> {
-    ghost use Rattle.store_state.specs.declared.parts.StoreParts.{StoreParts};
+    ghost use Rattle.store_opening.specs.StoreParts.{StoreParts};
 
     ghost Value = { StoreParts D };
 
@@ -33,16 +33,16 @@ impl<D: Disk> Model for Store<D> {
 
     ghost coded = { Prim.hlevel (codes, query_code) };
 
-    ghost use Rattle.store_state.specs.At.{AreParts};
+    ghost use Rattle.array_store.specs.Kept.{IsStore};
 
     ghost view = { λ s. s.parts };
 
-    ghost invariant = { λ s. AreParts D.moment s.parts };
+    ghost invariant = { λ s. IsStore D.moment s.parts };
 }
 
 impl<D: Disk> History for Store<D> {
-    ghost use Rattle.store_state.specs.At.{standing};
-    ghost use Rattle.store_state.specs.Events.{events, owner_of};
+    ghost use Rattle.store_opening.specs.At.{standing};
+    ghost use Rattle.store_opening.specs.Events.{events, owner_of};
     ghost use Rattle.array_store.specs.Starts.{start_of};
 
     type Origin = Start<D>;

@@ -9,12 +9,12 @@ use Rattle.std.proofs.lemmas.Bool.{and_parts, not-true}
 use Rattle.std.proofs.lemmas.Bool.Decides.{nat_tests}
 use Rattle.std.proofs.lemmas.List.Sums.{sum_by-cons}
 use Rattle.cell_values.specs.declared.schema.Schema.{Schema}
-use Rattle.plan_changes.specs.Allowed.{has_room}
-use Rattle.plan_changes.specs.Changes.{is_named, has_array, next_or, next_of, new_entry, names_after}
-use Rattle.plan_changes.specs.Stored.{is_before, IsStored, RiseBetween}
-use Rattle.plan_changes.proofs.Found.{find_inserted, find_changed, find_kept, find_image}
-use Rattle.plan_changes.proofs.NamesOf.{names_depend_on_no_row}
-use Rattle.plan_changes.proofs.Stays.{not_both}
+use Rattle.version_catalog.specs.Allowed.{has_room}
+use Rattle.version_catalog.specs.Changes.{is_named, has_array, next_or, next_of, new_entry, names_after}
+use Rattle.version_catalog.specs.Stored.{is_before, IsStored, RiseBetween}
+use Rattle.version_catalog.proofs.Found.{find_inserted, find_changed, find_kept, find_image}
+use Rattle.version_catalog.proofs.NamesOf.{names_depend_on_no_row}
+use Rattle.version_catalog.proofs.Stays.{not_both}
 use Rattle.version_catalog.specs.declared.rules.catalog.BlobAt.{BlobAt}
 use Rattle.version_catalog.specs.declared.rules.catalog.CatalogArray.{CatalogArray}
 use Rattle.version_catalog.specs.declared.rules.catalog_record.CatalogRecord.TheVariants.{Create, First, Next, Remove, RemoveVersions}

@@ -6,15 +6,15 @@ use Rattle.std.proofs.lemmas.List.{length-append, length-drop}
 use Rattle.std.proofs.lemmas.List.Sums.{sum_by-cons}
 use Rattle.cell_values.specs.Naming.{IsName}
 use Rattle.cell_values.specs.declared.schema.Schema.{Schema}
-use Rattle.logical_plan.specs.declared.names.NameEntry.{NameEntry}
-use Rattle.plan_changes.specs.declared.change.Change.{Change}
-use Rattle.plan_changes.specs.declared.change.Change.TheVariants.{Create, Store, Insert, Remove, RemoveVersions}
-use Rattle.plan_changes.specs.Allowed.{has_room, has_number}
-use Rattle.plan_changes.specs.Changes.{is_named, has_array, new_entry, with_array, with_version, without_below, arrays_after}
-use Rattle.plan_changes.specs.Stored.{is_before, AreStored}
-use Rattle.plan_changes.proofs.FitLaws.{mapped}
-use Rattle.plan_changes.proofs.NamesOf.{map_filter, prefix_map, map_insert, map_map}
-use Rattle.plan_changes.proofs.StoredLaws.{all_inserted, all_less, add_array, add_version, take_out, cut_versions, stored_numbers}
+use Rattle.version_catalog.specs.NameEntry.{NameEntry}
+use Rattle.version_catalog.specs.Change.{Change}
+use Rattle.version_catalog.specs.Change.TheVariants.{Create, Store, Insert, Remove, RemoveVersions}
+use Rattle.version_catalog.specs.Allowed.{has_room, has_number}
+use Rattle.version_catalog.specs.Changes.{is_named, has_array, new_entry, with_array, with_version, without_below, arrays_after}
+use Rattle.version_catalog.specs.Stored.{is_before, AreStored}
+use Rattle.version_catalog.proofs.FitLaws.{mapped}
+use Rattle.version_catalog.proofs.NamesOf.{map_filter, prefix_map, map_insert, map_map}
+use Rattle.version_catalog.proofs.StoredLaws.{all_inserted, all_less, add_array, add_version, take_out, cut_versions, stored_numbers}
 use Rattle.file_items.specs.Spelling.{IsSpelled}
 use Rattle.version_catalog.specs.declared.rules.catalog.BlobAt.{BlobAt}
 use Rattle.version_catalog.specs.declared.rules.catalog.CatalogArray.{CatalogArray}

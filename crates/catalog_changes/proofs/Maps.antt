@@ -4,9 +4,9 @@ use Rattle.std.specs.List.{list_all, list_any, find, insert}
 use Rattle.std.proofs.lemmas.Bool.{and_from, or_parts, cases_lt}
 use Rattle.std.proofs.lemmas.List.{take_at, length-drop}
 use Rattle.cell_values.specs.declared.schema.Schema.{Schema}
-use Rattle.plan_changes.specs.Allowed.{has_number}
-use Rattle.plan_changes.proofs.Maps.{all_inserted}
-use Rattle.plan_changes.specs.Changes.{is_named, has_array, newest_or, newest_of, new_entry}
+use Rattle.version_catalog.specs.Allowed.{has_number}
+use Rattle.version_catalog.proofs.Maps.{all_inserted}
+use Rattle.version_catalog.specs.Changes.{is_named, has_array, newest_or, newest_of, new_entry}
 use Rattle.version_catalog.specs.declared.rules.catalog.BlobAt.{BlobAt}
 use Rattle.version_catalog.specs.declared.rules.catalog.CatalogArray.{CatalogArray}
 use Rattle.catalog_changes.specs.Records.{entries_of, is_array, newest_in}

@@ -5,11 +5,11 @@ use Rattle.std.proofs.lemmas.Bool.{and_parts, and_from}
 use Rattle.cell_values.specs.declared.memory.Memory.{Memory}
 use Rattle.cell_values.specs.declared.schema.Schema.{Schema}
 use Rattle.cell_values.specs.Schemas.{is_valid}
-use Rattle.logical_plan.specs.Query.{Query}
-use Rattle.plan_changes.specs.declared.change.Change.{Change}
-use Rattle.plan_changes.specs.declared.change.Change.TheVariants.{Create, Store, Insert, Remove, RemoveVersions}
-use Rattle.plan_changes.specs.Allowed.{has_room, has_number, names_allow}
-use Rattle.plan_changes.specs.Changes.{has_array}
+use Rattle.version_catalog.specs.Query.{Query}
+use Rattle.version_catalog.specs.Change.{Change}
+use Rattle.version_catalog.specs.Change.TheVariants.{Create, Store, Insert, Remove, RemoveVersions}
+use Rattle.version_catalog.specs.Allowed.{has_room, has_number, names_allow}
+use Rattle.version_catalog.specs.Changes.{has_array}
 use Rattle.version_catalog.specs.declared.rules.catalog.BlobAt.{BlobAt}
 use Rattle.version_catalog.specs.declared.rules.catalog.CatalogArray.{CatalogArray}
 use Rattle.version_catalog.specs.declared.rules.catalog.Catalog.{Catalog}

@@ -6,12 +6,12 @@ use Rattle.std.proofs.lemmas.Bool.{and_parts, leb-true}
 use Rattle.cell_values.specs.Naming.{IsName}
 use Rattle.cell_values.specs.Schemas.{is_valid}
 use Rattle.cell_values.specs.declared.schema.Schema.{Schema}
-use Rattle.logical_plan.specs.declared.names.NameEntry.{NameEntry}
-use Rattle.plan_changes.specs.declared.change.Change.{Change}
-use Rattle.plan_changes.specs.declared.change.Change.TheVariants.{Create, Store, Insert, Remove, RemoveVersions}
-use Rattle.plan_changes.specs.Allowed.{has_room, has_number, names_allow}
-use Rattle.plan_changes.specs.Changes.{is_named, has_array, last_of, newest_or, newest_of}
-use Rattle.plan_changes.specs.Stored.{RiseBetween, HasNames, IsStored, HasItsNames}
+use Rattle.version_catalog.specs.NameEntry.{NameEntry}
+use Rattle.version_catalog.specs.Change.{Change}
+use Rattle.version_catalog.specs.Change.TheVariants.{Create, Store, Insert, Remove, RemoveVersions}
+use Rattle.version_catalog.specs.Allowed.{has_room, has_number, names_allow}
+use Rattle.version_catalog.specs.Changes.{is_named, has_array, last_of, newest_or, newest_of}
+use Rattle.version_catalog.specs.Stored.{RiseBetween, HasNames, IsStored, HasItsNames}
 use Rattle.file_items.specs.Spelling.{IsSpelled}
 use Rattle.version_catalog.specs.declared.rules.catalog.BlobAt.{BlobAt}
 use Rattle.version_catalog.specs.declared.rules.catalog.Catalog.{Catalog}

@@ -1,11 +1,11 @@
 -- What a change of the database makes of the catalogue.
 use Rattle.std.specs.Prelude.{◌≡◌, ℕ, Bool, true, false, if◌then◌else◌, List, map, Option, Some, None, IsTrue}
 use Rattle.cell_values.specs.declared.schema.Schema.{Schema}
-use Rattle.plan_changes.specs.declared.change.Change.{Change}
-use Rattle.plan_changes.specs.declared.change.Change.TheVariants.{Create, Store, Insert, Remove, RemoveVersions}
-use Rattle.plan_changes.specs.Allowed.{names_allow}
-use Rattle.plan_changes.specs.Changes.{has_array, names_after}
-use Rattle.plan_changes.specs.Stored.{HasItsNames}
+use Rattle.version_catalog.specs.Change.{Change}
+use Rattle.version_catalog.specs.Change.TheVariants.{Create, Store, Insert, Remove, RemoveVersions}
+use Rattle.version_catalog.specs.Allowed.{names_allow}
+use Rattle.version_catalog.specs.Changes.{has_array, names_after}
+use Rattle.version_catalog.specs.Stored.{HasItsNames}
 use Rattle.version_catalog.specs.declared.rules.catalog.BlobAt.{BlobAt}
 use Rattle.version_catalog.specs.declared.rules.catalog.CatalogArray.{CatalogArray}
 use Rattle.version_catalog.specs.declared.rules.catalog.Catalog.{Catalog}

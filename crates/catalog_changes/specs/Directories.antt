@@ -2,10 +2,10 @@
 use Rattle.std.specs.Prelude.{◌≡◌, ℕ, Bool, ◌&&◌, if◌then◌else◌, nat_eq, nat_lt, List, Option, Some, None, IsTrue}
 use Rattle.std.specs.List.{find}
 use Rattle.std.specs.Str.{bytes_eq}
-use Rattle.plan_changes.specs.declared.change.Change.{Change}
-use Rattle.plan_changes.specs.Allowed.{names_allow}
-use Rattle.plan_changes.specs.Changes.{next_of}
-use Rattle.plan_changes.specs.Databases.{Database, names_of, after}
+use Rattle.version_catalog.specs.Change.{Change}
+use Rattle.version_catalog.specs.Allowed.{names_allow}
+use Rattle.version_catalog.specs.Changes.{next_of}
+use Rattle.version_catalog.specs.Databases.{Database, names_of, after}
 use Rattle.version_catalog.specs.declared.rules.catalog.BlobAt.{BlobAt}
 use Rattle.version_catalog.specs.declared.rules.catalog.CatalogArray.{CatalogArray}
 use Rattle.version_catalog.specs.declared.rules.catalog.Catalog.{Catalog}

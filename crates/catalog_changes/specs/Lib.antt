@@ -1,3 +1,11 @@
+pub use Rattle.version_catalog.specs.Catalogs
+pub use Rattle.version_catalog.specs.Databases
+pub use Rattle.version_catalog.specs.Stored
+pub use Rattle.version_catalog.specs.Table
+pub use Rattle.version_catalog.specs.declared.rules.catalog.BlobAt
+pub use Rattle.version_catalog.specs.declared.rules.catalog.Catalog
+pub use Rattle.version_catalog.specs.declared.rules.catalog.CatalogArray
+pub use Rattle.version_catalog.specs.declared.rules.catalog_record.CatalogRecord
 pub mod Changed
 pub mod Directories
 pub mod Records

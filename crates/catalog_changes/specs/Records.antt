@@ -2,10 +2,10 @@
 use Rattle.std.specs.Prelude.{ℕ, Bool, not, ◌&&◌, if◌then◌else◌, List, [], ◌∷◌, ◌++◌, map, drop, insert, nat_lt, nat_le, Option, Some, None}
 use Rattle.std.specs.List.{filter, list_all, prefix_len, count_by}
 use Rattle.cell_values.specs.declared.schema.Schema.{Schema}
-use Rattle.logical_plan.specs.declared.names.NameEntry.{NameEntry}
-use Rattle.plan_changes.specs.Allowed.{has_room, has_number}
-use Rattle.plan_changes.specs.Changes.{is_named, has_array, last_of, newest_of, new_entry, with_version, without_below}
-use Rattle.plan_changes.specs.Stored.{is_before}
+use Rattle.version_catalog.specs.NameEntry.{NameEntry}
+use Rattle.version_catalog.specs.Allowed.{has_room, has_number}
+use Rattle.version_catalog.specs.Changes.{is_named, has_array, last_of, newest_of, new_entry, with_version, without_below}
+use Rattle.version_catalog.specs.Stored.{is_before}
 use Rattle.version_catalog.specs.declared.rules.catalog.BlobAt.{BlobAt}
 use Rattle.version_catalog.specs.declared.rules.catalog.CatalogArray.{CatalogArray}
 use Rattle.version_catalog.specs.declared.rules.catalog.Catalog.{Catalog}

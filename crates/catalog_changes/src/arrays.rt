@@ -1,15 +1,13 @@
 //! The arrays of a catalogue, changed in place.
 ghost use Rattle.std.specs.Prelude.{◌≡◌, false, ◌≤◌, map, drop, not, nat_lt, OnOk, length, IfOk, IsTrue};
 ghost use Rattle.std.specs.List.{filter, list_all, count_by, prefix_len};
-ghost use Rattle.plan_changes.specs.Allowed.{has_number};
-ghost use Rattle.plan_changes.specs.Changes.{has_array};
-ghost use Rattle.plan_changes.specs.Stored.{is_before};
+ghost use Rattle.version_catalog.specs.Allowed.{has_number};
+ghost use Rattle.version_catalog.specs.Changes.{has_array};
+ghost use Rattle.version_catalog.specs.Stored.{is_before};
 ghost use Rattle.catalog_changes.specs.Records.{entries_of, is_array, with_new, with_directory, from_version, without};
 
 use cell_values::{List, Memory, Name, Schema};
-use logical_plan::NameEntry;
-use plan_changes::{from_number, is_before, is_same};
-use version_catalog::{BlobAt, CatalogArray};
+use version_catalog::{BlobAt, CatalogArray, NameEntry, from_number, is_before, is_same};
 
 /// How many arrays come before a name.
 fn place_of(arrays: &List<CatalogArray>, name: &Name) -> usize

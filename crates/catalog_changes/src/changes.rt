@@ -1,6 +1,6 @@
 //! The catalogue after a record or a change.
 ghost use Rattle.std.specs.Prelude.{◌≡◌, Some, IfOk, IsTrue};
-ghost use Rattle.plan_changes.specs.Allowed.{names_allow};
+ghost use Rattle.version_catalog.specs.Allowed.{names_allow};
 ghost use Rattle.version_catalog.specs.Catalogs.{names_in};
 ghost use Rattle.version_catalog.specs.declared.rules.catalog_record.CatalogRecord.TheVariants.{Create, First, Next, Remove, RemoveVersions};
 ghost use Rattle.catalog_changes.specs.Records.{entries_of, allows, is_allowed, recorded, after_record};
@@ -9,8 +9,7 @@ ghost use Rattle.catalog_changes.specs.Changed.{stored_by, record_for, has_its_d
 use crate::arrays::{from_version, with_directory, with_first, with_new, without};
 use crate::rules::has_array;
 use cell_values::{List, Memory, Name, Schema};
-use plan_changes::Change;
-use version_catalog::{BlobAt, Catalog, CatalogArray, CatalogRecord};
+use version_catalog::{BlobAt, Catalog, CatalogArray, CatalogRecord, Change};
 
 /// The arrays after a record that they allow.
 fn recorded(arrays: List<CatalogArray>, entry: &CatalogRecord) -> Result<List<CatalogArray>, Memory>

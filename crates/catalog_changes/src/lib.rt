@@ -12,3 +12,4 @@ pub use laws::{
     records_do_their_change, records_keep_catalogs, records_move_directories,
 };
 pub use rules::allowed;
+pub use version_catalog::Catalog;

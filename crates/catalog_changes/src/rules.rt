@@ -2,13 +2,12 @@
 ghost use Rattle.std.specs.Prelude.{◌≡◌, ◌&&◌, not};
 ghost use Rattle.std.specs.List.{list_any, list_all, find};
 ghost use Rattle.std.specs.Option.{option_copied};
-ghost use Rattle.plan_changes.specs.Allowed.{has_number, has_room};
-ghost use Rattle.plan_changes.specs.Changes.{has_array, last_of, newest_of};
+ghost use Rattle.version_catalog.specs.Allowed.{has_number, has_room};
+ghost use Rattle.version_catalog.specs.Changes.{has_array, last_of, newest_of};
 ghost use Rattle.catalog_changes.specs.Records.{entries_of, is_array, newest_in, is_allowed};
 
 use cell_values::{List, Name};
-use plan_changes::{is_same, last_of};
-use version_catalog::{Catalog, CatalogArray, CatalogRecord};
+use version_catalog::{Catalog, CatalogArray, CatalogRecord, is_same, last_of};
 
 fn any_array(arrays: &List<CatalogArray>, name: &Name) -> bool
     ensures { result ≡ list_any (is_array name.now) arrays.now }

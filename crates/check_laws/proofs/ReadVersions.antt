@@ -21,23 +21,23 @@ use Rattle.check_sources.specs.Stored.{newest, is_version, leaf_of, newest_of, a
 use Rattle.check_sources.proofs.Holding.{build_holds}
 use Rattle.check_cellwise.proofs.CellsHolding.{filter_holds, apply_holds, project_holds}
 use Rattle.check_cellwise.proofs.BoxesHolding.{between_holds, subarray_holds, slice_holds}
-use Rattle.check_queries.specs.Calls.{call_of, fits_count, fits_two, ruled, ruled_two}
-use Rattle.check_queries.specs.Content.{content_span}
-use Rattle.check_queries.specs.Queries.{called, over, over_two, query_of}
-use Rattle.check_queries.specs.declared.call.Call.{Call}
-use Rattle.check_queries.specs.declared.call.Call.TheVariants.{Build, Scan, Over, Two}
-use Rattle.check_queries.specs.declared.call.OverSource.{OverSource}
-use Rattle.check_queries.specs.declared.call.OverSource.TheVariants.{Filter, Apply, Project, Between, Subarray, Slice, Redimension, Regrid, Window, Aggregate}
-use Rattle.check_queries.specs.declared.call.OverTwo.{OverTwo}
-use Rattle.check_queries.specs.declared.call.OverTwo.TheVariants.{Join, CrossJoin}
+use Rattle.afl_types.specs.Calls.{call_of, fits_count, fits_two, ruled, ruled_two}
+use Rattle.afl_types.specs.Content.{content_span}
+use Rattle.afl_types.specs.Queries.{called, over, over_two, query_of}
+use Rattle.afl_types.specs.Call.{Call}
+use Rattle.afl_types.specs.Call.TheVariants.{Build, Scan, Over, Two}
+use Rattle.afl_types.specs.OverSource.{OverSource}
+use Rattle.afl_types.specs.OverSource.TheVariants.{Filter, Apply, Project, Between, Subarray, Slice, Redimension, Regrid, Window, Aggregate}
+use Rattle.afl_types.specs.OverTwo.{OverTwo}
+use Rattle.afl_types.specs.OverTwo.TheVariants.{Join, CrossJoin}
 use Rattle.check_groups.specs.Blocks.{regrid_parts}
 use Rattle.check_groups.specs.Groups.{aggregate_parts}
 use Rattle.check_groups.specs.Windows.{window_parts}
 use Rattle.check_joins.specs.Crosses.{cross_parts}
 use Rattle.check_joins.specs.JoinSchemas.{joined_schema}
-use Rattle.check_redimension.specs.Redimension.{redimension_parts}
+use Rattle.afl_types.specs.Redimension.{redimension_parts}
 use Rattle.check_rules.proofs.OperatorsHolding.{new_holds}
-use Rattle.check_queries.proofs.NoQuery.{nested_holds}
+use Rattle.afl_types.proofs.NoQuery.{nested_holds}
 
 -- ---- what is found in a list
 

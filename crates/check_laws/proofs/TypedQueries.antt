@@ -46,21 +46,21 @@ use Rattle.check_cellwise.specs.Slice.{fixed_one}
 use Rattle.check_cellwise.proofs.FixedPlaces.{Held, holds_one}
 use Rattle.check_cellwise.proofs.BoxesHolding.{between_holds, subarray_holds, slice_holds}
 use Rattle.check_cellwise.proofs.Parts.{length_pairs, slice_valid, part_valid}
-use Rattle.check_queries.specs.Calls.{call_of, fits_count, fits_two, ruled, ruled_two}
-use Rattle.check_queries.specs.Arrays.{AreValid}
-use Rattle.check_queries.specs.Content.{content_span}
-use Rattle.check_queries.specs.Queries.{called, query_of}
-use Rattle.check_queries.specs.declared.call.Call.{Call}
-use Rattle.check_queries.specs.declared.call.Call.TheVariants.{Build, Scan, Over, Two}
-use Rattle.check_queries.specs.declared.call.OverSource.{OverSource}
-use Rattle.check_queries.specs.declared.call.OverSource.TheVariants.{Filter, Apply, Project, Between, Subarray, Slice, Redimension, Regrid, Window, Aggregate}
-use Rattle.check_queries.specs.declared.call.OverTwo.{OverTwo}
-use Rattle.check_queries.specs.declared.call.OverTwo.TheVariants.{Join, CrossJoin}
+use Rattle.afl_types.specs.Calls.{call_of, fits_count, fits_two, ruled, ruled_two}
+use Rattle.afl_types.specs.Arrays.{AreValid}
+use Rattle.afl_types.specs.Content.{content_span}
+use Rattle.afl_types.specs.Queries.{called, query_of}
+use Rattle.afl_types.specs.Call.{Call}
+use Rattle.afl_types.specs.Call.TheVariants.{Build, Scan, Over, Two}
+use Rattle.afl_types.specs.OverSource.{OverSource}
+use Rattle.afl_types.specs.OverSource.TheVariants.{Filter, Apply, Project, Between, Subarray, Slice, Redimension, Regrid, Window, Aggregate}
+use Rattle.afl_types.specs.OverTwo.{OverTwo}
+use Rattle.afl_types.specs.OverTwo.TheVariants.{Join, CrossJoin}
 use Rattle.check_laws.proofs.TypedGroups.{regrid_typed, window_typed, aggregate_typed}
 use Rattle.check_laws.proofs.TypedJoins.{join_typed, cross_typed}
 use Rattle.check_laws.proofs.TypedMoves.{redimension_typed}
-use Rattle.check_queries.proofs.NoQuery.{nested_holds}
-use Rattle.check_queries.proofs.Small.{entry_valid}
+use Rattle.afl_types.proofs.NoQuery.{nested_holds}
+use Rattle.afl_types.proofs.Small.{entry_valid}
 use Rattle.check_literals.proofs.Limits.{are_bytes}
 use Rattle.check_laws.proofs.RowsFit.{literal_fits}
 use Rattle.check_laws.specs.Laws.{CheckedPlansAreTyped}

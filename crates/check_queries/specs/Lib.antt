@@ -1,3 +1,4 @@
+pub use Rattle.check_redimension.specs.Redimension
 pub mod Arrays
 pub mod Calls
 pub mod Content

@@ -4,8 +4,8 @@ use Rattle.cell_values.specs.declared.name.Span.{Span}
 use Rattle.cell_values.specs.declared.schema.Schema.{Schema}
 use Rattle.cell_values.specs.Schemas.{frame_fits}
 use Rattle.schema_grammar.specs.declared.kinds.TypeKind.TheVariants.{TooManyDimensions, TooManyAttributes, ChunkTooLarge}
-use Rattle.logical_plan.specs.PlanSchema.{schema_of}
-use Rattle.logical_plan.specs.Query.{Query}
+use Rattle.plan_schemas.specs.PlanSchema.{schema_of}
+use Rattle.plan_schemas.specs.Query.{Query}
 use Rattle.check_rules.specs.Checked.{Checked, demand}
 
 abbrev pub by_new_schema : Span → Schema → Checked Query → Checked Query

@@ -29,7 +29,7 @@ use Rattle.event_core.specs.Apart.{makes_version}
 use Rattle.event_core.specs.Bases.{records_at}
 use Rattle.event_core.specs.History.{History}
 use Rattle.event_core.specs.Pages.{fresh_of, is_newest}
-use Rattle.file_meaning.specs.Standing.{HoldsPart, HoldsVersion}
+use Rattle.file_laws.specs.Standing.{HoldsPart, HoldsVersion}
 use Rattle.commit_costs.specs.Costs.{catalog_of, has_log_room, cost_from}
 use Rattle.commit_costs.specs.Lengths.{AreAlikeCatalogs, AreListed, HasItsLength}
 use Rattle.commit_writes.specs.Commits.{pages_of, HoldsBlobs}

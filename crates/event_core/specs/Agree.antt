@@ -1,8 +1,8 @@
 -- The versions that can be named are those that have pages.
 use Rattle.std.specs.Prelude.{◌≡◌, ℕ, Bool, true, not, ◌&&◌, nat_eq, List, [], ◌∷◌}
 use Rattle.std.specs.List.{list_any}
-use Rattle.logical_plan.specs.declared.names.NameEntry.{NameEntry}
-use Rattle.logical_plan.specs.declared.names.Names.{Names}
+use Rattle.plan_changes.specs.NameEntry.{NameEntry}
+use Rattle.plan_changes.specs.Names.{Names}
 use Rattle.plan_changes.specs.Changes.{is_named, has_array}
 use Rattle.version_reaper.specs.PageSets.{holds}
 use Rattle.event_core.specs.declared.state.VersionPages.{VersionPages}

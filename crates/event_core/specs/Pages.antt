@@ -2,7 +2,7 @@
 use Rattle.std.specs.Prelude.{ℕ, Bool, not, ◌&&◌, ◌||◌, nat_eq, List, [], ◌∷◌, ◌++◌}
 use Rattle.std.specs.List.{filter, list_any}
 use Rattle.plan_changes.specs.declared.change.Change.{Change}
-use Rattle.logical_plan.specs.declared.names.Names.{Names}
+use Rattle.plan_changes.specs.Names.{Names}
 use Rattle.plan_changes.specs.Changes.{newest_of, name_of}
 use Rattle.version_reaper.specs.PageSets.{holds, pages_below}
 use Rattle.event_core.specs.declared.entry.Used.{Used}

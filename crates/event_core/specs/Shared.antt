@@ -5,7 +5,7 @@ use Rattle.cell_values.specs.declared.datum.Datum.TheVariants.{Int}
 use Rattle.cell_values.specs.declared.schema.Kind.TheVariants.{Int64}
 use Rattle.cell_values.specs.declared.schema.Schema.{Schema}
 use Rattle.expr_nulls.specs.Expr.{literal}
-use Rattle.logical_plan.specs.Query.{built, between}
+use Rattle.plan_changes.specs.Query.{built, between}
 use Rattle.plan_changes.specs.declared.change.Change.{Change}
 use Rattle.plan_changes.specs.declared.change.Change.TheVariants.{Create, Store, Insert, Remove, RemoveVersions}
 use Rattle.plan_changes.specs.Databases.{Database}

@@ -7,8 +7,7 @@ ghost use Rattle.event_core.specs.Inner.Next.{pages_by, HasRoom};
 use crate::commit::{without_array, without_below};
 use crate::{Core, VersionPages};
 use cell_values::{List, Memory, Name};
-use logical_plan::Names;
-use plan_changes::{Change, next_of};
+use plan_changes::{Change, Names, next_of};
 use std::alloc::Global;
 use std::marker::Model;
 

@@ -14,8 +14,7 @@ use crate::marks::Marks;
 use crate::next::{NextPages, changed_pages, next_pages};
 use crate::{Core, Used};
 use cell_values::{List, Memory};
-use logical_plan::Names;
-use plan_changes::{Change, changed_names};
+use plan_changes::{Change, Names, changed_names};
 use std::marker::Model;
 use std::snapshot::Snapshot;
 
@@ -43,7 +42,7 @@ impl Model for Ready {
 
     ghost Value = { ReadyFor };
 
-    ghost use Rattle.logical_plan.specs.Lemmas.QueryCode.{query_code};
+    ghost use Rattle.plan_changes.specs.QueryCode.{query_code};
     ghost use Rattle.std.specs.Coded.{codes};
 
     ghost coded = { Prim.hlevel (codes, query_code) };

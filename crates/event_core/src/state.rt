@@ -2,7 +2,7 @@
 ghost use Rattle.std.specs.Prelude.{◌≡◌, IfOk};
 
 use cell_values::{Copies, List, Memory, Name};
-use logical_plan::Names;
+use plan_changes::Names;
 
 /// The pages of a version.
 #[derive(Debug, Drop)]

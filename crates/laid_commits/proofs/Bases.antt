@@ -13,9 +13,9 @@ use Rattle.version_catalog.specs.Catalogs.{IsCatalog}
 use Rattle.version_catalog.specs.Spelling.{spelling}
 use Rattle.catalog_changes.specs.Changed.{after_change}
 use Rattle.catalog_changes.proofs.Spelled.{changes_keep_catalogs}
-use Rattle.file_meaning.specs.Slots.{Slots}
-use Rattle.file_meaning.specs.Opening.{pages_of as found_pages, sequence_of}
-use Rattle.file_meaning.specs.declared.found.Found.{Found}
+use Rattle.next_files.specs.Slots.{Slots}
+use Rattle.next_files.specs.Opening.{pages_of as found_pages, sequence_of}
+use Rattle.next_files.specs.Found.{Found}
 use Rattle.next_files.specs.Next.{Made, with_base}
 use Rattle.next_files.specs.Laws.{BasesMakeNext, FreePagesTurn}
 use Rattle.next_files.specs.Premises.{StandsBy, HasChain, HoldsBase, root_at, slots_of}

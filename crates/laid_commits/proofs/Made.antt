@@ -22,10 +22,10 @@ use Rattle.plan_changes.specs.Changes.{has_array, name_of}
 use Rattle.plan_changes.specs.Databases.{Database, names_of, new_rows, newest_rows}
 use Rattle.version_catalog.specs.Catalogs.{names_in}
 use Rattle.catalog_changes.specs.Changed.{IsItsBlob}
-use Rattle.file_meaning.specs.Slots.{Slots}
-use Rattle.file_meaning.specs.Opening.{is_seen, sequence_of, version_pages}
-use Rattle.file_meaning.specs.Standing.{HoldsVersion}
-use Rattle.file_meaning.specs.declared.found.Found.{Found}
+use Rattle.next_files.specs.Slots.{Slots}
+use Rattle.next_files.specs.Opening.{is_seen, sequence_of, version_pages}
+use Rattle.next_files.specs.Standing.{HoldsVersion}
+use Rattle.next_files.specs.Found.{Found}
 use Rattle.next_files.specs.Next.{Made, blob_of}
 use Rattle.next_files.specs.Laws.{HadEntriesAreSeen, LaterEntriesAreUnseen, ReplacingEntriesAreUnseen}
 use Rattle.next_files.specs.Premises.{StandsBy, HoldsEntry, IsWritten as IsEarly, HoldsMade, OfVersion, made_pages, row_of, seen_before}

@@ -11,7 +11,7 @@ use Rattle.plan_changes.specs.Changes.{is_named, has_array, last_of}
 use Rattle.plan_changes.specs.Databases.{Database, Version, entry_of, is_array, rows_or, rows_in, newest_in as newest_number}
 use Rattle.plan_changes.specs.Stored.{IsStored, RiseBetween}
 use Rattle.plan_changes.specs.Typed.{FitsInto}
-use Rattle.file_meaning.specs.Standing.{HoldsVersion, HoldsVersions}
+use Rattle.next_files.specs.Standing.{HoldsVersion, HoldsVersions}
 use Rattle.next_files.specs.Premises.{row_of}
 use Rattle.laid_commits.specs.Premises.{last_of_row}
 

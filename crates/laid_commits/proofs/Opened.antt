@@ -7,9 +7,9 @@ use Rattle.page_layout.specs.declared.sides.Side.{Side}
 use Rattle.page_layout.specs.declared.roots.Root.{Root}
 use Rattle.page_slots.specs.Standing.{root_in}
 use Rattle.plan_changes.specs.Databases.{Database}
-use Rattle.file_meaning.specs.Opening.{Opens}
-use Rattle.file_meaning.specs.Standing.{Stands}
-use Rattle.file_meaning.specs.declared.found.Found.{Found}
+use Rattle.next_files.specs.Opening.{Opens}
+use Rattle.next_files.specs.Standing.{Stands}
+use Rattle.next_files.specs.Found.{Found}
 use Rattle.next_files.proofs.SlotLaws.{slots_are}
 use Rattle.next_files.specs.Laws.{FilesStandByTheirSlots, TornBasesStandAlike}
 use Rattle.next_files.specs.Premises.{StandsBy, slots_of}

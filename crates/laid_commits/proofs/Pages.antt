@@ -9,7 +9,7 @@ use Rattle.page_layout.specs.Places.{IsNone}
 use Rattle.page_chain.specs.Pages.{page_size, pages_for}
 use Rattle.page_chain.specs.Links.{AreFree}
 use Rattle.chunk_map.specs.declared.directory.DirEntry.{DirEntry}
-use Rattle.file_meaning.specs.Opening.{is_seen}
+use Rattle.next_files.specs.Opening.{is_seen}
 use Rattle.next_files.specs.Laws.{FreePagesTurn}
 use Rattle.commit_writes.specs.declared.placed.Placed.{Placed}
 use Rattle.commit_writes.specs.Commits.{pages_of, IsBlobSized}

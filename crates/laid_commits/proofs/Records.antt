@@ -22,9 +22,9 @@ use Rattle.version_catalog.specs.Spelling.{spell_record}
 use Rattle.catalog_changes.specs.Changed.{has_its_directory, record_for, stored_by}
 use Rattle.catalog_changes.proofs.Spelled.{changes_have_records}
 use Rattle.event_core.specs.Apart.{makes_version}
-use Rattle.file_meaning.specs.Slots.{Slots}
-use Rattle.file_meaning.specs.Opening.{pages_of as found_pages, sequence_of}
-use Rattle.file_meaning.specs.declared.found.Found.{Found}
+use Rattle.next_files.specs.Slots.{Slots}
+use Rattle.next_files.specs.Opening.{pages_of as found_pages, sequence_of}
+use Rattle.next_files.specs.Found.{Found}
 use Rattle.next_files.specs.Next.{Made, with_record}
 use Rattle.next_files.specs.Laws.{RecordsMakeNext, FreePagesTurn}
 use Rattle.next_files.specs.Premises.{StandsBy, HasChain, HoldsRecord, seen_before, record_at, slots_with}

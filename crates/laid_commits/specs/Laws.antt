@@ -13,10 +13,10 @@ use Rattle.chunk_map.specs.declared.directory.Directory.{Directory}
 use Rattle.chunk_map.specs.Entries.{AreRising}
 use Rattle.plan_changes.specs.declared.change.Change.{Change}
 use Rattle.plan_changes.specs.Databases.{Database, after}
-use Rattle.file_meaning.specs.Slots.{Slots}
-use Rattle.file_meaning.specs.Opening.{Opens, catalogue_pages, sequence_of}
-use Rattle.file_meaning.specs.Standing.{Stands}
-use Rattle.file_meaning.specs.declared.found.Found.{Found}
+use Rattle.next_files.specs.Slots.{Slots}
+use Rattle.next_files.specs.Opening.{Opens, catalogue_pages, sequence_of}
+use Rattle.next_files.specs.Standing.{Stands}
+use Rattle.next_files.specs.Found.{Found}
 use Rattle.next_files.specs.Next.{with_record, with_base}
 use Rattle.next_files.specs.Premises.{StandsBy, slots_with, slots_of}
 use Rattle.commit_writes.specs.Commits.{HoldsAll, record_of, root_of, commit_pages, base_pages}

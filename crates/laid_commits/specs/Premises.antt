@@ -12,9 +12,9 @@ use Rattle.plan_changes.specs.Changes.{name_of}
 use Rattle.plan_changes.specs.Databases.{Database}
 use Rattle.version_catalog.specs.declared.rules.catalog.BlobAt.{BlobAt}
 use Rattle.version_catalog.specs.Catalogs.{IsCatalog, names_in}
-use Rattle.file_meaning.specs.Slots.{Slots}
-use Rattle.file_meaning.specs.Opening.{pages_of, sequence_of, version_pages}
-use Rattle.file_meaning.specs.declared.found.Found.{Found}
+use Rattle.next_files.specs.Slots.{Slots}
+use Rattle.next_files.specs.Opening.{pages_of, sequence_of, version_pages}
+use Rattle.next_files.specs.Found.{Found}
 use Rattle.next_files.specs.Next.{Made}
 use Rattle.next_files.specs.Premises.{StandsBy, MayChange, row_of}
 use Rattle.commit_pages.specs.declared.laid.Laid.{Laid}

@@ -1,3 +1,5 @@
+pub use Rattle.array_rows.proofs.RowSets
+pub use Rattle.array_rows.proofs.RowsLemmas
 pub mod ArrayLaws
 pub mod BuiltRows
 pub mod Items

@@ -23,10 +23,10 @@ use Rattle.version_catalog.specs.declared.rules.catalog.Catalog.{Catalog}
 use Rattle.version_catalog.specs.Catalogs.{names_in}
 use Rattle.catalog_changes.specs.Changed.{has_its_directory, changed, after_change}
 use Rattle.catalog_changes.proofs.DirectoryLaws.{follow_databases}
-use Rattle.file_meaning.specs.Slots.{Slots}
-use Rattle.file_meaning.specs.Opening.{are_pages, Rules, rows_in, found_in, sequence_of, stored_pages, pages_of}
-use Rattle.file_meaning.specs.Standing.{HoldsVersions, HoldsDatabase}
-use Rattle.file_meaning.specs.declared.found.Found.{Found}
+use Rattle.file_laws.specs.Slots.{Slots}
+use Rattle.file_laws.specs.Opening.{are_pages, Rules, rows_in, found_in, sequence_of, stored_pages, pages_of}
+use Rattle.file_laws.specs.Standing.{HoldsVersions, HoldsDatabase}
+use Rattle.file_laws.specs.Found.{Found}
 use Rattle.file_laws.proofs.Parts.{rest_all}
 use Rattle.file_laws.proofs.Apart.{both_all}
 use Rattle.file_laws.proofs.Elsewhere.{AreApart, AreThere, IsKept, found_again, FoundSteps, holds_still}

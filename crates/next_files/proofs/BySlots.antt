@@ -1,9 +1,9 @@
 -- A file stands for a database where it does so by its own slots.
 use Rattle.std.proofs.Common.{◌≡◌, ℕ, List, sym, ◌∙◌, subst}
 use Rattle.std.specs.Prelude.{Ok}
-use Rattle.file_meaning.specs.Slots.{Slots, slots_in}
-use Rattle.file_meaning.specs.Opening.{found_in, opened}
-use Rattle.file_meaning.specs.Standing.{HoldsFound}
+use Rattle.file_laws.specs.Slots.{Slots, slots_in}
+use Rattle.file_laws.specs.Opening.{found_in, opened}
+use Rattle.file_laws.specs.Standing.{HoldsFound}
 use Rattle.file_laws.proofs.Steps.{then_is}
 use Rattle.next_files.specs.Laws.{FilesStandByTheirSlots, StandingFilesHaveSlots}
 

@@ -7,7 +7,7 @@ use Rattle.chunk_map.specs.declared.directory.Directory.{Directory}
 use Rattle.chunk_map.specs.Entries.{AreRising}
 use Rattle.version_catalog.specs.declared.rules.catalog.CatalogArray.{CatalogArray}
 use Rattle.catalog_changes.specs.Records.{entries_of, is_array, from_version}
-use Rattle.file_meaning.specs.Opening.{Rules, Row, row_in, rows_in}
+use Rattle.file_laws.specs.Opening.{Rules, Row, row_in, rows_in}
 use Rattle.file_laws.proofs.Steps.{then_is}
 use Rattle.file_laws.proofs.Parts.{front_all, rest_all}
 use Rattle.file_laws.proofs.Elsewhere.{rows_steps}

@@ -24,8 +24,8 @@ use Rattle.version_catalog.specs.declared.rules.catalog.CatalogArray.{CatalogArr
 use Rattle.catalog_changes.specs.Records.{entries_of, is_array as has_its_name, with_new, with_directory}
 use Rattle.catalog_changes.specs.Changed.{changed}
 use Rattle.catalog_changes.proofs.Kept.{new_named}
-use Rattle.file_meaning.specs.Opening.{Rules, rows_in}
-use Rattle.file_meaning.specs.Standing.{HoldsVersion, HoldsVersions}
+use Rattle.file_laws.specs.Opening.{Rules, rows_in}
+use Rattle.file_laws.specs.Standing.{HoldsVersion, HoldsVersions}
 use Rattle.file_laws.proofs.More.{Beside}
 use Rattle.next_files.specs.Next.{Made, blob_of, with_empty, with_made, rows_after}
 use Rattle.next_files.specs.Premises.{MayChange, OfVersion, row_of, made_pages}

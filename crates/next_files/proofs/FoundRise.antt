@@ -2,7 +2,7 @@
 use Rattle.std.proofs.Common.{◌≡◌, subst}
 use Rattle.std.specs.Prelude.{Ok}
 use Rattle.version_catalog.specs.declared.rules.catalog.Catalog.{Catalog}
-use Rattle.file_meaning.specs.Opening.{Rules, rows_in, sequence_of}
+use Rattle.file_laws.specs.Opening.{Rules, rows_in, sequence_of}
 use Rattle.file_laws.proofs.Elsewhere.{found_steps}
 use Rattle.next_files.specs.Laws.{FoundDirectoriesRise}
 use Rattle.next_files.proofs.Both.{directories_rise}

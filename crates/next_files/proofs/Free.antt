@@ -8,7 +8,7 @@ use Rattle.page_chain.specs.Pages.{page_size, has_page, first_past, AreDistinct}
 use Rattle.page_chain.specs.Chains.{names_page}
 use Rattle.page_chain.specs.Links.{AreFree}
 use Rattle.page_chain.proofs.LinkLaws.{unequal}
-use Rattle.file_meaning.specs.Opening.{claimed}
+use Rattle.file_laws.specs.Opening.{claimed}
 use Rattle.file_laws.proofs.Parts.{claim_parts, each_none}
 use Rattle.file_laws.proofs.More.{Beside}
 

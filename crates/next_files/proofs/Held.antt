@@ -8,7 +8,7 @@ use Rattle.cell_values.specs.declared.datum.Row.{Row}
 use Rattle.chunk_map.specs.declared.directory.Directory.{Directory}
 use Rattle.plan_changes.specs.Databases.{Database, Stored, Version, is_array, with_rows, from_version, entry_of}
 use Rattle.plan_changes.specs.Stored.{RiseBetween, IsStored}
-use Rattle.file_meaning.specs.Standing.{HoldsVersion, HoldsVersions}
+use Rattle.file_laws.specs.Standing.{HoldsVersion, HoldsVersions}
 use Rattle.next_files.specs.Next.{Made, with_made, without_row, from_version as rows_from_version}
 
 -- ---- pairs

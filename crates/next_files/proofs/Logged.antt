@@ -13,7 +13,7 @@ use Rattle.version_catalog.specs.declared.rules.catalog_record.CatalogRecord.The
 use Rattle.version_catalog.specs.Spelling.{spell_record}
 use Rattle.version_catalog.specs.Table.{record_in}
 use Rattle.catalog_changes.specs.Records.{is_allowed, after_record}
-use Rattle.file_meaning.specs.Opening.{blamed, if_allowed, Logged, logged_in}
+use Rattle.file_laws.specs.Opening.{blamed, if_allowed, Logged, logged_in}
 use Rattle.file_laws.proofs.Steps.{then_is}
 use Rattle.file_laws.proofs.Elsewhere.{record_steps}
 

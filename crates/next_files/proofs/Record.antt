@@ -21,9 +21,9 @@ use Rattle.version_catalog.proofs.RuleLaws.{record_again}
 use Rattle.catalog_changes.specs.Records.{is_allowed, after_record}
 use Rattle.catalog_changes.specs.Changed.{after_change}
 use Rattle.catalog_changes.proofs.DirectoryLaws.{are_allowed, do_their_change}
-use Rattle.file_meaning.specs.Slots.{Slots}
-use Rattle.file_meaning.specs.Opening.{blamed, Logged, logged_in, Rules, rows_in, found_in, sequence_of, catalogue_pages, stored_pages, pages_of}
-use Rattle.file_meaning.specs.declared.found.Found.{Found}
+use Rattle.file_laws.specs.Slots.{Slots}
+use Rattle.file_laws.specs.Opening.{blamed, Logged, logged_in, Rules, rows_in, found_in, sequence_of, catalogue_pages, stored_pages, pages_of}
+use Rattle.file_laws.specs.Found.{Found}
 use Rattle.chunk_map.specs.declared.directory.Directory.{Directory}
 use Rattle.file_laws.proofs.Steps.{then_is}
 use Rattle.file_laws.proofs.Apart.{has_either, taken_are}

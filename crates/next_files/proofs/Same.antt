@@ -14,7 +14,7 @@ use Rattle.array_geom.specs.Link.{number_order}
 use Rattle.array_geom.proofs.NumberLaws.{same_number, is_equal}
 use Rattle.chunk_map.specs.declared.directory.DirEntry.{DirEntry}
 use Rattle.chunk_map.specs.Entries.{numbers}
-use Rattle.file_meaning.specs.Opening.{is_same, is_seen}
+use Rattle.file_laws.specs.Opening.{is_same, is_seen}
 use Rattle.file_laws.proofs.Parts.{both_true}
 
 entry_is : (a b : DirEntry) → a.at.items ≡ b.at.items → a.length ≡ b.length → a.birth ≡ b.birth → a.pages ≡ b.pages → a ≡ b

@@ -14,9 +14,9 @@ use Rattle.chunk_map.specs.declared.directory.Directory.{Directory}
 use Rattle.version_catalog.specs.declared.rules.catalog.BlobAt.{BlobAt}
 use Rattle.version_catalog.specs.declared.rules.catalog.CatalogArray.{CatalogArray}
 use Rattle.version_catalog.specs.declared.rules.catalog.Catalog.{Catalog}
-use Rattle.file_meaning.specs.Slots.{Slots}
-use Rattle.file_meaning.specs.Opening.{Logged, logged_in, claimed, are_pages, is_entry, is_seen, payloads_in, Listed, Rules, directory_from, Row, row_in, rows_in, found_in, all_of, version_pages, catalogue_pages, stored_pages, pages_of}
-use Rattle.file_meaning.specs.declared.found.Found.{Found}
+use Rattle.file_laws.specs.Slots.{Slots}
+use Rattle.file_laws.specs.Opening.{Logged, logged_in, claimed, are_pages, is_entry, is_seen, payloads_in, Listed, Rules, directory_from, Row, row_in, rows_in, found_in, all_of, version_pages, catalogue_pages, stored_pages, pages_of}
+use Rattle.file_laws.specs.Found.{Found}
 use Rattle.file_laws.proofs.Parts.{claim_parts}
 use Rattle.file_laws.proofs.Apart.{both_all, stored_apart}
 use Rattle.file_laws.proofs.Elsewhere.{record_steps, entry_steps, entry_pages, directory_steps, row_steps, rows_steps, found_steps}

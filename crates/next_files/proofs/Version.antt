@@ -28,8 +28,8 @@ use Rattle.plan_changes.specs.Changes.{is_named, has_array}
 use Rattle.plan_changes.specs.Databases.{Database, entry_of, new_rows}
 use Rattle.plan_changes.specs.Stored.{IsDatabase, IsStored}
 use Rattle.plan_changes.specs.Typed.{FitsInto}
-use Rattle.file_meaning.specs.Opening.{are_pages, is_seen, is_entry, Rules}
-use Rattle.file_meaning.specs.Standing.{HoldsPart, HoldsVersion}
+use Rattle.file_laws.specs.Opening.{are_pages, is_seen, is_entry, Rules}
+use Rattle.file_laws.specs.Standing.{HoldsPart, HoldsVersion}
 use Rattle.file_laws.proofs.Parts.{front_all, rest_all, blob_still}
 use Rattle.next_files.specs.Next.{Made}
 use Rattle.next_files.specs.Premises.{MayChange, OfVersion, HoldsEntry, HoldsMade, IsWritten}

@@ -8,7 +8,7 @@ use Rattle.page_chain.specs.Links.{AreFree}
 use Rattle.version_catalog.specs.declared.rules.catalog.Catalog.{Catalog}
 use Rattle.version_catalog.specs.Catalogs.{IsCatalog}
 use Rattle.version_catalog.specs.Spelling.{spelling}
-use Rattle.file_meaning.specs.Slots.{slots_in}
+use Rattle.file_laws.specs.Slots.{slots_in}
 use Rattle.file_laws.specs.Inner.Example.{database, zeros, front as old_front, catalog_bytes, directory_bytes, payload_bytes, file_with, file}
 use Rattle.next_files.specs.Inner.Example.{stored, found, slots}
 use Rattle.next_files.specs.Inner.Removed.{change, front, kept, added, next, AnArrayIsRemoved}

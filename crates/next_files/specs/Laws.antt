@@ -22,10 +22,10 @@ use Rattle.version_catalog.specs.declared.rules.catalog_record.CatalogRecord.{Ca
 use Rattle.version_catalog.specs.Spelling.{spell_record, spelling as catalog_spelling}
 use Rattle.version_catalog.specs.Catalogs.{names_in}
 use Rattle.catalog_changes.specs.Changed.{after_change}
-use Rattle.file_meaning.specs.Slots.{Slots, slots_in}
-use Rattle.file_meaning.specs.Opening.{Opens, is_seen, pages_of, sequence_of}
-use Rattle.file_meaning.specs.Standing.{Stands, HoldsPart, stored_chunk}
-use Rattle.file_meaning.specs.declared.found.Found.{Found}
+use Rattle.file_laws.specs.Slots.{Slots, slots_in}
+use Rattle.file_laws.specs.Opening.{Opens, is_seen, pages_of, sequence_of}
+use Rattle.file_laws.specs.Standing.{Stands, HoldsPart, stored_chunk}
+use Rattle.file_laws.specs.Found.{Found}
 use Rattle.next_files.specs.Next.{Made, blob_of, with_record, with_base}
 use Rattle.next_files.specs.Premises.{StandsBy, MayChange, HasBlob, row_of, seen_before, HoldsRecord, HoldsBase, record_at, slots_with, root_at, slots_of}
 

@@ -1,4 +1,8 @@
+pub use Rattle.file_laws.specs.Found
 pub use Rattle.file_laws.specs.Inner.Example
+pub use Rattle.file_laws.specs.Opening
+pub use Rattle.file_laws.specs.Slots
+pub use Rattle.file_laws.specs.Standing
 pub mod Inner
 pub mod Laws
 pub mod Next

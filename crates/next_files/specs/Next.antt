@@ -10,7 +10,7 @@ use Rattle.plan_changes.specs.Changes.{is_named, has_array, place_of, with_absen
 use Rattle.version_catalog.specs.declared.rules.catalog.BlobAt.{BlobAt}
 use Rattle.version_catalog.specs.Catalogs.{names_in}
 use Rattle.catalog_changes.specs.Changed.{after_change}
-use Rattle.file_meaning.specs.declared.found.Found.{Found}
+use Rattle.file_laws.specs.Found.{Found}
 
 -- the directory of a new version, and where it lies
 pub record Made : Type 0 where

@@ -30,10 +30,10 @@ use Rattle.version_catalog.specs.declared.rules.catalog_record.CatalogRecord.{Ca
 use Rattle.version_catalog.specs.Catalogs.{IsCatalog, IsRecord, names_in}
 use Rattle.version_catalog.specs.Spelling.{spell_record, spelling as catalog_spelling}
 use Rattle.catalog_changes.specs.Changed.{record_for, after_change}
-use Rattle.file_meaning.specs.Slots.{Slots}
-use Rattle.file_meaning.specs.Opening.{is_seen, found_in, pages_of, sequence_of}
-use Rattle.file_meaning.specs.Standing.{HoldsPart, HoldsDatabase}
-use Rattle.file_meaning.specs.declared.found.Found.{Found}
+use Rattle.file_laws.specs.Slots.{Slots}
+use Rattle.file_laws.specs.Opening.{is_seen, found_in, pages_of, sequence_of}
+use Rattle.file_laws.specs.Standing.{HoldsPart, HoldsDatabase}
+use Rattle.file_laws.specs.Found.{Found}
 use Rattle.next_files.specs.Next.{Made, Rows, blob_of}
 
 -- By these slots, whether they are the file's own or not, this is found, and it is the database's.

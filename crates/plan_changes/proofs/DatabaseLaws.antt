@@ -9,16 +9,16 @@ use Rattle.std.specs.declared.cmp.Ordering.{Ordering}
 use Rattle.std.specs.declared.cmp.Ordering.TheVariants.{Less, Equal, Greater}
 use Rattle.std.proofs.lemmas.Bool.{and_parts}
 use Rattle.std.proofs.lemmas.Cmp.{nat_list_cmp_total}
-use Rattle.cell_values.specs.Schemas.{IsValid, is_valid}
-use Rattle.cell_values.specs.declared.datum.Broken.{Broken}
-use Rattle.cell_values.specs.declared.datum.Datum.{Datum}
-use Rattle.cell_values.specs.declared.datum.Row.{Row}
-use Rattle.cell_values.specs.declared.schema.Schema.{Schema}
-use Rattle.cell_values.specs.Cells.{AreOfKinds, IsCellOf}
-use Rattle.array_rows.specs.Arrays.{AreRowsOf}
-use Rattle.array_rows.specs.Boxes.{is_inside, bounds_of}
-use Rattle.array_rows.specs.Rows.{put_row, put_by, put_all, row_major}
-use Rattle.array_rows.proofs.RowSets.{IsRising-put_all}
+use Rattle.expr_nulls.specs.Schemas.{IsValid, is_valid}
+use Rattle.expr_nulls.specs.Broken.{Broken}
+use Rattle.expr_nulls.specs.Datum.{Datum}
+use Rattle.expr_nulls.specs.Row.{Row}
+use Rattle.expr_nulls.specs.Schema.{Schema}
+use Rattle.expr_nulls.specs.Cells.{AreOfKinds, IsCellOf}
+use Rattle.logical_plan.specs.Arrays.{AreRowsOf}
+use Rattle.logical_plan.specs.Boxes.{is_inside, bounds_of}
+use Rattle.logical_plan.specs.Rows.{put_row, put_by, put_all, row_major}
+use Rattle.logical_plan.proofs.RowSets.{IsRising-put_all}
 use Rattle.logical_plan.specs.declared.names.NameEntry.{NameEntry}
 use Rattle.logical_plan.specs.declared.parts.Leaf.{Leaf}
 use Rattle.logical_plan.specs.CellOps.{fit_rows}

@@ -6,28 +6,28 @@ use Rattle.std.specs.Option.{option_or}
 use Rattle.std.specs.Ordering.{int_eq}
 use Rattle.std.proofs.lemmas.Bool.{and_parts, and_from}
 use Rattle.std.proofs.lemmas.Bool.Decides.{Decides-int_eq}
-use Rattle.cell_values.specs.declared.datum.Broken.{Broken}
-use Rattle.cell_values.specs.declared.datum.Cell.{Cell}
-use Rattle.cell_values.specs.declared.datum.Cell.TheVariants.{Full, Doubt}
-use Rattle.cell_values.specs.declared.datum.Datum.{Datum}
-use Rattle.cell_values.specs.declared.datum.Datum.TheVariants.{Null, Missing, Int, Text, Truth, Bad}
-use Rattle.cell_values.specs.declared.datum.FaultKind.{FaultKind}
-use Rattle.cell_values.specs.declared.datum.FaultKind.TheVariants.{NullInNotNull}
-use Rattle.cell_values.specs.declared.datum.Row.{Row}
-use Rattle.cell_values.specs.declared.schema.Attribute.{Attribute}
-use Rattle.cell_values.specs.declared.schema.Bounds.{Bounds}
-use Rattle.cell_values.specs.declared.schema.Dimension.{Dimension}
-use Rattle.cell_values.specs.declared.schema.Kind.{Kind}
-use Rattle.cell_values.specs.declared.schema.Kind.TheVariants.{Int64, Str, Bool as Truths}
-use Rattle.cell_values.specs.declared.schema.Schema.{Schema}
-use Rattle.cell_values.specs.Cells.{is_of_kind, AreOfKinds, IsCellOf}
-use Rattle.cell_values.specs.Nulls.{is_null}
-use Rattle.cell_values.specs.Schemas.{IsValid}
-use Rattle.array_rows.specs.Arrays.{AreRowsOf}
-use Rattle.array_rows.specs.Boxes.{is_inside, corners, bounds_of}
-use Rattle.array_rows.specs.Cellwise.{put_first}
-use Rattle.array_rows.specs.Rows.{Coordinate, placed}
-use Rattle.array_rows.proofs.RowsLemmas.{IsRising-cell_wise}
+use Rattle.expr_nulls.specs.Broken.{Broken}
+use Rattle.expr_nulls.specs.Cell.{Cell}
+use Rattle.expr_nulls.specs.Cell.TheVariants.{Full, Doubt}
+use Rattle.expr_nulls.specs.Datum.{Datum}
+use Rattle.expr_nulls.specs.Datum.TheVariants.{Null, Missing, Int, Text, Truth, Bad}
+use Rattle.expr_nulls.specs.FaultKind.{FaultKind}
+use Rattle.expr_nulls.specs.FaultKind.TheVariants.{NullInNotNull}
+use Rattle.expr_nulls.specs.Row.{Row}
+use Rattle.expr_nulls.specs.Attribute.{Attribute}
+use Rattle.expr_nulls.specs.Bounds.{Bounds}
+use Rattle.expr_nulls.specs.Dimension.{Dimension}
+use Rattle.expr_nulls.specs.Kind.{Kind}
+use Rattle.expr_nulls.specs.Kind.TheVariants.{Int64, Str, Bool as Truths}
+use Rattle.expr_nulls.specs.Schema.{Schema}
+use Rattle.expr_nulls.specs.Cells.{is_of_kind, AreOfKinds, IsCellOf}
+use Rattle.expr_nulls.specs.Nulls.{is_null}
+use Rattle.expr_nulls.specs.Schemas.{IsValid}
+use Rattle.logical_plan.specs.Arrays.{AreRowsOf}
+use Rattle.logical_plan.specs.Boxes.{is_inside, corners, bounds_of}
+use Rattle.logical_plan.specs.Cellwise.{put_first}
+use Rattle.logical_plan.specs.Rows.{Coordinate, placed}
+use Rattle.logical_plan.proofs.RowsLemmas.{IsRising-cell_wise}
 use Rattle.expr_nulls.specs.Typing.{same_kind}
 use Rattle.logical_plan.specs.CellOps.{fit_value, fit_values, fit_cell, fit_rows}
 use Rattle.logical_plan.specs.Faults.{fault_in, fault_here, first_fault}

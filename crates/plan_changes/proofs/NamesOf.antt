@@ -4,13 +4,13 @@ use Rattle.std.specs.List.{filter, list_any, prefix_len, insert}
 use Rattle.std.specs.Ordering.{nat_cmp, is_lt}
 use Rattle.std.specs.Cmp.Lexicographic.{slice_cmp}
 use Rattle.std.proofs.lemmas.List.{map-append}
-use Rattle.cell_values.specs.declared.schema.Schema.{Schema}
+use Rattle.expr_nulls.specs.Schema.{Schema}
 use Rattle.plan_changes.specs.declared.change.Change.{Change}
 use Rattle.plan_changes.specs.declared.change.Change.TheVariants.{Create, Store, Insert, Remove, RemoveVersions}
 use Rattle.logical_plan.specs.declared.names.NameEntry.{NameEntry}
 use Rattle.plan_changes.specs.Changes.{is_named, with_array, with_absent, with_version, without_below, arrays_after}
 use Rattle.plan_changes.specs.Databases.{Stored, Database, is_array, has_stored, with_stored, with_absent_stored, with_rows, from_version, new_rows, after, entry_of, NamesDependOnNoRow}
-use Rattle.cell_values.specs.declared.datum.Row.{Row}
+use Rattle.expr_nulls.specs.Row.{Row}
 
 map_if : {A B : Type 0} (f : A → B) (b : Bool) (x : A) (xs : List A) (ys : List B) → map f xs ≡ ys → map f (if b then x ∷ xs else xs) ≡ (if b then f x ∷ ys else ys)
 map_if f true x xs ys e = ap (λ zs. f x ∷ zs) e

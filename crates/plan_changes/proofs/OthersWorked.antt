@@ -1,11 +1,11 @@
 -- A database of two arrays, and changes of one of them and of a third.
 use Rattle.std.proofs.Common.{◌≡◌, ℕ, pos, true, List, [], ◌∷◌, Some, None, refl, codes}
-use Rattle.cell_values.specs.declared.datum.Cell.TheVariants.{Full}
-use Rattle.cell_values.specs.declared.datum.Datum.TheVariants.{Int}
-use Rattle.cell_values.specs.declared.datum.Row.{Row}
-use Rattle.cell_values.specs.declared.schema.Schema.{Schema}
-use Rattle.cell_values.specs.declared.schema.Kind.TheVariants.{Int64}
-use Rattle.array_rows.specs.Rows.{placed}
+use Rattle.expr_nulls.specs.Cell.TheVariants.{Full}
+use Rattle.expr_nulls.specs.Datum.TheVariants.{Int}
+use Rattle.expr_nulls.specs.Row.{Row}
+use Rattle.expr_nulls.specs.Schema.{Schema}
+use Rattle.expr_nulls.specs.Kind.TheVariants.{Int64}
+use Rattle.logical_plan.specs.Rows.{placed}
 use Rattle.logical_plan.specs.Meaning.{meaning, whole}
 use Rattle.logical_plan.specs.Query.{scanned, listed}
 use Rattle.plan_changes.specs.declared.change.Change.{Change}

@@ -1,12 +1,12 @@
 -- A database of one array, and the number of its cells stored as another one. Over a database with 2^63 cells that number is no
 -- value, so that the plan means an array over this database and not over each.
 use Rattle.std.proofs.Common.{◌≡◌, pos, true, None, List, [], ◌∷◌, refl, codes, arith}
-use Rattle.cell_values.specs.declared.datum.Cell.TheVariants.{Full}
-use Rattle.cell_values.specs.declared.datum.Datum.TheVariants.{Int}
-use Rattle.cell_values.specs.declared.datum.Row.{Row}
-use Rattle.cell_values.specs.declared.schema.Schema.{Schema}
-use Rattle.cell_values.specs.declared.schema.Kind.TheVariants.{Int64}
-use Rattle.array_rows.specs.Rows.{placed}
+use Rattle.expr_nulls.specs.Cell.TheVariants.{Full}
+use Rattle.expr_nulls.specs.Datum.TheVariants.{Int}
+use Rattle.expr_nulls.specs.Row.{Row}
+use Rattle.expr_nulls.specs.Schema.{Schema}
+use Rattle.expr_nulls.specs.Kind.TheVariants.{Int64}
+use Rattle.logical_plan.specs.Rows.{placed}
 use Rattle.logical_plan.specs.PlanSchema.{schema_of}
 use Rattle.logical_plan.specs.Query.{Query, scanned, aggregated}
 use Rattle.logical_plan.specs.declared.parts.AggFunction.TheVariants.{CountAll}

@@ -1,7 +1,7 @@
 -- Which changes the stored arrays' names allow, whatever the plans are.
 use Rattle.std.specs.Prelude.{ℕ, Bool, not, ◌&&◌, ◌||◌, List, length, nat_lt, nat_le}
 use Rattle.std.specs.List.{list_all}
-use Rattle.cell_values.specs.Schemas.{is_valid}
+use Rattle.expr_nulls.specs.Schemas.{is_valid}
 use Rattle.logical_plan.specs.declared.names.NameEntry.{NameEntry}
 use Rattle.logical_plan.specs.declared.names.Names.{Names}
 use Rattle.plan_changes.specs.declared.change.Change.{Change}

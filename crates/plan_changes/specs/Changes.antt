@@ -4,7 +4,7 @@ use Rattle.std.specs.List.{filter, find, list_any, prefix_len}
 use Rattle.std.specs.Ordering.{nat_cmp, is_lt}
 use Rattle.std.specs.Cmp.Lexicographic.{slice_cmp}
 use Rattle.std.specs.Str.{bytes_eq}
-use Rattle.cell_values.specs.declared.schema.Schema.{Schema}
+use Rattle.expr_nulls.specs.Schema.{Schema}
 use Rattle.logical_plan.specs.declared.names.NameEntry.{NameEntry}
 use Rattle.logical_plan.specs.declared.names.Names.{Names}
 use Rattle.plan_changes.specs.declared.change.Change.{Change}

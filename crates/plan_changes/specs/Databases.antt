@@ -4,11 +4,11 @@ use Rattle.std.specs.List.{AllByRecursion, filter, find, list_any, prefix_len}
 use Rattle.std.specs.Ordering.{nat_cmp, is_lt}
 use Rattle.std.specs.Cmp.Lexicographic.{slice_cmp}
 use Rattle.std.specs.Str.{bytes_eq}
-use Rattle.cell_values.specs.declared.datum.Broken.{Broken}
-use Rattle.cell_values.specs.declared.datum.Row.{Row}
-use Rattle.cell_values.specs.declared.schema.Schema.{Schema}
-use Rattle.array_rows.specs.Arrays.{AreRowsOf}
-use Rattle.array_rows.specs.Rows.{put_all}
+use Rattle.expr_nulls.specs.Broken.{Broken}
+use Rattle.expr_nulls.specs.Row.{Row}
+use Rattle.expr_nulls.specs.Schema.{Schema}
+use Rattle.logical_plan.specs.Arrays.{AreRowsOf}
+use Rattle.logical_plan.specs.Rows.{put_all}
 use Rattle.logical_plan.specs.CellOps.{fit_rows}
 use Rattle.logical_plan.specs.Faults.{if_whole, fault_of}
 use Rattle.logical_plan.specs.Meaning.{meaning}

@@ -1,6 +1,6 @@
 -- Databases stay databases.
 use Rattle.std.specs.Prelude.{◌≡◌, None, IfOk}
-use Rattle.array_rows.specs.Arrays.{AreRowsOf}
+use Rattle.logical_plan.specs.Arrays.{AreRowsOf}
 use Rattle.logical_plan.specs.Meaning.{meaning}
 use Rattle.logical_plan.specs.PlanSchema.{schema_of}
 use Rattle.logical_plan.specs.Query.{Query}

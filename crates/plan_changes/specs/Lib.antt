@@ -1,3 +1,7 @@
+pub use Rattle.logical_plan.specs.Lemmas.QueryCode
+pub use Rattle.logical_plan.specs.Query
+pub use Rattle.logical_plan.specs.declared.names.NameEntry
+pub use Rattle.logical_plan.specs.declared.names.Names
 pub mod Allowed
 pub mod Changes
 pub mod Databases

@@ -3,9 +3,9 @@ use Rattle.std.specs.Prelude.{ℕ, ◌<◌, ◌≤◌, Bool, List, [], ◌∷◌
 use Rattle.std.specs.List.{AllByRecursion}
 use Rattle.std.specs.Ordering.{nat_cmp, is_lt}
 use Rattle.std.specs.Cmp.Lexicographic.{slice_cmp}
-use Rattle.cell_values.specs.Naming.{IsName}
-use Rattle.cell_values.specs.Schemas.{IsValid, attribute_names, dimension_names}
-use Rattle.cell_values.specs.declared.schema.Schema.{Schema}
+use Rattle.expr_nulls.specs.Naming.{IsName}
+use Rattle.expr_nulls.specs.Schemas.{IsValid, attribute_names, dimension_names}
+use Rattle.expr_nulls.specs.Schema.{Schema}
 use Rattle.logical_plan.specs.declared.names.NameEntry.{NameEntry}
 use Rattle.logical_plan.specs.declared.names.Names.{Names}
 use Rattle.plan_changes.specs.declared.change.Change.{Change}

@@ -1,8 +1,8 @@
 -- When a change is typed for the stored arrays' names.
 use Rattle.std.specs.Prelude.{◌≡◌, ◌⊎◌, nat_eq, Bool, true, false, ◌&&◌, List, [], ◌∷◌, Option, None, Some, IsTrue}
 use Rattle.std.specs.List.{AllByRecursion, list_any}
-use Rattle.cell_values.specs.declared.schema.Attribute.{Attribute}
-use Rattle.cell_values.specs.declared.schema.Schema.{Schema}
+use Rattle.expr_nulls.specs.Attribute.{Attribute}
+use Rattle.expr_nulls.specs.Schema.{Schema}
 use Rattle.expr_nulls.specs.Typing.{same_kind}
 use Rattle.logical_plan.specs.declared.names.NameEntry.{NameEntry}
 use Rattle.logical_plan.specs.declared.names.Names.{Names}

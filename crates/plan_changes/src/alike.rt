@@ -4,7 +4,7 @@ ghost use Rattle.expr_nulls.specs.Typing.{same_kind};
 ghost use Rattle.logical_plan.specs.Typing.{same_bounds};
 ghost use Rattle.plan_changes.specs.Typed.{same_kinds, are_alike};
 
-use cell_values::{Attribute, Dimension, Kind, Schema};
+use expr_nulls::{Attribute, Dimension, Kind, Schema};
 
 fn same_kind(a: Kind, b: Kind) -> bool
     ensures { result ≡ same_kind a b }

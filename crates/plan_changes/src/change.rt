@@ -2,7 +2,7 @@
 ghost use Rattle.std.specs.Prelude.{◌≡◌, IfOk};
 ghost use Rattle.plan_changes.specs.Changes.{name_of};
 
-use cell_values::{Copies, Memory, Name, Schema};
+use expr_nulls::{Copies, Memory, Name, Schema};
 use logical_plan::Plan;
 
 #[derive(Drop)]

@@ -6,7 +6,7 @@ ghost use Rattle.plan_changes.specs.Allowed.{has_room};
 ghost use Rattle.plan_changes.specs.Changes.{has_array, entry_named, next_of, last_of, newest_of};
 ghost use Rattle.plan_changes.specs.Stored.{is_before};
 
-use cell_values::{List, Name};
+use expr_nulls::{List, Name};
 use logical_plan::NameEntry;
 
 /// Whether two names are the same.

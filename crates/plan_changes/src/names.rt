@@ -6,7 +6,7 @@ ghost use Rattle.plan_changes.specs.Allowed.{has_number, names_allow};
 
 use crate::Change;
 use crate::lookups::{has_array, is_before, is_same};
-use cell_values::{List, Memory, Name, Schema};
+use expr_nulls::{List, Memory, Name, Schema};
 use logical_plan::{NameEntry, Names};
 
 /// How many arrays come before a name.

@@ -6,4 +6,5 @@ mod dimensions;
 mod places;
 mod schema;
 
+pub use logical_plan::{Plan, let_go};
 pub use schema::{schema_of, schema_of_part, schema_of_slice};

@@ -11,10 +11,10 @@ use Rattle.event_core.specs.Bases.{sequence_at}
 use Rattle.event_core.specs.History.{catalogue_at, names_at}
 use Rattle.store_ledger.specs.Ledger.{history}
 use Rattle.store_versions.specs.Versions.{directory_of}
-use Rattle.commit_pages.specs.declared.laid.Laid.{Laid}
-use Rattle.commit_pages.specs.declared.written.Written.{Written}
-use Rattle.commit_pages.specs.Commits.{record_needs, base_needs, record_laid, base_laid}
-use Rattle.commit_pages.specs.Versions.{draft_of}
+use Rattle.store_state.specs.Laid.{Laid}
+use Rattle.store_state.specs.Written.{Written}
+use Rattle.store_state.specs.Commits.{record_needs, base_needs, record_laid, base_laid}
+use Rattle.store_state.specs.Versions.{draft_of}
 use Rattle.store_state.specs.Standings.{Standing, base_of, versions_after}
 use Rattle.store_state.specs.Inner.Keeping.{Keeping}
 use Rattle.prepared_commits.specs.declared.prepared.NewBase.{NewBase}

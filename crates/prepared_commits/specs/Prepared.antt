@@ -23,10 +23,10 @@ use Rattle.event_core.specs.Ready.{IsReadyOver}
 use Rattle.event_core.specs.Replay.{core_at}
 use Rattle.store_ledger.specs.Ledger.{has_room, history, is_noted, is_tried}
 use Rattle.store_versions.specs.Rows.{IsReadyFor}
-use Rattle.commit_costs.specs.Costs.{cost_from}
+use Rattle.store_state.specs.Costs.{cost_from}
 use Rattle.commit_writes.specs.Commits.{IsBlobSized, IsChainSized}
-use Rattle.commit_pages.specs.declared.laid.Laid.{Laid}
-use Rattle.commit_pages.specs.Changes.{ComesWith, AreValid, IsChangeOf}
+use Rattle.store_state.specs.Laid.{Laid}
+use Rattle.store_state.specs.Changes.{ComesWith, AreValid, IsChangeOf}
 use Rattle.store_state.specs.declared.parts.StoreParts.{StoreParts}
 use Rattle.store_state.specs.At.{keeping, standing}
 use Rattle.store_state.specs.Standings.{Standing, BeganAs, WasTriedBy, base_of}

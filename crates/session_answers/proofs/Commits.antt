@@ -1,5 +1,5 @@
 -- The answers of a commit, by what came of it.
-use Rattle.std.proofs.Common.{◌≡◌, ◌∙◌, ◌+◌, ◌<◌, ◌≤◌, ℕ, false, List, [], ◌∷◌, ◌++◌, length, slice_get, inl, inr, Option, None, Some, Ok, refl, ap, sym, subst, arith, append-nil, length-append}
+use Rattle.std.proofs.Common.{◌≡◌, ◌∙◌, ◌+◌, ◌-◌, ◌^◌, ◌<◌, ◌≤◌, ℕ, false, List, [], ◌∷◌, ◌++◌, length, slice_get, inl, inr, Option, None, Some, Ok, refl, ap, sym, subst, arith, append-nil, length-append}
 use Rattle.std.proofs.lemmas.Bool.{eq-eqb}
 use Rattle.std.proofs.lemmas.Option.{none-some}
 use Rattle.afl_outside.specs.Disk.{Moment}
@@ -9,6 +9,7 @@ use Rattle.afl_types.specs.declared.statements.checking.Typed.TheVariants.{Chang
 use Rattle.plan_changes.specs.declared.change.Change.{Change}
 use Rattle.plan_changes.specs.declared.change.Change.TheVariants.{Create, Store, Insert, Remove, RemoveVersions}
 use Rattle.logical_plan.specs.declared.names.Names.{Names}
+use Rattle.event_core.specs.Bases.{sequence_at}
 use Rattle.event_core.specs.declared.entry.Entry.{Entry}
 use Rattle.event_core.specs.declared.entry.Entry.TheVariants.{Commit}
 use Rattle.result_print.specs.declared.refusal.Refusal.{Refusal}
@@ -21,7 +22,9 @@ use Rattle.store_ledger.specs.declared.pinned.Pinned.{Pinned}
 use Rattle.store_ledger.specs.Ledger.{IsOpenPin, is_noted, is_tried}
 use Rattle.store_state.specs.declared.event.Event.{Event}
 use Rattle.store_state.specs.declared.event.Event.TheVariants.{Acknowledged}
-use Rattle.session_turns.specs.Causes.{IsUncommitted}
+use Rattle.store_state.specs.Calls.{history_at}
+use Rattle.store_state.specs.Standings.{base_of}
+use Rattle.session_turns.specs.Causes.{FitsAfter, IsUncommitted}
 use Rattle.session_turns.specs.CommitFault.{CommitFault}
 use Rattle.session_turns.specs.CommitFault.TheVariants as faults
 use Rattle.session_turns.specs.Tries.{MakesCommit, TriesCommit}
@@ -30,7 +33,7 @@ use Rattle.session_turns.proofs.Telling.{entries_in-append}
 use Rattle.session_turns.specs.Acts.{Act, acts_for, acts_in, begins, ends, makes, trying, making}
 use Rattle.session_turns.specs.Fresh.{IsNamedAt}
 use Rattle.session_turns.specs.Refusals.{IsUncommittedReply, IsWant, Refuses}
-use Rattle.session_turns.specs.Replies.{names_before, words_of, HasLine, HoldsSincePin, IsToldFor, Says, SaysChange, WasAt}
+use Rattle.session_turns.specs.Replies.{names_before, words_of, HadRoomFor, HasLine, HoldsSincePin, IsToldFor, Says, SaysChange, WasAt}
 use Rattle.session_turns.specs.Reply.{Reply}
 use Rattle.session_turns.specs.Courses.{AddsOwn}
 use Rattle.session_turns.specs.Start.{Start}
@@ -70,6 +73,14 @@ pub change_under : {D : Type 0} (moment : D → Moment) (start : Start D) (event
     IsOpenPin (ledger_of start events) pinned → SaysChange moment start events text tree (pinned.place + 1) change → check_of tree text pinned.names ≡ Ok (AChange change)
 change_under moment start events pinned text tree change o says =
     ap (λ (names : Names). check_of tree text names) (sym (names_behind start events pinned o)) ∙ says.typed
+
+-- there was room for it at a place
+pub had_room : {D : Type 0} (moment : D → Moment) (start : Start D) (events : List Event) (change : Change) (place other : ℕ) → other ≡ place →
+    sequence_at (base_of (told start events)) (history_at (told start events) place) < 2 ^ 64 - 1 → FitsAfter moment (told start events) (history_at (told start events) place) change →
+    HadRoomFor moment start events other change
+had_room moment start events change place other same next fits =
+    let room : HadRoomFor moment start events place change = record { next = next; fits = fits } in
+    subst (λ (k : ℕ). HadRoomFor moment start events k change) (sym same) room
 
 -- no commit was tried under it in a turn that added nothing
 pub still_untried : {D : Type 0} (start : Start D) (pinned : Pinned) (session : ℕ) (old new : List Event) → pinned.session ≡ session → Adds session [] old new →
@@ -186,8 +197,11 @@ module _ {D : Type 0} (moment : D → Moment) (start : Start D) (pinned : Pinned
         (holds at, (said at, (new, was at, subst (λ (p : ℕ). IsUncommitted moment pinned.session change (told start new) (faults.Full needed free p)) (sym u.1) why)))
     refused_is_answered (faults.Disk place) u why =
         let at : reply.place ≡ here = u.1 ∙ why.0 ∙ count in
-        refusing Disk u.0 at (λ line. line)
-        (holds at, fault_is_own start pinned.session own first new adds a.untried why.1 (trying change) acts, said at)
+        refusing Disk u.0 at (λ line. line) (
+          holds at,
+          fault_is_own start pinned.session own first new adds a.untried why.1 (trying change) acts,
+          (said at, (new, was at, subst (λ (p : ℕ). IsUncommitted moment pinned.session change (told start new) (faults.Disk p)) (sym u.1) why)),
+        )
     refused_is_answered faults.Memory u why = wanting u.0 (u.1 ∙ count)
 
   -- ---- one that was made
@@ -219,9 +233,10 @@ module _ {D : Type 0} (moment : D → Moment) (start : Start D) (pinned : Pinned
         (ap acts_in (own_first pinned.session pinned.session (Acknowledged (Commit pinned.session change m.used) m.moment m.directory) [] refl
         (eq-eqb pinned.session pinned.session refl)))))
 
-    pub made_is_answered : (words : Told) → Says moment start old text tree (pinned.place + 1) (record { reply = words; change = Some change }) →
+    -- there was room for it where it came
+    pub made_is_answered : (words : Told) → HadRoomFor moment start new reply.place change → Says moment start old text tree (pinned.place + 1) (record { reply = words; change = Some change }) →
         words_of reply ≡ words → reply.place + 1 ≡ length (entries_in new) → Answered
-    made_is_answered words says_words same last =
+    made_is_answered words room says_words same last =
         let accepted : reply.refusal ≡ None = ap (λ (w : Told). w.refusal) same ∙ said_accepts moment start old text tree (pinned.place + 1) change words says says_words in
         let count : length (entries_in new) ≡ made_at + 1 =
         ap (λ (es : List Entry). length es) made_entries ∙ length-append (entries_in front) (Commit pinned.session change m.used ∷ []) in
@@ -249,5 +264,6 @@ module _ {D : Type 0} (moment : D → Moment) (start : Start D) (pinned : Pinned
             ),
             subst (λ (w : Told). Says moment start new text tree reply.place (record { reply = w; change = Some change })) (sym same)
                 (subst (λ (place : ℕ). Says moment start new text tree place (record { reply = words; change = Some change })) (sym at) says_here),
+            room,
           );
         }

@@ -44,7 +44,7 @@ module _ {D : Type 0} (moment : D â†’ Moment) (start : Start D) (session pin : â
   told_before (Some (Typing span kind)) (trying change) t = t
   told_before (Some (Typing span kind)) (making change) t = t
   told_before (Some Disk) nothing t = t
-  told_before (Some Disk) looking t = (t.0, fault_before t.1)
+  told_before (Some Disk) looking t = (t.0, fault_before t.1, t.2)
   told_before (Some Disk) (trying change) t = (t.0, fault_before t.1, t.2)
   told_before (Some Disk) (making change) t = t
   told_before (Some (Damaged page)) nothing t = t

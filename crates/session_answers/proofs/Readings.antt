@@ -16,7 +16,7 @@ use Rattle.plan_changes.specs.declared.change.Change.{Change}
 use Rattle.plan_changes.specs.Databases.{Database, names_of}
 use Rattle.statement_answers.specs.declared.outcome.Outcome.{Outcome}
 use Rattle.statement_answers.specs.declared.outcome.Outcome.TheVariants.{Replied, Changes}
-use Rattle.statement_answers.specs.Outcomes.{asked_for, HasOutcomeKind, IsOutcomeOf, IsToldBy}
+use Rattle.statement_answers.specs.Outcomes.{asked_for, HasOutcomeKind, IsOutcomeOf, IsToldBy, MayFail}
 use Rattle.statement_replies.specs.declared.replies.Reply.{Reply as Told}
 use Rattle.statement_replies.specs.Statements.{reply_to}
 use Rattle.store_ledger.specs.declared.note.NoteKind.{NoteKind}
@@ -107,13 +107,14 @@ module _ {D : Type 0} (moment : D → Moment) (shared : Shared D) (pinned : Pinn
 
     pub was_read : (result : Result Outcome ExecFault) → HasRead moment last → IfOk result (HasOutcomeKind pinned.names (check_of tree text pinned.names)) →
         IfOk result (TellsBy first) → IfOk result (AsksBy first) → Answers (pinned_state moment first) (pinned_state moment last) result →
-        WasRead moment shared pinned old new text tree result
-    was_read result read kind tells asks answers = record {
+        IfErr result (λ fault. MayFail fault (check_of tree text pinned.names)) → WasRead moment shared pinned old new text tree result
+    was_read result read kind tells asks answers allowed = record {
       marks = last.marks;
       read = subst (HasRead moment) last_is read;
       comes = comes_by result kind tells;
       asked = asked_by result asks;
       why = why_by result answers;
+      allowed = allowed;
     }
 
 -- ---- its answers
@@ -178,7 +179,7 @@ module _ {D : Type 0} (moment : D → Moment) (shared : Shared D) (pinned : Pinn
       reply.place ≡ pinned.place + 1 → IsAnsweredUnder moment began pinned.session pinned.place (seen old) (seen new) text tree reply
   unread_is_answered fault reply w u at =
       looked (Err fault) w reply at
-      (failed_replies_are_told moment (reading_of shared pinned old new w.marks) text tree reply fault w.read (was (Err fault) w) w.why u at w.read.adds)
+      (failed_replies_are_told moment (reading_of shared pinned old new w.marks) text tree reply fault w.read (was (Err fault) w) w.why w.allowed u at w.read.adds)
 
   pub change_is_read : (change : Change) (changed : Option Changed) (words : Told) (w : WasRead moment shared pinned old new text tree (Ok (Changes change changed words))) →
       IsReadChange moment (reading_of shared pinned old new w.marks) text tree change changed words

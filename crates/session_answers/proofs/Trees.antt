@@ -1,7 +1,7 @@
 -- The answer to a tree, about its pin and its unpin.
-use Rattle.std.proofs.Common.{◌≡◌, ◌∙◌, ◌≤◌, ℕ, true, List, [], ◌∷◌, ◌++◌, length, inl, inr, Option, None, Some, refl, ap, sym, subst, arith, append-nil}
+use Rattle.std.proofs.Common.{◌≡◌, ◌∙◌, ◌≤◌, ℕ, Bool, true, false, List, [], ◌∷◌, ◌++◌, length, inl, inr, Option, None, Some, refl, ap, sym, subst, arith, append-nil}
 use Rattle.std.specs.List.{list_all}
-use Rattle.std.proofs.lemmas.Bool.{eq-eqb}
+use Rattle.std.proofs.lemmas.Bool.{eq-eqb, true≢false}
 use Rattle.afl_outside.specs.Disk.{Moment}
 use Rattle.afl_trees.specs.Term.{Term}
 use Rattle.event_core.specs.declared.entry.Entry.TheVariants.{Pin, Unpin}
@@ -16,9 +16,9 @@ use Rattle.store_state.specs.declared.event.Event.{Event}
 use Rattle.store_state.specs.declared.event.Event.TheVariants.{Entered}
 use Rattle.session_turns.specs.Turns.{found_before, own_events, pin_event, Adds}
 use Rattle.session_turns.proofs.Turning.{turns_find}
-use Rattle.session_turns.specs.Acts.{Act, Course, begins, nothing, looking, trying, making}
+use Rattle.session_turns.specs.Acts.{Act, Course, acts_for, acts_in, begins, ends, nothing, looking, trying, making}
 use Rattle.session_turns.specs.Refusals.{IsWant, Refuses}
-use Rattle.session_turns.specs.Replies.{EnteredAt, HasLine, IsToldFor}
+use Rattle.session_turns.specs.Replies.{EnteredAt, HadNoRoom, HasLine, IsToldFor, WasAt}
 use Rattle.session_turns.specs.Reply.{Reply}
 use Rattle.session_turns.proofs.ActsJoined.{acts_join}
 use Rattle.session_turns.proofs.Beginnings.{reached}
@@ -51,6 +51,18 @@ began_at session pin old new nothing e = tt
 began_at session pin old new looking e = e
 began_at session pin old new (trying change) e = e
 began_at session pin old new (making change) e = e
+
+abbrev has_acts : List Act → Bool
+has_acts [] = false
+has_acts (act ∷ acts) = true
+
+-- under a pin nobody is told that the history is full
+never_full : {D : Type 0} (moment : D → Moment) (start : Start D) (session pin : ℕ) (new own : List Event) (text : List ℕ) (tree : Term) (reply : Reply) (acts : List Act)
+    (course : Course) → begins ∷ acts ≡ acts_for course → IsToldFor moment start session pin new own text tree reply (Some refusals.HistoryFull) course → ⊥
+never_full moment start session pin new own text tree reply acts nothing e t = true≢false (ap has_acts e)
+never_full moment start session pin new own text tree reply acts looking e t = t
+never_full moment start session pin new own text tree reply acts (trying change) e t = t
+never_full moment start session pin new own text tree reply acts (making change) e t = t
 
 module _ {D : Type 0} (moment : D → Moment) (start : Start D) (session : ℕ) (old mid end new : List Event) (pinned : Pinned) (text : List ℕ) (tree : Term) (reply : Reply)
     (turn : Adds session (pin_event session ∷ []) old mid) (mine : pinned.session ≡ session)
@@ -91,6 +103,12 @@ module _ {D : Type 0} (moment : D → Moment) (start : Start D) (session : ℕ) 
       (told_before moment start session pinned.place end (pin_event session ∷ []) under.own text tree reply reply.refusal under.course
       (subst (λ (s : ℕ). IsToldFor moment start s pinned.place end under.own text tree reply reply.refusal under.course) mine under.told)))
 
+  full : reply.refusal ≡ Some refusals.HistoryFull → HadNoRoom start old new reply.place
+  full is =
+      let own : List Event = pin_event session ∷ (under.own ++ Entered (Unpin session) ∷ []) in
+      absurd (never_full moment start session pinned.place new own text tree reply (acts_in under.own ++ ends ∷ []) under.course under.acts
+      (subst (λ (r : Option Refusal). IsToldFor moment start session pinned.place new own text tree reply r under.course) is told))
+
   pub pinned_is_answered : IsAnsweredTree moment start session old new text tree reply
   pinned_is_answered = record {
     own = pin_event session ∷ (under.own ++ Entered (Unpin session) ∷ []);
@@ -102,6 +120,7 @@ module _ {D : Type 0} (moment : D → Moment) (start : Start D) (session : ℕ) 
     line = under.line;
     later = (let le = behind_old in omega (arith, le, under.since));
     until = subst (λ (es : List Event). reply.place ≤ length (entries_in es)) (sym unpin_adds.grown) (reached start end unpin_adds.more reply.place under.until);
+    full = full;
     told = told;
   }
 
@@ -124,8 +143,9 @@ module _ {D : Type 0} (moment : D → Moment) (start : Start D) (session : ℕ) 
   grown = subst (λ (es : List Event). length (entries_in old) ≤ length (entries_in es)) (sym found.grown) (reached start old found.more (length (entries_in old)) (omega arith))
 
   unpinned : (refusal : Option Refusal) → reply.refusal ≡ refusal → HasLine reply refusal → reply.place ≡ length (entries_in new) →
+      (reply.refusal ≡ Some refusals.HistoryFull → HadNoRoom start old new reply.place) →
       IsToldFor moment start session 0 new [] text tree reply refusal nothing → IsAnsweredTree moment start session old new text tree reply
-  unpinned refusal e line at told = record {
+  unpinned refusal e line at full told = record {
     own = [];
     course = nothing;
     pin = 0;
@@ -135,18 +155,23 @@ module _ {D : Type 0} (moment : D → Moment) (start : Start D) (session : ℕ) 
     line = subst (λ (r : Option Refusal). HasLine reply r) (sym e) line;
     later = subst (λ (n : ℕ). length (entries_in old) ≤ n) (sym at) grown;
     until = omega (arith, at);
+    full = full;
     told = subst (λ (r : Option Refusal). IsToldFor moment start session 0 new [] text tree reply r nothing) (sym e) told;
   }
 
   pub want_is_answered : IsWant reply → reply.place ≡ length (entries_in new) → IsAnsweredTree moment start session old new text tree reply
-  want_is_answered w at = unpinned (Some refusals.Memory) w.1 w.0 at tt
+  want_is_answered w at = unpinned (Some refusals.Memory) w.1 w.0 at (λ is. absurd (cc (w.1, is))) tt
+
+  here : {place : ℕ} → place ≡ length (entries_in new) → WasAt place new new
+  here count = record { later = []; grown = sym (append-nil new); count = count }
 
   pub full_is_answered : (entries : ℕ) → Refuses refusals.HistoryFull reply → reply.place ≡ entries → IsRefused (ledger_of start new) (HistoryFull entries) →
       IsAnsweredTree moment start session old new text tree reply
   full_is_answered entries (inl e) at why =
       let count : reply.place ≡ length (entries_in new) = at ∙ why.1 in
       unpinned (Some refusals.HistoryFull) (ap (λ (words : Told). words.refusal) e) (ap (λ (words : Told). words.text) e) count
-      (new, record { later = []; grown = sym (append-nil new); count = count }, why.0)
+      (λ is. record { then = new; others = found.more; behind = found.grown; at = here count; full = why.0 })
+      (new, here count, why.0)
   full_is_answered entries (inr w) at why = want_is_answered w (at ∙ why.1)
 
   -- a statement that is refused tells nothing of what it reads

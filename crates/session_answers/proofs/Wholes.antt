@@ -12,7 +12,7 @@ use Rattle.statement_replies.specs.declared.replies.Reply.{Reply as Told}
 use Rattle.statement_replies.specs.Reply.{refused}
 use Rattle.store_state.specs.declared.event.Event.{Event}
 use Rattle.session_turns.specs.Acts.{nothing}
-use Rattle.session_turns.specs.Refusals.{IsWant, Refuses}
+use Rattle.session_turns.specs.Refusals.{IsWant, RefusesAt}
 use Rattle.session_turns.specs.Replies.{words_of, HasLine, IsToldFor}
 use Rattle.session_turns.specs.Reply.{Reply}
 use Rattle.session_turns.specs.Start.{Start}
@@ -39,6 +39,7 @@ module _ {D : Type 0} (moment : D → Moment) (start : Start D) (session last : 
       subst (λ (one : Term). IsToldFor moment start session a.pin new a.own text one reply reply.refusal a.course) (only_tree t derives) a.told,
     );
     until = λ t derives. a.until;
+    full = λ t derives is. a.full is;
     stopped = λ at kind stop. absurd (only_stop at kind stop);
   }
 
@@ -60,26 +61,29 @@ module _ {D : Type 0} (moment : D → Moment) (start : Start D) (session last : 
       subst (λ (r : Option Refusal). IsToldFor moment start session 0 old [] text t reply r nothing) (sym w.1) tt,
     );
     until = λ t derives. omega (arith, at);
-    stopped = λ at kind stop. (refl, inr w.1);
+    full = λ t derives is. absurd (cc (w.1, is));
+    stopped = λ there why stop. (refl, inr (w, omega (arith, at), omega (arith, at)));
   }
 
   -- a statement that is refused tells nothing of what it reads
   pub want_reads_none : IsWant reply → (tree : Term) (before after : ℕ) → reply.refusal ≡ None → ReadsOnce start session old old text tree before after
   want_reads_none w tree before after accepts = absurd (want_refuses reply w accepts)
 
-  module _ (at : ℕ) (kind : ParseKind) (place : reply.place ≡ last) (only_tree : (t : Term) → DerivesText text t → AnswersTree (Err (stops.At at kind)) t)
+  module _ (at : ℕ) (kind : ParseKind) (only_tree : (t : Term) → DerivesText text t → AnswersTree (Err (stops.At at kind)) t)
       (only_stop : (there : ℕ) (why : ParseKind) → StopsText text there why → AnswersStop (Err (stops.At at kind)) there why) where
     pub stop_reads_none : (tree : Term) → DerivesText text tree → (before after : ℕ) → ReadsOnce start session old old text tree before after
     stop_reads_none tree derives before after = absurd (only_tree tree derives)
 
-    stop_words : words_of reply ≡ refused (Parse at kind) → (there : ℕ) (why : ParseKind) → (at ≡ there) × (kind ≡ why) → IsStopReply last there why reply
-    stop_words e there why same = record {
+    stop_words : words_of reply ≡ refused (Parse at kind) → reply.place ≡ last → (there : ℕ) (why : ParseKind) → (at ≡ there) × (kind ≡ why) →
+        IsStopReply last there why reply
+    stop_words e place there why same = record {
       words = e ∙ ap (λ (n : ℕ). refused (Parse n kind)) same.0 ∙ ap (λ (k : ParseKind). refused (Parse there k)) same.1;
       place = place;
     }
 
-    pub stop_is_whole : Refuses (Parse at kind) reply → IsAnswered moment start session last old old text reply
-    stop_is_whole (inl e) = record {
+    pub stop_is_whole : (mine count : ℕ) → mine ≡ last → count ≡ length (entries_in old) → RefusesAt (Parse at kind) mine count reply →
+        IsAnswered moment start session last old old text reply
+    stop_is_whole mine count is_last is_all (inl (e, place)) = record {
       own = [];
       course = nothing;
       pin = 0;
@@ -89,9 +93,10 @@ module _ {D : Type 0} (moment : D → Moment) (start : Start D) (session last : 
       line = refused_line (Some (Parse at kind)) (ap (λ (words : Told). words.refusal) e) (ap (λ (words : Told). words.text) e);
       told = λ t derives. absurd (only_tree t derives);
       until = λ t derives. absurd (only_tree t derives);
-      stopped = λ there why stop. (refl, inl (stop_words e there why (only_stop there why stop)));
+      full = λ t derives. absurd (only_tree t derives);
+      stopped = λ there why stop. (refl, inl (stop_words e (place ∙ is_last) there why (only_stop there why stop)));
     }
-    stop_is_whole (inr w) = record {
+    stop_is_whole mine count is_last is_all (inr (w, place)) = record {
       own = [];
       course = nothing;
       pin = 0;
@@ -101,5 +106,6 @@ module _ {D : Type 0} (moment : D → Moment) (start : Start D) (session last : 
       line = refused_line (Some Memory) w.1 w.0;
       told = λ t derives. absurd (only_tree t derives);
       until = λ t derives. absurd (only_tree t derives);
-      stopped = λ there why stop. (refl, inr w.1);
+      full = λ t derives. absurd (only_tree t derives);
+      stopped = λ there why stop. (refl, inr (w, omega (arith, place, is_all), omega (arith, place, is_all)));
     }

@@ -5,14 +5,15 @@ use Rattle.afl_trees.specs.Term.{Term}
 use Rattle.afl_trees.specs.Statement.{DerivesText, StopsText}
 use Rattle.afl_trees.specs.declared.kind.ParseKind.{ParseKind}
 use Rattle.event_core.specs.declared.entry.Entry.TheVariants.{Pin}
-use Rattle.result_print.specs.declared.refusal.Refusal.TheVariants.{Parse, Memory}
+use Rattle.result_print.specs.declared.refusal.Refusal.TheVariants.{HistoryFull, Parse}
 use Rattle.statement_replies.specs.Reply.{refused}
 use Rattle.store_state.specs.declared.event.Event.{Event}
 use Rattle.session_turns.specs.Start.{Start}
 use Rattle.session_turns.specs.Told.{entries_in}
 use Rattle.session_turns.specs.Courses.{AddsOwn}
 use Rattle.session_turns.specs.Acts.{acts_for, acts_in, Course, nothing}
-use Rattle.session_turns.specs.Replies.{words_of, EnteredAt, HasLine, IsToldFor}
+use Rattle.session_turns.specs.Refusals.{IsWantBetween}
+use Rattle.session_turns.specs.Replies.{words_of, EnteredAt, HadNoRoom, HasLine, IsToldFor}
 use Rattle.session_turns.specs.Reply.{Reply}
 
 -- the reply to a text that no tree derives: where and why it stops. It rests on no entry, and has the place of the session's last reply
@@ -26,7 +27,8 @@ BeganAt session pin old new nothing = Unit {0}
 BeganAt session pin old new course = EnteredAt (length (entries_in old)) (Pin session) pin new
 
 -- A STATEMENT IS ANSWERED: behind all that its session had seen, and among others' events, it did this; its reply is that of its tree, or that
--- of its stop, of which it has one; and the reply's place is behind all that the session had seen
+-- of its stop, of which it has one; and the reply's place is behind all that the session had seen. Where the history is told to be full, it was
+-- so behind that too
 pub record IsAnswered {D : Type 0} (moment : D → Moment) (start : Start D) (session last : ℕ) (old new : List Event)
     (text : List ℕ) (reply : Reply) : Type 0 where
   pub own : List Event
@@ -39,5 +41,6 @@ pub record IsAnswered {D : Type 0} (moment : D → Moment) (start : Start D) (se
   pub told : (tree : Term) → DerivesText text tree
       → (length (entries_in old) ≤ reply.place) × IsToldFor moment start session pin new own text tree reply reply.refusal course
   pub until : (tree : Term) → DerivesText text tree → reply.place ≤ length (entries_in new)
+  pub full : (tree : Term) → DerivesText text tree → reply.refusal ≡ Some HistoryFull → HadNoRoom start old new reply.place
   pub stopped : (at : ℕ) (kind : ParseKind) → StopsText text at kind
-      → (own ≡ []) × (IsStopReply last at kind reply ⊎ (reply.refusal ≡ Some Memory))
+      → (own ≡ []) × (IsStopReply last at kind reply ⊎ IsWantBetween old new reply)

@@ -1,5 +1,6 @@
 pub use Rattle.session_turns.specs.Acts
 pub use Rattle.session_turns.specs.Courses
+pub use Rattle.session_turns.specs.Refusals
 pub use Rattle.session_turns.specs.Replies
 pub use Rattle.session_turns.specs.Reply
 pub use Rattle.session_turns.specs.Seats

@@ -13,7 +13,7 @@ use afl_outside::{Disk, Gate, Point};
 use afl_parser::{ParseFault, parse};
 use afl_trees::Tree;
 use result_print::Refusal;
-use session_turns::{Options, Reply, Seat, Shared, refusal_at, want};
+use session_turns::{Options, Reply, Seat, Shared, refusal_at, refusal_or_want, want};
 use std::alloc::Global;
 use std::sync::Wait;
 use store_ledger::PinFault;
@@ -79,7 +79,9 @@ fn answer_text<D: Disk, R: Wait, G: Gate>(
         Ok(tree) => answer_tree(rt, alloc, shared, seat, text, &tree, number, options, gate),
         Err(ParseFault::At { at, kind }) => {
             let last = seat.last();
-            (refusal_at(alloc, Refusal::Parse { at, kind }, last), seat)
+            let count = seat.seen();
+            let reply = refusal_or_want(alloc, Refusal::Parse { at, kind }, last, count);
+            (reply, seat)
         }
         Err(ParseFault::Memory) => {
             let seen = seat.seen();

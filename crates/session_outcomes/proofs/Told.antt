@@ -90,8 +90,8 @@ module _ {D : Type 0} (moment : D → Moment) (start : Start D) (session pin : �
     by_words : Words (words_of reply) → Looked
     by_words (tells e) = looked None e tt (s.behind, s.said)
     by_words (breaks breach e) = looked (Some (Typing breach.span breach.kind)) (refusal_is (refused (Typing breach.span breach.kind)) e)
-        (text_is (refused (Typing breach.span breach.kind)) e) (s.since, s.said)
-    by_words (fails broken e) = looked (Some (Cell broken.at broken.kind)) (refusal_is (cell_reply broken) e) (text_is (cell_reply broken) e) (s.since, s.said)
+        (text_is (refused (Typing breach.span breach.kind)) e) (inl s.behind, s.said)
+    by_words (fails broken e) = looked (Some (Cell broken.at broken.kind)) (refusal_is (cell_reply broken) e) (text_is (cell_reply broken) e) (inl s.behind, s.said)
 
     said_is_told : Looked
     said_is_told = by_words (of_kind (words_of reply) (names_before start events reply.place)
@@ -101,11 +101,12 @@ module _ {D : Type 0} (moment : D → Moment) (start : Start D) (session pin : �
   want_is_told w = looked (Some Memory) w.1 w.0 tt
 
   disk_is_told : IsCausedSincePin moment start session pin events own text tree reply Source → Refuses Disk reply → Looked
-  disk_is_told c (inl e) = looked (Some Disk) (refusal_is (refused Disk) e) (text_is (refused Disk) e) (c.since, c.cause)
+  disk_is_told c (inl e) = looked (Some Disk) (refusal_is (refused Disk) e) (text_is (refused Disk) e) (c.holds, c.cause, c.allowed)
   disk_is_told c (inr w) = want_is_told w
 
   page_is_told : (page : ℕ) → IsCausedSincePin moment start session pin events own text tree reply (Spoiled page) → Refuses (Damaged page) reply → Looked
-  page_is_told page c (inl e) = looked (Some (Damaged page)) (refusal_is (refused (Damaged page)) e) (text_is (refused (Damaged page)) e) (c.since, c.cause)
+  page_is_told page c (inl e) = looked (Some (Damaged page)) (refusal_is (refused (Damaged page)) e) (text_is (refused (Damaged page)) e)
+      (c.holds, c.cause.0, c.cause.1, c.allowed)
   page_is_told page c (inr w) = want_is_told w
 
   unread_is_told : (fault : ExecFault) → IsCausedSincePin moment start session pin events own text tree reply fault → Looked

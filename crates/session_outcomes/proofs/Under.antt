@@ -1,7 +1,7 @@
 -- What is told of a statement that was read under a pin.
-use Rattle.std.proofs.Common.{◌≡◌, ◌+◌, ◌<◌, ◌≤◌, ℕ, true, List, [], length, slice_index, Option, IfSome, IsSomeAnd, sym, subst, arith}
+use Rattle.std.proofs.Common.{◌≡◌, ◌+◌, ◌<◌, ◌∙◌, ◌≤◌, inl, ℕ, true, List, [], length, slice_index, Option, Some, IfSome, IsSomeAnd, ap, sym, subst, arith}
 use Rattle.std.specs.List.{list_all}
-use Rattle.std.proofs.lemmas.Option.{slice_get_within}
+use Rattle.std.proofs.lemmas.Option.{none-some, slice_get_within}
 use Rattle.afl_outside.specs.Disk.{Moment}
 use Rattle.afl_trees.specs.Term.{Term}
 use Rattle.logical_plan.specs.declared.names.Names.{Names}
@@ -9,7 +9,9 @@ use Rattle.chunk_map.specs.declared.directory.DirEntry.{DirEntry}
 use Rattle.chunk_source.specs.declared.reading.fault.ExecFault.{ExecFault}
 use Rattle.chunk_source.specs.declared.reading.fault.ExecFault.TheVariants.{Source, Damaged, Memory}
 use Rattle.event_core.specs.declared.entry.Entry.TheVariants.{Pin}
+use Rattle.afl_types.specs.Checking.{check_of}
 use Rattle.statement_answers.specs.declared.outcome.Outcome.TheVariants.{Replied}
+use Rattle.statement_answers.specs.Outcomes.{MayFail}
 use Rattle.store_ledger.specs.declared.pinned.Pinned.{Pinned}
 use Rattle.store_ledger.specs.Ledger.{IsOpenPin}
 use Rattle.store_state.specs.declared.event.Event.{Event}
@@ -19,9 +21,8 @@ use Rattle.session_sources.specs.Told.{entries_in, is_sealed, ledger_of, told}
 use Rattle.session_sources.specs.Seats.{seen, session_of, start}
 use Rattle.session_replies.specs.Acts.{looking}
 use Rattle.session_replies.specs.Refusals.{IsUnreadReply}
-use Rattle.session_replies.specs.Replies.{words_of, HasFault, HoldsSincePin, IsPayloadPage, IsToldFor}
+use Rattle.session_replies.specs.Replies.{names_before, words_of, BeganAsNone, HasFault, IsPayloadPage, IsToldFor}
 use Rattle.session_replies.specs.declared.reply.Reply.{Reply}
-use Rattle.session_replies.proofs.Beginnings.{reached}
 use Rattle.session_replies.proofs.PinPlaces.{open_pins_are_entered}
 use Rattle.session_replies.proofs.Staying.{page_later, replies_stay}
 use Rattle.session_sources.specs.declared.reading.Reading.{Reading}
@@ -50,9 +51,6 @@ module _ {D : Type 0} (moment : D → Moment) (began : Start D) (session pin oth
     told = subst (λ (es : List Event). IsToldFor moment began session pin es own text tree reply reply.refusal looking) (sym adds.grown)
         (replies_stay moment began session pin old adds.more [] own text tree reply reply.refusal looking sealed within t.told);
   }
-
-  later_since : reply.place ≡ pin + 1 → HoldsSincePin moment began session pin new own text tree reply
-  later_since at = (omega (arith, at), subst (λ (es : List Event). reply.place ≤ length (entries_in es)) (sym adds.grown) (reached began old adds.more reply.place within))
 
   later_page : (page : ℕ) → IsPayloadPage began old reply.place page → IsPayloadPage began new reply.place page
   later_page page p = subst (λ (es : List Event). IsPayloadPage began es reply.place page) (sym adds.grown)
@@ -85,28 +83,37 @@ module _ {D : Type 0} (moment : D → Moment) (r : Reading D) (text : List ℕ) 
   words_told comes = later_told moment began r.lent.pinned.session r.lent.pinned.place (session_of r.lent.seat) (seen r.lent.seat) (seen r.seat) adds.own text tree reply
       adds.adds read.lent.sealed within_seen
       (said_replies_are_told moment began r.lent.pinned.session r.lent.pinned.place (seen r.lent.seat) [] text tree reply (record {
-        since = (omega (arith, at), within_seen);
         behind = at;
         said = subst (λ (place : ℕ). IsSaid moment began (seen r.lent.seat) text tree place (Replied (words_of reply))) (sym at)
             (pinned_outcomes_are_said moment (unread r.lent.shared r.lent.pinned r.lent.seat) text tree (Replied (words_of reply)) read.lent_pin.open_pin was.database comes);
       }))
 
-  cause : (fault : ExecFault) → SaysWhy moment r fault →
-      IsCause moment began r.lent.pinned.session r.lent.pinned.place (seen r.seat) adds.own text tree reply fault
-  cause Source failed = subst (λ (session : ℕ). HasFault session adds.own) (sym read.lent_pin.own) (failures_are_noted moment r read failed was.untried adds)
-  cause (Damaged page) e = later_page moment began r.lent.pinned.session r.lent.pinned.place (session_of r.lent.seat) (seen r.lent.seat) (seen r.seat) adds.own text tree reply
+  damaged_page : (page : ℕ) → r.marks.damaged ≡ Some page → IsPayloadPage began (seen r.seat) reply.place page
+  damaged_page page e = later_page moment began r.lent.pinned.session r.lent.pinned.place (session_of r.lent.seat) (seen r.lent.seat) (seen r.seat) adds.own text tree reply
       adds.adds read.lent.sealed within_seen page
       (subst (λ (place : ℕ). IsPayloadPage began (seen r.lent.seat) place page) (sym at)
       (page_behind began (seen r.lent.seat) r.lent.pinned page read.lent_pin.open_pin
       (subst (λ (found : Option ℕ). IfSome found (BeginsPayload r.lent.pinned.names (told began (seen r.lent.seat)) r.lent.pinned.place)) e read.damaged)))
+
+  -- a database that the file began as has no damage
+  none_began : (page : ℕ) → r.marks.damaged ≡ Some page → BeganAsNone moment began
+  none_began page e db is = none-some page (sym (read.whole db is) ∙ e)
+
+  cause : (fault : ExecFault) → SaysWhy moment r fault →
+      IsCause moment began r.lent.pinned.session r.lent.pinned.place (seen r.seat) adds.own text tree reply fault
+  cause Source failed = subst (λ (session : ℕ). HasFault session adds.own) (sym read.lent_pin.own) (failures_are_noted moment r read failed was.untried adds)
+  cause (Damaged page) e = (damaged_page page e, none_began page e)
   cause Memory e = tt
 
-  fault_told : (fault : ExecFault) → SaysWhy moment r fault → IsUnreadReply fault reply →
+  names_there : names_before began (seen r.seat) reply.place ≡ r.lent.pinned.names
+  names_there = ap (names_before began (seen r.seat)) at ∙ names_behind began (seen r.seat) r.lent.pinned read.pin.open_pin
+
+  fault_told : (fault : ExecFault) → SaysWhy moment r fault → MayFail fault (check_of tree text r.lent.pinned.names) → IsUnreadReply fault reply →
       IsLookedReply moment began r.lent.pinned.session r.lent.pinned.place (seen r.seat) adds.own text tree reply
-  fault_told fault why u = unread_replies_are_told moment began r.lent.pinned.session r.lent.pinned.place (seen r.seat) adds.own text tree reply fault (record {
-    since = later_since moment began r.lent.pinned.session r.lent.pinned.place (session_of r.lent.seat) (seen r.lent.seat) (seen r.seat) adds.own text tree reply
-        adds.adds read.lent.sealed within_seen at;
+  fault_told fault why may u = unread_replies_are_told moment began r.lent.pinned.session r.lent.pinned.place (seen r.seat) adds.own text tree reply fault (record {
+    holds = inl at;
     cause = cause fault why;
+    allowed = subst (λ (names : Names). MayFail fault (check_of tree text names)) (sym names_there) may;
     unread = u;
   })
 
@@ -114,4 +121,4 @@ pub read_replies_are_told : {D : Type 0} (moment : D → Moment) → ReadReplies
 read_replies_are_told moment r text tree reply read was comes at adds = words_told moment r text tree reply read was at adds comes
 
 pub failed_replies_are_told : {D : Type 0} (moment : D → Moment) → FailedRepliesAreTold moment
-failed_replies_are_told moment r text tree reply fault read was why u at adds = fault_told moment r text tree reply read was at adds fault why u
+failed_replies_are_told moment r text tree reply fault read was why may u at adds = fault_told moment r text tree reply read was at adds fault why may u

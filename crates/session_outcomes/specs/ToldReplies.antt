@@ -4,7 +4,9 @@ use Rattle.afl_outside.specs.Disk.{Moment}
 use Rattle.afl_trees.specs.Term.{Term}
 use Rattle.chunk_source.specs.declared.reading.fault.ExecFault.{ExecFault}
 use Rattle.chunk_source.specs.declared.reading.fault.ExecFault.TheVariants.{Source, Damaged, Memory}
+use Rattle.afl_types.specs.Checking.{check_of}
 use Rattle.statement_answers.specs.declared.outcome.Outcome.TheVariants.{Replied}
+use Rattle.statement_answers.specs.Outcomes.{MayFail}
 use Rattle.store_ledger.specs.declared.note.NoteKind.{NoteKind}
 use Rattle.store_ledger.specs.Ledger.{is_noted}
 use Rattle.store_state.specs.declared.event.Event.{Event}
@@ -12,7 +14,7 @@ use Rattle.session_sources.specs.Start.{Start}
 use Rattle.session_sources.specs.Seats.{ledger_seen, seen, session_of, start}
 use Rattle.session_replies.specs.Acts.{looking}
 use Rattle.session_replies.specs.Refusals.{IsUnreadReply}
-use Rattle.session_replies.specs.Replies.{words_of, HasFault, HasLine, HoldsBehindPin, HoldsSincePin, IsPayloadPage, IsToldFor}
+use Rattle.session_replies.specs.Replies.{names_before, words_of, BeganAsNone, HasFault, HasLine, HoldsBehindPin, HoldsWhereRefused, IsPayloadPage, IsToldFor}
 use Rattle.session_replies.specs.declared.reply.Reply.{Reply}
 use Rattle.session_sources.specs.declared.reading.Reading.{Reading}
 use Rattle.session_sources.specs.Courses.{AddsAtMostFault}
@@ -27,19 +29,19 @@ module _ {D : Type 0} (moment : D → Moment) (start : Start D) (session pin : �
 
   -- the words that are said at its place, right behind the pin
   pub record IsSaidBehindPin : Type 0 where
-    pub since : HoldsSincePin moment start session pin events own text tree reply
     pub behind : HoldsBehindPin moment start session pin events own text tree reply
     pub said : IsSaid moment start events text tree reply.place (Replied (words_of reply))
 
-  -- why a source gave no answer
+  -- why a source gave no answer: that it was damaged, only where the file began as no database
   abbrev pub IsCause : ExecFault → Type 0
   IsCause Source = HasFault session own
-  IsCause (Damaged page) = IsPayloadPage start events reply.place page
+  IsCause (Damaged page) = IsPayloadPage start events reply.place page × BeganAsNone moment start
   IsCause Memory = Unit {0}
 
   pub record IsCausedSincePin (fault : ExecFault) : Type 0 where
-    pub since : HoldsSincePin moment start session pin events own text tree reply
+    pub holds : HoldsWhereRefused moment start session pin events own text tree reply
     pub cause : IsCause fault
+    pub allowed : MayFail fault (check_of tree text (names_before start events reply.place))
     pub unread : IsUnreadReply fault reply
 
 -- WHAT IS SAID BEHIND A PIN IS TOLD by the reply of these words, and why a source gave no answer by the reply that refuses for it

@@ -4,7 +4,9 @@ use Rattle.afl_outside.specs.Disk.{Moment}
 use Rattle.afl_trees.specs.Term.{Term}
 use Rattle.chunk_source.specs.declared.reading.fault.ExecFault.{ExecFault}
 use Rattle.chunk_source.specs.declared.reading.fault.ExecFault.TheVariants.{Source, Damaged, Memory}
+use Rattle.afl_types.specs.Checking.{check_of}
 use Rattle.statement_answers.specs.declared.outcome.Outcome.TheVariants.{Replied}
+use Rattle.statement_answers.specs.Outcomes.{MayFail}
 use Rattle.store_ledger.specs.declared.note.NoteKind.{NoteKind}
 use Rattle.store_ledger.specs.Ledger.{is_noted}
 use Rattle.session_sources.specs.Seats.{ledger_seen, seen, session_of, start}
@@ -47,4 +49,4 @@ ReadRepliesAreTold {D} moment = (r : Reading D) (text : List ℕ) (tree : Term) 
 
 abbrev pub FailedRepliesAreTold : {D : Type 0} → (D → Moment) → Type 0
 FailedRepliesAreTold {D} moment = (r : Reading D) (text : List ℕ) (tree : Term) (reply : Reply) (fault : ExecFault) → HasRead moment r
-    → WasPinned moment r → SaysWhy moment r fault → IsUnreadReply fault reply → IsToldUnder moment r text tree reply
+    → WasPinned moment r → SaysWhy moment r fault → MayFail fault (check_of tree text r.lent.pinned.names) → IsUnreadReply fault reply → IsToldUnder moment r text tree reply

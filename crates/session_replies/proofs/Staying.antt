@@ -1,5 +1,5 @@
 -- What a reply tells, as more events come.
-use Rattle.std.proofs.Common.{◌≡◌, ◌∙◌, ℕ, zero, suc, ◌≤◌, true, List, [], ◌∷◌, ◌++◌, length, Option, None, Some, IsSomeAnd, slice_get, slice_index, ap, sym, subst, append_assoc}
+use Rattle.std.proofs.Common.{◌≡◌, ◌∙◌, inl, inr, ℕ, zero, suc, ◌+◌, ◌-◌, ◌^◌, ◌<◌, ◌≤◌, true, List, [], ◌∷◌, ◌++◌, length, Option, None, Some, IsSomeAnd, slice_get, slice_index, ap, sym, subst, arith, append_assoc}
 use Rattle.std.specs.List.{list_all}
 use Rattle.std.proofs.lemmas.Option.{none-some}
 use Rattle.std.proofs.lemmas.List.Elements.{Contains-append_left}
@@ -13,6 +13,7 @@ use Rattle.plan_changes.specs.Databases.{Database}
 use Rattle.event_core.specs.Cells.{at}
 use Rattle.event_core.specs.declared.entry.Entry.{Entry}
 use Rattle.event_core.specs.declared.entry.Entry.TheVariants.{Commit}
+use Rattle.event_core.specs.Bases.{sequence_at}
 use Rattle.event_core.specs.History.{History, names_at}
 use Rattle.result_print.specs.declared.refusal.Refusal.{Refusal}
 use Rattle.result_print.specs.declared.refusal.Refusal.TheVariants.{TooLong, Parse, HistoryFull, NotBuilt, Typing, Cell, Disk, Damaged, SequenceEnd, Full, Memory}
@@ -22,6 +23,8 @@ use Rattle.store_ledger.specs.declared.note.NoteKind.TheVariants.{Fault}
 use Rattle.store_state.specs.declared.event.Event.{Event}
 use Rattle.store_state.specs.declared.event.Event.TheVariants.{Noted}
 use Rattle.store_state.specs.Calls.{history_at, IsLeafOf}
+use Rattle.store_state.specs.Standings.{base_of}
+use Rattle.told_stores.specs.Causes.{FitsAfter}
 use Rattle.told_stores.specs.Start.{Start}
 use Rattle.told_stores.specs.CommitFault.{CommitFault}
 use Rattle.told_stores.specs.CommitFault.TheVariants as faults
@@ -29,7 +32,7 @@ use Rattle.told_stores.specs.Told.{entries_in, is_sealed, told}
 use Rattle.told_stores.proofs.Telling.{entries_in-append}
 use Rattle.session_replies.specs.Acts.{Course, nothing, looking, trying, making}
 use Rattle.session_replies.specs.Laws.{RepliesStay}
-use Rattle.session_replies.specs.Replies.{names_before, EnteredAt, HasFault, HoldsSincePin, IsPayloadPage, IsToldFor, Says, SaysChange, WasAt, WasUncommitted}
+use Rattle.session_replies.specs.Replies.{names_before, EnteredAt, HadNoRoom, HadRoomFor, HasFault, HoldsSincePin, HoldsWhereRefused, IsAllowedAt, IsChangeAt, IsPayloadPage, IsToldFor, Says, SaysChange, WasAt, WasUncommitted}
 use Rattle.session_replies.specs.declared.reply.Reply.{Reply}
 use Rattle.session_replies.proofs.Beginnings.{history_stays, places_see_the_same, reached}
 
@@ -51,6 +54,10 @@ entered_later least entry place old more e = record {
   is = ap (λ (es : List Entry). slice_get es place) (entries_in-append old more) ∙ get_stays (entries_in old) (entries_in more) place entry e.is;
   later = e.later;
 }
+
+pub no_room_later : {D : Type 0} → (start : Start D) (first old more : List Event) (place : ℕ) → HadNoRoom start first old place → HadNoRoom start first (old ++ more) place
+no_room_later start first old more place n =
+    record { then = n.then; others = n.others; behind = n.behind; at = was_later n.then old more n.at; full = n.full }
 
 -- ---- what is said at a place that the history has reached
 
@@ -82,12 +89,36 @@ module _ {D : Type 0} (moment : D → Moment) (start : Start D) (old more : List
         (sym ((places_see_the_same start old more place within sealed).payloads p.leaf p.at)) p.begins;
   }
 
+  allowed_later : IsAllowedAt start old text tree place → IsAllowedAt start (old ++ more) text tree place
+  allowed_later a = (a.0, ap (λ (names : Names). check_of tree text names) names_stay ∙ a.1)
+
+  -- what is needed at a history is needed there whatever comes later
+  fits_later : (h : History) (change : Change) → FitsAfter moment (told start old) h change → FitsAfter moment (told start (old ++ more)) h change
+  fits_later h change f = record { count = f.count; needed = f.needed; fits = f.fits }
+
+  pub room_later : (change : Change) → HadRoomFor moment start old place change → HadRoomFor moment start (old ++ more) place change
+  room_later change r = record {
+    next = subst (λ (h : History). sequence_at (base_of (told start (old ++ more))) h < 2 ^ 64 - 1) (sym (history_stays start old more place within)) r.next;
+    fits = subst (λ (h : History). FitsAfter moment (told start (old ++ more)) h change) (sym (history_stays start old more place within))
+        (fits_later (history_at (told start old) place) change r.fits);
+  }
+
 -- ---- the reply
 
 module _ {D : Type 0} (moment : D → Moment) (start : Start D) (session pin : ℕ) (old more own later : List Event) (text : List ℕ) (tree : Term) (reply : Reply)
     (sealed : list_all is_sealed old ≡ true) (within : reply.place ≤ length (entries_in old)) where
   since_stays : HoldsSincePin moment start session pin old own text tree reply → HoldsSincePin moment start session pin (old ++ more) (own ++ later) text tree reply
   since_stays t = (t.0, reached start old more reply.place within)
+
+  change_stays : pin < reply.place → IsChangeAt start old text tree (pin + 1) → IsChangeAt start (old ++ more) text tree (pin + 1)
+  change_stays after w =
+      let here : pin + 1 ≤ length (entries_in old) = omega (arith, after, within) in
+      (w.0, ap (λ (names : Names). check_of tree text names) (names_stay moment start old more text tree (pin + 1) here) ∙ w.1)
+
+  where_stays : HoldsWhereRefused moment start session pin old own text tree reply →
+      HoldsWhereRefused moment start session pin (old ++ more) (own ++ later) text tree reply
+  where_stays (inl behind) = inl behind
+  where_stays (inr (since, was)) = inr (since_stays since, change_stays since.0 was)
 
   fault_stays : HasFault session own → HasFault session (own ++ later)
   fault_stays f = (f.0, Contains-append_left own later (Noted (record { session = session; kind = Fault; after = f.0 })) f.1)
@@ -102,7 +133,11 @@ module _ {D : Type 0} (moment : D → Moment) (start : Start D) (session pin : �
   told_stays None nothing t = absurd t
   told_stays None looking t = (t.0, says_later moment start old more text tree reply.place within _ t.1)
   told_stays None (trying change) t = absurd t
-  told_stays None (making change) t = ((t.0.0, entered_later pin (Commit session change t.0.0) reply.place old more t.0.1), says_later moment start old more text tree reply.place within _ t.1)
+  told_stays None (making change) t = (
+    (t.0.0, entered_later pin (Commit session change t.0.0) reply.place old more t.0.1),
+    says_later moment start old more text tree reply.place within _ t.1,
+    room_later moment start old more text tree reply.place within change t.2,
+  )
   told_stays (Some (TooLong bytes)) nothing t = absurd t
   told_stays (Some (TooLong bytes)) looking t = absurd t
   told_stays (Some (TooLong bytes)) (trying change) t = absurd t
@@ -120,19 +155,24 @@ module _ {D : Type 0} (moment : D → Moment) (start : Start D) (session pin : �
   told_stays (Some NotBuilt) (trying change) t = absurd t
   told_stays (Some NotBuilt) (making change) t = absurd t
   told_stays (Some (Typing span kind)) nothing t = absurd t
-  told_stays (Some (Typing span kind)) looking t = (since_stays t.0, says_later moment start old more text tree reply.place within _ t.1)
+  told_stays (Some (Typing span kind)) looking t = (where_stays t.0, says_later moment start old more text tree reply.place within _ t.1)
   told_stays (Some (Typing span kind)) (trying change) t = absurd t
   told_stays (Some (Typing span kind)) (making change) t = absurd t
   told_stays (Some Disk) nothing t = absurd t
-  told_stays (Some Disk) looking t = (since_stays t.0, fault_stays t.1)
-  told_stays (Some Disk) (trying change) t = (since_stays t.0, fault_stays t.1, change_later moment start old more text tree reply.place within change t.2)
+  told_stays (Some Disk) looking t = (where_stays t.0, fault_stays t.1, allowed_later moment start old more text tree reply.place within t.2)
+  told_stays (Some Disk) (trying change) t = (since_stays t.0, fault_stays t.1, uncommitted_stays change (faults.Disk reply.place) t.2)
   told_stays (Some Disk) (making change) t = absurd t
   told_stays (Some (Damaged page)) nothing t = absurd t
-  told_stays (Some (Damaged page)) looking t = (since_stays t.0, page_later moment start old more text tree reply.place within page sealed t.1)
+  told_stays (Some (Damaged page)) looking t = (
+    where_stays t.0,
+    page_later moment start old more text tree reply.place within page sealed t.1,
+    t.2,
+    allowed_later moment start old more text tree reply.place within t.3,
+  )
   told_stays (Some (Damaged page)) (trying change) t = absurd t
   told_stays (Some (Damaged page)) (making change) t = absurd t
   told_stays (Some (Cell at kind)) nothing t = absurd t
-  told_stays (Some (Cell at kind)) looking t = (since_stays t.0, says_later moment start old more text tree reply.place within _ t.1)
+  told_stays (Some (Cell at kind)) looking t = (where_stays t.0, says_later moment start old more text tree reply.place within _ t.1)
   told_stays (Some (Cell at kind)) (trying change) t = absurd t
   told_stays (Some (Cell at kind)) (making change) t = absurd t
   told_stays (Some SequenceEnd) nothing t = absurd t

@@ -2,8 +2,9 @@
 --
 -- What holds at a place holds of the database after the commits before it. The reply to a query, and to a statement that lists something,
 -- holds behind the statement's own pin. That of an accepted change holds before the change's own commit. A refusal for a rule or a cell
--- holds behind the pin, or in the turn of the commit.
-use Rattle.std.specs.Prelude.{◌≡◌, ◌≤◌, ◌<◌, ◌+◌, ℕ, false, List, [], ◌++◌, Contains, length, slice_get, slice_index, Option, None, Some, IsSomeAnd, Ok}
+-- holds behind the pin, or, of a change, in the turn of the commit.
+use Rattle.std.specs.Prelude.{◌≡◌, ◌≤◌, ◌<◌, ◌+◌, ◌-◌, ◌^◌, ◌⊎◌, ◌++◌, ℕ}
+use Rattle.std.specs.Prelude.{false, List, [], Contains, length, slice_get, slice_index, Option, None, Some, IsSomeAnd, Ok}
 use Rattle.arrayvec.specs.ArrayVec.{ArrayVec}
 use Rattle.afl_outside.specs.Disk.{Moment}
 use Rattle.afl_trees.specs.Term.{Term}
@@ -12,10 +13,12 @@ use Rattle.logical_plan.specs.declared.parts.Leaf.{Leaf}
 use Rattle.plan_changes.specs.declared.change.Change.{Change}
 use Rattle.plan_changes.specs.Databases.{Database}
 use Rattle.afl_types.specs.Checking.{check_of}
+use Rattle.afl_types.specs.declared.statements.checking.Typed.{Typed}
 use Rattle.afl_types.specs.declared.statements.checking.Typed.TheVariants.{Change as AChange}
 use Rattle.event_core.specs.declared.entry.Entry.{Entry}
 use Rattle.event_core.specs.declared.entry.Entry.TheVariants.{Commit}
 use Rattle.event_core.specs.declared.entry.Used.{Used}
+use Rattle.event_core.specs.Bases.{sequence_at}
 use Rattle.event_core.specs.History.{names_at}
 use Rattle.result_print.specs.declared.refusal.Refusal.{Refusal}
 use Rattle.result_print.specs.declared.refusal.Refusal.TheVariants.{HistoryFull, Typing, Cell, Disk, Damaged, SequenceEnd, Full, Memory}
@@ -28,11 +31,11 @@ use Rattle.store_ledger.specs.Ledger.{has_room}
 use Rattle.store_state.specs.declared.event.Event.{Event}
 use Rattle.store_state.specs.declared.event.Event.TheVariants.{Noted}
 use Rattle.store_state.specs.Calls.{database_with, history_at, payload_at, IsLeafOf}
-use Rattle.store_state.specs.Standings.{BeganAs}
+use Rattle.store_state.specs.Standings.{base_of, BeganAs}
 use Rattle.told_stores.specs.Start.{Start}
 use Rattle.told_stores.specs.CommitFault.{CommitFault}
 use Rattle.told_stores.specs.CommitFault.TheVariants as faults
-use Rattle.told_stores.specs.Causes.{IsUncommitted}
+use Rattle.told_stores.specs.Causes.{FitsAfter, IsUncommitted}
 use Rattle.told_stores.specs.Told.{entries_in, ledger_of, told}
 use Rattle.session_replies.specs.Acts.{Course, nothing, looking, trying, making}
 use Rattle.session_replies.specs.declared.reply.Reply.{Reply}
@@ -57,6 +60,14 @@ pub record SaysChange {D : Type 0} (moment : D → Moment) (start : Start D) (ev
   pub told : (db : Database) → BeganAs (moment start.opened.disk).state db
       → (reply_to (database_with db (told start events) place) text tree).change ≡ Some change
 
+-- by the names at a place it is a change
+abbrev pub IsChangeAt : {D : Type 0} → Start D → List Event → List ℕ → Term → ℕ → Type 0
+IsChangeAt start events text tree place = (change : Change) × (check_of tree text (names_before start events place) ≡ Ok (AChange change))
+
+-- by the names at a place it breaks no rule
+abbrev pub IsAllowedAt : {D : Type 0} → Start D → List Event → List ℕ → Term → ℕ → Type 0
+IsAllowedAt start events text tree place = (typed : Typed) × (check_of tree text (names_before start events place) ≡ Ok typed)
+
 -- an entry came at a place, behind so many entries
 pub record EnteredAt (least : ℕ) (entry : Entry) (place : ℕ) (events : List Event) : Type 0 where
   pub is : slice_get (entries_in events) place ≡ Some entry
@@ -79,6 +90,23 @@ pub record IsPayloadPage {D : Type 0} (start : Start D) (events : List Event) (p
   pub named : IsLeafOf (names_before start events place) leaf
   pub begins : IsSomeAnd (payload_at (told start events) place leaf at) (λ entry. page ≡ slice_index entry.pages 0)
 
+-- the file began as no database
+abbrev pub BeganAsNone : {D : Type 0} → (D → Moment) → Start D → Type 0
+BeganAsNone moment start = (db : Database) → BeganAs (moment start.opened.disk).state db → ⊥
+
+-- at a place there was a next sequence number, and there were the pages that a change needs
+pub record HadRoomFor {D : Type 0} (moment : D → Moment) (start : Start D) (events : List Event) (place : ℕ) (change : Change) : Type 0 where
+  pub next : sequence_at (base_of (told start events)) (history_at (told start events) place) < 2 ^ 64 - 1
+  pub fits : FitsAfter moment (told start events) (history_at (told start events) place) change
+
+-- behind these events, at a place, the history had no room for a pin
+pub record HadNoRoom {D : Type 0} (start : Start D) (old new : List Event) (place : ℕ) : Type 0 where
+  pub then : List Event
+  pub others : List Event
+  pub behind : then ≡ old ++ others
+  pub at : WasAt place then new
+  pub full : has_room (ledger_of start then) 4 ≡ false
+
 -- the text of a refusal is its line
 abbrev pub HasLine : Reply → Option Refusal → Type 0
 HasLine reply None = Unit {0}
@@ -92,6 +120,10 @@ module _ {D : Type 0} (moment : D → Moment) (start : Start D) (session pin : �
 
   abbrev pub HoldsSincePin : Type 0
   HoldsSincePin = (pin < reply.place) × (reply.place ≤ length (entries_in new))
+
+  -- a refusal holds right behind the pin; at a later place only where the statement was a change there
+  abbrev pub HoldsWhereRefused : Type 0
+  HoldsWhereRefused = HoldsBehindPin ⊎ (HoldsSincePin × IsChangeAt start new text tree (pin + 1))
 
   -- it is that of the commit of a change
   abbrev pub HoldsBeforeCommit : Change → Type 0
@@ -111,12 +143,14 @@ module _ {D : Type 0} (moment : D → Moment) (start : Start D) (session pin : �
   IsToldFor None looking = HoldsBehindPin × SaysReply
   IsToldFor None (making change) = HoldsBeforeCommit change
       × Says moment start new text tree reply.place (record { reply = words_of reply; change = Some change })
-  IsToldFor (Some (Typing span kind)) looking = HoldsSincePin × SaysReply
-  IsToldFor (Some (Cell at kind)) looking = HoldsSincePin × SaysReply
+      × HadRoomFor moment start new reply.place change
+  IsToldFor (Some (Typing span kind)) looking = HoldsWhereRefused × SaysReply
+  IsToldFor (Some (Cell at kind)) looking = HoldsWhereRefused × SaysReply
   IsToldFor (Some HistoryFull) nothing = (then : List Event) × WasAt reply.place then new × (has_room (ledger_of start then) 4 ≡ false)
-  IsToldFor (Some Disk) looking = HoldsSincePin × HasFault session own
-  IsToldFor (Some Disk) (trying change) = HoldsSincePin × HasFault session own × SaysChange moment start new text tree reply.place change
-  IsToldFor (Some (Damaged page)) looking = HoldsSincePin × IsPayloadPage start new reply.place page
+  IsToldFor (Some Disk) looking = HoldsWhereRefused × HasFault session own × IsAllowedAt start new text tree reply.place
+  IsToldFor (Some Disk) (trying change) = HoldsSincePin × HasFault session own × WasUncommitted change (faults.Disk reply.place)
+  IsToldFor (Some (Damaged page)) looking = HoldsWhereRefused × IsPayloadPage start new reply.place page × BeganAsNone moment start
+      × IsAllowedAt start new text tree reply.place
   IsToldFor (Some SequenceEnd) (trying change) = HoldsSincePin × WasUncommitted change (faults.SequenceEnd reply.place)
   IsToldFor (Some (Full needed free)) (trying change) = HoldsSincePin × WasUncommitted change (faults.Full needed free reply.place)
   IsToldFor (Some Memory) nothing = Unit {0}

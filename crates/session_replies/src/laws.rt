@@ -2,6 +2,7 @@
 ghost use Rattle.session_replies.specs.Fresh.{FreshChangesAreSaid};
 ghost use Rattle.session_replies.specs.Laws.{ActsJoin, OpenPinsAreEntered, PinsChangeNothing, RepliesStay};
 ghost use Rattle.session_replies.specs.Worked.{IsWorked};
+ghost use Rattle.session_replies.specs.WorkedReplies.{AreWorked};
 
 use afl_outside::Disk;
 
@@ -25,4 +26,10 @@ pub fn fresh_changes_are_said<D: Disk>()
 /// A damaged page that a pin sees stays one, though the array is removed.
 pub fn a_damaged_page_is_told()
     ensures { IsWorked }
+{}
+
+/// What two sessions are told of the removal of one array: that it was made, that there is no array any more, that a page is damaged, and that
+/// the history is full.
+pub fn some_replies_are_told()
+    ensures { AreWorked }
 {}

@@ -4,5 +4,8 @@
 mod laws;
 mod reply;
 
-pub use laws::{a_damaged_page_is_told, fresh_changes_are_said, pins_are_entered, replies_stay};
-pub use reply::{Reply, at_place, refusal_at, uncommitted, unread, want};
+pub use laws::{
+    a_damaged_page_is_told, fresh_changes_are_said, pins_are_entered, replies_stay,
+    some_replies_are_told,
+};
+pub use reply::{Reply, at_place, refusal_at, refusal_or_want, uncommitted, unread, want};

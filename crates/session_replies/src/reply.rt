@@ -1,6 +1,6 @@
 //! Replies with their places.
 ghost use Rattle.std.specs.Prelude.{◌≡◌};
-ghost use Rattle.session_replies.specs.Refusals.{IsUncommittedReply, IsUnreadReply, IsWant, Refuses};
+ghost use Rattle.session_replies.specs.Refusals.{IsUncommittedReply, IsUnreadReply, IsWant, Refuses, RefusesAt};
 ghost use Rattle.session_replies.specs.Replies.{words_of};
 
 use cell_values::{Bytes, Memory};
@@ -51,6 +51,16 @@ pub fn refusal_at(alloc: Global, refusal: Refusal, place: u64) -> Reply
     match refuse(alloc, refusal) {
         Ok(words) => at_place(words, place),
         Err(Memory) => want(alloc, place),
+    }
+}
+
+/// The reply that refuses, at a place; or, when so many entries were seen, that no memory was found for it.
+pub fn refusal_or_want(alloc: Global, refusal: Refusal, last: u64, seen: u64) -> Reply
+    ensures { RefusesAt refusal last seen result }
+{
+    match refuse(alloc, refusal) {
+        Ok(words) => at_place(words, last),
+        Err(Memory) => want(alloc, seen),
     }
 }
 

@@ -1,14 +1,17 @@
 -- How a statement was answered in a turn, by how it went.
-use Rattle.std.proofs.Common.{◌≡◌, ◌∙◌, ℕ, ◌+◌, ◌-◌, ◌<◌, ◌≤◌, Bool, true, false, if◌then◌else◌, List, [], ◌∷◌, ◌++◌, length, reverse, slice_get, slice_index, Option, None, Some, IfSome, IsSomeAnd, Result, Ok, Err, IfOk, IfErr, OnOk, OnErr, refl, ap, sym, subst, arith, append-nil, append_assoc, length-append}
+use Rattle.std.proofs.Common.{◌≡◌, ◌∙◌, ℕ, ◌+◌, ◌-◌, ◌^◌, ◌<◌, ◌≤◌, Bool, true, false, if◌then◌else◌, List, [], ◌∷◌, ◌++◌, length, reverse, slice_get, slice_index, Option, None, Some, IfSome, IsSomeAnd, Result, Ok, Err, IfOk, IfErr, OnOk, OnErr, refl, ap, sym, subst, arith, append-nil, append_assoc, length-append}
 use Rattle.std.specs.List.{list_all}
 use Rattle.std.proofs.lemmas.List.{append_cancel_left}
+use Rattle.std.proofs.lemmas.Option.{none-some}
 use Rattle.afl_outside.specs.Disk.{Moment}
 use Rattle.afl_trees.specs.Term.{Term}
 use Rattle.array_geom.specs.declared.chunk.Changed.{Changed}
+use Rattle.afl_types.specs.Checking.{check_of}
 use Rattle.chunk_source.specs.declared.reading.fault.ExecFault.{ExecFault}
 use Rattle.chunk_source.specs.declared.reading.fault.ExecFault.TheVariants.{Source, Damaged as Spoiled, Memory as Wanting}
 use Rattle.logical_plan.specs.declared.names.Names.{Names}
 use Rattle.plan_changes.specs.declared.change.Change.{Change}
+use Rattle.event_core.specs.Bases.{sequence_at}
 use Rattle.event_core.specs.declared.entry.Entry.{Entry}
 use Rattle.event_core.specs.declared.entry.Entry.TheVariants.{Commit, Reap}
 use Rattle.result_print.specs.declared.refusal.Refusal.{Refusal}
@@ -16,6 +19,7 @@ use Rattle.result_print.specs.declared.refusal.Refusal.TheVariants.{Disk, Damage
 use Rattle.statement_answers.specs.declared.outcome.Outcome.{Outcome}
 use Rattle.statement_answers.specs.declared.outcome.Outcome.TheVariants.{Replied, Changes}
 use Rattle.statement_answers.specs.Forms.{a_change, form_said}
+use Rattle.statement_answers.specs.Outcomes.{IsAllowed, MayFail}
 use Rattle.statement_answers.proofs.Saying.{changes_refused}
 use Rattle.statement_replies.specs.declared.replies.Reply.{Reply as Told}
 use Rattle.statement_replies.specs.Reply.{refused}
@@ -25,19 +29,19 @@ use Rattle.store_ledger.specs.Ledger.{LedgerState, IsOpenPin, is_fault, is_noted
 use Rattle.store_state.specs.declared.event.Event.{Event}
 use Rattle.store_state.specs.declared.event.Event.TheVariants.{Acknowledged}
 use Rattle.store_state.specs.declared.parts.StoreParts.{StoreParts}
-use Rattle.store_state.specs.Calls.{payload_at, IsLeafOf}
+use Rattle.store_state.specs.Calls.{history_at, payload_at, IsLeafOf}
 use Rattle.store_state.specs.Events.{events}
-use Rattle.store_state.specs.Standings.{Standing}
+use Rattle.store_state.specs.Standings.{base_of, Standing}
 use Rattle.session_outcomes.specs.Growth.{tried_events}
 use Rattle.session_outcomes.specs.Tried.{AddsSealed, AddsTried}
-use Rattle.session_outcomes.specs.Causes.{IsUncommitted}
+use Rattle.session_outcomes.specs.Causes.{FitsAfter, IsUncommitted}
 use Rattle.session_outcomes.specs.CommitFault.{CommitFault}
 use Rattle.session_outcomes.specs.CommitFault.TheVariants as faults
 use Rattle.session_outcomes.specs.Starts.{start_of}
 use Rattle.session_outcomes.specs.Turns.{leaves_pin_of}
 use Rattle.session_outcomes.proofs.Sights.{pins_outlast}
 use Rattle.session_outcomes.proofs.Telling.{entries_are, entries_in-append}
-use Rattle.session_outcomes.proofs.TriedTurns.{cause_told}
+use Rattle.session_outcomes.proofs.TriedTurns.{cause_told, fits_told, next_told}
 use Rattle.session_outcomes.specs.Databases.{HasDatabase}
 use Rattle.session_outcomes.specs.Held.{names_now}
 use Rattle.session_outcomes.specs.Seats.{store_of}
@@ -47,7 +51,7 @@ use Rattle.session_outcomes.specs.Told.{entries_in, ledger_of, told, IsTold}
 use Rattle.session_outcomes.specs.Refusals.{IsUncommittedReply, IsUnreadReply, IsWant, Refuses}
 use Rattle.session_outcomes.proofs.Staying.{says_later}
 use Rattle.session_outcomes.specs.Acts.{acts_in, looking, making, makes, tries, trying}
-use Rattle.session_outcomes.specs.Replies.{names_before, words_of, EnteredAt, HasLine, IsPayloadPage, IsToldFor, Says, SaysChange, WasUncommitted}
+use Rattle.session_outcomes.specs.Replies.{names_before, words_of, BeganAsNone, EnteredAt, HadRoomFor, HasLine, HoldsWhereRefused, IsAllowedAt, IsChangeAt, IsPayloadPage, IsToldFor, Says, SaysChange, WasUncommitted}
 use Rattle.session_outcomes.specs.Reply.{Reply}
 use Rattle.session_outcomes.specs.Said.{IsSaid}
 use Rattle.session_outcomes.specs.ToldReplies.{IsLookedReply}
@@ -56,7 +60,7 @@ use Rattle.session_turns.specs.Inner.Turns.{store_in, Goes, IsRead, IsWhy, Keeps
 use Rattle.session_turns.specs.AnsweredUnder.{IsAnsweredInTurn}
 use Rattle.session_turns.proofs.Adding.{all_acts, all_leave, entries_before, fault_acts, fault_leaves, last_entries}
 use Rattle.session_turns.proofs.Present.{names_there, reap_if, said_there, turned_reap}
-use Rattle.session_turns.proofs.Told.{answered, earlier_pin, refuses, Tells}
+use Rattle.session_turns.proofs.Told.{answered, earlier_pin, later_refused, refuses, Tells}
 
 enough_by : (comes : Bool) (xs ys : List Entry) → ys ≡ xs ++ (if comes then Reap ∷ [] else []) → length xs ≤ length ys
 enough_by true xs ys e = let count : length ys ≡ length (xs ++ Reap ∷ []) = ap (λ (es : List Entry). length es) e in omega (arith, count, length-append xs (Reap ∷ []))
@@ -139,6 +143,13 @@ module _ {D : Type 0} (moment : D → Moment) (session : ℕ) (old new : Turn (S
     read_history : reverse (entries_in (events n)) ≡ reap_if false (reverse s.ledger.entries)
     read_history = ap (λ (es : List Entry). reverse es) (entries_are n ∙ same_entries)
 
+    -- the names at its place are those over which it was read
+    names_told : reply.place ≡ length n.ledger.entries → names_before began (events n) reply.place ≡ names_now s.ledger
+    names_told at = ap (names_before began (events n)) (at_end few_more at) ∙ names_there moment session old has (events n) false read_history
+
+    allowed_told : reply.place ≡ length n.ledger.entries → IsAllowed (check_of tree text (names_now s.ledger)) → IsAllowedAt began (events n) text tree reply.place
+    allowed_told at a = (a.0, ap (λ (names : Names). check_of tree text names) (names_told at) ∙ a.1)
+
     -- a damaged page is told of an array that can be named
     page_told : (page : ℕ) → reply.place ≡ length n.ledger.entries → read.marks.damaged ≡ Some page → IsPayloadPage began (events n) reply.place page
     page_told page at e =
@@ -152,13 +163,17 @@ module _ {D : Type 0} (moment : D → Moment) (session : ℕ) (old new : Turn (S
         record {
           leaf = b.leaf;
           at = b.number;
-          named = subst (λ (names : Names). IsLeafOf names b.leaf)
-              (sym (ap (names_before began (events n)) (at_end few_more at) ∙ names_there moment session old has (events n) false read_history)) b.of;
+          named = subst (λ (names : Names). IsLeafOf names b.leaf) (sym (names_told at)) b.of;
           begins = subst (λ found. IsSomeAnd found (λ entry. page ≡ slice_index entry.pages 0)) seen b.begins;
         }
 
+    -- a database that the store began as has no damage
+    none_began : (page : ℕ) → read.marks.damaged ≡ Some page → BeganAsNone moment began
+    none_began page e db is = none-some page (sym (read.held.whole db is) ∙ e)
+
   -- it has a reply alone, which refuses it
-  module _ (form : form_said tree ≡ a_change) (read : IsRead moment session old new text tree (Ok (Replied (words_of reply)))) (at : reply.place ≡ length n.ledger.entries) where
+  module _ (form : form_said tree ≡ a_change) (was : IsChangeAt began (events n) text tree (pin + 1))
+      (read : IsRead moment session old new text tree (Ok (Replied (words_of reply)))) (at : reply.place ≡ length n.ledger.entries) where
     refusal_told : (refusal : Refusal) × (words_of reply ≡ refused refusal)
     refusal_told = changes_refused (names_now s.ledger) text tree (words_of reply) form read.comes.kind
 
@@ -178,7 +193,6 @@ module _ {D : Type 0} (moment : D → Moment) (session : ℕ) (old new : Turn (S
     looked own =
         let lt = before_told in
         said_replies_are_told moment began session (reply.place - 1) (events n) own text tree reply (record {
-          since = (omega (arith, lt), within_told);
           behind = omega (arith, lt);
           said = said_now;
         })
@@ -190,16 +204,19 @@ module _ {D : Type 0} (moment : D → Moment) (session : ℕ) (old new : Turn (S
         answered moment began session pin (events s) (events n) text tree reply keeps.extends before_told within_told
         looking [] (read_acts (Ok (Replied (words_of reply))) read) refl (Some refusal) is
         (subst (λ (r : Option Refusal). HasLine reply r) is (looked []).line)
-        (λ own fault. earlier_pin moment began session pin (events s) (events n) text tree reply keeps.extends before_told within_told (reply.place - 1) own refusal
+        (λ own fault. earlier_pin moment began session pin (events s) (events n) text tree reply keeps.extends before_told within_told was (reply.place - 1) own refusal
         (subst (λ (r : Option Refusal). IsToldFor moment began session (reply.place - 1) (events n) own text tree reply r looking) is (looked own).told))
 
   -- its source gave no answer
-  module _ (fault : ExecFault) (read : IsRead moment session old new text tree (Err fault)) (at : reply.place ≡ length n.ledger.entries) where
+  module _ (was : IsChangeAt began (events n) text tree (pin + 1)) (fault : ExecFault) (read : IsRead moment session old new text tree (Err fault)) (at : reply.place ≡ length n.ledger.entries) where
     before_unread : pin < reply.place
     before_unread = since_pin (few_more (Err fault) read) at
 
     within_unread : reply.place ≤ length (entries_in (events n))
     within_unread = until_now (few_more (Err fault) read) at
+
+    refused_later : (own : List Event) → HoldsWhereRefused moment began session pin (events n) own text tree reply
+    refused_later own = later_refused moment began session pin (events s) (events n) text tree reply keeps.extends before_unread within_unread was own
 
     refuses_unread : (refusal : Refusal) → (reply.text ≡ (refused refusal).text → HasLine reply (Some refusal)) → Refuses refusal reply →
         Tells moment began session pin (events s) (events n) text tree reply keeps.extends before_unread within_unread (Some refusal) looking → Answer
@@ -207,15 +224,17 @@ module _ {D : Type 0} (moment : D → Moment) (session : ℕ) (old new : Turn (S
         refuses moment began session pin (events s) (events n) text tree reply keeps.extends before_unread within_unread
         looking [] (read_acts (Err fault) read) refl refusal line r says (λ own noted. tt)
 
-    unread_by : (why : ExecFault) → IsWhy read.marks why → IsUnreadReply why reply → Answer
-    unread_by Source why r = refuses_unread Disk (λ e. e) r (λ own noted. ((before_unread, within_unread), noted (noted_after (read.held.faults why))))
-    unread_by (Spoiled page) why r = refuses_unread (Damaged page) (λ e. e) r (λ own noted. ((before_unread, within_unread), page_told (Err fault) read page at why))
-    unread_by Wanting why w =
+    unread_by : (why : ExecFault) → IsWhy read.marks why → MayFail why (check_of tree text (names_now s.ledger)) → IsUnreadReply why reply → Answer
+    unread_by Source why may r = refuses_unread Disk (λ e. e) r
+        (λ own noted. (refused_later own, noted (noted_after (read.held.faults why)), allowed_told (Err fault) read at may))
+    unread_by (Spoiled page) why may r = refuses_unread (Damaged page) (λ e. e) r
+        (λ own noted. (refused_later own, page_told (Err fault) read page at why, none_began (Err fault) read page why, allowed_told (Err fault) read at may))
+    unread_by Wanting why may w =
         answered moment began session pin (events s) (events n) text tree reply keeps.extends before_unread within_unread
         looking [] (read_acts (Err fault) read) refl (Some Memory) w.1 w.0 (λ own noted. tt)
 
     unread_answer : IsUnreadReply fault reply → Answer
-    unread_answer r = unread_by fault read.why r
+    unread_answer r = unread_by fault read.why read.allowed r
 
   -- ---- its change was tried
 
@@ -275,6 +294,7 @@ module _ {D : Type 0} (moment : D → Moment) (session : ℕ) (old new : Turn (S
 
     -- it was made
     module _ (made : AddsSealed session change t n) (place : ℕ) (placed : place + 1 ≡ length n.ledger.entries)
+        (next : sequence_at (base_of n) (history_at n place) < 2 ^ 64 - 1) (fits : FitsAfter moment n (history_at n place) change)
         (tells : (words_of reply ≡ words) × (reply.place ≡ place)) where
       abbrev entry : Entry
       entry = Commit session change made.used
@@ -320,12 +340,18 @@ module _ {D : Type 0} (moment : D → Moment) (session : ℕ) (old new : Turn (S
           (says_later moment began front (commit_event ∷ made.tried.faults) text tree (length (entries_in front)) (omega arith) (record { reply = words; change = Some change })
           (said_before (commit_event ∷ []) made.tried).0)))
 
+      room_made : HadRoomFor moment began (events n) reply.place change
+      room_made = subst (λ (k : ℕ). HadRoomFor moment began (events n) k change) (sym tells.1) (record {
+        next = next_told moment began change (events n) n after place next;
+        fits = fits_told moment began change (events n) n after place fits;
+      })
+
       made_answer : Answer
       made_answer =
           answered moment began session pin (events s) (events n) text tree reply keeps.extends since_made until_made
           (making change) (tries change ∷ makes change ∷ []) (tried_acts (commit_event ∷ []) made.tried) refl
           None (ap (λ (w : Told). w.refusal) tells.0 ∙ ap (λ (w : Told). w.refusal) read.comes.kind.2) tt
-          (λ own noted. ((made.used, entered), says_made))
+          (λ own noted. ((made.used, entered), says_made, room_made))
 
     -- it was not
     module _ (left : AddsTried session change [] t n) where
@@ -394,14 +420,19 @@ module _ {D : Type 0} (moment : D → Moment) (session : ℕ) (old new : Turn (S
       left_answer (faults.Disk place) why r =
           let at : reply.place ≡ length n.ledger.entries = r.1 ∙ why.0 in
           refuses_left at Disk (λ e. e) r.0
-          (λ own noted. ((since_left at, until_left at), noted (noted_after why.1), change_left at))
+          (λ own noted. (
+            (since_left at, until_left at),
+            noted (noted_after why.1),
+            uncommitted_now at (faults.Disk reply.place) (subst (λ (k : ℕ). IsUncommitted moment session change n (faults.Disk k)) (sym r.1) why),
+          ))
       left_answer faults.Memory why r = short_answer_left r.0 r.1
 
     tried_by : (answer : Result ℕ CommitFault) → OnOk answer (AddsSealed session change t n) → IfOk answer (λ place. place + 1 ≡ length n.ledger.entries) →
+        IfOk answer (λ place. sequence_at (base_of n) (history_at n place) < 2 ^ 64 - 1) → IfOk answer (λ place. FitsAfter moment n (history_at n place) change) →
         OnErr answer (AddsTried session change [] t n) → IfErr answer (IsUncommitted moment session change n) →
         TellsCommit (length n.ledger.entries) words answer reply → Answer
-    tried_by (Ok place) done placed err cause tells = made_answer done place placed tells
-    tried_by (Err fault) done placed err cause tells = left_answer err fault cause tells
+    tried_by (Ok place) done placed next fits err cause tells = made_answer done place placed next fits tells
+    tried_by (Err fault) done placed next fits err cause tells = left_answer err fault cause tells
 
     leaves_by : (answer : Result ℕ CommitFault) → OnOk answer (AddsSealed session change t n) → OnErr answer (AddsTried session change [] t n) →
         list_all (leaves_pin_of session) keeps.extends.0 ≡ true
@@ -410,12 +441,12 @@ module _ {D : Type 0} (moment : D → Moment) (session : ℕ) (old new : Turn (S
 
   -- ---- however it went
 
-  pub goes_answered : form_said tree ≡ a_change → Goes moment session old new text tree reply → IsAnsweredInTurn moment began session pin (events s) (events n) text tree reply
-  goes_answered form (goes_short same w at) = short_answer same w at
-  goes_answered form (goes_told read at) = told_answer form read at
-  goes_answered form (goes_unread fault read r at) = unread_answer fault read at r
-  goes_answered form (goes_tried between change changed words read tried) =
-      tried_by between change changed words read tried.answer tried.done tried.place tried.err tried.cause tried.tells
+  pub goes_answered : form_said tree ≡ a_change → IsChangeAt began (events n) text tree (pin + 1) → Goes moment session old new text tree reply → IsAnsweredInTurn moment began session pin (events s) (events n) text tree reply
+  goes_answered form was (goes_short same w at) = short_answer same w at
+  goes_answered form was (goes_told read at) = told_answer form was read at
+  goes_answered form was (goes_unread fault read r at) = unread_answer was fault read at r
+  goes_answered form was (goes_tried between change changed words read tried) =
+      tried_by between change changed words read tried.answer tried.done tried.place tried.next tried.fits tried.err tried.cause tried.tells
 
   leaves_pins : Goes moment session old new text tree reply → list_all (leaves_pin_of session) keeps.extends.0 ≡ true
   leaves_pins (goes_short same w at) = ap (list_all (leaves_pin_of session)) (none_more same w at)

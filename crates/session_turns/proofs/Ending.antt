@@ -2,6 +2,7 @@
 use Rattle.std.proofs.Common.{◌≡◌, ◌∙◌, ℕ, ◌+◌, ◌≤◌, true, false, List, length, Ok, refl, ap, sym, subst}
 use Rattle.afl_outside.specs.Disk.{Moment}
 use Rattle.afl_trees.specs.Term.{Term}
+use Rattle.logical_plan.specs.declared.names.Names.{Names}
 use Rattle.plan_changes.specs.declared.change.Change.{Change}
 use Rattle.afl_types.specs.Checking.{check_of}
 use Rattle.afl_types.specs.declared.statements.checking.Typed.TheVariants.{Change as AChange}
@@ -30,7 +31,9 @@ use Rattle.session_outcomes.specs.Held.{names_now}
 use Rattle.session_outcomes.specs.Seats.{ledger_seen, seen, session_of, start, store_of, HasTurn, HoldsPin}
 use Rattle.session_outcomes.specs.Start.{Start}
 use Rattle.session_outcomes.specs.Told.{ledger_of, IsTold}
+use Rattle.session_outcomes.specs.Replies.{IsChangeAt}
 use Rattle.session_outcomes.specs.Reply.{Reply}
+use Rattle.session_outcomes.proofs.Behind.{names_behind}
 use Rattle.session_outcomes.proofs.Under.{pin_within}
 use Rattle.session_turns.specs.Inner.Turns.{Goes, KeepsTurn}
 use Rattle.session_turns.specs.AnsweredUnder.{IsAnsweredInTurn}
@@ -103,21 +106,35 @@ module _ {D : Type 0} (moment : D → Moment) (shared : Shared D) (seat : Seat D
         told_last : IsTold (start_of (standing moment next)) (events (standing moment next)) (standing moment next)
         told_last = (stores_are_told D (standing moment next) ledger counted).told
 
-        pub answered_last : form_said tree ≡ a_change →
+        abbrev began : Start D
+        began = start_of (standing moment parts)
+
+        abbrev last_events : List Event
+        last_events = events (standing moment next)
+
+        open_there : IsOpenPin (ledger_of began last_events) pinned
+        open_there =
+            goes_open moment pinned.session old last text tree reply keeps_last database_here told_last pinned.place within_here pinned refl goes_last
+            (subst (λ (es : List Event). IsOpenPin (ledger_of began es) pinned) (sym events_here)
+            (subst (λ (start : Start D). IsOpenPin (ledger_of start (seen seat)) pinned) (sym start_here) pin.open_pin))
+
+        -- right behind the pin the statement was a change
+        change_there : (change : Change) → check_of tree text pinned.names ≡ Ok (AChange change) → IsChangeAt began last_events text tree (pinned.place + 1)
+        change_there change e = (change, ap (λ (names : Names). check_of tree text names) (names_behind began last_events pinned open_there) ∙ e)
+
+        pub answered_last : (change : Change) → check_of tree text pinned.names ≡ Ok (AChange change) →
             IsAnsweredInTurn moment (start moment shared) pinned.session pinned.place (seen seat) (seen after) text tree reply
-        answered_last form =
+        answered_last change e =
             subst (λ (es : List Event). IsAnsweredInTurn moment (start moment shared) pinned.session pinned.place (seen seat) es text tree reply) (sym seen_is)
-            (subst (λ (es : List Event). IsAnsweredInTurn moment (start moment shared) pinned.session pinned.place es (events (standing moment next)) text tree reply) events_here
-            (subst (λ (began : Start D). IsAnsweredInTurn moment began pinned.session pinned.place (events (standing moment parts)) (events (standing moment next)) text tree reply) start_here
-            (goes_answered moment pinned.session old last text tree reply keeps_last database_here told_last pinned.place within_here form goes_last)))
+            (subst (λ (es : List Event). IsAnsweredInTurn moment (start moment shared) pinned.session pinned.place es last_events text tree reply) events_here
+            (subst (λ (start : Start D). IsAnsweredInTurn moment start pinned.session pinned.place (events (standing moment parts)) last_events text tree reply) start_here
+            (goes_answered moment pinned.session old last text tree reply keeps_last database_here told_last pinned.place within_here
+            (change_said change text tree pinned e) (change_there change e) goes_last)))
 
         open_last : IsOpenPin (ledger_of (start moment shared) (seen after)) pinned
         open_last =
             subst (λ (es : List Event). IsOpenPin (ledger_of (start moment shared) es) pinned) (sym seen_is)
-            (subst (λ (began : Start D). IsOpenPin (ledger_of began (events (standing moment next))) pinned) start_here
-            (goes_open moment pinned.session old last text tree reply keeps_last database_here told_last pinned.place within_here pinned refl goes_last
-            (subst (λ (es : List Event). IsOpenPin (ledger_of (start_of (standing moment parts)) es) pinned) (sym events_here)
-            (subst (λ (began : Start D). IsOpenPin (ledger_of began (seen seat)) pinned) (sym start_here) pin.open_pin))))
+            (subst (λ (start : Start D). IsOpenPin (ledger_of start last_events) pinned) start_here open_there)
 
         pub pin_last : session_of after ≡ session_of seat → HoldsPin moment shared after pinned
         pin_last mine = record { own = pin.own ∙ sym mine; open_pin = open_last }

@@ -16,7 +16,7 @@ use Rattle.event_core.specs.Allowed.{is_pinned}
 use Rattle.event_core.specs.Cells.{at}
 use Rattle.statement_answers.specs.declared.outcome.Outcome.{Outcome}
 use Rattle.statement_answers.specs.declared.outcome.Outcome.TheVariants.{Changes}
-use Rattle.statement_answers.specs.Outcomes.{HasOutcomeKind, IsMadeOf, IsOutcomeOf, IsToldBy}
+use Rattle.statement_answers.specs.Outcomes.{HasOutcomeKind, IsMadeOf, IsOutcomeOf, IsToldBy, MayFail}
 use Rattle.statement_replies.specs.declared.replies.Reply.{Reply as Told}
 use Rattle.statement_replies.specs.Reading.{HoldsVersions}
 use Rattle.statement_replies.specs.Statements.{reply_to}
@@ -95,8 +95,9 @@ module _ {D : Type 0} (moment : D → Moment) (session : ℕ) (old : Turn (Store
       (text : List ℕ) (tree : Term) (result : Result Outcome ExecFault) →
       IfOk result (HasOutcomeKind names (check_of tree text names)) →
       IfOk result (λ outcome. (db : Database) → IsToldBy names (held_state moment start) db → IsOutcomeOf db (reply_to db text tree) outcome) →
-      Answers (held_state moment start) (held_state moment h) result → IsRead moment session old new text tree result
-  read_by new h lent turn held text tree result kind told cause = record {
+      Answers (held_state moment start) (held_state moment h) result → IfErr result (λ fault. MayFail fault (check_of tree text names)) →
+      IsRead moment session old new text tree result
+  read_by new h lent turn held text tree result kind told cause allowed = record {
     marks = h.marks;
     held = subst (λ (t : Turn (StoreParts D)). HasHeld moment (holding_of session old t h.marks)) (sym turn)
         (subst (λ (l : LentTurn D). HasHeld moment (record { lent = l; turn = h.turn; marks = h.marks })) (lent ∙ ap (λ (x : Holding D). x.lent) made) held);
@@ -104,6 +105,7 @@ module _ {D : Type 0} (moment : D → Moment) (session : ℕ) (old : Turn (Store
         (subst (λ (x : Holding D). IfOk result (ComesOver names (held_state moment x) text tree)) made
         (comes_by names (held_state moment start) text tree result kind told));
     why = why_by result (held_state moment start) (held_state moment h) h.marks (ap (λ (x : Holding D). x.marks.faults) made) refl refl cause;
+    allowed = subst (λ (ns : Names). IfErr result (λ fault. MayFail fault (check_of tree text ns))) named allowed;
   }
 
 -- ---- a change that was read may be committed in the turn

@@ -1,5 +1,5 @@
 -- What a reply in a turn tells, by its refusal.
-use Rattle.std.proofs.Common.{◌≡◌, ◌∙◌, inl, inr, ℕ, ◌<◌, ◌≤◌, List, [], ◌∷◌, ◌++◌, length, Option, Some, IsTrue, refl, ap, sym, subst}
+use Rattle.std.proofs.Common.{◌≡◌, ◌∙◌, inl, inr, ℕ, ◌+◌, ◌<◌, ◌≤◌, List, [], ◌∷◌, ◌++◌, length, Option, Some, IsTrue, refl, ap, sym, subst}
 use Rattle.afl_outside.specs.Disk.{Moment}
 use Rattle.afl_trees.specs.Term.{Term}
 use Rattle.result_print.specs.declared.refusal.Refusal.{Refusal}
@@ -14,7 +14,7 @@ use Rattle.session_outcomes.specs.Start.{Start}
 use Rattle.session_outcomes.specs.Told.{entries_in, ledger_of}
 use Rattle.session_outcomes.specs.Refusals.{Refuses}
 use Rattle.session_outcomes.specs.Acts.{Act, acts_for, acts_in, begins, ends, Course, looking}
-use Rattle.session_outcomes.specs.Replies.{HasFault, HasLine, IsToldFor}
+use Rattle.session_outcomes.specs.Replies.{HasFault, HasLine, HoldsWhereRefused, IsChangeAt, IsToldFor}
 use Rattle.session_outcomes.specs.Reply.{Reply}
 use Rattle.session_outcomes.specs.Turns.{own_events}
 use Rattle.session_turns.specs.AnsweredUnder.{IsAnsweredInTurn}
@@ -51,17 +51,21 @@ module _ {D : Type 0} (moment : D → Moment) (start : Start D) (session pin : �
         answered (Some refusal) (ap (λ (words : Told). words.refusal) e) (line (ap (λ (words : Told). words.text) e)) told
     refuses refusal line (inr w) told short = answered (Some Memory) w.1 w.0 short
 
-  -- what a refusal tells behind a later pin it tells behind this one
-  pub earlier_pin : (later : ℕ) (own : List Event) (refusal : Refusal) → IsToldFor moment start session later new own text tree reply (Some refusal) looking →
-      IsToldFor moment start session pin new own text tree reply (Some refusal) looking
-  earlier_pin later own (TooLong bytes) t = absurd t
-  earlier_pin later own (Parse at kind) t = absurd t
-  earlier_pin later own HistoryFull t = absurd t
-  earlier_pin later own NotBuilt t = absurd t
-  earlier_pin later own (Typing span kind) t = ((since, until), t.1)
-  earlier_pin later own Disk t = ((since, until), t.1)
-  earlier_pin later own (Damaged page) t = ((since, until), t.1)
-  earlier_pin later own (Cell at kind) t = ((since, until), t.1)
-  earlier_pin later own SequenceEnd t = absurd t
-  earlier_pin later own (Full needed free) t = absurd t
-  earlier_pin later own Memory t = tt
+  -- what a refusal of a change tells behind a later pin it tells behind this one
+  module _ (was : IsChangeAt start new text tree (pin + 1)) where
+    pub later_refused : (own : List Event) → HoldsWhereRefused moment start session pin new own text tree reply
+    later_refused own = inr ((since, until), was)
+
+    pub earlier_pin : (later : ℕ) (own : List Event) (refusal : Refusal) → IsToldFor moment start session later new own text tree reply (Some refusal) looking →
+        IsToldFor moment start session pin new own text tree reply (Some refusal) looking
+    earlier_pin later own (TooLong bytes) t = absurd t
+    earlier_pin later own (Parse at kind) t = absurd t
+    earlier_pin later own HistoryFull t = absurd t
+    earlier_pin later own NotBuilt t = absurd t
+    earlier_pin later own (Typing span kind) t = (later_refused own, t.1)
+    earlier_pin later own Disk t = (later_refused own, t.1, t.2)
+    earlier_pin later own (Damaged page) t = (later_refused own, t.1, t.2, t.3)
+    earlier_pin later own (Cell at kind) t = (later_refused own, t.1)
+    earlier_pin later own SequenceEnd t = absurd t
+    earlier_pin later own (Full needed free) t = absurd t
+    earlier_pin later own Memory t = tt

@@ -1,8 +1,8 @@
 //! What a step over a shared store is answered.
 
 use cell_values::Memory;
+use snapshot_manager::CommitFault;
 use test_stores::Answer as StoreAnswer;
-use told_stores::CommitFault;
 
 /// What a step is answered.
 #[derive(Drop)]

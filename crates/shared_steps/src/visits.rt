@@ -2,10 +2,10 @@
 ghost use Rattle.std.specs.Prelude.{◌≡◌, Option, IfSome};
 ghost use Rattle.array_geom.specs.declared.chunk.Changed.{Changed};
 ghost use Rattle.plan_changes.specs.Typed.{IsTypedFor};
-ghost use Rattle.told_stores.specs.Changes.{AreValid, ComesWith};
+ghost use Rattle.snapshot_manager.specs.Changes.{AreValid, ComesWith};
 ghost use Rattle.store_state.specs.At.{standing};
 ghost use Rattle.store_state.specs.Events.{events};
-ghost use Rattle.told_stores.specs.Starts.{start_of};
+ghost use Rattle.snapshot_manager.specs.Starts.{start_of};
 ghost use Rattle.snapshot_manager.specs.Seats.{HasTurn, HoldsNone, IsIdle, IsSameSeat, IsSeatOf, seen, start, store_of};
 ghost use Rattle.test_stores.specs.Offers.{IsOffer};
 ghost use Rattle.shared_steps.specs.Visits.{IsFree, IsHeld, IsPinOf, IsUntold, IsUntried};
@@ -15,12 +15,11 @@ use afl_outside::Disk;
 use array_geom::Changed;
 use cell_values::Name;
 use plan_changes::{Change, changed_name, has_its_names, newest_of};
-use snapshot_manager::{Commit, Seat, Shared, StoreTurn};
+use snapshot_manager::{Commit, Seat, Shared, Store, StoreTurn};
 use std::alloc::Global;
 use std::sync::Wait;
 use store_ledger::{PinFault, Pinned};
 use test_stores::{Answer as StoreAnswer, Offer, offer_over};
-use told_stores::Store;
 
 /// What a session has of a shared store.
 #[derive(Drop)]

@@ -1,5 +1,6 @@
 pub use Rattle.prepared_commits.specs.Prepared
 pub use Rattle.told_stores.specs.Causes
+pub use Rattle.told_stores.specs.Changes
 pub use Rattle.told_stores.specs.CommitFault
 pub use Rattle.told_stores.specs.Databases
 pub use Rattle.told_stores.specs.Faults
@@ -7,6 +8,7 @@ pub use Rattle.told_stores.specs.Growth
 pub use Rattle.told_stores.specs.Laws
 pub use Rattle.told_stores.specs.Start
 pub use Rattle.told_stores.specs.Starts
+pub use Rattle.told_stores.specs.Store
 pub use Rattle.told_stores.specs.Told
 pub use Rattle.told_stores.specs.Tried
 pub use Rattle.told_stores.specs.Tries

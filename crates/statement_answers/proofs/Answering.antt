@@ -1,5 +1,6 @@
 -- What comes of a typed statement, and of the tree that it is of.
-use Rattle.std.proofs.Common.{◌≡◌, ℕ, true, List, [], ◌++◌, Option, Some, Result, Ok, Err, IfOk, OnErr, refl, sym, ap, subst, ◌∙◌}
+use Rattle.std.proofs.Common.{◌≡◌, ℕ, true, List, [], ◌++◌, Option, Some, Result, Ok, Err, IfErr, IfOk, OnErr, refl, sym, ap, subst, ◌∙◌}
+use Rattle.std.specs.Result.{IsErrAnd}
 use Rattle.std.proofs.lemmas.List.{append-nil}
 use Rattle.cell_values.specs.declared.name.Span.{Span}
 use Rattle.afl_trees.specs.Term.{Term, create, call, Terms}
@@ -30,6 +31,7 @@ use Rattle.chunk_exec.specs.Computed.{CanCompute}
 use Rattle.chunk_source.specs.Reading.{asked_of}
 use Rattle.chunk_source.specs.Source.{SourceState, AsksFront}
 use Rattle.chunk_source.specs.declared.reading.fault.ExecFault.{ExecFault}
+use Rattle.chunk_source.specs.declared.reading.fault.ExecFault.TheVariants.{Source, Damaged, Memory}
 use Rattle.statement_replies.specs.Kinds.{IsRowsReply}
 use Rattle.statement_replies.specs.Reading.{HoldsVersions}
 use Rattle.statement_replies.specs.Reply.{plan_reply}
@@ -41,7 +43,7 @@ use Rattle.statement_replies.proofs.Standing.{stand}
 use Rattle.statement_answers.specs.declared.outcome.Outcome.{Outcome}
 use Rattle.statement_answers.specs.declared.outcome.Outcome.TheVariants.{Replied}
 use Rattle.statement_answers.specs.Inner.Made.{CanAnswer}
-use Rattle.statement_answers.specs.Outcomes.{HasOutcomeKind, IsOutcomeOf, IsToldBy, asked_for, leaves_for, leaves_read}
+use Rattle.statement_answers.specs.Outcomes.{HasOutcomeKind, IsOutcomeOf, IsToldBy, MayFail, asked_for, leaves_for, leaves_read}
 
 -- ---- what is typed can be answered
 
@@ -90,6 +92,18 @@ module _ (names : Names) (source : SourceState) (holds : HoldsVersions names sou
 
 abbrev pub good : Typed → Checked Typed
 good typed = Ok typed
+
+-- one that breaks no rule may fail for each reason
+pub allowed_over : (checked : Checked Typed) (typed : Typed) → checked ≡ good typed → (answer : Result Outcome ExecFault) → IfErr answer (λ fault. MayFail fault checked)
+allowed_over checked typed is (Ok outcome) = tt
+allowed_over checked typed is (Err Source) = (typed, is)
+allowed_over checked typed is (Err (Damaged page)) = (typed, is)
+allowed_over checked typed is (Err Memory) = tt
+
+-- each may want memory
+pub wanting_over : (checked : Checked Typed) (answer : Result Outcome ExecFault) → IsErrAnd answer (λ fault. fault ≡ Memory) → IfErr answer (λ fault. MayFail fault checked)
+wanting_over checked (Ok outcome) want = tt
+wanting_over checked (Err fault) want = subst (λ (f : ExecFault). MayFail f checked) (sym want) tt
 
 module _ (names : Names) (a b : Checked Typed) (same : a ≡ b) where
   pub kind_over : (answer : Result Outcome ExecFault) → IfOk answer (HasOutcomeKind names b) → IfOk answer (HasOutcomeKind names a)

@@ -15,6 +15,8 @@ use Rattle.plan_changes.specs.Typed.{IsTypedFor}
 use Rattle.check_rules.specs.Checked.{Checked}
 use Rattle.afl_types.specs.declared.statements.checking.Typed.{Typed}
 use Rattle.afl_types.specs.declared.statements.checking.Typed.TheVariants.{Query as AQuery, Change as AChange, Versions, Show, ListArrays}
+use Rattle.chunk_source.specs.declared.reading.fault.ExecFault.{ExecFault}
+use Rattle.chunk_source.specs.declared.reading.fault.ExecFault.TheVariants.{Source, Damaged, Memory}
 use Rattle.chunk_source.specs.declared.sources.asked.Asked.{Asked}
 use Rattle.chunk_source.specs.Reading.{asked_of}
 use Rattle.chunk_source.specs.Source.{SourceState}
@@ -39,6 +41,16 @@ abbrev pub HasOutcomeKind : Names → Checked Typed → Outcome → Type 0
 HasOutcomeKind names checked (Replied reply) = HasStatementKind names checked (without_change reply)
 HasOutcomeKind names checked (Changes change changed reply) =
     (checked ≡ Ok (AChange change)) × MayBeCommitted names change changed × (reply ≡ change_reply names change)
+
+-- a statement breaks no rule
+abbrev pub IsAllowed : Checked Typed → Type 0
+IsAllowed checked = (typed : Typed) × (checked ≡ Ok typed)
+
+-- why nothing comes of it: of one that breaks a rule only that memory is short
+abbrev pub MayFail : ExecFault → Checked Typed → Type 0
+MayFail Source checked = IsAllowed checked
+MayFail (Damaged page) checked = IsAllowed checked
+MayFail Memory checked = Unit {0}
 
 -- ---- what a database tells
 

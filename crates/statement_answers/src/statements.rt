@@ -1,5 +1,5 @@
 //! Statements, from their trees to what comes of them.
-ghost use Rattle.std.specs.Prelude.{◌≡◌, ◌≤◌, ◌++◌, None, Ok as Good, IfOk, OnErr, IsTrue};
+ghost use Rattle.std.specs.Prelude.{◌≡◌, ◌≤◌, ◌++◌, None, Ok as Good, IfErr, IfOk, OnErr, IsTrue};
 ghost use Rattle.check_exprs.specs.Laws.{leaves_fit};
 ghost use Rattle.chunk_exec.specs.Computed.{CanCompute};
 ghost use Rattle.chunk_source.specs.Faults.{Answers};
@@ -12,7 +12,7 @@ ghost use Rattle.afl_types.specs.declared.statements.checking.Typed.TheVariants.
 ghost use Rattle.statement_replies.specs.Reading.{HoldsVersions};
 ghost use Rattle.statement_replies.specs.Statements.{reply_to, reply_to_typed};
 ghost use Rattle.statement_answers.specs.Inner.Made.{CanAnswer};
-ghost use Rattle.statement_answers.specs.Outcomes.{HasOutcomeKind, IsOutcomeOf, IsToldBy, asked_for, leaves_for};
+ghost use Rattle.statement_answers.specs.Outcomes.{HasOutcomeKind, IsOutcomeOf, IsToldBy, MayFail, asked_for, leaves_for};
 
 use crate::changes::outcome_of_change;
 use crate::outcome::Outcome;
@@ -123,6 +123,7 @@ pub fn outcome_of<S: ChunkSource, G: Gate>(
         OnErr result (AsksFront (asked_of old 0 all) old (S.state source.new)) }
     ensures kept { Keeps (S.state source.old) (S.state source.new) }
     ensures cause { Answers (S.state source.old) (S.state source.new) result }
+    ensures allowed { IfErr result (λ fault. MayFail fault (check_of tree.now text.now names.now)) }
     ensures start { S.start source.new ≡ S.start source.old }
 {
     match check(alloc, tree, text, names) {

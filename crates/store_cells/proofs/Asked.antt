@@ -10,8 +10,8 @@ use Rattle.file_laws.specs.Laws.{OneDatabase, SoundRowsAreStored}
 use Rattle.file_laws.proofs.Payloads.{stored_part}
 use Rattle.file_meaning.specs.Standing.{Stands, stored_chunk}
 use Rattle.next_files.specs.Inner.Example.{AnArrayIsStoredAgain, change, next}
-use Rattle.store_state.specs.Standings.{BeganAs}
-use Rattle.store_state.specs.Worked.{worked_moment}
+use Rattle.prepared_commits.specs.Standings.{BeganAs}
+use Rattle.prepared_commits.specs.Worked.{worked_moment}
 use Rattle.prepared_commits.specs.Prepared.{MayBeMade}
 use Rattle.file_laws.proofs.Worked.{file_stands}
 use Rattle.store_cells.specs.Worked.{BothMayOccur, ChunksAreAsked, stored_again}

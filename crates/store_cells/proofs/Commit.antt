@@ -38,11 +38,11 @@ use Rattle.found_rows.proofs.Newest.{newest_are_last}
 use Rattle.store_ledger.specs.Ledger.{history}
 use Rattle.store_versions.specs.Versions.{Directories, HaveDirectories, MadeVersion, directory_of, versions_at}
 use Rattle.store_versions.proofs.Made.{named_versions_have_directories}
-use Rattle.store_state.specs.Cells.{HoldsCells, IsFound}
-use Rattle.store_state.specs.Kept.{AreVersions, IsKept}
-use Rattle.store_state.specs.Standings.{BeganAs, IsSound, Standing, base_of, commit_places, current_slots, given_of}
-use Rattle.store_state.specs.Inner.Keeping.{HasItsPages, IsDirectoryOf, Keeping}
-use Rattle.store_state.proofs.Lists.{zip_map}
+use Rattle.prepared_commits.specs.Cells.{HoldsCells, IsFound}
+use Rattle.prepared_commits.specs.Kept.{AreVersions, IsKept}
+use Rattle.prepared_commits.specs.Standings.{BeganAs, IsSound, Standing, base_of, commit_places, current_slots, given_of}
+use Rattle.prepared_commits.specs.Keeping.{HasItsPages, IsDirectoryOf, Keeping}
+use Rattle.prepared_commits.proofs.Lists.{zip_map}
 use Rattle.store_images.proofs.Live.{found_live}
 use Rattle.prepared_commits.specs.declared.prepared.NewBase.{NewBase}
 use Rattle.prepared_commits.specs.declared.prepared.Prepared.{Prepared}

@@ -30,8 +30,8 @@ use Rattle.found_rows.proofs.Pages.{pages_follow}
 use Rattle.store_versions.specs.declared.ready.ReadyVersion.{ReadyVersion}
 use Rattle.store_versions.specs.Rows.{directory_in}
 use Rattle.store_versions.specs.Versions.{Directories, MadeVersion, versions_after, versions_at}
-use Rattle.store_state.specs.Cells.{IsFound}
-use Rattle.store_state.specs.Inner.Keeping.{log_pages, pages_of_catalogue}
+use Rattle.prepared_commits.specs.Cells.{IsFound}
+use Rattle.prepared_commits.specs.Keeping.{log_pages, pages_of_catalogue}
 use Rattle.store_steps.proofs.Catalogs.{IsMadeOf}
 
 -- ---- the version that is made

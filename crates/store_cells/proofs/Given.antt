@@ -17,10 +17,10 @@ use Rattle.store_versions.specs.Seen.{seen, AreSeen}
 use Rattle.store_versions.specs.Versions.{Directories, MadeVersion, versions_at}
 use Rattle.store_versions.proofs.Given.{later_directories_are_free}
 use Rattle.store_versions.proofs.Seen.{all_two}
-use Rattle.store_state.specs.Cells.{IsFound, IsImage}
-use Rattle.store_state.specs.Kept.{AreVersions}
-use Rattle.store_state.specs.Payloads.{HasPayloads, HavePayloads}
-use Rattle.store_state.specs.Inner.Keeping.{AreDirectoriesOf, HasItsPages, LieIn}
+use Rattle.prepared_commits.specs.Cells.{IsFound, IsImage}
+use Rattle.prepared_commits.specs.Kept.{AreVersions}
+use Rattle.prepared_commits.specs.Payloads.{HasPayloads, HavePayloads}
+use Rattle.prepared_commits.specs.Keeping.{AreDirectoriesOf, HasItsPages, LieIn}
 
 module _ (base : Core) (given : Directories) (h : History) (rows : List VersionRow) (directory : Directory) (x : AreVersions base given h rows) where
   abbrev more : Directories

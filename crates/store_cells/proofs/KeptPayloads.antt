@@ -23,11 +23,11 @@ use Rattle.event_laws.proofs.Free.{Dead, dead}
 use Rattle.next_files.proofs.Free.{weaker}
 use Rattle.store_versions.specs.declared.row.VersionRow.{VersionRow}
 use Rattle.store_versions.specs.Versions.{Directories, MadeVersion, versions_at}
-use Rattle.store_state.specs.Calls.{IsWhole, spelled_by}
-use Rattle.store_state.specs.Kept.{AreVersions, IsInOrder}
-use Rattle.store_state.specs.Payloads.{HasItsPayloads, HasPayload, HasPayloads, HavePayloads, IsAsOpened}
-use Rattle.store_state.specs.Inner.Keeping.{HasItsPages}
-use Rattle.store_state.proofs.Decodes.{if_some}
+use Rattle.prepared_commits.specs.Calls.{IsWhole, spelled_by}
+use Rattle.prepared_commits.specs.Kept.{AreVersions, IsInOrder}
+use Rattle.prepared_commits.specs.Payloads.{HasItsPayloads, HasPayload, HasPayloads, HavePayloads, IsAsOpened}
+use Rattle.prepared_commits.specs.Keeping.{HasItsPages}
+use Rattle.prepared_commits.proofs.Decodes.{if_some}
 use Rattle.store_images.proofs.Carried.{IsBeside, entries_apart, first_beside, first_none, second_beside, second_none, slot_page, stays_apart, which_page}
 
 -- ---- a payload whose pages aren't written

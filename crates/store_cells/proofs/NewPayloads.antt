@@ -35,7 +35,7 @@ use Rattle.commit_pages.proofs.Directories.{draft_rises, inserts_replace, stores
 use Rattle.store_versions.specs.declared.ready.ReadyVersion.{ReadyVersion}
 use Rattle.store_versions.specs.Rows.{directory_in}
 use Rattle.store_versions.specs.Versions.{MadeVersion}
-use Rattle.store_state.specs.Payloads.{HasItsPayloads, HasPayload}
+use Rattle.prepared_commits.specs.Payloads.{HasItsPayloads, HasPayload}
 use Rattle.store_steps.proofs.Catalogs.{ready_is}
 use Rattle.store_steps.proofs.Schemas.{MakesSo}
 

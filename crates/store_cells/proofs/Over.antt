@@ -33,9 +33,9 @@ use Rattle.event_core.specs.History.{History}
 use Rattle.laid_commits.specs.Premises.{IsCommit, IsLaidBase, IsLaidRecord, made_of}
 use Rattle.store_ledger.specs.declared.note.Note.{Note}
 use Rattle.store_versions.specs.Versions.{Directories}
-use Rattle.store_state.specs.Cells.{IsImage}
-use Rattle.store_state.specs.Standings.{IsAttempt, StandsFor, StoodFor, current_slots}
-use Rattle.store_state.specs.Inner.Keeping.{is_opening}
+use Rattle.prepared_commits.specs.Cells.{IsImage}
+use Rattle.prepared_commits.specs.Standings.{IsAttempt, StandsFor, StoodFor, current_slots}
+use Rattle.prepared_commits.specs.Keeping.{is_opening}
 use Rattle.store_images.specs.Premises.{IsStore, MayBeWritten, IsFoundInOrder}
 use Rattle.prepared_commits.specs.declared.prepared.NewBase.{NewBase}
 use Rattle.store_steps.specs.Steps.{doubt_after, sealed_slots, stopped_slots}

@@ -21,8 +21,8 @@ use Rattle.next_files.proofs.Free.{weaker}
 use Rattle.commit_pages.specs.declared.laid.Laid.{Laid}
 use Rattle.commit_pages.specs.Changes.{ComesWith}
 use Rattle.store_ledger.specs.Ledger.{history}
-use Rattle.store_state.specs.Standings.{Standing}
-use Rattle.store_state.specs.Inner.Keeping.{Keeping}
+use Rattle.prepared_commits.specs.Standings.{Standing}
+use Rattle.prepared_commits.specs.Keeping.{Keeping}
 use Rattle.prepared_commits.specs.declared.prepared.NewBase.{NewBase}
 use Rattle.prepared_commits.specs.declared.prepared.Prepared.{Prepared}
 use Rattle.prepared_commits.specs.Needs.{IsLaidBy, all_pages, newest_now, next_sequence}

@@ -6,8 +6,8 @@ use Rattle.afl_outside.specs.Disk.{DiskState, LeavesOnly, Moment}
 use Rattle.store_ledger.specs.declared.note.Note.{Note}
 use Rattle.store_ledger.specs.declared.note.NoteKind.TheVariants.{Fault}
 use Rattle.store_ledger.specs.Ledger.{LedgerState, is_fault, is_noted, note_now, with_notes}
-use Rattle.store_state.specs.Calls.{NotesFault}
-use Rattle.store_state.specs.Standings.{given_of}
+use Rattle.prepared_commits.specs.Calls.{NotesFault}
+use Rattle.prepared_commits.specs.Standings.{given_of}
 use Rattle.store_cells.specs.Laws.{CommitsPassBy}
 use Rattle.store_cells.specs.Moves.{MayLeave}
 use Rattle.store_cells.proofs.Commit.{is_over, over}

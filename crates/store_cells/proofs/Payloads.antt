@@ -32,10 +32,10 @@ use Rattle.store_ledger.proofs.Pins.{one_more}
 use Rattle.store_versions.specs.Laws.{with_made}
 use Rattle.store_versions.specs.Versions.{Directories, HaveDirectories, MadeVersion, versions_after, versions_at}
 use Rattle.store_versions.proofs.Made.{named_versions_have_directories}
-use Rattle.store_state.specs.Kept.{AreVersions}
-use Rattle.store_state.specs.Payloads.{HasItsPayloads, HasPayloads, HavePayloads, HoldsPayloads}
-use Rattle.store_state.specs.Standings.{Standing, given_of}
-use Rattle.store_state.specs.Inner.Keeping.{Keeping}
+use Rattle.prepared_commits.specs.Kept.{AreVersions}
+use Rattle.prepared_commits.specs.Payloads.{HasItsPayloads, HasPayloads, HavePayloads, HoldsPayloads}
+use Rattle.prepared_commits.specs.Standings.{Standing, given_of}
+use Rattle.prepared_commits.specs.Keeping.{Keeping}
 use Rattle.prepared_commits.specs.declared.prepared.NewBase.{NewBase}
 use Rattle.prepared_commits.specs.declared.prepared.Prepared.{Prepared}
 use Rattle.prepared_commits.specs.Needs.{IsLaidBy, newest_now, next_sequence, written_now}

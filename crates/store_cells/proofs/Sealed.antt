@@ -28,12 +28,12 @@ use Rattle.store_ledger.proofs.Pins.{one_more}
 use Rattle.store_versions.specs.Laws.{with_made}
 use Rattle.store_versions.specs.Versions.{Directories}
 use Rattle.store_versions.proofs.Made.{named_versions_have_directories}
-use Rattle.store_state.specs.Cells.{HoldsCells, IsFound, IsImage}
-use Rattle.store_state.specs.Kept.{AreVersions, IsKept}
-use Rattle.store_state.specs.Standings.{HaveStood, Standing, commit_places, current_slots, given_of}
-use Rattle.store_state.specs.Inner.Keeping.{Keeping}
-use Rattle.store_state.proofs.Attempts.{have_stood_noted, have_stood_on}
-use Rattle.store_state.proofs.Lists.{zip_map}
+use Rattle.prepared_commits.specs.Cells.{HoldsCells, IsFound, IsImage}
+use Rattle.prepared_commits.specs.Kept.{AreVersions, IsKept}
+use Rattle.prepared_commits.specs.Standings.{HaveStood, Standing, commit_places, current_slots, given_of}
+use Rattle.prepared_commits.specs.Keeping.{Keeping}
+use Rattle.prepared_commits.proofs.Attempts.{have_stood_noted, have_stood_on}
+use Rattle.prepared_commits.proofs.Lists.{zip_map}
 use Rattle.store_images.specs.Premises.{IsFoundInOrder}
 use Rattle.store_images.proofs.Moments.{have_stood_by, have_stood_now}
 use Rattle.prepared_commits.specs.declared.prepared.NewBase.{NewBase}

@@ -12,11 +12,11 @@ use Rattle.event_core.specs.declared.state.Core.{Core}
 use Rattle.event_core.specs.Cells.{at}
 use Rattle.event_core.specs.History.{History}
 use Rattle.store_ledger.specs.Ledger.{LedgerState, history}
-use Rattle.store_state.specs.Cells.{HoldsCells, IsFound}
-use Rattle.store_state.specs.Standings.{HaveStood, IsAttempt, Standing, commit_places, given_of}
-use Rattle.store_state.specs.Inner.Keeping.{Keeping}
-use Rattle.store_state.proofs.AtOn.{cells_noted}
-use Rattle.store_state.proofs.Lists.{zip_map}
+use Rattle.prepared_commits.specs.Cells.{HoldsCells, IsFound}
+use Rattle.prepared_commits.specs.Standings.{HaveStood, IsAttempt, Standing, commit_places, given_of}
+use Rattle.prepared_commits.specs.Keeping.{Keeping}
+use Rattle.prepared_commits.proofs.AtOn.{cells_noted}
+use Rattle.prepared_commits.proofs.Lists.{zip_map}
 use Rattle.store_images.proofs.Moments.{have_stood_by}
 use Rattle.prepared_commits.specs.declared.prepared.NewBase.{NewBase}
 use Rattle.prepared_commits.specs.declared.prepared.Prepared.{Prepared}

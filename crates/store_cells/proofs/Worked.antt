@@ -10,10 +10,10 @@ use Rattle.event_core.specs.declared.entry.Entry.TheVariants.{Pin}
 use Rattle.file_laws.proofs.Worked.{file_stands}
 use Rattle.file_laws.specs.Inner.Example.{database, file}
 use Rattle.store_ledger.specs.Ledger.{attempt}
-use Rattle.store_state.specs.At.{IsAt}
-use Rattle.store_state.specs.Standings.{BeganAs, with_entries}
-use Rattle.store_state.specs.Worked.{worked_keeping, worked_moment, worked_slots, worked_store}
-use Rattle.store_state.proofs.AtOn.{at_noted, at_pin}
+use Rattle.prepared_commits.specs.At.{IsAt}
+use Rattle.prepared_commits.specs.Standings.{BeganAs, with_entries}
+use Rattle.prepared_commits.specs.Worked.{worked_keeping, worked_moment, worked_slots, worked_store}
+use Rattle.prepared_commits.proofs.AtOn.{at_noted, at_pin}
 use Rattle.store_steps.specs.Laws.{IsReady}
 use Rattle.store_steps.specs.Worked.{pinned_store, prepared_removal, removal}
 use Rattle.store_cells.specs.Moves.{Writes}

@@ -7,11 +7,11 @@ use Rattle.event_core.specs.Cells.{at}
 use Rattle.file_meaning.specs.Standing.{Stands}
 use Rattle.commit_writes.specs.declared.stopped.Stopped.{Stopped}
 use Rattle.store_ledger.specs.Ledger.{LedgerState, history}
-use Rattle.store_state.specs.Calls.{NotesFault}
-use Rattle.store_state.specs.Cells.{HoldsCells}
-use Rattle.store_state.specs.Payloads.{HoldsPayloads}
-use Rattle.store_state.specs.Standings.{Standing, BeganAs, commit_places, given_of}
-use Rattle.store_state.specs.Inner.Keeping.{Keeping}
+use Rattle.prepared_commits.specs.Calls.{NotesFault}
+use Rattle.prepared_commits.specs.Cells.{HoldsCells}
+use Rattle.prepared_commits.specs.Payloads.{HoldsPayloads}
+use Rattle.prepared_commits.specs.Standings.{Standing, BeganAs, commit_places, given_of}
+use Rattle.prepared_commits.specs.Keeping.{Keeping}
 use Rattle.prepared_commits.specs.declared.prepared.Prepared.{Prepared}
 use Rattle.store_steps.specs.Laws.{IsReady}
 use Rattle.store_steps.specs.Steps.{sealed, sealed_keeping, sealed_ledger, stopped, stopped_keeping}

@@ -10,8 +10,8 @@ use Rattle.commit_writes.specs.declared.stopped.Stopped.{Stopped}
 use Rattle.commit_writes.specs.Commits.{base_pages, commit_pages}
 use Rattle.commit_writes.specs.Moments.{AddsRecord, HasRecord, MakesBase, MayHaveBase, PassesBy, StaysKnown, StopsBase, StopsRecord}
 use Rattle.store_ledger.specs.Ledger.{history}
-use Rattle.store_state.specs.Standings.{Standing, StandsFor}
-use Rattle.store_state.specs.Inner.Keeping.{Keeping}
+use Rattle.prepared_commits.specs.Standings.{Standing, StandsFor}
+use Rattle.prepared_commits.specs.Keeping.{Keeping}
 use Rattle.prepared_commits.specs.declared.prepared.NewBase.{NewBase}
 use Rattle.prepared_commits.specs.declared.prepared.Prepared.{Prepared}
 

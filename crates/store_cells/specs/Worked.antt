@@ -7,8 +7,8 @@ use Rattle.file_meaning.specs.Standing.{Stands, stored_chunk}
 use Rattle.next_files.specs.Inner.Example.{change, next}
 use Rattle.page_slots.specs.Steps.{doubted}
 use Rattle.commit_writes.specs.declared.stopped.Stopped.TheVariants as stages
-use Rattle.store_state.specs.Standings.{StandsFor}
-use Rattle.store_state.specs.Worked.{worked_keeping, worked_moment, worked_slots}
+use Rattle.prepared_commits.specs.Standings.{StandsFor}
+use Rattle.prepared_commits.specs.Worked.{worked_keeping, worked_moment, worked_slots}
 use Rattle.prepared_commits.specs.Prepared.{IsAsked}
 use Rattle.store_steps.specs.Worked.{pinned_store, prepared_removal}
 use Rattle.store_cells.specs.Laws.{IsWritten}

@@ -9,11 +9,11 @@ use afl_outside::Disk;
 use file_laws::{files_stand_for_one_database, sound_rows_are_stored};
 use laid_commits::opened_files_stand;
 use next_files::an_array_is_stored_again;
+use prepared_commits::a_store_is_kept;
 use prepared_costs::found_files_are_over;
 use store_images::{
     images_have_stood, laid_commits_stand, next_images, opening_images, unopened_images,
 };
-use store_state::a_store_is_kept;
 use store_steps::{a_commit_is_ready, sealed_stores_are_kept};
 
 /// A store holds the next database's cells once a commit is sealed, and each image stands for it.

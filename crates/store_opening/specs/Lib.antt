@@ -1,2 +1,10 @@
+pub use Rattle.store_state.specs.At
+pub use Rattle.store_state.specs.Calls
+pub use Rattle.store_state.specs.Events
+pub use Rattle.store_state.specs.Payloads
+pub use Rattle.store_state.specs.Standings
+pub use Rattle.store_state.specs.declared.event.Event
+pub use Rattle.store_state.specs.declared.fault.ReadFault
+pub use Rattle.store_state.specs.declared.parts.StoreParts
 pub mod Inner
 pub mod Opened

@@ -8,10 +8,10 @@ use Rattle.prepared_costs.specs.Written.{Written}
 use Rattle.prepared_costs.specs.Changes.{AreValid}
 use Rattle.prepared_costs.specs.Versions.{CanBeListed, IsWritten, draft, draft_of}
 use Rattle.store_ledger.specs.Ledger.{LedgerState, has_room, history, is_noted, is_tried}
-use Rattle.store_state.specs.declared.parts.StoreParts.{StoreParts}
-use Rattle.store_state.specs.At.{IsAt, keeping, standing}
-use Rattle.store_state.specs.Standings.{Standing}
-use Rattle.store_state.specs.Inner.Keeping.{Keeping}
+use Rattle.prepared_commits.specs.StoreParts.{StoreParts}
+use Rattle.prepared_commits.specs.At.{IsAt, keeping, standing}
+use Rattle.prepared_commits.specs.Standings.{Standing}
+use Rattle.prepared_commits.specs.Keeping.{Keeping}
 use Rattle.prepared_commits.specs.declared.fault.PrepareFault.{PrepareFault}
 use Rattle.prepared_commits.specs.declared.fault.PrepareFault.TheVariants.{SequenceEnd, Full, Memory}
 use Rattle.prepared_commits.specs.declared.prepared.Prepared.{Prepared}

@@ -10,9 +10,9 @@ use Rattle.event_core.specs.Pages.{is_awaiting, is_live, free_at}
 use Rattle.event_laws.proofs.Conserved.{pages_are_conserved}
 use Rattle.event_laws.proofs.Legal.{ordered_is_allowed}
 use Rattle.store_ledger.specs.Ledger.{LedgerState, history, unused_pages}
-use Rattle.store_state.specs.At.{IsAt}
-use Rattle.store_state.specs.Standings.{Standing}
-use Rattle.store_state.specs.Inner.Keeping.{Keeping}
+use Rattle.prepared_commits.specs.At.{IsAt}
+use Rattle.prepared_commits.specs.Standings.{Standing}
+use Rattle.prepared_commits.specs.Keeping.{Keeping}
 use Rattle.prepared_commits.specs.declared.fault.PrepareFault.{PrepareFault}
 use Rattle.prepared_commits.specs.declared.fault.PrepareFault.TheVariants.{SequenceEnd, Full, Memory}
 use Rattle.prepared_parts.specs.Parts.{IsFullFor}

@@ -18,11 +18,11 @@ use Rattle.event_laws.proofs.Pins.{open_pins_are_these, places_tell_pins}
 use Rattle.store_ledger.specs.declared.note.Note.{Note}
 use Rattle.store_ledger.specs.Ledger.{LedgerState, has_note, has_under, history, attempt, is_fault, is_noted, is_tried, is_under, note_now, with_notes}
 use Rattle.store_ledger.proofs.Keeping.{begun_of}
-use Rattle.store_state.specs.At.{IsAt}
-use Rattle.store_state.specs.Standings.{Standing, WasTriedBy}
-use Rattle.store_state.specs.Inner.Keeping.{Keeping, tried_if_committed, AreCounted}
-use Rattle.store_state.proofs.AtOn.{at_noted}
-use Rattle.store_state.proofs.Lists.{passes_filter}
+use Rattle.prepared_commits.specs.At.{IsAt}
+use Rattle.prepared_commits.specs.Standings.{Standing, WasTriedBy}
+use Rattle.prepared_commits.specs.Keeping.{Keeping, tried_if_committed, AreCounted}
+use Rattle.prepared_commits.proofs.AtOn.{at_noted}
+use Rattle.prepared_commits.proofs.Lists.{passes_filter}
 use Rattle.store_preparing.specs.Left.{tried_now}
 
 -- ---- the note

@@ -15,10 +15,10 @@ use Rattle.store_ledger.specs.Ledger.{LedgerState, history}
 use Rattle.store_ledger.proofs.Pins.{one_more}
 use Rattle.store_versions.specs.Seen.{seen}
 use Rattle.store_versions.specs.Versions.{MadeVersion, directory_of, versions_at}
-use Rattle.store_state.specs.At.{IsAt}
-use Rattle.store_state.specs.Standings.{Standing, base_of, commit_places, given_of, made_at, versions_after, with_entries}
-use Rattle.store_state.specs.Inner.Keeping.{Keeping}
-use Rattle.store_state.proofs.AtOn.{places_same, reaped_if as reaped_standing}
+use Rattle.prepared_commits.specs.At.{IsAt}
+use Rattle.prepared_commits.specs.Standings.{Standing, base_of, commit_places, given_of, made_at, versions_after, with_entries}
+use Rattle.prepared_commits.specs.Keeping.{Keeping}
+use Rattle.prepared_commits.proofs.AtOn.{places_same, reaped_if as reaped_standing}
 use Rattle.prepared_commits.specs.declared.fault.PrepareFault.{PrepareFault}
 use Rattle.prepared_commits.specs.declared.fault.PrepareFault.TheVariants.{SequenceEnd, Full, Memory}
 use Rattle.prepared_commits.specs.Needs.{newest_now, next_sequence, or_empty}

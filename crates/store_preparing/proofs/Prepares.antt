@@ -39,9 +39,9 @@ use Rattle.prepared_costs.specs.Versions.{CanBeListed, IsWritten, directory_of a
 use Rattle.laid_commits.proofs.Cores.{have_cores}
 use Rattle.store_ledger.specs.Ledger.{LedgerState, has_room, history, is_noted, is_tried}
 use Rattle.store_versions.specs.Rows.{IsReadyFor}
-use Rattle.store_state.specs.At.{IsAt}
-use Rattle.store_state.specs.Standings.{Standing, BeganAs, WasTriedBy, base_of, given_of, versions_after}
-use Rattle.store_state.specs.Inner.Keeping.{Keeping, IsDirectoryOf}
+use Rattle.prepared_commits.specs.At.{IsAt}
+use Rattle.prepared_commits.specs.Standings.{Standing, BeganAs, WasTriedBy, base_of, given_of, versions_after}
+use Rattle.prepared_commits.specs.Keeping.{Keeping, IsDirectoryOf}
 use Rattle.prepared_commits.specs.declared.prepared.NewBase.{NewBase}
 use Rattle.prepared_commits.specs.declared.prepared.Prepared.{Prepared}
 use Rattle.prepared_commits.specs.Needs.{IsLaidBy, all_pages, needs, needs_by, newest_now, next_sequence, written_now}

@@ -16,11 +16,11 @@ use Rattle.event_core.specs.History.{History, names_at, open_pins, pin_before}
 use Rattle.event_core.specs.Legal.{has_committed}
 use Rattle.store_ledger.specs.Ledger.{LedgerState, has_room, has_under, history, is_noted, reserved, reserved_by, is_tried}
 use Rattle.store_ledger.proofs.Pins.{one_more}
-use Rattle.store_state.specs.At.{IsAt}
-use Rattle.store_state.specs.Standings.{Standing, WasTriedBy}
-use Rattle.store_state.specs.Inner.Keeping.{Keeping}
-use Rattle.store_state.proofs.AtOn.{at_reap}
-use Rattle.store_state.proofs.Attempts.{tried_on}
+use Rattle.prepared_commits.specs.At.{IsAt}
+use Rattle.prepared_commits.specs.Standings.{Standing, WasTriedBy}
+use Rattle.prepared_commits.specs.Keeping.{Keeping}
+use Rattle.prepared_commits.proofs.AtOn.{at_reap}
+use Rattle.prepared_commits.proofs.Attempts.{tried_on}
 use Rattle.prepared_commits.specs.Prepared.{IsAsked, MayBeMade}
 use Rattle.prepared_parts.specs.Parts.{reaped}
 use Rattle.store_preparing.specs.Left.{reaped_if}

@@ -3,7 +3,7 @@ use Rattle.std.specs.Prelude.{◌≡◌, ◌≤◌, ◌<◌, ◌-◌, ◌^◌, �
 use Rattle.plan_changes.specs.declared.change.Change.{Change}
 use Rattle.event_core.specs.declared.entry.Entry.TheVariants.{Reap}
 use Rattle.store_ledger.specs.Ledger.{LedgerState, attempt, note_now, unused_pages}
-use Rattle.store_state.specs.Standings.{Standing, with_entries, with_notes}
+use Rattle.prepared_commits.specs.Standings.{Standing, with_entries, with_notes}
 use Rattle.prepared_commits.specs.declared.fault.PrepareFault.{PrepareFault}
 use Rattle.prepared_commits.specs.declared.fault.PrepareFault.TheVariants.{SequenceEnd, Full, Memory}
 use Rattle.prepared_parts.specs.Parts.{IsFull, is_short}

@@ -1,7 +1,7 @@
 //! What the next commit opens, and its sequence number.
 ghost use Rattle.std.specs.Prelude.{◌≡◌, ◌≤◌, ◌<◌, ◌+◌, ◌-◌, ◌^◌, IfSome, None};
 ghost use Rattle.file_meaning.specs.Opening.{sequence_of};
-ghost use Rattle.store_state.specs.Standings.{current_slots};
+ghost use Rattle.prepared_commits.specs.Standings.{current_slots};
 
 use afl_outside::Disk;
 use page_file::PageFile;

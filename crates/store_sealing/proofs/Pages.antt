@@ -34,8 +34,8 @@ use Rattle.commit_pages.proofs.Chains.{record_lies, base_lies}
 use Rattle.laid_commits.proofs.Records.{draft_comes, draft_written}
 use Rattle.next_files.proofs.Free.{none_cons}
 use Rattle.store_ledger.specs.Ledger.{history}
-use Rattle.store_state.specs.Standings.{Standing}
-use Rattle.store_state.specs.Inner.Keeping.{Keeping}
+use Rattle.prepared_commits.specs.Standings.{Standing}
+use Rattle.prepared_commits.specs.Keeping.{Keeping}
 use Rattle.prepared_commits.specs.declared.prepared.NewBase.{NewBase}
 use Rattle.prepared_commits.specs.declared.prepared.Prepared.{Prepared}
 use Rattle.prepared_commits.specs.Needs.{IsLaidBy, all_pages, newest_now, next_sequence, written_now}

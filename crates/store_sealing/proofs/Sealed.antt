@@ -22,12 +22,12 @@ use Rattle.store_ledger.specs.Ledger.{LedgerState, history, with_entries}
 use Rattle.store_ledger.proofs.Pins.{one_more}
 use Rattle.store_versions.specs.Rows.{directory_in}
 use Rattle.store_versions.specs.Seen.{version_of}
-use Rattle.store_state.specs.declared.parts.StoreParts.{StoreParts}
-use Rattle.store_state.specs.At.{AreParts, IsAt, keeping, standing}
-use Rattle.store_state.specs.Calls.{NotesFault}
-use Rattle.store_state.specs.Payloads.{HasTold}
-use Rattle.store_state.specs.Standings.{Standing, BeganAs}
-use Rattle.store_state.specs.Inner.Keeping.{Keeping}
+use Rattle.prepared_commits.specs.StoreParts.{StoreParts}
+use Rattle.prepared_commits.specs.At.{AreParts, IsAt, keeping, standing}
+use Rattle.prepared_commits.specs.Calls.{NotesFault}
+use Rattle.prepared_commits.specs.Payloads.{HasTold}
+use Rattle.prepared_commits.specs.Standings.{Standing, BeganAs}
+use Rattle.prepared_commits.specs.Keeping.{Keeping}
 use Rattle.prepared_commits.specs.declared.prepared.NewBase.{NewBase}
 use Rattle.prepared_commits.specs.declared.prepared.Prepared.{Prepared}
 use Rattle.prepared_commits.specs.Prepared.{IsPreparedFor}

@@ -1,15 +1,15 @@
 //! A commit that was prepared is sealed.
 ghost use Rattle.std.specs.Prelude.{◌≡◌, ℕ, List, Option, length, IfOk, OnOk, OnErr, MatchResult};
-ghost use Rattle.afl_outside.specs.Disk.{FailsWithCause, LeavesOnly};
+ghost use Rattle.afl_outside.specs.Disk.{DiskGoesOn, FailsWithCause, LeavesOnly};
 ghost use Rattle.array_geom.specs.declared.chunk.Changed.{Changed};
 ghost use Rattle.plan_changes.specs.Databases.{Database, after};
 ghost use Rattle.event_core.specs.Cells.{at};
 ghost use Rattle.file_meaning.specs.Standing.{Stands};
 ghost use Rattle.commit_writes.specs.declared.stopped.Stopped.{Stopped};
 ghost use Rattle.store_ledger.specs.Ledger.{history};
-ghost use Rattle.store_state.specs.At.{AreParts, keeping, standing};
-ghost use Rattle.store_state.specs.Calls.{NotesFault};
-ghost use Rattle.store_state.specs.Standings.{BeganAs};
+ghost use Rattle.prepared_commits.specs.At.{AreParts, keeping, standing};
+ghost use Rattle.prepared_commits.specs.Calls.{NotesFault};
+ghost use Rattle.prepared_commits.specs.Standings.{BeganAs};
 ghost use Rattle.prepared_commits.specs.Prepared.{IsPreparedFor};
 ghost use Rattle.store_steps.specs.Steps.{sealed, sealed_keeping, sealed_ledger, stopped};
 ghost use Rattle.store_cells.specs.Moves.{MayLeave};
@@ -18,8 +18,7 @@ use crate::finishing::finish;
 use crate::laws::commits_hold;
 use crate::writing::write_prepared;
 use afl_outside::{Disk, Failed};
-use prepared_commits::Prepared;
-use store_state::StoreParts;
+use prepared_commits::{Prepared, StoreParts};
 
 /// Commits what is prepared: writes it, and then adds its entry. This takes no memory. Where the device fails, names and history stay as
 /// they are, and the change may be in doubt.
@@ -45,6 +44,7 @@ pub fn seal<D: Disk>(parts: &mut StoreParts<D>, prepared: Prepared) -> Result<u6
     ensures durable { OnOk result ((db : Database) → BeganAs (D.moment parts.old.opened.value.disk).state db
         → (image : List ℕ) → (D.moment parts.new.file.disk).may_leave image
         → Stands image (after (at db (history parts.old.ledger)) prepared.commit.change)) }
+    ensures same { DiskGoesOn (D.moment parts.old.file.disk).state (D.moment parts.new.file.disk).state }
     ensures cause { FailsWithCause result (D.moment parts.old.file.disk) (D.moment parts.new.file.disk) }
 {
     commits_hold::<D>();

@@ -23,7 +23,7 @@ use Rattle.event_core.specs.declared.state.Core.{Core}
 use Rattle.event_core.specs.Cells.{at}
 use Rattle.event_core.specs.History.{History, catalogue_at, open_pins, pages_at}
 use Rattle.event_core.specs.Legal.{IsLegal}
-use Rattle.next_files.specs.Premises.{StandsBy, slots_of, slots_with}
+use Rattle.found_rows.specs.Premises.{StandsBy, slots_of, slots_with}
 use Rattle.found_rows.specs.Rows.{directories_in, pages_in, pages_of_rows}
 use Rattle.store_versions.specs.Versions.{Directories, versions_at}
 use Rattle.store_state.specs.Standings.{Standing, base_of, current_slots, HaveStood, IsAttempt, StandsFor}

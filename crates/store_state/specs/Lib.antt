@@ -1,3 +1,9 @@
+pub use Rattle.found_rows.specs.Changes
+pub use Rattle.found_rows.specs.Commits
+pub use Rattle.found_rows.specs.Costs
+pub use Rattle.found_rows.specs.Laid
+pub use Rattle.found_rows.specs.Versions
+pub use Rattle.found_rows.specs.Written
 pub mod At
 pub mod Calls
 pub mod Cells

@@ -20,7 +20,7 @@ use Rattle.commit_pages.specs.Commits.{record_laid, base_laid}
 use Rattle.commit_pages.specs.Versions.{draft, draft_of, settled, placed, blob_at, directory_of, directory_bytes, version_in, new_version}
 use Rattle.store_versions.specs.declared.ready.ReadyVersion.{ReadyVersion}
 use Rattle.store_versions.specs.Rows.{directory_in}
-use Rattle.store_state.specs.Inner.Keeping.{IsDirectoryOf}
+use Rattle.prepared_commits.specs.Keeping.{IsDirectoryOf}
 use Rattle.store_steps.proofs.Schemas.{IsMadeIn, IsNew}
 
 -- ---- the version

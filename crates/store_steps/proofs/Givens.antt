@@ -12,7 +12,7 @@ use Rattle.event_core.specs.Bases.{commits}
 use Rattle.event_core.specs.History.{History}
 use Rattle.store_versions.specs.Laws.{with_made}
 use Rattle.store_versions.specs.Versions.{MadeVersion, Directories}
-use Rattle.store_state.specs.Standings.{commit_places, made_at}
+use Rattle.prepared_commits.specs.Standings.{commit_places, made_at}
 
 -- ---- the places of commits
 

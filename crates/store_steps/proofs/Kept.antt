@@ -22,9 +22,9 @@ use Rattle.store_ledger.specs.Ledger.{history}
 use Rattle.store_ledger.proofs.Pins.{one_more}
 use Rattle.store_versions.specs.Laws.{with_made}
 use Rattle.store_versions.specs.Versions.{Directories}
-use Rattle.store_state.specs.Standings.{Standing, base_of, given_of, commit_places}
-use Rattle.store_state.specs.Kept.{IsKept, AreSlots}
-use Rattle.store_state.specs.Inner.Keeping.{Keeping}
+use Rattle.prepared_commits.specs.Standings.{Standing, base_of, given_of, commit_places}
+use Rattle.prepared_commits.specs.Kept.{IsKept, AreSlots}
+use Rattle.prepared_commits.specs.Keeping.{Keeping}
 use Rattle.prepared_commits.specs.declared.prepared.NewBase.{NewBase}
 use Rattle.prepared_commits.specs.declared.prepared.Prepared.{Prepared}
 use Rattle.prepared_commits.specs.Needs.{IsLaidBy, newest_now, next_sequence}

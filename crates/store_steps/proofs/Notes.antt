@@ -9,11 +9,11 @@ use Rattle.store_ledger.specs.declared.note.Note.{Note}
 use Rattle.store_ledger.specs.declared.note.NoteKind.TheVariants.{Fault}
 use Rattle.store_ledger.specs.Ledger.{LedgerState, history, is_noted, note_now, with_notes, is_fault}
 use Rattle.store_versions.specs.Versions.{Directories}
-use Rattle.store_state.specs.Calls.{NotesFault}
-use Rattle.store_state.specs.Standings.{Standing, given_of}
-use Rattle.store_state.specs.Kept.{IsKept}
-use Rattle.store_state.specs.Inner.Keeping.{Keeping, tried_if_committed, AreCounted}
-use Rattle.store_state.proofs.AtOn.{counted_later, counted_more, tried_on}
+use Rattle.prepared_commits.specs.Calls.{NotesFault}
+use Rattle.prepared_commits.specs.Standings.{Standing, given_of}
+use Rattle.prepared_commits.specs.Kept.{IsKept}
+use Rattle.prepared_commits.specs.Keeping.{Keeping, tried_if_committed, AreCounted}
+use Rattle.prepared_commits.proofs.AtOn.{counted_later, counted_more, tried_on}
 
 -- with another disk, and other notes
 kept_with : {D : Type 0} (moment : D → Moment) (s : Standing D) (k : Keeping) (h : History) (given : Directories) (disk : D) (notes : List Note) → IsKept moment s k h given →

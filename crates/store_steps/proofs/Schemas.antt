@@ -26,8 +26,8 @@ use Rattle.event_core.specs.History.{is_pages_of, pages_after}
 use Rattle.event_core.proofs.Tests.{none_weaker}
 use Rattle.store_versions.specs.Versions.{MadeVersion, HaveDirectories, is_of, is_numbered, versions_after}
 use Rattle.store_versions.proofs.Seen.{all_two}
-use Rattle.store_state.specs.Inner.Keeping.{IsDirectoryOf, HasItsPages}
-use Rattle.store_state.proofs.Lists.{all_push, all_filter}
+use Rattle.prepared_commits.specs.Keeping.{IsDirectoryOf, HasItsPages}
+use Rattle.prepared_commits.proofs.Lists.{all_push, all_filter}
 use Rattle.store_steps.proofs.Lists.{zip_push, zip_filter}
 
 -- R holds of a version's directory and its array's schema, if an array has its name

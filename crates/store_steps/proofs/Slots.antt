@@ -25,9 +25,9 @@ use Rattle.event_core.specs.declared.entry.Used.{Used}
 use Rattle.event_core.specs.declared.entry.Entry.TheVariants.{Commit}
 use Rattle.event_core.specs.Bases.{Base, next_records, records_at, sequence_at}
 use Rattle.event_core.specs.History.{History, catalogue_at}
-use Rattle.store_state.specs.Standings.{records_in}
-use Rattle.store_state.specs.Kept.{AreSlots}
-use Rattle.store_state.specs.Inner.Keeping.{is_opening, is_opening_root, is_opening_entry}
+use Rattle.prepared_commits.specs.Standings.{records_in}
+use Rattle.prepared_commits.specs.Kept.{AreSlots}
+use Rattle.prepared_commits.specs.Keeping.{is_opening, is_opening_root, is_opening_entry}
 use Rattle.prepared_commits.specs.declared.prepared.NewBase.{NewBase}
 use Rattle.store_steps.specs.Steps.{sealed_slots, stopped_slots, doubt_after}
 

@@ -3,9 +3,9 @@ use Rattle.afl_outside.specs.Disk.{Moment}
 use Rattle.page_slots.specs.declared.slots.Slots.{Slots}
 use Rattle.commit_writes.specs.declared.stopped.Stopped.{Stopped}
 use Rattle.store_ledger.specs.Ledger.{history}
-use Rattle.store_state.specs.Standings.{Standing, base_of, given_of}
-use Rattle.store_state.specs.Kept.{IsKept}
-use Rattle.store_state.specs.Inner.Keeping.{Keeping}
+use Rattle.prepared_commits.specs.Standings.{Standing, base_of, given_of}
+use Rattle.prepared_commits.specs.Kept.{IsKept}
+use Rattle.prepared_commits.specs.Keeping.{Keeping}
 use Rattle.prepared_commits.specs.declared.prepared.Prepared.{Prepared}
 use Rattle.store_steps.specs.Laws.{IsReady, StoppedStoresAreKept}
 use Rattle.store_steps.specs.Steps.{doubt_after, stopped_keeping}

@@ -14,7 +14,7 @@ use Rattle.event_laws.specs.Pins.{pins_of}
 use Rattle.event_laws.proofs.Pins.{open_pins_are_these}
 use Rattle.store_ledger.specs.declared.note.Note.{Note}
 use Rattle.store_ledger.specs.Ledger.{has_note, has_under, is_tried}
-use Rattle.store_state.specs.Inner.Keeping.{tried_if_committed}
+use Rattle.prepared_commits.specs.Keeping.{tried_if_committed}
 
 -- one test of the items that are chosen, another of the rest
 both_pass : {A : Type 0} (t n p q : A → Bool) → ((x : A) → t x ≡ true → n x ≡ true → q x ≡ true) → ((x : A) → t x ≡ false → p x ≡ true → q x ≡ true) →

@@ -27,8 +27,8 @@ use Rattle.store_versions.specs.Versions.{Directories, HaveDirectories, MadeVers
 use Rattle.store_versions.proofs.Given.{later_directories_are_free}
 use Rattle.store_versions.proofs.Made.{named_versions_have_directories}
 use Rattle.store_versions.proofs.Seen.{all_two, tables_follow_entries, forgetting_is_seen}
-use Rattle.store_state.specs.Kept.{AreVersions}
-use Rattle.store_state.specs.Inner.Keeping.{AreDirectoriesOf, HasItsPages, IsDirectoryOf}
+use Rattle.prepared_commits.specs.Kept.{AreVersions}
+use Rattle.prepared_commits.specs.Keeping.{AreDirectoriesOf, HasItsPages, IsDirectoryOf}
 use Rattle.store_steps.proofs.Schemas.{IsNew, made_so, suit_after, pages_after_change}
 
 module _ (follow : OrdersFollow) (base : Core) (given : Directories) (h : History) (rows : List VersionRow) (catalog : Catalog)

@@ -8,10 +8,10 @@ use Rattle.file_laws.proofs.Worked.{file_stands}
 use Rattle.event_core.specs.declared.entry.Entry.TheVariants.{Pin}
 use Rattle.commit_pages.specs.Commits.{record_laid, record_needs}
 use Rattle.store_ledger.specs.Ledger.{attempt, history}
-use Rattle.store_state.specs.Standings.{given_of}
-use Rattle.store_state.specs.Kept.{IsKept}
-use Rattle.store_state.specs.Worked.{worked_keeping, worked_moment, worked_store}
-use Rattle.store_state.proofs.KeptOn.{kept_pin}
+use Rattle.prepared_commits.specs.Standings.{given_of}
+use Rattle.prepared_commits.specs.Kept.{IsKept}
+use Rattle.prepared_commits.specs.Worked.{worked_keeping, worked_moment, worked_store}
+use Rattle.prepared_commits.proofs.KeptOn.{kept_pin}
 use Rattle.prepared_commits.specs.Prepared.{IsAsked, IsLaid, MayCome}
 use Rattle.store_steps.specs.Laws.{IsReady}
 use Rattle.store_steps.specs.Worked.{pinned_store, prepared_removal, removal, removal_laid}

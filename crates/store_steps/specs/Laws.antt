@@ -6,10 +6,10 @@ use Rattle.page_slots.specs.declared.slots.Slots.{Slots}
 use Rattle.commit_writes.specs.declared.stopped.Stopped.{Stopped}
 use Rattle.commit_pages.specs.declared.laid.Laid.{Laid}
 use Rattle.store_ledger.specs.Ledger.{LedgerState, history}
-use Rattle.store_state.specs.Calls.{NotesFault}
-use Rattle.store_state.specs.Standings.{Standing, given_of}
-use Rattle.store_state.specs.Kept.{IsKept}
-use Rattle.store_state.specs.Inner.Keeping.{Keeping}
+use Rattle.prepared_commits.specs.Calls.{NotesFault}
+use Rattle.prepared_commits.specs.Standings.{Standing, given_of}
+use Rattle.prepared_commits.specs.Kept.{IsKept}
+use Rattle.prepared_commits.specs.Keeping.{Keeping}
 use Rattle.prepared_commits.specs.declared.prepared.Prepared.{Prepared}
 use Rattle.prepared_commits.specs.Prepared.{IsAsked, IsLaid, MayCome}
 use Rattle.store_steps.specs.Steps.{sealed, sealed_keeping, sealed_ledger, stopped, stopped_keeping}

@@ -17,8 +17,8 @@ use Rattle.event_core.specs.declared.entry.Entry.TheVariants.{Commit}
 use Rattle.event_core.specs.History.{names_at}
 use Rattle.store_ledger.specs.Ledger.{LedgerState, history, with_entries}
 use Rattle.store_versions.specs.Rows.{directory_in, needed_rows, places_at, rows_after}
-use Rattle.store_state.specs.Standings.{Standing}
-use Rattle.store_state.specs.Inner.Keeping.{Keeping}
+use Rattle.prepared_commits.specs.Standings.{Standing}
+use Rattle.prepared_commits.specs.Keeping.{Keeping}
 use Rattle.prepared_commits.specs.declared.prepared.NewBase.{NewBase}
 use Rattle.prepared_commits.specs.declared.prepared.Prepared.{Prepared}
 

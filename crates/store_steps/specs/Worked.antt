@@ -7,8 +7,8 @@ use Rattle.event_core.specs.Replay.{core_at}
 use Rattle.commit_pages.specs.declared.laid.Laid.{Laid}
 use Rattle.commit_pages.specs.Commits.{record_laid}
 use Rattle.store_ledger.specs.Ledger.{attempt}
-use Rattle.store_state.specs.Standings.{Standing}
-use Rattle.store_state.specs.Worked.{worked_base, worked_catalog, worked_directory, worked_store}
+use Rattle.prepared_commits.specs.Standings.{Standing}
+use Rattle.prepared_commits.specs.Worked.{worked_base, worked_catalog, worked_directory, worked_store}
 use Rattle.prepared_commits.specs.declared.prepared.Prepared.{Prepared}
 
 abbrev pub removal : Change

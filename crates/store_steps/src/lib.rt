@@ -1,13 +1,13 @@
 //! What a store keeps over a commit that is sealed, or stops. No code has to be run for it.
 #![tactic(auto)]
 
-ghost use Rattle.store_state.specs.Worked.{worked_keeping, worked_moment};
+ghost use Rattle.prepared_commits.specs.Worked.{worked_keeping, worked_moment};
 ghost use Rattle.store_steps.specs.Laws.{IsReady, SealedStoresAreKept, StoppedStoresAreKept};
 ghost use Rattle.store_steps.specs.Worked.{pinned_store, prepared_removal};
 
 use afl_outside::Disk;
 use found_rows::directories_follow;
-use store_state::a_store_is_kept;
+use prepared_commits::a_store_is_kept;
 
 /// A store keeps what it keeps over a commit that is sealed.
 pub fn sealed_stores_are_kept<D: Disk>()

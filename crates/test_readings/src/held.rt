@@ -2,13 +2,12 @@
 ghost use Rattle.test_stores.specs.Holds.{HasNoPins};
 
 use crate::versions::whole;
-use array_store::Store;
 use cell_values::{Bytes, Memory};
 use std::alloc::Global;
 use store_opening::Limits;
 use store_state::ReadFault;
 use test_disks::QuietDisk;
-use test_stores::{Answer, once, opened};
+use test_stores::{Answer, Store, once, opened};
 
 fn answered(alloc: Global, disk: QuietDisk, limits: Limits, change: &[u8]) -> Answer {
     match opened(alloc, disk, limits) {

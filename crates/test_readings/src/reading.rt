@@ -10,7 +10,6 @@ ghost use Rattle.test_stores.specs.Holds.{LeavesAll};
 
 use afl_outside::Disk;
 use array_geom::{Chunk, ChunkedArray, margins_of};
-use array_store::Store;
 use cell_values::{Bytes, List, Memory, Name, Row};
 use chunk_cells::into_rows;
 use logical_plan::{Leaf, NameEntry, Names};
@@ -19,6 +18,7 @@ use result_print::dcsv;
 use std::alloc::Global;
 use store_ledger::Pinned;
 use store_state::ReadFault;
+use test_stores::Store;
 
 fn is_among(versions: &List<u32>, version: u32) -> bool
     ensures { result ≡ list_any (λ v. nat_eq v version) versions.now }

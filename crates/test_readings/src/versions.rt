@@ -5,12 +5,12 @@ ghost use Rattle.test_stores.specs.Holds.{HasNoPins};
 
 use crate::reading::{cells, leaf_of};
 use afl_outside::Disk;
-use array_store::Store;
 use cell_values::{Bytes, Memory};
 use logical_plan::NameEntry;
 use std::alloc::Global;
 use store_ledger::{PinFault, Pinned};
 use store_state::ReadFault;
+use test_stores::Store;
 
 fn or_memory(added: Result<(), Memory>) -> Result<(), ReadFault> {
     match added {

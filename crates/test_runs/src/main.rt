@@ -16,6 +16,8 @@ use afl_run::{Arg, Report, SessionEnd, notice_line, run};
 use anyhow::Result;
 use std::io::BufRead;
 use std::str::from_utf8;
+use std::sync::Wait;
+use std::thread::Threads;
 use streams::{device_of, shelf_of};
 use test_kit::text_of;
 
@@ -77,7 +79,7 @@ fn tell(rt: &(impl Print + AllocGlobal), report: &Report<MemShelf>) -> Result<()
 
 /// Runs `try` over a script, where the listed reads and writes fail.
 fn tell_script(
-    rt: &(impl Print + AllocGlobal),
+    rt: &(impl Print + AllocGlobal + Threads + Wait + Sync),
     text: &[u8],
     reads: &[u64],
     writes: &[u64],
@@ -86,29 +88,33 @@ fn tell_script(
     let script = text_of(alloc, text)?;
     let shelf = shelf_of(alloc, script.as_slice(), reads, writes)?;
     let words = [Arg::new(String::from_str(alloc, "try")?)];
-    tell(rt, &run(alloc, &words, shelf, &OpenGate))
+    tell(rt, &run(rt, alloc, &words, shelf, &OpenGate))
 }
 
 /// Runs these words over an empty script.
-fn tell_words(rt: &(impl Print + AllocGlobal), text: &[u8]) -> Result<()> {
+fn tell_words(rt: &(impl Print + AllocGlobal + Threads + Wait + Sync), text: &[u8]) -> Result<()> {
     let alloc = rt.alloc();
     let mut words = Vec::new(alloc);
     for word in from_utf8(text).unwrap_or("").split_whitespace() {
         words.push(Arg::new(String::from_str(alloc, word)?))?;
     }
     let shelf = shelf_of(alloc, b"", &[], &[])?;
-    tell(rt, &run(alloc, words.as_slice(), shelf, &OpenGate))
+    tell(rt, &run(rt, alloc, words.as_slice(), shelf, &OpenGate))
 }
 
 /// Runs `init db` over a device of so many zero bytes, whose listed calls fail.
-fn tell_device(rt: &(impl Print + AllocGlobal), length: usize, fails: &[u64]) -> Result<()> {
+fn tell_device(
+    rt: &(impl Print + AllocGlobal + Threads + Wait + Sync),
+    length: usize,
+    fails: &[u64],
+) -> Result<()> {
     let alloc = rt.alloc();
     let shelf = device_of(alloc, length, fails)?;
     let words = [
         Arg::new(String::from_str(alloc, "init")?),
         Arg::new(String::from_str(alloc, "db")?),
     ];
-    tell(rt, &run(alloc, &words, shelf, &OpenGate))
+    tell(rt, &run(rt, alloc, &words, shelf, &OpenGate))
 }
 
 fn number_of(text: &[u8]) -> u16 {
@@ -116,7 +122,7 @@ fn number_of(text: &[u8]) -> u16 {
 }
 
 /// Prints a title, or a line and what its run comes to.
-fn answer(rt: &(impl Print + AllocGlobal), line: &[u8]) -> Result<()> {
+fn answer(rt: &(impl Print + AllocGlobal + Threads + Wait + Sync), line: &[u8]) -> Result<()> {
     if let [b'#', b'#', ..] = line {
         println!(rt; "{}", from_utf8(line).unwrap_or("##"))?;
         return Ok(());

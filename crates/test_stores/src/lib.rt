@@ -11,6 +11,7 @@ mod pins;
 mod statements;
 
 pub use answers::Answer;
+pub use array_store::Store;
 pub use changes::{Offer, offer_over};
 pub use commits::{changed, once};
 pub use holds::Hold;

@@ -3,6 +3,7 @@ pub use Rattle.store_commits.specs.Causes
 pub use Rattle.store_commits.specs.Growth
 pub use Rattle.store_commits.specs.Start
 pub use Rattle.store_commits.specs.Starts
+pub use Rattle.store_commits.specs.Store
 pub use Rattle.store_commits.specs.Tried
 pub use Rattle.store_commits.specs.declared.fault.CommitFault
 pub mod Databases

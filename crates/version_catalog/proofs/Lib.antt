@@ -1,3 +1,9 @@
+pub use Rattle.plan_changes.proofs.FitLaws
+pub use Rattle.plan_changes.proofs.Found
+pub use Rattle.plan_changes.proofs.Maps
+pub use Rattle.plan_changes.proofs.NamesOf
+pub use Rattle.plan_changes.proofs.Stays
+pub use Rattle.plan_changes.proofs.StoredLaws
 pub mod Arrays
 pub mod Last
 pub mod Laws

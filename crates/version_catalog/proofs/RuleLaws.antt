@@ -4,7 +4,7 @@ use Rattle.std.specs.List.{AllByRecursion}
 use Rattle.std.proofs.lemmas.Bool.{and_parts, and_from, ltb-true, lt-ltb, leb-true, le-leb}
 use Rattle.file_items.specs.Items.{Are}
 use Rattle.file_items.proofs.BytesLaws.{AreBytes, whole_takes, whole_again}
-use Rattle.logical_plan.specs.declared.names.NameEntry.{NameEntry}
+use Rattle.plan_changes.specs.NameEntry.{NameEntry}
 use Rattle.file_items.proofs.PagesLaws.{lie_in, has_bytes, has_pages}
 use Rattle.plan_changes.specs.Stored.{NamesRise, RiseBetween, IsStored}
 use Rattle.file_items.proofs.Rules.{spelled_name, is_spelled, are_passed}

@@ -2,7 +2,7 @@
 use Rattle.std.specs.Prelude.{◌≡◌, ◌<◌, ◌^◌, map, length}
 use Rattle.std.specs.List.{AllByRecursion}
 use Rattle.cell_values.specs.Naming.{IsName}
-use Rattle.logical_plan.specs.declared.names.Names.{Names}
+use Rattle.plan_changes.specs.Names.{Names}
 use Rattle.file_items.specs.Pages.{LieIn}
 use Rattle.plan_changes.specs.Stored.{AreStored}
 use Rattle.file_items.specs.Spelling.{IsSpelled}

@@ -3,8 +3,8 @@ use Rattle.std.specs.Prelude.{◌≡◌, ◌≢◌, ℕ, List, length, Some, IfS
 use Rattle.afl_outside.specs.Counts.{Rose}
 use Rattle.afl_outside.specs.Disk.{Moment, Only}
 use Rattle.page_file.specs.Start.{IsEmptyDatabase}
-use Rattle.afl_run.specs.declared.report.Notice.{Notice}
-use Rattle.afl_run.specs.declared.report.Notice.TheVariants.{Done, Disk, Memory, NotEmpty}
+use Rattle.session_reports.specs.declared.notices.Notice.{Notice}
+use Rattle.session_reports.specs.declared.notices.Notice.TheVariants.{Done, Disk, Memory, NotEmpty}
 
 -- from one moment of a disk to another it was made a database, or not, for the reason that the notice tells
 abbrev pub Makes : Notice → Moment → Moment → Type 0
@@ -14,3 +14,10 @@ Makes Disk old new = Rose old.state.faults new.state.faults
 Makes Memory old new = Rose old.state.wants new.state.wants
 Makes (NotEmpty count) old new = IfSome old.state.seen (λ seen. (count ≡ length seen) × (count ≢ 0)) × (new.state.seen ≡ old.state.seen)
 Makes _ old new = ⊥
+
+-- an honest disk that holds the file of an empty database, and whose count has not risen
+pub record IsEmpty (disk : Moment) : Type 0 where
+  pub honest : IsTrue disk.state.honest
+  pub file : List ℕ
+  pub read : disk.state.seen ≡ Some file
+  pub form : IsEmptyDatabase file

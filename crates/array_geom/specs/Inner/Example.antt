@@ -1,8 +1,8 @@
 -- Places from -1 to 2 and from 0 to 4, in chunks of two and three.
 use Rattle.std.specs.Prelude.{ℕ, ℤ, pos, negsuc, true, List, [], ◌∷◌, codes}
-use Rattle.cell_values.specs.declared.schema.Dimension.{Dimension}
-use Rattle.cell_values.specs.declared.schema.Kind.TheVariants.{Int64}
-use Rattle.cell_values.specs.declared.schema.Schema.{Schema}
+use Rattle.array_rows.specs.Dimension.{Dimension}
+use Rattle.array_rows.specs.Kind.TheVariants.{Int64}
+use Rattle.array_rows.specs.Schema.{Schema}
 
 abbrev pub dimension : List ℕ → ℤ → ℤ → ℕ → ℕ → Dimension
 dimension name lo hi chunk overlap = record { name = name; lo = lo; hi = hi; chunk = chunk; overlap = overlap }

@@ -1,7 +1,7 @@
 -- Numbers that stay in 64 bits: what a valid schema gives, dimension by dimension, and what a box with places asks for.
 use Rattle.std.specs.Prelude.{◌≡◌, ℕ, ◌+◌, ◌-◌, ◌*◌, ◌<◌, ◌≤◌, ◌^◌, ℤ, pos, negsuc, ◌≤ℤ◌, ◌+ℤ◌, int_le, int_lt, Bool, true, false, ◌&&◌, List, [], ◌∷◌, length, ⊤}
 use Rattle.std.specs.List.{AllByRecursion}
-use Rattle.cell_values.specs.declared.schema.Dimension.{Dimension}
+use Rattle.array_rows.specs.Dimension.{Dimension}
 use Rattle.array_geom.specs.declared.grid.Grid.{Grid}
 use Rattle.array_rows.specs.Rows.{Coordinate}
 use Rattle.array_geom.specs.Geometry.{volume}

@@ -1,14 +1,13 @@
 //! The rules of the schema that an operator makes.
 ghost use Rattle.std.specs.Prelude.{◌≡◌, ◌^◌, ◌-◌, min, nat_le, length, Ok, IfOk};
 ghost use Rattle.cell_values.specs.Schemas.{frame_fits, frame_length, frame_size};
-ghost use Rattle.logical_plan.specs.PlanSchema.{schema_of};
+ghost use Rattle.plan_schemas.specs.PlanSchema.{schema_of};
 ghost use Rattle.check_rules.specs.Checked.{Answers};
 ghost use Rattle.check_rules.specs.NewSchema.{by_new_schema, of_new_schema};
 
 use crate::rules::{TypeFault, broken};
 use cell_values::{Attribute, Dimension, Memory, Schema, Span};
-use logical_plan::{Plan, let_go};
-use plan_schemas::schema_of;
+use plan_schemas::{Plan, let_go, schema_of};
 use schema_grammar::TypeKind;
 use std::alloc::Global;
 

@@ -10,9 +10,9 @@ use Rattle.plan_changes.specs.Databases.{after}
 use Rattle.version_catalog.specs.declared.rules.catalog.CatalogArray.{CatalogArray}
 use Rattle.version_catalog.specs.declared.rules.catalog_record.CatalogRecord.{CatalogRecord}
 use Rattle.version_catalog.specs.declared.rules.catalog_record.CatalogRecord.TheVariants.{Next}
-use Rattle.file_meaning.specs.Slots.{Slots}
-use Rattle.file_meaning.specs.Standing.{Stands}
-use Rattle.file_meaning.specs.declared.found.Found.{Found}
+use Rattle.file_laws.specs.Slots.{Slots}
+use Rattle.file_laws.specs.Standing.{Stands}
+use Rattle.file_laws.specs.Found.{Found}
 use Rattle.file_laws.specs.Inner.Example.{schema, database, eight, four, zeros, front, catalog_bytes, directory_bytes, payload_bytes, file}
 use Rattle.next_files.specs.Next.{Made}
 use Rattle.next_files.specs.Premises.{StandsBy, MayChange, HoldsRecord}

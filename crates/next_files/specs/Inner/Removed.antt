@@ -2,7 +2,7 @@
 use Rattle.std.specs.Prelude.{ℕ, List, [], ◌∷◌, ◌++◌, codes, None}
 use Rattle.plan_changes.specs.declared.change.Change.{Change}
 use Rattle.plan_changes.specs.declared.change.Change.TheVariants.{Remove}
-use Rattle.file_meaning.specs.Standing.{Stands}
+use Rattle.file_laws.specs.Standing.{Stands}
 use Rattle.file_laws.specs.Inner.Example.{database, eight, four, zeros, catalog_bytes, file}
 use Rattle.next_files.specs.Inner.Example.{stored, found, slots}
 use Rattle.next_files.specs.Premises.{StandsBy, MayChange, HoldsBase}

@@ -1,11 +1,11 @@
 //! The names that a change has.
 ghost use Rattle.std.specs.List.{AllByRecursion};
-ghost use Rattle.cell_values.specs.Naming.{IsName};
-ghost use Rattle.cell_values.specs.Schemas.{attribute_names, dimension_names};
+ghost use Rattle.expr_nulls.specs.Naming.{IsName};
+ghost use Rattle.expr_nulls.specs.Schemas.{attribute_names, dimension_names};
 ghost use Rattle.plan_changes.specs.Stored.{HasItsNames, HasNames};
 
 use crate::Change;
-use cell_values::{Attribute, Dimension, Name, Schema};
+use expr_nulls::{Attribute, Dimension, Name, Schema};
 
 /// A name is one.
 fn is_a_name(name: &Name)

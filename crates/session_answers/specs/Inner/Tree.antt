@@ -1,13 +1,14 @@
 -- What a session does for a statement that has a tree.
-use Rattle.std.specs.Prelude.{◌≡◌, ◌≤◌, ℕ, List, length}
+use Rattle.std.specs.Prelude.{◌≡◌, ◌≤◌, ℕ, List, length, Some}
 use Rattle.afl_outside.specs.Disk.{Moment}
 use Rattle.afl_trees.specs.Term.{Term}
+use Rattle.result_print.specs.declared.refusal.Refusal.TheVariants.{HistoryFull}
 use Rattle.store_state.specs.declared.event.Event.{Event}
 use Rattle.session_turns.specs.Start.{Start}
 use Rattle.session_turns.specs.Told.{entries_in}
 use Rattle.session_turns.specs.Courses.{AddsOwn}
 use Rattle.session_turns.specs.Acts.{acts_for, acts_in, Course}
-use Rattle.session_turns.specs.Replies.{HasLine, IsToldFor}
+use Rattle.session_turns.specs.Replies.{HadNoRoom, HasLine, IsToldFor}
 use Rattle.session_answers.specs.Answered.{BeganAt}
 use Rattle.session_turns.specs.Reply.{Reply}
 
@@ -23,4 +24,5 @@ pub record IsAnsweredTree {D : Type 0} (moment : D → Moment) (start : Start D)
   pub line : HasLine reply reply.refusal
   pub later : length (entries_in old) ≤ reply.place
   pub until : reply.place ≤ length (entries_in new)
+  pub full : reply.refusal ≡ Some HistoryFull → HadNoRoom start old new reply.place
   pub told : IsToldFor moment start session pin new own text tree reply reply.refusal course

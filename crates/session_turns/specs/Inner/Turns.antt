@@ -1,5 +1,5 @@
 -- How a statement goes in a turn, from the store as it was found to the one that is handed back.
-use Rattle.std.specs.Prelude.{◌≡◌, ◌+◌, ◌<◌, ℕ, List, [], length, Option, Some, Result, Ok, Err, IfOk, IfErr, OnOk, OnErr}
+use Rattle.std.specs.Prelude.{◌≡◌, ◌+◌, ◌-◌, ◌^◌, ◌<◌, ℕ, List, [], length, Option, Some, Result, Ok, Err, IfOk, IfErr, OnOk, OnErr}
 use Rattle.afl_outside.specs.Disk.{Moment}
 use Rattle.afl_trees.specs.Term.{Term}
 use Rattle.array_geom.specs.declared.chunk.Changed.{Changed}
@@ -7,16 +7,20 @@ use Rattle.chunk_source.specs.declared.reading.fault.ExecFault.{ExecFault}
 use Rattle.chunk_source.specs.declared.reading.fault.ExecFault.TheVariants.{Source, Damaged, Memory}
 use Rattle.plan_changes.specs.declared.change.Change.{Change}
 use Rattle.statement_answers.specs.declared.outcome.Outcome.{Outcome}
+use Rattle.afl_types.specs.Checking.{check_of}
 use Rattle.statement_answers.specs.declared.outcome.Outcome.TheVariants.{Replied, Changes}
+use Rattle.statement_answers.specs.Outcomes.{MayFail}
 use Rattle.statement_replies.specs.declared.replies.Reply.{Reply as Told}
 use Rattle.session_sources.specs.Owners.{ExtendsByOwn}
 use Rattle.session_sources.specs.Turn.{Turn}
 use Rattle.store_state.specs.declared.parts.StoreParts.{StoreParts}
 use Rattle.store_state.specs.At.{standing}
+use Rattle.event_core.specs.Bases.{sequence_at}
+use Rattle.store_state.specs.Calls.{history_at}
 use Rattle.store_state.specs.Events.{events, owner_of}
-use Rattle.store_state.specs.Standings.{Standing}
+use Rattle.store_state.specs.Standings.{base_of, Standing}
 use Rattle.session_sources.specs.Tried.{AddsSealed, AddsTried}
-use Rattle.session_sources.specs.Causes.{IsUncommitted}
+use Rattle.session_sources.specs.Causes.{FitsAfter, IsUncommitted}
 use Rattle.session_sources.specs.CommitFault.{CommitFault}
 use Rattle.session_sources.specs.Starts.{start_of}
 use Rattle.session_sources.specs.Seat.{Seat}
@@ -51,6 +55,7 @@ pub record IsRead {D : Type 0} (moment : D → Moment) (session : ℕ) (old new 
   pub held : HasHeld moment (holding_of session old new marks)
   pub comes : IfOk outcome (ComesOver (names_now (store_of old).ledger) (held_state moment (unheld session old)) text tree)
   pub why : IfErr outcome (IsWhy marks)
+  pub allowed : IfErr outcome (λ fault. MayFail fault (check_of tree text (names_now (store_of old).ledger)))
 
 -- the reply to a commit that was tried, when so many entries were seen then
 abbrev pub TellsCommit : ℕ → Told → Result ℕ CommitFault → Reply → Type 0
@@ -62,6 +67,8 @@ pub record IsTried {D : Type 0} (moment : D → Moment) (session : ℕ) (change 
   pub answer : Result ℕ CommitFault
   pub done : OnOk answer (AddsSealed session change old new)
   pub place : IfOk answer (λ place. place + 1 ≡ length new.ledger.entries)
+  pub next : IfOk answer (λ place. sequence_at (base_of new) (history_at new place) < 2 ^ 64 - 1)
+  pub fits : IfOk answer (λ place. FitsAfter moment new (history_at new place) change)
   pub err : OnErr answer (AddsTried session change [] old new)
   pub cause : IfErr answer (IsUncommitted moment session change new)
   pub tells : TellsCommit (length new.ledger.entries) words answer reply

@@ -9,7 +9,7 @@ ghost use Rattle.version_catalog.specs.Table.{blob_at, is_version, version_at, n
 use crate::rules::{BlobAt, Catalog, CatalogArray};
 use cell_values::{List, Name};
 use file_items::{Stop, name, pages, positive, schema, u32_at};
-use logical_plan::NameEntry;
+use plan_changes::NameEntry;
 use std::alloc::Global;
 
 /// Some bytes of the file.

@@ -2,7 +2,7 @@
 ghost use Rattle.std.specs.Prelude.{◌≡◌, IfOk};
 
 use cell_values::{Copies, List, Memory};
-use logical_plan::NameEntry;
+use plan_changes::NameEntry;
 
 /// Some bytes of the file.
 #[derive(Drop)]

@@ -1,88 +1,144 @@
-use Rattle.std.proofs.Common.{◌≡◌, ◌⊎◌, ℕ, length, List, Option, None, Some, IsSome, IfSome, inr, refl, sym, ◌∙◌, ap, subst}
-use Rattle.afl_outside.specs.Counts.{Rose}
-use Rattle.afl_outside.specs.Shelf.{LeavesOthers}
-use Rattle.afl_run.specs.Answered.{IsAnswered}
-use Rattle.afl_run.specs.Init.{IsOpenedDevice, TellsNoDevice, notice_by, opened}
-use Rattle.afl_run.specs.Notice.{notice_of}
-use Rattle.afl_run.specs.Run.{IsOpenedAs, Prints, standard}
-use Rattle.afl_run.specs.Words.{device_of, wrong_word}
-use Rattle.afl_run.specs.declared.report.Notice.{Notice}
-use Rattle.afl_run.specs.declared.report.Notice.TheVariants.{Memory}
-use Rattle.afl_run.proofs.MakingLemmas.{IsOfInit, handed_devices, handed_sessions, has_device, has_form, is_by_bytes, is_named, is_of_init, none_opened}
-use Rattle.afl_run.proofs.Reports.{IsOfSession, all_of_none, is_complete, is_done, is_of_session, is_refused, is_stream, session_told, untold}
+use Rattle.std.proofs.Common.{◌≡◌, ◌≢◌, ◌≤◌, ℕ, List, length, All, Some, Ok, refl, sym, ◌∙◌, ap, subst}
+use Rattle.afl_outside.specs.Shelf.{ShelfState}
+use Rattle.command_words.specs.declared.forms.Form.TheVariants.{Try, Init, Run}
+use Rattle.command_words.specs.Faults.{IsFault}
+use Rattle.command_words.specs.Forms.{IsForm}
+use Rattle.command_words.proofs.Answering.{one_place}
+use Rattle.run_opening.specs.Names.{HaveOwnNames, Word, stream_names}
+use Rattle.session_reports.specs.declared.notices.Notice.TheVariants.{Usage}
+use Rattle.afl_run.specs.Run.{MakesDatabase, RunsScripts}
+use Rattle.afl_run.proofs.FormLemmas.{apart_from_device, device_within, init_or_run, init_or_try, init_tells, init_within, names_apart, run_or_init, run_or_try, runs_as, same_init, scripts_tell, scripts_within, some_scripts, try_or_init, try_or_run, try_tells, usage_place}
 use Rattle.afl_run.proofs.top.run.Goals as goal
 
-pub returns-in-Some-device_word : goal.returns-in-Some-device_word
-returns-in-Some-device_word g c =
-    let r = c.run_init.result in
-    let e = c.run_init.ensures in
-    let old = g.F.Shelf.state c.args.shelf in
-    let new = g.F.Shelf.state r.shelf in
-    let moment = g.F.Device.Disk.moment in
-    let asked = c.as_str.result.now in
-    let form : wrong_word c.args.words.now ≡ None = sym c.in-None.ensures in
-    let named : Some asked ≡ device_of c.args.words.now = ap Some c.as_str.ensures ∙ c.in-Some-device_word.ensures in
-    let of_init : IsOfInit r.notice = is_of_init moment r.disk r.notice asked old new e.init e.unopened in
-    record {
-      status = e.status;
-      usage = λ word. (λ is. absurd (subst IsOfInit is of_init), λ is. absurd (has_form _ word form is));
-      opened = all_of_none (λ r. IsOpenedAs standard old (g.F.S.Source.state r.source) (g.F.K.Sink.state r.sink)) r.sessions e.sessions;
-      prints = all_of_none (λ r. Prints IsAnswered (g.F.S.Source.state r.source) (g.F.K.Sink.state r.sink) r.marks r.end) r.sessions e.sessions;
-      session = all_of_none (λ s. r.notice ≡ notice_of s.end s.marks) r.sessions e.sessions;
-      done = λ is none. absurd (is_named _ _ named none);
-      refused = λ is. absurd (subst IsOfInit is of_init);
-      stream = λ session is. absurd (subst IsOfInit is of_init);
-      later = e.others.later;
-      handed = handed_devices old.handed (length r.sessions) (opened r.disk) new.handed (ap length e.sessions) e.handed;
-      untouched = λ word is. absurd (subst IsOfInit is of_init);
-      memory = λ is empty none. inr (subst (λ (n : Notice). TellsNoDevice n asked old new) is (e.unopened none));
-      complete = λ right none. absurd (is_named _ _ named none);
-      device = subst (λ (o : Option (List ℕ)). IfSome r.disk (λ disk. IfSome o (λ name. IsOpenedDevice name old (moment disk).state))) named e.device;
-      no_device = λ none. absurd (is_named _ _ named none);
-      no_stream = λ some. e.sessions;
-      others = λ right. subst (λ (o : Option (List ℕ)). IfSome o (λ name. LeavesOthers name old new)) named e.others;
-      init = e.init;
-      unopened = λ right none. subst (λ (o : Option (List ℕ)). IfSome o (λ name. TellsNoDevice r.notice name old new)) named (e.unopened none);
-      disk = λ is. subst (λ (o : Option (List ℕ)). IsSome o) named refl;
-      not_empty = λ count is. has_device r.disk r.notice asked old new count e.unopened is;
-      complete_init = λ right. subst (λ (o : Option (List ℕ)). IfSome o (λ name. IfSome (old.devices name) (λ bytes.
-          IfSome r.disk (λ disk. Rose 0 (moment disk).state.faults → ⊥) → (r.notice ≡ notice_by bytes) ⊎ (r.notice ≡ Memory)))) named
-          (is_by_bytes moment r.disk r.notice asked old new (old.devices asked) refl e.device e.init e.unopened);
-    }
+pub word_at-name-requires : goal.word_at-name-requires
+word_at-name-requires g c = init_within c.args.words.now c.in-Ok-Init.device ((c.form_of.ensures.form (Init c.in-Ok-Init.device)).0 (c.in-Ok-Init.is ∙ ap Ok c.in-Ok-Init.field-0-is))
 
-pub returns-in-None-device_word : goal.returns-in-None-device_word
-returns-in-None-device_word g c =
+pub word_at-target-requires : goal.word_at-target-requires
+word_at-target-requires g c =
+    let form = c.in-Ok-Run in
+    device_within c.args.words.now form.device form.pages form.history form.scripts ((c.form_of.ensures.form (Run form.device form.pages form.history form.scripts)).0 (form.is ∙ ap Ok form.field-0-is))
+
+pub words_from-listed-requires : goal.words_from-listed-requires
+words_from-listed-requires g c =
+    let form = c.in-Ok-Run in
+    scripts_within c.args.words.now form.device form.pages form.history form.scripts ((c.form_of.ensures.form (Run form.device form.pages form.history form.scripts)).0 (form.is ∙ ap Ok form.field-0-is))
+
+pub run_scripts-requires-clause-count : goal.run_scripts-requires-clause-count
+run_scripts-requires-clause-count g c κs within =
+    let words = c.args.words.now in
+    let form = c.in-Ok-Run in
+    let one : IsForm words (Run form.device form.pages form.history form.scripts) =
+    (c.form_of.ensures.form (Run form.device form.pages form.history form.scripts)).0 (form.is ∙ ap Ok form.field-0-is) in
+    subst (λ (scripts : List Word). (1 ≤ length scripts) × (length scripts ≤ 16)) (sym c.words_from-listed.ensures)
+    (some_scripts words form.device form.pages form.history form.scripts one)
+
+pub run_scripts-requires-clause-names : goal.run_scripts-requires-clause-names
+run_scripts-requires-clause-names g c κs within =
+    let words = c.args.words.now in
+    let form = c.in-Ok-Run in
+    let one : IsForm words (Run form.device form.pages form.history form.scripts) =
+    (c.form_of.ensures.form (Run form.device form.pages form.history form.scripts)).0 (form.is ∙ ap Ok form.field-0-is) in
+    subst (λ (scripts : List Word). HaveOwnNames scripts) (sym c.words_from-listed.ensures) (names_apart words form.device form.pages form.history form.scripts one)
+
+pub run_scripts-requires-clause-apart : goal.run_scripts-requires-clause-apart
+run_scripts-requires-clause-apart g c κs within =
+    let words = c.args.words.now in
+    let form = c.in-Ok-Run in
+    let one : IsForm words (Run form.device form.pages form.history form.scripts) =
+    (c.form_of.ensures.form (Run form.device form.pages form.history form.scripts)).0 (form.is ∙ ap Ok form.field-0-is) in
+    subst (λ (scripts : List Word). All (λ name. c.word_at-target.result.now ≢ name) (stream_names scripts)) (sym c.words_from-listed.ensures)
+    (apart_from_device words form.device form.pages form.history form.scripts one c.word_at-target.result.now c.word_at-target.ensures)
+
+pub returns-in-Ok-Try : goal.returns-in-Ok-Try
+returns-in-Ok-Try g c =
+    let state = g.F.Shelf.state in
+    let words = c.args.words.now in
+    let one : IsForm words Try = (c.form_of.ensures.form Try).0 (c.in-Ok-Try.is ∙ ap Ok c.in-Ok-Try.field-0-is) in
     let r = c.run_try.result in
     let e = c.run_try.ensures in
-    let old = g.F.Shelf.state c.args.shelf in
-    let new = g.F.Shelf.state r.shelf in
-    let moment = g.F.Device.Disk.moment in
-    let form : wrong_word c.args.words.now ≡ None = sym c.in-None.ensures in
-    let unnamed : None ≡ device_of c.args.words.now = c.in-None-device_word.ensures in
-    let of_session : IsOfSession r.notice = is_of_session (λ r. r.end) (λ r. r.marks) (λ r. g.F.S.Source.state r.source) (λ r. g.F.K.Sink.state r.sink) r.sessions r.notice old new e.notice in
+    let tells = try_tells _ g.F.S.Source.state g.F.K.Sink.state (state c.args.shelf) (state r.shelf) r.notice r.history r.free_pages r.sessions e.runs in
     record {
       status = e.status;
-      usage = λ word. (λ is. absurd (subst IsOfSession is of_session), λ is. absurd (has_form _ word form is));
-      opened = e.opened;
-      prints = e.prints;
-      session = session_told (λ r. r.end) (λ r. r.marks) (λ r. g.F.S.Source.state r.source) (λ r. g.F.K.Sink.state r.sink) r.sessions r.notice old new e.notice;
-      done = λ is none. is_done (λ r. r.end) (λ r. r.marks) (λ r. g.F.S.Source.state r.source) (λ r. g.F.K.Sink.state r.sink) r.sessions r.notice old new e.notice is;
-      refused = is_refused (λ r. r.end) (λ r. r.marks) (λ r. g.F.S.Source.state r.source) (λ r. g.F.K.Sink.state r.sink) r.sessions r.notice old new e.notice;
-      stream = is_stream (λ r. r.end) (λ r. r.marks) (λ r. g.F.S.Source.state r.source) (λ r. g.F.K.Sink.state r.sink) r.sessions r.notice old new e.notice;
-      later = e.later;
-      handed = handed_sessions old.handed (length r.sessions) (opened r.disk) new.handed (none_opened r.disk e.disk) e.handed;
-      untouched = λ word is. absurd (subst IsOfSession is of_session);
-      memory = λ is empty none. e.memory is empty;
-      complete = λ right none scripts replies calm. subst (λ (n : ℕ). (n ≡ 0) ⊎ ((n ≡ 1) ⊎ (n ≡ 5))) (sym e.status)
-          (is_complete (λ r. r.end) (λ r. r.marks) (λ r. g.F.S.Source.state r.source) (λ r. g.F.K.Sink.state r.sink) r.sessions r.notice old new e.notice e.prints scripts replies calm);
-      device = rw e.disk tt;
-      no_device = λ none. e.disk;
-      no_stream = λ some. absurd (untold (device_of c.args.words.now) (sym unnamed) some);
-      others = λ right. subst (λ (o : Option (List ℕ)). IfSome o (λ name. LeavesOthers name old new)) unnamed tt;
-      init = rw e.disk tt;
-      unopened = λ right none. subst (λ (o : Option (List ℕ)). IfSome o (λ name. TellsNoDevice r.notice name old new)) unnamed tt;
-      disk = λ is. absurd (subst IsOfSession is of_session);
-      not_empty = λ count is. absurd (subst IsOfSession is of_session);
-      complete_init = λ right. subst (λ (o : Option (List ℕ)). IfSome o (λ name. IfSome (old.devices name) (λ bytes.
-          IfSome r.disk (λ disk. Rose 0 (moment disk).state.faults → ⊥) → (r.notice ≡ notice_by bytes) ⊎ (r.notice ≡ Memory)))) unnamed tt;
+      usage = λ word. (λ is. absurd (tells word is), λ is. absurd (is.no_form Try one));
+      untouched = λ word is. absurd (tells word is);
+      nothing = λ word is. absurd (tells word is);
+      runs = λ pages history first run. absurd (try_or_run words pages history first one run);
+      tries = λ is. e.runs;
+      makes = λ init. absurd (try_or_init words one init);
+      no_session = λ init. absurd (try_or_init words one init);
+      no_device = λ is. e.disk;
+    }
+
+pub returns-in-Ok-Init : goal.returns-in-Ok-Init
+returns-in-Ok-Init g c =
+    let moment = g.F.Device.Disk.moment in
+    let state = g.F.Shelf.state in
+    let words = c.args.words.now in
+    let device = c.in-Ok-Init.device in
+    let one : IsForm words (Init device) = (c.form_of.ensures.form (Init device)).0 (c.in-Ok-Init.is ∙ ap Ok c.in-Ok-Init.field-0-is) in
+    let old = state c.args.shelf in
+    let r = c.run_init.result in
+    let e = c.run_init.ensures in
+    let tells = init_tells moment old (state r.shelf) r.notice _ r.disk e.makes in
+    let named = ap Some c.as_str.ensures ∙ c.word_at-name.ensures in
+    record {
+      status = e.status;
+      usage = λ word. (λ is. absurd (tells word is), λ is. absurd (is.no_form (Init device) one));
+      untouched = λ word is. absurd (tells word is);
+      nothing = λ word is. absurd (tells word is);
+      runs = λ pages history first run. absurd (init_or_run words device pages history first one run);
+      tries = λ is. absurd (init_or_try words device one is);
+      makes = λ init. subst (λ (asked : Word). MakesDatabase moment old (state r.shelf) r.notice asked r.disk) (same_init words device one init _ named) e.makes;
+      no_session = λ init. (e.sessions, e.history, e.free_pages);
+      no_device = λ is. absurd (init_or_try words device one is);
+    }
+
+pub returns-in-Ok-Run : goal.returns-in-Ok-Run
+returns-in-Ok-Run g c =
+    let moment = g.F.Device.Disk.moment in
+    let source = g.F.S.Source.state in
+    let sink = g.F.K.Sink.state in
+    let state = g.F.Shelf.state in
+    let words = c.args.words.now in
+    let form = c.in-Ok-Run in
+    let one : IsForm words (Run form.device form.pages form.history form.scripts) = (c.form_of.ensures.form (Run form.device form.pages form.history form.scripts)).0 (form.is ∙ ap Ok form.field-0-is) in
+    let old = state c.args.shelf in
+    let r = c.run_scripts.result in
+    let e = c.run_scripts.ensures in
+    let runs = subst (λ (scripts : List Word). RunsScripts moment source sink old (state r.shelf) r.notice r.history r.sessions r.free_pages c.word_at-target.result.now scripts
+    form.pages form.history r.disk) c.words_from-listed.ensures e.runs in
+    let tells = scripts_tell moment source sink old (state r.shelf) r.notice r.history r.free_pages r.sessions _ _ _ _ r.disk runs in
+    record {
+      status = e.status;
+      usage = λ word. (λ is. absurd (tells word is), λ is. absurd (is.no_form (Run form.device form.pages form.history form.scripts) one));
+      untouched = λ word is. absurd (tells word is);
+      nothing = λ word is. absurd (tells word is);
+      runs = λ pages history first run. runs_as words form.device form.pages form.history form.scripts one pages history first run moment source sink old (state r.shelf)
+          r.notice r.history r.sessions r.free_pages r.disk c.word_at-target.result.now c.word_at-target.ensures runs;
+      tries = λ is. absurd (run_or_try words form.device form.pages form.history form.scripts one is);
+      makes = λ init. absurd (run_or_init words form.device form.pages form.history form.scripts one init);
+      no_session = λ init. absurd (run_or_init words form.device form.pages form.history form.scripts one init);
+      no_device = λ is. absurd (run_or_try words form.device form.pages form.history form.scripts one is);
+    }
+
+pub returns-in-Err : goal.returns-in-Err
+returns-in-Err g c =
+    let words = c.args.words.now in
+    let place = c.in-Err.word in
+    let fault : IsFault words place = (c.form_of.ensures.fault place).0 c.in-Err.is in
+    let r = c.unrun.result in
+    let e = c.unrun.ensures in
+    record {
+      status = e.status;
+      usage = λ word. (
+        λ is. subst (λ (n : ℕ). IsFault words n) (usage_place r.notice place word e.notice is) fault,
+        λ other. e.notice ∙ ap Usage (one_place words place word fault other),
+      );
+      untouched = λ word is. e.shelf;
+      nothing = λ word is. (e.sessions, e.history, e.free_pages, e.disk);
+      runs = λ pages history first run. absurd (fault.no_form (Run 1 pages history first) (refl, run));
+      tries = λ is. absurd (fault.no_form Try is);
+      makes = λ init. absurd (fault.no_form (Init 1) (refl, init));
+      no_session = λ init. absurd (fault.no_form (Init 1) (refl, init));
+      no_device = λ is. e.disk;
     }

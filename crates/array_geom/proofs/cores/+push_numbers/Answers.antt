@@ -1,6 +1,6 @@
 use Rattle.std.proofs.Common.{◌++◌, ◌/◌, ◌-ℤ◌, ℕ, ℤ, pos, List, sym, ◌∙◌, ap, append-nil, rules}
 use Rattle.std.specs.Prelude.{unsigned_abs}
-use Rattle.cell_values.specs.declared.schema.Dimension.{Dimension}
+use Rattle.array_rows.specs.Dimension.{Dimension}
 use Rattle.array_geom.proofs.Pairs.{pairs_pushed, by_pairs_none}
 use Rattle.array_geom.proofs.cores.+push_numbers.Goals as goal
 

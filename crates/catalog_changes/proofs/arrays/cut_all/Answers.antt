@@ -1,4 +1,4 @@
-use Rattle.plan_changes.proofs.Maps.{map_step}
+use Rattle.version_catalog.proofs.Maps.{map_step}
 use Rattle.catalog_changes.specs.Records.{from_version}
 use Rattle.catalog_changes.proofs.arrays.cut_all.Goals as goal
 

@@ -1,7 +1,7 @@
 use Rattle.std.proofs.Common.{IsTrue, List, subst, sym}
 use Rattle.std.specs.List.{list_all}
 use Rattle.version_catalog.specs.declared.rules.catalog.CatalogArray.{CatalogArray}
-use Rattle.plan_changes.specs.Allowed.{has_number}
+use Rattle.version_catalog.specs.Allowed.{has_number}
 use Rattle.catalog_changes.proofs.Maps.{new_has}
 use Rattle.catalog_changes.proofs.arrays.with_first.Goals as goal
 

@@ -1,8 +1,8 @@
 use Rattle.std.proofs.Common.{◌≡◌, ℕ, List, refl, subst, sym, IsTrue, Result, Ok, Err, IfOk}
 use Rattle.std.specs.List.{list_all}
 use Rattle.std.proofs.lemmas.Bool.{or_right}
-use Rattle.cell_values.specs.declared.memory.Memory.{Memory}
-use Rattle.cell_values.specs.declared.schema.Schema.{Schema}
+use Rattle.expr_nulls.specs.Memory.{Memory}
+use Rattle.expr_nulls.specs.Schema.{Schema}
 use Rattle.logical_plan.specs.declared.names.NameEntry.{NameEntry}
 use Rattle.plan_changes.specs.Changes.{with_array, place_of}
 use Rattle.plan_changes.specs.Allowed.{has_number}

@@ -26,14 +26,15 @@ returns-in-Err-At g c =
     let p = c.in-Err-At.ensures in
     let only_tree = rw c.in-Err-At.field-0-is at p.only_tree in
     let only_stop = rw c.in-Err-At.field-0-is at p.only_stop in
-    let e = c.refusal_at.ensures in record {
+    let reply = c.refusal_or_want-reply.result in record {
       seat = c.requires.seat;
       same = record { session = refl; last = refl };
       none = c.requires.none;
       answered = stop_is_whole g.D.Disk.moment (start g.D.Disk.moment c.args.shared.now) (session_of c.args.seat) (last_place c.args.seat) (seen c.args.seat)
-          c.args.text.now c.refusal_at.result c.in-Err-At.at c.in-Err-At.kind (e.place ∙ c.last-last.ensures) only_tree only_stop e.words;
+          c.args.text.now reply c.in-Err-At.at c.in-Err-At.kind only_tree only_stop
+          c.last-last.result c.seen-count.result c.last-last.ensures (c.seen-count.ensures ∙ c.requires.seat.0.counts) c.refusal_or_want-reply.ensures;
       reads = λ t derives accepted. stop_reads_none g.D.Disk.moment (start g.D.Disk.moment c.args.shared.now) (session_of c.args.seat) (last_place c.args.seat) (seen c.args.seat)
-          c.args.text.now c.refusal_at.result c.in-Err-At.at c.in-Err-At.kind (e.place ∙ c.last-last.ensures) only_tree only_stop t derives
+          c.args.text.now reply c.in-Err-At.at c.in-Err-At.kind only_tree only_stop t derives
           (read_count c.args.seat) (read_count c.args.seat);
     }
 

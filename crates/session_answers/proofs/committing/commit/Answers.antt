@@ -3,7 +3,7 @@ use Rattle.session_turns.specs.Turns.{Adds}
 use Rattle.session_turns.specs.Refusals.{IsUncommittedReply}
 use Rattle.session_turns.proofs.Under.{pin_within}
 use Rattle.session_turns.specs.Seats.{seen, session_of, start}
-use Rattle.session_answers.proofs.Commits.{change_under, held_behind, made_is_answered, refused_is_answered, still_untried}
+use Rattle.session_answers.proofs.Commits.{change_under, had_room, held_behind, made_is_answered, refused_is_answered, still_untried}
 use Rattle.session_answers.proofs.Readings.{named_behind}
 use Rattle.session_answers.proofs.committing.commit.Goals as goal
 
@@ -31,13 +31,17 @@ returns-in-Ok-Done g c =
     let said = c.at_place.ensures in
     let idle = rw c.in-Ok-Done.field-0-is at e.idle in
     let done = rw c.in-Ok-Done.field-0-is at e.done in
+    let next = rw c.in-Ok-Done.field-0-is at e.next in
+    let fits = rw c.in-Ok-Done.field-0-is at e.fits in
     let place = rw c.in-Ok-Done.field-0-is at e.place in record {
       seat = (e.seat, idle);
       same = e.same;
       reads = e.reads;
       pin = e.pin;
       answered = λ first before a. made_is_answered moment began c.args.pinned.now c.args.change first before old (seen c.commit.new.seat) c.args.text.now c.args.tree.now c.at_place.result
-          a o (pin_within began old c.args.pinned.now o) (named_behind moment began old c.args.pinned.now o r.database) r.typed done c.args.words r.said said.words
+          a o (pin_within began old c.args.pinned.now o) (named_behind moment began old c.args.pinned.now o r.database) r.typed done c.args.words
+          (had_room moment began (seen c.commit.new.seat) c.args.change c.in-Ok-Done.place c.at_place.result.place said.place next fits)
+          r.said said.words
           (ap (λ place. place + 1) said.place ∙ place);
     }
 

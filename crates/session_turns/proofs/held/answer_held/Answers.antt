@@ -1,4 +1,4 @@
-use Rattle.session_turns.proofs.Ending.{answered_last, change_said, database_here, extends_last, pin_last, pinned_here, start_last, tried_here, turn_last}
+use Rattle.session_turns.proofs.Ending.{answered_last, database_here, extends_last, pin_last, pinned_here, start_last, tried_here, turn_last}
 use Rattle.session_turns.proofs.held.answer_held.Goals as goal
 
 pub answer_in_turn-reply-requires-clause-pinned : goal.answer_in_turn-reply-requires-clause-pinned
@@ -45,5 +45,5 @@ returns g c =
       answered = answered_last moment c.args.shared.now c.args.seat c.args.turn c.value.result.now c.value.ensures.value c.args.pinned.now r.held r.pin c.is_at.ensures.at r.start r.events
           went.result.1 c.value-2.result.now c.value-2.ensures.value went.ensures.keeps c.args.text.now c.args.tree.now went.result.0 went.ensures.goes
           c.is_at-2.ensures.ledger c.is_at-2.ensures.counted c.end_turn.new.seat end.seen
-          (change_said r.change.0 c.args.text.now c.args.tree.now c.args.pinned.now r.change.1);
+          r.change.0 r.change.1;
     }

@@ -3,8 +3,8 @@ use Rattle.chunk_map.specs.declared.directory.Directory.{Directory}
 use Rattle.prepared_costs.specs.Written.{Written}
 use Rattle.prepared_costs.specs.Versions.{draft_of}
 use Rattle.store_ledger.specs.Ledger.{LedgerState}
-use Rattle.store_state.specs.At.{IsAt, keeping, standing}
-use Rattle.store_state.specs.Standings.{Standing}
+use Rattle.prepared_commits.specs.At.{IsAt, keeping, standing}
+use Rattle.prepared_commits.specs.Standings.{Standing}
 use Rattle.prepared_commits.specs.Needs.{needs, needs_by, newest_now, next_sequence}
 use Rattle.prepared_parts.specs.Parts.{IsFullFor, IsPreparedAs}
 use Rattle.store_preparing.specs.Left.{IsLeft, tried_now}

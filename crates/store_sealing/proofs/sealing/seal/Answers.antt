@@ -22,4 +22,4 @@ returns g c =
     let come = has_come g.D.Disk.moment old c.args.prepared c.requires.at c.requires.prepared.0 c.requires.prepared.1 c.commits_hold.ensures g.met.D.Disk.only_now
     (record old { file = file; acked = c.write_prepared-outcome.new.acked; ledger = ends.ledger; catalog = ends.catalog; table = ends.table; doubt = ends.doubt; made = ends.made })
     (record { opened = refl; first = refl }) outcome.end outcome.rose c.finish.result c.write_prepared-outcome.ensures.came c.finish.ensures c.write_prepared-outcome.ensures.acked in
-    record { at = come.parts; ok = come.ok; err = come.err; kept = come.kept; noted = come.noted; during = come.during; durable = come.durable; cause = come.cause }
+    record { at = come.parts; ok = come.ok; err = come.err; kept = come.kept; noted = come.noted; during = come.during; durable = come.durable; same = c.write_prepared-outcome.ensures.came.same; cause = come.cause }

@@ -8,7 +8,7 @@ use Rattle.store_ledger.specs.Ledger.{LedgerState, history}
 use Rattle.store_ledger.proofs.Pins.{one_more}
 use Rattle.store_versions.specs.declared.row.VersionRow.{VersionRow}
 use Rattle.store_versions.specs.Rows.{directory_in, needed_rows, places_at, rows_after}
-use Rattle.store_state.proofs.Places.{places_are}
+use Rattle.prepared_commits.proofs.Places.{places_are}
 use Rattle.store_sealing.proofs.settling.enter.Goals as goal
 
 pub returns-clause-rows : goal.returns-clause-rows

@@ -5,4 +5,4 @@ use Rattle.array_store.proofs.store.Store.close.Goals as goal
 pub returns-clause-stands : goal.returns-clause-stands
 returns-clause-stands g c =
     let moment = g.D.Disk.moment in
-    subst (ImagesStand moment) c.self.view_is (images_stand moment c.self.inside.parts c.self.invariant)
+    subst (ImagesStand moment) c.self.view_is (images_stand moment c.self.inside.parts c.self.invariant.at)

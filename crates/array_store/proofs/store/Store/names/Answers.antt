@@ -7,4 +7,4 @@ use Rattle.array_store.proofs.store.Store.names.Goals as goal
 pub returns-clause-stored : goal.returns-clause-stored
 returns-clause-stored g c =
     let ledger = c.self.inside.parts.ledger in
-    subst AreStored (sym c.names.ensures) (ordered_names_are_stored ledger.base (history ledger) c.self.invariant.kept.in_order.ordered)
+    subst AreStored (sym c.names.ensures) (ordered_names_are_stored ledger.base (history ledger) c.self.invariant.at.kept.in_order.ordered)

@@ -1,9 +1,10 @@
-use Rattle.std.proofs.Common.{IfErr, sym, subst}
-use Rattle.store_state.specs.At.{standing}
-use Rattle.store_state.specs.Calls.{IsUnread, payload_at}
-use Rattle.store_state.specs.Payloads.{HasTold, WasDamagedAt}
-use Rattle.store_state.specs.Standings.{BeganAs}
+use Rattle.std.proofs.Common.{IfErr, sym, subst, ap}
+use Rattle.store_opening.specs.At.{standing}
+use Rattle.store_opening.specs.Calls.{IsUnread, payload_at}
+use Rattle.store_opening.specs.Payloads.{HasTold, WasDamagedAt}
+use Rattle.store_opening.specs.Standings.{BeganAs}
 use Rattle.array_store.proofs.Added.{adds_fault}
+use Rattle.array_store.proofs.Going.{moves}
 use Rattle.array_store.proofs.store.Store.read_chunk.Goals as goal
 
 pub returns-clause-adds : goal.returns-clause-adds
@@ -27,3 +28,8 @@ returns-clause-damaged g c = λ page file e told.
     let moment = g.D.Disk.moment in
     subst (λ parts. WasDamagedAt page (standing moment parts).first file c.args.leaf.now.schema) c.self.view_is
     (c.read_chunk.ensures.damaged page file e (subst (λ parts. HasTold (moment parts.opened.value.disk).state file) (sym c.self.view_is) told))
+
+pub invariant_of-self : goal.invariant_of-self
+invariant_of-self g c =
+    let moment = g.D.Disk.moment in
+    moves moment c.self.inside.parts c.read_chunk.new.parts c.self.invariant c.read_chunk.ensures.at (ap (λ s. s.opened) c.read_chunk.ensures.same) c.read_chunk.ensures.reads.same

@@ -1,6 +1,6 @@
 use Rattle.std.proofs.Common.{◌≡◌, ◌∙◌, ◌+◌, length, ap}
-use Rattle.store_state.specs.At.{standing}
-use Rattle.store_state.specs.Events.{events}
+use Rattle.store_opening.specs.At.{standing}
+use Rattle.store_opening.specs.Events.{events}
 use Rattle.array_store.proofs.Counted.{events_count}
 use Rattle.array_store.proofs.store.StoreHistory.count.Goals as goal
 

@@ -1,7 +1,7 @@
 use Rattle.std.proofs.Common.{take}
 use Rattle.std.specs.List.{AllByRecursion}
-use Rattle.cell_values.specs.Naming.{IsName}
-use Rattle.cell_values.specs.Schemas.{attribute_names}
+use Rattle.expr_nulls.specs.Naming.{IsName}
+use Rattle.expr_nulls.specs.Schemas.{attribute_names}
 use Rattle.plan_changes.proofs.others.named.attributes_have_names.Given as goal
 
 abbrev pub invariant-loop-attribute : goal.invariant-loop-attribute

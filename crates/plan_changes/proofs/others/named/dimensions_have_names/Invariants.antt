@@ -1,7 +1,7 @@
 use Rattle.std.proofs.Common.{take}
 use Rattle.std.specs.List.{AllByRecursion}
-use Rattle.cell_values.specs.Naming.{IsName}
-use Rattle.cell_values.specs.Schemas.{dimension_names}
+use Rattle.expr_nulls.specs.Naming.{IsName}
+use Rattle.expr_nulls.specs.Schemas.{dimension_names}
 use Rattle.plan_changes.proofs.others.named.dimensions_have_names.Given as goal
 
 abbrev pub invariant-loop-dimension : goal.invariant-loop-dimension

@@ -1,0 +1,191 @@
+-- What follows for a report of what words it is.
+use Rattle.std.proofs.Common.{◌≡◌, ◌≢◌, ◌⊎◌, ℕ, zero, suc, Bool, true, false, ◌+◌, ◌<◌, ◌≤◌, List, [], ◌∷◌, length, drop, All, codes, Option, Some, None, IfSome, slice_get, inl, inr, refl, sym, ◌∙◌, ap, subst, arith}
+use Rattle.afl_outside.specs.Disk.{DiskState, Moment}
+use Rattle.afl_outside.specs.Source.{SourceState}
+use Rattle.afl_outside.specs.Sink.{SinkState}
+use Rattle.afl_outside.specs.Shelf.{ShelfState}
+use Rattle.event_core.specs.declared.entry.Entry.{Entry}
+use Rattle.command_words.specs.declared.forms.Form.{Form}
+use Rattle.command_words.specs.declared.forms.Form.TheVariants.{Try, Init, Run}
+use Rattle.command_words.specs.Forms.{IsForm, IsInit, IsRun}
+use Rattle.command_words.proofs.Answering.{one_form}
+use Rattle.command_words.proofs.PlaceLaws.{keep_places}
+use Rattle.run_opening.specs.Names.{HaveOwnNames, Word, standard, stream_names}
+use Rattle.run_opening.specs.Opened.{FailsToOpen, FailsToOpenDevice}
+use Rattle.run_opening.proofs.NameLemmas.{device_apart, own_names}
+use Rattle.session_reports.specs.Outcomes.{notice_by as told_by, notice_of}
+use Rattle.session_reports.specs.declared.reports.SessionReport.{SessionReport}
+use Rattle.session_reports.specs.declared.notices.Notice.{Notice}
+use Rattle.session_reports.specs.declared.notices.Notice.TheVariants as notices
+use Rattle.afl_run.specs.Init.{TellsDevice}
+use Rattle.afl_run.specs.Run.{MakesDatabase, RunsScripts, RunsTry, TellsSessions, TellsUnrun, state_in}
+
+-- ---- no words have two forms
+
+module _ (words : List Word) where
+  pub try_or_run : (pages history first : ℕ) → IsForm words Try → IsRun words pages history first → ⊥
+  try_or_run pages history first one other = let is = one_form words Try (Run 1 pages history first) one (refl, other) in absurd (cc (is))
+
+  pub try_or_init : IsForm words Try → IsInit words → ⊥
+  try_or_init one other = let is = one_form words Try (Init 1) one (refl, other) in absurd (cc (is))
+
+  pub init_or_run : (device pages history first : ℕ) → IsForm words (Init device) → IsRun words pages history first → ⊥
+  init_or_run device pages history first one other = let is = one_form words (Init device) (Run 1 pages history first) one (refl, other) in absurd (cc (is))
+
+  pub run_or_init : (device pages history first : ℕ) → IsForm words (Run device pages history first) → IsInit words → ⊥
+  run_or_init device pages history first one other = let is = one_form words (Run device pages history first) (Init 1) one (refl, other) in absurd (cc (is))
+
+  pub run_or_try : (device pages history first : ℕ) → IsForm words (Run device pages history first) → IsForm words Try → ⊥
+  run_or_try device pages history first one other = let is = one_form words (Run device pages history first) Try one other in absurd (cc (is))
+
+  pub init_or_try : (device : ℕ) → IsForm words (Init device) → IsForm words Try → ⊥
+  init_or_try device one other = let is = one_form words (Init device) Try one other in absurd (cc (is))
+
+abbrev pages_in : Form → ℕ
+pages_in (Run device pages history first) = pages
+pages_in _ = 0
+
+abbrev history_in : Form → ℕ
+history_in (Run device pages history first) = history
+history_in _ = 0
+
+abbrev first_in : Form → ℕ
+first_in (Run device pages history first) = first
+first_in _ = 0
+
+module _ (words : List Word) (device pages history first : ℕ) (one : IsForm words (Run device pages history first)) (p h f : ℕ) (other : IsRun words p h f) where
+  both : Run device pages history first ≡ Run 1 p h f
+  both = one_form words (Run device pages history first) (Run 1 p h f) one (refl, other)
+
+  pub same_pages : pages ≡ p
+  same_pages = ap pages_in both
+
+  pub same_history : history ≡ h
+  same_history = ap history_in both
+
+  pub same_first : first ≡ f
+  same_first = ap first_in both
+
+-- ---- what stands where
+
+abbrev value_of : Option Word → Word
+value_of None = []
+value_of (Some word) = word
+
+get_within : (words : List Word) (k : ℕ) (word : Word) → slice_get words k ≡ Some word → k < length words
+get_within [] k word is = absurd (cc (is))
+get_within (w ∷ words) zero word is = omega arith
+get_within (w ∷ words) (suc k) word is = let rest = get_within words k word is in omega (arith, rest)
+
+-- ---- usage is told of words that have no form alone
+
+abbrev IsOther : Notice → Type 0
+IsOther (notices.Usage word) = ⊥
+IsOther _ = Unit {0}
+
+of_sessions : (want fault : Bool) (page session : Option ℕ) (refused : Bool) (word : ℕ) → told_by want fault page session refused ≡ notices.Usage word → ⊥
+of_sessions true fault page session refused word is = subst IsOther is tt
+of_sessions false true page session refused word is = subst IsOther is tt
+of_sessions false false (Some at) session refused word is = subst IsOther is tt
+of_sessions false false None (Some at) refused word is = subst IsOther is tt
+of_sessions false false None None true word is = subst IsOther is tt
+of_sessions false false None None false word is = subst IsOther is tt
+
+sessions_tell : {S K : Type 0} (notice : Notice) (sessions : List (SessionReport S K)) (word : ℕ) → (notice ≡ notices.Memory) ⊎ (notice ≡ notice_of sessions) → notice ≡ notices.Usage word → ⊥
+sessions_tell notice sessions word told is = elim told [
+  | inl memory ↦ absurd (cc (memory, is))
+  | inr after ↦ of_sessions _ _ _ _ _ word (sym after ∙ is)
+]
+
+module _ {D S K : Type 0} (moment : D → Moment) (source_state : S → SourceState) (sink_state : K → SinkState) (old new : ShelfState)
+    (notice : Notice) (history : List Entry) (free : ℕ) where
+  pub scripts_tell : (sessions : List (SessionReport S K)) (asked : Word) (scripts : List Word) (pages limit : ℕ) (device : Option D)
+      → RunsScripts moment source_state sink_state old new notice history sessions free asked scripts pages limit device → (word : ℕ) → notice ≡ notices.Usage word → ⊥
+  scripts_tell [] asked scripts pages limit device runs word is =
+      subst (λ (n : Notice). TellsUnrun n asked scripts (state_in moment device) old new) is (runs.none refl).2
+  scripts_tell (report ∷ sessions) asked scripts pages limit device runs word is =
+      sessions_tell notice (report ∷ sessions) word (runs.told (λ none. absurd (cc (none)))) is
+
+  pub try_tells : (sessions : List (SessionReport S K)) → RunsTry moment source_state sink_state old new notice history sessions free
+      → (word : ℕ) → notice ≡ notices.Usage word → ⊥
+  try_tells [] runs word is = elim (runs.none refl).2 [
+    | inl memory ↦ absurd (cc (memory, is))
+    | inr fails ↦ elim fails [
+      | inl want ↦ let memory = want.0 in absurd (cc (memory, is))
+      | inr stream ↦ let told = stream.1 in absurd (cc (told, is))
+    ]
+  ]
+  try_tells (report ∷ sessions) runs word is = sessions_tell notice (report ∷ sessions) word (runs.told (λ none. absurd (cc (none)))) is
+
+pub init_tells : {D : Type 0} (moment : D → Moment) (old new : ShelfState) (notice : Notice) (asked : Word) (device : Option D)
+    → MakesDatabase moment old new notice asked device → (word : ℕ) → notice ≡ notices.Usage word → ⊥
+init_tells moment old new notice asked None made word is = elim (made.unopened refl) [
+  | inl want ↦ let memory = want.0 in absurd (cc (memory, is))
+  | inr fault ↦ let told = fault.0 in absurd (cc (told, is))
+]
+init_tells moment old new notice asked (Some d) made word is = subst (λ (n : Notice). TellsDevice n (moment d)) is made.made
+
+abbrev place_in : Notice → ℕ
+place_in (notices.Usage word) = word
+place_in _ = 0
+
+pub usage_place : (notice : Notice) (place word : ℕ) → notice ≡ notices.Usage place → notice ≡ notices.Usage word → place ≡ word
+usage_place notice place word is told = ap place_in (sym is ∙ told)
+
+-- ---- the words of `run` and of `init`
+
+module _ (words : List Word) (device pages history first : ℕ) (one : IsForm words (Run device pages history first)) where
+  pub its_device : slice_get words device ≡ Some one.1.device
+  its_device = ap (slice_get words) one.0 ∙ (keep_places.1 words pages history first one.1).0
+
+  pub its_scripts : drop first words ≡ one.1.scripts
+  its_scripts = (keep_places.1 words pages history first one.1).1
+
+  pub device_within : device < length words
+  device_within = get_within words device one.1.device its_device
+
+  pub scripts_within : first < length words
+  scripts_within = (keep_places.1 words pages history first one.1).2
+
+  pub some_scripts : (1 ≤ length (drop first words)) × (length (drop first words) ≤ 16)
+  some_scripts = subst (λ (l : List Word). (1 ≤ length l) × (length l ≤ 16)) (sym its_scripts) (one.1.some, one.1.most)
+
+  pub names_apart : HaveOwnNames (drop first words)
+  names_apart = subst (λ (l : List Word). HaveOwnNames l) (sym its_scripts) (own_names one.1.device one.1.scripts one.1.different)
+
+  pub apart_from_device : (name : Word) → Some name ≡ slice_get words device → All (λ other. name ≢ other) (stream_names (drop first words))
+  apart_from_device name is =
+      let same : name ≡ one.1.device = ap value_of (is ∙ its_device) in
+      subst (λ (l : List Word). All (λ other. name ≢ other) (stream_names l)) (sym its_scripts)
+      (subst (λ (n : Word). All (λ other. n ≢ other) (stream_names one.1.scripts)) (sym same) (device_apart one.1.device one.1.scripts one.1.different))
+
+  -- any reading of the words as `run` names the same
+  module _ (p h f : ℕ) (run : IsRun words p h f) where
+    pub same_device : (name : Word) → Some name ≡ slice_get words device → name ≡ run.device
+    same_device name is = let both = is ∙ ap (slice_get words) one.0 ∙ (keep_places.1 words p h f run).0 in ap value_of both
+
+    pub same_scripts : drop first words ≡ run.scripts
+    same_scripts = ap (λ (n : ℕ). drop n words) (same_first words device pages history first one p h f run) ∙ (keep_places.1 words p h f run).1
+
+    -- what is reported of them
+    pub runs_as : {D S K : Type 0} (moment : D → Moment) (source_state : S → SourceState) (sink_state : K → SinkState) (old new : ShelfState)
+        (notice : Notice) (entries : List Entry) (sessions : List (SessionReport S K)) (free : ℕ) (disk : Option D) (name : Word) → Some name ≡ slice_get words device
+        → RunsScripts moment source_state sink_state old new notice entries sessions free name (drop first words) pages history disk
+        → RunsScripts moment source_state sink_state old new notice entries sessions free run.device run.scripts p h disk
+    runs_as moment source_state sink_state old new notice entries sessions free disk name is runs =
+        subst (λ (w : Word). RunsScripts moment source_state sink_state old new notice entries sessions free w run.scripts p h disk) (same_device name is)
+        (subst (λ (l : List Word). RunsScripts moment source_state sink_state old new notice entries sessions free name l p h disk) same_scripts
+        (subst (λ (n : ℕ). RunsScripts moment source_state sink_state old new notice entries sessions free name (drop first words) n h disk)
+        (same_pages words device pages history first one p h f run)
+        (subst (λ (n : ℕ). RunsScripts moment source_state sink_state old new notice entries sessions free name (drop first words) pages n disk)
+        (same_history words device pages history first one p h f run) runs)))
+
+module _ (words : List Word) (device : ℕ) (one : IsForm words (Init device)) where
+  pub init_device : slice_get words device ≡ Some one.1.device
+  init_device = ap (slice_get words) one.0 ∙ keep_places.0 words one.1
+
+  pub init_within : device < length words
+  init_within = get_within words device one.1.device init_device
+
+  pub same_init : (init : IsInit words) (name : Word) → Some name ≡ slice_get words device → name ≡ init.device
+  same_init init name is = let both = is ∙ ap (slice_get words) one.0 ∙ keep_places.0 words init in ap value_of both

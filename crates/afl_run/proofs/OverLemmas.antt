@@ -1,0 +1,147 @@
+-- What came of sessions over a disk.
+use Rattle.std.proofs.Common.{append_assoc, ◌≡◌, ◌⊎◌, ℕ, ◌<◌, Bool, true, ◌&&◌, List, [], ◌∷◌, ◌++◌, length, inl, inr, refl, sym, ◌∙◌, ap, subst, arith}
+use Rattle.std.specs.List.{list_all}
+use Rattle.std.proofs.lemmas.Bool.{and_from}
+use Rattle.std.proofs.lemmas.List.Folds.{list_all-append}
+use Rattle.afl_outside.specs.Disk.{DiskGoesOn, DiskState, Moment}
+use Rattle.afl_outside.specs.Source.{SourceState}
+use Rattle.afl_outside.specs.Sink.{SinkState}
+use Rattle.afl_parser.specs.Outcome.{HasTreeOrStop}
+use Rattle.run_stores.specs.Start.{Start}
+use Rattle.run_stores.specs.Starts.{start_of}
+use Rattle.event_core.specs.declared.entry.Entry.TheVariants.{Reap}
+use Rattle.page_chain.proofs.RunLemmas.{goes}
+use Rattle.page_slots.specs.Puts.{OnlySyncs}
+use Rattle.turn_lock.specs.Owners.{AreOwnedBelow, ExtendsByOthers, is_owned_below, none_of}
+use Rattle.store_opening.specs.declared.opening.Limits.{Limits}
+use Rattle.store_state.specs.declared.event.Event.{Event}
+use Rattle.store_state.specs.declared.event.Event.TheVariants.{Entered}
+use Rattle.store_state.specs.Events.{events, owner_of}
+use Rattle.store_state.specs.Standings.{BeganAs, Standing}
+use Rattle.session_reports.specs.Outcomes.{notice_of}
+use Rattle.session_reports.specs.declared.notices.Notice.{Notice}
+use Rattle.session_reports.specs.declared.notices.Notice.TheVariants.{Memory}
+use Rattle.session_reports.specs.declared.reports.SessionReport.{SessionReport}
+use Rattle.session_reports.specs.declared.reports.Streams.{Streams}
+use Rattle.session_threads.specs.Sessions.{AreSessionsOf}
+use Rattle.run_stores.specs.Began.{BeganOver, TellsUnopened}
+use Rattle.run_stores.specs.Ends.{IsClosed, IsReap}
+use Rattle.run_stores.specs.declared.closing.StoreRun.{StoreRun}
+use Rattle.afl_run.specs.Inner.Over.{IsUnrun, LacksMemory, RunsOver, RunsTo}
+use Rattle.afl_run.proofs.CauseLemmas.{rose_for, tells_damage, tells_disk}
+
+-- a reap is nobody's
+reap_is_nobodys : (session : ℕ) (more : List Event) → IsReap more → none_of owner_of session more ≡ true
+reap_is_nobodys session more reap = elim reap [
+  | inl is ↦ ap (λ (es : List Event). none_of owner_of session es) is
+  | inr is ↦ ap (λ (es : List Event). none_of owner_of session es) is
+]
+
+still_owned : (count : ℕ) (old more new : List Event) → AreOwnedBelow owner_of count old → IsReap more → new ≡ old ++ more → AreOwnedBelow owner_of count new
+still_owned count old more new owned reap grown =
+    ap (λ (es : List Event). list_all (λ e. is_owned_below (owner_of e) count) es) grown ∙ list_all-append (λ e. is_owned_below (owner_of e) count) old more
+    ∙ and_from (list_all (λ e. is_owned_below (owner_of e) count) old) (list_all (λ e. is_owned_below (owner_of e) count) more) owned
+    (elim reap [
+      | inl is ↦ ap (λ (es : List Event). list_all (λ e. is_owned_below (owner_of e) count) es) is
+      | inr is ↦ ap (λ (es : List Event). list_all (λ e. is_owned_below (owner_of e) count) es) is
+    ])
+
+-- what a session had seen is a beginning of a longer history, if none of what came is its own
+still_others : (session : ℕ) (seen old more new : List Event) → ExtendsByOthers owner_of session seen old → none_of owner_of session more ≡ true → new ≡ old ++ more
+    → ExtendsByOthers owner_of session seen new
+still_others session seen old more new before none grown = (
+  before.0 ++ more,
+  grown ∙ ap (λ (es : List Event). es ++ more) before.1 ∙ append_assoc seen before.0 more,
+  list_all-append _ before.0 more ∙ and_from (none_of owner_of session before.0) (none_of owner_of session more) before.2 none,
+)
+
+module _ {D S K : Type 0} (moment : D → Moment) (source_state : S → SourceState) (sink_state : K → SinkState) where
+  reaped_later : (start : Start D) (streams : List (Streams S K)) (reports : List (SessionReport S K)) (old more new : List Event)
+      → AreSessionsOf moment source_state sink_state start streams reports old → IsReap more → new ≡ old ++ more
+      → AreSessionsOf moment source_state sink_state start streams reports new
+  reaped_later start streams reports old more new each reap grown k own report within =
+      let h = each k own report within in
+      record { seen = h.seen; sealed = h.sealed; later = still_others k h.seen old more new h.later (reap_is_nobodys k more reap) grown; serves = h.serves }
+
+  -- the sessions ran, and the store was closed
+  pub runs_to : (start : Start D) (streams : List (Streams S K)) (shared end : Standing D) (reports : List (SessionReport S K)) (run : StoreRun D S K)
+      → HasTreeOrStop → start_of shared ≡ start → length reports ≡ length streams → AreSessionsOf moment source_state sink_state start streams reports (events shared)
+      → AreOwnedBelow owner_of (length streams) (events shared) → (run.notice ≡ Memory) ⊎ (run.notice ≡ notice_of reports) → run.sessions ≡ reports → IsClosed moment shared end run
+      → RunsTo moment source_state sink_state start streams end run
+  runs_to start streams shared end reports run trees began count each owned told is closed = record {
+    began = closed.start ∙ began;
+    ends = closed.ends;
+    count = ap length is ∙ count;
+    each = subst (λ (rs : List (SessionReport S K)). AreSessionsOf moment source_state sink_state start streams rs (events end)) (sym is)
+        later;
+    others = still_owned (length streams) (events shared) closed.more (events end) owned closed.reap closed.grown;
+    told = subst (λ (rs : List (SessionReport S K)). (run.notice ≡ Memory) ⊎ (run.notice ≡ notice_of rs)) (sym is) told;
+    disk = λ tells. rose_for moment end closed.ends.ledger (tells_disk trees moment source_state sink_state start streams reports (events end) count later run.notice told tells)
+        closed.ends.counted;
+    damaged = λ page tells db began_as. tells_damage trees moment source_state sink_state start streams reports (events end) count later run.notice told page tells db
+        (subst (λ (s : Start D). BeganAs (moment s.opened.disk).state db) (closed.start ∙ began) began_as);
+  }
+    where
+      later : AreSessionsOf moment source_state sink_state start streams reports (events end)
+      later = reaped_later start streams reports (events shared) closed.more (events end) each closed.reap closed.grown
+
+  -- no session ran over a store that was opened
+  lacks_memory : (disk : D) (store : Standing D) (run : StoreRun D S K) → (moment store.disk).state.seen ≡ (moment disk).state.seen → LacksMemory store run
+      → IsUnrun moment disk run
+  lacks_memory disk store run seen lacks = record {
+    none = lacks.none;
+    nothing = lacks.nothing;
+    no_pages = lacks.no_pages;
+    cause = subst (λ (n : Notice). TellsUnopened n (moment disk).state (moment run.disk).state) (sym lacks.memory) tt;
+    unwritten = ap (λ (d : D). (moment d).state.seen) lacks.is_disk ∙ seen;
+  }
+
+  pub runs_over : (disk : D) (limits : Limits) (streams : List (Streams S K)) (store end : Standing D) (run : StoreRun D S K)
+      → BeganOver moment disk limits (start_of store) → RunsTo moment source_state sink_state (start_of store) streams end run
+      → RunsOver moment source_state sink_state disk limits streams end run
+  runs_over disk limits streams store end run began runs = record {
+    opened = subst (λ (start : Start D). BeganOver moment disk limits start) (sym runs.began) began;
+    runs = subst (λ (start : Start D). RunsTo moment source_state sink_state start streams end run) (sym runs.began) runs;
+  }
+
+  pub over : (disk : D) (limits : Limits) (streams : List (Streams S K)) (store : Standing D) (run : StoreRun D S K) → BeganOver moment disk limits (start_of store)
+      → OnlySyncs (moment disk) (moment store.disk) → LacksMemory store run ⊎ ((end : Standing D) × RunsTo moment source_state sink_state (start_of store) streams end run)
+      → IsUnrun moment disk run ⊎ ((end : Standing D) × RunsOver moment source_state sink_state disk limits streams end run)
+  over disk limits streams store run began reads ran = elim ran [
+    | inl lacks ↦ inl (lacks_memory disk store run reads.seen lacks)
+    | inr runs ↦ inr (runs.0, runs_over disk limits streams store runs.0 run began runs.1)
+  ]
+
+  -- the disk that is handed back is the one that was opened, some calls later
+  pub disk_goes_on : (disk : D) (limits : Limits) (streams : List (Streams S K)) (store : Standing D) (run : StoreRun D S K) → BeganOver moment disk limits (start_of store)
+      → DiskGoesOn (moment disk).state (moment store.disk).state → LacksMemory store run ⊎ ((end : Standing D) × RunsTo moment source_state sink_state (start_of store) streams end run)
+      → DiskGoesOn (moment disk).state (moment run.disk).state
+  disk_goes_on disk limits streams store run began same ran = elim ran [
+    | inl lacks ↦ subst (λ (d : D). DiskGoesOn (moment disk).state (moment d).state) (sym lacks.is_disk) same
+    | inr runs ↦
+        let end = runs.0 in
+        let over = runs_over disk limits streams store end run began runs.1 in
+        subst (λ (d : D). DiskGoesOn (moment disk).state (moment d).state) (sym over.runs.ends.is_disk)
+        (goes (moment disk).state (moment end.opened.disk).state (moment end.disk).state over.opened.synced.same over.runs.ends.goes_on)
+  ]
+
+  -- what is told where no session ran
+  pub unrun_as : (store : Standing D) (disk : D) (notice : Notice) (run : StoreRun D S K)
+      → run ≡ record { notice = notice; history = []; sessions = []; free_pages = 0; disk = disk } → notice ≡ Memory → disk ≡ store.disk → LacksMemory store run
+  unrun_as store disk notice run is memory same = record {
+    memory = ap (λ (r : StoreRun D S K). r.notice) is ∙ memory;
+    none = ap (λ (r : StoreRun D S K). r.sessions) is;
+    nothing = ap (λ (r : StoreRun D S K). r.history) is;
+    no_pages = ap (λ (r : StoreRun D S K). r.free_pages) is;
+    is_disk = ap (λ (r : StoreRun D S K). r.disk) is ∙ same;
+  }
+
+  pub unopened_as : (old disk : D) (notice : Notice) (run : StoreRun D S K) → run ≡ record { notice = notice; history = []; sessions = []; free_pages = 0; disk = disk }
+      → TellsUnopened notice (moment old).state (moment disk).state → OnlySyncs (moment old) (moment disk) → IsUnrun moment old run
+  unopened_as old disk notice run is cause reads = record {
+    none = ap (λ (r : StoreRun D S K). r.sessions) is;
+    nothing = ap (λ (r : StoreRun D S K). r.history) is;
+    no_pages = ap (λ (r : StoreRun D S K). r.free_pages) is;
+    cause = subst (λ (r : StoreRun D S K). TellsUnopened r.notice (moment old).state (moment r.disk).state) (sym is) cause;
+    unwritten = ap (λ (r : StoreRun D S K). (moment r.disk).state.seen) is ∙ reads.seen;
+  }

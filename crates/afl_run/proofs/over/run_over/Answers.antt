@@ -1,0 +1,27 @@
+use Rattle.std.proofs.Common.{inl, sym, subst}
+use Rattle.afl_outside.specs.Disk.{DiskGoesOn}
+use Rattle.store_state.specs.At.{standing}
+use Rattle.run_stores.specs.declared.closing.StoreRun.{StoreRun}
+use Rattle.afl_run.proofs.OverLemmas.{disk_goes_on, over, unopened_as}
+use Rattle.afl_run.proofs.over.run_over.Goals as goal
+
+pub returns-in-Ok : goal.returns-in-Ok
+returns-in-Ok g c =
+    let moment = g.D.Disk.moment in
+    let source = g.S.Source.state in
+    let sink = g.K.Sink.state in
+    let store = standing moment c.in-Ok.store in
+    let e = c.in-Ok.ensures in
+    record {
+      same = disk_goes_on moment source sink c.args.disk c.args.limits c.args.streams store c.run_store.result e.began e.reads.same c.run_store.ensures;
+      run = over moment source sink c.args.disk c.args.limits c.args.streams store c.run_store.result e.began e.reads c.run_store.ensures;
+    }
+
+pub returns-in-Err : goal.returns-in-Err
+returns-in-Err g c =
+    let moment = g.D.Disk.moment in
+    let e = c.in-Err.ensures in
+    record {
+      same = subst (λ (r : StoreRun g.row.D.Denot g.row.S.Denot g.row.K.Denot). DiskGoesOn (moment c.args.disk).state (moment r.disk).state) (sym c.unrun.ensures) e.reads.same;
+      run = inl (unopened_as moment g.S.Source.state g.K.Sink.state c.args.disk c.in-Err.disk c.in-Err.notice c.unrun.result c.unrun.ensures e.cause e.reads);
+    }

@@ -1,0 +1,2 @@
+pub use Rattle.chunk_rle.proofs.ChunkLaws
+pub use Rattle.chunk_rle.proofs.StoredLaws

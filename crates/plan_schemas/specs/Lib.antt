@@ -1,0 +1,2 @@
+pub use Rattle.logical_plan.specs.PlanSchema
+pub use Rattle.logical_plan.specs.Query

@@ -1,0 +1,12 @@
+//! How a run opens what its words name.
+#![tactic(auto)]
+
+mod causes;
+mod device;
+mod opening;
+mod replies;
+mod room;
+mod scripts;
+
+pub use device::open_device;
+pub use opening::open_streams;

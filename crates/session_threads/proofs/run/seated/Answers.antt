@@ -1,0 +1,24 @@
+use Rattle.std.proofs.Common.{◌≡◌, ◌≤◌, length, slice_get, Some, sym, subst, arith}
+use Rattle.turn_lock.proofs.Gathering.{longer_by_one}
+use Rattle.snapshot_manager.proofs.Seating.{first_of_rest, less_one}
+use Rattle.session_threads.proofs.Desks.{seated_more}
+use Rattle.session_threads.proofs.run.seated.Goals as goal
+
+pub loop-preserved : goal.loop-preserved
+loop-preserved g c =
+    let i = c.loop.invariant in record {
+      seats = less_one c.args.seats c.loop.seats c.remove-seat.new.self c.loop.counter i.seats c.remove-seat.ensures.rest;
+      streams = less_one c.args.streams c.loop.streams c.remove-first.new.self c.loop.counter i.streams c.remove-first.ensures.rest;
+      count = longer_by_one c.loop.room.items _ c.push_reserved.new.self.items c.loop.counter c.push_reserved.ensures.items i.count;
+      room = subst (λ n. length c.args.streams ≤ n) (sym c.push_reserved.ensures.capacity) i.room;
+      seated = seated_more c.args.seats c.args.streams c.loop.room.items c.push_reserved.new.self.items c.loop.counter c.remove-seat.result c.remove-first.result
+          (first_of_rest c.args.seats c.loop.seats c.loop.counter c.remove-seat.result i.seats c.remove-seat.ensures.item)
+          (first_of_rest c.args.streams c.loop.streams c.loop.counter c.remove-first.result i.streams c.remove-first.ensures.item)
+          i.count i.seated c.push_reserved.ensures.items;
+    }
+
+pub returns-clause-own : goal.returns-clause-own
+returns-clause-own g c =
+    let at = first_of_rest c.args.seats c.loop.seats c.loop.counter c.remove-own.result c.loop.invariant.seats c.remove-own.ensures.item in
+    let all : c.loop.counter ≡ length c.args.streams = omega arith in
+    subst (λ n. slice_get c.args.seats n ≡ Some c.remove-own.result) all at
