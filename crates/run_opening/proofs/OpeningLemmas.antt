@@ -246,18 +246,18 @@ module _ (scripts names : List Word) (are : names ≡ map reply_name scripts) (s
   first_reply source_state sink_state sources opened leaves handed notice fails stops = elim fails [
     | inl want ↦ subst (StopsAt source_state sink_state scripts start next) (sym want.0) tt
     | inr fault ↦
-      let at : StopsAtName sink_state (map reply_name scripts) fault.0 mid next =
-      subst (λ (l : List Word). StopsAtName sink_state l fault.0 mid next) are (subst (StopsAmong sink_state names mid next) fault.1 stops) in
-      subst (StopsAt source_state sink_state scripts start next) (sym fault.1) (inr (record {
-        sources = sources;
-        scripts_opened = zip_each (IsSourceOf start) IsNewSource scripts (map source_state sources) (λ name source is_source. is_source.new) opened;
-        sinks = at.opened;
-        before = at.before;
-        untold = some_each (λ reply. mid.replies reply ≡ None) (λ reply. start.replies reply ≡ None) (slice_get (map reply_name scripts) fault.0)
-            (λ reply untold. sym (replies reply) ∙ untold) at.untold;
-        others = leaves_both scripts (take (fault.0 + 1) (map reply_name scripts)) start mid next leaves at.others;
-        handed = hands_since fault.0 start mid next handed at.handed;
-      }))
+        let at : StopsAtName sink_state (map reply_name scripts) fault.0 mid next =
+        subst (λ (l : List Word). StopsAtName sink_state l fault.0 mid next) are (subst (StopsAmong sink_state names mid next) fault.1 stops) in
+        subst (StopsAt source_state sink_state scripts start next) (sym fault.1) (inr (record {
+          sources = sources;
+          scripts_opened = zip_each (IsSourceOf start) IsNewSource scripts (map source_state sources) (λ name source is_source. is_source.new) opened;
+          sinks = at.opened;
+          before = at.before;
+          untold = some_each (λ reply. mid.replies reply ≡ None) (λ reply. start.replies reply ≡ None) (slice_get (map reply_name scripts) fault.0)
+              (λ reply untold. sym (replies reply) ∙ untold) at.untold;
+          others = leaves_both scripts (take (fault.0 + 1) (map reply_name scripts)) start mid next leaves at.others;
+          handed = hands_since fault.0 start mid next handed at.handed;
+        }))
   ]
 
   sinks_since : {K : Type 0} (state : K → SinkState) (xs : List Word) (ks : List K) → AllZip (IsSinkOf mid) xs (map state ks) → AllZip (IsSinkOf start) xs (map state ks)
