@@ -7,9 +7,9 @@ use Rattle.session_threads.proofs.run.run_shared.Goals as goal
 
 pub gathered-requires-clause-desks : goal.gathered-requires-clause-desks
 gathered-requires-clause-desks g c = (
-    c.args.streams,
-    subst (AreDone g.D.Disk.moment g.S.Source.state g.K.Sink.state c.args.shared c.args.streams) (sym c.from_vec.ensures) c.worked-desks.ensures.desks,
-  )
+  c.args.streams,
+  subst (AreDone g.D.Disk.moment g.S.Source.state g.K.Sink.state c.args.shared c.args.streams) (sym c.from_vec.ensures) c.worked-desks.ensures.desks,
+)
 
 pub gathered-requires-clause-own : goal.gathered-requires-clause-own
 gathered-requires-clause-own g c =
