@@ -32,6 +32,7 @@ module _ {D S K : Type 0} where
     pub nothing : run.history ≡ []
     pub no_pages : run.free_pages ≡ 0
     pub cause : TellsUnopened run.notice (moment disk).state (moment run.disk).state
+    pub unwritten : (moment run.disk).state.seen ≡ (moment disk).state.seen
 
 module _ {D S K : Type 0} (moment : D → Moment) (source_state : S → SourceState) (sink_state : K → SinkState) where
   -- SESSIONS RAN over a store that began so, which was this at its end: each served its streams, over the one history that the store has at its end
