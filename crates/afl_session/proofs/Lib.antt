@@ -1,4 +1,1 @@
-pub mod Ending
 pub mod InHistories
-pub mod ServingLemmas
-pub mod TooLong

@@ -1,9 +1,4 @@
-//! Sessions: the answers to statements over a store that is shared.
+//! Answers.
 #![tactic(auto)]
 
-mod answering;
-mod committing;
-mod pinned;
-
-pub use answering::answer;
-pub use session_turns::{Options, Reply, Seat, Shared, refusal_or_want};
+pub use session_turns::{Options, Reply, Seat, Shared};

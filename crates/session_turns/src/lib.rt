@@ -1,12 +1,7 @@
-//! Statements that are answered in a turn that their session holds.
+//! Turns.
 #![tactic(auto)]
 
-mod held;
 mod settings;
 
-pub use held::answer_held;
-pub use session_outcomes::{
-    Commit, PinnedSource, Reply, Seat, Shared, at_place, refusal_at, refusal_or_want,
-    sources_hold_their_versions, uncommitted, unread, want,
-};
+pub use session_outcomes::{Reply, Seat, Shared};
 pub use settings::Options;
