@@ -7,12 +7,13 @@ use Rattle.std.proofs.lemmas.List.Elements.{All-take}
 use Rattle.std.proofs.lemmas.Option.{slice_get_read}
 use Rattle.afl_outside.specs.Counts.{Rose, risen}
 use Rattle.afl_outside.specs.Shelf.{ShelfState, LeavesOthers}
-use Rattle.afl_outside.specs.Sink.{SinkState}
+use Rattle.afl_outside.specs.Sink.{SinkState, IsNewSink}
+use Rattle.afl_outside.specs.Source.{SourceState, IsNewSource}
 use Rattle.session_reports.specs.declared.notices.Notice.{Notice}
 use Rattle.session_reports.specs.declared.notices.Notice.TheVariants as notices
 use Rattle.run_opening.specs.Names.{Word, reply_name}
-use Rattle.run_opening.specs.Opened.{FailsFor, FailsToOpen, HandsOut, HandsOutSome, IsSinkOf, IsUnopened, LeavesUnasked}
-use Rattle.run_opening.specs.Inner.Replying.{FailsAtReply}
+use Rattle.run_opening.specs.Opened.{FailsFor, FailsToOpen, HandsOut, HandsOutSome, IsSinkOf, IsSourceOf, IsUnopened, LeavesUnasked, StopsAt}
+use Rattle.run_opening.specs.Inner.Replying.{FailsAtReply, StopsAmong, StopsAmongScripts, StopsAtName}
 
 -- ---- lists
 
@@ -21,6 +22,16 @@ zip_push R [] [] x y all one = (one, tt)
 zip_push R [] (b ∷ ys) x y all one = absurd all
 zip_push R (a ∷ xs) [] x y all one = absurd all
 zip_push R (a ∷ xs) (b ∷ ys) x y all one = (all.0, zip_push R xs ys x y all.1 one)
+
+zip_each : {A B : Type 0} (R Q : A → B → Type 0) (xs : List A) (ys : List B) → ((x : A) (y : B) → R x y → Q x y) → AllZip R xs ys → AllZip Q xs ys
+zip_each R Q [] [] each all = tt
+zip_each R Q [] (y ∷ ys) each all = absurd all
+zip_each R Q (x ∷ xs) [] each all = absurd all
+zip_each R Q (x ∷ xs) (y ∷ ys) each all = (each x y all.0, zip_each R Q xs ys each all.1)
+
+some_each : {A : Type 0} (P Q : A → Type 0) (o : Option A) → ((x : A) → P x → Q x) → IsSomeAnd o P → IsSomeAnd o Q
+some_each P Q None each some = some
+some_each P Q (Some x) each some = each x some
 
 last_of : (n : Word) (xs : List Word) (x : Word) → All (λ m. n ≢ m) (xs ++ x ∷ []) → n ≢ x
 last_of n [] x all = all zero x (omega arith)
@@ -171,7 +182,44 @@ module _ (names : List Word) (i : ℕ) (item asked : Word) (lt : i < length name
       )
     ]
 
+    -- the first that fails
+    pub stops_script : {S : Type 0} (state : S → SourceState) (opened : List S) → AllZip (IsSourceOf start) (take i names) (map state opened)
+        → ((n : Word) → next.replies n ≡ start.replies n) → next.handed ≡ start.handed
+        → (notice : Notice) → FailsFor i (now.scripts asked) notice now next → StopsAmongScripts state names start next notice
+    stops_script state opened so_far replies handed notice fails = elim fails [
+      | inl want ↦ subst (StopsAmongScripts state names start next) (sym want.0) tt
+      | inr fault ↦ subst (StopsAmongScripts state names start next) (sym fault.0) (record {
+        opened = opened;
+        before = zip_each (IsSourceOf start) IsNewSource (take i names) (map state opened) (λ name source is_source. is_source.new) so_far;
+        untold = subst (λ (o : Option Word). IsSomeAnd o (λ script. start.scripts script ≡ None)) (sym at_place) (sym told_script ∙ fault.2);
+        others = leaves_more start now next before others;
+        replies = replies;
+        handed = handed;
+      })
+    ]
+
+    pub stops_reply : {K : Type 0} (state : K → SinkState) (opened : List K) → AllZip (IsSinkOf start) (take i names) (map state opened) → HandsOut i start next
+        → (notice : Notice) → FailsFor i (now.replies asked) notice now next → StopsAmong state names start next notice
+    stops_reply state opened so_far handed notice fails = elim fails [
+      | inl want ↦ subst (StopsAmong state names start next) (sym want.0) tt
+      | inr fault ↦ subst (StopsAmong state names start next) (sym fault.0) (record {
+        opened = opened;
+        before = zip_each (IsSinkOf start) IsNewSink (take i names) (map state opened) (λ name sink is_sink. is_sink.new) so_far;
+        untold = subst (λ (o : Option Word). IsSomeAnd o (λ reply. start.replies reply ≡ None)) (sym at_place) (sym told_reply ∙ fault.2);
+        others = leaves_more start now next before others;
+        handed = handed;
+      })
+    ]
+
 -- ---- scripts, and then their replies
+
+pub first_script : {S K : Type 0} (source_state : S → SourceState) (sink_state : K → SinkState) (scripts : List Word) (old new : ShelfState) (notice : Notice)
+    → FailsToOpen scripts notice old new → StopsAmongScripts source_state scripts old new notice → StopsAt source_state sink_state scripts old new notice
+first_script source_state sink_state scripts old new notice fails stops = elim fails [
+  | inl want ↦ subst (StopsAt source_state sink_state scripts old new) (sym want.0) tt
+  | inr fault ↦ subst (StopsAt source_state sink_state scripts old new) (sym fault.1)
+      (inl (subst (StopsAmongScripts source_state scripts old new) fault.1 stops))
+]
 
 some_of_map : {A B : Type 0} (f : A → B) (P : B → Type 0) (Q : A → Type 0) (xs : List A) (k : ℕ) → ((x : A) → P (f x) → Q x) → IsSomeAnd (slice_get (map f xs) k) P → IsSomeAnd (slice_get xs k) Q
 some_of_map f P Q [] k each some = some
@@ -190,6 +238,26 @@ module _ (scripts names : List Word) (are : names ≡ map reply_name scripts) (s
           (λ script untold. record { rose = rose_since start.faults mid.faults next.faults later fault.2; untold = inr (sym (replies (reply_name script)) ∙ untold) })
           (subst (λ (l : List Word). IsSomeAnd (slice_get l fault.0) (λ name. mid.replies name ≡ None)) are fault.3),
     )
+  ]
+
+  pub first_reply : {S K : Type 0} (source_state : S → SourceState) (sink_state : K → SinkState) (sources : List S) → AllZip (IsSourceOf start) scripts (map source_state sources)
+      → LeavesUnasked scripts start mid → mid.handed ≡ start.handed → (notice : Notice) → FailsAtReply names notice mid next → StopsAmong sink_state names mid next notice
+      → StopsAt source_state sink_state scripts start next notice
+  first_reply source_state sink_state sources opened leaves handed notice fails stops = elim fails [
+    | inl want ↦ subst (StopsAt source_state sink_state scripts start next) (sym want.0) tt
+    | inr fault ↦
+        let at : StopsAtName sink_state (map reply_name scripts) fault.0 mid next =
+        subst (λ (l : List Word). StopsAtName sink_state l fault.0 mid next) are (subst (StopsAmong sink_state names mid next) fault.1 stops) in
+        subst (StopsAt source_state sink_state scripts start next) (sym fault.1) (inr (record {
+          sources = sources;
+          scripts_opened = zip_each (IsSourceOf start) IsNewSource scripts (map source_state sources) (λ name source is_source. is_source.new) opened;
+          sinks = at.opened;
+          before = at.before;
+          untold = some_each (λ reply. mid.replies reply ≡ None) (λ reply. start.replies reply ≡ None) (slice_get (map reply_name scripts) fault.0)
+              (λ reply untold. sym (replies reply) ∙ untold) at.untold;
+          others = leaves_both scripts (take (fault.0 + 1) (map reply_name scripts)) start mid next leaves at.others;
+          handed = hands_since fault.0 start mid next handed at.handed;
+        }))
   ]
 
   sinks_since : {K : Type 0} (state : K → SinkState) (xs : List Word) (ks : List K) → AllZip (IsSinkOf mid) xs (map state ks) → AllZip (IsSinkOf start) xs (map state ks)

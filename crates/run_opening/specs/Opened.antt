@@ -1,5 +1,5 @@
 -- What a run opens, and why something is not opened.
-use Rattle.std.specs.Prelude.{◌≡◌, ◌≢◌, ◌⊎◌, ℕ, ◌+◌, ◌^◌, ◌<◌, ◌≤◌, List, [], Option, None, Some, All, IfSome, IsSomeAnd, slice_get}
+use Rattle.std.specs.Prelude.{◌≡◌, ◌≢◌, ◌⊎◌, ℕ, ◌+◌, ◌^◌, ◌<◌, ◌≤◌, List, [], ◌++◌, map, take, Option, None, Some, All, IfSome, IsSomeAnd, slice_get}
 use Rattle.std.specs.List.{AllZip}
 use Rattle.afl_lexer.specs.Inner.Standing.{StandsAfter}
 use Rattle.afl_outside.specs.Counts.{Rose}
@@ -69,6 +69,35 @@ FailsFor session told notice old new =
 abbrev pub FailsToOpen : List Word → Notice → ShelfState → ShelfState → Type 0
 FailsToOpen scripts notice old new = ((notice ≡ notices.Memory) × Rose old.wants new.wants)
     ⊎ ((session : ℕ) × (notice ≡ notices.Stream session) × IsSomeAnd (slice_get scripts session) (λ script. IsUnopened script old new))
+
+-- ---- the first that fails decides: scripts are opened in order, and then replies in order
+
+-- the script of this session fails: those before it were opened, and nothing else was asked for
+pub record StopsAtScript {S : Type 0} (source_state : S → SourceState) (scripts : List Word) (session : ℕ) (old new : ShelfState) : Type 0 where
+  pub opened : List S
+  pub before : AllZip IsNewSource (take session scripts) (map source_state opened)
+  pub untold : IsSomeAnd (slice_get scripts session) (λ script. old.scripts script ≡ None)
+  pub others : LeavesUnasked (take (session + 1) scripts) old new
+  pub replies : (n : Word) → new.replies n ≡ old.replies n
+  pub handed : new.handed ≡ old.handed
+
+-- its reply fails: all scripts were opened, and the replies before it, and nothing else was asked for
+pub record StopsAtReply {S K : Type 0} (source_state : S → SourceState) (sink_state : K → SinkState) (scripts : List Word) (session : ℕ)
+    (old new : ShelfState) : Type 0 where
+  pub sources : List S
+  pub scripts_opened : AllZip IsNewSource scripts (map source_state sources)
+  pub sinks : List K
+  pub before : AllZip IsNewSink (take session (map reply_name scripts)) (map sink_state sinks)
+  pub untold : IsSomeAnd (slice_get (map reply_name scripts) session) (λ reply. old.replies reply ≡ None)
+  pub others : LeavesUnasked (scripts ++ take (session + 1) (map reply_name scripts)) old new
+  pub handed : HandsOut session old new
+
+abbrev pub StopsAt : {S K : Type 0} → (S → SourceState) → (K → SinkState) → List Word → ShelfState → ShelfState → Notice → Type 0
+StopsAt source_state sink_state scripts old new (notices.Stream session) =
+    StopsAtScript source_state scripts session old new ⊎ StopsAtReply source_state sink_state scripts session old new
+StopsAt source_state sink_state scripts old new notice = Unit {0}
+
+-- ---- the device
 
 -- the shelf found no memory, or it failed at the device, and hadn't told that it opens it
 abbrev pub FailsToOpenDevice : Word → Notice → ShelfState → ShelfState → Type 0

@@ -1,7 +1,7 @@
 //! The streams of a run.
 ghost use Rattle.std.specs.Prelude.{◌≡◌, ◌⊎◌, ◌<◌, ◌^◌, IfErr, IfOk, OnErr, OnOk, length};
 ghost use Rattle.run_opening.specs.Names.{HaveOwnNames, stream_names};
-ghost use Rattle.run_opening.specs.Opened.{AreOpenedFor, FailsToOpen, HandsOut, HandsOutSome, LeavesUnasked};
+ghost use Rattle.run_opening.specs.Opened.{AreOpenedFor, FailsToOpen, HandsOut, HandsOutSome, LeavesUnasked, StopsAt};
 ghost use Rattle.run_opening.specs.Inner.Rooms.{HasRoom};
 
 use crate::replies::open_replies;
@@ -25,6 +25,7 @@ pub fn open_streams<F: Shelf>(
     ensures opened { IfOk result (λ streams. AreOpenedFor F.S.state F.K.state (F.state shelf.old) scripts.now streams) }
     ensures cause { IfErr result (λ notice. ((notice ≡ Notice.Memory) × (shelf.new ≡ shelf.old))
         ⊎ FailsToOpen scripts.now notice (F.state shelf.old) (F.state shelf.new)) }
+    ensures first { IfErr result (StopsAt F.S.state F.K.state scripts.now (F.state shelf.old) (F.state shelf.new)) }
     ensures others { LeavesUnasked (stream_names scripts.now) (F.state shelf.old) (F.state shelf.new) }
     ensures handed { OnOk result (HandsOut (length scripts.now) (F.state shelf.old) (F.state shelf.new)) }
     ensures some { OnErr result (HandsOutSome (length scripts.now) (F.state shelf.old) (F.state shelf.new)) }
@@ -46,6 +47,7 @@ fn open_in<F: Shelf>(
     requires names { HaveOwnNames scripts.now }
     ensures opened { IfOk result (λ streams. AreOpenedFor F.S.state F.K.state (F.state shelf.old) scripts.now streams) }
     ensures cause { IfErr result (λ notice. FailsToOpen scripts.now notice (F.state shelf.old) (F.state shelf.new)) }
+    ensures first { IfErr result (StopsAt F.S.state F.K.state scripts.now (F.state shelf.old) (F.state shelf.new)) }
     ensures others { LeavesUnasked (stream_names scripts.now) (F.state shelf.old) (F.state shelf.new) }
     ensures handed { OnOk result (HandsOut (length scripts.now) (F.state shelf.old) (F.state shelf.new)) }
     ensures some { OnErr result (HandsOutSome (length scripts.now) (F.state shelf.old) (F.state shelf.new)) }

@@ -7,7 +7,7 @@ ghost use Rattle.afl_outside.specs.Sink.{IsNewSink};
 ghost use Rattle.afl_outside.specs.Shelf.{LeavesOthers};
 ghost use Rattle.run_opening.specs.Names.{reply_name};
 ghost use Rattle.run_opening.specs.Opened.{FailsFor, HandsOut, HandsOutSome, IsSinkOf, LeavesUnasked};
-ghost use Rattle.run_opening.specs.Inner.Replying.{FailsAtReply};
+ghost use Rattle.run_opening.specs.Inner.Replying.{FailsAtReply, StopsAmong};
 
 use crate::causes::unopened_notice;
 use afl_outside::{Failed, Shelf};
@@ -63,6 +63,7 @@ pub(crate) fn open_replies<F: Shelf>(
     requires apart { AllPairs (λ a b. a ≢ b) names.now }
     ensures ok { OnOk result (AllZip (IsSinkOf (F.state shelf.old)) names.now (map F.K.state sinks.new.items)) }
     ensures cause { IfErr result (λ notice. FailsAtReply names.now notice (F.state shelf.old) (F.state shelf.new)) }
+    ensures first { IfErr result (StopsAmong F.K.state names.now (F.state shelf.old) (F.state shelf.new)) }
     ensures others { LeavesUnasked names.now (F.state shelf.old) (F.state shelf.new) }
     ensures handed { OnOk result (HandsOut (length names.now) (F.state shelf.old) (F.state shelf.new)) }
     ensures some { OnErr result (HandsOutSome (length names.now) (F.state shelf.old) (F.state shelf.new)) }

@@ -5,6 +5,7 @@ ghost use Rattle.afl_outside.specs.Source.{IsNewSource};
 ghost use Rattle.afl_outside.specs.Shelf.{LeavesOthers};
 ghost use Rattle.run_opening.specs.Names.{Word};
 ghost use Rattle.run_opening.specs.Opened.{FailsFor, FailsToOpen, IsSourceOf, LeavesUnasked};
+ghost use Rattle.run_opening.specs.Inner.Replying.{StopsAmongScripts};
 
 use crate::causes::unopened_notice;
 use afl_outside::{Failed, Shelf};
@@ -39,6 +40,7 @@ pub(crate) fn open_scripts<F: Shelf>(
     requires apart { AllPairs (λ a b. a ≢ b) scripts.now }
     ensures ok { OnOk result (AllZip (IsSourceOf (F.state shelf.old)) scripts.now (map F.S.state sources.new.items)) }
     ensures cause { IfErr result (λ notice. FailsToOpen scripts.now notice (F.state shelf.old) (F.state shelf.new)) }
+    ensures first { IfErr result (StopsAmongScripts F.S.state scripts.now (F.state shelf.old) (F.state shelf.new)) }
     ensures others { LeavesUnasked scripts.now (F.state shelf.old) (F.state shelf.new) }
     ensures replies { (n : Word) → (F.state shelf.new).replies n ≡ (F.state shelf.old).replies n }
     ensures handed { (F.state shelf.new).handed ≡ (F.state shelf.old).handed }

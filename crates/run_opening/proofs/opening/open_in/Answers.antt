@@ -1,7 +1,7 @@
 use Rattle.std.proofs.Common.{◌∙◌, length, map, List, arith, sym, subst}
 use Rattle.run_opening.specs.Names.{Word, reply_name}
 use Rattle.run_opening.specs.Opened.{AreOpenedFor, HandsOut, IsSinkOf, IsSourceOf, LeavesUnasked}
-use Rattle.run_opening.proofs.OpeningLemmas.{fails_from_reply, hands_none, hands_since, hands_some_since, leaves_both, leaves_front, names_count, sinks_of}
+use Rattle.run_opening.proofs.OpeningLemmas.{fails_from_reply, first_reply, first_script, hands_none, hands_since, hands_some_since, leaves_both, leaves_front, names_count, sinks_of}
 use Rattle.run_opening.proofs.RoomLemmas.{as_many, opened_for}
 use Rattle.run_opening.proofs.opening.open_in.Goals as goal
 
@@ -14,6 +14,7 @@ returns-in-Err g c =
     record {
       opened = tt;
       cause = e.cause;
+      first = first_script g.F.S.Source.state g.F.K.Sink.state scripts start mid c.in-Err.notice e.cause e.first;
       others = leaves_front scripts (map reply_name scripts) start mid e.others;
       handed = tt;
       some = hands_none (length scripts) start mid e.handed;
@@ -32,6 +33,8 @@ returns-in-Err-open_replies g c =
     record {
       opened = tt;
       cause = fails_from_reply scripts names are start mid next first.others.later first.others.wants_later first.replies c.in-Err-open_replies.notice e.cause;
+      first = first_reply scripts names are start mid next first.others.later first.others.wants_later first.replies g.F.S.Source.state g.F.K.Sink.state c.open_scripts.new.sources.items
+          first.ok first.others first.handed c.in-Err-open_replies.notice e.cause e.first;
       others = leaves_both scripts (map reply_name scripts) start mid next first.others (subst (λ (l : List Word). LeavesUnasked l mid next) are e.others);
       handed = tt;
       some = hands_some_since (length names) (length scripts) start mid next (names_count scripts names are start mid next first.others.later first.others.wants_later first.replies)
@@ -74,6 +77,7 @@ returns-in-Ok-open_replies g c =
       opened = subst (λ l. AreOpenedFor g.F.S.Source.state g.F.K.Sink.state start scripts l) (sym c.into_streams.ensures)
           (opened_for g.F.S.Source.state g.F.K.Sink.state start scripts sources sinks c.args.room.splitters.items first.ok held c.requires.room.fresh c.requires.room.enough);
       cause = tt;
+      first = tt;
       others = leaves_both scripts (map reply_name scripts) start mid next first.others (subst (λ (l : List Word). LeavesUnasked l mid next) are e.others);
       handed = subst (λ n. HandsOut n start next) (names_count scripts names are start mid next first.others.later first.others.wants_later first.replies)
           (hands_since (length names) start mid next first.handed e.handed);

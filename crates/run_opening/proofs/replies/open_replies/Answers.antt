@@ -1,6 +1,6 @@
 use Rattle.std.proofs.Common.{◌≡◌, ◌∙◌, List, ℕ, length, Option, Some, IfSome, arith, refl, rules, subst}
 use Rattle.run_opening.specs.Opened.{IsSinkOf}
-use Rattle.run_opening.proofs.OpeningLemmas.{fails_reply, hands_more, hands_some, leaves_all, leaves_more, told_reply, zips_more}
+use Rattle.run_opening.proofs.OpeningLemmas.{fails_reply, hands_more, hands_some, leaves_all, leaves_more, stops_reply, told_reply, zips_more}
 use Rattle.run_opening.proofs.replies.open_replies.Goals as goal
 
 pub loop-place-preserved : goal.loop-place-preserved
@@ -41,6 +41,8 @@ returns-in-Err g c =
     record {
       ok = tt;
       cause = fails_reply names i item asked c.loop-place-test.true is c.as_str.ensures start now next c.requires.apart so_far.told e.others i c.in-Err.notice refl e.cause;
+      first = stops_reply names i item asked c.loop-place-test.true is c.as_str.ensures start now next c.requires.apart so_far.told e.others g.F.K.Sink.state c.loop-place.sinks.items
+          so_far.opened (λ fits. e.handed ∙ so_far.handed fits) c.in-Err.notice e.cause;
       others = leaves_all names i item asked c.loop-place-test.true is c.as_str.ensures start now next c.requires.apart so_far.told e.others;
       handed = tt;
       some = hands_some i (length names) start next (omega (arith, c.loop-place-test.true)) (λ fits. e.handed ∙ so_far.handed fits);
