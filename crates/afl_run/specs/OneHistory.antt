@@ -11,7 +11,7 @@ use Rattle.turn_lock.specs.Owners.{AreOwnedBelow, ExtendsByOthers}
 use Rattle.event_core.specs.declared.entry.Entry.{Entry}
 use Rattle.event_core.specs.Legal.{IsOrdered}
 use Rattle.plan_changes.specs.Databases.{Database}
-use Rattle.store_ledger.specs.Ledger.{IsLedger, history, reap_comes, unused_pages}
+use Rattle.store_ledger.specs.Ledger.{IsLedger, history as history_of, reap_comes, unused_pages}
 use Rattle.store_state.specs.declared.event.Event.{Event}
 use Rattle.store_state.specs.Events.{events, owner_of}
 use Rattle.store_state.specs.Standings.{BeganAs, Standing}
@@ -47,7 +47,7 @@ module _ {D S K : Type 0} (moment : D → Moment) (source_state : S → SourceSt
   pub record IsOneHistory (sessions : List (SessionReport S K)) (notice : Notice) (history : List Entry) (free : ℕ) (store : Standing D) : Type 0 where
     pub is_history : history ≡ store.ledger.entries
     pub ledger : IsLedger store.ledger
-    pub ordered : IsOrdered store.ledger.base (history store.ledger)
+    pub ordered : IsOrdered store.ledger.base (history_of store.ledger)
     pub each : (k : ℕ) (other : SessionReport S K) → k < length sessions → IsReportOf (start_of store) k (slice_index_or sessions k other) (events store)
     -- nothing else is in it: each event is of one of the sessions, or of nobody
     pub others : AreOwnedBelow owner_of (length sessions) (events store)

@@ -5,12 +5,12 @@ use Rattle.afl_outside.specs.Counts.{Rose}
 use Rattle.afl_outside.specs.Disk.{DiskState, Moment}
 use Rattle.afl_outside.specs.Source.{SourceState}
 use Rattle.afl_outside.specs.Sink.{SinkState}
-use Rattle.afl_outside.specs.Shelf.{ShelfState}
+use Rattle.afl_outside.specs.Shelf.{LeavesOthers, ShelfState}
 use Rattle.event_core.specs.declared.entry.Entry.{Entry}
 use Rattle.file_meaning.specs.Opening.{IsWrongAt}
 use Rattle.store_state.specs.Standings.{BeganAs, Standing}
 use Rattle.run_opening.specs.Names.{Word, standard, stream_names}
-use Rattle.run_opening.specs.Opened.{FailsToOpen, FailsToOpenDevice, HandsOut, IsOpenedDevice, LeavesUnasked}
+use Rattle.run_opening.specs.Opened.{FailsToOpen, FailsToOpenDevice, HandsOut, IsOpenedDevice, LeavesUnasked, StopsAt}
 use Rattle.session_reports.specs.Outcomes.{notice_of}
 use Rattle.session_reports.specs.declared.reports.SessionReport.{SessionReport}
 use Rattle.session_reports.specs.declared.notices.Notice.{Notice}
@@ -63,11 +63,11 @@ pub record HandsOutInOrder {D : Type 0} (device : Option D) (scripts : ℕ) (not
 -- ---- sessions
 
 -- the scripts were answered, but for memory
-abbrev pub IsAnswered : Notice → Type 0
-IsAnswered notices.Done = Unit {0}
-IsAnswered notices.Refused = Unit {0}
-IsAnswered notices.Memory = Unit {0}
-IsAnswered _ = ⊥
+abbrev pub IsOfAnswers : Notice → Type 0
+IsOfAnswers notices.Done = Unit {0}
+IsOfAnswers notices.Refused = Unit {0}
+IsOfAnswers notices.Memory = Unit {0}
+IsOfAnswers _ = ⊥
 
 -- the reports are those of these scripts, in order, and began as the shelf told; or there is none
 abbrev pub AreOfScripts : {S K : Type 0} → (S → SourceState) → (K → SinkState) → ShelfState → List Word → List (SessionReport S K) → Type 0
@@ -104,6 +104,8 @@ module _ {D S K : Type 0} (moment : D → Moment) (source_state : S → SourceSt
     pub others : LeavesUnasked (asked ∷ stream_names scripts) old new
     pub handed : HandsOutStreams (devices_in device) (length scripts) (length sessions) old new
     pub in_order : HandsOutInOrder device (length scripts) notice old new
+    -- once the device was opened, the first stream that failed decided, and nothing behind it was asked for
+    pub first : sessions ≡ [] → IfSome device (λ _. (opened : ShelfState) × LeavesOthers asked old opened × StopsAt source_state sink_state scripts opened new notice)
     -- where no session ran, nothing was written to the device
     pub unwritten : sessions ≡ [] → IfSome device (λ disk. (moment disk).state.seen ≡ (moment disk).state.first)
     pub none : sessions ≡ [] → (history ≡ []) × (free ≡ 0) × TellsUnrun notice asked scripts (state_in moment device) old new
@@ -118,12 +120,13 @@ module _ {D S K : Type 0} (moment : D → Moment) (source_state : S → SourceSt
     pub handed : HandsOutStreams 0 1 (length sessions) old new
     pub none : sessions ≡ [] → (history ≡ []) × (free ≡ 0) × ((notice ≡ notices.Memory) ⊎ FailsToOpen (standard ∷ []) notice old new)
     pub told : TellsSessions notice sessions
+    pub first : sessions ≡ [] → StopsAt source_state sink_state (standard ∷ []) old new notice
     -- its disk never fails, and is never damaged
     pub disk : notice ≢ notices.Disk
     pub damaged : (page : ℕ) → notice ≢ notices.Damaged page
     -- where the shelf tells that it opens both streams, and no count of theirs rose, the script was answered, but for memory
     pub complete : IsSome (old.scripts standard) → IsSome (old.replies standard)
-        → All (λ report. (Rose 0 (source_state report.source).faults → ⊥) × (Rose 0 (sink_state report.sink).faults → ⊥)) sessions → IsAnswered notice
+        → All (λ report. (Rose 0 (source_state report.source).faults → ⊥) × (Rose 0 (sink_state report.sink).faults → ⊥)) sessions → IsOfAnswers notice
     pub one : sessions ≢ [] → (store : Standing D) × IsOneHistory moment source_state sink_state sessions notice history free store
         × BeganEmpty moment store
 

@@ -7,7 +7,7 @@ use Rattle.afl_outside.specs.Shelf.{ShelfState}
 use Rattle.event_core.specs.declared.entry.Entry.{Entry}
 use Rattle.store_state.specs.Standings.{Standing}
 use Rattle.run_opening.specs.Names.{Word, stream_names}
-use Rattle.run_opening.specs.Opened.{HandsOut, LeavesUnasked}
+use Rattle.run_opening.specs.Opened.{HandsOut, LeavesUnasked, StopsAt}
 use Rattle.session_reports.specs.declared.reports.SessionReport.{SessionReport}
 use Rattle.session_reports.specs.declared.notices.Notice.{Notice}
 use Rattle.afl_run.specs.OneHistory.{IsOneHistory}
@@ -30,6 +30,7 @@ module _ {D S K : Type 0} (moment : D → Moment) (source_state : S → SourceSt
     pub others : LeavesUnasked (stream_names scripts) old new
     pub handed : HandsOutStreams 0 (length scripts) (length sessions) old new
     pub all : IsOfStore notice → HandsOut (length scripts) old new
+    pub first : sessions ≡ [] → StopsAt source_state sink_state scripts old new notice
     pub unwritten : sessions ≡ [] → IfSome device (λ later. (moment later).state.seen ≡ (moment disk).state.seen)
     -- of the device only what happened to it is told here
     pub none : sessions ≡ [] → (history ≡ []) × (free ≡ 0) × ((asked : Word) → TellsUnrun notice asked scripts (state_in moment device) old new)
