@@ -10,3 +10,10 @@ pub use Rattle.session_sources.proofs.Telling
 pub use Rattle.session_sources.proofs.TriedTurns
 pub use Rattle.session_sources.proofs.Turning
 pub use Rattle.session_sources.proofs.VersionLaws
+pub mod Behind
+pub mod Changing
+pub mod Freshly
+pub mod Noted
+pub mod Outcomes
+pub mod Told
+pub mod Under

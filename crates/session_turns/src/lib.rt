@@ -1,7 +1,12 @@
-//! Turns.
+//! Statements that are answered in a turn that their session holds.
 #![tactic(auto)]
 
+mod held;
 mod settings;
 
-pub use session_outcomes::{Reply, Seat, Shared};
+pub use held::answer_held;
+pub use session_outcomes::{
+    Commit, PinnedSource, Reply, Seat, Shared, at_place, refusal_at, refusal_or_want,
+    sources_hold_their_versions, uncommitted, unread, want,
+};
 pub use settings::Options;
