@@ -91,26 +91,27 @@ noted_there (Noted note ∷ es) is = elim (or_cases (is_fault note.kind) (has_fa
 ]
 
 -- one that passes is counted
+some_left : {A : Type 0} (ys : List A) → list_any (λ (y : A). true) ys ≡ true → 1 ≤ length ys
+some_left [] none = absurd (cc (none))
+some_left (y ∷ ys) some = omega arith
+
+passes_still : {A : Type 0} (p : A → Bool) (xs : List A) → list_any p xs ≡ true → list_any (λ (y : A). true) (filter p xs) ≡ true
+passes_still p [] none = none
+passes_still {A = A} p (x ∷ xs) some = by (p x) refl
+  where
+    by : (b : Bool) → p x ≡ b → list_any (λ (y : A). true) (filter p (x ∷ xs)) ≡ true
+    by true is = rw is refl
+    by false is = rw is (passes_still p xs (elim (or_cases (p x) (list_any p xs) some) [ inl here ↦ absurd (cc (is, here)) | inr there ↦ there ]))
+
 counts : {A : Type 0} (p : A → Bool) (xs : List A) → list_any p xs ≡ true → 1 ≤ length (filter p xs)
 counts p xs is = some_left (filter p xs) (passes_still p xs is)
-  where
-    some_left : {A : Type 0} (ys : List A) → list_any (λ (y : A). true) ys ≡ true → 1 ≤ length ys
-    some_left [] none = absurd (cc (none))
-    some_left (y ∷ ys) some = omega arith
-    passes_still : {A : Type 0} (p : A → Bool) (xs : List A) → list_any p xs ≡ true → list_any (λ (y : A). true) (filter p xs) ≡ true
-    passes_still p [] none = none
-    passes_still p (x ∷ xs) some = case_on (p x) refl some
-      where
-        case_on : (b : Bool) → p x ≡ b → list_any p (x ∷ xs) ≡ true → list_any (λ (y : A). true) (filter p (x ∷ xs)) ≡ true
-        case_on true is some = rw is refl
-        case_on false is some = rw is (passes_still p xs (elim (or_cases (p x) (list_any p xs) some) [ inl here ↦ absurd (cc (is, here)) | inr there ↦ there ]))
 
 -- a fault among the events of a store made its disk's count rise
 pub rose_for : {D : Type 0} (moment : D → Moment) (s : Standing D) → IsLedger s.ledger → has_fault_in (events s) ≡ true
     → AreCounted (moment s.opened.disk).state.faults (moment s.disk).state.faults s.ledger.notes → Rose (moment s.opened.disk).state.faults (moment s.disk).state.faults
 rose_for moment s is some counted =
     let noted : list_any (λ (n : Note). is_fault n.kind) s.ledger.notes ≡ true = subst (λ (notes : List Note). list_any (λ (n : Note). is_fault n.kind) notes ≡ true) (notes_are s is)
-        (noted_there (events s) some) in
+    (noted_there (events s) some) in
     let one : 1 ≤ length (filter (λ (n : Note). is_fault n.kind) s.ledger.notes) = counts (λ (n : Note). is_fault n.kind) s.ledger.notes noted in
     elim counted [ inl le ↦ omega (arith, one, le) | inr top ↦ omega (arith, top) ]
 

@@ -192,8 +192,7 @@ module _ {S K : Type 0} (source_state : S → SourceState) (sink_state : K → S
         (subst (λ (o : Option (List ℕ)). IfSome o (λ file. IsOpenedFrom limits.pages file (start_of end))) (sym began.synced.seen) began.opened)
 
     tries_unrun : IsUnrun sure_disk_moment disk run → RunsTry sure_disk_moment source_state sink_state old now run.notice run.history run.sessions run.free_pages
-    tries_unrun unrun =
-    let memory = only_memory run.notice disk run.disk empty unrun.cause in record {
+    tries_unrun unrun = let memory = only_memory run.notice disk run.disk empty unrun.cause in record {
       opened = inl unrun.none;
       first = λ is. subst (λ (n : Notice). StopsAt source_state sink_state (standard ∷ []) old now n) (sym memory) tt;
       disk = λ is. absurd (cc (memory, is));

@@ -106,10 +106,10 @@ module _ {D S K : Type 0} (moment : D → Moment) (source_state : S → SourceSt
           prints = prints _ _ _ _ _ _ _ _ _ _ _ _ is.source.new is.sink.new h.serves;
           in_history = subst
               (λ (whole : List Event). Prints (IsMarkedIn moment start k whole) [] 0 h.seen (source_state (get_or reports k other).source) (sink_state (get_or reports k other).sink)
-                  (get_or reports k other).marks (get_or reports k other).end)
+              (get_or reports k other).marks (get_or reports k other).end)
               (sym h.later.1)
               (prints _ _ _ _ _ _ _ _ _ _ _ _ is.source.new is.sink.new
-                  (sessions_stay moment start k [] h.seen h.later.0 0 _ _ _ _ _ _ h.sealed h.serves));
+              (sessions_stay moment start k [] h.seen h.later.0 0 _ _ _ _ _ _ h.sealed h.serves));
         }
       where
         first : {A : Type 0} (xs : List A) → k < length xs → A
