@@ -95,13 +95,14 @@ some_left : {A : Type 0} (ys : List A) → list_any (λ (y : A). true) ys ≡ tr
 some_left [] none = absurd (cc (none))
 some_left (y ∷ ys) some = omega arith
 
+passes_one : {A : Type 0} (p : A → Bool) (x : A) (xs : List A) → (list_any p xs ≡ true → list_any (λ (y : A). true) (filter p xs) ≡ true) → (b : Bool) → p x ≡ b
+    → list_any p (x ∷ xs) ≡ true → list_any (λ (y : A). true) (filter p (x ∷ xs)) ≡ true
+passes_one p x xs rest true is some = rw is refl
+passes_one p x xs rest false is some = rw is (rest (elim (or_cases (p x) (list_any p xs) some) [ inl here ↦ absurd (cc (is, here)) | inr there ↦ there ]))
+
 passes_still : {A : Type 0} (p : A → Bool) (xs : List A) → list_any p xs ≡ true → list_any (λ (y : A). true) (filter p xs) ≡ true
 passes_still p [] none = none
-passes_still {A = A} p (x ∷ xs) some = by (p x) refl
-  where
-    by : (b : Bool) → p x ≡ b → list_any (λ (y : A). true) (filter p (x ∷ xs)) ≡ true
-    by true is = rw is refl
-    by false is = rw is (passes_still p xs (elim (or_cases (p x) (list_any p xs) some) [ inl here ↦ absurd (cc (is, here)) | inr there ↦ there ]))
+passes_still p (x ∷ xs) some = passes_one p x xs (λ rest. passes_still p xs rest) (p x) refl some
 
 counts : {A : Type 0} (p : A → Bool) (xs : List A) → list_any p xs ≡ true → 1 ≤ length (filter p xs)
 counts p xs is = some_left (filter p xs) (passes_still p xs is)
