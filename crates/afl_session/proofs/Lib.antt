@@ -1,1 +1,4 @@
+pub mod Ending
 pub mod InHistories
+pub mod ServingLemmas
+pub mod TooLong

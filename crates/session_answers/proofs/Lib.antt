@@ -1,1 +1,10 @@
 pub use Rattle.session_turns.proofs.Staying
+pub mod Acts
+pub mod Commits
+pub mod Counting
+pub mod Kept
+pub mod Prefixed
+pub mod Readings
+pub mod Trees
+pub mod Tried
+pub mod Wholes

@@ -1,4 +1,9 @@
-//! Answers.
+//! Sessions: the answers to statements over a store that is shared.
 #![tactic(auto)]
 
-pub use session_turns::{Options, Reply, Seat, Shared};
+mod answering;
+mod committing;
+mod pinned;
+
+pub use answering::answer;
+pub use session_turns::{Options, Reply, Seat, Shared, refusal_or_want};

@@ -4,13 +4,20 @@ ghost use Rattle.afl_lexer.specs.Inner.Standing.{StandsAfter};
 ghost use Rattle.store_state.specs.At.{standing};
 ghost use Rattle.store_state.specs.Events.{events};
 ghost use Rattle.snapshot_manager.specs.Starts.{start_of};
+ghost use Rattle.snapshot_manager.specs.Seats.{seats_in_all, start, AreIdleSeats, AreNewSeats, ExtendEach, IsNewSeat};
 ghost use Rattle.session_threads.specs.Sessions.{AreOfSessions, AreSessionsOf};
+ghost use Rattle.session_threads.specs.Inner.Desks.{AreDone, AreReady, IsReaper};
+ghost use Rattle.session_threads.specs.Inner.Rooms.{HasRoom};
+ghost use Rattle.session_reports.specs.declared.reports.Streams.{Streams};
 
+use crate::desk::Desk;
+use crate::reaper::{reap_once, work_beside};
+use crate::room::Room;
 use afl_outside::{Disk, Gate, Sink, Source};
 use afl_session::{Options, SessionReport};
 use cell_values::{List, Memory};
 use session_reports::Streams;
-use snapshot_manager::Store;
+use snapshot_manager::{Seat, Shared, Store};
 use std::alloc::Global;
 use std::sync::Wait;
 use std::thread::Threads;
@@ -43,6 +50,129 @@ pub fn run_sessions<
     ensures others { IfOk result (λ run. AreOfSessions (length streams) (events (standing D.moment run.0))) }
     ensures err { IfErr result (λ failed. (failed.1 ≡ store) × (failed.2 ≡ streams)) }
 {
-    for _ in rt.forever() {}
-    unreachable!()
+    let Ok(room) = Room::new(alloc, streams.len()) else {
+        return Err((Memory, store, streams));
+    };
+    match Shared::new(alloc, store, streams.len() as u32) {
+        Ok((shared, seats)) => Ok(run_shared(
+            rt, alloc, shared, seats, streams, options, gate, room,
+        )),
+        Err((want, store)) => {
+            drop(room);
+            Err((want, store, streams))
+        }
+    }
+}
+
+// The same, over a store that is shared.
+fn run_shared<
+    D: Disk + Send + Drop,
+    S: Source + Send + Drop,
+    K: Sink + Send + Drop,
+    R: Threads + Wait + Sync,
+    G: Gate,
+>(
+    rt: &R,
+    alloc: Global,
+    shared: Shared<D>,
+    seats: List<Seat<D>>,
+    streams: List<Streams<S, K>>,
+    options: &Options,
+    gate: &G,
+    room: Room<D, S, K>,
+) -> (Store<D>, List<SessionReport<S, K>>)
+    requires seats { AreNewSeats shared seats }
+    requires count { (length seats ≡ length streams + 1) × (seats_in_all shared ≡ length streams + 1) }
+    requires begun { All (λ own. StandsAfter [] own.splitter) streams }
+    requires workers { (1 ≤ options.now.workers) × (options.now.workers ≤ 64) }
+    requires room { HasRoom (length streams) room }
+    ensures start { start_of (standing D.moment result.0) ≡ start D.moment shared }
+    ensures reports { length result.1 ≡ length streams }
+    ensures each { AreSessionsOf D.moment S.state K.state (start D.moment shared) streams result.1 (events (standing D.moment result.0)) }
+    ensures others { AreOfSessions (length streams) (events (standing D.moment result.0)) }
+{
+    let Room {
+        desks,
+        seats: room,
+        reports,
+    } = room;
+    let (desks, own) = seated(&shared, seats, streams, desks);
+    let (desks, own) = work_beside(rt, alloc, &shared, options, gate, desks, own);
+    let mut own = own;
+    reap_once(rt, &shared, &mut own);
+    gathered(shared, own, List::from_vec(desks), room, reports)
+}
+
+// A desk for each session, with the seat of its number and the streams of its place. The last seat is left over.
+fn seated<D: Disk + Drop, S: Source + Drop, K: Sink + Drop>(
+    shared: &Shared<D>,
+    mut seats: List<Seat<D>>,
+    mut streams: List<Streams<S, K>>,
+    mut room: Vec<Desk<D, S, K>>,
+) -> (Vec<Desk<D, S, K>>, Seat<D>)
+    requires seats { AreNewSeats shared.now seats }
+    requires count { length seats ≡ length streams + 1 }
+    requires room { (room.items ≡ []) × (length streams ≤ vec_capacity room) }
+    ensures count { vec_len result.0 ≡ length streams }
+    ensures desks { AreReady shared.now streams result.0.items }
+    ensures own { IsNewSeat shared.now (length streams) result.1 }
+{
+    let count = streams.len();
+    for _ in 0..count {
+        let seat = seats.remove(0);
+        let first = streams.remove(0);
+        room.push_reserved(Desk::Waiting {
+            seat,
+            streams: first,
+        });
+    }
+    let own = seats.remove(0);
+    (room, own)
+}
+
+// Takes the store back, once all sessions have ended. It takes no memory.
+fn gathered<D: Disk + Drop, S: Source + Drop, K: Sink + Drop>(
+    shared: Shared<D>,
+    own: Seat<D>,
+    mut desks: List<Desk<D, S, K>>,
+    mut seats: Vec<Seat<D>>,
+    mut reports: Vec<SessionReport<S, K>>,
+) -> (Store<D>, List<SessionReport<S, K>>)
+    requires count { seats_in_all shared ≡ length desks + 1 }
+    requires own { IsReaper shared (length desks) own }
+    requires desks { (streams : List (Streams S K)) × AreDone D.moment S.state K.state shared streams desks }
+    requires seats { (seats.items ≡ []) × (length desks + 1 ≤ vec_capacity seats) }
+    requires reports { (reports.items ≡ []) × (length desks ≤ vec_capacity reports) }
+    ensures start { start_of (standing D.moment result.0) ≡ start D.moment shared }
+    ensures count { length result.1 ≡ length desks }
+    ensures each { (streams : List (Streams S K)) → length streams ≡ length desks → AreDone D.moment S.state K.state shared streams desks
+        → AreSessionsOf D.moment S.state K.state (start D.moment shared) streams result.1 (events (standing D.moment result.0)) }
+    ensures others { AreOfSessions (length desks) (events (standing D.moment result.0)) }
+{
+    let count = desks.len();
+    for _ in 0..count {
+        match desks.remove(0) {
+            Desk::Done { seat, report } => {
+                seats.push_reserved(seat);
+                reports.push_reserved(report);
+            }
+            Desk::Waiting { .. } => unreachable!(),
+            Desk::Working => unreachable!(),
+        }
+    }
+    (finished(shared, own, seats), List::from_vec(reports))
+}
+
+// Takes the store back from its seats, of which the reaper's is the last.
+fn finished<D: Disk>(shared: Shared<D>, own: Seat<D>, mut seats: Vec<Seat<D>>) -> Store<D>
+    requires count { seats_in_all shared ≡ length seats.items + 1 }
+    requires seats { AreIdleSeats shared seats.items }
+    requires own { IsReaper shared (length seats.items) own }
+    requires room { length seats.items < vec_capacity seats }
+    ensures start { start_of (standing D.moment result) ≡ start D.moment shared }
+    ensures events { ExtendEach seats.items (events (standing D.moment result)) }
+    ensures others { AreOfSessions (length seats.items) (events (standing D.moment result)) }
+{
+    seats.push_reserved(own);
+    shared.finish(List::from_vec(seats))
 }

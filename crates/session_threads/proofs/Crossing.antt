@@ -1,0 +1,90 @@
+-- A seat may go to another thread, and a store that is shared may be seen by several, where its disk may go.
+use denote.RattleType.{RattleType}
+use denote.Param.Send.{IsSend, IsSync, sendable}
+use Rattle.std.proofs.Crossing.{crosses}
+use Rattle.atomic_table.proofs.shared.Seat.TheSendSync.{the_send}
+use Rattle.atomic_table.proofs.shared.Shared.TheSendSync.{the_sync}
+use Rattle.atomic_table.proofs.send_lease.SendLease.TheSendSync as lease
+use Rattle.afl_outside.specs.declared.disk.Disk.{Ghosts}
+use Rattle.cell_values.specs.contracts.name.Name as name
+use Rattle.expr_nulls.proofs.expr.TypedExpr.TheLaws.TheKnot as expr
+use Rattle.logical_plan.specs.contracts.plan.Plan as plan
+use Rattle.logical_plan.proofs.plan.Plan.TheLaws.TheKnot as knot
+use Rattle.plan_changes.specs.contracts.change.Change as change
+use Rattle.event_core.specs.contracts.entry.Entry as entry
+use Rattle.version_reaper.specs.contracts.page_set.PageSet as pages
+use Rattle.lean_core.specs.contracts.state.LeanCore as lean
+use Rattle.store_ledger.specs.contracts.note.Note as note
+use Rattle.store_ledger.specs.contracts.ledger.Ledger as ledger
+use Rattle.snapshot_manager.specs.Store as store
+use Rattle.snapshot_manager.specs.contracts.seat.Seat as seat
+use Rattle.snapshot_manager.specs.contracts.shared.Shared as shared
+use Rattle.afl_lexer.specs.contracts.splitter.Splitter as splitter
+use Rattle.result_print.specs.contracts.refusal.Refusal as refusal
+use Rattle.session_reports.specs.contracts.reports.Mark as mark
+use Rattle.session_reports.specs.contracts.reports.SessionReport as report
+use Rattle.session_reports.specs.contracts.reports.Streams as streams
+use Rattle.session_threads.specs.contracts.desk.Desk as desk
+
+-- each by a search of its own, since a search for the whole spends its steps before it comes through
+
+plan_send : IsSend plan.the_row
+plan_send = search (sendable, crosses, knot.send-Plan, expr.send-TypedExpr) depth 40 fits 100000
+
+name_send : IsSend name.the_row
+name_send = search (sendable, crosses) depth 40 fits 100000
+
+change_send : IsSend change.the_row
+change_send = search (sendable, crosses, plan_send, name_send) depth 100 fits 100000
+
+entry_send : IsSend entry.the_row
+entry_send = search (sendable, crosses, plan_send, name_send) depth 100 fits 100000
+
+note_send : IsSend note.the_row
+note_send = search (sendable, crosses) depth 40 fits 100000
+
+lean_send : IsSend lean.the_row
+lean_send = search (sendable, crosses) depth 40 fits 100000
+
+pages_send : IsSend pages.the_row
+pages_send = search (sendable, crosses) depth 40 fits 100000
+
+ledger_send : IsSend ledger.the_row
+ledger_send = search (sendable, crosses, entry_send, note_send, lean_send, pages_send) depth 40 fits 100000
+
+module _ (D : RattleType) (g : Ghosts D.Denot) (s : IsSend D) where
+  store_send : IsSend (store.the_row D g)
+  store_send = search (sendable, crosses, change_send, ledger_send) depth 100 fits 100000
+
+  pub seat_send : IsSend (seat.the_row D g)
+  seat_send = search (sendable, crosses, the_send, store_send) depth 40
+
+  pub shared_sync : IsSync (shared.the_row D g)
+  shared_sync = search (sendable, crosses, the_sync, lease.the_sync, store_send) depth 40 fits 100000
+
+  -- the same where they are fields
+  pub seat_field_send : IsSend (seat.the_field D g).row
+  seat_field_send = search (sendable, crosses, the_send, store_send) depth 40
+
+  pub shared_field_sync : IsSync (shared.the_field D g).row
+  shared_field_sync = search (sendable, crosses, the_sync, lease.the_sync, store_send) depth 40 fits 100000
+
+splitter_send : IsSend splitter.the_row
+splitter_send = search (sendable, crosses) depth 40 fits 100000
+
+refusal_send : IsSend refusal.the_row
+refusal_send = search (sendable, crosses) depth 100 fits 100000
+
+mark_send : IsSend mark.the_row
+mark_send = search (sendable, crosses, refusal_send) depth 100 fits 100000
+
+module _ (S K : RattleType) (s : IsSend S) (k : IsSend K) where
+  streams_field : IsSend (streams.the_field S K).row
+  streams_field = search (sendable, crosses, splitter_send) depth 40
+
+  report_field : IsSend (report.the_field S K).row
+  report_field = search (sendable, crosses, mark_send) depth 40
+
+module _ (D S K : RattleType) (g : Ghosts D.Denot) (d : IsSend D) (s : IsSend S) (k : IsSend K) where
+  pub desk_send : IsSend (desk.the_row D S K g)
+  desk_send = search (sendable, crosses, seat_field_send, streams_field, report_field) depth 40

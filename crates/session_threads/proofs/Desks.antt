@@ -1,0 +1,181 @@
+-- Desks that are set up one by one, and emptied one by one.
+use Rattle.std.proofs.Common.{◌≡◌, ◌∙◌, ℕ, ◌+◌, ◌<◌, Bool, true, not, List, [], ◌∷◌, ◌++◌, length, take, drop, get_or, slice_get, Option, Some, refl, ap, sym, subst, arith, All}
+use Rattle.std.specs.Prelude.{IsTrue}
+use Rattle.std.proofs.lemmas.List.{take_at}
+use Rattle.std.proofs.lemmas.List.Elements.{All-push}
+use Rattle.std.proofs.lemmas.Option.{slice_get_within, get_or_from_slice_get}
+use Rattle.afl_lexer.specs.Inner.Standing.{StandsAfter}
+use Rattle.afl_outside.specs.Disk.{Moment}
+use Rattle.afl_outside.specs.Sink.{SinkState}
+use Rattle.afl_outside.specs.Source.{SourceState}
+use Rattle.turn_lock.specs.Owners.{none_of, AreOwnedBelow, ExtendsByOthers}
+use Rattle.turn_lock.proofs.Gathering.{all_last, all_left, places_more}
+use Rattle.turn_lock.proofs.Lists.{below_one_less, none_append}
+use Rattle.event_core.specs.Allowed.{is_pinned}
+use Rattle.store_ledger.specs.Ledger.{history}
+use Rattle.store_state.specs.declared.event.Event.{Event}
+use Rattle.store_state.specs.Events.{owner_of}
+use Rattle.snapshot_manager.specs.Seats.{seen, session_of, start, AreIdleSeats, AreNewSeats, ExtendEach, HoldsNone, IsIdle, IsNewSeat, IsSeatOf}
+use Rattle.snapshot_manager.specs.Told.{ledger_of}
+use Rattle.snapshot_manager.specs.declared.seat.Seat.{Seat}
+use Rattle.snapshot_manager.specs.declared.shared.Shared.{Shared}
+use Rattle.session_reports.specs.declared.reports.SessionReport.{SessionReport}
+use Rattle.session_reports.specs.declared.reports.Streams.{Streams}
+use Rattle.session_threads.specs.Sessions.{AreOfSessions, AreSessionsOf, IsSessionOf}
+use Rattle.session_threads.specs.Inner.Desks.{AllWorked, AreDone, AreReady, AreServed, HasServed, HasWorked, IsDone, IsReady, IsReaper, IsWaiting}
+use Rattle.session_threads.specs.declared.desk.Desk.{Desk}
+use Rattle.session_threads.specs.declared.desk.Desk.TheVariants.{Waiting, Working, Done}
+
+module _ {D : Type 0} (shared : Shared D) where
+  pub new_at : (seats : List (Seat D)) (n : ℕ) (seat : Seat D) → AreNewSeats shared seats → slice_get seats n ≡ Some seat → IsNewSeat shared n seat
+  new_at seats n seat are e = subst (IsNewSeat shared n) (get_or_from_slice_get seats n seat seat e) (are n seat (slice_get_within seats n seat e))
+
+  -- a session that has seen nothing holds no pin
+  pub holds_none : (moment : D → Moment) (session : ℕ) (seat : Seat D) → IsNewSeat shared session seat → HoldsNone moment shared seat
+  holds_none moment session seat new =
+      subst (λ events. IsTrue (not (is_pinned (session_of seat) (history (ledger_of (start moment shared) events))))) (sym new.seen_none) refl
+
+  -- and its seat has done nothing but reap
+  pub reaper_new : (session : ℕ) (seat : Seat D) → IsNewSeat shared session seat → IsReaper shared (session_of seat) seat
+  reaper_new session seat new = record {
+    of_store = new.of_store;
+    idle = new.idle;
+    session_is = refl;
+    none_own = subst (λ events. none_of owner_of (session_of seat) events ≡ true) (sym new.seen_none) refl;
+  }
+
+module _ {D S K : Type 0} (shared : Shared D) where
+  -- one desk more is set up
+  pub ready_more : (all : List (Streams S K)) (seats : List (Seat D)) (desks desks' : List (Desk D S K)) (n : ℕ) (seat : Seat D) (own : Streams S K) →
+      AreNewSeats shared seats → slice_get seats n ≡ Some seat → slice_get all n ≡ Some own → length desks ≡ n → AreReady shared all desks →
+      desks' ≡ desks ++ Waiting seat own ∷ [] → AreReady shared all desks'
+  ready_more all seats desks desks' n seat own new at has len are grown =
+      let P : ℕ → Desk D S K → Type 0 = λ j desk. IsReady shared j (slice_get all j) desk in
+      let here : P n (Waiting seat own) = (has, new_at shared seats n seat new at) in
+      subst (AreReady shared all) (sym grown) (places_more P desks (Waiting seat own) are (subst (λ j. P j (Waiting seat own)) (sym len) here))
+
+  waiting_one : (all : List (Streams S K)) (k : ℕ) (desk : Desk D S K) → All (λ own. StandsAfter [] own.splitter) all → IsReady shared k (slice_get all k) desk →
+      IsWaiting shared desk
+  waiting_one all k (Waiting seat own) begun ready = (
+    subst (λ j. IsNewSeat shared j seat) (sym ready.1.session_is) ready.1,
+    subst (λ (o : Streams S K). StandsAfter [] o.splitter) (get_or_from_slice_get all k own own ready.0) (begun k own (slice_get_within all k own ready.0)),
+  )
+  waiting_one all k Working begun ready = absurd ready
+  waiting_one all k (Done seat report) begun ready = absurd ready
+
+  pub all_waiting : (all : List (Streams S K)) (desks : List (Desk D S K)) → All (λ own. StandsAfter [] own.splitter) all → AreReady shared all desks →
+      All (λ desk. IsWaiting shared desk) desks
+  all_waiting all desks begun are k desk near = waiting_one all k (get_or desks k desk) begun (are k desk near)
+
+module _ {D S K : Type 0} (moment : D → Moment) (source_of : S → SourceState) (sink_of : K → SinkState) (shared : Shared D) where
+  done_one : (k : ℕ) (given : Option (Streams S K)) (old new : Desk D S K) → IsReady shared k given old → HasWorked moment source_of sink_of shared old new →
+      IsDone moment source_of sink_of shared k given new
+  done_one k given (Waiting seat own) (Done after report) ready worked =
+      (own, ready.0, subst (λ j. HasServed moment source_of sink_of shared j own after report) ready.1.session_is worked)
+  done_one k given (Waiting seat own) (Waiting after other) ready worked = absurd worked
+  done_one k given (Waiting seat own) Working ready worked = absurd worked
+  done_one k given Working new ready worked = absurd ready
+  done_one k given (Done seat report) new ready worked = absurd ready
+
+  pub all_done : (all : List (Streams S K)) (old new : List (Desk D S K)) → AreReady shared all old → AllWorked moment source_of sink_of shared old new →
+      length new ≡ length old → AreDone moment source_of sink_of shared all new
+  all_done all old new are worked len k desk near =
+      let low : k < length old = omega arith in
+      done_one k (slice_get all k) (get_or old k desk) (get_or new k desk) (are k desk low) (worked k desk low)
+
+  -- what for_each_mut did to a vector, whose items it was lent
+  pub all_worked : (old was new : List (Desk D S K)) (count : ℕ) → was ≡ old → length new ≡ length was → count ≡ length old →
+      ((k : ℕ) (desk : Desk D S K) → k < length was → HasWorked moment source_of sink_of shared (get_or was k desk) (get_or new k desk)) →
+      AllWorked moment source_of sink_of shared old (take count (new ++ drop (length new) old))
+  all_worked old was new count same len full each =
+      let whole : count ≡ length new = full ∙ ap length (sym same) ∙ sym len in
+      let left : take count (new ++ drop (length new) old) ≡ new =
+      ap (λ n. take n (new ++ drop (length new) old)) whole ∙ take_at new (drop (length new) old) (length new) refl in
+      subst (λ l. AllWorked moment source_of sink_of shared old l) (sym left)
+      (subst (λ l. AllWorked moment source_of sink_of shared l new) same each)
+
+  pub done_at : (all : List (Streams S K)) (desks : List (Desk D S K)) (n : ℕ) (desk : Desk D S K) → AreDone moment source_of sink_of shared all desks →
+      slice_get desks n ≡ Some desk → IsDone moment source_of sink_of shared n (slice_get all n) desk
+  done_at all desks n desk are e =
+      subst (IsDone moment source_of sink_of shared n (slice_get all n)) (get_or_from_slice_get desks n desk desk e) (are n desk (slice_get_within desks n desk e))
+
+  -- a desk that is done is none of the others
+  pub not_waiting : (k : ℕ) (given : Option (Streams S K)) (desk : Desk D S K) (seat : Seat D) (own : Streams S K) → desk ≡ Waiting seat own →
+      IsDone moment source_of sink_of shared k given desk → ⊥
+  not_waiting k given desk seat own is done = subst (IsDone moment source_of sink_of shared k given) is done
+
+  pub not_working : (k : ℕ) (given : Option (Streams S K)) (desk : Desk D S K) → desk ≡ Working → IsDone moment source_of sink_of shared k given desk → ⊥
+  not_working k given desk is done = subst (IsDone moment source_of sink_of shared k given) is done
+
+  session_one : (k : ℕ) (own : Streams S K) (seat : Seat D) (report : SessionReport S K) (events : List Event) →
+      HasServed moment source_of sink_of shared k own seat report → ExtendsByOthers owner_of (session_of seat) (seen seat) events →
+      IsSessionOf moment source_of sink_of (start moment shared) k own report events
+  session_one k own seat report events served extend = record {
+    seen = seen seat;
+    sealed = served.of_store.sealed;
+    later = subst (λ j. ExtendsByOthers owner_of j (seen seat) events) served.session_is extend;
+    serves = served.serves;
+  }
+
+  -- one desk more is emptied: its seat
+  pub idle_more : (all : List (Streams S K)) (desks : List (Desk D S K)) (n : ℕ) (desk : Desk D S K) (seat : Seat D) (report : SessionReport S K)
+      (seats seats' : List (Seat D)) → AreDone moment source_of sink_of shared all desks → slice_get desks n ≡ Some desk → desk ≡ Done seat report →
+      seats' ≡ seats ++ seat ∷ [] → AreIdleSeats shared seats → AreIdleSeats shared seats'
+  idle_more all desks n desk seat report seats seats' are at is grown idle =
+      let done = subst (IsDone moment source_of sink_of shared n (slice_get all n)) is (done_at all desks n desk are at) in
+      subst (AreIdleSeats shared) (sym grown) (All-push (λ s. IsSeatOf shared s × IsIdle s) seats seat idle (done.2.of_store, done.2.idle))
+
+  -- and its report
+  pub served_more : (all : List (Streams S K)) (desks : List (Desk D S K)) (n : ℕ) (desk : Desk D S K) (seat : Seat D) (report : SessionReport S K)
+      (seats seats' : List (Seat D)) (reports reports' : List (SessionReport S K)) (events : List Event) →
+      AreDone moment source_of sink_of shared all desks → slice_get desks n ≡ Some desk → desk ≡ Done seat report → length reports ≡ n →
+      seats' ≡ seats ++ seat ∷ [] → reports' ≡ reports ++ report ∷ [] →
+      (ExtendEach seats events → AreServed moment source_of sink_of (start moment shared) all reports events) → ExtendEach seats' events →
+      AreServed moment source_of sink_of (start moment shared) all reports' events
+  served_more all desks n desk seat report seats seats' reports reports' events are at is len grown more old extend =
+      let P : Seat D → Type 0 = λ s. ExtendsByOthers owner_of (session_of s) (seen s) events in
+      let both : All P (seats ++ seat ∷ []) = subst (All P) grown extend in
+      let here : P seat = all_last P seats seat both in
+      let before : AreServed moment source_of sink_of (start moment shared) all reports events = old (all_left P seats seat both) in
+      let done : IsDone moment source_of sink_of shared n (slice_get all n) (Done seat report) =
+      subst (IsDone moment source_of sink_of shared n (slice_get all n)) is (done_at all desks n desk are at) in
+      let Q : ℕ → SessionReport S K → Type 0 = λ j r. (s : Streams S K) → IsSessionOf moment source_of sink_of (start moment shared) j (get_or all j s) r events in
+      let new : Q n report = λ s. subst (λ o. IsSessionOf moment source_of sink_of (start moment shared) n o report events)
+      (sym (get_or_from_slice_get all n done.0 s done.1)) (session_one n done.0 seat report events done.2 here) in
+      let each : (k : ℕ) (r : SessionReport S K) → k < length (reports ++ report ∷ []) → Q k (get_or (reports ++ report ∷ []) k r) =
+      places_more Q reports report (λ k r near s. before k s r near) (subst (λ j. Q j report) (sym len) new) in
+      subst (λ rs. AreServed moment source_of sink_of (start moment shared) all rs events) (sym more) (λ k s r near. each k r near s)
+
+  -- all desks are emptied
+  pub all_served : (all : List (Streams S K)) (seats : List (Seat D)) (reports reports' : List (SessionReport S K)) (events : List Event) →
+      reports' ≡ reports → length all ≡ length reports →
+      (ExtendEach seats events → AreServed moment source_of sink_of (start moment shared) all reports events) → ExtendEach seats events →
+      AreSessionsOf moment source_of sink_of (start moment shared) all reports' events
+  all_served all seats reports reports' events same len old extend =
+      let before : AreServed moment source_of sink_of (start moment shared) all reports events = old extend in
+      subst (λ rs. AreSessionsOf moment source_of sink_of (start moment shared) all rs events) (sym same)
+      (λ k s r near. let low : k < length reports = omega arith in before k s r low)
+
+module _ {D : Type 0} (shared : Shared D) where
+  -- the reaper's seat is back, behind all others
+  pub all_idle : (seats seats' list : List (Seat D)) (own : Seat D) (n : ℕ) → AreIdleSeats shared seats → IsReaper shared n own → seats' ≡ seats ++ own ∷ [] →
+      list ≡ seats' → AreIdleSeats shared list
+  all_idle seats seats' list own n idle reaper grown same =
+      subst (AreIdleSeats shared) (sym (same ∙ grown)) (All-push (λ s. IsSeatOf shared s × IsIdle s) seats own idle (reaper.of_store, reaper.idle))
+
+pub all_extend : {D : Type 0} (seats seats' list : List (Seat D)) (own : Seat D) (events : List Event) → seats' ≡ seats ++ own ∷ [] → list ≡ seats' →
+    ExtendEach list events → ExtendEach seats events
+all_extend seats seats' list own events grown same extend =
+    all_left (λ s. ExtendsByOthers owner_of (session_of s) (seen s) events) seats own (subst (λ l. ExtendEach l events) (same ∙ grown) extend)
+
+module _ {D : Type 0} (shared : Shared D) where
+  -- none is the reaper's, whose number is the last
+  pub of_sessions : (seats seats' list : List (Seat D)) (own : Seat D) (n count : ℕ) (events : List Event) → IsReaper shared n own → count ≡ n + 1 →
+      seats' ≡ seats ++ own ∷ [] → list ≡ seats' → AreOwnedBelow owner_of count events → ExtendEach list events → AreOfSessions n events
+  of_sessions seats seats' list own n count events reaper last grown same owned extend =
+      let here : ExtendsByOthers owner_of (session_of own) (seen own) events =
+      all_last (λ s. ExtendsByOthers owner_of (session_of s) (seen s) events) seats own (subst (λ l. ExtendEach l events) (same ∙ grown) extend) in
+      let later : ExtendsByOthers owner_of n (seen own) events = subst (λ k. ExtendsByOthers owner_of k (seen own) events) reaper.session_is here in
+      let none : none_of owner_of n events ≡ true = subst (λ es. none_of owner_of n es ≡ true) (sym later.1)
+      (none_append owner_of n (seen own) later.0 reaper.none_own later.2) in
+      below_one_less owner_of n events (subst (λ k. AreOwnedBelow owner_of k events) last owned) none

@@ -1,0 +1,83 @@
+-- Sessions that wait for their thread, sessions that have ended, and the reaper's seat.
+use Rattle.std.specs.Prelude.{◌≡◌, ◌<◌, ℕ, true, List, [], length, slice_get, slice_index_or, Option, Some}
+use Rattle.afl_lexer.specs.Inner.Standing.{StandsAfter}
+use Rattle.afl_outside.specs.Disk.{Moment}
+use Rattle.afl_outside.specs.Sink.{SinkState}
+use Rattle.afl_outside.specs.Source.{SourceState}
+use Rattle.turn_lock.specs.Owners.{none_of}
+use Rattle.store_state.specs.declared.event.Event.{Event}
+use Rattle.store_state.specs.Events.{owner_of}
+use Rattle.snapshot_manager.specs.Start.{Start}
+use Rattle.snapshot_manager.specs.declared.seat.Seat.{Seat}
+use Rattle.snapshot_manager.specs.declared.shared.Shared.{Shared}
+use Rattle.snapshot_manager.specs.Seats.{seen, session_of, start, ExtendEach, IsIdle, IsNewSeat, IsSeatOf}
+use Rattle.session_reports.specs.declared.reports.SessionReport.{SessionReport}
+use Rattle.afl_session.specs.Marked.{IsMarked}
+use Rattle.afl_session.specs.Session.{Serves}
+use Rattle.session_threads.specs.Sessions.{IsSessionOf}
+use Rattle.session_threads.specs.declared.desk.Desk.{Desk}
+use Rattle.session_threads.specs.declared.desk.Desk.TheVariants.{Waiting, Working, Done}
+use Rattle.session_reports.specs.declared.reports.Streams.{Streams}
+
+module _ {D : Type 0} (shared : Shared D) where
+  -- a seat that has done nothing but reap
+  pub record IsReaper (session : ℕ) (seat : Seat D) : Type 0 where
+    pub of_store : IsSeatOf shared seat
+    pub idle : IsIdle seat
+    pub session_is : session_of seat ≡ session
+    pub none_own : none_of owner_of session (seen seat) ≡ true
+
+module _ {D S K : Type 0} (shared : Shared D) where
+  -- a session waits for its thread: it has done nothing yet, and its script is cut from its start
+  abbrev pub IsWaiting : Desk D S K → Type 0
+  IsWaiting (Waiting seat own) = IsNewSeat shared (session_of seat) seat × StandsAfter [] own.splitter
+  IsWaiting Working = ⊥
+  IsWaiting (Done seat report) = ⊥
+
+  -- the session of this number waits, with these streams
+  abbrev pub IsReady : ℕ → Option (Streams S K) → Desk D S K → Type 0
+  IsReady session given (Waiting seat own) = (given ≡ Some own) × IsNewSeat shared session seat
+  IsReady session given Working = ⊥
+  IsReady session given (Done seat report) = ⊥
+
+  -- the desks of all sessions, in order
+  abbrev pub AreReady : List (Streams S K) → List (Desk D S K) → Type 0
+  AreReady all desks = (k : ℕ) (desk : Desk D S K) → k < length desks → IsReady k (slice_get all k) (slice_index_or desks k desk)
+
+module _ {D S K : Type 0} (moment : D → Moment) (source_of : S → SourceState) (sink_of : K → SinkState) (shared : Shared D) where
+  -- a session has served its streams
+  pub record HasServed (session : ℕ) (streams : Streams S K) (seat : Seat D) (report : SessionReport S K) : Type 0 where
+    pub of_store : IsSeatOf shared seat
+    pub idle : IsIdle seat
+    pub session_is : session_of seat ≡ session
+    pub serves : Serves (IsMarked moment (start moment shared) session) [] 0 (seen seat) (source_of streams.source) (source_of report.source)
+        (sink_of streams.sink) (sink_of report.sink) report.marks report.end
+
+  -- what the work of a session makes of its desk
+  abbrev pub HasWorked : Desk D S K → Desk D S K → Type 0
+  HasWorked (Waiting seat own) (Done after report) = HasServed (session_of seat) own after report
+  HasWorked _ _ = ⊥
+
+  -- the session of this number has served these streams
+  abbrev pub IsDone : ℕ → Option (Streams S K) → Desk D S K → Type 0
+  IsDone session given (Waiting seat own) = ⊥
+  IsDone session given Working = ⊥
+  IsDone session given (Done seat report) = (own : Streams S K) × (given ≡ Some own) × HasServed session own seat report
+
+  abbrev pub AllWorked : List (Desk D S K) → List (Desk D S K) → Type 0
+  AllWorked old new = (k : ℕ) (desk : Desk D S K) → k < length old → HasWorked (slice_index_or old k desk) (slice_index_or new k desk)
+
+  abbrev pub AreDone : List (Streams S K) → List (Desk D S K) → Type 0
+  AreDone all desks = (k : ℕ) (desk : Desk D S K) → k < length desks → IsDone k (slice_get all k) (slice_index_or desks k desk)
+
+module _ {D S K : Type 0} (moment : D → Moment) (source_of : S → SourceState) (sink_of : K → SinkState) (origin : Start D) where
+  -- the sessions of the reports that are there so far
+  abbrev pub AreServed : List (Streams S K) → List (SessionReport S K) → List Event → Type 0
+  AreServed all reports events = (k : ℕ) (streams : Streams S K) (report : SessionReport S K) → k < length reports
+      → IsSessionOf moment source_of sink_of origin k (slice_index_or all k streams) (slice_index_or reports k report) events
+
+module _ {D S K : Type 0} (moment : D → Moment) (source_of : S → SourceState) (sink_of : K → SinkState) (shared : Shared D) where
+  -- these seats and reports come from desks that are done
+  abbrev pub AreTaken : List (Desk D S K) → List (Seat D) → List (SessionReport S K) → Type 0
+  AreTaken desks seats reports = (all : List (Streams S K)) → AreDone moment source_of sink_of shared all desks → (events : List Event) → ExtendEach seats events
+      → AreServed moment source_of sink_of (start moment shared) all reports events

@@ -1,0 +1,88 @@
+//! Where a session's seat and its streams lie, so that threads can work side by side.
+ghost use Rattle.std.specs.Prelude.{◌≡◌, ◌≤◌, vec_len, All};
+ghost use Rattle.session_threads.specs.Inner.Desks.{AllWorked, HasWorked, IsWaiting};
+
+use afl_outside::{Disk, Gate, Sink, Source};
+use afl_session::{Options, SessionReport, serve};
+use session_reports::Streams;
+use snapshot_manager::{Seat, Shared};
+use std::alloc::Global;
+use std::mem::replace;
+use std::sync::Wait;
+use std::thread;
+use std::thread::Threads;
+
+/// What a session has to do, or has done.
+#[derive(Drop)]
+pub(crate) enum Desk<D: Disk, S, K> {
+    Waiting {
+        seat: Seat<D>,
+        streams: Streams<S, K>,
+    },
+    Working,
+    Done {
+        seat: Seat<D>,
+        report: SessionReport<S, K>,
+    },
+}
+
+impl<D: Disk + Drop, S: Source + Drop, K: Sink + Drop> Desk<D, S, K> {
+    // The session's whole work.
+    fn work<R: Wait, G: Gate>(
+        &mut self,
+        rt: &R,
+        alloc: Global,
+        shared: &Shared<D>,
+        options: &Options,
+        gate: &G,
+    )
+        requires waiting { IsWaiting shared.now self.old }
+        requires workers { (1 ≤ options.now.workers) × (options.now.workers ≤ 64) }
+        ensures { HasWorked D.moment S.state K.state shared.now self.old self.new }
+    {
+        match replace(self, Desk::Working) {
+            Desk::Waiting { seat, streams } => {
+                let Streams {
+                    source,
+                    sink,
+                    splitter,
+                } = streams;
+                let (report, seat) = serve(
+                    rt, alloc, shared, seat, source, sink, splitter, options, gate,
+                );
+                *self = Desk::Done { seat, report };
+            }
+            Desk::Working => unreachable!(),
+            Desk::Done { .. } => unreachable!(),
+        }
+    }
+}
+
+/// Each session works on a thread of its own. Where no thread can be made, one works after another.
+pub(crate) fn work_all<
+    D: Disk + Send + Drop,
+    S: Source + Send + Drop,
+    K: Sink + Send + Drop,
+    G: Gate,
+    R: Threads + Wait + Sync,
+>(
+    rt: &R,
+    alloc: Global,
+    shared: &Shared<D>,
+    options: &Options,
+    gate: &G,
+    mut desks: Vec<Desk<D, S, K>>,
+) -> Vec<Desk<D, S, K>>
+    requires desks { All (λ desk. IsWaiting shared.now desk) desks.items }
+    requires workers { (1 ≤ options.now.workers) × (options.now.workers ≤ 64) }
+    ensures desks { AllWorked D.moment S.state K.state shared.now desks.items result.items }
+    ensures count { vec_len result ≡ vec_len desks }
+{
+    let threads = desks.len().max(1);
+    let each = |_: usize, desk: &mut Desk<D, S, K>|
+        requires { IsWaiting shared.now desk.now × (1 ≤ options.now.workers) × (options.now.workers ≤ 64) }
+        ensures { HasWorked D.moment S.state K.state shared.entry.now desk.entry.now desk.exit.now }
+    { desk.work(rt, alloc, shared, options, gate) };
+    thread::for_each_mut(rt, desks.as_mut_slice(), threads, &each);
+    desks
+}

@@ -1,0 +1,102 @@
+//! The reaper: a thread beside the sessions, which frees the pages that nobody can name.
+ghost use Rattle.std.specs.Prelude.{◌≡◌, ◌≤◌, vec_len, All};
+ghost use Rattle.snapshot_manager.specs.Seats.{session_of};
+ghost use Rattle.session_threads.specs.Inner.Desks.{AllWorked, IsReaper, IsWaiting};
+
+use crate::desk::{Desk, work_all};
+use afl_outside::{Disk, Gate, Sink, Source};
+use afl_session::Options;
+use reap_bell::Ring;
+use snapshot_manager::{Seat, Shared};
+use std::alloc::Global;
+use std::snapshot::Snapshot;
+use std::sync::Wait;
+use std::thread;
+use std::thread::{Promise, Threads};
+
+/// Reaps once. Where no memory is found for that, the pages wait for a later reap, or for the next opening of the file.
+pub(crate) fn reap_once<D: Disk, R: Wait>(rt: &R, shared: &Shared<D>, seat: &mut Seat<D>)
+    requires { IsReaper shared.now (session_of seat.old) seat.old }
+    ensures { IsReaper shared.now (session_of seat.old) seat.new }
+{
+    let _ = shared.reap(rt, seat);
+}
+
+/// Reaps whenever the bell was rung, until it is closed, and gives the seat back.
+fn keep<D: Disk, R: Wait>(rt: &R, shared: &Shared<D>, mut seat: Seat<D>) -> Seat<D>
+    requires { IsReaper shared.now (session_of seat) seat }
+    ensures { IsReaper shared.now (session_of seat) result }
+{
+    for _ in rt.forever() {
+        match shared.await_bell(rt) {
+            Ring::Rung => reap_once(rt, shared, &mut seat),
+            Ring::Closed => return seat,
+        }
+    }
+    unreachable!()
+}
+
+/// The seat that the reaper gives back is that of the same session, and has done nothing but reap.
+#[derive(Drop)]
+struct SeatBack<D: Disk> {
+    shared: Snapshot<Shared<D>>,
+    seat: Snapshot<Seat<D>>,
+}
+
+impl<D: Disk> Promise<Seat<D>> for SeatBack<D> {
+    ghost kept_by = { λ p seat. IsReaper p.shared.value (session_of p.seat.value) seat };
+}
+
+/// The sessions work, each on a thread of its own, and the reaper beside them. Where no thread can be made for the reaper,
+/// it comes after them.
+pub(crate) fn work_beside<
+    D: Disk + Send + Drop,
+    S: Source + Send + Drop,
+    K: Sink + Send + Drop,
+    G: Gate,
+    R: Threads + Wait + Sync,
+>(
+    rt: &R,
+    alloc: Global,
+    shared: &Shared<D>,
+    options: &Options,
+    gate: &G,
+    desks: Vec<Desk<D, S, K>>,
+    own: Seat<D>,
+) -> (Vec<Desk<D, S, K>>, Seat<D>)
+    requires desks { All (λ desk. IsWaiting shared.now desk) desks.items }
+    requires own { IsReaper shared.now (session_of own) own }
+    requires workers { (1 ≤ options.now.workers) × (options.now.workers ≤ 64) }
+    ensures desks { AllWorked D.moment S.state K.state shared.now desks.items result.0.items }
+    ensures count { vec_len result.0 ≡ vec_len desks }
+    ensures own { IsReaper shared.now (session_of own) result.1 }
+{
+    thread::scope(
+        thread::scope_env(),
+        rt,
+        move |scope| -> (Vec<Desk<D, S, K>>, Seat<D>)
+            requires { All (λ desk. IsWaiting shared.now desk) desks.items × IsReaper shared.now (session_of own) own
+                × (1 ≤ options.now.workers) × (options.now.workers ≤ 64) }
+            ensures desks { AllWorked D.moment S.state K.state shared.entry.now desks.items result.0.items }
+            ensures count { vec_len result.0 ≡ vec_len desks }
+            ensures own { IsReaper shared.entry.now (session_of own) result.1 }
+        {
+            let reaper = scope.spawn_with(
+                SeatBack {
+                    shared: Snapshot::of(shared),
+                    seat: Snapshot::of(&own),
+                },
+                move || -> Seat<D>
+                    requires { IsReaper shared.now (session_of own) own }
+                    ensures { IsReaper shared.entry.now (session_of own) result }
+                { keep(rt, shared, own) },
+            );
+            let desks = work_all(rt, alloc, shared, options, gate, desks);
+            shared.close_bell(rt);
+            match reaper {
+                Ok(thread) => (desks, thread.join(rt)),
+                Err(refused) => (desks, (refused.value)()),
+            }
+        },
+    )
+}
