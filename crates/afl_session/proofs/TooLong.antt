@@ -1,16 +1,19 @@
 -- The reply to a statement that is too long.
-use Rattle.std.proofs.Common.{◌≡◌, ◌∙◌, ◌≤◌, ℕ, List, length, inl, inr, sym, subst, arith}
+use Rattle.std.proofs.Common.{◌≡◌, ◌∙◌, ◌≤◌, ℕ, List, length, inl, inr, ap, sym, subst, arith}
 use Rattle.result_print.specs.declared.refusal.Refusal.TheVariants.{TooLong}
+use Rattle.statement_replies.specs.Reply.{too_long}
 use Rattle.session_answers.specs.Event.{Event}
 use Rattle.session_answers.specs.Refusals.{RefusesAt}
 use Rattle.session_answers.specs.Reply.{Reply}
 use Rattle.session_answers.specs.Told.{entries_in}
 use Rattle.afl_session.specs.Marked.{IsTooLongReply}
 
-pub too_long_is : (old new : List Event) (last mine count bytes : ℕ) (reply : Reply) → new ≡ old → mine ≡ last → count ≡ length (entries_in old) →
-    RefusesAt (TooLong bytes) mine count reply → IsTooLongReply old new last bytes reply
-too_long_is old new last mine count bytes reply same is_last is_all (inl (e, place)) = record { same = same; words = inl (e, place ∙ is_last) }
-too_long_is old new last mine count bytes reply same is_last is_all (inr (w, place)) = record {
+-- by its number of bytes, the place of the last reply, and how many entries were seen, as they were found
+pub too_long_is : (old new : List Event) (last mine count bytes many : ℕ) (reply : Reply) → new ≡ old → mine ≡ last → count ≡ length (entries_in old) → bytes ≡ many →
+    RefusesAt (TooLong bytes) mine count reply → IsTooLongReply old new last many reply
+too_long_is old new last mine count bytes many reply same is_last is_all is_long (inl (e, place)) =
+    record { same = same; words = inl (e ∙ ap too_long is_long, place ∙ is_last) }
+too_long_is old new last mine count bytes many reply same is_last is_all is_long (inr (w, place)) = record {
   same = same;
   words = inr (
     w,

@@ -41,19 +41,24 @@ fn reply_to<D: Disk, R: Wait, G: Gate>(
 {
     match text {
         Some(text) => answer(rt, alloc, shared, seat, text, number, options, gate),
-        None => {
-            let bytes = to.saturating_sub(from);
-            too_long(alloc, shared, seat, bytes)
-        }
+        None => too_long(alloc, shared, seat, from, to),
     }
 }
 
-/// The reply to a statement of too many bytes, whose place its session keeps.
+/// How many bytes stand between two places.
+fn length_between(from: u64, to: u64) -> u64
+    ensures { result ≡ to - from }
+{
+    to.saturating_sub(from)
+}
+
+/// The reply to a statement of too many bytes between these places. Its session keeps the reply's place.
 fn too_long<D: Disk>(
     alloc: Global,
     shared: &Shared<D>,
     seat: Seat<D>,
-    bytes: u64,
+    from: u64,
+    to: u64,
 ) -> (Reply, Seat<D>)
     requires seat { IsSeatOf shared.now seat × IsIdle seat }
     requires none { HoldsNone D.moment shared.now seat }
@@ -61,12 +66,13 @@ fn too_long<D: Disk>(
     ensures session { session_of result.1 ≡ session_of seat }
     ensures none { HoldsNone D.moment shared.now result.1 }
     ensures last { last_place result.1 ≡ result.0.place }
-    ensures answered { IsTooLongReply (seen seat) (seen result.1) (last_place seat) bytes result.0 }
+    ensures answered { IsTooLongReply (seen seat) (seen result.1) (last_place seat) (to - from) result.0 }
 {
     let _ = shared;
     let mut seat = seat;
     let last = seat.last();
     let count = seat.seen();
+    let bytes = length_between(from, to);
     let reply = refusal_or_want(alloc, Refusal::TooLong { bytes }, last, count);
     seat.keep_last(reply.place);
     (reply, seat)

@@ -1,5 +1,5 @@
 -- The answers of a commit, by what came of it.
-use Rattle.std.proofs.Common.{◌≡◌, ◌∙◌, ◌+◌, ◌<◌, ◌≤◌, ℕ, false, List, [], ◌∷◌, ◌++◌, length, slice_get, inl, inr, Option, None, Some, Ok, refl, ap, sym, subst, arith, append-nil, length-append}
+use Rattle.std.proofs.Common.{◌≡◌, ◌∙◌, ◌+◌, ◌-◌, ◌^◌, ◌<◌, ◌≤◌, ℕ, false, List, [], ◌∷◌, ◌++◌, length, slice_get, inl, inr, Option, None, Some, Ok, refl, ap, sym, subst, arith, append-nil, length-append}
 use Rattle.std.proofs.lemmas.Bool.{eq-eqb}
 use Rattle.std.proofs.lemmas.Option.{none-some}
 use Rattle.afl_outside.specs.Disk.{Moment}
@@ -9,6 +9,7 @@ use Rattle.afl_types.specs.declared.statements.checking.Typed.TheVariants.{Chang
 use Rattle.plan_changes.specs.declared.change.Change.{Change}
 use Rattle.plan_changes.specs.declared.change.Change.TheVariants.{Create, Store, Insert, Remove, RemoveVersions}
 use Rattle.logical_plan.specs.declared.names.Names.{Names}
+use Rattle.event_core.specs.Bases.{sequence_at}
 use Rattle.event_core.specs.declared.entry.Entry.{Entry}
 use Rattle.event_core.specs.declared.entry.Entry.TheVariants.{Commit}
 use Rattle.result_print.specs.declared.refusal.Refusal.{Refusal}
@@ -21,7 +22,9 @@ use Rattle.store_ledger.specs.declared.pinned.Pinned.{Pinned}
 use Rattle.store_ledger.specs.Ledger.{IsOpenPin, is_noted, is_tried}
 use Rattle.store_state.specs.declared.event.Event.{Event}
 use Rattle.store_state.specs.declared.event.Event.TheVariants.{Acknowledged}
-use Rattle.session_turns.specs.Causes.{IsUncommitted}
+use Rattle.store_state.specs.Calls.{history_at}
+use Rattle.store_state.specs.Standings.{base_of}
+use Rattle.session_turns.specs.Causes.{FitsAfter, IsUncommitted}
 use Rattle.session_turns.specs.CommitFault.{CommitFault}
 use Rattle.session_turns.specs.CommitFault.TheVariants as faults
 use Rattle.session_turns.specs.Tries.{MakesCommit, TriesCommit}
@@ -70,6 +73,14 @@ pub change_under : {D : Type 0} (moment : D → Moment) (start : Start D) (event
     IsOpenPin (ledger_of start events) pinned → SaysChange moment start events text tree (pinned.place + 1) change → check_of tree text pinned.names ≡ Ok (AChange change)
 change_under moment start events pinned text tree change o says =
     ap (λ (names : Names). check_of tree text names) (sym (names_behind start events pinned o)) ∙ says.typed
+
+-- there was room for it at a place
+pub had_room : {D : Type 0} (moment : D → Moment) (start : Start D) (events : List Event) (change : Change) (place other : ℕ) → other ≡ place →
+    sequence_at (base_of (told start events)) (history_at (told start events) place) < 2 ^ 64 - 1 → FitsAfter moment (told start events) (history_at (told start events) place) change →
+    HadRoomFor moment start events other change
+had_room moment start events change place other same next fits =
+    let room : HadRoomFor moment start events place change = record { next = next; fits = fits } in
+    subst (λ (k : ℕ). HadRoomFor moment start events k change) (sym same) room
 
 -- no commit was tried under it in a turn that added nothing
 pub still_untried : {D : Type 0} (start : Start D) (pinned : Pinned) (session : ℕ) (old new : List Event) → pinned.session ≡ session → Adds session [] old new →

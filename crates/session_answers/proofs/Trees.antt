@@ -52,7 +52,7 @@ began_at session pin old new looking e = e
 began_at session pin old new (trying change) e = e
 began_at session pin old new (making change) e = e
 
-has_acts : List Act → Bool
+abbrev has_acts : List Act → Bool
 has_acts [] = false
 has_acts (act ∷ acts) = true
 

@@ -31,7 +31,7 @@ use Rattle.store_state.specs.declared.event.Event.TheVariants.{Acknowledged}
 use Rattle.store_state.specs.declared.parts.StoreParts.{StoreParts}
 use Rattle.store_state.specs.Calls.{history_at, payload_at, IsLeafOf}
 use Rattle.store_state.specs.Events.{events}
-use Rattle.store_state.specs.Standings.{base_of, Standing, BeganAs}
+use Rattle.store_state.specs.Standings.{base_of, Standing}
 use Rattle.session_outcomes.specs.Growth.{tried_events}
 use Rattle.session_outcomes.specs.Tried.{AddsSealed, AddsTried}
 use Rattle.session_outcomes.specs.Causes.{FitsAfter, IsUncommitted}

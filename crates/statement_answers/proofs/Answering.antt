@@ -1,5 +1,6 @@
 -- What comes of a typed statement, and of the tree that it is of.
 use Rattle.std.proofs.Common.{◌≡◌, ℕ, true, List, [], ◌++◌, Option, Some, Result, Ok, Err, IfErr, IfOk, OnErr, refl, sym, ap, subst, ◌∙◌}
+use Rattle.std.specs.Result.{IsErrAnd}
 use Rattle.std.proofs.lemmas.List.{append-nil}
 use Rattle.cell_values.specs.declared.name.Span.{Span}
 use Rattle.afl_trees.specs.Term.{Term, create, call, Terms}
@@ -98,6 +99,11 @@ allowed_over checked typed is (Ok outcome) = tt
 allowed_over checked typed is (Err Source) = (typed, is)
 allowed_over checked typed is (Err (Damaged page)) = (typed, is)
 allowed_over checked typed is (Err Memory) = tt
+
+-- each may want memory
+pub wanting_over : (checked : Checked Typed) (answer : Result Outcome ExecFault) → IsErrAnd answer (λ fault. fault ≡ Memory) → IfErr answer (λ fault. MayFail fault checked)
+wanting_over checked (Ok outcome) want = tt
+wanting_over checked (Err fault) want = subst (λ (f : ExecFault). MayFail f checked) (sym want) tt
 
 module _ (names : Names) (a b : Checked Typed) (same : a ≡ b) where
   pub kind_over : (answer : Result Outcome ExecFault) → IfOk answer (HasOutcomeKind names b) → IfOk answer (HasOutcomeKind names a)

@@ -1,4 +1,4 @@
-use Rattle.std.proofs.Common.{◌∙◌, ap}
+use Rattle.std.proofs.Common.{◌∙◌, ◌-◌, ap}
 use Rattle.session_answers.specs.Seats.{last_place, seen, session_of}
 use Rattle.session_answers.proofs.Kept.{still_none, still_seat}
 use Rattle.afl_session.proofs.TooLong.{too_long_is}
@@ -14,6 +14,6 @@ returns g c =
       session = ap session_of k;
       none = still_none moment c.args.shared.now reply.place c.args.seat kept k c.requires.none;
       last = ap last_place k;
-      answered = too_long_is (seen c.args.seat) (seen kept) (last_place c.args.seat) c.last-last.result c.seen-count.result c.args.bytes reply (ap seen k)
-          c.last-last.ensures (c.seen-count.ensures ∙ c.requires.seat.0.counts) c.refusal_or_want-reply.ensures;
+      answered = too_long_is (seen c.args.seat) (seen kept) (last_place c.args.seat) c.last-last.result c.seen-count.result c.length_between-bytes.result (c.args.to - c.args.from) reply (ap seen k)
+          c.last-last.ensures (c.seen-count.ensures ∙ c.requires.seat.0.counts) c.length_between-bytes.ensures c.refusal_or_want-reply.ensures;
     }

@@ -1,10 +1,9 @@
 use Rattle.std.proofs.Common.{◌∙◌, ◌+◌, [], ap, subst, sym}
 use Rattle.session_turns.specs.Turns.{Adds}
 use Rattle.session_turns.specs.Refusals.{IsUncommittedReply}
-use Rattle.session_turns.specs.Replies.{HadRoomFor}
 use Rattle.session_turns.proofs.Under.{pin_within}
 use Rattle.session_turns.specs.Seats.{seen, session_of, start}
-use Rattle.session_answers.proofs.Commits.{change_under, held_behind, made_is_answered, refused_is_answered, still_untried}
+use Rattle.session_answers.proofs.Commits.{change_under, had_room, held_behind, made_is_answered, refused_is_answered, still_untried}
 use Rattle.session_answers.proofs.Readings.{named_behind}
 use Rattle.session_answers.proofs.committing.commit.Goals as goal
 
@@ -41,7 +40,7 @@ returns-in-Ok-Done g c =
       pin = e.pin;
       answered = λ first before a. made_is_answered moment began c.args.pinned.now c.args.change first before old (seen c.commit.new.seat) c.args.text.now c.args.tree.now c.at_place.result
           a o (pin_within began old c.args.pinned.now o) (named_behind moment began old c.args.pinned.now o r.database) r.typed done c.args.words
-          (subst (λ place. HadRoomFor moment began (seen c.commit.new.seat) place c.args.change) (sym said.place) (record { next = next; fits = fits }))
+          (had_room moment began (seen c.commit.new.seat) c.args.change c.in-Ok-Done.place c.at_place.result.place said.place next fits)
           r.said said.words
           (ap (λ place. place + 1) said.place ∙ place);
     }

@@ -8,7 +8,7 @@ use Rattle.chunk_source.proofs.ReadLemmas.{asked_none, on_err}
 use Rattle.statement_replies.specs.Statements.{without_change}
 use Rattle.statement_answers.specs.declared.outcome.Outcome.TheVariants.{Replied}
 use Rattle.statement_answers.specs.Outcomes.{leaves_read}
-use Rattle.statement_answers.proofs.Answering.{allowed_over, asked_over, can_answer, front_over, good, kind_over, nothing_read, over_names, told_over}
+use Rattle.statement_answers.proofs.Answering.{allowed_over, asked_over, can_answer, front_over, good, kind_over, nothing_read, over_names, told_over, wanting_over}
 use Rattle.statement_answers.proofs.statements.outcome_of.Goals as goal
 
 pub outcome_of_typed-requires-clause-can : goal.outcome_of_typed-requires-clause-can
@@ -65,3 +65,7 @@ returns-in_ok-refuse-in-Err-Rule-clause-asked g c =
 
 pub returns-in_err-refuse-in-Err-Rule-clause-front : goal.returns-in_err-refuse-in-Err-Rule-clause-front
 returns-in_err-refuse-in-Err-Rule-clause-front g c = on_err _ _ (asked_none _ _ _ refl)
+
+pub returns-in_err-refuse-in-Err-Rule-clause-allowed : goal.returns-in_err-refuse-in-Err-Rule-clause-allowed
+returns-in_err-refuse-in-Err-Rule-clause-allowed g c =
+    wanting_over (check_of c.args.tree.now c.args.text.now c.args.names.now) c.from_residual.result c.from_residual.ensures.1
