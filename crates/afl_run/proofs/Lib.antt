@@ -1,3 +1,4 @@
+pub mod CauseLemmas
 pub mod FormLemmas
 pub mod MakingLemmas
 pub mod OverLemmas

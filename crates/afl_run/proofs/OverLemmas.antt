@@ -6,16 +6,18 @@ use Rattle.std.proofs.lemmas.List.Folds.{list_all-append}
 use Rattle.afl_outside.specs.Disk.{DiskGoesOn, DiskState, Moment}
 use Rattle.afl_outside.specs.Source.{SourceState}
 use Rattle.afl_outside.specs.Sink.{SinkState}
+use Rattle.afl_parser.specs.Outcome.{HasTreeOrStop}
 use Rattle.run_stores.specs.Start.{Start}
 use Rattle.run_stores.specs.Starts.{start_of}
 use Rattle.event_core.specs.declared.entry.Entry.TheVariants.{Reap}
 use Rattle.page_chain.proofs.RunLemmas.{goes}
+use Rattle.page_slots.specs.Puts.{OnlySyncs}
 use Rattle.turn_lock.specs.Owners.{AreOwnedBelow, ExtendsByOthers, is_owned_below, none_of}
 use Rattle.store_opening.specs.declared.opening.Limits.{Limits}
 use Rattle.store_state.specs.declared.event.Event.{Event}
 use Rattle.store_state.specs.declared.event.Event.TheVariants.{Entered}
 use Rattle.store_state.specs.Events.{events, owner_of}
-use Rattle.store_state.specs.Standings.{Standing}
+use Rattle.store_state.specs.Standings.{BeganAs, Standing}
 use Rattle.session_reports.specs.Outcomes.{notice_of}
 use Rattle.session_reports.specs.declared.notices.Notice.{Notice}
 use Rattle.session_reports.specs.declared.notices.Notice.TheVariants.{Memory}
@@ -26,6 +28,7 @@ use Rattle.run_stores.specs.Began.{BeganOver, TellsUnopened}
 use Rattle.run_stores.specs.Ends.{IsClosed, IsReap}
 use Rattle.run_stores.specs.declared.closing.StoreRun.{StoreRun}
 use Rattle.afl_run.specs.Inner.Over.{IsUnrun, LacksMemory, RunsOver, RunsTo}
+use Rattle.afl_run.proofs.CauseLemmas.{rose_for, tells_damage, tells_disk}
 
 -- a reap is nobody's
 reap_is_nobodys : (session : ℕ) (more : List Event) → IsReap more → none_of owner_of session more ≡ true
@@ -62,26 +65,35 @@ module _ {D S K : Type 0} (moment : D → Moment) (source_state : S → SourceSt
 
   -- the sessions ran, and the store was closed
   pub runs_to : (start : Start D) (streams : List (Streams S K)) (shared end : Standing D) (reports : List (SessionReport S K)) (run : StoreRun D S K)
-      → start_of shared ≡ start → length reports ≡ length streams → AreSessionsOf moment source_state sink_state start streams reports (events shared)
+      → HasTreeOrStop → start_of shared ≡ start → length reports ≡ length streams → AreSessionsOf moment source_state sink_state start streams reports (events shared)
       → AreOwnedBelow owner_of (length streams) (events shared) → (run.notice ≡ Memory) ⊎ (run.notice ≡ notice_of reports) → run.sessions ≡ reports → IsClosed moment shared end run
       → RunsTo moment source_state sink_state start streams end run
-  runs_to start streams shared end reports run began count each owned told is closed = record {
+  runs_to start streams shared end reports run trees began count each owned told is closed = record {
     began = closed.start ∙ began;
     ends = closed.ends;
     count = ap length is ∙ count;
     each = subst (λ (rs : List (SessionReport S K)). AreSessionsOf moment source_state sink_state start streams rs (events end)) (sym is)
-        (reaped_later start streams reports (events shared) closed.more (events end) each closed.reap closed.grown);
+        later;
     others = still_owned (length streams) (events shared) closed.more (events end) owned closed.reap closed.grown;
     told = subst (λ (rs : List (SessionReport S K)). (run.notice ≡ Memory) ⊎ (run.notice ≡ notice_of rs)) (sym is) told;
+    disk = λ tells. rose_for moment end closed.ends.ledger (tells_disk trees moment source_state sink_state start streams reports (events end) count later run.notice told tells)
+        closed.ends.counted;
+    damaged = λ page tells db began_as. tells_damage trees moment source_state sink_state start streams reports (events end) count later run.notice told page tells db
+        (subst (λ (s : Start D). BeganAs (moment s.opened.disk).state db) (closed.start ∙ began) began_as);
   }
+    where
+      later : AreSessionsOf moment source_state sink_state start streams reports (events end)
+      later = reaped_later start streams reports (events shared) closed.more (events end) each closed.reap closed.grown
 
   -- no session ran over a store that was opened
-  pub lacks_memory : (disk : D) (store : Standing D) (run : StoreRun D S K) → LacksMemory store run → IsUnrun moment disk run
-  lacks_memory disk store run lacks = record {
+  lacks_memory : (disk : D) (store : Standing D) (run : StoreRun D S K) → (moment store.disk).state.seen ≡ (moment disk).state.seen → LacksMemory store run
+      → IsUnrun moment disk run
+  lacks_memory disk store run seen lacks = record {
     none = lacks.none;
     nothing = lacks.nothing;
     no_pages = lacks.no_pages;
     cause = subst (λ (n : Notice). TellsUnopened n (moment disk).state (moment run.disk).state) (sym lacks.memory) tt;
+    unwritten = ap (λ (d : D). (moment d).state.seen) lacks.is_disk ∙ seen;
   }
 
   pub runs_over : (disk : D) (limits : Limits) (streams : List (Streams S K)) (store end : Standing D) (run : StoreRun D S K)
@@ -93,10 +105,10 @@ module _ {D S K : Type 0} (moment : D → Moment) (source_state : S → SourceSt
   }
 
   pub over : (disk : D) (limits : Limits) (streams : List (Streams S K)) (store : Standing D) (run : StoreRun D S K) → BeganOver moment disk limits (start_of store)
-      → LacksMemory store run ⊎ ((end : Standing D) × RunsTo moment source_state sink_state (start_of store) streams end run)
+      → OnlySyncs (moment disk) (moment store.disk) → LacksMemory store run ⊎ ((end : Standing D) × RunsTo moment source_state sink_state (start_of store) streams end run)
       → IsUnrun moment disk run ⊎ ((end : Standing D) × RunsOver moment source_state sink_state disk limits streams end run)
-  over disk limits streams store run began ran = elim ran [
-    | inl lacks ↦ inl (lacks_memory disk store run lacks)
+  over disk limits streams store run began reads ran = elim ran [
+    | inl lacks ↦ inl (lacks_memory disk store run reads.seen lacks)
     | inr runs ↦ inr (runs.0, runs_over disk limits streams store runs.0 run began runs.1)
   ]
 
@@ -125,10 +137,11 @@ module _ {D S K : Type 0} (moment : D → Moment) (source_state : S → SourceSt
   }
 
   pub unopened_as : (old disk : D) (notice : Notice) (run : StoreRun D S K) → run ≡ record { notice = notice; history = []; sessions = []; free_pages = 0; disk = disk }
-      → TellsUnopened notice (moment old).state (moment disk).state → IsUnrun moment old run
-  unopened_as old disk notice run is cause = record {
+      → TellsUnopened notice (moment old).state (moment disk).state → OnlySyncs (moment old) (moment disk) → IsUnrun moment old run
+  unopened_as old disk notice run is cause reads = record {
     none = ap (λ (r : StoreRun D S K). r.sessions) is;
     nothing = ap (λ (r : StoreRun D S K). r.history) is;
     no_pages = ap (λ (r : StoreRun D S K). r.free_pages) is;
     cause = subst (λ (r : StoreRun D S K). TellsUnopened r.notice (moment old).state (moment r.disk).state) (sym is) cause;
+    unwritten = ap (λ (r : StoreRun D S K). (moment r.disk).state.seen) is ∙ reads.seen;
   }

@@ -1,7 +1,7 @@
 -- What a run over an empty database in memory reports.
-use Rattle.std.proofs.Common.{◌≡◌, ◌≢◌, ◌⊎◌, ℕ, ◌+◌, ◌<◌, ◌≤◌, Bool, true, IsTrue, List, [], ◌∷◌, length, Option, Some, None, IfSome, inl, inr, refl, sym, ◌∙◌, ap, subst, arith}
+use Rattle.std.proofs.Common.{◌≡◌, ◌≢◌, ◌⊎◌, ℕ, zero, suc, ◌+◌, ◌<◌, ◌≤◌, Bool, true, false, IsTrue, List, [], ◌∷◌, length, All, Option, Some, None, IfSome, IsSome, IsSomeAnd, slice_get, inl, inr, refl, sym, ◌∙◌, ap, subst, arith}
 use Rattle.std.specs.Prelude.{Result, Ok, Err}
-use Rattle.afl_outside.specs.Counts.{risen}
+use Rattle.afl_outside.specs.Counts.{Rose, risen}
 use Rattle.afl_outside.specs.Disk.{DiskGoesOn, Moment, Only}
 use Rattle.afl_outside.specs.Source.{SourceState}
 use Rattle.afl_outside.specs.Sink.{SinkState}
@@ -11,16 +11,20 @@ use Rattle.run_stores.specs.Starts.{start_of}
 use Rattle.file_laws.proofs.Made.{made_stands, opened_is}
 use Rattle.file_meaning.specs.Opening.{IsWrongAt, opened}
 use Rattle.page_file.specs.Start.{IsEmptyDatabase}
+use Rattle.plan_changes.specs.Databases.{Database}
 use Rattle.store_opening.specs.declared.opening.Limits.{Limits}
 use Rattle.store_state.specs.Standings.{BeganAs, Standing}
-use Rattle.run_opening.specs.Names.{Word, standard, stream_names}
-use Rattle.run_opening.specs.Opened.{AreOpenedFor, FailsToOpen, HandsOut, HandsOutSome, IsOpenedFor, LeavesUnasked}
-use Rattle.run_stores.specs.Began.{BeganOver, TellsUnopened}
+use Rattle.run_opening.specs.Names.{Word, reply_name, standard, stream_names}
+use Rattle.run_opening.specs.Opened.{AreOpenedFor, FailsToOpen, HandsOut, HandsOutSome, IsOpenedFor, IsUnopened, LeavesUnasked, StopsAt}
+use Rattle.run_stores.specs.Began.{BeganOver, IsOpenedFrom, TellsUnopened}
 use Rattle.run_stores.specs.declared.closing.StoreRun.{StoreRun}
 use Rattle.session_reports.specs.declared.notices.Notice.{Notice}
 use Rattle.session_reports.specs.declared.notices.Notice.TheVariants as notices
+use Rattle.session_reports.specs.Outcomes.{notice_by as told_by, notice_of}
+use Rattle.session_reports.specs.declared.reports.SessionReport.{SessionReport}
 use Rattle.session_reports.specs.declared.reports.Streams.{Streams}
-use Rattle.afl_run.specs.Run.{RunsTry}
+use Rattle.afl_run.specs.OneHistory.{HasCause}
+use Rattle.afl_run.specs.Run.{IsOfAnswers, RunsTry}
 use Rattle.afl_run.specs.Inner.Making.{IsEmpty, Makes}
 use Rattle.afl_run.specs.Inner.Over.{IsUnrun, RunsOver}
 use Rattle.afl_run.proofs.StreamsLemmas.{leaves_same, one_history, reports_opened, zip_length}
@@ -64,12 +68,108 @@ began_empty moment disk limits end began empty = record {
   stands = made_stands empty.file empty.form;
 }
 
+-- ---- what is never told
+
+abbrev IsOfDisk : Notice → Type 0
+IsOfDisk notices.Disk = Unit {0}
+IsOfDisk (notices.Damaged page) = Unit {0}
+IsOfDisk _ = ⊥
+
+-- what is told of sessions
+abbrev IsOfSessions : Notice → Type 0
+IsOfSessions (notices.Usage word) = ⊥
+IsOfSessions (notices.NotDatabase page) = ⊥
+IsOfSessions (notices.NotEmpty count) = ⊥
+IsOfSessions _ = Unit {0}
+
+-- where a stream isn't opened, nothing is told of the disk
+not_opened_otherwise : (told : Notice) (old now : ShelfState) → (told ≡ notices.Memory) ⊎ FailsToOpen (standard ∷ []) told old now → IsOfDisk told → ⊥
+not_opened_otherwise told old now fails is = elim fails [
+  | inl memory ↦ absurd (subst (λ (n : Notice). IsOfDisk n) memory is)
+  | inr why ↦ elim why [
+    | inl want ↦ absurd (subst (λ (n : Notice). IsOfDisk n) want.0 is)
+    | inr stream ↦ absurd (subst (λ (n : Notice). IsOfDisk n) stream.1 is)
+  ]
+]
+
+none_there : {A : Type 0} (o : Option A) → IsSome o → o ≡ None → ⊥
+none_there None some is = absurd (cc (some))
+none_there (Some x) some is = absurd (cc (is))
+
+-- a stream of which the shelf tells that it opens it is opened
+told_both : (old now : ShelfState) (script : Word) → IsSome (old.scripts script) → IsSome (old.replies (reply_name script)) → IsUnopened script old now → ⊥
+told_both old now script some reply un = elim un.untold [
+  | inl none ↦ none_there (old.scripts script) some none
+  | inr none ↦ none_there (old.replies (reply_name script)) reply none
+]
+
+untold_one : (old now : ShelfState) (session : ℕ) → IsSome (old.scripts standard) → IsSome (old.replies (reply_name standard))
+    → IsSomeAnd (slice_get (standard ∷ []) session) (λ script. IsUnopened script old now) → ⊥
+untold_one old now zero script reply un = told_both old now standard script reply un
+untold_one old now (suc n) script reply un = absurd un
+
+opens_if_told : (told : Notice) (old now : ShelfState) → IsSome (old.scripts standard) → IsSome (old.replies standard)
+    → (told ≡ notices.Memory) ⊎ FailsToOpen (standard ∷ []) told old now → IsOfAnswers told
+opens_if_told told old now script reply fails = elim fails [
+  | inl memory ↦ subst (λ (n : Notice). IsOfAnswers n) (sym memory) tt
+  | inr why ↦ elim why [
+    | inl want ↦ subst (λ (n : Notice). IsOfAnswers n) (sym want.0) tt
+    | inr stream ↦ absurd (untold_one old now stream.0 script reply stream.2)
+  ]
+]
+
+-- a disk in memory never fails
+never_fails : {S K : Type 0} {source_state : S → SourceState} {sink_state : K → SinkState} {sessions : List (SessionReport S K)} {notice : Notice} (end : Standing SureBytes)
+    → HasCause sure_disk_moment source_state sink_state sessions notice end → notice ≡ notices.Disk → ⊥
+never_fails end causes is = let rose : risen 0 ≤ 0 = causes.disk is in absurd (omega (arith, rose))
+
+-- no session broke off whose streams' counts stand still
+calm_at : {S K : Type 0} (source_state : S → SourceState) (sink_state : K → SinkState) (sessions : List (SessionReport S K)) (session : ℕ)
+    → All (λ report. (Rose 0 (source_state report.source).faults → ⊥) × (Rose 0 (sink_state report.sink).faults → ⊥)) sessions
+    → IsSomeAnd (slice_get sessions session) (λ report. Rose 0 (source_state report.source).faults ⊎ Rose 0 (sink_state report.sink).faults) → ⊥
+calm_at source_state sink_state [] session calm broke = absurd broke
+calm_at source_state sink_state (r ∷ rs) zero calm broke =
+    let h = calm zero r (omega arith) in elim broke [ inl source ↦ h.0 source | inr sink ↦ h.1 sink ]
+calm_at source_state sink_state (r ∷ rs) (suc n) calm broke = calm_at source_state sink_state rs n (λ k d lt. calm (suc k) d (omega (arith, lt))) broke
+
+told_of_sessions : (want fault : Bool) (page session : Option ℕ) (refused : Bool) → IsOfSessions (told_by want fault page session refused)
+told_of_sessions true fault page session refused = tt
+told_of_sessions false true page session refused = tt
+told_of_sessions false false (Some at) session refused = tt
+told_of_sessions false false None (Some at) refused = tt
+told_of_sessions false false None None true = tt
+told_of_sessions false false None None false = tt
+
+answers_all : {S K : Type 0} {source_state : S → SourceState} {sink_state : K → SinkState} (sessions : List (SessionReport S K)) (notice : Notice) (end : Standing SureBytes)
+    → HasCause sure_disk_moment source_state sink_state sessions notice end → (db : Database) → BeganAs (sure_disk_moment end.opened.disk).state db
+    → All (λ report. (Rose 0 (source_state report.source).faults → ⊥) × (Rose 0 (sink_state report.sink).faults → ⊥)) sessions
+    → (notice ≡ notices.Memory) ⊎ (notice ≡ notice_of sessions) → IsOfAnswers notice
+answers_all {source_state = source_state} {sink_state = sink_state} sessions notice end causes db database calm told = by notice refl (elim told [
+  | inl memory ↦ subst (λ (n : Notice). IsOfSessions n) (sym memory) tt
+  | inr after ↦ subst (λ (n : Notice). IsOfSessions n) (sym after) (told_of_sessions _ _ _ _ _)
+])
+  where
+    by : (n : Notice) → notice ≡ n → IsOfSessions n → IsOfAnswers n
+    by notices.Done is among = tt
+    by notices.Refused is among = tt
+    by notices.Memory is among = tt
+    by notices.Disk is among = absurd (never_fails end causes is)
+    by (notices.Damaged page) is among = absurd (causes.damaged page is db database)
+    by (notices.Stream session) is among = absurd (calm_at source_state sink_state sessions session calm (causes.stream session is))
+    by (notices.Usage word) is among = absurd among
+    by (notices.NotDatabase page) is among = absurd among
+    by (notices.NotEmpty count) is among = absurd among
+
 module _ {S K : Type 0} (source_state : S → SourceState) (sink_state : K → SinkState) (old now : ShelfState) where
   pub tries_nothing : (told : Notice) → LeavesUnasked (stream_names (standard ∷ [])) old now → HandsOutSome 1 old now
-      → (told ≡ notices.Memory) ⊎ FailsToOpen (standard ∷ []) told old now
+      → (told ≡ notices.Memory) ⊎ FailsToOpen (standard ∷ []) told old now → StopsAt source_state sink_state (standard ∷ []) old now told
       → RunsTry sure_disk_moment source_state sink_state old now told [] [] 0
-  tries_nothing told others some fails = record {
+  tries_nothing told others some fails stops = record {
     opened = inl refl;
+    first = λ is. stops;
+    disk = λ is. not_opened_otherwise told old now fails (subst (λ (n : Notice). IsOfDisk n) (sym is) tt);
+    damaged = λ page is. not_opened_otherwise told old now fails (subst (λ (n : Notice). IsOfDisk n) (sym is) tt);
+    complete = λ script reply calm. opens_if_told told old now script reply fails;
     others = others;
     handed = record {
       replies = some.0;
@@ -85,9 +185,19 @@ module _ {S K : Type 0} (source_state : S → SourceState) (sink_state : K → S
   module _ (disk : SureBytes) (limits : Limits) (streams : List (Streams S K)) (run : StoreRun SureBytes S K) (empty : IsEmpty (sure_disk_moment disk))
       (opened : AreOpenedFor source_state sink_state old (standard ∷ []) streams) (others : LeavesUnasked (stream_names (standard ∷ [])) old now) (hands : HandsOut 1 old now)
       (history_given : limits.history ≡ 1048576) (pages_given : limits.pages ≡ 65536) where
+    -- what the store was opened from
+    found_over : (end : Standing SureBytes) → BeganOver sure_disk_moment disk limits (start_of end)
+        → IfSome (sure_disk_moment end.opened.disk).state.seen (λ file. IsOpenedFrom 65536 file (start_of end))
+    found_over end began = subst (λ (n : ℕ). IfSome (sure_disk_moment end.opened.disk).state.seen (λ file. IsOpenedFrom n file (start_of end))) pages_given
+        (subst (λ (o : Option (List ℕ)). IfSome o (λ file. IsOpenedFrom limits.pages file (start_of end))) (sym began.synced.seen) began.opened)
+
     tries_unrun : IsUnrun sure_disk_moment disk run → RunsTry sure_disk_moment source_state sink_state old now run.notice run.history run.sessions run.free_pages
-    tries_unrun unrun = record {
+    tries_unrun unrun = let memory = only_memory run.notice disk run.disk empty unrun.cause in record {
       opened = inl unrun.none;
+      first = λ is. subst (λ (n : Notice). StopsAt source_state sink_state (standard ∷ []) old now n) (sym memory) tt;
+      disk = λ is. absurd (cc (memory, is));
+      damaged = λ page is. absurd (cc (memory, is));
+      complete = λ script reply calm. subst (λ (n : Notice). IsOfAnswers n) (sym memory) tt;
       others = others;
       handed = record {
         replies = 1;
@@ -95,7 +205,7 @@ module _ {S K : Type 0} (source_state : S → SourceState) (sink_state : K → S
         most = omega arith;
         reported = inl (ap length unrun.none);
       };
-      none = λ is. (unrun.nothing, unrun.no_pages, inl (only_memory run.notice disk run.disk empty unrun.cause));
+      none = λ is. (unrun.nothing, unrun.no_pages, inl memory);
       told = λ ran. absurd (ran unrun.none);
       one = λ ran. absurd (ran unrun.none);
     }
@@ -105,7 +215,13 @@ module _ {S K : Type 0} (source_state : S → SourceState) (sink_state : K → S
     tries_over end over =
         let many : length run.sessions ≡ length streams = over.runs.count in
         let all : length streams ≡ 1 = zip_length (IsOpenedFor source_state sink_state old) (standard ∷ []) streams opened in
+        let one = one_history sure_disk_moment source_state sink_state old (standard ∷ []) streams opened disk limits run end over in
+        let database = began_empty sure_disk_moment disk limits end over.opened empty in
         record {
+          first = λ is. let none : length run.sessions ≡ 0 = ap length is in absurd (omega (arith, many, all, none));
+          disk = λ is. never_fails end one.causes is;
+          damaged = λ page is. one.causes.damaged page is [] database;
+          complete = λ script reply calm. answers_all run.sessions run.notice end one.causes [] database calm over.runs.told;
           opened = inr (reports_opened sure_disk_moment source_state sink_state old (standard ∷ []) streams opened (start_of end) run.sessions end over.runs.count over.runs.each);
           others = others;
           handed = record {
@@ -118,9 +234,10 @@ module _ {S K : Type 0} (source_state : S → SourceState) (sink_state : K → S
           told = λ ran. over.runs.told;
           one = λ ran. (
             end,
-            one_history sure_disk_moment source_state sink_state old (standard ∷ []) streams opened disk limits run end over,
+            one,
             record {
-              database = began_empty sure_disk_moment disk limits end over.opened empty;
+              database = database;
+              found = found_over end over.opened;
               entries = over.opened.entries ∙ history_given;
               page_limit = over.opened.pages ∙ pages_given;
             },
@@ -135,4 +252,4 @@ module _ {S K : Type 0} (source_state : S → SourceState) (sink_state : K → S
 pub tries_not : {S K : Type 0} (source_state : S → SourceState) (sink_state : K → SinkState) (old : ShelfState)
     → RunsTry sure_disk_moment source_state sink_state old old notices.Memory [] [] 0
 tries_not source_state sink_state old =
-    tries_nothing source_state sink_state old old notices.Memory (leaves_same (stream_names (standard ∷ [])) old) (0, omega arith, λ fits. omega arith) (inl refl)
+    tries_nothing source_state sink_state old old notices.Memory (leaves_same (stream_names (standard ∷ [])) old) (0, omega arith, λ fits. omega arith) (inl refl) tt

@@ -10,27 +10,30 @@ use Rattle.afl_outside.specs.Shelf.{LeavesOthers, ShelfState}
 use Rattle.run_stores.specs.Start.{Start}
 use Rattle.run_stores.specs.Starts.{start_of}
 use Rattle.event_core.specs.declared.entry.Entry.{Entry}
-use Rattle.file_meaning.specs.Opening.{IsWrongAt, Opens}
-use Rattle.file_meaning.specs.declared.found.Found.{Found}
-use Rattle.store_bases.specs.Bases.{base_core}
+use Rattle.file_meaning.specs.Opening.{IsWrongAt}
 use Rattle.turn_lock.specs.Owners.{AreOwnedBelow}
 use Rattle.store_opening.specs.declared.opening.Limits.{Limits}
 use Rattle.store_state.specs.Standings.{Standing}
 use Rattle.store_state.specs.Events.{events, owner_of}
 use Rattle.run_opening.specs.Names.{Word, reply_name, stream_names}
-use Rattle.run_opening.specs.Opened.{AreOpenedFor, FailsToOpen, FailsToOpenDevice, HandsOut, HandsOutSome, IsOpenedDevice, IsOpenedFor, IsUnopened, LeavesUnasked}
+use Rattle.run_opening.specs.Opened.{AreOpenedFor, FailsToOpen, FailsToOpenDevice, HandsOut, HandsOutSome, IsOpenedDevice, IsOpenedFor, IsUnopened, LeavesUnasked, StopsAt}
 use Rattle.run_opening.proofs.OpeningLemmas.{back_all, front_all}
-use Rattle.run_stores.specs.Began.{BeganOver, TellsUnopened}
+use Rattle.run_stores.specs.Began.{BeganOver, IsOpenedFrom, TellsUnopened}
 use Rattle.run_stores.specs.declared.closing.StoreRun.{StoreRun}
-use Rattle.session_reports.specs.Outcomes.{notice_of}
+use Rattle.session_reports.proofs.OutcomeLemmas.{is_stream}
+use Rattle.session_reports.specs.Outcomes.{IsFirst, notice_of}
+use Rattle.session_reports.specs.declared.reports.SessionEnd.TheVariants as ends
 use Rattle.session_reports.specs.declared.reports.SessionReport.{SessionReport}
 use Rattle.session_reports.specs.declared.reports.Streams.{Streams}
 use Rattle.session_reports.specs.declared.notices.Notice.{Notice}
 use Rattle.session_reports.specs.declared.notices.Notice.TheVariants as notices
 use Rattle.session_threads.specs.Sessions.{AreSessionsOf, IsSessionOf}
 use Rattle.afl_run.specs.OneHistory.{IsOneHistory, IsReportOf}
-use Rattle.afl_run.specs.Printed.{IsOpenedAs}
-use Rattle.afl_run.specs.Run.{AreOfScripts, BeganFrom, HandsOutStreams, RunsScripts, TellsSessions, TellsUnrun, devices_in, state_in}
+use Rattle.afl_run.specs.Printed.{IsOpenedAs, Prints}
+use Rattle.afl_session.proofs.InHistories.{sessions_stay}
+use Rattle.afl_session.specs.Histories.{IsMarkedIn}
+use Rattle.store_state.specs.declared.event.Event.{Event}
+use Rattle.afl_run.specs.Run.{AreOfScripts, BeganFrom, HandsOutStreams, IsOfStore, RunsScripts, TellsSessions, TellsUnrun, devices_in, state_in}
 use Rattle.afl_run.specs.Inner.Over.{IsUnrun, RunsOver}
 use Rattle.afl_run.specs.Inner.Streams.{GoesOn, IsUntouched, RunsOn}
 use Rattle.page_chain.proofs.RunLemmas.{stands}
@@ -64,6 +67,11 @@ map_all f P [] all k d lt = absurd (omega (arith, lt))
 map_all f P (x ∷ xs) all zero d lt = all zero (f d) (omega arith)
 map_all f P (x ∷ xs) all (suc k) d lt = map_all f P xs (λ j e le. all (suc j) e (omega (arith, le))) k d (omega (arith, lt))
 
+at_place : {A : Type 0} (P : A → Type 0) (xs : List A) (k : ℕ) → k < length xs → ((d : A) → P (get_or xs k d)) → IsSomeAnd (slice_get xs k) P
+at_place P [] k within holds = absurd (omega (arith, within))
+at_place P (x ∷ xs) zero within holds = holds x
+at_place P (x ∷ xs) (suc k) within holds = at_place P xs k (omega (arith, within)) holds
+
 pub begun : {S K : Type 0} (source_state : S → SourceState) (sink_state : K → SinkState) (shelf : ShelfState) (scripts : List Word) (streams : List (Streams S K))
     → AreOpenedFor source_state sink_state shelf scripts streams → All (λ own. StandsAfter [] own.splitter) streams
 begun source_state sink_state shelf [] [] all k d lt = absurd (omega (arith, lt))
@@ -96,11 +104,27 @@ module _ {D S K : Type 0} (moment : D → Moment) (source_state : S → SourceSt
           later = h.later;
           sealed = h.sealed;
           prints = prints _ _ _ _ _ _ _ _ _ _ _ _ is.source.new is.sink.new h.serves;
+          in_history = subst
+              (λ (whole : List Event). Prints (IsMarkedIn moment start k whole) [] 0 h.seen (source_state (get_or reports k other).source) (sink_state (get_or reports k other).sink)
+              (get_or reports k other).marks (get_or reports k other).end)
+              (sym h.later.1)
+              (prints _ _ _ _ _ _ _ _ _ _ _ _ is.source.new is.sink.new
+              (sessions_stay moment start k [] h.seen h.later.0 0 _ _ _ _ _ _ h.sealed h.serves));
         }
       where
         first : {A : Type 0} (xs : List A) → k < length xs → A
         first [] lt = absurd (omega (arith, lt))
         first (x ∷ xs) lt = x
+
+    -- a count of the streams of a session that broke off rose
+    broken_off : (session : ℕ) → IsFirst (λ r. (r.end ≡ ends.Source) ⊎ (r.end ≡ ends.Sink)) session reports
+        → IsSomeAnd (slice_get reports session) (λ report. Rose 0 (source_state report.source).faults ⊎ Rose 0 (sink_state report.sink).faults)
+    broken_off session first =
+        at_place (λ report. Rose 0 (source_state report.source).faults ⊎ Rose 0 (sink_state report.sink).faults) reports session first.within
+        (λ other. let p = (report_prints session other first.within).prints in elim (first.here other) [
+          | inl source ↦ inl (p.source_fault source).0
+          | inr sink ↦ inr (p.sink_fault sink)
+        ])
 
   pub one_history : (disk : D) (limits : Limits) (run : StoreRun D S K) (end : Standing D) → RunsOver moment source_state sink_state disk limits streams end run
       → IsOneHistory moment source_state sink_state run.sessions run.notice run.history run.free_pages end
@@ -108,6 +132,16 @@ module _ {D S K : Type 0} (moment : D → Moment) (source_state : S → SourceSt
     is_history = over.runs.ends.is_history;
     ledger = over.runs.ends.ledger;
     each = report_prints (start_of end) run.sessions end over.runs.count over.runs.each;
+    ordered = over.runs.ends.ordered;
+    counted = over.runs.ends.counted;
+    causes = record {
+      disk = over.runs.disk;
+      damaged = over.runs.damaged;
+      stream = λ session is. elim over.runs.told [
+        | inl memory ↦ absurd (cc (memory, is))
+        | inr after ↦ broken_off (start_of end) run.sessions end over.runs.count over.runs.each session (is_stream run.sessions run.notice after session is)
+      ];
+    };
     others = subst (λ (n : ℕ). AreOwnedBelow owner_of n (events end)) (sym over.runs.count) over.runs.others;
     pages = over.runs.ends.pages;
     reaped = over.runs.ends.reaped;
@@ -130,23 +164,50 @@ tells_unopened (notices.Stream session) asked scripts disk later old new untouch
 tells_unopened (notices.NotEmpty count) asked scripts disk later old new untouched goes tells = absurd tells
 tells_unopened (notices.Damaged page) asked scripts disk later old new untouched goes tells = absurd tells
 
--- what is told of streams that are not opened
-tells_stream : (notice : Notice) (asked : Word) (scripts : List Word) (device : Option DiskState) (old new : ShelfState)
-    → (notice ≡ notices.Memory) ⊎ FailsToOpen scripts notice old new → TellsUnrun notice asked scripts device old new
-tells_stream notice asked scripts device old new fails = elim fails [
-  | inl memory ↦ subst (λ (n : Notice). TellsUnrun n asked scripts device old new) (sym memory) tt
+-- of a store that isn't opened no stream is told
+pub stops_nowhere : {S K : Type 0} (source_state : S → SourceState) (sink_state : K → SinkState) (notice : Notice) (scripts : List Word) (disk later : DiskState)
+    (old new : ShelfState) → TellsUnopened notice disk later → StopsAt source_state sink_state scripts old new notice
+stops_nowhere source_state sink_state notices.Memory scripts disk later old new tells = tt
+stops_nowhere source_state sink_state notices.Disk scripts disk later old new tells = tt
+stops_nowhere source_state sink_state (notices.NotDatabase page) scripts disk later old new tells = tt
+stops_nowhere source_state sink_state notices.Done scripts disk later old new tells = tt
+stops_nowhere source_state sink_state notices.Refused scripts disk later old new tells = tt
+stops_nowhere source_state sink_state (notices.Usage word) scripts disk later old new tells = tt
+stops_nowhere source_state sink_state (notices.Stream session) scripts disk later old new tells = absurd tells
+stops_nowhere source_state sink_state (notices.NotEmpty count) scripts disk later old new tells = tt
+stops_nowhere source_state sink_state (notices.Damaged page) scripts disk later old new tells = tt
+
+-- nor is the store of streams that aren't opened
+not_of_store : (notice : Notice) (scripts : List Word) (old new : ShelfState) → (notice ≡ notices.Memory) ⊎ FailsToOpen scripts notice old new → IsOfStore notice → ⊥
+not_of_store notice scripts old new fails is = elim fails [
+  | inl memory ↦ absurd (subst (λ (n : Notice). IsOfStore n) memory is)
   | inr why ↦ elim why [
-    | inl want ↦ subst (λ (n : Notice). TellsUnrun n asked scripts device old new) (sym want.0) tt
-    | inr stream ↦ subst (λ (n : Notice). TellsUnrun n asked scripts device old new) (sym stream.1) (inr (stream.0, refl, stream.2))
+    | inl want ↦ absurd (subst (λ (n : Notice). IsOfStore n) want.0 is)
+    | inr stream ↦ absurd (subst (λ (n : Notice). IsOfStore n) stream.1 is)
+  ]
+]
+
+-- what is told of streams that are not opened
+tells_stream : (notice : Notice) (asked : Word) (scripts : List Word) (device : DiskState) (old new : ShelfState)
+    → (notice ≡ notices.Memory) ⊎ FailsToOpen scripts notice old new → TellsUnrun notice asked scripts (Some device) old new
+tells_stream notice asked scripts device old new fails = elim fails [
+  | inl memory ↦ subst (λ (n : Notice). TellsUnrun n asked scripts (Some device) old new) (sym memory) tt
+  | inr why ↦ elim why [
+    | inl want ↦ subst (λ (n : Notice). TellsUnrun n asked scripts (Some device) old new) (sym want.0) tt
+    | inr stream ↦ subst (λ (n : Notice). TellsUnrun n asked scripts (Some device) old new) (sym stream.1) (inr (stream.0, refl, stream.2))
   ]
 ]
 
 module _ {D S K : Type 0} (moment : D → Moment) (source_state : S → SourceState) (sink_state : K → SinkState) (old now : ShelfState) (disk : D) (scripts : List Word)
     (limits : Limits) (others : LeavesUnasked (stream_names scripts) old now) where
   pub on_unopened : (told : Notice) → HandsOutSome (length scripts) old now → (told ≡ notices.Memory) ⊎ FailsToOpen scripts told old now
+      → StopsAt source_state sink_state scripts old now told
       → RunsOn moment source_state sink_state old now told [] [] 0 disk scripts limits.pages limits.history (Some disk)
-  on_unopened told some fails = record {
+  on_unopened told some fails stops = record {
     opened = inl refl;
+    all = λ is. absurd (not_of_store told scripts old now fails is);
+    first = λ is. stops;
+    unwritten = λ is. refl;
     goes_on = stands (moment disk).state;
     others = others;
     handed = record {
@@ -155,7 +216,7 @@ module _ {D S K : Type 0} (moment : D → Moment) (source_state : S → SourceSt
       most = some.1;
       reported = inl refl;
     };
-    none = λ is. (refl, refl, λ asked. tells_stream told asked scripts (Some (moment disk).state) old now fails);
+    none = λ is. (refl, refl, λ asked. tells_stream told asked scripts (moment disk).state old now fails);
     told = λ ran. absurd (ran refl);
     one = λ ran. absurd (ran refl);
   }
@@ -174,6 +235,9 @@ module _ {D S K : Type 0} (moment : D → Moment) (source_state : S → SourceSt
         → RunsOn moment source_state sink_state old now run.notice run.history run.sessions run.free_pages disk scripts limits.pages limits.history (Some run.disk)
     on_unrun unrun = record {
       opened = inl unrun.none;
+      all = λ is. hands;
+      first = λ is. stops_nowhere source_state sink_state run.notice scripts (moment disk).state (moment run.disk).state old now unrun.cause;
+      unwritten = λ is. unrun.unwritten;
       goes_on = goes;
       others = others;
       handed = all_replies (inl (ap length unrun.none));
@@ -186,6 +250,9 @@ module _ {D S K : Type 0} (moment : D → Moment) (source_state : S → SourceSt
       as_many : length run.sessions ≡ length scripts
       as_many = over.runs.count ∙ zip_length (IsOpenedFor source_state sink_state old) scripts streams opened
 
+      some_ran : run.sessions ≡ [] → ⊥
+      some_ran is = let many = as_many in let empty : length run.sessions ≡ 0 = ap length is in absurd (omega (arith, many, empty, some))
+
       goes_end : DiskGoesOn (moment disk).state (moment end.disk).state
       goes_end = subst (λ (d : D). DiskGoesOn (moment disk).state (moment d).state) over.runs.ends.is_disk goes
 
@@ -196,9 +263,7 @@ module _ {D S K : Type 0} (moment : D → Moment) (source_state : S → SourceSt
         honest = over.opened.synced.same.honest ∙ sym goes_end.honest;
         entries = over.opened.entries;
         page_limit = over.opened.pages;
-        found = subst
-            (λ (o : Option (List ℕ)). IfSome o (λ file. (found : Found) × Opens file found × (end.ledger.base ≡ base_core found end.opened.slots.current.root.log limits.pages)))
-            (untouched.seen ∙ sym goes_end.first) over.opened.found;
+        found = subst (λ (o : Option (List ℕ)). IfSome o (λ file. IsOpenedFrom limits.pages file (start_of end))) (untouched.seen ∙ sym goes_end.first) over.opened.opened;
       }
 
       on_over : RunsOn moment source_state sink_state old now run.notice run.history run.sessions run.free_pages disk scripts limits.pages limits.history (Some run.disk)
@@ -207,7 +272,10 @@ module _ {D S K : Type 0} (moment : D → Moment) (source_state : S → SourceSt
         goes_on = goes;
         others = others;
         handed = all_replies (inr (sym as_many));
-        none = λ is. let many = as_many in let empty : length run.sessions ≡ 0 = ap length is in absurd (omega (arith, many, empty, some));
+        all = λ is. hands;
+        first = λ is. absurd (some_ran is);
+        unwritten = λ is. absurd (some_ran is);
+        none = λ is. absurd (some_ran is);
         told = λ ran. over.runs.told;
         one = λ ran. (end, one_history moment source_state sink_state old scripts streams opened disk limits run end over, began_from);
       }
@@ -319,6 +387,12 @@ module _ (asked : Word) (scripts : List Word) (old mid : ShelfState) (others : L
         most = on.handed.most;
         reported = on.handed.reported;
       };
+      in_order = record {
+        none = λ is. absurd (cc (is));
+        all = λ is fits. let h : new.handed ≡ mid.handed + length scripts = on.all is (omega (arith, fits, handed)) in omega (arith, h, handed, fits);
+      };
+      first = λ is. (mid, others, on.first is);
+      unwritten = λ is. on.unwritten is ∙ is_new.seen ∙ sym on.goes_on.first;
       none = λ is. let n = on.none is in (n.0, n.1, tells_since notice (moment later).state new (n.2 asked));
       told = on.told;
       one = on.one;
@@ -334,6 +408,9 @@ module _ {D S K : Type 0} (moment : D → Moment) (source_state : S → SourceSt
     is_asked = tt;
     others = leaves_asked asked (stream_names scripts) old now now others (leaves_same (stream_names scripts) now);
     handed = record { replies = 0; handed = λ fits. omega (arith, handed); most = omega arith; reported = inl refl };
+    in_order = record { none = λ is fits. omega (arith, handed); all = tt };
+    first = λ is. tt;
+    unwritten = λ is. tt;
     none = λ is. (
       refl,
       refl,

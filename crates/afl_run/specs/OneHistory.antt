@@ -1,6 +1,7 @@
 -- ONE HISTORY: what a run over a store tells at its end.
-use Rattle.std.specs.Prelude.{◌≡◌, ℕ, ◌<◌, false, List, [], length, slice_index_or, IsTrue}
+use Rattle.std.specs.Prelude.{◌≡◌, ◌⊎◌, ℕ, ◌<◌, false, List, [], length, slice_get, slice_index_or, IsSomeAnd, IsTrue}
 use Rattle.std.specs.List.{list_all}
+use Rattle.afl_outside.specs.Counts.{Rose}
 use Rattle.afl_outside.specs.Disk.{Moment}
 use Rattle.afl_outside.specs.Source.{SourceState}
 use Rattle.afl_outside.specs.Sink.{SinkState}
@@ -8,38 +9,52 @@ use Rattle.run_stores.specs.Start.{Start}
 use Rattle.run_stores.specs.Starts.{start_of}
 use Rattle.turn_lock.specs.Owners.{AreOwnedBelow, ExtendsByOthers}
 use Rattle.event_core.specs.declared.entry.Entry.{Entry}
+use Rattle.event_core.specs.Legal.{IsOrdered}
 use Rattle.plan_changes.specs.Databases.{Database}
-use Rattle.file_meaning.specs.Opening.{Opens}
-use Rattle.file_meaning.specs.declared.found.Found.{Found}
-use Rattle.store_ledger.specs.Ledger.{IsLedger, reap_comes, unused_pages}
+use Rattle.store_ledger.specs.Ledger.{IsLedger, history as history_of, reap_comes, unused_pages}
 use Rattle.store_state.specs.declared.event.Event.{Event}
 use Rattle.store_state.specs.Events.{events, owner_of}
 use Rattle.store_state.specs.Standings.{BeganAs, Standing}
+use Rattle.store_state.specs.Inner.Keeping.{AreCounted}
 use Rattle.session_threads.specs.Told.{is_sealed}
 use Rattle.session_reports.specs.declared.reports.SessionReport.{SessionReport}
 use Rattle.session_reports.specs.declared.notices.Notice.{Notice}
-use Rattle.session_reports.specs.declared.notices.Notice.TheVariants.{Memory}
-use Rattle.session_threads.specs.Marked.{IsMarked}
+use Rattle.session_reports.specs.declared.notices.Notice.TheVariants.{Damaged, Disk, Memory, Stream}
+use Rattle.afl_session.specs.Histories.{IsMarkedIn}
+use Rattle.afl_session.specs.Marked.{IsMarked}
 use Rattle.run_stores.specs.Held.{HoldsHistory}
 use Rattle.afl_run.specs.Printed.{Prints}
 
 module _ {D S K : Type 0} (moment : D → Moment) (source_state : S → SourceState) (sink_state : K → SinkState) where
-  -- A SESSION OVER ONE HISTORY: what it had seen at its end is a beginning of the history, none of what came behind is its own, and up to there it
-  -- answered the statements of its script in order, each at its place
+  -- A SESSION OVER ONE HISTORY: what it had seen at its end is a beginning of the history, in which each commit was acknowledged; none of what came
+  -- behind is its own; and up to there it answered the statements of its script in order. Each mark tells at its place of what the session had seen
+  -- then, and of the whole history
   pub record IsReportOf (start : Start D) (session : ℕ) (report : SessionReport S K) (history : List Event) : Type 0 where
     pub seen : List Event
     pub later : ExtendsByOthers owner_of session seen history
     pub sealed : IsTrue (list_all is_sealed seen)
     pub prints : Prints (IsMarked moment start session) [] 0 seen (source_state report.source) (sink_state report.sink) report.marks report.end
+    pub in_history : Prints (IsMarkedIn moment start session history) [] 0 seen (source_state report.source) (sink_state report.sink) report.marks report.end
+
+  -- WHAT THE NOTICE OF SESSIONS SAYS HAS ITS CAUSE: the disk's count rose; the file began as no database; a count of the session's streams rose
+  pub record HasCause (sessions : List (SessionReport S K)) (notice : Notice) (store : Standing D) : Type 0 where
+    pub disk : notice ≡ Disk → Rose (moment store.opened.disk).state.faults (moment store.disk).state.faults
+    pub damaged : (page : ℕ) → notice ≡ Damaged page → (db : Database) → BeganAs (moment store.opened.disk).state db → ⊥
+    pub stream : (session : ℕ) → notice ≡ Stream session
+        → IsSomeAnd (slice_get sessions session) (λ report. Rose 0 (source_state report.source).faults ⊎ Rose 0 (sink_state report.sink).faults)
 
   -- THE REPORTS OF A RUN ARE THOSE OF ONE HISTORY, which is that of its store at its end
   pub record IsOneHistory (sessions : List (SessionReport S K)) (notice : Notice) (history : List Entry) (free : ℕ) (store : Standing D) : Type 0 where
     pub is_history : history ≡ store.ledger.entries
     pub ledger : IsLedger store.ledger
+    pub ordered : IsOrdered store.ledger.base (history_of store.ledger)
     pub each : (k : ℕ) (other : SessionReport S K) → k < length sessions → IsReportOf (start_of store) k (slice_index_or sessions k other) (events store)
     -- nothing else is in it: each event is of one of the sessions, or of nobody
     pub others : AreOwnedBelow owner_of (length sessions) (events store)
+    -- no more replies tell of a failing disk than its count rose by, unless it stands at its last value: each has a note of its own
+    pub counted : AreCounted (moment store.opened.disk).state.faults (moment store.disk).state.faults store.ledger.notes
     pub pages : free ≡ length (unused_pages store.ledger)
     -- each page that nobody can name is free, or one more entry would pass the limit
     pub reaped : (notice ≡ Memory → ⊥) → reap_comes store.ledger ≡ false
+    pub causes : HasCause sessions notice store
     pub cells : (db : Database) → BeganAs (moment store.opened.disk).state db → HoldsHistory moment store db

@@ -1,22 +1,22 @@
 -- What the top call reports, by the words.
-use Rattle.std.specs.Prelude.{◌≡◌, ◌≢◌, ◌⊎◌, ℕ, ◌+◌, ◌≤◌, List, [], ◌∷◌, length, Option, None, Some, IfSome, IsSomeAnd, IsTrue}
+use Rattle.std.specs.Prelude.{◌≡◌, ◌≢◌, ◌⊎◌, ℕ, ◌+◌, ◌≤◌, List, [], ◌∷◌, length, All, Option, None, Some, IfSome, IsSome, IsTrue}
 use Rattle.std.specs.List.{AllZip}
 use Rattle.afl_outside.specs.Counts.{Rose}
 use Rattle.afl_outside.specs.Disk.{DiskState, Moment}
 use Rattle.afl_outside.specs.Source.{SourceState}
 use Rattle.afl_outside.specs.Sink.{SinkState}
-use Rattle.afl_outside.specs.Shelf.{ShelfState}
+use Rattle.afl_outside.specs.Shelf.{LeavesOthers, ShelfState}
 use Rattle.event_core.specs.declared.entry.Entry.{Entry}
-use Rattle.file_meaning.specs.Opening.{IsWrongAt, Opens}
-use Rattle.file_meaning.specs.declared.found.Found.{Found}
-use Rattle.store_bases.specs.Bases.{base_core}
+use Rattle.file_meaning.specs.Opening.{IsWrongAt}
 use Rattle.store_state.specs.Standings.{BeganAs, Standing}
 use Rattle.run_opening.specs.Names.{Word, standard, stream_names}
-use Rattle.run_opening.specs.Opened.{FailsToOpen, FailsToOpenDevice, HandsOut, IsOpenedDevice, LeavesUnasked}
+use Rattle.run_opening.specs.Opened.{FailsToOpen, FailsToOpenDevice, HandsOut, IsOpenedDevice, LeavesUnasked, StopsAt}
 use Rattle.session_reports.specs.Outcomes.{notice_of}
 use Rattle.session_reports.specs.declared.reports.SessionReport.{SessionReport}
 use Rattle.session_reports.specs.declared.notices.Notice.{Notice}
 use Rattle.session_reports.specs.declared.notices.Notice.TheVariants as notices
+use Rattle.run_stores.specs.Began.{IsOpenedFrom}
+use Rattle.run_stores.specs.Starts.{start_of}
 use Rattle.afl_run.specs.Init.{TellsDevice, notice_by}
 use Rattle.afl_run.specs.OneHistory.{IsOneHistory}
 use Rattle.afl_run.specs.Printed.{IsOpenedAs}
@@ -43,12 +43,31 @@ abbrev pub TellsUnrun : Notice → Word → List Word → Option DiskState → S
 TellsUnrun notices.Memory asked scripts device old new = Unit {0}
 TellsUnrun notices.Disk asked scripts None old new = FailsToOpenDevice asked notices.Disk old new
 TellsUnrun notices.Disk asked scripts (Some disk) old new = Rose 0 disk.faults
-TellsUnrun (notices.Stream session) asked scripts device old new = FailsToOpen scripts (notices.Stream session) old new
+TellsUnrun (notices.Stream session) asked scripts None old new = ⊥
+TellsUnrun (notices.Stream session) asked scripts (Some disk) old new = FailsToOpen scripts (notices.Stream session) old new
 TellsUnrun (notices.NotDatabase page) asked scripts None old new = ⊥
 TellsUnrun (notices.NotDatabase page) asked scripts (Some disk) old new = IfSome disk.first (IsWrongAt page)
 TellsUnrun _ asked scripts device old new = ⊥
 
+-- the store was to be opened when it failed
+abbrev pub IsOfStore : Notice → Type 0
+IsOfStore notices.Disk = Unit {0}
+IsOfStore (notices.NotDatabase page) = Unit {0}
+IsOfStore _ = ⊥
+
+-- Without a device nothing was handed out; where the store was to be opened, the device and a reply for each script
+pub record HandsOutInOrder {D : Type 0} (device : Option D) (scripts : ℕ) (notice : Notice) (old new : ShelfState) : Type 0 where
+  pub none : device ≡ None → HandsOut 0 old new
+  pub all : IfSome device (λ disk. IsOfStore notice → HandsOut (1 + scripts) old new)
+
 -- ---- sessions
+
+-- the scripts were answered, but for memory
+abbrev pub IsOfAnswers : Notice → Type 0
+IsOfAnswers notices.Done = Unit {0}
+IsOfAnswers notices.Refused = Unit {0}
+IsOfAnswers notices.Memory = Unit {0}
+IsOfAnswers _ = ⊥
 
 -- the reports are those of these scripts, in order, and began as the shelf told; or there is none
 abbrev pub AreOfScripts : {S K : Type 0} → (S → SourceState) → (K → SinkState) → ShelfState → List Word → List (SessionReport S K) → Type 0
@@ -59,19 +78,20 @@ AreOfScripts source_state sink_state shelf scripts sessions =
 abbrev pub TellsSessions : {S K : Type 0} → Notice → List (SessionReport S K) → Type 0
 TellsSessions notice sessions = sessions ≢ [] → (notice ≡ notices.Memory) ⊎ (notice ≡ notice_of sessions)
 
--- the store was opened over the bytes with which the device began, as what they open as, within these limits; and the device is handed back
+-- the store was opened over the bytes with which the device began, as what they open as: their root and its log, their versions and their base; within
+-- these limits. And the device is handed back
 pub record BeganFrom {D : Type 0} (moment : D → Moment) (pages limit : ℕ) (device : Option D) (store : Standing D) : Type 0 where
   pub is_device : device ≡ Some store.disk
   pub first : (moment store.opened.disk).state.seen ≡ (moment store.disk).state.first
   pub honest : (moment store.opened.disk).state.honest ≡ (moment store.disk).state.honest
   pub entries : store.ledger.limit ≡ limit
   pub page_limit : store.ledger.base.limit ≡ pages
-  pub found : IfSome (moment store.disk).state.first
-      (λ file. (found : Found) × Opens file found × (store.ledger.base ≡ base_core found store.opened.slots.current.root.log pages))
+  pub found : IfSome (moment store.disk).state.first (λ file. IsOpenedFrom pages file (start_of store))
 
 -- the store was opened over a database of no arrays, within these limits
 pub record BeganEmpty {D : Type 0} (moment : D → Moment) (store : Standing D) : Type 0 where
   pub database : BeganAs (moment store.opened.disk).state []
+  pub found : IfSome (moment store.opened.disk).state.seen (λ file. IsOpenedFrom 65536 file (start_of store))
   pub entries : store.ledger.limit ≡ 1048576
   pub page_limit : store.ledger.base.limit ≡ 65536
 
@@ -83,6 +103,11 @@ module _ {D S K : Type 0} (moment : D → Moment) (source_state : S → SourceSt
     pub is_asked : IfSome device (λ disk. IsOpenedDevice asked old (moment disk).state)
     pub others : LeavesUnasked (asked ∷ stream_names scripts) old new
     pub handed : HandsOutStreams (devices_in device) (length scripts) (length sessions) old new
+    pub in_order : HandsOutInOrder device (length scripts) notice old new
+    -- once the device was opened, the first stream that failed decided, and nothing behind it was asked for
+    pub first : sessions ≡ [] → IfSome device (λ _. (opened : ShelfState) × LeavesOthers asked old opened × StopsAt source_state sink_state scripts opened new notice)
+    -- where no session ran, nothing was written to the device
+    pub unwritten : sessions ≡ [] → IfSome device (λ disk. (moment disk).state.seen ≡ (moment disk).state.first)
     pub none : sessions ≡ [] → (history ≡ []) × (free ≡ 0) × TellsUnrun notice asked scripts (state_in moment device) old new
     pub told : TellsSessions notice sessions
     pub one : sessions ≢ [] → (store : Standing D) × IsOneHistory moment source_state sink_state sessions notice history free store
@@ -95,6 +120,13 @@ module _ {D S K : Type 0} (moment : D → Moment) (source_state : S → SourceSt
     pub handed : HandsOutStreams 0 1 (length sessions) old new
     pub none : sessions ≡ [] → (history ≡ []) × (free ≡ 0) × ((notice ≡ notices.Memory) ⊎ FailsToOpen (standard ∷ []) notice old new)
     pub told : TellsSessions notice sessions
+    pub first : sessions ≡ [] → StopsAt source_state sink_state (standard ∷ []) old new notice
+    -- its disk never fails, and is never damaged
+    pub disk : notice ≢ notices.Disk
+    pub damaged : (page : ℕ) → notice ≢ notices.Damaged page
+    -- where the shelf tells that it opens both streams, and no count of theirs rose, the script was answered, but for memory
+    pub complete : IsSome (old.scripts standard) → IsSome (old.replies standard)
+        → All (λ report. (Rose 0 (source_state report.source).faults → ⊥) × (Rose 0 (sink_state report.sink).faults → ⊥)) sessions → IsOfAnswers notice
     pub one : sessions ≢ [] → (store : Standing D) × IsOneHistory moment source_state sink_state sessions notice history free store
         × BeganEmpty moment store
 

@@ -8,6 +8,7 @@ ghost use Rattle.store_state.specs.Standings.{Standing};
 ghost use Rattle.afl_run.specs.Inner.Over.{IsUnrun, LacksMemory, RunsOver, RunsTo};
 
 use afl_outside::{Disk, Gate, Sink, Source};
+use afl_parser::texts_have_tree_or_stop;
 use cell_values::{List, Memory};
 use run_stores::{Limits, Store, StoreRun, close_store, open_store};
 use session_reports::{Notice, Streams};
@@ -82,6 +83,7 @@ fn run_store<
     ensures { LacksMemory (standing D.moment store) result
         ⊎ ((end : Standing D) × RunsTo D.moment S.state K.state (start_of (standing D.moment store)) streams end result) }
 {
+    texts_have_tree_or_stop();
     let options = Options { workers: WORKERS };
     match run_sessions(rt, alloc, store, streams, &options, gate) {
         Ok((store, sessions)) => close_store(store, sessions),

@@ -1,21 +1,23 @@
 -- What came of sessions over a disk.
-use Rattle.std.specs.Prelude.{◌≡◌, ◌⊎◌, List, [], length}
+use Rattle.std.specs.Prelude.{◌≡◌, ◌⊎◌, ℕ, List, [], length}
+use Rattle.afl_outside.specs.Counts.{Rose}
 use Rattle.afl_outside.specs.Disk.{Moment}
 use Rattle.afl_outside.specs.Source.{SourceState}
 use Rattle.afl_outside.specs.Sink.{SinkState}
+use Rattle.plan_changes.specs.Databases.{Database}
 use Rattle.run_stores.specs.Start.{Start}
 use Rattle.run_stores.specs.Starts.{start_of}
 use Rattle.run_stores.specs.Began.{BeganOver, TellsUnopened}
 use Rattle.run_stores.specs.Ends.{EndsWith}
 use Rattle.run_stores.specs.declared.closing.StoreRun.{StoreRun}
 use Rattle.session_reports.specs.Outcomes.{notice_of}
-use Rattle.session_reports.specs.declared.notices.Notice.TheVariants.{Memory}
+use Rattle.session_reports.specs.declared.notices.Notice.TheVariants.{Damaged, Disk, Memory}
 use Rattle.session_reports.specs.declared.reports.Streams.{Streams}
 use Rattle.turn_lock.specs.Owners.{AreOwnedBelow}
 use Rattle.session_threads.specs.Sessions.{AreSessionsOf}
 use Rattle.store_opening.specs.declared.opening.Limits.{Limits}
 use Rattle.store_state.specs.Events.{events, owner_of}
-use Rattle.store_state.specs.Standings.{Standing}
+use Rattle.store_state.specs.Standings.{BeganAs, Standing}
 
 module _ {D S K : Type 0} where
   -- no session ran, since memory was short
@@ -32,6 +34,7 @@ module _ {D S K : Type 0} where
     pub nothing : run.history ≡ []
     pub no_pages : run.free_pages ≡ 0
     pub cause : TellsUnopened run.notice (moment disk).state (moment run.disk).state
+    pub unwritten : (moment run.disk).state.seen ≡ (moment disk).state.seen
 
 module _ {D S K : Type 0} (moment : D → Moment) (source_state : S → SourceState) (sink_state : K → SinkState) where
   -- SESSIONS RAN over a store that began so, which was this at its end: each served its streams, over the one history that the store has at its end
@@ -42,6 +45,8 @@ module _ {D S K : Type 0} (moment : D → Moment) (source_state : S → SourceSt
     pub each : AreSessionsOf moment source_state sink_state start streams run.sessions (events end)
     pub others : AreOwnedBelow owner_of (length streams) (events end)
     pub told : (run.notice ≡ Memory) ⊎ (run.notice ≡ notice_of run.sessions)
+    pub disk : run.notice ≡ Disk → Rose (moment end.opened.disk).state.faults (moment end.disk).state.faults
+    pub damaged : (page : ℕ) → run.notice ≡ Damaged page → (db : Database) → BeganAs (moment end.opened.disk).state db → ⊥
 
   pub record RunsOver (disk : D) (limits : Limits) (streams : List (Streams S K)) (end : Standing D) (run : StoreRun D S K) : Type 0 where
     pub opened : BeganOver moment disk limits (start_of end)

@@ -1,5 +1,5 @@
 -- What a run did once its device was opened.
-use Rattle.std.specs.Prelude.{◌≡◌, ◌≢◌, ℕ, List, [], length, Option, IsSomeAnd}
+use Rattle.std.specs.Prelude.{◌≡◌, ◌≢◌, ℕ, List, [], length, Option, IfSome, IsSomeAnd}
 use Rattle.afl_outside.specs.Disk.{DiskGoesOn, DiskState, Moment}
 use Rattle.afl_outside.specs.Source.{SourceState}
 use Rattle.afl_outside.specs.Sink.{SinkState}
@@ -7,11 +7,11 @@ use Rattle.afl_outside.specs.Shelf.{ShelfState}
 use Rattle.event_core.specs.declared.entry.Entry.{Entry}
 use Rattle.store_state.specs.Standings.{Standing}
 use Rattle.run_opening.specs.Names.{Word, stream_names}
-use Rattle.run_opening.specs.Opened.{LeavesUnasked}
+use Rattle.run_opening.specs.Opened.{HandsOut, LeavesUnasked, StopsAt}
 use Rattle.session_reports.specs.declared.reports.SessionReport.{SessionReport}
 use Rattle.session_reports.specs.declared.notices.Notice.{Notice}
 use Rattle.afl_run.specs.OneHistory.{IsOneHistory}
-use Rattle.afl_run.specs.Run.{AreOfScripts, BeganFrom, HandsOutStreams, TellsSessions, TellsUnrun, state_in}
+use Rattle.afl_run.specs.Run.{AreOfScripts, BeganFrom, HandsOutStreams, IsOfStore, TellsSessions, TellsUnrun, state_in}
 
 -- a disk of whose calls none failed yet, and that reads as it began
 pub record IsUntouched (disk : DiskState) : Type 0 where
@@ -29,6 +29,9 @@ module _ {D S K : Type 0} (moment : D → Moment) (source_state : S → SourceSt
     pub goes_on : GoesOn moment disk device
     pub others : LeavesUnasked (stream_names scripts) old new
     pub handed : HandsOutStreams 0 (length scripts) (length sessions) old new
+    pub all : IsOfStore notice → HandsOut (length scripts) old new
+    pub first : sessions ≡ [] → StopsAt source_state sink_state scripts old new notice
+    pub unwritten : sessions ≡ [] → IfSome device (λ later. (moment later).state.seen ≡ (moment disk).state.seen)
     -- of the device only what happened to it is told here
     pub none : sessions ≡ [] → (history ≡ []) × (free ≡ 0) × ((asked : Word) → TellsUnrun notice asked scripts (state_in moment device) old new)
     pub told : TellsSessions notice sessions

@@ -13,7 +13,7 @@ returns-in-Ok g c =
     inr (
       closed.0,
       runs_to moment g.S.Source.state g.K.Sink.state (start_of (standing moment c.args.store)) c.args.streams (standing moment c.in-Ok.store) closed.0 c.in-Ok.sessions
-          c.close_store.result e.start e.reports e.each e.others c.close_store.ensures.notice c.close_store.ensures.sessions closed.1,
+          c.close_store.result c.texts_have_tree_or_stop.ensures.tree_or_stop e.start e.reports e.each e.others c.close_store.ensures.notice c.close_store.ensures.sessions closed.1,
     )
 
 pub returns-in-Err : goal.returns-in-Err

@@ -3,7 +3,7 @@ use Rattle.afl_outside.specs.Shelf.{ShelfState}
 use Rattle.afl_in_memory.specs.Inner.Records.{SureBytes, sure_disk_moment}
 use Rattle.event_core.specs.declared.entry.Entry.{Entry}
 use Rattle.run_opening.specs.Names.{Word, stream_names}
-use Rattle.run_opening.specs.Opened.{AreOpenedFor, FailsToOpen, HandsOut, HandsOutSome, LeavesUnasked}
+use Rattle.run_opening.specs.Opened.{AreOpenedFor, FailsToOpen, HandsOut, HandsOutSome, LeavesUnasked, StopsAt}
 use Rattle.session_reports.specs.declared.notices.Notice.{Notice}
 use Rattle.session_reports.specs.declared.notices.Notice.TheVariants.{Memory}
 use Rattle.session_reports.specs.declared.reports.SessionReport.{SessionReport}
@@ -57,4 +57,5 @@ returns-in-Err-clause-runs g c =
     (tries_nothing source sink old now c.in-Err.notice
     (subst (λ (names : List Word). LeavesUnasked (stream_names names) old now) is s.others)
     (subst (λ (names : List Word). HandsOutSome (length names) old now) is s.some)
-    (fails_or_memory (subst (λ (names : List Word). ((c.in-Err.notice ≡ Memory) × (c.open_streams.new.shelf ≡ c.args.shelf)) ⊎ FailsToOpen names c.in-Err.notice old now) is s.cause)))
+    (fails_or_memory (subst (λ (names : List Word). ((c.in-Err.notice ≡ Memory) × (c.open_streams.new.shelf ≡ c.args.shelf)) ⊎ FailsToOpen names c.in-Err.notice old now) is s.cause))
+    (subst (λ (names : List Word). StopsAt source sink names old now c.in-Err.notice) is s.first))

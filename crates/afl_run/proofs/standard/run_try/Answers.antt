@@ -23,3 +23,17 @@ returns-in-Err-standard_name-clause-runs g c =
     RunsTry sure_disk_moment source sink old now n h reports f)
     r.shelf c.args.shelf r.notice Memory r.history _ r.sessions _ r.free_pages _ None None
     e.shelf e.notice e.history e.sessions e.free_pages refl (tries_not source sink old)
+
+pub returns-in-Err-clause-runs : goal.returns-in-Err-clause-runs
+returns-in-Err-clause-runs g c =
+    let source = g.F.S.Source.state in
+    let sink = g.F.K.Sink.state in
+    let state = g.F.Shelf.state in
+    let old = state c.args.shelf in
+    let r = c.unrun-in-Err.result in
+    let e = c.unrun-in-Err.ensures in
+    reported state
+    (λ (now : ShelfState) (n : Notice) (h : List Entry) (reports : List (SessionReport g.row.F-S.Denot g.row.F-K.Denot)) (f : ℕ) (d : Option SureBytes).
+    RunsTry sure_disk_moment source sink old now n h reports f)
+    r.shelf c.args.shelf r.notice Memory r.history _ r.sessions _ r.free_pages _ None None
+    e.shelf e.notice e.history e.sessions e.free_pages refl (tries_not source sink old)
