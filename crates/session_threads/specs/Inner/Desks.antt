@@ -35,8 +35,10 @@ module _ {D S K : Type 0} where
 
   -- these seats and reports are those of the desks, place by place
   pub record AreEmptied (desks : List (Desk D S K)) (seats : List (Seat D)) (reports : List (SessionReport S K)) : Type 0 where
-    pub of_seats : (k : ℕ) (seat : Seat D) → k < length seats → (report : SessionReport S K) × (slice_get desks k ≡ Some (Done (slice_index_or seats k seat) report))
-    pub of_reports : (k : ℕ) (report : SessionReport S K) → k < length reports → (seat : Seat D) × (slice_get desks k ≡ Some (Done seat (slice_index_or reports k report)))
+    pub of_seats : (k : ℕ) (seat : Seat D) → k < length seats
+        → (report : SessionReport S K) × (slice_get desks k ≡ Some (Done (slice_index_or seats k seat) report))
+    pub of_reports : (k : ℕ) (report : SessionReport S K) → k < length reports
+        → (seat : Seat D) × (slice_get desks k ≡ Some (Done seat (slice_index_or reports k report)))
 
 module _ {D : Type 0} (shared : Shared D) where
   -- a seat that has done nothing but reap

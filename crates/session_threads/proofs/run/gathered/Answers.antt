@@ -1,4 +1,4 @@
-use Rattle.std.proofs.Common.{◌≡◌, ◌∙◌, length, arith, sym, subst}
+use Rattle.std.proofs.Common.{◌∙◌, sym, subst}
 use Rattle.store_state.specs.At.{standing}
 use Rattle.store_state.specs.Events.{events}
 use Rattle.session_threads.specs.Sessions.{AreOfSessions}
