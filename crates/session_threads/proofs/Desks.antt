@@ -1,5 +1,5 @@
 -- Desks that are set up one by one, and emptied one by one.
-use Rattle.std.proofs.Common.{◌≡◌, ◌∙◌, ℕ, ◌+◌, ◌<◌, Bool, true, not, List, [], ◌∷◌, ◌++◌, length, take, drop, get_or, slice_get, Option, Some, refl, ap, sym, subst, arith, All}
+use Rattle.std.proofs.Common.{◌≡◌, ◌∙◌, ℕ, ◌+◌, ◌<◌, true, not, List, [], ◌∷◌, ◌++◌, length, take, drop, get_or, slice_get, Option, Some, refl, ap, sym, subst, arith, All}
 use Rattle.std.specs.Prelude.{IsTrue}
 use Rattle.std.proofs.lemmas.List.{take_at}
 use Rattle.std.proofs.lemmas.List.Elements.{All-push}
@@ -22,7 +22,7 @@ use Rattle.snapshot_manager.specs.declared.shared.Shared.{Shared}
 use Rattle.session_reports.specs.declared.reports.SessionReport.{SessionReport}
 use Rattle.session_reports.specs.declared.reports.Streams.{Streams}
 use Rattle.session_threads.specs.Sessions.{AreOfSessions, AreSessionsOf, IsSessionOf}
-use Rattle.session_threads.specs.Inner.Desks.{AllWorked, AreDone, AreReady, AreServed, HasServed, HasWorked, IsDone, IsReady, IsReaper, IsWaiting}
+use Rattle.session_threads.specs.Inner.Desks.{AllWorked, AreDone, AreEmptied, AreReady, AreSeated, HasEnded, HasServed, HasWorked, IsDone, IsReady, IsReaper, IsSeated, IsWaiting}
 use Rattle.session_threads.specs.declared.desk.Desk.{Desk}
 use Rattle.session_threads.specs.declared.desk.Desk.TheVariants.{Waiting, Working, Done}
 
@@ -44,15 +44,53 @@ module _ {D : Type 0} (shared : Shared D) where
     none_own = subst (λ events. none_of owner_of (session_of seat) events ≡ true) (sym new.seen_none) refl;
   }
 
-module _ {D S K : Type 0} (shared : Shared D) where
+module _ {D S K : Type 0} where
   -- one desk more is set up
-  pub ready_more : (all : List (Streams S K)) (seats : List (Seat D)) (desks desks' : List (Desk D S K)) (n : ℕ) (seat : Seat D) (own : Streams S K) →
-      AreNewSeats shared seats → slice_get seats n ≡ Some seat → slice_get all n ≡ Some own → length desks ≡ n → AreReady shared all desks →
-      desks' ≡ desks ++ Waiting seat own ∷ [] → AreReady shared all desks'
-  ready_more all seats desks desks' n seat own new at has len are grown =
-      let P : ℕ → Desk D S K → Type 0 = λ j desk. IsReady shared j (slice_get all j) desk in
-      let here : P n (Waiting seat own) = (has, new_at shared seats n seat new at) in
-      subst (AreReady shared all) (sym grown) (places_more P desks (Waiting seat own) are (subst (λ j. P j (Waiting seat own)) (sym len) here))
+  pub seated_more : (seats : List (Seat D)) (all : List (Streams S K)) (desks desks' : List (Desk D S K)) (n : ℕ) (seat : Seat D) (own : Streams S K) →
+      slice_get seats n ≡ Some seat → slice_get all n ≡ Some own → length desks ≡ n → AreSeated seats all desks → desks' ≡ desks ++ Waiting seat own ∷ [] →
+      AreSeated seats all desks'
+  seated_more seats all desks desks' n seat own at has len are grown =
+      let P : ℕ → Desk D S K → Type 0 = λ j desk. IsSeated (slice_get seats j) (slice_get all j) desk in
+      let here : P n (Waiting seat own) = (at, has) in
+      subst (AreSeated seats all) (sym grown) (places_more P desks (Waiting seat own) are (subst (λ j. P j (Waiting seat own)) (sym len) here))
+
+  -- one desk more is emptied
+  pub emptied_more : (desks : List (Desk D S K)) (n : ℕ) (seat : Seat D) (report : SessionReport S K) (seats seats' : List (Seat D))
+      (reports reports' : List (SessionReport S K)) → slice_get desks n ≡ Some (Done seat report) → length seats ≡ n → length reports ≡ n →
+      seats' ≡ seats ++ seat ∷ [] → reports' ≡ reports ++ report ∷ [] → AreEmptied desks seats reports → AreEmptied desks seats' reports'
+  emptied_more desks n seat report seats seats' reports reports' at seat_count report_count seats_grown reports_grown are =
+      let P : ℕ → Seat D → Type 0 = λ j s. (r : SessionReport S K) × (slice_get desks j ≡ Some (Done s r)) in
+      let Q : ℕ → SessionReport S K → Type 0 = λ j r. (s : Seat D) × (slice_get desks j ≡ Some (Done s r)) in
+      let p : P n seat = (report, at) in
+      let q : Q n report = (seat, at) in
+      let ps : (k : ℕ) (s : Seat D) → k < length (seats ++ seat ∷ []) → P k (get_or (seats ++ seat ∷ []) k s) =
+      places_more P seats seat are.of_seats (subst (λ j. P j seat) (sym seat_count) p) in
+      let qs : (k : ℕ) (r : SessionReport S K) → k < length (reports ++ report ∷ []) → Q k (get_or (reports ++ report ∷ []) k r) =
+      places_more Q reports report are.of_reports (subst (λ j. Q j report) (sym report_count) q) in record {
+        of_seats = subst (λ l. (k : ℕ) (s : Seat D) → k < length l → P k (get_or l k s)) (sym seats_grown) ps;
+        of_reports = subst (λ l. (k : ℕ) (r : SessionReport S K) → k < length l → Q k (get_or l k r)) (sym reports_grown) qs;
+      }
+
+  pub emptied_none : (desks : List (Desk D S K)) → AreEmptied desks [] []
+  emptied_none desks = record { of_seats = λ k s near. absurd (omega arith); of_reports = λ k r near. absurd (omega arith) }
+
+  pub ended_at : (desks : List (Desk D S K)) (n : ℕ) (desk : Desk D S K) → All (λ d. HasEnded d) desks → slice_get desks n ≡ Some desk → HasEnded desk
+  ended_at desks n desk ended e = subst (λ d. HasEnded d) (get_or_from_slice_get desks n desk desk e) (ended n desk (slice_get_within desks n desk e))
+
+  -- what was taken is the desk of that place
+  pub desk_at : (desks : List (Desk D S K)) (n : ℕ) (desk other : Desk D S K) → slice_get desks n ≡ Some desk → desk ≡ other → slice_get desks n ≡ Some other
+  desk_at desks n desk other e is = e ∙ ap (λ d. Some d) is
+
+module _ {D S K : Type 0} (shared : Shared D) where
+  ready_one : (seats : List (Seat D)) (all : List (Streams S K)) (k : ℕ) (desk : Desk D S K) → AreNewSeats shared seats →
+      IsSeated (slice_get seats k) (slice_get all k) desk → IsReady shared k (slice_get all k) desk
+  ready_one seats all k (Waiting seat own) new seated = (seated.1, new_at shared seats k seat new seated.0)
+  ready_one seats all k Working new seated = absurd seated
+  ready_one seats all k (Done seat report) new seated = absurd seated
+
+  pub all_ready : (seats : List (Seat D)) (all : List (Streams S K)) (desks : List (Desk D S K)) → AreNewSeats shared seats → AreSeated seats all desks →
+      AreReady shared all desks
+  all_ready seats all desks new are k desk near = ready_one seats all k (get_or desks k desk) new (are k desk near)
 
   waiting_one : (all : List (Streams S K)) (k : ℕ) (desk : Desk D S K) → All (λ own. StandsAfter [] own.splitter) all → IsReady shared k (slice_get all k) desk →
       IsWaiting shared desk
@@ -99,13 +137,13 @@ module _ {D S K : Type 0} (moment : D → Moment) (source_of : S → SourceState
   done_at all desks n desk are e =
       subst (IsDone moment source_of sink_of shared n (slice_get all n)) (get_or_from_slice_get desks n desk desk e) (are n desk (slice_get_within desks n desk e))
 
-  -- a desk that is done is none of the others
-  pub not_waiting : (k : ℕ) (given : Option (Streams S K)) (desk : Desk D S K) (seat : Seat D) (own : Streams S K) → desk ≡ Waiting seat own →
-      IsDone moment source_of sink_of shared k given desk → ⊥
-  not_waiting k given desk seat own is done = subst (IsDone moment source_of sink_of shared k given) is done
+  ended_one : (k : ℕ) (given : Option (Streams S K)) (desk : Desk D S K) → IsDone moment source_of sink_of shared k given desk → HasEnded desk
+  ended_one k given (Waiting seat own) done = done
+  ended_one k given Working done = done
+  ended_one k given (Done seat report) done = tt
 
-  pub not_working : (k : ℕ) (given : Option (Streams S K)) (desk : Desk D S K) → desk ≡ Working → IsDone moment source_of sink_of shared k given desk → ⊥
-  not_working k given desk is done = subst (IsDone moment source_of sink_of shared k given) is done
+  pub all_ended : (all : List (Streams S K)) (desks : List (Desk D S K)) → AreDone moment source_of sink_of shared all desks → All (λ desk. HasEnded desk) desks
+  all_ended all desks are k desk near = ended_one k (slice_get all k) (get_or desks k desk) (are k desk near)
 
   session_one : (k : ℕ) (own : Streams S K) (seat : Seat D) (report : SessionReport S K) (events : List Event) →
       HasServed moment source_of sink_of shared k own seat report → ExtendsByOthers owner_of (session_of seat) (seen seat) events →
@@ -117,44 +155,34 @@ module _ {D S K : Type 0} (moment : D → Moment) (source_of : S → SourceState
     serves = served.serves;
   }
 
-  -- one desk more is emptied: its seat
-  pub idle_more : (all : List (Streams S K)) (desks : List (Desk D S K)) (n : ℕ) (desk : Desk D S K) (seat : Seat D) (report : SessionReport S K)
-      (seats seats' : List (Seat D)) → AreDone moment source_of sink_of shared all desks → slice_get desks n ≡ Some desk → desk ≡ Done seat report →
-      seats' ≡ seats ++ seat ∷ [] → AreIdleSeats shared seats → AreIdleSeats shared seats'
-  idle_more all desks n desk seat report seats seats' are at is grown idle =
-      let done = subst (IsDone moment source_of sink_of shared n (slice_get all n)) is (done_at all desks n desk are at) in
-      subst (AreIdleSeats shared) (sym grown) (All-push (λ s. IsSeatOf shared s × IsIdle s) seats seat idle (done.2.of_store, done.2.idle))
+  -- the seats of desks that are done
+  pub seats_idle : (all : List (Streams S K)) (desks : List (Desk D S K)) (seats : List (Seat D)) (reports : List (SessionReport S K)) →
+      AreDone moment source_of sink_of shared all desks → AreEmptied desks seats reports → AreIdleSeats shared seats
+  seats_idle all desks seats reports are emptied k seat near =
+      let at = emptied.of_seats k seat near in
+      let done : IsDone moment source_of sink_of shared k (slice_get all k) (Done (get_or seats k seat) at.0) =
+      done_at all desks k (Done (get_or seats k seat) at.0) are at.1 in (done.2.of_store, done.2.idle)
 
-  -- and its report
-  pub served_more : (all : List (Streams S K)) (desks : List (Desk D S K)) (n : ℕ) (desk : Desk D S K) (seat : Seat D) (report : SessionReport S K)
-      (seats seats' : List (Seat D)) (reports reports' : List (SessionReport S K)) (events : List Event) →
-      AreDone moment source_of sink_of shared all desks → slice_get desks n ≡ Some desk → desk ≡ Done seat report → length reports ≡ n →
-      seats' ≡ seats ++ seat ∷ [] → reports' ≡ reports ++ report ∷ [] →
-      (ExtendEach seats events → AreServed moment source_of sink_of (start moment shared) all reports events) → ExtendEach seats' events →
-      AreServed moment source_of sink_of (start moment shared) all reports' events
-  served_more all desks n desk seat report seats seats' reports reports' events are at is len grown more old extend =
-      let P : Seat D → Type 0 = λ s. ExtendsByOthers owner_of (session_of s) (seen s) events in
-      let both : All P (seats ++ seat ∷ []) = subst (All P) grown extend in
-      let here : P seat = all_last P seats seat both in
-      let before : AreServed moment source_of sink_of (start moment shared) all reports events = old (all_left P seats seat both) in
-      let done : IsDone moment source_of sink_of shared n (slice_get all n) (Done seat report) =
-      subst (IsDone moment source_of sink_of shared n (slice_get all n)) is (done_at all desks n desk are at) in
-      let Q : ℕ → SessionReport S K → Type 0 = λ j r. (s : Streams S K) → IsSessionOf moment source_of sink_of (start moment shared) j (get_or all j s) r events in
-      let new : Q n report = λ s. subst (λ o. IsSessionOf moment source_of sink_of (start moment shared) n o report events)
-      (sym (get_or_from_slice_get all n done.0 s done.1)) (session_one n done.0 seat report events done.2 here) in
-      let each : (k : ℕ) (r : SessionReport S K) → k < length (reports ++ report ∷ []) → Q k (get_or (reports ++ report ∷ []) k r) =
-      places_more Q reports report (λ k r near s. before k s r near) (subst (λ j. Q j report) (sym len) new) in
-      subst (λ rs. AreServed moment source_of sink_of (start moment shared) all rs events) (sym more) (λ k s r near. each k r near s)
+  same_seat : (place : Option (Desk D S K)) (seat seat' : Seat D) (report report' : SessionReport S K) → place ≡ Some (Done seat report) →
+      place ≡ Some (Done seat' report') → seat' ≡ seat
+  same_seat place seat seat' report report' a b = cc
 
-  -- all desks are emptied
-  pub all_served : (all : List (Streams S K)) (seats : List (Seat D)) (reports reports' : List (SessionReport S K)) (events : List Event) →
-      reports' ≡ reports → length all ≡ length reports →
-      (ExtendEach seats events → AreServed moment source_of sink_of (start moment shared) all reports events) → ExtendEach seats events →
-      AreSessionsOf moment source_of sink_of (start moment shared) all reports' events
-  all_served all seats reports reports' events same len old extend =
-      let before : AreServed moment source_of sink_of (start moment shared) all reports events = old extend in
-      subst (λ rs. AreSessionsOf moment source_of sink_of (start moment shared) all rs events) (sym same)
-      (λ k s r near. let low : k < length reports = omega arith in before k s r low)
+  -- and what their sessions did
+  pub all_served : (all : List (Streams S K)) (desks : List (Desk D S K)) (seats : List (Seat D)) (reports : List (SessionReport S K)) (events : List Event) →
+      AreDone moment source_of sink_of shared all desks → AreEmptied desks seats reports → length seats ≡ length all → length reports ≡ length all →
+      ExtendEach seats events → AreSessionsOf moment source_of sink_of (start moment shared) all reports events
+  all_served all desks seats reports events are emptied seat_count report_count extend k own report near =
+      let low : k < length reports = omega arith in
+      let seated : k < length seats = omega arith in
+      let at = emptied.of_reports k report low in
+      let there = emptied.of_seats k at.0 seated in
+      let same : get_or seats k at.0 ≡ at.0 = same_seat (slice_get desks k) at.0 (get_or seats k at.0) (get_or reports k report) there.0 at.1 there.1 in
+      let later : ExtendsByOthers owner_of (session_of at.0) (seen at.0) events =
+      subst (λ s. ExtendsByOthers owner_of (session_of s) (seen s) events) same (extend k at.0 seated) in
+      let done : IsDone moment source_of sink_of shared k (slice_get all k) (Done at.0 (get_or reports k report)) =
+      done_at all desks k (Done at.0 (get_or reports k report)) are at.1 in
+      subst (λ o. IsSessionOf moment source_of sink_of (start moment shared) k o (get_or reports k report) events)
+      (sym (get_or_from_slice_get all k done.0 own done.1)) (session_one k done.0 at.0 (get_or reports k report) events done.2 later)
 
 module _ {D : Type 0} (shared : Shared D) where
   -- the reaper's seat is back, behind all others

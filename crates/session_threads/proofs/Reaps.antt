@@ -1,11 +1,11 @@
 -- What a reaper adds is nobody's.
-use Rattle.std.proofs.Common.{◌≡◌, ◌∙◌, ℕ, List, [], ◌++◌, Bool, true, false, Result, Ok, Err, refl, subst, sym}
+use Rattle.std.proofs.Common.{◌≡◌, ℕ, List, [], ◌++◌, Bool, true, false, Result, Ok, Err, refl, subst, sym}
 use Rattle.std.specs.Prelude.{IfOk, OnErr}
 use Rattle.turn_lock.specs.Owners.{none_of}
 use Rattle.turn_lock.proofs.Lists.{none_append}
 use Rattle.store_state.specs.declared.event.Event.{Event}
 use Rattle.store_state.specs.Events.{owner_of}
-use Rattle.snapshot_manager.specs.Seats.{seen, session_of, IsIdle, IsNewSeat, IsSameSeat, IsSeatOf}
+use Rattle.snapshot_manager.specs.Seats.{seen, session_of, IsIdle, IsSameSeat, IsSeatOf}
 use Rattle.snapshot_manager.specs.Turns.{reap_events, Adds}
 use Rattle.snapshot_manager.specs.declared.seat.Seat.{Seat}
 use Rattle.snapshot_manager.specs.declared.shared.Shared.{Shared}

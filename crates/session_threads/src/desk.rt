@@ -1,6 +1,7 @@
 //! Where a session's seat and its streams lie, so that threads can work side by side.
 ghost use Rattle.std.specs.Prelude.{◌≡◌, ◌≤◌, vec_len, All};
-ghost use Rattle.session_threads.specs.Inner.Desks.{AllWorked, HasWorked, IsWaiting};
+ghost use Rattle.session_threads.specs.Inner.Desks.{AllWorked, HasEnded, HasWorked, IsWaiting};
+ghost use Rattle.session_threads.specs.declared.desk.Desk.TheVariants.{Done};
 
 use afl_outside::{Disk, Gate, Sink, Source};
 use afl_session::{Options, SessionReport, serve};
@@ -54,6 +55,20 @@ impl<D: Disk + Drop, S: Source + Drop, K: Sink + Drop> Desk<D, S, K> {
             }
             Desk::Working => unreachable!(),
             Desk::Done { .. } => unreachable!(),
+        }
+    }
+}
+
+impl<D: Disk + Drop, S: Drop, K: Drop> Desk<D, S, K> {
+    /// The seat of a session that has ended, and its report.
+    pub(crate) fn into_done(self) -> (Seat<D>, SessionReport<S, K>)
+        requires { HasEnded self }
+        ensures { self ≡ Done result.0 result.1 }
+    {
+        match self {
+            Desk::Done { seat, report } => (seat, report),
+            Desk::Waiting { .. } => unreachable!(),
+            Desk::Working => unreachable!(),
         }
     }
 }

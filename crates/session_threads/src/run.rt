@@ -1,18 +1,18 @@
 //! All sessions, from their streams to their reports.
-ghost use Rattle.std.specs.Prelude.{◌≡◌, ◌≤◌, ◌<◌, ◌+◌, [], length, vec_len, vec_capacity, IfErr, IfOk, All, List};
+ghost use Rattle.std.specs.Prelude.{◌≡◌, ◌≤◌, ◌<◌, ◌+◌, [], length, slice_get, vec_len, vec_capacity, IfErr, IfOk, All, List, Some};
 ghost use Rattle.afl_lexer.specs.Inner.Standing.{StandsAfter};
 ghost use Rattle.store_state.specs.At.{standing};
 ghost use Rattle.store_state.specs.Events.{events};
 ghost use Rattle.snapshot_manager.specs.Starts.{start_of};
-ghost use Rattle.snapshot_manager.specs.Seats.{seats_in_all, start, AreIdleSeats, AreNewSeats, ExtendEach, IsNewSeat};
+ghost use Rattle.snapshot_manager.specs.Seats.{seats_in_all, start, AreIdleSeats, AreNewSeats, ExtendEach};
 ghost use Rattle.session_threads.specs.Sessions.{AreOfSessions, AreSessionsOf};
-ghost use Rattle.session_threads.specs.Inner.Desks.{AreDone, AreReady, IsReaper};
+ghost use Rattle.session_threads.specs.Inner.Desks.{AreDone, AreEmptied, AreSeated, HasEnded, IsReaper};
 ghost use Rattle.session_threads.specs.Inner.Rooms.{HasRoom};
 ghost use Rattle.session_reports.specs.declared.reports.Streams.{Streams};
 
 use crate::desk::Desk;
 use crate::reaper::{reap_once, work_beside};
-use crate::room::Room;
+use crate::room::{Room, opened};
 use afl_outside::{Disk, Gate, Sink, Source};
 use afl_session::{Options, SessionReport};
 use cell_values::{List, Memory};
@@ -50,17 +50,11 @@ pub fn run_sessions<
     ensures others { IfOk result (λ run. AreOfSessions (length streams) (events (standing D.moment run.0))) }
     ensures err { IfErr result (λ failed. (failed.1 ≡ store) × (failed.2 ≡ streams)) }
 {
-    let Ok(room) = Room::new(alloc, streams.len()) else {
-        return Err((Memory, store, streams));
-    };
-    match Shared::new(alloc, store, streams.len() as u32) {
-        Ok((shared, seats)) => Ok(run_shared(
+    match opened(alloc, store, streams.len()) {
+        Ok((shared, seats, room)) => Ok(run_shared(
             rt, alloc, shared, seats, streams, options, gate, room,
         )),
-        Err((want, store)) => {
-            drop(room);
-            Err((want, store, streams))
-        }
+        Err((want, store)) => Err((want, store, streams)),
     }
 }
 
@@ -96,26 +90,53 @@ fn run_shared<
         seats: room,
         reports,
     } = room;
-    let (desks, own) = seated(&shared, seats, streams, desks);
-    let (desks, own) = work_beside(rt, alloc, &shared, options, gate, desks, own);
-    let mut own = own;
-    reap_once(rt, &shared, &mut own);
+    let (desks, own) = worked(rt, alloc, &shared, seats, streams, options, gate, desks);
     gathered(shared, own, List::from_vec(desks), room, reports)
 }
 
-// A desk for each session, with the seat of its number and the streams of its place. The last seat is left over.
-fn seated<D: Disk + Drop, S: Source + Drop, K: Sink + Drop>(
+// Each session does its work, and the reaper beside them and once more behind the last.
+fn worked<
+    D: Disk + Send + Drop,
+    S: Source + Send + Drop,
+    K: Sink + Send + Drop,
+    R: Threads + Wait + Sync,
+    G: Gate,
+>(
+    rt: &R,
+    alloc: Global,
     shared: &Shared<D>,
+    seats: List<Seat<D>>,
+    streams: List<Streams<S, K>>,
+    options: &Options,
+    gate: &G,
+    room: Vec<Desk<D, S, K>>,
+) -> (Vec<Desk<D, S, K>>, Seat<D>)
+    requires seats { AreNewSeats shared.now seats }
+    requires count { length seats ≡ length streams + 1 }
+    requires begun { All (λ own. StandsAfter [] own.splitter) streams }
+    requires workers { (1 ≤ options.now.workers) × (options.now.workers ≤ 64) }
+    requires room { (room.items ≡ []) × (length streams ≤ vec_capacity room) }
+    ensures count { vec_len result.0 ≡ length streams }
+    ensures desks { AreDone D.moment S.state K.state shared.now streams result.0.items }
+    ensures own { IsReaper shared.now (length streams) result.1 }
+{
+    let (desks, own) = seated(seats, streams, room);
+    let (desks, mut own) = work_beside(rt, alloc, shared, options, gate, desks, own);
+    reap_once(rt, shared, &mut own);
+    (desks, own)
+}
+
+// A desk for each session, with the seat of its number and the streams of its place. The last seat is left over.
+fn seated<D: Disk + Drop, S: Drop, K: Drop>(
     mut seats: List<Seat<D>>,
     mut streams: List<Streams<S, K>>,
     mut room: Vec<Desk<D, S, K>>,
 ) -> (Vec<Desk<D, S, K>>, Seat<D>)
-    requires seats { AreNewSeats shared.now seats }
     requires count { length seats ≡ length streams + 1 }
     requires room { (room.items ≡ []) × (length streams ≤ vec_capacity room) }
     ensures count { vec_len result.0 ≡ length streams }
-    ensures desks { AreReady shared.now streams result.0.items }
-    ensures own { IsNewSeat shared.now (length streams) result.1 }
+    ensures desks { AreSeated seats streams result.0.items }
+    ensures own { slice_get seats (length streams) ≡ Some result.1 }
 {
     let count = streams.len();
     for _ in 0..count {
@@ -134,9 +155,9 @@ fn seated<D: Disk + Drop, S: Source + Drop, K: Sink + Drop>(
 fn gathered<D: Disk + Drop, S: Source + Drop, K: Sink + Drop>(
     shared: Shared<D>,
     own: Seat<D>,
-    mut desks: List<Desk<D, S, K>>,
-    mut seats: Vec<Seat<D>>,
-    mut reports: Vec<SessionReport<S, K>>,
+    desks: List<Desk<D, S, K>>,
+    seats: Vec<Seat<D>>,
+    reports: Vec<SessionReport<S, K>>,
 ) -> (Store<D>, List<SessionReport<S, K>>)
     requires count { seats_in_all shared ≡ length desks + 1 }
     requires own { IsReaper shared (length desks) own }
@@ -149,18 +170,30 @@ fn gathered<D: Disk + Drop, S: Source + Drop, K: Sink + Drop>(
         → AreSessionsOf D.moment S.state K.state (start D.moment shared) streams result.1 (events (standing D.moment result.0)) }
     ensures others { AreOfSessions (length desks) (events (standing D.moment result.0)) }
 {
+    let (seats, reports) = emptied(desks, seats, reports);
+    (finished(shared, own, seats), reports)
+}
+
+// The seats and the reports of sessions that have ended, in order.
+fn emptied<D: Disk + Drop, S: Drop, K: Drop>(
+    mut desks: List<Desk<D, S, K>>,
+    mut seats: Vec<Seat<D>>,
+    mut reports: Vec<SessionReport<S, K>>,
+) -> (Vec<Seat<D>>, List<SessionReport<S, K>>)
+    requires ended { All (λ desk. HasEnded desk) desks }
+    requires seats { (seats.items ≡ []) × (length desks + 1 ≤ vec_capacity seats) }
+    requires reports { (reports.items ≡ []) × (length desks ≤ vec_capacity reports) }
+    ensures seats { (length result.0.items ≡ length desks) × (length desks + 1 ≤ vec_capacity result.0) }
+    ensures reports { length result.1 ≡ length desks }
+    ensures emptied { AreEmptied desks result.0.items result.1 }
+{
     let count = desks.len();
     for _ in 0..count {
-        match desks.remove(0) {
-            Desk::Done { seat, report } => {
-                seats.push_reserved(seat);
-                reports.push_reserved(report);
-            }
-            Desk::Waiting { .. } => unreachable!(),
-            Desk::Working => unreachable!(),
-        }
+        let (seat, report) = desks.remove(0).into_done();
+        seats.push_reserved(seat);
+        reports.push_reserved(report);
     }
-    (finished(shared, own, seats), List::from_vec(reports))
+    (seats, List::from_vec(reports))
 }
 
 // Takes the store back from its seats, of which the reaper's is the last.

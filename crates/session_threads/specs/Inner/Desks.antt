@@ -5,19 +5,38 @@ use Rattle.afl_outside.specs.Disk.{Moment}
 use Rattle.afl_outside.specs.Sink.{SinkState}
 use Rattle.afl_outside.specs.Source.{SourceState}
 use Rattle.turn_lock.specs.Owners.{none_of}
-use Rattle.store_state.specs.declared.event.Event.{Event}
 use Rattle.store_state.specs.Events.{owner_of}
-use Rattle.snapshot_manager.specs.Start.{Start}
 use Rattle.snapshot_manager.specs.declared.seat.Seat.{Seat}
 use Rattle.snapshot_manager.specs.declared.shared.Shared.{Shared}
-use Rattle.snapshot_manager.specs.Seats.{seen, session_of, start, ExtendEach, IsIdle, IsNewSeat, IsSeatOf}
+use Rattle.snapshot_manager.specs.Seats.{seen, session_of, start, IsIdle, IsNewSeat, IsSeatOf}
 use Rattle.session_reports.specs.declared.reports.SessionReport.{SessionReport}
 use Rattle.afl_session.specs.Marked.{IsMarked}
 use Rattle.afl_session.specs.Session.{Serves}
-use Rattle.session_threads.specs.Sessions.{IsSessionOf}
 use Rattle.session_threads.specs.declared.desk.Desk.{Desk}
 use Rattle.session_threads.specs.declared.desk.Desk.TheVariants.{Waiting, Working, Done}
 use Rattle.session_reports.specs.declared.reports.Streams.{Streams}
+
+module _ {D S K : Type 0} where
+  -- a desk with this seat and these streams, whose session waits
+  abbrev pub IsSeated : Option (Seat D) → Option (Streams S K) → Desk D S K → Type 0
+  IsSeated place given (Waiting seat own) = (place ≡ Some seat) × (given ≡ Some own)
+  IsSeated place given Working = ⊥
+  IsSeated place given (Done seat report) = ⊥
+
+  -- each with the seat and the streams of its place
+  abbrev pub AreSeated : List (Seat D) → List (Streams S K) → List (Desk D S K) → Type 0
+  AreSeated seats all desks = (k : ℕ) (desk : Desk D S K) → k < length desks → IsSeated (slice_get seats k) (slice_get all k) (slice_index_or desks k desk)
+
+  -- a session has ended
+  abbrev pub HasEnded : Desk D S K → Type 0
+  HasEnded (Waiting seat own) = ⊥
+  HasEnded Working = ⊥
+  HasEnded (Done seat report) = Unit {0}
+
+  -- these seats and reports are those of the desks, place by place
+  pub record AreEmptied (desks : List (Desk D S K)) (seats : List (Seat D)) (reports : List (SessionReport S K)) : Type 0 where
+    pub of_seats : (k : ℕ) (seat : Seat D) → k < length seats → (report : SessionReport S K) × (slice_get desks k ≡ Some (Done (slice_index_or seats k seat) report))
+    pub of_reports : (k : ℕ) (report : SessionReport S K) → k < length reports → (seat : Seat D) × (slice_get desks k ≡ Some (Done seat (slice_index_or reports k report)))
 
 module _ {D : Type 0} (shared : Shared D) where
   -- a seat that has done nothing but reap
@@ -69,15 +88,3 @@ module _ {D S K : Type 0} (moment : D → Moment) (source_of : S → SourceState
 
   abbrev pub AreDone : List (Streams S K) → List (Desk D S K) → Type 0
   AreDone all desks = (k : ℕ) (desk : Desk D S K) → k < length desks → IsDone k (slice_get all k) (slice_index_or desks k desk)
-
-module _ {D S K : Type 0} (moment : D → Moment) (source_of : S → SourceState) (sink_of : K → SinkState) (origin : Start D) where
-  -- the sessions of the reports that are there so far
-  abbrev pub AreServed : List (Streams S K) → List (SessionReport S K) → List Event → Type 0
-  AreServed all reports events = (k : ℕ) (streams : Streams S K) (report : SessionReport S K) → k < length reports
-      → IsSessionOf moment source_of sink_of origin k (slice_index_or all k streams) (slice_index_or reports k report) events
-
-module _ {D S K : Type 0} (moment : D → Moment) (source_of : S → SourceState) (sink_of : K → SinkState) (shared : Shared D) where
-  -- these seats and reports come from desks that are done
-  abbrev pub AreTaken : List (Desk D S K) → List (Seat D) → List (SessionReport S K) → Type 0
-  AreTaken desks seats reports = (all : List (Streams S K)) → AreDone moment source_of sink_of shared all desks → (events : List Event) → ExtendEach seats events
-      → AreServed moment source_of sink_of (start moment shared) all reports events

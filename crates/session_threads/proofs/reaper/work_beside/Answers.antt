@@ -1,4 +1,4 @@
-use denote.Param.Send.{sendable, given_send, given_sync}
+use denote.Param.Send.{sendable}
 use Rattle.session_threads.proofs.reaper.work_beside.Goals as goal
 
 -- what the scope asks: what the function does, and what its bounds say
@@ -13,6 +13,6 @@ scoped-requires g c =
     record {
       at = λ a. (
         (c.requires.desks, c.requires.own, c.requires.workers.0, c.requires.workers.1),
-        (search (sendable, given_send) depth 20, search (sendable, given_send) depth 20, search (sendable, given_send) depth 20, search (sendable, given_sync) depth 20, search (sendable, given_sync) depth 20),
+        (search sendable depth 20, search sendable depth 20, search sendable depth 20, search sendable depth 20, search sendable depth 20),
       );
     }

@@ -1,5 +1,5 @@
 use Rattle.std.proofs.Common.{◌≡◌, ◌≤◌, length, drop, vec_capacity}
-use Rattle.session_threads.specs.Inner.Desks.{AreReady}
+use Rattle.session_threads.specs.Inner.Desks.{AreSeated}
 use Rattle.session_threads.proofs.run.seated.Given as goal
 
 abbrev pub invariant-loop : goal.invariant-loop
@@ -8,5 +8,5 @@ invariant-loop g l = record {
   streams : l.streams ≡ drop l.counter l.fn.streams;
   count : length l.room.items ≡ l.counter;
   room : length l.fn.streams ≤ vec_capacity l.room;
-  ready : AreReady l.shared l.fn.streams l.room.items;
+  seated : AreSeated l.fn.seats l.fn.streams l.room.items;
 }

@@ -1,13 +1,13 @@
 use denote.Param.Send.{sendable}
 use Rattle.std.proofs.Crossing.{crosses}
-use Rattle.session_threads.proofs.Crossing.{seat_field_send, seat_send, shared_field_sync, shared_sync}
+use Rattle.session_threads.proofs.Crossing.{seat_send, shared_sync}
 use Rattle.session_threads.proofs.reaper.fn.work_beside.scope.Goals as goal
 
 pub spawn_with-reaper-requires-send-F : goal.spawn_with-reaper-requires-send-F
 spawn_with-reaper-requires-send-F g c κs within =
     let d = c.requires-raw.1.0 in
     let r = c.requires-raw.1.1.1.1.1 in
-    search (sendable, crosses, seat_send, seat_field_send, shared_sync, shared_field_sync) depth 40
+    search (sendable, crosses, seat_send, shared_sync) depth 40
 
 pub spawn_with-reaper-requires-send-T : goal.spawn_with-reaper-requires-send-T
 spawn_with-reaper-requires-send-T g c κs within = search (sendable, crosses, seat_send) depth 40

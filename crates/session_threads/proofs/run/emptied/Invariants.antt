@@ -1,7 +1,6 @@
 use Rattle.std.proofs.Common.{◌≡◌, ◌≤◌, ◌+◌, length, drop, vec_capacity}
-use Rattle.snapshot_manager.specs.Seats.{AreIdleSeats}
-use Rattle.session_threads.specs.Inner.Desks.{AreTaken}
-use Rattle.session_threads.proofs.run.gathered.Given as goal
+use Rattle.session_threads.specs.Inner.Desks.{AreEmptied}
+use Rattle.session_threads.proofs.run.emptied.Given as goal
 
 abbrev pub invariant-loop : goal.invariant-loop
 invariant-loop g l = record {
@@ -10,6 +9,5 @@ invariant-loop g l = record {
   reports : length l.reports.items ≡ l.counter;
   seat_room : length l.fn.desks + 1 ≤ vec_capacity l.seats;
   report_room : length l.fn.desks ≤ vec_capacity l.reports;
-  idle : AreIdleSeats l.fn.shared l.seats.items;
-  taken : AreTaken g.D.Disk.moment g.S.Source.state g.K.Sink.state l.fn.shared l.fn.desks l.seats.items l.reports.items;
+  emptied : AreEmptied l.fn.desks l.seats.items l.reports.items;
 }
