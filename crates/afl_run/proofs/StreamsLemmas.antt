@@ -30,8 +30,8 @@ use Rattle.session_reports.specs.declared.notices.Notice.TheVariants as notices
 use Rattle.session_threads.specs.Sessions.{AreSessionsOf, IsSessionOf}
 use Rattle.afl_run.specs.OneHistory.{IsOneHistory, IsReportOf}
 use Rattle.afl_run.specs.Printed.{IsOpenedAs, Prints}
-use Rattle.afl_session.proofs.InHistories.{sessions_stay}
-use Rattle.afl_session.specs.Histories.{IsMarkedIn}
+use Rattle.session_threads.proofs.InHistories.{sessions_stay}
+use Rattle.session_threads.specs.Histories.{IsMarkedIn}
 use Rattle.store_state.specs.declared.event.Event.{Event}
 use Rattle.afl_run.specs.Run.{AreOfScripts, BeganFrom, HandsOutStreams, IsOfStore, RunsScripts, TellsUnrun}
 use Rattle.afl_run.specs.Inner.Over.{IsUnrun, RunsOver}
