@@ -146,6 +146,7 @@ module _ {D S K : Type 0} (moment : D → Moment) (source_state : S → SourceSt
     pages = over.runs.ends.pages;
     reaped = over.runs.ends.reaped;
     cells = over.runs.ends.cells;
+    payloads = over.runs.ends.payloads;
   }
 
 -- ---- once the device was opened

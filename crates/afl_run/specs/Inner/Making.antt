@@ -10,7 +10,7 @@ use Rattle.session_reports.specs.declared.notices.Notice.TheVariants.{Done, Disk
 abbrev pub Makes : Notice → Moment → Moment → Type 0
 Makes Done old new = IfSome old.state.seen (λ seen. length seen ≡ 0)
     × (IsTrue old.state.honest
-      → IfSome old.state.seen (λ _. (file : List ℕ) × (new.state.seen ≡ Some file) × IsEmptyDatabase file × Only file new.may_leave))
+    → IfSome old.state.seen (λ _. (file : List ℕ) × (new.state.seen ≡ Some file) × IsEmptyDatabase file × Only file new.may_leave))
 Makes Disk old new = Rose old.state.faults new.state.faults
 Makes Memory old new = Rose old.state.wants new.state.wants
 Makes (NotEmpty count) old new = IfSome old.state.seen (λ seen. (count ≡ length seen) × (count ≢ 0)) × (new.state.seen ≡ old.state.seen)
