@@ -1,5 +1,5 @@
 -- Why sessions tell that the disk failed, or that a page is damaged.
-use Rattle.std.proofs.Common.{◌≡◌, ◌∙◌, ◌⊎◌, inl, inr, ℕ, zero, suc, ◌+◌, ◌-◌, ◌^◌, ◌<◌, ◌≤◌, Bool, true, false, ◌||◌, List, [], ◌∷◌, ◌++◌, length, get_or, All, Any, Contains, Option, None, Some, refl, ap, sym, subst, arith}
+use Rattle.std.proofs.Common.{◌≡◌, ◌∙◌, ◌⊎◌, inl, inr, ℕ, zero, suc, ◌-◌, ◌<◌, ◌≤◌, Bool, true, false, ◌||◌, List, [], ◌∷◌, ◌++◌, length, get_or, All, Any, Option, None, Some, refl, ap, sym, subst, arith}
 use Rattle.std.specs.List.{filter, list_any}
 use Rattle.std.proofs.lemmas.List.Elements.{All-filter, Contains-get_or}
 use Rattle.std.proofs.lemmas.List.Folds.{Any-from_list_any, list_any-append, list_any-from_Any}
@@ -24,9 +24,9 @@ use Rattle.store_state.specs.Inner.Keeping.{AreCounted}
 use Rattle.store_state.specs.Standings.{Standing}
 use Rattle.told_stores.proofs.Telling.{notes_are}
 use Rattle.told_stores.specs.Told.{notes_in}
-use Rattle.session_answers.specs.Acts.{Course, nothing, looking, trying, making}
-use Rattle.session_answers.specs.Replies.{BeganAsNone, HasFault, IsToldFor}
-use Rattle.session_answers.specs.Reply.{Reply}
+use Rattle.session_threads.specs.Acts.{Course, nothing, looking, trying, making}
+use Rattle.session_threads.specs.Replies.{BeganAsNone, HasFault, IsToldFor}
+use Rattle.session_threads.specs.Reply.{Reply}
 use Rattle.run_stores.specs.Start.{Start}
 use Rattle.session_reports.specs.Outcomes.{notice_of}
 use Rattle.session_reports.specs.declared.notices.Notice.{Notice}
@@ -37,8 +37,8 @@ use Rattle.session_reports.specs.declared.reports.SessionEnd.TheVariants as ends
 use Rattle.session_reports.specs.declared.reports.SessionReport.{SessionReport}
 use Rattle.session_reports.specs.declared.reports.Streams.{Streams}
 use Rattle.session_reports.proofs.OutcomeLemmas.{is_damaged, is_disk}
-use Rattle.afl_session.specs.Marked.{AnswersText, IsMarked, IsReplyOf, reply_told}
-use Rattle.afl_session.specs.Session.{AreAnswered, Replies}
+use Rattle.session_threads.specs.Marked.{AnswersText, IsMarked, IsReplyOf, reply_told}
+use Rattle.session_threads.specs.Session.{AreAnswered, Replies}
 use Rattle.session_threads.specs.Sessions.{AreSessionsOf}
 
 -- ---- a fault among events

@@ -1,6 +1,6 @@
 -- What follows for a report of what words it is.
-use Rattle.std.proofs.Common.{◌≡◌, ◌≢◌, ◌⊎◌, ℕ, zero, suc, Bool, true, false, ◌+◌, ◌<◌, ◌≤◌, List, [], ◌∷◌, length, drop, All, codes, Option, Some, None, IfSome, slice_get, inl, inr, refl, sym, ◌∙◌, ap, subst, arith}
-use Rattle.afl_outside.specs.Disk.{DiskState, Moment}
+use Rattle.std.proofs.Common.{◌≡◌, ◌≢◌, ◌⊎◌, ℕ, zero, suc, Bool, true, false, ◌<◌, ◌≤◌, List, [], ◌∷◌, length, drop, All, Option, Some, None, slice_get, inl, inr, refl, sym, ◌∙◌, ap, subst, arith}
+use Rattle.afl_outside.specs.Disk.{Moment}
 use Rattle.afl_outside.specs.Source.{SourceState}
 use Rattle.afl_outside.specs.Sink.{SinkState}
 use Rattle.afl_outside.specs.Shelf.{ShelfState}
@@ -10,15 +10,14 @@ use Rattle.command_words.specs.declared.forms.Form.TheVariants.{Try, Init, Run}
 use Rattle.command_words.specs.Forms.{IsForm, IsInit, IsRun}
 use Rattle.command_words.proofs.Answering.{one_form}
 use Rattle.command_words.proofs.PlaceLaws.{keep_places}
-use Rattle.run_opening.specs.Names.{HaveOwnNames, Word, standard, stream_names}
-use Rattle.run_opening.specs.Opened.{FailsToOpen, FailsToOpenDevice}
+use Rattle.run_opening.specs.Names.{HaveOwnNames, Word, stream_names}
 use Rattle.run_opening.proofs.NameLemmas.{device_apart, own_names}
 use Rattle.session_reports.specs.Outcomes.{notice_by as told_by, notice_of}
 use Rattle.session_reports.specs.declared.reports.SessionReport.{SessionReport}
 use Rattle.session_reports.specs.declared.notices.Notice.{Notice}
 use Rattle.session_reports.specs.declared.notices.Notice.TheVariants as notices
 use Rattle.afl_run.specs.Init.{TellsDevice}
-use Rattle.afl_run.specs.Run.{MakesDatabase, RunsScripts, RunsTry, TellsSessions, TellsUnrun, state_in}
+use Rattle.afl_run.specs.Run.{MakesDatabase, RunsScripts, RunsTry, TellsUnrun, state_in}
 
 -- ---- no words have two forms
 

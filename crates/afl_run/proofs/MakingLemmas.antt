@@ -1,5 +1,5 @@
 -- What a run that makes a database reports.
-use Rattle.std.proofs.Common.{◌≡◌, ◌≢◌, ◌⊎◌, ℕ, zero, ◌+◌, ◌^◌, ◌<◌, List, [], ◌∷◌, length, All, Option, None, Some, IsSome, IfSome, Bool, IsTrue, refl, sym, ◌∙◌, ap, subst, arith, inl, inr}
+use Rattle.std.proofs.Common.{◌≡◌, ◌≢◌, ◌⊎◌, ℕ, zero, List, [], ◌∷◌, length, Option, None, Some, IsSome, IfSome, Bool, IsTrue, refl, sym, ◌∙◌, ap, subst, arith, inl, inr}
 use Rattle.afl_outside.specs.Counts.{Rose, risen}
 use Rattle.afl_outside.specs.Disk.{DiskGoesOn, IsNewDisk, Moment, Only}
 use Rattle.afl_outside.specs.Shelf.{LeavesOthers, ShelfState}

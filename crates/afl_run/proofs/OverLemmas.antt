@@ -1,21 +1,19 @@
 -- What came of sessions over a disk.
-use Rattle.std.proofs.Common.{append_assoc, ◌≡◌, ◌⊎◌, ℕ, ◌<◌, Bool, true, ◌&&◌, List, [], ◌∷◌, ◌++◌, length, inl, inr, refl, sym, ◌∙◌, ap, subst, arith}
+use Rattle.std.proofs.Common.{append_assoc, ◌≡◌, ◌⊎◌, ℕ, true, List, [], ◌++◌, length, inl, inr, sym, ◌∙◌, ap, subst}
 use Rattle.std.specs.List.{list_all}
 use Rattle.std.proofs.lemmas.Bool.{and_from}
 use Rattle.std.proofs.lemmas.List.Folds.{list_all-append}
-use Rattle.afl_outside.specs.Disk.{DiskGoesOn, DiskState, Moment}
+use Rattle.afl_outside.specs.Disk.{DiskGoesOn, Moment}
 use Rattle.afl_outside.specs.Source.{SourceState}
 use Rattle.afl_outside.specs.Sink.{SinkState}
 use Rattle.afl_parser.specs.Outcome.{HasTreeOrStop}
 use Rattle.run_stores.specs.Start.{Start}
 use Rattle.run_stores.specs.Starts.{start_of}
-use Rattle.event_core.specs.declared.entry.Entry.TheVariants.{Reap}
 use Rattle.page_chain.proofs.RunLemmas.{goes}
 use Rattle.page_slots.specs.Puts.{OnlySyncs}
 use Rattle.turn_lock.specs.Owners.{AreOwnedBelow, ExtendsByOthers, is_owned_below, none_of}
 use Rattle.store_opening.specs.declared.opening.Limits.{Limits}
 use Rattle.store_state.specs.declared.event.Event.{Event}
-use Rattle.store_state.specs.declared.event.Event.TheVariants.{Entered}
 use Rattle.store_state.specs.Events.{events, owner_of}
 use Rattle.store_state.specs.Standings.{BeganAs, Standing}
 use Rattle.session_reports.specs.Outcomes.{notice_of}

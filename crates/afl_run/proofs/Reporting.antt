@@ -1,6 +1,6 @@
 -- What a report tells of the streams that were opened, and of the one history.
-use Rattle.std.proofs.Common.{◌≡◌, ◌⊎◌, ℕ, zero, suc, ◌<◌, List, [], ◌∷◌, ◌++◌, length, get_or, Option, Some, None, IfSome, IsTrue, inl, inr, refl, sym, ◌∙◌, ap, subst, arith}
-use Rattle.std.specs.List.{AllZip, list_all}
+use Rattle.std.proofs.Common.{◌≡◌, ℕ, zero, suc, ◌<◌, List, [], ◌∷◌, ◌++◌, length, get_or, Option, Some, None, IfSome, inl, inr, refl, sym, subst, arith}
+use Rattle.std.specs.List.{AllZip}
 use Rattle.std.specs.Io.KnownBytes.{Consumes}
 use Rattle.afl_outside.specs.Counts.{Rose}
 use Rattle.afl_outside.specs.Source.{SourceState, IsNewSource}
@@ -10,11 +10,9 @@ use Rattle.afl_outside.proofs.Streams.{wrote_all}
 use Rattle.session_threads.specs.Session.{AnswerRule, Serves}
 use Rattle.store_state.specs.declared.event.Event.{Event}
 use Rattle.run_opening.specs.Names.{Word, reply_name}
-use Rattle.run_opening.specs.Opened.{IsOpenedFor, IsSinkOf, IsSourceOf}
+use Rattle.run_opening.specs.Opened.{IsSinkOf, IsSourceOf}
 use Rattle.session_reports.specs.declared.reports.Mark.{Mark}
 use Rattle.session_reports.specs.declared.reports.SessionEnd.{SessionEnd}
-use Rattle.session_reports.specs.declared.reports.SessionReport.{SessionReport}
-use Rattle.session_reports.specs.declared.reports.Streams.{Streams}
 use Rattle.afl_run.specs.Printed.{IsOpenedAs, Prints}
 
 -- a source that told its first bytes has left what it did not give

@@ -1,6 +1,5 @@
 -- What a run over an empty database in memory reports.
-use Rattle.std.proofs.Common.{◌≡◌, ◌≢◌, ◌⊎◌, ℕ, zero, suc, ◌+◌, ◌<◌, ◌≤◌, Bool, true, false, IsTrue, List, [], ◌∷◌, length, All, Option, Some, None, IfSome, IsSome, IsSomeAnd, slice_get, inl, inr, refl, sym, ◌∙◌, ap, subst, arith}
-use Rattle.std.specs.Prelude.{Result, Ok, Err}
+use Rattle.std.proofs.Common.{◌≡◌, ◌⊎◌, ℕ, zero, suc, ◌+◌, ◌≤◌, Bool, true, false, IsTrue, List, [], ◌∷◌, length, All, Option, Some, None, IfSome, IsSome, IsSomeAnd, slice_get, inl, inr, refl, sym, ◌∙◌, ap, subst, arith}
 use Rattle.afl_outside.specs.Counts.{Rose, risen}
 use Rattle.afl_outside.specs.Disk.{DiskGoesOn, Moment, Only}
 use Rattle.afl_outside.specs.Source.{SourceState}
@@ -9,7 +8,7 @@ use Rattle.afl_outside.specs.Shelf.{ShelfState}
 use Rattle.afl_in_memory.specs.Inner.Records.{SureBytes, sure_disk_moment}
 use Rattle.run_stores.specs.Starts.{start_of}
 use Rattle.file_laws.proofs.Made.{made_stands, opened_is}
-use Rattle.file_meaning.specs.Opening.{IsWrongAt, opened}
+use Rattle.file_meaning.specs.Opening.{IsWrongAt}
 use Rattle.page_file.specs.Start.{IsEmptyDatabase}
 use Rattle.plan_changes.specs.Databases.{Database}
 use Rattle.store_opening.specs.declared.opening.Limits.{Limits}

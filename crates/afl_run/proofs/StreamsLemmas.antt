@@ -1,5 +1,5 @@
 -- What a run over a device reports, once its device was opened, and over all.
-use Rattle.std.proofs.Common.{◌≡◌, ◌≢◌, ◌⊎◌, ℕ, zero, suc, ◌+◌, ◌^◌, ◌<◌, ◌≤◌, Bool, List, [], ◌∷◌, ◌++◌, length, get_or, map, All, Option, Some, None, IfSome, IsSomeAnd, slice_get, inl, inr, refl, sym, ◌∙◌, ap, subst, arith}
+use Rattle.std.proofs.Common.{◌≡◌, ◌≢◌, ◌⊎◌, ℕ, zero, suc, ◌+◌, ◌<◌, ◌≤◌, List, [], ◌∷◌, length, get_or, map, All, Option, Some, None, IfSome, IsSomeAnd, slice_get, inl, inr, refl, sym, ◌∙◌, ap, subst, arith}
 use Rattle.std.specs.List.{AllZip}
 use Rattle.afl_lexer.specs.Inner.Standing.{StandsAfter}
 use Rattle.afl_outside.specs.Counts.{Rose, risen}
@@ -16,12 +16,12 @@ use Rattle.store_opening.specs.declared.opening.Limits.{Limits}
 use Rattle.store_state.specs.Standings.{Standing}
 use Rattle.store_state.specs.Events.{events, owner_of}
 use Rattle.run_opening.specs.Names.{Word, reply_name, stream_names}
-use Rattle.run_opening.specs.Opened.{AreOpenedFor, FailsToOpen, FailsToOpenDevice, HandsOut, HandsOutSome, IsOpenedDevice, IsOpenedFor, IsUnopened, LeavesUnasked, StopsAt}
+use Rattle.run_opening.specs.Opened.{AreOpenedFor, FailsToOpen, FailsToOpenDevice, HandsOut, HandsOutSome, IsOpenedFor, IsUnopened, LeavesUnasked, StopsAt}
 use Rattle.run_opening.proofs.OpeningLemmas.{back_all, front_all}
-use Rattle.run_stores.specs.Began.{BeganOver, IsOpenedFrom, TellsUnopened}
+use Rattle.run_stores.specs.Began.{IsOpenedFrom, TellsUnopened}
 use Rattle.run_stores.specs.declared.closing.StoreRun.{StoreRun}
 use Rattle.session_reports.proofs.OutcomeLemmas.{is_stream}
-use Rattle.session_reports.specs.Outcomes.{IsFirst, notice_of}
+use Rattle.session_reports.specs.Outcomes.{IsFirst}
 use Rattle.session_reports.specs.declared.reports.SessionEnd.TheVariants as ends
 use Rattle.session_reports.specs.declared.reports.SessionReport.{SessionReport}
 use Rattle.session_reports.specs.declared.reports.Streams.{Streams}
@@ -30,12 +30,12 @@ use Rattle.session_reports.specs.declared.notices.Notice.TheVariants as notices
 use Rattle.session_threads.specs.Sessions.{AreSessionsOf, IsSessionOf}
 use Rattle.afl_run.specs.OneHistory.{IsOneHistory, IsReportOf}
 use Rattle.afl_run.specs.Printed.{IsOpenedAs, Prints}
-use Rattle.afl_session.proofs.InHistories.{sessions_stay}
-use Rattle.afl_session.specs.Histories.{IsMarkedIn}
+use Rattle.session_threads.proofs.InHistories.{sessions_stay}
+use Rattle.session_threads.specs.Histories.{IsMarkedIn}
 use Rattle.store_state.specs.declared.event.Event.{Event}
-use Rattle.afl_run.specs.Run.{AreOfScripts, BeganFrom, HandsOutStreams, IsOfStore, RunsScripts, TellsSessions, TellsUnrun, devices_in, state_in}
+use Rattle.afl_run.specs.Run.{AreOfScripts, BeganFrom, HandsOutStreams, IsOfStore, RunsScripts, TellsUnrun}
 use Rattle.afl_run.specs.Inner.Over.{IsUnrun, RunsOver}
-use Rattle.afl_run.specs.Inner.Streams.{GoesOn, IsUntouched, RunsOn}
+use Rattle.afl_run.specs.Inner.Streams.{IsUntouched, RunsOn}
 use Rattle.page_chain.proofs.RunLemmas.{stands}
 use Rattle.afl_run.proofs.MakingLemmas.{opened_as as is_opened}
 use Rattle.afl_run.proofs.Reporting.{opened_as, prints, zip_at, zip_places}

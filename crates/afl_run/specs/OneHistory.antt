@@ -20,8 +20,8 @@ use Rattle.session_threads.specs.Told.{is_sealed}
 use Rattle.session_reports.specs.declared.reports.SessionReport.{SessionReport}
 use Rattle.session_reports.specs.declared.notices.Notice.{Notice}
 use Rattle.session_reports.specs.declared.notices.Notice.TheVariants.{Damaged, Disk, Memory, Stream}
-use Rattle.afl_session.specs.Histories.{IsMarkedIn}
-use Rattle.afl_session.specs.Marked.{IsMarked}
+use Rattle.session_threads.specs.Histories.{IsMarkedIn}
+use Rattle.session_threads.specs.Marked.{IsMarked}
 use Rattle.run_stores.specs.Held.{HoldsHistory}
 use Rattle.afl_run.specs.Printed.{Prints}
 

@@ -1,4 +1,8 @@
+pub use Rattle.afl_session.specs.Acts
+pub use Rattle.afl_session.specs.Histories
 pub use Rattle.afl_session.specs.Marked
+pub use Rattle.afl_session.specs.Replies
+pub use Rattle.afl_session.specs.Reply
 pub use Rattle.afl_session.specs.Session
 pub use Rattle.snapshot_manager.specs.Told
 pub mod Inner

@@ -1,4 +1,4 @@
-use Rattle.std.proofs.Common.{◌≤◌, ℕ, List, Option, length, inl, sym, subst}
+use Rattle.std.proofs.Common.{◌≤◌, ℕ, List, Option, sym, subst}
 use Rattle.afl_outside.specs.Shelf.{ShelfState}
 use Rattle.event_core.specs.declared.entry.Entry.{Entry}
 use Rattle.run_opening.specs.Opened.{IsOpenedFor}

@@ -1,4 +1,4 @@
-use Rattle.std.proofs.Common.{◌≡◌, ◌+◌, ◌≤◌, ℕ, List, Option, None, inl, refl, arith}
+use Rattle.std.proofs.Common.{ℕ, List, Option, None, refl}
 use Rattle.afl_outside.specs.Shelf.{ShelfState}
 use Rattle.afl_in_memory.specs.Inner.Records.{SureBytes, sure_disk_moment}
 use Rattle.event_core.specs.declared.entry.Entry.{Entry}

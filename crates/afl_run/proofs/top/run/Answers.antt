@@ -1,5 +1,4 @@
-use Rattle.std.proofs.Common.{◌≡◌, ◌≢◌, ◌≤◌, ℕ, List, length, All, Some, Ok, refl, sym, ◌∙◌, ap, subst}
-use Rattle.afl_outside.specs.Shelf.{ShelfState}
+use Rattle.std.proofs.Common.{◌≢◌, ◌≤◌, ℕ, List, length, All, Some, Ok, refl, sym, ◌∙◌, ap, subst}
 use Rattle.command_words.specs.declared.forms.Form.TheVariants.{Try, Init, Run}
 use Rattle.command_words.specs.Faults.{IsFault}
 use Rattle.command_words.specs.Forms.{IsForm}
