@@ -118,8 +118,8 @@ fn tell_report<R: Print + AllocGlobal>(rt: &R, report: &Report<MemShelf>) -> Res
     Ok(())
 }
 
-/// Runs a script over a file, and prints what it writes, where it is asked. The file that it leaves.
-fn file_behind<R: Print + AllocGlobal + Threads + Wait + Sync>(
+/// The file that a script leaves, run over a file.
+fn file_behind<R: AllocGlobal + Threads + Wait + Sync>(
     rt: &R,
     file: &[u8],
     script: &str,
