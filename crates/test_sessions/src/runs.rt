@@ -39,35 +39,26 @@ fn shelf_of(alloc: Global, file: &[u8], scripts: &[&str]) -> Result<MemShelf, Me
     Ok(MemShelf::new(files, List::new(alloc), List::new(alloc)))
 }
 
-/// Adds the words of a text.
-fn push_words(words: &mut Vec<Arg>, alloc: Global, text: &str) -> Result<(), AllocError> {
-    for word in text.split_whitespace() {
-        words.push(Arg::new(String::from_str(alloc, word)?))?;
-    }
-    Ok(())
-}
-
-/// The words of a run of so many scripts over `db`.
-fn words_of(alloc: Global, options: &str, scripts: usize) -> Result<Vec<Arg>, AllocError> {
+/// The words of a command line.
+fn words_of(alloc: Global, line: &str) -> Result<Vec<Arg>, AllocError> {
     let mut words = Vec::new(alloc);
-    push_words(&mut words, alloc, "run db")?;
-    push_words(&mut words, alloc, options)?;
-    for session in 0..scripts {
-        push_words(&mut words, alloc, name_of(session))?;
+    for word in line.split_whitespace() {
+        let word = String::from_str(alloc, word)?;
+        words.push(Arg::new(word))?;
     }
     Ok(words)
 }
 
-/// What comes of these scripts over a file.
+/// What comes of a command line over a file and these scripts.
 fn report_of<R: AllocGlobal + Threads + Wait + Sync, G: Gate>(
     rt: &R,
+    line: &str,
     file: &[u8],
-    options: &str,
     scripts: &[&str],
     gate: &G,
 ) -> Result<Report<MemShelf>> {
     let alloc = rt.alloc();
-    let words = words_of(alloc, options, scripts.len())?;
+    let words = words_of(alloc, line)?;
     let shelf = shelf_of(alloc, file, scripts)?;
     Ok(run(rt, alloc, words.as_slice(), shelf, gate))
 }
@@ -87,12 +78,8 @@ fn file_after(alloc: Global, report: &Report<MemShelf>) -> Result<Bytes, Memory>
 
 /// The file of a new database.
 fn new_file<R: AllocGlobal + Threads + Wait + Sync>(rt: &R) -> Result<Bytes> {
-    let alloc = rt.alloc();
-    let mut words = Vec::new(alloc);
-    push_words(&mut words, alloc, "init db")?;
-    let shelf = shelf_of(alloc, b"", &[])?;
-    let report = run(rt, alloc, words.as_slice(), shelf, &OpenGate);
-    Ok(file_after(alloc, &report)?)
+    let report = report_of(rt, "init db", b"", &[], &OpenGate)?;
+    Ok(file_after(rt.alloc(), &report)?)
 }
 
 /// What it was that ended a session.
@@ -112,9 +99,20 @@ fn tell_report<R: Print + AllocGlobal>(rt: &R, report: &Report<MemShelf>) -> Res
         print!(rt; "{}", from_utf8(told.sink.bytes()).unwrap_or("no text"))?;
     }
     let entries = report.history.as_slice().len();
-    println!(rt; "status {}, {entries} entries, {} pages free", report.status, report.free_pages)?;
+    println!(rt;
+        "status {}, {entries} entries, {} pages free",
+        report.status, report.free_pages
+    )?;
     let line = notice_line(rt.alloc(), &report.notice)?;
     print!(rt; "{}", from_utf8(line.as_slice()).unwrap_or("no text"))?;
+    Ok(())
+}
+
+/// Prints what the sessions of a run have written.
+fn tell_texts(rt: &impl Print, report: &Report<MemShelf>) -> Result<()> {
+    for told in report.sessions.as_slice() {
+        print!(rt; "{}", from_utf8(told.sink.bytes()).unwrap_or("no text"))?;
+    }
     Ok(())
 }
 
@@ -124,7 +122,7 @@ fn file_behind<R: AllocGlobal + Threads + Wait + Sync>(
     file: &[u8],
     script: &str,
 ) -> Result<Bytes> {
-    let report = report_of(rt, file, "", &[script], &OpenGate)?;
+    let report = report_of(rt, "run db 0", file, &[script], &OpenGate)?;
     Ok(file_after(rt.alloc(), &report)?)
 }
 
@@ -135,11 +133,8 @@ fn tell_after<R: Print + AllocGlobal + Threads + Wait + Sync>(
     script: &str,
 ) -> Result<()> {
     println!(rt; "after:")?;
-    let report = report_of(rt, file, "", &[script], &OpenGate)?;
-    for told in report.sessions.as_slice() {
-        print!(rt; "{}", from_utf8(told.sink.bytes()).unwrap_or("no text"))?;
-    }
-    Ok(())
+    let report = report_of(rt, "run db 0", file, &[script], &OpenGate)?;
+    tell_texts(rt, &report)
 }
 
 /// Runs a case: its scripts side by side, in its order, and then the last one.
@@ -154,7 +149,14 @@ pub(crate) fn tell_case<R: Print + AllocGlobal + Threads + Wait + Sync>(
     let file = new_file(rt)?;
     let file = file_behind(rt, file.as_slice(), before)?;
     let gate = Ordered::new(rt, rt.alloc(), order)?;
-    let report = report_of(rt, file.as_slice(), options, &[*first, *second], &gate)?;
+    let line = format!(in rt.alloc(); "run db {options} 0 1")?;
+    let report = report_of(
+        rt,
+        line.as_str(),
+        file.as_slice(),
+        &[*first, *second],
+        &gate,
+    )?;
     tell_report(rt, &report)?;
     let file = file_after(rt.alloc(), &report)?;
     tell_after(rt, file.as_slice(), after)
