@@ -1,0 +1,10 @@
+//! Plans rewritten, and the boxes of stored arrays that they need.
+#![tactic(auto)]
+
+mod boxes;
+mod needs;
+mod sides;
+mod stretch;
+
+pub use logical_plan::Plan;
+pub use needs::need;
