@@ -1,3 +1,4 @@
 pub mod Needs
 pub mod Sides
 pub mod Stretches
+pub mod Wanted
