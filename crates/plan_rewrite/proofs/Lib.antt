@@ -1,2 +1,3 @@
+pub mod SameLaws
 pub mod Saturated
 mod Worked

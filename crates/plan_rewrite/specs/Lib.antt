@@ -1,4 +1,6 @@
 pub mod Needs
+pub mod Same
+pub mod Settled
 pub mod Sides
 pub mod Stretches
 pub mod Wanted
