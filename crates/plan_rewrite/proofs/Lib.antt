@@ -1,3 +1,10 @@
+pub mod BoxSteps
+pub mod ItemPlaces
+pub mod ProjectSteps
 pub mod SameLaws
 pub mod Saturated
+pub mod Settling
+pub mod Steps
+pub mod ValidLess
+pub mod Widths
 mod Worked

@@ -3,8 +3,12 @@
 
 mod boxes;
 mod needs;
+mod nodes;
+mod places;
+mod rewriting;
 mod sides;
 mod stretch;
 
 pub use logical_plan::Plan;
 pub use needs::need;
+pub use rewriting::{rewrite, rewritten};
