@@ -36,7 +36,7 @@ meant : Schema → Result (List Row) Broken → Meant
 meant schema rows = record { schema = schema; rows = rows }
 
 -- a box and a change cell by cell, in either order
-swapped : (area : Bounds) (change : Coordinate → Cell → Option Cell) (r : Result (List Row) Broken) → if_whole (cell_wise change) (if_whole (within area) r) ≡ if_whole (within area) (if_whole (cell_wise change) r)
+pub swapped : (area : Bounds) (change : Coordinate → Cell → Option Cell) (r : Result (List Row) Broken) → if_whole (cell_wise change) (if_whole (within area) r) ≡ if_whole (within area) (if_whole (cell_wise change) r)
 swapped area change (Ok rows) = ap (λ (x : List Row). Ok x) (sym (within-cell_wise area change rows))
 swapped area change (Err broken) = refl
 
@@ -129,7 +129,7 @@ regroup true true true true p q = refl
 one_side : (l h m k x : ℤ) → (int_le (int_max l m) x && int_le x (int_min h k) && true) ≡ ((int_le l x && int_le x h && true) && (int_le m x && int_le x k && true))
 one_side l h m k x = meet_holds_both (corners (l ∷ []) (h ∷ [])) (corners (m ∷ []) (k ∷ [])) (x ∷ []) (refl, refl) (refl, refl)
 
-held : (lo hi lo' hi' : List ℤ) (c : Coordinate) → length hi ≡ length lo → length lo' ≡ length lo → length hi' ≡ length lo
+pub held : (lo hi lo' hi' : List ℤ) (c : Coordinate) → length hi ≡ length lo → length lo' ≡ length lo → length hi' ≡ length lo
     → is_between (by_pairs int_max lo lo') (by_pairs int_min hi hi') c ≡ (is_between lo hi c && is_between lo' hi' c)
 held [] [] [] [] [] a b d = refl
 held [] [] [] [] (x ∷ c) a b d = refl
@@ -159,7 +159,7 @@ within_both s a b ta tb rows =
     filtered_twice (λ (row : Row). is_inside a row.at.items) (λ (row : Row). is_inside b row.at.items) (λ (row : Row). is_inside (meet a b) row.at.items)
     (λ row. held a.lo.items a.hi.items b.lo.items b.hi.items row.at.items (la.1 ∙ sym la.0) (lb.0 ∙ sym la.0) (lb.1 ∙ sym la.0)) rows
 
-length-by_pairs : {A B C : Type 0} (f : A → B → C) (xs : List A) (ys : List B) → length ys ≡ length xs → length (by_pairs f xs ys) ≡ length xs
+pub length-by_pairs : {A B C : Type 0} (f : A → B → C) (xs : List A) (ys : List B) → length ys ≡ length xs → length (by_pairs f xs ys) ≡ length xs
 length-by_pairs f [] ys e = refl
 length-by_pairs f (x ∷ xs) [] e = absurd (omega arith)
 length-by_pairs f (x ∷ xs) (y ∷ ys) e = ap suc (length-by_pairs f xs ys (omega arith))

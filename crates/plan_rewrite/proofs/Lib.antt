@@ -1,3 +1,6 @@
+pub mod AlikePlans
+pub mod AlikeScans
+pub mod AlikeSteps
 pub mod BoxSteps
 pub mod ItemPlaces
 pub mod ProjectSteps
@@ -8,3 +11,4 @@ pub mod Steps
 pub mod ValidLess
 pub mod Widths
 mod Worked
+mod WorkedRewrites

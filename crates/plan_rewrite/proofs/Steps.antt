@@ -152,12 +152,12 @@ unused_same area places s values t b =
     (under_project (applied (boxed area s) []) (boxed area s) places (none_applied (boxed area s)))
 
 pub unused_type : (area : Option Bounds) (places : Option (List ℕ)) (s : Query) (values : List Applied) → IsTyped (pending area places (applied s values)) → names_none (length (schema_of s).attributes) places ≡ true → IsTyped (pending area places s)
-unused_type area None s values t b = cc
+unused_type area None s values t b = absurd cc
 unused_type area (Some places) s values t b = (unused_same area places s values t b).keeps_type t
 
 pub unused_done : (area : Option Bounds) (places : Option (List ℕ)) (s r : Query) (values : List Applied) → IsTyped (pending area places (applied s values)) → names_none (length (schema_of s).attributes) places ≡ true
     → IsRewritten (pending area places s) r → IsRewritten (pending area places (applied s values)) r
-unused_done area None s r values t b h = cc
+unused_done area None s r values t b h = absurd cc
 unused_done area (Some places) s r values t b h = after_same (pending area (Some places) (applied s values)) (pending area (Some places) s) r t (unused_same area places s values t b) h
 
 -- ---- other operators

@@ -4,4 +4,5 @@ pub mod Same
 pub mod Settled
 pub mod Sides
 pub mod Stretches
+pub mod Sufficient
 pub mod Wanted

@@ -2,6 +2,7 @@
 #![tactic(auto)]
 
 mod boxes;
+mod laws;
 mod needs;
 mod nodes;
 mod places;
@@ -9,6 +10,7 @@ mod rewriting;
 mod sides;
 mod stretch;
 
+pub use laws::placed_needs_suffice;
 pub use logical_plan::Plan;
 pub use needs::need;
 pub use rewriting::{rewrite, rewritten};
