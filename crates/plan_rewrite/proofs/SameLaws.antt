@@ -1,6 +1,6 @@
 -- A plan in place of a source of another plan.
 use Rattle.std.proofs.Common.{◌≡◌, ℕ, Bool, List, [], ◌∷◌, ◌++◌, length, refl, sym, ap, ◌∙◌, subst}
-use Rattle.std.specs.Prelude.{◌&&◌, if◌then◌else◌, IsTrue}
+use Rattle.std.specs.Prelude.{◌&&◌, IsTrue}
 use Rattle.std.specs.List.{AllByRecursion}
 use Rattle.cell_values.specs.declared.schema.Bounds.{Bounds}
 use Rattle.cell_values.specs.declared.schema.Kind.TheVariants.{Bool as Truths}
@@ -26,7 +26,7 @@ use Rattle.logical_plan.specs.Query.{Query, filtered, applied, projected, betwee
 use Rattle.logical_plan.specs.Typing.{IsTyped, is_over, fits_apply, are_below, are_apart, is_box_of, same_bounds, pairs_dimensions, redimensions, are_blocks_of, are_aggregates_of, are_windows_of}
 use Rattle.plan_rewrite.specs.Needs.{is_scan, needs}
 use Rattle.plan_rewrite.specs.Same.{HasArrays, IsSame}
-use Rattle.plan_rewrite.specs.Sides.{Sides, whole, of_between, of_subarray, of_slice, of_left, of_right, of_regrid, of_aggregate, are_near, of_windows}
+use Rattle.plan_rewrite.specs.Sides.{Sides, whole, of_between, of_subarray, of_slice, of_left, of_right, of_regrid, of_aggregate, of_window}
 
 pub refl_same : (query : Query) → IsSame query query
 refl_same query = record {
@@ -136,21 +136,16 @@ under_regrid s r sizes gs h = record {
   same_scan = refl;
 }
 
--- what windows need of a source that is a scan, or of one that is not
-window_sides : Bool → Schema → List Reach → Sides → Sides
-window_sides scan schema reach sides = if scan && are_near reach schema.dimensions then sides else of_windows schema.dimensions reach sides
-
 pub under_window : (s r : Query) (reach : List Reach) (gs : List Aggregate) → IsSame s r → IsSame (windowed s reach gs) (windowed r reach gs)
-unfolding window_sides
 under_window s r reach gs h = record {
   keeps_type = λ t. (h.keeps_type t.0, subst (λ (x : Schema). IsTrue (are_windows_of x reach && are_aggregates_of x.attributes gs)) (sym h.same_schema) t.1, subst (λ (x : Schema). IsValid (window_schema gs x)) (sym h.same_schema) t.2);
   same_schema = ap (window_schema gs) h.same_schema;
   same_leaves = h.same_leaves;
   same_meaning = λ db l. ap (made (window_schema gs) (λ x. window_rows reach gs)) (h.same_meaning db l);
   same_needs = λ sides.
-    ap (λ (b : Bool). needs r (window_sides b (schema_of r) reach sides)) h.same_scan
-    ∙ ap (λ (x : Schema). needs r (window_sides (is_scan s) x reach sides)) h.same_schema
-    ∙ h.same_needs (window_sides (is_scan s) (schema_of s) reach sides);
+    ap (λ (b : Bool). needs r (of_window b (schema_of r).dimensions reach sides)) h.same_scan
+    ∙ ap (λ (x : Schema). needs r (of_window (is_scan s) x.dimensions reach sides)) h.same_schema
+    ∙ h.same_needs (of_window (is_scan s) (schema_of s).dimensions reach sides);
   same_scan = refl;
 }
 

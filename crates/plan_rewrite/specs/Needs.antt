@@ -1,9 +1,9 @@
 -- The box of each of its leaves that a plan needs for a box of its result.
-use Rattle.std.specs.Prelude.{ℕ, Bool, true, false, ◌&&◌, if◌then◌else◌, List, [], ◌∷◌, ◌++◌}
+use Rattle.std.specs.Prelude.{Bool, true, false, List, [], ◌∷◌, ◌++◌}
 use Rattle.cell_values.specs.declared.schema.Bounds.{Bounds}
 use Rattle.logical_plan.specs.PlanSchema.{schema_of}
 use Rattle.logical_plan.specs.Query.{Query, built, listed, scanned, filtered, applied, projected, between, subarray, sliced, joined, crossed, redimensioned, regridded, windowed, aggregated}
-use Rattle.plan_rewrite.specs.Sides.{Sides, sides_of, box_of, whole, of_between, of_subarray, of_slice, of_left, of_right, of_regrid, of_aggregate, are_near, of_windows}
+use Rattle.plan_rewrite.specs.Sides.{Sides, sides_of, box_of, whole, of_between, of_subarray, of_slice, of_left, of_right, of_regrid, of_aggregate, of_window}
 
 -- a scan under filters, applies, projects and betweens alone: each chunk of it has its neighbours' cells as far as the overlap
 abbrev pub is_scan : Query → Bool
@@ -30,8 +30,7 @@ needs (crossed left right pairs schema) sides =
     needs left (of_left (schema_of left).dimensions sides) ++ needs right (of_right (schema_of left).dimensions (schema_of right).dimensions pairs sides)
 needs (redimensioned source schema gs) sides = needs source (whole (schema_of source).dimensions)
 needs (regridded source sizes gs) sides = needs source (of_regrid (schema_of source).dimensions sizes sides)
-needs (windowed source reach gs) sides =
-    needs source (if is_scan source && are_near reach (schema_of source).dimensions then sides else of_windows (schema_of source).dimensions reach sides)
+needs (windowed source reach gs) sides = needs source (of_window (is_scan source) (schema_of source).dimensions reach sides)
 needs (aggregated source gs places) sides = needs source (of_aggregate (schema_of source).dimensions places sides)
 
 abbrev pub need : Query → Bounds → List Bounds

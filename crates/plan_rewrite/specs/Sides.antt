@@ -107,6 +107,10 @@ are_near [] dims = true
 are_near (r ∷ reach) [] = false
 are_near (r ∷ reach) (d ∷ dims) = is_near r d && are_near reach dims
 
--- window: what the windows of the box reach
+-- what the windows of the box reach
 abbrev pub of_windows : List Dimension → List Reach → Sides → Sides
 of_windows dims reach sides = by_pairs (λ f s. f s) (by_pairs grown dims reach) sides
+
+-- window: the box alone, where each chunk of a scan has what its windows reach
+abbrev pub of_window : Bool → List Dimension → List Reach → Sides → Sides
+of_window is_scan dims reach sides = if is_scan && are_near reach dims then sides else of_windows dims reach sides

@@ -19,4 +19,6 @@ keeps_places query = false
 
 -- two databases that have the same wanted chunks at each leaf, with the same cells in their frames, give such a plan one meaning
 abbrev pub PlacedNeedsSuffice : Type 0
-PlacedNeedsSuffice = (a b : Database) (query : Query) → IsTrue (keeps_places query) → IsTyped query → HasArrays a query → HasArrays b query → AreAlikeFor a b query (whole_need query) → meaning a query ≡ meaning b query
+PlacedNeedsSuffice =
+    (a b : Database) (query : Query) → IsTrue (keeps_places query) → IsTyped query → HasArrays a query → HasArrays b query
+    → AreAlikeFor a b query (whole_need query) → meaning a query ≡ meaning b query

@@ -1,9 +1,9 @@
 //! What a plan needs of its leaves.
-ghost use Rattle.std.specs.Prelude.{◌≡◌, ◌++◌, ◌&&◌, if◌then◌else◌, IfOk, OnOk};
+ghost use Rattle.std.specs.Prelude.{◌≡◌, ◌++◌, IfOk, OnOk};
 ghost use Rattle.logical_plan.specs.PlanSchema.{schema_of};
 ghost use Rattle.logical_plan.specs.Typing.{IsTyped};
 ghost use Rattle.plan_rewrite.specs.Needs.{is_scan, need, needs};
-ghost use Rattle.plan_rewrite.specs.Sides.{are_near, of_aggregate, of_left, of_regrid, of_right, of_slice, of_subarray, of_windows, whole};
+ghost use Rattle.plan_rewrite.specs.Sides.{of_aggregate, of_left, of_regrid, of_right, of_slice, of_subarray, of_window, whole};
 
 use crate::boxes::{
     are_near, of_aggregate, of_between, of_left, of_regrid, of_right, of_slice, of_subarray,
@@ -106,7 +106,7 @@ fn of_reach(
     reach: &List<Reach>,
     sides: &Sides,
 ) -> Result<Sides, Memory>
-    ensures { IfOk result (λ r. r.items ≡ (if is_scan source.now && are_near reach.now (schema_of source.now).dimensions then sides.now.items else of_windows (schema_of source.now).dimensions reach.now sides.now.items)) }
+    ensures { IfOk result (λ r. r.items ≡ of_window (is_scan source.now) (schema_of source.now).dimensions reach.now sides.now.items) }
 {
     let schema = schema_of(alloc, source)?;
     if is_scan(source) && are_near(reach.as_slice(), schema.dimensions.as_slice()) {

@@ -3,7 +3,8 @@ ghost use Rattle.std.specs.Prelude.{◌≡◌, Some, IfOk};
 ghost use Rattle.std.specs.Option.{option_copied};
 ghost use Rattle.logical_plan.specs.Query.{built, listed, scanned, filtered, applied, projected, between, subarray, sliced, joined, crossed, redimensioned, regridded, windowed, aggregated};
 ghost use Rattle.plan_rewrite.specs.Inner.Pending.{boxed, pending, shown};
-ghost use Rattle.plan_rewrite.specs.Inner.Trimmed.{kept_for, met, places_for};
+ghost use Rattle.plan_rewrite.specs.Inner.Settling.{applied_for};
+ghost use Rattle.plan_rewrite.specs.Inner.Trimmed.{met};
 
 use crate::places::kept;
 use array_geom::Boxes;
@@ -286,7 +287,7 @@ fn apply_some(
     first: u32,
     places: &List<u32>,
 ) -> Result<Plan, Memory>
-    ensures { IfOk result (λ p. p ≡ shown (places_for first values.now (Some places.now)) (applied source (kept_for first values.now (Some places.now)))) }
+    ensures { IfOk result (λ p. p ≡ applied_for first values.now (Some places.now) source) }
 {
     match kept(alloc, values, first, places) {
         Ok((values, places)) => apply_kept(alloc, source, values, places),
@@ -306,7 +307,7 @@ pub(crate) fn apply_over(
     first: u32,
     places: Option<&List<u32>>,
 ) -> Result<Plan, Memory>
-    ensures { IfOk result (λ p. p ≡ shown (places_for first values.now (option_copied places.entry)) (applied source (kept_for first values.now (option_copied places.entry)))) }
+    ensures { IfOk result (λ p. p ≡ applied_for first values.now (option_copied places.entry) source) }
 {
     match places {
         Some(places) => apply_some(alloc, source, values, first, places),

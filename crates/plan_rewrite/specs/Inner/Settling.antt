@@ -1,10 +1,15 @@
 -- A plan with a box and a project that are to be put on it, operator by operator.
 use Rattle.std.specs.Prelude.{ℕ, if◌then◌else◌, List, length, Option, Some, None}
 use Rattle.cell_values.specs.declared.schema.Bounds.{Bounds}
+use Rattle.logical_plan.specs.declared.parts.Applied.{Applied}
 use Rattle.logical_plan.specs.PlanSchema.{schema_of}
 use Rattle.logical_plan.specs.Query.{Query, built, listed, scanned, filtered, applied, projected, between, subarray, sliced, joined, crossed, redimensioned, regridded, windowed, aggregated}
 use Rattle.plan_rewrite.specs.Inner.Pending.{shown, pending}
 use Rattle.plan_rewrite.specs.Inner.Trimmed.{met, picked, kept_for, places_for, names_none}
+
+-- an apply, the first of whose attributes has place n, with what a project on it leaves of it
+abbrev pub applied_for : ℕ → List Applied → Option (List ℕ) → Query → Query
+applied_for n values places source = shown (places_for n values places) (applied source (kept_for n values places))
 
 abbrev pub settle : Option Bounds → Option (List ℕ) → Query → Query
 settle area places (built schema e) = pending area places (built schema e)
@@ -13,7 +18,7 @@ settle area places (scanned leaf) = pending area places (scanned leaf)
 settle area places (filtered source test) = shown places (filtered (settle area None source) test)
 settle area places (applied source values) =
     if names_none (length (schema_of source).attributes) places then settle area places source
-    else shown (places_for (length (schema_of source).attributes) values places) (applied (settle area None source) (kept_for (length (schema_of source).attributes) values places))
+    else applied_for (length (schema_of source).attributes) values places (settle area None source)
 settle area places (projected source own) = settle area (Some (picked places own)) source
 settle area places (between source own) = settle (Some (met area own)) places source
 settle area places (subarray source own) = pending area places (subarray (settle None None source) own)
