@@ -4,6 +4,7 @@ pub mod AlikeSteps
 pub mod BoxSteps
 pub mod ItemPlaces
 pub mod ProjectSteps
+pub mod RowLists
 pub mod SameLaws
 pub mod Saturated
 pub mod Settling

@@ -22,7 +22,7 @@ use Rattle.cell_values.specs.Schemas.{attribute_names, dimension_names}
 use Rattle.array_rows.specs.Arrays.{AreRowsOf}
 use Rattle.array_rows.specs.Boxes.{by_pairs, is_inside, within, meet, bounds_of, moved}
 use Rattle.array_rows.specs.Cellwise.{cell_wise, put_first}
-use Rattle.array_rows.specs.Rows.{Coordinate, row_major, placed, rows_where, put_by, put_row, in_order, cell_at}
+use Rattle.array_rows.specs.Rows.{Coordinate, row_major, placed, rows_where, in_order, cell_at}
 use Rattle.expr_nulls.specs.Expr.{Expr}
 use Rattle.expr_nulls.specs.ExprValue.{value_of}
 use Rattle.logical_plan.specs.declared.parts.Aggregate.{Aggregate}
@@ -41,11 +41,12 @@ use Rattle.logical_plan.specs.Query.{Query, built, listed, scanned, filtered, ap
 use Rattle.logical_plan.specs.Redimension.{Origin, origin_of, value_origin, Landed, landed, carried, landed_at, by_names, redimension_rows}
 use Rattle.logical_plan.specs.Typing.{IsTyped}
 use Rattle.logical_plan.proofs.ArrayLaws.{typed_arrays}
-use Rattle.logical_plan.proofs.BuiltRows.{all-map, all-flat_map, all-follows, all-each}
+use Rattle.logical_plan.proofs.BuiltRows.{all-map, all-flat_map, all-follows}
 use Rattle.plan_rewrite.specs.Inner.Wide.{IsWide, AreWide}
 use Rattle.plan_rewrite.specs.Same.{HasArrays}
 use Rattle.plan_rewrite.proofs.ItemPlaces.{length_picked}
 use Rattle.plan_rewrite.proofs.ProjectSteps.{applied_length}
+use Rattle.plan_rewrite.proofs.RowLists.{all_where, each_made}
 use Rattle.plan_rewrite.proofs.SameLaws.{left_arrays, right_arrays}
 
 -- ---- cells of a schema
@@ -115,12 +116,7 @@ projected_wide m places c (Doubt kind) e = tt
 -- ---- parts, and rows at other places
 
 where_wide : (n : ℕ) (test : Row → Bool) (rows : List Row) → AreWide n rows → AreWide n (filter test rows)
-where_wide n test [] w = tt
-where_wide n test (row ∷ rows) w = by_test (test row) (where_wide n test rows w.1)
-  where
-    by_test : (b : Bool) → AreWide n (filter test rows) → AreWide n (cond b (row ∷ filter test rows) (filter test rows))
-    by_test true ih = (w.0, ih)
-    by_test false ih = ih
+where_wide n test rows w = all_where (λ (row : Row). IsWide n row.cell) test rows w
 
 moved_wide : (n : ℕ) (to : Coordinate → Coordinate) (rows : List Row) → AreWide n rows → AreWide n (map (moved to) rows)
 moved_wide n to rows w = all-map (λ (row : Row). IsWide n row.cell) (moved to) rows w
@@ -186,21 +182,8 @@ side_attributes dims attributes =
 
 -- ---- rows in order
 
-all_put : (n : ℕ) (new : Row) (rows : List Row) → IsWide n new.cell → AreWide n rows → AreWide n (put_row new rows)
-all_put n new [] p ps = (p, tt)
-all_put n new (row ∷ rows) p ps = cases (row_major new.at.items row.at.items) (all_put n new rows p ps.1)
-  where
-    cases : (o : Ordering) → AreWide n (put_row new rows) → AreWide n (put_by o new row rows (put_row new rows))
-    cases Less more = (p, ps)
-    cases Equal more = (p, ps.1)
-    cases Greater more = (ps.0, more)
-
-ordered_wide : (n : ℕ) (rows : List Row) → AreWide n rows → AreWide n (in_order rows)
-ordered_wide n [] w = tt
-ordered_wide n (row ∷ rows) w = all_put n row (in_order rows) w.0 (ordered_wide n rows w.1)
-
 each_wide : {A : Type 0} (n : ℕ) (f : A → Row) → ((x : A) → IsWide n (f x).cell) → (xs : List A) → AreWide n (in_order (map f xs))
-each_wide n f h xs = ordered_wide n (map f xs) (all-map (λ (row : Row). IsWide n row.cell) f xs (all-each (λ x. IsWide n (f x).cell) h xs))
+each_wide n f h xs = each_made (λ (row : Row). IsWide n row.cell) f h xs
 
 grouped_wide : (group : Coordinate → Coordinate) (gs : List Aggregate) (rows : List Row) → AreWide (length gs) (grouped group gs rows)
 grouped_wide group gs rows = each_wide (length gs) (λ (row : Row). placed (group row.at.items) (aggregates_of gs (group_at group (group row.at.items) rows))) (λ row. length-map gs _) rows
