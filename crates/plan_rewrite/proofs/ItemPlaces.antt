@@ -25,20 +25,19 @@ lower_below k p h = ap (λ (b : Bool). cond b (p - 1) p) (not_above k p h)
 differ : (p k : ℕ) → (p == k) ≡ false → p ≡ k → ⊥
 differ p k e same = let t : (p == k) ≡ true = eq-eqb p k same in cc
 
+pred_suc : (k p : ℕ) → k < p → suc p - 1 ≡ suc (p - 1)
+pred_suc k p l = omega arith
+
 lower_suc : (k p : ℕ) → (p == k) ≡ false → lower (suc k) (suc p) ≡ suc (lower k p)
 lower_suc k p e = cases (nat_lt k p) refl
   where
     cases : (b : Bool) → nat_lt k p ≡ b → lower (suc k) (suc p) ≡ suc (lower k p)
     cases true t =
         let l : k < p = ltb-true k p t in
-        let a : lower (suc k) (suc p) ≡ suc p - 1 = lower_above (suc k) (suc p) (omega arith) in
-        let b : lower k p ≡ p - 1 = lower_above k p l in
-        omega arith
+        lower_above (suc k) (suc p) (omega arith) ∙ pred_suc k p l ∙ ap suc (sym (lower_above k p l))
     cases false t =
         let l : p ≤ k = ltb-false k p t in
-        let a : lower (suc k) (suc p) ≡ suc p = lower_below (suc k) (suc p) (omega arith) in
-        let b : lower k p ≡ p = lower_below k p l in
-        omega arith
+        lower_below (suc k) (suc p) (omega arith) ∙ ap suc (sym (lower_below k p l))
 
 same_suc : (p k : ℕ) → (suc p == suc k) ≡ false → (p == k) ≡ false
 same_suc p k e = cases (p == k) refl
@@ -118,13 +117,13 @@ lower_at k n p d le lt = cases (nat_lt k p) refl
     cases : (b : Bool) → nat_lt k p ≡ b → lower k p < n
     cases true t =
         let l : k < p = ltb-true k p t in
-        let a : lower k p ≡ p - 1 = lower_above k p l in
-        omega arith
+        let less : p - 1 < n = omega arith in
+        subst (λ (m : ℕ). m < n) (sym (lower_above k p l)) less
     cases false t =
         let l : p ≤ k = ltb-false k p t in
-        let a : lower k p ≡ p = lower_below k p l in
         let other : p ≡ k → ⊥ = differ p k d in
-        omega arith
+        let less : p < n = omega arith in
+        subst (λ (m : ℕ). m < n) (sym (lower_below k p l)) less
 
 lowered_below : (k n : ℕ) (places : List ℕ) → is_named k places ≡ false → k ≤ n → list_all (λ place. nat_lt place (suc n)) places ≡ true → list_all (λ place. nat_lt place n) (lowered k places) ≡ true
 lowered_below k n [] e le b = refl

@@ -11,6 +11,5 @@ mod sides;
 mod stretch;
 
 pub use laws::placed_needs_suffice;
-pub use logical_plan::Plan;
 pub use needs::need;
 pub use rewriting::{rewrite, rewritten};

@@ -20,9 +20,11 @@ use std::alloc::Global;
 fn count_attributes(alloc: Global, plan: &Plan) -> Result<u32, Memory>
     ensures { IfOk result (λ count. count ≡ length (schema_of plan.now).attributes) }
 {
-    match u32::try_from(schema_of(alloc, plan)?.attributes.len()) {
-        Ok(count) => Ok(count),
-        Err(_) => Err(Memory),
+    let count = schema_of(alloc, plan)?.attributes.len();
+    if count <= u32::MAX as usize {
+        Ok(count as u32)
+    } else {
+        Err(Memory)
     }
 }
 
@@ -55,10 +57,12 @@ fn settle(
             }
         }
         PlanNode::Project(source, own) => {
-            settle(alloc, source, area, Some(&picked(places, own)?))
+            let all = picked(places, own)?;
+            settle(alloc, source, area, Some(&all))
         }
         PlanNode::Between(source, own) => {
-            settle(alloc, source, Some(&met(area, own)), places)
+            let both = met(area, own);
+            settle(alloc, source, Some(&both), places)
         }
         PlanNode::Subarray(source, own) => {
             let settled = subarray_of(alloc, settle(alloc, source, None, None)?, own)?;
