@@ -215,12 +215,11 @@ items_kept {A = A} k front xs places e =
     ∙ ap (λ (os : List (Option A)). filter_map (λ (o : Option A). o) os) (sym (kept_get k front xs places e))
     ∙ sym (each_some (slice_get (front ++ xs)) places)
 
-or_else : {A : Type 0} → A → Option A → A
+abbrev or_else : {A : Type 0} → A → Option A → A
 or_else d None = d
 or_else d (Some x) = x
 
 index_is : {A : Type 0} (xs : List A) (p : ℕ) (d : A) → slice_index_or xs p d ≡ or_else d (slice_get xs p)
-unfolding or_else
 index_is [] p d = refl
 index_is (x ∷ xs) zero d = refl
 index_is (x ∷ xs) (suc p) d = index_is xs p d

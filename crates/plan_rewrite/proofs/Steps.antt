@@ -163,30 +163,30 @@ unused_done area (Some places) s r values t b h = after_same (pending area (Some
 -- ---- other operators
 
 may_show : (q : Query) → is_cellwise q ≡ false → (places : List ℕ) → may_project q places ≡ true
-may_show (built schema e) no places = refl
-may_show (listed schema rows) no places = refl
-may_show (scanned leaf) no places = refl
-may_show (filtered source test) no places = refl
-may_show (applied source values) no places = cc
-may_show (projected source own) no places = cc
-may_show (between source area) no places = refl
-may_show (subarray source area) no places = refl
-may_show (sliced source fixed) no places = refl
-may_show (joined left right schema) no places = refl
-may_show (crossed left right pairs schema) no places = refl
-may_show (redimensioned source schema gs) no places = refl
-may_show (regridded source sizes gs) no places = refl
-may_show (windowed source reach gs) no places = refl
-may_show (aggregated source gs places) no ps = refl
+may_show (built schema e) apart places = refl
+may_show (listed schema rows) apart places = refl
+may_show (scanned leaf) apart places = refl
+may_show (filtered source test) apart places = refl
+may_show (applied source values) apart places = cc
+may_show (projected source own) apart places = cc
+may_show (between source area) apart places = refl
+may_show (subarray source area) apart places = refl
+may_show (sliced source fixed) apart places = refl
+may_show (joined left right schema) apart places = refl
+may_show (crossed left right pairs schema) apart places = refl
+may_show (redimensioned source schema gs) apart places = refl
+may_show (regridded source sizes gs) apart places = refl
+may_show (windowed source reach gs) apart places = refl
+may_show (aggregated source gs places) apart ps = refl
 
 enclosed_settled : (area : Option Bounds) (places : Option (List ℕ)) (r : Query) → is_cellwise r ≡ false → is_settled r ≡ true → is_settled (pending area places r) ≡ true
-enclosed_settled None places r no s = show_settled places r (may_show r no) s
-enclosed_settled (Some area) places r no s = show_settled places (between r area) (λ ps. refl) (and_from (not (is_cellwise r)) (is_settled r) (not_from_false (is_cellwise r) no) s)
+enclosed_settled None places r apart s = show_settled places r (may_show r apart) s
+enclosed_settled (Some area) places r apart s = show_settled places (between r area) (λ ps. refl) (and_from (not (is_cellwise r)) (is_settled r) (not_from_false (is_cellwise r) apart) s)
 
 pub other_type : (area : Option Bounds) (places : Option (List ℕ)) (q : Query) → IsTyped (pending area places q) → IsTyped q
 other_type None places q t = under_shown places q t
 other_type (Some area) places q t = (under_shown places (between q area) t).0
 
 pub other_done : (area : Option Bounds) (places : Option (List ℕ)) (q r : Query) → IsTyped (pending area places q) → IsSame q r → is_cellwise r ≡ false → is_settled r ≡ true → IsRewritten (pending area places q) (pending area places r)
-other_done area places q r t same no s =
-    rewritten_by (pending area places q) (pending area places r) t (show_same places (boxed area q) (boxed area r) (box_same area q r same)) (enclosed_settled area places r no s)
+other_done area places q r t same apart s =
+    rewritten_by (pending area places q) (pending area places r) t (show_same places (boxed area q) (boxed area r) (box_same area q r same)) (enclosed_settled area places r apart s)

@@ -1,5 +1,6 @@
 //! Places of attributes that a project names.
-ghost use Rattle.std.specs.Prelude.{◌≡◌, ◌++◌, slice_get, IfOk, OnOk};
+ghost use Rattle.std.specs.Prelude.{◌≡◌, ◌++◌, nat_lt, slice_get, IfOk, OnOk};
+ghost use Rattle.std.specs.List.{list_all};
 ghost use Rattle.std.specs.Option.{option_copied, option_to_list};
 ghost use Rattle.logical_plan.specs.BoxOps.{items_at};
 ghost use Rattle.plan_rewrite.specs.Inner.Trimmed.{kept, lower, lowered, names_none, picked, relocated};
@@ -102,12 +103,21 @@ pub(crate) fn kept<T: Copies + Drop>(
     Ok((items_kept, rest))
 }
 
+fn are_below(places: &[u32], first: u32) -> bool
+    ensures { result ≡ list_all (λ place. nat_lt place first) places.now }
+{
+    match places {
+        [] => true,
+        [place, places @ ..] => *place < first && are_below(places, first),
+    }
+}
+
 /// Whether a project names no place from `first` on.
 pub(crate) fn names_none(first: u32, places: Option<&List<u32>>) -> bool
     ensures { result ≡ names_none first (option_copied places.entry) }
 {
     match places {
-        Some(places) => places.as_slice().iter().all(|place| *place < first),
+        Some(places) => are_below(places.as_slice(), first),
         None => false,
     }
 }
