@@ -115,8 +115,8 @@ placed_needs_suffice a b query k t la lb h =
     let high : length area.hi.items ≡ length area.lo.items = length-map dims (λ d. d.hi) ∙ sym (length-map dims (λ d. d.lo)) in
     let many : length (sides_of area) ≡ length dims = length-by_pairs stretch area.lo.items area.hi.items high ∙ length-map dims (λ d. d.lo) in
     let boxed : if_whole (within area) (meaning a query).rows ≡ if_whole (within area) (meaning b query).rows =
-      subst (λ (x : Bounds). if_whole (within x) (meaning a query).rows ≡ if_whole (within x) (meaning b query).rows) (box_of_sides area high) (alike a b query k t la lb (sides_of area) many h) in
+    subst (λ (x : Bounds). if_whole (within x) (meaning a query).rows ≡ if_whole (within x) (meaning b query).rows) (box_of_sides area high) (alike a b query k t la lb (sides_of area) many h) in
     let placed : keeps_arrays query ≡ true = same_class query k in
     let rows : (meaning a query).rows ≡ (meaning b query).rows =
-      alike_whole area (meaning a query).rows (meaning b query).rows (in_bounds (schema_of query) (meaning a query).rows (typed_arrays a query placed t la)) (in_bounds (schema_of query) (meaning b query).rows (typed_arrays b query placed t lb)) boxed in
+    alike_whole area (meaning a query).rows (meaning b query).rows (in_bounds (schema_of query) (meaning a query).rows (typed_arrays a query placed t la)) (in_bounds (schema_of query) (meaning b query).rows (typed_arrays b query placed t lb)) boxed in
     one_meaning (meaning a query) (meaning b query) (meaning_schema a query ∙ sym (meaning_schema b query)) rows

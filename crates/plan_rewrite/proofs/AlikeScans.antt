@@ -106,7 +106,7 @@ alike_at schema area a b c is h in_bounds in_area = by_cell (has_cell schema.dim
         ∙ cell_in (frame schema.dimensions (overlaps schema.dimensions) (chunk_of schema.dimensions c)) b c in_frame
     by_cell false e =
         let other : has_cell schema.dimensions b (chunk_of schema.dimensions c) ≡ false =
-          same_wanted (has_cell schema.dimensions a (chunk_of schema.dimensions c)) (has_cell schema.dimensions b (chunk_of schema.dimensions c)) (core_meets schema.dimensions area (chunk_of schema.dimensions c)) meets (h.wanted (chunk_of schema.dimensions c) long) e in
+        same_wanted (has_cell schema.dimensions a (chunk_of schema.dimensions c)) (has_cell schema.dimensions b (chunk_of schema.dimensions c)) (core_meets schema.dimensions area (chunk_of schema.dimensions c)) meets (h.wanted (chunk_of schema.dimensions c) long) e in
         none_in_core schema.dimensions a (chunk_of schema.dimensions c) c in_core e ∙ sym (none_in_core schema.dimensions b (chunk_of schema.dimensions c) c in_core other)
 
 -- ---- all cells in the box

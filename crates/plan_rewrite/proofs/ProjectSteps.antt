@@ -75,10 +75,10 @@ two_projects s own places typed =
       same_schema = schema;
       same_leaves = refl;
       same_meaning = λ db l.
-        both_same meant (project_schema (items_at places own) (meaning db s).schema) (project_schema places (project_schema own (meaning db s).schema))
-        (if_whole (project_rows (items_at places own)) (meaning db s).rows) (if_whole (project_rows places) (if_whole (project_rows own) (meaning db s).rows))
-        (subst (λ (x : Schema). project_schema (items_at places own) x ≡ project_schema places (project_schema own x)) (sym (meaning_schema db s)) schema)
-        (projects own places below (meaning db s).rows);
+          both_same meant (project_schema (items_at places own) (meaning db s).schema) (project_schema places (project_schema own (meaning db s).schema))
+          (if_whole (project_rows (items_at places own)) (meaning db s).rows) (if_whole (project_rows places) (if_whole (project_rows own) (meaning db s).rows))
+          (subst (λ (x : Schema). project_schema (items_at places own) x ≡ project_schema places (project_schema own x)) (sym (meaning_schema db s)) schema)
+          (projects own places below (meaning db s).rows);
       same_needs = λ sides. refl;
       same_scan = refl;
     }
@@ -108,8 +108,8 @@ none_applied s = record {
   same_schema = no_attributes (schema_of s);
   same_leaves = refl;
   same_meaning = λ db l.
-    both_same meant (meaning db s).schema (apply_schema [] (meaning db s).schema) (meaning db s).rows (if_whole (apply_rows []) (meaning db s).rows)
-    (no_attributes (meaning db s).schema) (applied_whole (meaning db s).rows);
+      both_same meant (meaning db s).schema (apply_schema [] (meaning db s).schema) (meaning db s).rows (if_whole (apply_rows []) (meaning db s).rows)
+      (no_attributes (meaning db s).schema) (applied_whole (meaning db s).rows);
   same_needs = λ sides. refl;
   same_scan = refl;
 }
@@ -182,16 +182,18 @@ dropped_applied s values places wide =
     let again : List ℕ = relocated n values places in
     let schema : project_schema again (apply_schema less (schema_of s)) ≡ project_schema places (apply_schema values (schema_of s)) = dropped_schema values places (schema_of s) in
     record {
-      keeps_type = λ t.
-        ((t.0.0, all_kept (λ a. is_over (schema_of s) a.kind a.value && not (is_null_alone a.value)) n values places t.0.1, valid_less n values places (schema_of s) (typed_valid s t.0.0) t.0.2),
-        relocated_typed values places (schema_of s) t.1, subst (λ (x : Schema). IsValid x) (sym schema) t.2);
+      keeps_type = λ t. (
+        (t.0.0, all_kept (λ a. is_over (schema_of s) a.kind a.value && not (is_null_alone a.value)) n values places t.0.1, valid_less n values places (schema_of s) (typed_valid s t.0.0) t.0.2),
+        relocated_typed values places (schema_of s) t.1,
+        subst (λ (x : Schema). IsValid x) (sym schema) t.2,
+      );
       same_schema = schema;
       same_leaves = refl;
       same_meaning = λ db l.
-        both_same meant (project_schema again (apply_schema less (meaning db s).schema)) (project_schema places (apply_schema values (meaning db s).schema))
-        (if_whole (project_rows again) (if_whole (apply_rows less) (meaning db s).rows)) (if_whole (project_rows places) (if_whole (apply_rows values) (meaning db s).rows))
-        (subst (λ (x : Schema). project_schema again (apply_schema less x) ≡ project_schema places (apply_schema values x)) (sym (meaning_schema db s)) schema)
-        (dropped n values places (meaning db s).rows (wide db l));
+          both_same meant (project_schema again (apply_schema less (meaning db s).schema)) (project_schema places (apply_schema values (meaning db s).schema))
+          (if_whole (project_rows again) (if_whole (apply_rows less) (meaning db s).rows)) (if_whole (project_rows places) (if_whole (apply_rows values) (meaning db s).rows))
+          (subst (λ (x : Schema). project_schema again (apply_schema less x) ≡ project_schema places (apply_schema values x)) (sym (meaning_schema db s)) schema)
+          (dropped n values places (meaning db s).rows (wide db l));
       same_needs = λ sides. refl;
       same_scan = refl;
     }

@@ -143,9 +143,9 @@ under_window s r reach gs h = record {
   same_leaves = h.same_leaves;
   same_meaning = λ db l. ap (made (window_schema gs) (λ x. window_rows reach gs)) (h.same_meaning db l);
   same_needs = λ sides.
-    ap (λ (b : Bool). needs r (of_window b (schema_of r).dimensions reach sides)) h.same_scan
-    ∙ ap (λ (x : Schema). needs r (of_window (is_scan s) x.dimensions reach sides)) h.same_schema
-    ∙ h.same_needs (of_window (is_scan s) (schema_of s).dimensions reach sides);
+      ap (λ (b : Bool). needs r (of_window b (schema_of r).dimensions reach sides)) h.same_scan
+      ∙ ap (λ (x : Schema). needs r (of_window (is_scan s) x.dimensions reach sides)) h.same_schema
+      ∙ h.same_needs (of_window (is_scan s) (schema_of s).dimensions reach sides);
   same_scan = refl;
 }
 
@@ -185,35 +185,41 @@ both_hold P a a' b b' p q h = subst (λ (x : Schema). P x b) (sym p) (subst (λ 
 
 pub under_join : (l r l' r' : Query) (schema : Schema) → IsSame l l' → IsSame r r' → IsSame (joined l r schema) (joined l' r' schema)
 under_join l r l' r' schema f g = record {
-  keeps_type = λ t.
-    (f.keeps_type t.0, g.keeps_type t.1,
+  keeps_type = λ t. (
+    f.keeps_type t.0,
+    g.keeps_type t.1,
     both_hold (λ x y. IsTrue (same_bounds x.dimensions y.dimensions)) (schema_of l') (schema_of l) (schema_of r') (schema_of r) f.same_schema g.same_schema t.2,
-    both_hold (λ x y. schema ≡ join_schema x y) (schema_of l') (schema_of l) (schema_of r') (schema_of r) f.same_schema g.same_schema t.3, t.4);
+    both_hold (λ x y. schema ≡ join_schema x y) (schema_of l') (schema_of l) (schema_of r') (schema_of r) f.same_schema g.same_schema t.3,
+    t.4,
+  );
   same_schema = refl;
   same_leaves = both_same (λ x y. x ++ y) (leaves l') (leaves l) (leaves r') (leaves r) f.same_leaves g.same_leaves;
   same_meaning = λ db h.
-    both_same (made_of_two schema join_rows) (meaning db l') (meaning db l) (meaning db r') (meaning db r)
-    (f.same_meaning db (left_arrays db l r schema h)) (g.same_meaning db (right_arrays db l r schema h));
+      both_same (made_of_two schema join_rows) (meaning db l') (meaning db l) (meaning db r') (meaning db r)
+      (f.same_meaning db (left_arrays db l r schema h)) (g.same_meaning db (right_arrays db l r schema h));
   same_needs = λ sides. both_same (λ x y. x ++ y) (needs l' sides) (needs l sides) (needs r' sides) (needs r sides) (f.same_needs sides) (g.same_needs sides);
   same_scan = refl;
 }
 
 pub under_cross : (l r l' r' : Query) (pairs : List Pair) (schema : Schema) → IsSame l l' → IsSame r r' → IsSame (crossed l r pairs schema) (crossed l' r' pairs schema)
 under_cross l r l' r' pairs schema f g = record {
-  keeps_type = λ t.
-    (f.keeps_type t.0, g.keeps_type t.1,
+  keeps_type = λ t. (
+    f.keeps_type t.0,
+    g.keeps_type t.1,
     both_hold (λ x y. IsTrue (pairs_dimensions pairs x y)) (schema_of l') (schema_of l) (schema_of r') (schema_of r) f.same_schema g.same_schema t.2,
-    both_hold (λ x y. schema ≡ cross_schema pairs x y) (schema_of l') (schema_of l) (schema_of r') (schema_of r) f.same_schema g.same_schema t.3, t.4);
+    both_hold (λ x y. schema ≡ cross_schema pairs x y) (schema_of l') (schema_of l) (schema_of r') (schema_of r) f.same_schema g.same_schema t.3,
+    t.4,
+  );
   same_schema = refl;
   same_leaves = both_same (λ x y. x ++ y) (leaves l') (leaves l) (leaves r') (leaves r) f.same_leaves g.same_leaves;
   same_meaning = λ db h.
-    both_same (made_of_two schema (cross_rows pairs)) (meaning db l') (meaning db l) (meaning db r') (meaning db r)
-    (f.same_meaning db (left_arrays db l r schema h)) (g.same_meaning db (right_arrays db l r schema h));
+      both_same (made_of_two schema (cross_rows pairs)) (meaning db l') (meaning db l) (meaning db r') (meaning db r)
+      (f.same_meaning db (left_arrays db l r schema h)) (g.same_meaning db (right_arrays db l r schema h));
   same_needs = λ sides.
-    both_same (λ x y. x ++ y) (needs l' (of_left (schema_of l').dimensions sides)) (needs l (of_left (schema_of l).dimensions sides))
-    (needs r' (of_right (schema_of l').dimensions (schema_of r').dimensions pairs sides)) (needs r (of_right (schema_of l).dimensions (schema_of r).dimensions pairs sides))
-    (ap (λ (x : Schema). needs l' (of_left x.dimensions sides)) f.same_schema ∙ f.same_needs (of_left (schema_of l).dimensions sides))
-    (ap (λ (x : Schema). needs r' (of_right x.dimensions (schema_of r').dimensions pairs sides)) f.same_schema
-    ∙ ap (λ (x : Schema). needs r' (of_right (schema_of l).dimensions x.dimensions pairs sides)) g.same_schema ∙ g.same_needs (of_right (schema_of l).dimensions (schema_of r).dimensions pairs sides));
+      both_same (λ x y. x ++ y) (needs l' (of_left (schema_of l').dimensions sides)) (needs l (of_left (schema_of l).dimensions sides))
+      (needs r' (of_right (schema_of l').dimensions (schema_of r').dimensions pairs sides)) (needs r (of_right (schema_of l).dimensions (schema_of r).dimensions pairs sides))
+      (ap (λ (x : Schema). needs l' (of_left x.dimensions sides)) f.same_schema ∙ f.same_needs (of_left (schema_of l).dimensions sides))
+      (ap (λ (x : Schema). needs r' (of_right x.dimensions (schema_of r').dimensions pairs sides)) f.same_schema
+      ∙ ap (λ (x : Schema). needs r' (of_right (schema_of l).dimensions x.dimensions pairs sides)) g.same_schema ∙ g.same_needs (of_right (schema_of l).dimensions (schema_of r).dimensions pairs sides));
   same_scan = refl;
 }

@@ -73,9 +73,9 @@ valid_less k values places s v w =
     let short : length less.attributes ≡ length s.attributes + length (kept k values places) = length-append s.attributes (map (λ a. derived a.name a.kind) (kept k values places)) ∙ ap (λ (n : ℕ). length s.attributes + n) (length-map (kept k values places) (λ a. derived a.name a.kind)) in
     let fewer_values : length (kept k values places) ≤ length values = kept_few k values places in
     let apart : are_distinct (attribute_names s.attributes ++ (kept k (map (λ (a : Applied). a.name) values) places ++ dimension_names s.dimensions)) ≡ true =
-      fewer k (attribute_names s.attributes) (map (λ (a : Applied). a.name) values) places (dimension_names s.dimensions) (subst (λ (l : List (List ℕ)). are_distinct l ≡ true) (in_parts values s) c'.1) in
+    fewer k (attribute_names s.attributes) (map (λ (a : Applied). a.name) values) places (dimension_names s.dimensions) (subst (λ (l : List (List ℕ)). are_distinct l ≡ true) (in_parts values s) c'.1) in
     let distinct : are_distinct (names_of less) ≡ true =
-      subst (λ (l : List (List ℕ)). are_distinct l ≡ true) (sym (in_parts (kept k values places) s ∙ ap (λ (l : List (List ℕ)). attribute_names s.attributes ++ (l ++ dimension_names s.dimensions)) (sym (kept-map (λ (a : Applied). a.name) k values places)))) apart in
+    subst (λ (l : List (List ℕ)). are_distinct l ≡ true) (sym (in_parts (kept k values places) s ∙ ap (λ (l : List (List ℕ)). attribute_names s.attributes ++ (l ++ dimension_names s.dimensions)) (sym (kept-map (λ (a : Applied). a.name) k values places)))) apart in
     and_from (has_attributes less.attributes && has_dimensions s.dimensions && are_distinct (names_of less) && list_all is_dimension s.dimensions) (frame_fits s.dimensions)
     (and_from (has_attributes less.attributes && has_dimensions s.dimensions && are_distinct (names_of less)) (list_all is_dimension s.dimensions)
     (and_from (has_attributes less.attributes && has_dimensions s.dimensions) (are_distinct (names_of less))

@@ -279,7 +279,7 @@ widths db (joined left right schema) t l =
     let m : ℕ = length (schema_of left).attributes in
     let n : ℕ = length (schema_of right).attributes in
     let long : length (join_schema (schema_of left) (schema_of right)).attributes ≡ m + n =
-      side_attributes (schema_of left).dimensions ((schema_of left).attributes ++ (schema_of right).attributes) ∙ length-append (schema_of left).attributes (schema_of right).attributes in
+    side_attributes (schema_of left).dimensions ((schema_of left).attributes ++ (schema_of right).attributes) ∙ length-append (schema_of left).attributes (schema_of right).attributes in
     as_long (m + n) (length schema.attributes) (meaning db (joined left right schema)).rows (ap (λ (x : Schema). length x.attributes) t.3 ∙ long)
     (both_wide m n (m + n) join_rows (joined_wide m n) (meaning db left).rows (meaning db right).rows (widths db left t.0 (left_arrays db left right schema l)) (widths db right t.1 (right_arrays db left right schema l)))
 widths db (crossed left right pairs schema) t l =
@@ -287,7 +287,7 @@ widths db (crossed left right pairs schema) t l =
     let n : ℕ = length (schema_of right).attributes in
     let dims : List Dimension = (schema_of left).dimensions ++ items_but (right_places pairs) 0 (schema_of right).dimensions in
     let long : length (cross_schema pairs (schema_of left) (schema_of right)).attributes ≡ m + n =
-      side_attributes dims ((schema_of left).attributes ++ (schema_of right).attributes) ∙ length-append (schema_of left).attributes (schema_of right).attributes in
+    side_attributes dims ((schema_of left).attributes ++ (schema_of right).attributes) ∙ length-append (schema_of left).attributes (schema_of right).attributes in
     as_long (m + n) (length schema.attributes) (meaning db (crossed left right pairs schema)).rows (ap (λ (x : Schema). length x.attributes) t.3 ∙ long)
     (both_wide m n (m + n) (cross_rows pairs) (crossed_wide m n pairs) (meaning db left).rows (meaning db right).rows (widths db left t.0 (left_arrays db left right schema l)) (widths db right t.1 (right_arrays db left right schema l)))
 widths db (redimensioned source schema gs) t l = and_wide (length schema.attributes) (redimension_rows (meaning db source).schema schema gs) (redimension_wide (meaning db source).schema schema gs) (meaning db source).rows

@@ -31,7 +31,7 @@ is_wanted dims rows area k = has_cell dims rows k && core_meets dims area k
 pub record HaveAlike (dims : List Dimension) (area : Bounds) (a b : List Row) : Type 0 where
   pub wanted : (k : ChunkNumber) → length k ≡ length dims → is_wanted dims a area k ≡ is_wanted dims b area k
   pub cells : (k : ChunkNumber) → length k ≡ length dims → IsTrue (is_wanted dims a area k)
-    → within (frame dims (overlaps dims) k) a ≡ within (frame dims (overlaps dims) k) b
+      → within (frame dims (overlaps dims) k) a ≡ within (frame dims (overlaps dims) k) b
 
 -- so have two databases, leaf by leaf
 abbrev pub AreAlikeAt : Database → Database → Leaf → Bounds → Type 0

@@ -1,16 +1,16 @@
 //! Plans over plans that are given.
 ghost use Rattle.std.specs.Prelude.{◌≡◌, Some, IfOk};
 ghost use Rattle.std.specs.Option.{option_copied};
-ghost use Rattle.logical_plan.specs.Query.{built, listed, scanned, filtered, applied, projected, between, subarray, sliced, joined, crossed, redimensioned, regridded, windowed, aggregated};
+ghost use Rattle.logical_plan.specs.Query.{filtered, applied, projected, between, subarray, sliced, joined, crossed, redimensioned, regridded, windowed, aggregated};
 ghost use Rattle.plan_rewrite.specs.Inner.Pending.{boxed, pending, shown};
 ghost use Rattle.plan_rewrite.specs.Inner.Settling.{applied_for};
 ghost use Rattle.plan_rewrite.specs.Inner.Trimmed.{met};
 
 use crate::places::kept;
 use array_geom::Boxes;
-use cell_values::{Bounds, Copies, List, Memory, Row, Schema, copy_coord};
+use cell_values::{Bounds, Copies, List, Memory, Schema, copy_coord};
 use expr_nulls::TypedExpr;
-use logical_plan::{Aggregate, Applied, Fixed, Leaf, Pair, Plan, Reach, let_go};
+use logical_plan::{Aggregate, Applied, Fixed, Pair, Plan, Reach, let_go};
 use std::alloc::Global;
 
 /// Copies of two parts of a plan.
@@ -19,30 +19,6 @@ fn both_copies<A: Copies + Drop, B: Copies + Drop>(a: &A, b: &B) -> Result<(A, B
 {
     let a = a.copy()?;
     Ok((a, b.copy()?))
-}
-
-pub(crate) fn build_of(schema: &Schema, value: &TypedExpr) -> Result<Plan, Memory>
-    ensures { IfOk result (λ p. p ≡ built schema.now value.now) }
-{
-    match both_copies(schema, value) {
-        Ok((schema, value)) => Ok(Plan::build(schema, value)),
-        Err(Memory) => Err(Memory),
-    }
-}
-
-pub(crate) fn literal_of(schema: &Schema, rows: &List<Row>) -> Result<Plan, Memory>
-    ensures { IfOk result (λ p. p ≡ listed schema.now rows.now) }
-{
-    match both_copies(schema, rows) {
-        Ok((schema, rows)) => Ok(Plan::literal(schema, rows)),
-        Err(Memory) => Err(Memory),
-    }
-}
-
-pub(crate) fn scan_of(leaf: &Leaf) -> Result<Plan, Memory>
-    ensures { IfOk result (λ p. p ≡ scanned leaf.now) }
-{
-    Ok(Plan::scan(leaf.copy()?))
 }
 
 pub(crate) fn subarray_of(alloc: Global, source: Plan, area: &Bounds) -> Result<Plan, Memory>

@@ -42,7 +42,10 @@ pub(crate) fn picked(places: Option<&List<u32>>, own: &List<u32>) -> Result<List
 fn is_named(places: &List<u32>, place: usize) -> bool
     ensures { result ≡ is_named place places.now }
 {
-    places.as_slice().iter().any(|named| *named as usize == place)
+    places
+        .as_slice()
+        .iter()
+        .any(|named| *named as usize == place)
 }
 
 /// A place when the item at another one is left out.

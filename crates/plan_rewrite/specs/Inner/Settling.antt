@@ -11,6 +11,21 @@ use Rattle.plan_rewrite.specs.Inner.Trimmed.{met, picked, kept_for, places_for, 
 abbrev pub applied_for : ℕ → List Applied → Option (List ℕ) → Query → Query
 applied_for n values places source = shown (places_for n values places) (applied source (kept_for n values places))
 
+-- the last operator of a plan over another source, or over two others
+abbrev pub over_one : Query → Query → Query
+over_one (subarray source own) new = subarray new own
+over_one (sliced source fixed) new = sliced new fixed
+over_one (redimensioned source schema gs) new = redimensioned new schema gs
+over_one (regridded source sizes gs) new = regridded new sizes gs
+over_one (windowed source reach gs) new = windowed new reach gs
+over_one (aggregated source gs groups) new = aggregated new gs groups
+over_one query new = query
+
+abbrev pub over_two : Query → Query → Query → Query
+over_two (joined left right schema) a b = joined a b schema
+over_two (crossed left right pairs schema) a b = crossed a b pairs schema
+over_two query a b = query
+
 abbrev pub settle : Option Bounds → Option (List ℕ) → Query → Query
 settle area places (built schema e) = pending area places (built schema e)
 settle area places (listed schema rows) = pending area places (listed schema rows)
