@@ -1,11 +1,10 @@
 -- Two versions of an array that have the same wanted chunks for a box, with the same cells in their frames, have the same cells in the box.
-use Rattle.std.proofs.Common.{◌≡◌, ℕ, suc, ℤ, Bool, true, false, List, [], ◌∷◌, map, length, cond, Option, Some, None, refl, sym, ap, ◌∙◌, subst, arith}
+use Rattle.std.proofs.Common.{◌≡◌, suc, ℤ, Bool, true, false, List, [], ◌∷◌, length, cond, Some, None, refl, sym, ap, ◌∙◌, subst, arith}
 use Rattle.std.specs.Prelude.{◌&&◌, int_le, IsTrue}
 use Rattle.std.specs.List.{AllByRecursion}
 use Rattle.std.specs.Ordering.{is_eq}
 use Rattle.std.specs.declared.cmp.Ordering.{Ordering}
 use Rattle.std.specs.declared.cmp.Ordering.TheVariants.{Less, Equal, Greater}
-use Rattle.cell_values.specs.declared.datum.Cell.{Cell}
 use Rattle.cell_values.specs.declared.datum.Row.{Row}
 use Rattle.cell_values.specs.declared.schema.Bounds.{Bounds}
 use Rattle.cell_values.specs.declared.schema.Dimension.{Dimension}
@@ -15,7 +14,6 @@ use Rattle.array_rows.specs.Boxes.{is_between, is_inside, within, meet, bounds_o
 use Rattle.array_rows.specs.Rows.{Coordinate, row_major, cell_at}
 use Rattle.array_rows.proofs.RowsLemmas.{row_major_exact, same_rows}
 use Rattle.array_rows.proofs.RowSets.{IsRising-rows_where, cell_at-within}
-use Rattle.array_geom.specs.Areas.{holds_some}
 use Rattle.array_geom.specs.Geometry.{ChunkNumber, chunk_of, core, core_meets, frame, overlaps}
 use Rattle.array_geom.specs.Link.{is_not_empty, has_cell}
 use Rattle.array_geom.proofs.CoreLaws.{core_has, length-chunk_of, core_in_frame}

@@ -1,5 +1,5 @@
 -- What an operator makes of a box depends on what it needs of its source.
-use Rattle.std.proofs.Common.{◌≡◌, ℕ, ℤ, Bool, true, false, List, [], ◌∷◌, map, filter, length, cond, Option, Some, None, Result, Ok, Err, refl, sym, ap, ◌∙◌, subst, arith}
+use Rattle.std.proofs.Common.{◌≡◌, ℤ, Bool, true, false, List, [], ◌∷◌, map, filter, length, cond, Option, None, Result, Ok, Err, refl, sym, ap, ◌∙◌, arith}
 use Rattle.std.specs.Prelude.{◌==◌, IfOk, IsTrue}
 use Rattle.std.specs.Int.{int_max, int_min}
 use Rattle.std.specs.List.{AllByRecursion}
@@ -11,7 +11,7 @@ use Rattle.cell_values.specs.declared.datum.Cell.{Cell}
 use Rattle.cell_values.specs.declared.datum.Row.{Row}
 use Rattle.cell_values.specs.declared.schema.Bounds.{Bounds}
 use Rattle.cell_values.specs.declared.schema.Schema.{Schema}
-use Rattle.array_rows.specs.Boxes.{by_pairs, corners, is_inside, within, meet, bounds_of}
+use Rattle.array_rows.specs.Boxes.{by_pairs, corners, is_inside, within, meet}
 use Rattle.array_rows.specs.Cellwise.{cell_wise, put_first}
 use Rattle.array_rows.specs.Rows.{Coordinate, rows_where, cell_at}
 use Rattle.array_rows.proofs.RowsLemmas.{within-cell_wise}
@@ -21,7 +21,7 @@ use Rattle.logical_plan.specs.Faults.{if_whole, and_then}
 use Rattle.logical_plan.specs.Joins.{cell_beside, join_rows}
 use Rattle.logical_plan.specs.Typing.{is_box_of}
 use Rattle.plan_rewrite.specs.declared.stretch.Stretch.{Stretch}
-use Rattle.plan_rewrite.specs.Sides.{Sides, sides_of, box_of, of_between}
+use Rattle.plan_rewrite.specs.Sides.{Sides, box_of, of_between}
 use Rattle.plan_rewrite.specs.Stretches.{stretch, shared}
 use Rattle.plan_rewrite.proofs.BoxSteps.{swapped, within_both}
 

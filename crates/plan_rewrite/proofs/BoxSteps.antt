@@ -1,6 +1,6 @@
 -- A between goes below what works cell by cell, and two betweens are one.
 use Rattle.std.proofs.Common.{◌≡◌, ℕ, suc, ℤ, Bool, true, false, List, [], ◌∷◌, length, filter, cond, refl, sym, ap, ◌∙◌, arith}
-use Rattle.std.specs.Prelude.{◌&&◌, ◌==◌, int_le, IsTrue, Option, Some, None, Result, Ok, Err}
+use Rattle.std.specs.Prelude.{◌&&◌, ◌==◌, int_le, IsTrue, Option, Result, Ok, Err}
 use Rattle.std.specs.Int.{int_max, int_min}
 use Rattle.std.proofs.lemmas.Bool.{eqb-true, eq-eqb}
 use Rattle.std.proofs.lemmas.Int.{ints, clamps}
@@ -12,7 +12,7 @@ use Rattle.cell_values.specs.declared.schema.Schema.{Schema}
 use Rattle.array_rows.specs.Arrays.{Meant}
 use Rattle.array_rows.specs.Boxes.{by_pairs, corners, is_between, is_inside, within, meet}
 use Rattle.array_rows.specs.Cellwise.{cell_wise}
-use Rattle.array_rows.specs.Rows.{Coordinate, rows_where}
+use Rattle.array_rows.specs.Rows.{Coordinate}
 use Rattle.array_rows.proofs.RowsLemmas.{within-cell_wise}
 use Rattle.array_geom.proofs.LawProofs.{meet_holds_both}
 use Rattle.array_geom.proofs.TestLaws.{and_parts, and_both}
@@ -20,14 +20,14 @@ use Rattle.expr_nulls.specs.Expr.{Expr}
 use Rattle.logical_plan.specs.declared.parts.Applied.{Applied}
 use Rattle.logical_plan.specs.CellOps.{filter_cell, apply_cell, project_cell}
 use Rattle.logical_plan.specs.Faults.{if_whole}
-use Rattle.logical_plan.specs.Meaning.{Database, meaning}
+use Rattle.logical_plan.specs.Meaning.{meaning}
 use Rattle.logical_plan.specs.PlanSchema.{schema_of, apply_schema, project_schema}
 use Rattle.logical_plan.specs.Query.{Query, filtered, applied, projected, between}
 use Rattle.logical_plan.specs.Typing.{IsTyped, is_box_of}
 use Rattle.plan_rewrite.specs.declared.stretch.Stretch.{Stretch}
 use Rattle.plan_rewrite.specs.Needs.{needs}
 use Rattle.plan_rewrite.specs.Same.{IsSame}
-use Rattle.plan_rewrite.specs.Sides.{Sides, sides_of, of_between}
+use Rattle.plan_rewrite.specs.Sides.{Sides}
 use Rattle.plan_rewrite.specs.Stretches.{stretch, shared}
 
 -- ---- below what works cell by cell

@@ -1,7 +1,7 @@
 -- Items at places, when an item that no place names is left out.
 use Rattle.std.proofs.Common.{◌≡◌, ℕ, zero, suc, ◌+◌, ◌-◌, ◌<◌, ◌≤◌, Bool, true, false, List, [], ◌∷◌, ◌++◌, map, length, cond, Option, Some, None, refl, sym, ap, ◌∙◌, subst, append_assoc, length-append, arith}
-use Rattle.std.specs.Prelude.{◌==◌, ◌&&◌, ◌||◌, nat_lt, slice_get, slice_index_or}
-use Rattle.std.specs.List.{list_any, list_all, filter_map, cons_option}
+use Rattle.std.specs.Prelude.{◌==◌, ◌||◌, nat_lt, slice_get, slice_index_or}
+use Rattle.std.specs.List.{list_all, filter_map, cons_option}
 use Rattle.std.proofs.lemmas.Bool.{eqb-true, eq-eqb, ltb-true, ltb-false, lt-ltb, and_parts, and_from, or_parts, or_from, or_left, or_right}
 use Rattle.logical_plan.specs.BoxOps.{items_at}
 use Rattle.plan_rewrite.specs.Inner.Trimmed.{lower, lowered, kept, relocated}

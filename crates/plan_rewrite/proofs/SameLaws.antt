@@ -20,13 +20,13 @@ use Rattle.logical_plan.specs.CellOps.{filter_rows, apply_rows, project_rows}
 use Rattle.logical_plan.specs.Groups.{regrid_rows, window_rows, aggregate_rows}
 use Rattle.logical_plan.specs.Joins.{join_rows, cross_rows}
 use Rattle.logical_plan.specs.Leaves.{leaves}
-use Rattle.logical_plan.specs.Meaning.{Meant, Database, meaning, version_rows, made, made_of_two, redimensioned_from}
+use Rattle.logical_plan.specs.Meaning.{Database, meaning, version_rows, made, made_of_two, redimensioned_from}
 use Rattle.logical_plan.specs.PlanSchema.{schema_of, apply_schema, project_schema, subarray_schema, slice_schema, regrid_schema, window_schema, aggregate_schema, join_schema, cross_schema}
 use Rattle.logical_plan.specs.Query.{Query, filtered, applied, projected, between, subarray, sliced, joined, crossed, redimensioned, regridded, windowed, aggregated}
-use Rattle.logical_plan.specs.Typing.{IsTyped, is_over, fits_apply, are_below, are_apart, is_box_of, same_bounds, pairs_dimensions, redimensions, are_blocks_of, are_aggregates_of, are_windows_of}
+use Rattle.logical_plan.specs.Typing.{is_over, fits_apply, are_below, are_apart, is_box_of, same_bounds, pairs_dimensions, redimensions, are_blocks_of, are_aggregates_of, are_windows_of}
 use Rattle.plan_rewrite.specs.Needs.{is_scan, needs}
 use Rattle.plan_rewrite.specs.Same.{HasArrays, IsSame}
-use Rattle.plan_rewrite.specs.Sides.{Sides, whole, of_between, of_subarray, of_slice, of_left, of_right, of_regrid, of_aggregate, of_window}
+use Rattle.plan_rewrite.specs.Sides.{whole, of_between, of_subarray, of_slice, of_left, of_right, of_regrid, of_aggregate, of_window}
 
 pub refl_same : (query : Query) → IsSame query query
 refl_same query = record {

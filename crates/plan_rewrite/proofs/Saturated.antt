@@ -1,5 +1,5 @@
 -- Sums at the limits of 64 bits.
-use Rattle.std.proofs.Common.{◌≡◌, ℕ, ◌+◌, ◌*◌, ◌^◌, ℤ, pos, arith}
+use Rattle.std.proofs.Common.{◌≡◌, ℕ, ◌+◌, ◌^◌, ℤ, pos, arith}
 use Rattle.std.specs.Prelude.{◌-◌, ◌+ℤ◌, min}
 use Rattle.std.specs.Int.{w64, saturate_signed}
 use Rattle.std.specs.Int.RustNames.{FitsSigned}

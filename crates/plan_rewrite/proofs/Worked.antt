@@ -8,7 +8,7 @@ use Rattle.cell_values.specs.declared.schema.Dimension.{Dimension}
 use Rattle.cell_values.specs.declared.schema.Kind.TheVariants.{Int64}
 use Rattle.cell_values.specs.declared.schema.Schema.{Schema}
 use Rattle.array_rows.specs.Boxes.{corners}
-use Rattle.expr_nulls.specs.Expr.{Expr, literal, attribute_value, relation}
+use Rattle.expr_nulls.specs.Expr.{literal, attribute_value, relation}
 use Rattle.logical_plan.specs.declared.parts.AggFunction.TheVariants.{Sum}
 use Rattle.logical_plan.specs.declared.parts.Aggregate.{Aggregate}
 use Rattle.logical_plan.specs.PlanSchema.{join_schema, cross_schema}

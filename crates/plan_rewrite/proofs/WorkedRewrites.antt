@@ -1,5 +1,5 @@
 -- Small plans, and what is settled in their place.
-use Rattle.std.proofs.Common.{◌≡◌, ℕ, ℤ, pos, true, false, List, [], ◌∷◌, None, refl, codes}
+use Rattle.std.proofs.Common.{◌≡◌, ℕ, pos, true, false, List, [], ◌∷◌, None, refl, codes}
 use Rattle.cell_values.specs.declared.datum.CompareOp.TheVariants.{More}
 use Rattle.cell_values.specs.declared.datum.Datum.TheVariants.{Int}
 use Rattle.cell_values.specs.declared.schema.Bounds.{Bounds}

@@ -1,7 +1,6 @@
 -- When a plan may stand for another one.
 use Rattle.std.specs.Prelude.{◌≡◌, IsTrue}
 use Rattle.std.specs.List.{AllByRecursion}
-use Rattle.cell_values.specs.declared.schema.Bounds.{Bounds}
 use Rattle.array_rows.specs.Arrays.{AreRowsOf}
 use Rattle.logical_plan.specs.Leaves.{leaves}
 use Rattle.logical_plan.specs.Meaning.{Database, meaning, version_rows}

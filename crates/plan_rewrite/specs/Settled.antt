@@ -1,7 +1,6 @@
 -- When a plan is settled: boxes stand as low as they can, and nothing is computed that is dropped at once.
 use Rattle.std.specs.Prelude.{ℕ, ◌+◌, ◌==◌, Bool, true, false, not, ◌&&◌, List, [], ◌∷◌, length}
 use Rattle.std.specs.List.{list_any}
-use Rattle.logical_plan.specs.declared.parts.Applied.{Applied}
 use Rattle.logical_plan.specs.PlanSchema.{schema_of}
 use Rattle.logical_plan.specs.Query.{Query, built, listed, scanned, filtered, applied, projected, between, subarray, sliced, joined, crossed, redimensioned, regridded, windowed, aggregated}
 

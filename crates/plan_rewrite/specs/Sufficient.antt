@@ -1,7 +1,7 @@
 -- The needs of a plan are sufficient: its meaning depends on its wanted chunks alone.
 use Rattle.std.specs.Prelude.{◌≡◌, Bool, true, false, IsTrue}
 use Rattle.logical_plan.specs.Meaning.{Database, meaning}
-use Rattle.logical_plan.specs.Query.{Query, built, listed, scanned, filtered, applied, projected, between, subarray, sliced, joined, crossed, redimensioned, regridded, windowed, aggregated}
+use Rattle.logical_plan.specs.Query.{Query, built, listed, scanned, filtered, applied, projected, between}
 use Rattle.logical_plan.specs.Typing.{IsTyped}
 use Rattle.plan_rewrite.specs.Same.{HasArrays}
 use Rattle.plan_rewrite.specs.Wanted.{whole_need, AreAlikeFor}
