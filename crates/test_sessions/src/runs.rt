@@ -39,12 +39,14 @@ fn shelf_of(alloc: Global, file: &[u8], scripts: &[&str]) -> Result<MemShelf, Me
     Ok(MemShelf::new(files, List::new(alloc), List::new(alloc)))
 }
 
-/// The words of a command line.
-fn words_of(alloc: Global, line: &str) -> Result<Vec<Arg>, AllocError> {
+fn word_of(alloc: Global, text: &str) -> Result<Arg, AllocError> {
+    Ok(Arg::new(String::from_str(alloc, text)?))
+}
+
+fn words_of(alloc: Global, texts: &[&str]) -> Result<Vec<Arg>, AllocError> {
     let mut words = Vec::new(alloc);
-    for word in line.split_whitespace() {
-        let word = String::from_str(alloc, word)?;
-        words.push(Arg::new(word))?;
+    for text in texts {
+        words.push(word_of(alloc, text)?)?;
     }
     Ok(words)
 }
@@ -58,7 +60,8 @@ fn report_of<R: AllocGlobal + Threads + Wait + Sync, G: Gate>(
     gate: &G,
 ) -> Result<Report<MemShelf>> {
     let alloc = rt.alloc();
-    let words = words_of(alloc, line)?;
+    let texts: Vec<&str> = line.split_whitespace().collect(alloc)?;
+    let words = words_of(alloc, texts.as_slice())?;
     let shelf = shelf_of(alloc, file, scripts)?;
     Ok(run(rt, alloc, words.as_slice(), shelf, gate))
 }
