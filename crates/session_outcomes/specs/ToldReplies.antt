@@ -14,7 +14,7 @@ use Rattle.session_sources.specs.Start.{Start}
 use Rattle.session_sources.specs.Seats.{ledger_seen, seen, session_of, start}
 use Rattle.session_replies.specs.Acts.{looking}
 use Rattle.session_replies.specs.Refusals.{IsUnreadReply}
-use Rattle.session_replies.specs.Replies.{names_before, words_of, BeganAsNone, HasFault, HasLine, HoldsBehindPin, HoldsWhereRefused, IsPayloadPage, IsToldFor}
+use Rattle.session_replies.specs.Replies.{names_before, words_of, BeganAsNone, HasFault, HasLine, HoldsBehindPin, HoldsWhereRefused, IsDamagedPage, IsToldFor}
 use Rattle.session_replies.specs.declared.reply.Reply.{Reply}
 use Rattle.session_sources.specs.declared.reading.Reading.{Reading}
 use Rattle.session_sources.specs.Courses.{AddsAtMostFault}
@@ -32,10 +32,10 @@ module _ {D : Type 0} (moment : D → Moment) (start : Start D) (session pin : �
     pub behind : HoldsBehindPin moment start session pin events own text tree reply
     pub said : IsSaid moment start events text tree reply.place (Replied (words_of reply))
 
-  -- why a source gave no answer: that it was damaged, only where the file began as no database
+  -- why a source gave no answer: that it was damaged, only where the file began as no database, and had that damage
   abbrev pub IsCause : ExecFault → Type 0
   IsCause Source = HasFault session own
-  IsCause (Damaged page) = IsPayloadPage start events reply.place page × BeganAsNone moment start
+  IsCause (Damaged page) = IsDamagedPage moment start events reply.place page × BeganAsNone moment start
   IsCause Memory = Unit {0}
 
   pub record IsCausedSincePin (fault : ExecFault) : Type 0 where

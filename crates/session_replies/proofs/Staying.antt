@@ -32,7 +32,7 @@ use Rattle.told_stores.specs.Told.{entries_in, is_sealed, told}
 use Rattle.told_stores.proofs.Telling.{entries_in-append}
 use Rattle.session_replies.specs.Acts.{Course, nothing, looking, trying, making}
 use Rattle.session_replies.specs.Laws.{RepliesStay}
-use Rattle.session_replies.specs.Replies.{names_before, EnteredAt, HadNoRoom, HadRoomFor, HasFault, HoldsSincePin, HoldsWhereRefused, IsAllowedAt, IsChangeAt, IsPayloadPage, IsToldFor, Says, SaysChange, WasAt, WasUncommitted}
+use Rattle.session_replies.specs.Replies.{names_before, EnteredAt, HadNoRoom, HadRoomFor, HasFault, HoldsSincePin, HoldsWhereRefused, IsAllowedAt, IsChangeAt, IsDamagedPage, IsToldFor, Says, SaysChange, WasAt, WasUncommitted}
 use Rattle.session_replies.specs.declared.reply.Reply.{Reply}
 use Rattle.session_replies.proofs.Beginnings.{history_stays, places_see_the_same, reached}
 
@@ -80,13 +80,14 @@ module _ {D : Type 0} (moment : D → Moment) (start : Start D) (old more : List
     told = λ db began. ap (λ (answer : Accepted). answer.change) (same_reply db) ∙ s.told db began;
   }
 
-  pub page_later : (page : ℕ) → list_all is_sealed old ≡ true → IsPayloadPage start old place page → IsPayloadPage start (old ++ more) place page
+  pub page_later : (page : ℕ) → list_all is_sealed old ≡ true → IsDamagedPage moment start old place page → IsDamagedPage moment start (old ++ more) place page
   page_later page sealed p = record {
     leaf = p.leaf;
     at = p.at;
     named = subst (λ (names : Names). IsLeafOf names p.leaf) (sym names_stay) p.named;
     begins = subst (λ (found : Option DirEntry). IsSomeAnd found (λ entry. page ≡ slice_index entry.pages 0))
         (sym ((places_see_the_same start old more place within sealed).payloads p.leaf p.at)) p.begins;
+    was = p.was;
   }
 
   allowed_later : IsAllowedAt start old text tree place → IsAllowedAt start (old ++ more) text tree place

@@ -31,6 +31,7 @@ use Rattle.store_ledger.specs.Ledger.{has_room}
 use Rattle.store_state.specs.declared.event.Event.{Event}
 use Rattle.store_state.specs.declared.event.Event.TheVariants.{Noted}
 use Rattle.store_state.specs.Calls.{database_with, history_at, payload_at, IsLeafOf}
+use Rattle.store_state.specs.Payloads.{HasTold, WasDamagedAt}
 use Rattle.store_state.specs.Standings.{base_of, BeganAs}
 use Rattle.told_stores.specs.Start.{Start}
 use Rattle.told_stores.specs.CommitFault.{CommitFault}
@@ -83,12 +84,14 @@ pub record WasAt (place : ℕ) (then now : List Event) : Type 0 where
 abbrev pub HasFault : ℕ → List Event → Type 0
 HasFault session own = (after : ℕ) × Contains own (Noted (record { session = session; kind = Fault; after = after }))
 
--- the payload of some chunk of an array that could be named at a place begins at a page
-pub record IsPayloadPage {D : Type 0} (start : Start D) (events : List Event) (place page : ℕ) : Type 0 where
+-- DAMAGE: the payload of some chunk of an array that could be named at a place begins at a page. Where an honest disk told its bytes as it was
+-- opened, a payload was listed then that begins there, and by that array's schema it wasn't whole
+pub record IsDamagedPage {D : Type 0} (moment : D → Moment) (start : Start D) (events : List Event) (place page : ℕ) : Type 0 where
   pub leaf : Leaf
   pub at : ArrayVec ℕ
   pub named : IsLeafOf (names_before start events place) leaf
   pub begins : IsSomeAnd (payload_at (told start events) place leaf at) (λ entry. page ≡ slice_index entry.pages 0)
+  pub was : (file : List ℕ) → HasTold (moment start.opened.disk).state file → WasDamagedAt page (told start events).first file leaf.schema
 
 -- the file began as no database
 abbrev pub BeganAsNone : {D : Type 0} → (D → Moment) → Start D → Type 0
@@ -149,7 +152,7 @@ module _ {D : Type 0} (moment : D → Moment) (start : Start D) (session pin : �
   IsToldFor (Some HistoryFull) nothing = (then : List Event) × WasAt reply.place then new × (has_room (ledger_of start then) 4 ≡ false)
   IsToldFor (Some Disk) looking = HoldsWhereRefused × HasFault session own × IsAllowedAt start new text tree reply.place
   IsToldFor (Some Disk) (trying change) = HoldsSincePin × HasFault session own × WasUncommitted change (faults.Disk reply.place)
-  IsToldFor (Some (Damaged page)) looking = HoldsWhereRefused × IsPayloadPage start new reply.place page × BeganAsNone moment start
+  IsToldFor (Some (Damaged page)) looking = HoldsWhereRefused × IsDamagedPage moment start new reply.place page × BeganAsNone moment start
       × IsAllowedAt start new text tree reply.place
   IsToldFor (Some SequenceEnd) (trying change) = HoldsSincePin × WasUncommitted change (faults.SequenceEnd reply.place)
   IsToldFor (Some (Full needed free)) (trying change) = HoldsSincePin × WasUncommitted change (faults.Full needed free reply.place)

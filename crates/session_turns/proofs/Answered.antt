@@ -31,6 +31,7 @@ use Rattle.store_state.specs.declared.event.Event.TheVariants.{Acknowledged}
 use Rattle.store_state.specs.declared.parts.StoreParts.{StoreParts}
 use Rattle.store_state.specs.Calls.{history_at, payload_at, IsLeafOf}
 use Rattle.store_state.specs.Events.{events}
+use Rattle.store_state.specs.Payloads.{HasTold, WasDamagedAt}
 use Rattle.store_state.specs.Standings.{base_of, Standing}
 use Rattle.session_outcomes.specs.Growth.{tried_events}
 use Rattle.session_outcomes.specs.Tried.{AddsSealed, AddsTried}
@@ -46,12 +47,12 @@ use Rattle.session_outcomes.specs.Databases.{HasDatabase}
 use Rattle.session_outcomes.specs.Held.{names_now}
 use Rattle.session_outcomes.specs.Seats.{store_of}
 use Rattle.session_outcomes.specs.Start.{Start}
-use Rattle.session_outcomes.specs.Stored.{BeginsPayload}
+use Rattle.session_outcomes.specs.Stored.{BeginsDamage}
 use Rattle.session_outcomes.specs.Told.{entries_in, ledger_of, told, IsTold}
 use Rattle.session_outcomes.specs.Refusals.{IsUncommittedReply, IsUnreadReply, IsWant, Refuses}
 use Rattle.session_outcomes.proofs.Staying.{says_later}
 use Rattle.session_outcomes.specs.Acts.{acts_in, looking, making, makes, tries, trying}
-use Rattle.session_outcomes.specs.Replies.{names_before, words_of, BeganAsNone, EnteredAt, HadRoomFor, HasLine, HoldsWhereRefused, IsAllowedAt, IsChangeAt, IsPayloadPage, IsToldFor, Says, SaysChange, WasUncommitted}
+use Rattle.session_outcomes.specs.Replies.{names_before, words_of, BeganAsNone, EnteredAt, HadRoomFor, HasLine, HoldsWhereRefused, IsAllowedAt, IsChangeAt, IsDamagedPage, IsToldFor, Says, SaysChange, WasUncommitted}
 use Rattle.session_outcomes.specs.Reply.{Reply}
 use Rattle.session_outcomes.specs.Said.{IsSaid}
 use Rattle.session_outcomes.specs.ToldReplies.{IsLookedReply}
@@ -151,10 +152,10 @@ module _ {D : Type 0} (moment : D → Moment) (session : ℕ) (old new : Turn (S
     allowed_told at a = (a.0, ap (λ (names : Names). check_of tree text names) (names_told at) ∙ a.1)
 
     -- a damaged page is told of an array that can be named
-    page_told : (page : ℕ) → reply.place ≡ length n.ledger.entries → read.marks.damaged ≡ Some page → IsPayloadPage began (events n) reply.place page
+    page_told : (page : ℕ) → reply.place ≡ length n.ledger.entries → read.marks.damaged ≡ Some page → IsDamagedPage moment began (events n) reply.place page
     page_told page at e =
-        let b : BeginsPayload (names_now s.ledger) s (length s.ledger.entries) page =
-        subst (λ (found : Option ℕ). IfSome found (BeginsPayload (names_now s.ledger) s (length s.ledger.entries))) e read.held.damaged in
+        let b : BeginsDamage moment (names_now s.ledger) s (length s.ledger.entries) page =
+        subst (λ (found : Option ℕ). IfSome found (BeginsDamage moment (names_now s.ledger) s (length s.ledger.entries))) e read.held.damaged in
         let there : length s.ledger.entries ≡ reply.place = sym (at ∙ ap (λ (es : List Entry). length es) same_entries) in
         let seen : payload_at s (length s.ledger.entries) b.leaf b.number ≡ payload_at (told began (events n)) reply.place b.leaf b.number =
         ap (λ (place : ℕ). payload_at s place b.leaf b.number) there
@@ -165,6 +166,8 @@ module _ {D : Type 0} (moment : D → Moment) (session : ℕ) (old new : Turn (S
           at = b.number;
           named = subst (λ (names : Names). IsLeafOf names b.leaf) (sym (names_told at)) b.of;
           begins = subst (λ found. IsSomeAnd found (λ entry. page ≡ slice_index entry.pages 0)) seen b.begins;
+          was = λ file tells. subst (λ (x : Standing D). WasDamagedAt page x.first file b.leaf.schema) (sym read.held.same ∙ after)
+              (b.was file (subst (λ (x : Standing D). HasTold (moment x.opened.disk).state file) (sym after ∙ read.held.same) tells));
         }
 
     -- a database that the store began as has no damage

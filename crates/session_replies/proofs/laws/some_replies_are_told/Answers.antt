@@ -41,7 +41,7 @@ returns c = record {
   );
   damaged = (
     inl refl,
-    record { leaf = worked_leaf; at = record { items = 0 ∷ [] }; named = (refl, inl refl); begins = refl },
+    record { leaf = worked_leaf; at = record { items = 0 ∷ [] }; named = (refl, inl refl); begins = refl; was = λ file tells. absurd (true≢false (sym tells.honest)) },
     unknown,
     (AChange (Remove (codes "A")), refl),
   );
