@@ -16,7 +16,7 @@ use Rattle.event_core.specs.declared.entry.Entry.TheVariants.{Commit}
 use Rattle.event_core.specs.Bases.{sequence_at}
 use Rattle.event_core.specs.History.{History, names_at}
 use Rattle.result_print.specs.declared.refusal.Refusal.{Refusal}
-use Rattle.result_print.specs.declared.refusal.Refusal.TheVariants.{TooLong, Parse, HistoryFull, NotBuilt, Typing, Cell, Disk, Damaged, SequenceEnd, Full, Memory}
+use Rattle.result_print.specs.declared.refusal.Refusal.TheVariants.{TooLong, Parse, HistoryFull, Typing, Cell, Disk, Damaged, SequenceEnd, Full, Memory}
 use Rattle.statement_answers.specs.Outcomes.{leaves_for}
 use Rattle.statement_replies.specs.Statements.{Accepted, reply_to}
 use Rattle.statement_replies.specs.StatementKinds.{HasStatementKind}
@@ -158,10 +158,6 @@ module _ {D : Type 0} (moment : D â†’ Moment) (start : Start D) (session pin : â
   told_stays (Some HistoryFull) looking t = absurd t
   told_stays (Some HistoryFull) (trying change) t = absurd t
   told_stays (Some HistoryFull) (making change) t = absurd t
-  told_stays (Some NotBuilt) nothing t = absurd t
-  told_stays (Some NotBuilt) looking t = absurd t
-  told_stays (Some NotBuilt) (trying change) t = absurd t
-  told_stays (Some NotBuilt) (making change) t = absurd t
   told_stays (Some (Typing span kind)) nothing t = absurd t
   told_stays (Some (Typing span kind)) looking t = (where_stays t.0, says_later moment start old more text tree reply.place within _ t.1)
   told_stays (Some (Typing span kind)) (trying change) t = absurd t
