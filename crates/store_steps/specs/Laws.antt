@@ -31,7 +31,7 @@ SealedStoresAreKept {D} moment = (s : Standing D) (k : Keeping) (p : Prepared) (
     → NotesFault (moment s.disk).state (moment disk).state p.session (sealed_ledger s p) ledger
     → IsKept moment (sealed moment s p ledger disk) (sealed_keeping s k p) (history ledger) (given_of (sealed moment s p ledger disk))
 
--- where it stopped, since a call failed
+-- where it stopped, since a call failed or found no memory
 abbrev pub StoppedStoresAreKept : {D : Type 0} → (D → Moment) → Type 0
 StoppedStoresAreKept {D} moment = (s : Standing D) (k : Keeping) (p : Prepared) (stage : Stopped) (later : Slots)
     (ledger : LedgerState) (disk : D)
