@@ -113,9 +113,13 @@ module _ {D : Type 0} (moment : D → Moment) (shared : Shared D) (pinned : Pinn
         (pinned_state moment first) (pinned_state moment last)) → IfErr result (SaysWhy moment (reading_of shared pinned old new last.marks)) →
         IfErr result (MayLack pinned.names (check_of tree text pinned.names))
     lack_by (Ok outcome) read may front why = tt
-    lack_by (Err fault) read may front why =
+    lack_by (Err Source) read may front why =
         may_lack pinned.names (check_of tree text pinned.names) (pinned_state moment first) (pinned_state moment last) last.marks front
-        (ap (λ (r : Reading D). r.marks.asked) made) refl read.unasked fault may why
+        (ap (λ (r : Reading D). r.marks.asked) made) refl read.unasked Source may why
+    lack_by (Err (Damaged page)) read may front why =
+        may_lack pinned.names (check_of tree text pinned.names) (pinned_state moment first) (pinned_state moment last) last.marks front
+        (ap (λ (r : Reading D). r.marks.asked) made) refl read.unasked (Damaged page) may why
+    lack_by (Err Memory) read may front why = tt
 
     pub was_read : (result : Result Outcome ExecFault) → HasRead moment last → IfOk result (HasOutcomeKind pinned.names (check_of tree text pinned.names)) →
         IfOk result (TellsBy first) → IfOk result (AsksBy first) → Answers (pinned_state moment first) (pinned_state moment last) result →
