@@ -4,6 +4,7 @@ use Rattle.afl_outside.specs.Counts.{Rose, risen}
 use Rattle.afl_outside.specs.Disk.{DiskGoesOn, IsNewDisk, Moment, Only}
 use Rattle.afl_outside.specs.Shelf.{LeavesOthers, ShelfState}
 use Rattle.page_file.specs.Start.{IsEmptyDatabase}
+use Rattle.page_slots.specs.Puts.{OnlySyncs}
 use Rattle.file_laws.proofs.Made.{made_stands}
 use Rattle.run_opening.specs.Names.{Word}
 use Rattle.run_opening.specs.Opened.{FailsToOpenDevice, IsOpenedDevice, LeavesUnasked}
@@ -36,6 +37,15 @@ only_asked asked old new others = record {
 module _ (asked : Word) (old new : Moment) (handed : IsNewDisk asked old.state) (goes : DiskGoesOn old.state new.state) where
   began : old.state.seen ≡ new.state.first
   began = handed.seen ∙ sym goes.first
+
+  kept_each : (o : Option (List ℕ)) → IfSome o (λ seen. length seen ≢ 0 → OnlySyncs old new)
+      → IfSome o (λ bytes. length bytes ≢ 0 → new.state.seen ≡ new.state.first)
+  kept_each None kept = tt
+  kept_each (Some seen) kept = λ some. (kept some).seen ∙ began
+
+  -- a device that had bytes reads as it began
+  stays : IfSome old.state.seen (λ seen. length seen ≢ 0 → OnlySyncs old new) → IfSome new.state.first (λ bytes. length bytes ≢ 0 → new.state.seen ≡ new.state.first)
+  stays kept = subst (λ (o : Option (List ℕ)). IfSome o (λ bytes. length bytes ≢ 0 → new.state.seen ≡ new.state.first)) began (kept_each old.state.seen kept)
 
   pub opened_as : (shelf : ShelfState) → IfSome (shelf.devices asked) (λ bytes. old.state.first ≡ Some bytes) → IsOpenedDevice asked shelf new.state
   opened_as shelf content = record {
@@ -100,13 +110,14 @@ module _ {D F : Type 0} (moment : D → Moment) (state : F → ShelfState) (aske
   makes_at : (now : ShelfState) (disk : Moment) (notice : Notice) (device : Option D) → IsNewDisk asked disk.state
       → IfSome (before.devices asked) (λ bytes. disk.state.first ≡ Some bytes) → LeavesOthers asked before now → now.handed ≡ risen before.handed
       → IfSome device (λ d. DiskGoesOn disk.state (moment d).state) → IfSome device (λ d. Makes notice disk (moment d)) → IsSome device
-      → MakesDatabase moment before now notice asked device
-  makes_at now disk notice None new content others handed goes makes some = absurd (cc (some))
-  makes_at now disk notice (Some d) new content others handed goes makes some = record {
+      → IfSome device (λ d. IfSome disk.state.seen (λ seen. length seen ≢ 0 → OnlySyncs disk (moment d))) → MakesDatabase moment before now notice asked device
+  makes_at now disk notice None new content others handed goes makes some kept = absurd (cc (some))
+  makes_at now disk notice (Some d) new content others handed goes makes some kept = record {
     is_asked = opened_as asked disk (moment d) new goes before content;
     others = only_asked asked before now others;
     handed = λ fits. omega (arith, handed, fits);
     made = tells asked disk (moment d) new goes notice makes;
+    kept = stays asked disk (moment d) new goes kept;
     unopened = λ none. absurd (cc (none));
     complete = complete_of notice disk (moment d) goes (tells asked disk (moment d) new goes notice makes) (before.devices asked) content;
   }
@@ -115,10 +126,10 @@ module _ {D F : Type 0} (moment : D → Moment) (state : F → ShelfState) (aske
   pub makes : (shelf after : F) (disk : Moment) (notice : Notice) (device : Option D) → IsNewDisk asked disk.state
       → IfSome (before.devices asked) (λ bytes. disk.state.first ≡ Some bytes) → LeavesOthers asked before (state shelf) → (state shelf).handed ≡ risen before.handed
       → after ≡ shelf → IfSome device (λ d. DiskGoesOn disk.state (moment d).state) → IfSome device (λ d. Makes notice disk (moment d)) → IsSome device
-      → MakesDatabase moment before (state after) notice asked device
-  makes shelf after disk notice device new content others handed is goes made some =
+      → IfSome device (λ d. IfSome disk.state.seen (λ seen. length seen ≢ 0 → OnlySyncs disk (moment d))) → MakesDatabase moment before (state after) notice asked device
+  makes shelf after disk notice device new content others handed is goes made some kept =
       at_shelf state (λ (s : ShelfState). MakesDatabase moment before s notice asked device) after shelf is
-      (makes_at (state shelf) disk notice device new content others handed goes made some)
+      (makes_at (state shelf) disk notice device new content others handed goes made some kept)
 
   makes_none : (now : ShelfState) (notice : Notice) → FailsToOpenDevice asked notice before now → LeavesOthers asked before now → now.handed ≡ before.handed
       → MakesDatabase moment before now notice asked None
@@ -127,6 +138,7 @@ module _ {D F : Type 0} (moment : D → Moment) (state : F → ShelfState) (aske
     others = only_asked asked before now others;
     handed = λ fits. omega (arith, handed);
     made = tt;
+    kept = tt;
     unopened = λ none. fails;
     complete = complete_none asked notice before now (before.devices asked) refl fails;
   }

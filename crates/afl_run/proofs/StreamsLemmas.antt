@@ -35,7 +35,7 @@ use Rattle.session_threads.specs.Histories.{IsMarkedIn}
 use Rattle.store_state.specs.declared.event.Event.{Event}
 use Rattle.afl_run.specs.Run.{AreOfScripts, BeganFrom, HandsOutStreams, IsOfStore, RunsScripts, TellsUnrun}
 use Rattle.afl_run.specs.Inner.Over.{IsUnrun, RunsOver}
-use Rattle.afl_run.specs.Inner.Streams.{IsUntouched, RunsOn}
+use Rattle.afl_run.specs.Inner.Streams.{IsAsBegun, RunsOn}
 use Rattle.page_chain.proofs.RunLemmas.{stands}
 use Rattle.afl_run.proofs.MakingLemmas.{opened_as as is_opened}
 use Rattle.afl_run.proofs.Reporting.{opened_as, prints, zip_at, zip_places}
@@ -146,23 +146,24 @@ module _ {D S K : Type 0} (moment : D → Moment) (source_state : S → SourceSt
     pages = over.runs.ends.pages;
     reaped = over.runs.ends.reaped;
     cells = over.runs.ends.cells;
+    payloads = over.runs.ends.payloads;
   }
 
 -- ---- once the device was opened
 
 -- what is told of an opened store is told of the device
-tells_unopened : (notice : Notice) (asked : Word) (scripts : List Word) (disk later : DiskState) (old new : ShelfState) → IsUntouched disk → DiskGoesOn disk later
+tells_unopened : (notice : Notice) (asked : Word) (scripts : List Word) (disk later : DiskState) (old new : ShelfState) → IsAsBegun disk → DiskGoesOn disk later
     → TellsUnopened notice disk later → TellsUnrun notice asked scripts (Some later) old new
-tells_unopened notices.Memory asked scripts disk later old new untouched goes tells = tt
-tells_unopened notices.Disk asked scripts disk later old new untouched goes tells = subst (λ (n : ℕ). Rose n later.faults) untouched.faults tells
-tells_unopened (notices.NotDatabase page) asked scripts disk later old new untouched goes tells =
-    subst (λ (o : Option (List ℕ)). IfSome o (IsWrongAt page)) (untouched.seen ∙ sym goes.first) tells
-tells_unopened notices.Done asked scripts disk later old new untouched goes tells = absurd tells
-tells_unopened notices.Refused asked scripts disk later old new untouched goes tells = absurd tells
-tells_unopened (notices.Usage word) asked scripts disk later old new untouched goes tells = absurd tells
-tells_unopened (notices.Stream session) asked scripts disk later old new untouched goes tells = absurd tells
-tells_unopened (notices.NotEmpty count) asked scripts disk later old new untouched goes tells = absurd tells
-tells_unopened (notices.Damaged page) asked scripts disk later old new untouched goes tells = absurd tells
+tells_unopened notices.Memory asked scripts disk later old new begins goes tells = tt
+tells_unopened notices.Disk asked scripts disk later old new begins goes tells = subst (λ (n : ℕ). Rose n later.faults) begins.faults tells
+tells_unopened (notices.NotDatabase page) asked scripts disk later old new begins goes tells =
+    subst (λ (o : Option (List ℕ)). IfSome o (IsWrongAt page)) (begins.seen ∙ sym goes.first) tells
+tells_unopened notices.Done asked scripts disk later old new begins goes tells = absurd tells
+tells_unopened notices.Refused asked scripts disk later old new begins goes tells = absurd tells
+tells_unopened (notices.Usage word) asked scripts disk later old new begins goes tells = absurd tells
+tells_unopened (notices.Stream session) asked scripts disk later old new begins goes tells = absurd tells
+tells_unopened (notices.NotEmpty count) asked scripts disk later old new begins goes tells = absurd tells
+tells_unopened (notices.Damaged page) asked scripts disk later old new begins goes tells = absurd tells
 
 -- of a store that isn't opened no stream is told
 pub stops_nowhere : {S K : Type 0} (source_state : S → SourceState) (sink_state : K → SinkState) (notice : Notice) (scripts : List Word) (disk later : DiskState)
@@ -222,7 +223,7 @@ module _ {D S K : Type 0} (moment : D → Moment) (source_state : S → SourceSt
   }
 
   module _ (streams : List (Streams S K)) (run : StoreRun D S K) (opened : AreOpenedFor source_state sink_state old scripts streams) (hands : HandsOut (length scripts) old now)
-      (some : 1 ≤ length scripts) (untouched : IsUntouched (moment disk).state) (goes : DiskGoesOn (moment disk).state (moment run.disk).state) where
+      (some : 1 ≤ length scripts) (begins : IsAsBegun (moment disk).state) (goes : DiskGoesOn (moment disk).state (moment run.disk).state) where
     all_replies : (reported : (length run.sessions ≡ 0) ⊎ (length scripts ≡ length run.sessions)) → HandsOutStreams 0 (length scripts) (length run.sessions) old now
     all_replies reported = record {
       replies = length scripts;
@@ -241,7 +242,7 @@ module _ {D S K : Type 0} (moment : D → Moment) (source_state : S → SourceSt
       goes_on = goes;
       others = others;
       handed = all_replies (inl (ap length unrun.none));
-      none = λ is. (unrun.nothing, unrun.no_pages, λ asked. tells_unopened run.notice asked scripts (moment disk).state (moment run.disk).state old now untouched goes unrun.cause);
+      none = λ is. (unrun.nothing, unrun.no_pages, λ asked. tells_unopened run.notice asked scripts (moment disk).state (moment run.disk).state old now begins goes unrun.cause);
       told = λ ran. absurd (ran unrun.none);
       one = λ ran. absurd (ran unrun.none);
     }
@@ -259,11 +260,11 @@ module _ {D S K : Type 0} (moment : D → Moment) (source_state : S → SourceSt
       began_from : BeganFrom moment limits.pages limits.history (Some run.disk) end
       began_from = record {
         is_device = ap Some over.runs.ends.is_disk;
-        first = over.opened.synced.seen ∙ untouched.seen ∙ sym goes_end.first;
+        first = over.opened.synced.seen ∙ begins.seen ∙ sym goes_end.first;
         honest = over.opened.synced.same.honest ∙ sym goes_end.honest;
         entries = over.opened.entries;
         page_limit = over.opened.pages;
-        found = subst (λ (o : Option (List ℕ)). IfSome o (λ file. IsOpenedFrom limits.pages file (start_of end))) (untouched.seen ∙ sym goes_end.first) over.opened.opened;
+        found = subst (λ (o : Option (List ℕ)). IfSome o (λ file. IsOpenedFrom limits.pages file (start_of end))) (begins.seen ∙ sym goes_end.first) over.opened.opened;
       }
 
       on_over : RunsOn moment source_state sink_state old now run.notice run.history run.sessions run.free_pages disk scripts limits.pages limits.history (Some run.disk)
@@ -391,7 +392,8 @@ module _ (asked : Word) (scripts : List Word) (old mid : ShelfState) (others : L
         none = λ is. absurd (cc (is));
         all = λ is fits. let h : new.handed ≡ mid.handed + length scripts = on.all is (omega (arith, fits, handed)) in omega (arith, h, handed, fits);
       };
-      first = λ is. (mid, others, on.first is);
+      first = λ is. (mid, others, (λ fits. omega (arith, handed, fits)), on.first is);
+      unasked = λ is. absurd (cc (is));
       unwritten = λ is. on.unwritten is ∙ is_new.seen ∙ sym on.goes_on.first;
       none = λ is. let n = on.none is in (n.0, n.1, tells_since notice (moment later).state new (n.2 asked));
       told = on.told;
@@ -410,6 +412,7 @@ module _ {D S K : Type 0} (moment : D → Moment) (source_state : S → SourceSt
     handed = record { replies = 0; handed = λ fits. omega (arith, handed); most = omega arith; reported = inl refl };
     in_order = record { none = λ is fits. omega (arith, handed); all = tt };
     first = λ is. tt;
+    unasked = λ is. others;
     unwritten = λ is. tt;
     none = λ is. (
       refl,

@@ -14,7 +14,8 @@ use Rattle.plan_changes.specs.Databases.{Database}
 use Rattle.store_ledger.specs.Ledger.{IsLedger, history as history_of, reap_comes, unused_pages}
 use Rattle.store_state.specs.declared.event.Event.{Event}
 use Rattle.store_state.specs.Events.{events, owner_of}
-use Rattle.store_state.specs.Standings.{BeganAs, Standing}
+use Rattle.store_state.specs.Payloads.{HasPayloads, HasTold}
+use Rattle.store_state.specs.Standings.{BeganAs, Standing, given_of}
 use Rattle.store_state.specs.Inner.Keeping.{AreCounted}
 use Rattle.session_threads.specs.Told.{is_sealed}
 use Rattle.session_reports.specs.declared.reports.SessionReport.{SessionReport}
@@ -58,3 +59,6 @@ module _ {D S K : Type 0} (moment : D → Moment) (source_state : S → SourceSt
     pub reaped : (notice ≡ Memory → ⊥) → reap_comes store.ledger ≡ false
     pub causes : HasCause sessions notice store
     pub cells : (db : Database) → BeganAs (moment store.opened.disk).state db → HoldsHistory moment store db
+    -- whatever the file stood for as it was opened, each image has each payload, whole or with the bytes of then
+    pub payloads : (file : List ℕ) → HasTold (moment store.opened.disk).state file → (image : List ℕ) → (moment store.disk).may_leave image
+        → HasPayloads store.ledger.base (given_of store) file (history_of store.ledger) image

@@ -38,7 +38,8 @@ pub record HandsOutStreams (devices scripts reports : ℕ) (old new : ShelfState
   pub most : replies ≤ scripts
   pub reported : (reports ≡ 0) ⊎ (replies ≡ reports)
 
--- Where no session ran, of the device if it was opened: its count rose, or what it began with is no database, first at this page; or else of the shelf
+-- Where no session ran, of the device if it was opened: its count rose, or what it began with is no database, first at this page; or else of the shelf.
+-- Want of memory tells nothing
 abbrev pub TellsUnrun : Notice → Word → List Word → Option DiskState → ShelfState → ShelfState → Type 0
 TellsUnrun notices.Memory asked scripts device old new = Unit {0}
 TellsUnrun notices.Disk asked scripts None old new = FailsToOpenDevice asked notices.Disk old new
@@ -49,7 +50,7 @@ TellsUnrun (notices.NotDatabase page) asked scripts None old new = ⊥
 TellsUnrun (notices.NotDatabase page) asked scripts (Some disk) old new = IfSome disk.first (IsWrongAt page)
 TellsUnrun _ asked scripts device old new = ⊥
 
--- the store was to be opened when it failed
+-- a notice of the store, where the device was opened
 abbrev pub IsOfStore : Notice → Type 0
 IsOfStore notices.Disk = Unit {0}
 IsOfStore (notices.NotDatabase page) = Unit {0}
@@ -105,8 +106,11 @@ module _ {D S K : Type 0} (moment : D → Moment) (source_state : S → SourceSt
     pub handed : HandsOutStreams (devices_in device) (length scripts) (length sessions) old new
     pub in_order : HandsOutInOrder device (length scripts) notice old new
     -- once the device was opened, the first stream that failed decided, and nothing behind it was asked for
-    pub first : sessions ≡ [] → IfSome device (λ _. (opened : ShelfState) × LeavesOthers asked old opened × StopsAt source_state sink_state scripts opened new notice)
-    -- where no session ran, nothing was written to the device
+    pub first : sessions ≡ [] → IfSome device (λ _. (opened : ShelfState) × LeavesOthers asked old opened × HandsOut 1 old opened
+        × StopsAt source_state sink_state scripts opened new notice)
+    -- without a device nothing else was asked for
+    pub unasked : device ≡ None → LeavesOthers asked old new
+    -- where no session ran, the device reads as it began
     pub unwritten : sessions ≡ [] → IfSome device (λ disk. (moment disk).state.seen ≡ (moment disk).state.first)
     pub none : sessions ≡ [] → (history ≡ []) × (free ≡ 0) × TellsUnrun notice asked scripts (state_in moment device) old new
     pub told : TellsSessions notice sessions
@@ -126,7 +130,8 @@ module _ {D S K : Type 0} (moment : D → Moment) (source_state : S → SourceSt
     pub damaged : (page : ℕ) → notice ≢ notices.Damaged page
     -- where the shelf tells that it opens both streams, and no count of theirs rose, the script was answered, but for memory
     pub complete : IsSome (old.scripts standard) → IsSome (old.replies standard)
-        → All (λ report. (Rose 0 (source_state report.source).faults → ⊥) × (Rose 0 (sink_state report.sink).faults → ⊥)) sessions → IsOfAnswers notice
+        → All (λ report. (Rose 0 (source_state report.source).faults → ⊥) × (Rose 0 (sink_state report.sink).faults → ⊥)) sessions
+        → IsOfAnswers notice
     pub one : sessions ≢ [] → (store : Standing D) × IsOneHistory moment source_state sink_state sessions notice history free store
         × BeganEmpty moment store
 
@@ -139,6 +144,8 @@ pub record MakesDatabase {D : Type 0} (moment : D → Moment) (old new : ShelfSt
   pub others : LeavesUnasked (asked ∷ []) old new
   pub handed : HandsOut (devices_in device) old new
   pub made : IfSome device (λ disk. TellsDevice notice (moment disk))
+  -- a device that had bytes reads as it began, whatever is told
+  pub kept : IfSome device (λ disk. IfSome (moment disk).state.first (λ bytes. length bytes ≢ 0 → (moment disk).state.seen ≡ (moment disk).state.first))
   pub unopened : device ≡ None → FailsToOpenDevice asked notice old new
   pub complete : IfSome (old.devices asked) (λ bytes. IfSome device (λ disk. Rose 0 (moment disk).state.faults → ⊥)
       → (notice ≡ notice_by bytes) ⊎ (notice ≡ notices.Memory))

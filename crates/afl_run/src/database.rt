@@ -1,6 +1,7 @@
 //! An empty device is made a database.
-ghost use Rattle.std.specs.Prelude.{◌≡◌, [], IsSome, IfSome};
+ghost use Rattle.std.specs.Prelude.{◌≡◌, ◌≢◌, [], length, IsSome, IfSome};
 ghost use Rattle.afl_outside.specs.Disk.{DiskGoesOn};
+ghost use Rattle.page_slots.specs.Puts.{OnlySyncs};
 ghost use Rattle.session_reports.specs.Notice.{status_of};
 ghost use Rattle.afl_run.specs.Inner.Making.{Makes};
 ghost use Rattle.afl_run.specs.Run.{MakesDatabase};
@@ -37,6 +38,8 @@ fn made<F: Shelf>(alloc: Global, disk: F::Device, shelf: F) -> Report<F>
     ensures same { IfSome result.disk (λ made. DiskGoesOn (F.Device.moment disk).state (F.Device.moment made).state) }
     ensures tells { IfSome result.disk (λ made. Makes result.notice (F.Device.moment disk) (F.Device.moment made)) }
     ensures opened { IsSome result.disk }
+    ensures kept { IfSome result.disk (λ made. IfSome (F.Device.moment disk).state.seen
+        (λ seen. length seen ≢ 0 → OnlySyncs (F.Device.moment disk) (F.Device.moment made))) }
 {
     let mut disk = disk;
     let notice = make(&mut disk);
@@ -47,6 +50,7 @@ fn made<F: Shelf>(alloc: Global, disk: F::Device, shelf: F) -> Report<F>
 pub(crate) fn make<D: Disk>(disk: &mut D) -> Notice
     ensures same { DiskGoesOn (D.moment disk.old).state (D.moment disk.new).state }
     ensures tells { Makes result (D.moment disk.old) (D.moment disk.new) }
+    ensures kept { IfSome (D.moment disk.old).state.seen (λ seen. length seen ≢ 0 → OnlySyncs (D.moment disk.old) (D.moment disk.new)) }
 {
     match init(disk) {
         Ok(()) => Notice::Done,

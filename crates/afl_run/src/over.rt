@@ -17,7 +17,7 @@ use std::alloc::Global;
 use std::sync::Wait;
 use std::thread::Threads;
 
-/// How many threads compute a statement.
+/// How many threads may compute a statement.
 const WORKERS: u32 = 4;
 
 /// Opens a store over a disk, and answers a script for each of these streams.

@@ -3,7 +3,7 @@ ghost use Rattle.std.specs.Prelude.{◌≡◌, ◌≢◌, ◌≤◌, All, Some, 
 ghost use Rattle.run_opening.specs.Names.{HaveOwnNames, stream_names};
 ghost use Rattle.session_reports.specs.Notice.{status_of};
 ghost use Rattle.afl_run.specs.Run.{RunsScripts};
-ghost use Rattle.afl_run.specs.Inner.Streams.{IsUntouched, RunsOn};
+ghost use Rattle.afl_run.specs.Inner.Streams.{IsAsBegun, RunsOn};
 
 use crate::over::run_over;
 use crate::report::{Report, unrun};
@@ -52,7 +52,7 @@ fn run_on<F: Shelf, R: Threads + Wait + Sync, G: Gate>(
 ) -> Report<F>
     requires count { (1 ≤ length scripts.now) × (length scripts.now ≤ 16) }
     requires names { HaveOwnNames scripts.now }
-    requires untouched { IsUntouched (F.Device.moment disk).state }
+    requires begun { IsAsBegun (F.Device.moment disk).state }
     ensures status { result.status ≡ status_of result.notice }
     ensures runs { RunsOn F.Device.moment F.S.state F.K.state (F.state shelf) (F.state result.shelf) result.notice result.history result.sessions
         result.free_pages disk scripts.now limits.pages limits.history result.disk }

@@ -5,6 +5,8 @@ use Rattle.cell_values.specs.declared.datum.Row.{Row}
 use Rattle.cell_values.specs.declared.schema.Schema.{Schema}
 use Rattle.array_geom.specs.declared.chunk.ChunkedArray.{ChunkedArray}
 use Rattle.array_geom.specs.Link.{HoldsResult, HoldsRows, Is}
+use Rattle.array_parts.specs.Cores.{cores_of, unless_broken}
+use Rattle.array_parts.proofs.CoreLaws.{arrays_are_their_cores}
 use Rattle.logical_plan.specs.Faults.{fault_of}
 use Rattle.logical_plan.specs.Meaning.{Meant}
 use Rattle.plan_rows.specs.declared.answers.rows.PlanRows.TheVariants.{Rows}
@@ -21,3 +23,7 @@ module _ (array : ChunkedArray) (meant : Meant) (schema : Schema) (rows : List R
   -- the rows that the chunks of an array hold are those that it stands for
   pub rows_found : fault_of meant.rows ≡ None → IsFound meant (Rows schema rows)
   rows_found none = (none, ap (λ (z : Schema). made z meant.rows) (sym (s ∙ is.schema)) ∙ ap (made schema) (its_rows meant.rows is.cells none))
+
+-- the rows of its cores are those that it stands for
+pub cores_found : (array : ChunkedArray) (meant : Meant) → Is array meant → array.broken ≡ None → fault_of meant.rows ≡ None → IsFound meant (Rows array.schema (cores_of array))
+cores_found array meant is whole none = (none, sym (arrays_are_their_cores array meant is) ∙ (λ i. record { schema = array.schema; rows = unless_broken (whole i) (cores_of array) }))

@@ -1,5 +1,6 @@
 //! The text of an array.
 ghost use Rattle.std.specs.Prelude.{◌≡◌, ◌++◌, IfOk, OnOk};
+ghost use Rattle.std.specs.List.{flat_map};
 ghost use Rattle.result_print.specs.Texts.{array_text, header, line_of, values_text};
 
 use crate::spelling::{write_list, write_place};
@@ -34,15 +35,31 @@ fn write_line(out: &mut Bytes, row: &Row) -> Result<(), Memory>
     out.push(b'\n')
 }
 
+/// The header of an array's text, as `{x,y} a,b`, with its line feed.
+pub fn text_header(alloc: Global, schema: &Schema) -> Result<Bytes, Memory>
+    ensures { IfOk result (λ text. text ≡ header schema.now) }
+{
+    let mut text = List::new(alloc);
+    write_header(&mut text, schema)?;
+    Ok(text)
+}
+
+/// Adds a line as `{0,1} 5,'t'` for each row, in their order. A fault has no text, and a cell in doubt no values.
+pub fn push_lines(text: &mut Bytes, rows: &[Row]) -> Result<(), Memory>
+    ensures { OnOk result (text.new ≡ text.old ++ flat_map line_of rows.now) }
+{
+    for row in rows {
+        write_line(text, row)?;
+    }
+    Ok(())
+}
+
 /// The text of an array: a header as `{x,y} a,b`, and a line as `{0,1} 5,'t'` for each row, in their order. A fault has no
 /// text, and a cell in doubt no values, so callers print arrays without them.
 pub fn dcsv(alloc: Global, schema: &Schema, rows: &[Row]) -> Result<Bytes, Memory>
     ensures { IfOk result (λ text. text ≡ array_text schema.now rows.now) }
 {
-    let mut text = List::new(alloc);
-    write_header(&mut text, schema)?;
-    for row in rows {
-        write_line(&mut text, row)?;
-    }
+    let mut text = text_header(alloc, schema)?;
+    push_lines(&mut text, rows)?;
     Ok(text)
 }

@@ -8,7 +8,7 @@ mod listings;
 mod refusal;
 mod spelling;
 
-pub use array::dcsv;
+pub use array::{dcsv, push_lines, text_header};
 pub use lines::refusal_line;
 pub use listings::{list_text, ok_line, show_text, stored_line, versions_text};
 pub use refusal::Refusal;

@@ -47,6 +47,7 @@ closed {D} moment old reaped end run is same at ledger goes_on disk history page
           pages = pages ∙ ap (λ (p : StoreParts D). length (unused_pages p.ledger)) (sym same);
           reaped = now.done;
           cells = holds moment end at;
+          payloads = λ file told image left. (at.payloads file told).images image left;
         };
       },
     )

@@ -1,5 +1,5 @@
 -- How the store of a run ends.
-use Rattle.std.specs.Prelude.{◌≡◌, ◌⊎◌, false, List, [], ◌∷◌, ◌++◌, length}
+use Rattle.std.specs.Prelude.{◌≡◌, ◌⊎◌, ℕ, false, List, [], ◌∷◌, ◌++◌, length}
 use Rattle.afl_outside.specs.Disk.{DiskGoesOn, Moment}
 use Rattle.array_store.specs.Starts.{start_of}
 use Rattle.event_core.specs.declared.entry.Entry.TheVariants.{Reap}
@@ -11,7 +11,8 @@ use Rattle.store_ledger.specs.Ledger.{IsLedger, history, reap_comes, unused_page
 use Rattle.store_state.specs.declared.event.Event.{Event}
 use Rattle.store_state.specs.declared.event.Event.TheVariants.{Entered}
 use Rattle.store_state.specs.Events.{events}
-use Rattle.store_state.specs.Standings.{BeganAs, Standing}
+use Rattle.store_state.specs.Payloads.{HasPayloads, HasTold}
+use Rattle.store_state.specs.Standings.{BeganAs, Standing, given_of}
 use Rattle.store_state.specs.Inner.Keeping.{AreCounted}
 use Rattle.run_stores.specs.declared.closing.StoreRun.{StoreRun}
 use Rattle.run_stores.specs.Held.{HoldsHistory}
@@ -41,6 +42,9 @@ pub record EndsWith {D S K : Type 0} (moment : D → Moment) (store : Standing D
   -- each page that nobody can name is free, or one more entry would pass the limit
   pub reaped : (run.notice ≡ Memory → ⊥) → reap_comes store.ledger ≡ false
   pub cells : (db : Database) → BeganAs (moment store.opened.disk).state db → HoldsHistory moment store db
+  -- whatever the file stood for as it was opened, each image has each payload, whole or with the bytes of then
+  pub payloads : (file : List ℕ) → HasTold (moment store.opened.disk).state file → (image : List ℕ) → (moment store.disk).may_leave image
+      → HasPayloads store.ledger.base (given_of store) file (history store.ledger) image
 
 -- a store was reaped, if memory was there, and closed
 pub record IsClosed {D S K : Type 0} (moment : D → Moment) (old new : Standing D) (run : StoreRun D S K) : Type 0 where

@@ -2,4 +2,5 @@ pub mod PlanReplies
 pub mod QueryReplies
 pub mod Standing
 pub mod StatementReplies
+pub mod TextLaws
 mod Worked

@@ -5,6 +5,7 @@ mod laws;
 mod listings;
 mod queries;
 mod replies;
+mod texts;
 
 pub use laws::{
     listed_arrays_stand, queries_have_their_replies, replies_have_kinds,

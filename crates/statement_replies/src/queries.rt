@@ -12,11 +12,13 @@ ghost use Rattle.chunk_source.specs.Reading.{asked_of};
 ghost use Rattle.chunk_source.specs.Source.{AsksFront, Keeps};
 ghost use Rattle.chunk_exec.specs.Computed.{CanCompute};
 ghost use Rattle.plan_rows.specs.Found.{HasSchema, IsFound};
+ghost use Rattle.plan_rows.specs.Held.{HoldsCells, rows_held};
 ghost use Rattle.statement_replies.specs.Kinds.{IsQueryReply, IsRowsReply};
 ghost use Rattle.statement_replies.specs.Reading.{HoldsVersions, asked_for};
 ghost use Rattle.statement_replies.specs.Reply.{meant_reply, plan_reply};
 
 use crate::replies::{Reply, refuse};
+use crate::texts::text_of;
 use afl_outside::Gate;
 use afl_trees::Tree;
 use cell_values::{Broken, Memory};
@@ -24,8 +26,8 @@ use check_queries::query_plan;
 use check_rules::TypeFault;
 use chunk_source::{ChunkSource, ExecFault};
 use logical_plan::{Names, Plan};
-use plan_rows::{PlanRows, rows_of};
-use result_print::{Refusal, dcsv};
+use plan_rows::{PlanArray, array_of};
+use result_print::Refusal;
 use std::alloc::Global;
 
 /// The reply to the tree of a query, over the arrays of a source that has the versions of these names: the first rule that it
@@ -88,7 +90,7 @@ pub fn answer_query<S: ChunkSource, G: Gate>(
     ensures cause { Answers (S.state source.old) (S.state source.new) result }
     ensures start { S.start source.new ≡ S.start source.old }
 {
-    match rows_of(alloc, plan, source, workers, session, gate) {
+    match array_of(alloc, plan, source, workers, session, gate) {
         Ok(found) => match reply_of(alloc, found) {
             Ok(reply) => Ok(reply),
             Err(Memory) => Err(ExecFault::Memory),
@@ -99,14 +101,15 @@ pub fn answer_query<S: ChunkSource, G: Gate>(
 
 /// The reply that tells what a plan gives.
 #[tactic(auto, using(crate::proofs::PlanReplies::fault_reply, crate::proofs::PlanReplies::rows_reply))]
-fn reply_of(alloc: Global, found: PlanRows) -> Result<Reply, Memory>
-    ensures kind { (schema : Schema) → HasSchema schema found → IfOk result (IsRowsReply schema) }
-    ensures told { (meant : Meant) → IsFound meant found → IfOk result (λ reply. reply ≡ meant_reply meant) }
+fn reply_of(alloc: Global, found: PlanArray) -> Result<Reply, Memory>
+    requires { HoldsCells found }
+    ensures kind { (schema : Schema) → HasSchema schema (rows_held found) → IfOk result (IsRowsReply schema) }
+    ensures told { (meant : Meant) → IsFound meant (rows_held found) → IfOk result (λ reply. reply ≡ meant_reply meant) }
 {
     match found {
-        PlanRows::Fault(Broken { at, kind }) => refuse(alloc, Refusal::Cell { at, kind }),
-        PlanRows::Rows(schema, rows) => Ok(Reply {
-            text: dcsv(alloc, &schema, rows.as_slice())?,
+        PlanArray::Fault(Broken { at, kind }) => refuse(alloc, Refusal::Cell { at, kind }),
+        PlanArray::Whole(array) => Ok(Reply {
+            text: text_of(alloc, &array)?,
             refusal: None,
         }),
     }

@@ -14,7 +14,7 @@ use Rattle.afl_run.specs.OneHistory.{IsOneHistory}
 use Rattle.afl_run.specs.Run.{AreOfScripts, BeganFrom, HandsOutStreams, IsOfStore, TellsSessions, TellsUnrun, state_in}
 
 -- a disk of whose calls none failed yet, and that reads as it began
-pub record IsUntouched (disk : DiskState) : Type 0 where
+pub record IsAsBegun (disk : DiskState) : Type 0 where
   pub seen : disk.seen ≡ disk.first
   pub faults : disk.faults ≡ 0
 

@@ -9,7 +9,7 @@ returns-in-Ok-clause-makes g c =
     let r = c.made.result in
     let e = c.made.ensures in
     makes moment state c.args.name.now (state c.args.shelf) c.open_device.new.shelf r.shelf (moment c.in-Ok.disk) r.notice r.disk
-    device.new device.content device.others device.handed e.shelf e.same e.tells e.opened
+    device.new device.content device.others device.handed e.shelf e.same e.tells e.opened e.kept
 
 pub returns-in-Err-clause-makes : goal.returns-in-Err-clause-makes
 returns-in-Err-clause-makes g c =

@@ -37,7 +37,7 @@ returns-in-Ok-clause-runs g c =
     r.shelf c.open_streams.new.shelf r.notice run.notice r.history run.history r.sessions run.sessions r.free_pages run.free_pages r.disk _
     e.shelf e.notice e.history e.sessions e.free_pages e.disk
     (on_ran moment source sink old (state c.open_streams.new.shelf) c.args.disk scripts limits s.others c.in-Ok.streams run s.opened s.handed c.requires.count.0
-    c.requires.untouched c.run_over-run.ensures.same c.run_over-run.ensures.run)
+    c.requires.begun c.run_over-run.ensures.same c.run_over-run.ensures.run)
 
 pub returns-in-Err-clause-runs : goal.returns-in-Err-clause-runs
 returns-in-Err-clause-runs g c =

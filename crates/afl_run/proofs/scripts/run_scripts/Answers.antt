@@ -8,8 +8,8 @@ use Rattle.afl_run.specs.Run.{RunsScripts}
 use Rattle.afl_run.proofs.StreamsLemmas.{reported, runs_nothing, runs_scripts}
 use Rattle.afl_run.proofs.scripts.run_scripts.Goals as goal
 
-pub run_on-requires-clause-untouched : goal.run_on-requires-clause-untouched
-run_on-requires-clause-untouched g c κs within = record { seen = c.in-Ok.ensures.new.seen; faults = c.in-Ok.ensures.new.faults }
+pub run_on-requires-clause-begun : goal.run_on-requires-clause-begun
+run_on-requires-clause-begun g c κs within = record { seen = c.in-Ok.ensures.new.seen; faults = c.in-Ok.ensures.new.faults }
 
 pub returns-in-Ok-clause-runs : goal.returns-in-Ok-clause-runs
 returns-in-Ok-clause-runs g c =

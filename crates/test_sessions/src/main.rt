@@ -1,0 +1,41 @@
+//! Sessions side by side over one database in memory, each on a thread of its own, held at points of theirs so that their steps come in a
+//! given order.
+//!
+//! A line has six parts with ` | ` between them: the options of `run`; the order; a script that is run before; the scripts of sessions 0 and 1;
+//! and a script that is run after them. Each of the three runs reopens the file that the one before has left.
+//!
+//! The order is a list of stops, as `0p2`: session 0 comes to its statement 2, before its pin (`s`), behind it (`p`), or with its result
+//! computed (`c`). A session that comes to a stop which is named goes on once all stops before it in the list are behind their sessions. A stop
+//! that is named twice is reached at the first place, and left at the second. In a script `{3 show(A#);}` is that text three times, with 0 to 2
+//! for `#`. A line that begins with `##` is a title.
+#![tactic(auto)]
+
+mod order;
+mod runs;
+mod scripts;
+
+use anyhow::Result;
+use runs::tell_case;
+use std::sync::Wait;
+use std::thread::Threads;
+use test_kit::{begin_answer, input};
+
+/// Prints a line with what comes of it.
+fn tell_line<R: Print + AllocGlobal + Threads + Wait + Sync>(rt: &R, line: &str) -> Result<()> {
+    let mut out = String::new(rt.alloc());
+    let is_case = begin_answer(&mut out, line)?;
+    print!(rt; "{out}")?;
+    if is_case {
+        let parts: Vec<&str> = line.split('|').map(|part| part.trim()).collect(rt.alloc())?;
+        tell_case(rt, parts.as_slice())?;
+    }
+    Ok(())
+}
+
+fn main(rt: HostRuntime) -> Result<()> {
+    let text = input(&rt)?;
+    for line in text.lines() {
+        tell_line(&rt, line)?;
+    }
+    Ok(())
+}
