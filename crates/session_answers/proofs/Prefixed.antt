@@ -4,7 +4,7 @@ use Rattle.std.proofs.lemmas.List.Elements.{Contains-append_right}
 use Rattle.afl_outside.specs.Disk.{Moment}
 use Rattle.afl_trees.specs.Term.{Term}
 use Rattle.result_print.specs.declared.refusal.Refusal.{Refusal}
-use Rattle.result_print.specs.declared.refusal.Refusal.TheVariants.{TooLong, Parse, HistoryFull, NotBuilt, Typing, Cell, Disk, Damaged, SequenceEnd, Full, Memory}
+use Rattle.result_print.specs.declared.refusal.Refusal.TheVariants.{TooLong, Parse, HistoryFull, Typing, Cell, Disk, Damaged, SequenceEnd, Full, Memory}
 use Rattle.store_ledger.specs.declared.note.NoteKind.TheVariants.{Fault}
 use Rattle.store_state.specs.declared.event.Event.{Event}
 use Rattle.store_state.specs.declared.event.Event.TheVariants.{Noted}
@@ -35,10 +35,6 @@ module _ {D : Type 0} (moment : D â†’ Moment) (start : Start D) (session pin : â
   told_before (Some HistoryFull) looking t = t
   told_before (Some HistoryFull) (trying change) t = t
   told_before (Some HistoryFull) (making change) t = t
-  told_before (Some NotBuilt) nothing t = t
-  told_before (Some NotBuilt) looking t = t
-  told_before (Some NotBuilt) (trying change) t = t
-  told_before (Some NotBuilt) (making change) t = t
   told_before (Some (Typing span kind)) nothing t = t
   told_before (Some (Typing span kind)) looking t = t
   told_before (Some (Typing span kind)) (trying change) t = t

@@ -15,5 +15,6 @@ pub mod Changing
 pub mod Freshly
 pub mod Noted
 pub mod Outcomes
+pub mod Reads
 pub mod Told
 pub mod Under

@@ -11,7 +11,6 @@ use Rattle.chunk_source.specs.declared.reading.fault.ExecFault.TheVariants.{Sour
 use Rattle.event_core.specs.declared.entry.Entry.TheVariants.{Pin}
 use Rattle.afl_types.specs.Checking.{check_of}
 use Rattle.statement_answers.specs.declared.outcome.Outcome.TheVariants.{Replied}
-use Rattle.statement_answers.specs.Outcomes.{MayFail}
 use Rattle.store_ledger.specs.declared.pinned.Pinned.{Pinned}
 use Rattle.store_ledger.specs.Ledger.{IsOpenPin}
 use Rattle.store_state.specs.declared.event.Event.{Event}
@@ -21,14 +20,15 @@ use Rattle.session_sources.specs.Told.{entries_in, is_sealed, ledger_of, told}
 use Rattle.session_sources.specs.Seats.{seen, session_of, start}
 use Rattle.session_replies.specs.Acts.{looking}
 use Rattle.session_replies.specs.Refusals.{IsUnreadReply}
-use Rattle.session_replies.specs.Replies.{names_before, words_of, BeganAsNone, HasFault, IsPayloadPage, IsToldFor}
+use Rattle.session_replies.specs.Replies.{names_before, words_of, BeganAsNone, HasFault, IsDamagedPage, IsToldFor}
 use Rattle.session_replies.specs.declared.reply.Reply.{Reply}
 use Rattle.session_replies.proofs.PinPlaces.{open_pins_are_entered}
 use Rattle.session_replies.proofs.Staying.{page_later, replies_stay}
 use Rattle.session_sources.specs.declared.reading.Reading.{Reading}
 use Rattle.session_sources.specs.Courses.{AddsAtMostFault, AddsOwn}
 use Rattle.session_sources.specs.Pinned.{unread, HasRead}
-use Rattle.session_sources.specs.Stored.{BeginsPayload}
+use Rattle.session_sources.specs.Stored.{BeginsDamage}
+use Rattle.session_outcomes.specs.Reads.{MayLack}
 use Rattle.session_outcomes.specs.Said.{IsSaid}
 use Rattle.session_outcomes.specs.ToldReplies.{IsCause, IsLookedReply}
 use Rattle.session_outcomes.specs.Under.{FailedRepliesAreTold, HasOutcomesWords, ReadRepliesAreTold, SaysWhy, WasPinned}
@@ -52,19 +52,20 @@ module _ {D : Type 0} (moment : D → Moment) (began : Start D) (session pin oth
         (replies_stay moment began session pin old adds.more [] own text tree reply reply.refusal looking sealed within t.told);
   }
 
-  later_page : (page : ℕ) → IsPayloadPage began old reply.place page → IsPayloadPage began new reply.place page
-  later_page page p = subst (λ (es : List Event). IsPayloadPage began es reply.place page) (sym adds.grown)
+  later_page : (page : ℕ) → IsDamagedPage moment began old reply.place page → IsDamagedPage moment began new reply.place page
+  later_page page p = subst (λ (es : List Event). IsDamagedPage moment began es reply.place page) (sym adds.grown)
       (page_later moment began old adds.more text tree reply.place within page sealed p)
 
 -- a payload that the pin sees is seen right behind it
-page_behind : {D : Type 0} (began : Start D) (events : List Event) (pinned : Pinned) (page : ℕ) → IsOpenPin (ledger_of began events) pinned →
-    BeginsPayload pinned.names (told began events) pinned.place page → IsPayloadPage began events (pinned.place + 1) page
-page_behind began events pinned page o b = record {
+page_behind : {D : Type 0} (moment : D → Moment) (began : Start D) (events : List Event) (pinned : Pinned) (page : ℕ) → IsOpenPin (ledger_of began events) pinned →
+    BeginsDamage moment pinned.names (told began events) pinned.place page → IsDamagedPage moment began events (pinned.place + 1) page
+page_behind moment began events pinned page o b = record {
   leaf = b.leaf;
   at = b.number;
   named = subst (λ (names : Names). IsLeafOf names b.leaf) (sym (names_behind began events pinned o)) b.of;
   begins = subst (λ (found : Option DirEntry). IsSomeAnd found (λ entry. page ≡ slice_index entry.pages 0))
       (sym ((open_pin_behind began events pinned o).payloads b.leaf b.number)) b.begins;
+  was = b.was;
 }
 
 -- ---- readings
@@ -88,12 +89,12 @@ module _ {D : Type 0} (moment : D → Moment) (r : Reading D) (text : List ℕ) 
             (pinned_outcomes_are_said moment (unread r.lent.shared r.lent.pinned r.lent.seat) text tree (Replied (words_of reply)) read.lent_pin.open_pin was.database comes);
       }))
 
-  damaged_page : (page : ℕ) → r.marks.damaged ≡ Some page → IsPayloadPage began (seen r.seat) reply.place page
+  damaged_page : (page : ℕ) → r.marks.damaged ≡ Some page → IsDamagedPage moment began (seen r.seat) reply.place page
   damaged_page page e = later_page moment began r.lent.pinned.session r.lent.pinned.place (session_of r.lent.seat) (seen r.lent.seat) (seen r.seat) adds.own text tree reply
       adds.adds read.lent.sealed within_seen page
-      (subst (λ (place : ℕ). IsPayloadPage began (seen r.lent.seat) place page) (sym at)
-      (page_behind began (seen r.lent.seat) r.lent.pinned page read.lent_pin.open_pin
-      (subst (λ (found : Option ℕ). IfSome found (BeginsPayload r.lent.pinned.names (told began (seen r.lent.seat)) r.lent.pinned.place)) e read.damaged)))
+      (subst (λ (place : ℕ). IsDamagedPage moment began (seen r.lent.seat) place page) (sym at)
+      (page_behind moment began (seen r.lent.seat) r.lent.pinned page read.lent_pin.open_pin
+      (subst (λ (found : Option ℕ). IfSome found (BeginsDamage moment r.lent.pinned.names (told began (seen r.lent.seat)) r.lent.pinned.place)) e read.damaged)))
 
   -- a database that the file began as has no damage
   none_began : (page : ℕ) → r.marks.damaged ≡ Some page → BeganAsNone moment began
@@ -108,12 +109,12 @@ module _ {D : Type 0} (moment : D → Moment) (r : Reading D) (text : List ℕ) 
   names_there : names_before began (seen r.seat) reply.place ≡ r.lent.pinned.names
   names_there = ap (names_before began (seen r.seat)) at ∙ names_behind began (seen r.seat) r.lent.pinned read.pin.open_pin
 
-  fault_told : (fault : ExecFault) → SaysWhy moment r fault → MayFail fault (check_of tree text r.lent.pinned.names) → IsUnreadReply fault reply →
+  fault_told : (fault : ExecFault) → SaysWhy moment r fault → MayLack r.lent.pinned.names (check_of tree text r.lent.pinned.names) fault → IsUnreadReply fault reply →
       IsLookedReply moment began r.lent.pinned.session r.lent.pinned.place (seen r.seat) adds.own text tree reply
   fault_told fault why may u = unread_replies_are_told moment began r.lent.pinned.session r.lent.pinned.place (seen r.seat) adds.own text tree reply fault (record {
     holds = inl at;
     cause = cause fault why;
-    allowed = subst (λ (names : Names). MayFail fault (check_of tree text names)) (sym names_there) may;
+    reads = subst (λ (names : Names). MayLack names (check_of tree text names) fault) (sym names_there) may;
     unread = u;
   })
 

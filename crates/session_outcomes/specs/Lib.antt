@@ -28,6 +28,7 @@ pub use Rattle.session_sources.specs.declared.marks.Marks
 pub mod BehindPins
 pub mod Changing
 pub mod Freshly
+pub mod Reads
 pub mod Said
 pub mod ToldReplies
 pub mod Under

@@ -1,5 +1,5 @@
 -- What a reply tells, as more events come.
-use Rattle.std.proofs.Common.{◌≡◌, ◌∙◌, inl, inr, ℕ, zero, suc, ◌+◌, ◌-◌, ◌^◌, ◌<◌, ◌≤◌, true, List, [], ◌∷◌, ◌++◌, length, Option, None, Some, IsSomeAnd, slice_get, slice_index, ap, sym, subst, arith, append_assoc}
+use Rattle.std.proofs.Common.{◌≡◌, ◌≢◌, ◌∙◌, inl, inr, ℕ, zero, suc, ◌+◌, ◌-◌, ◌^◌, ◌<◌, ◌≤◌, true, List, [], ◌∷◌, ◌++◌, length, Option, None, Some, IsSomeAnd, slice_get, slice_index, ap, sym, subst, arith, append_assoc}
 use Rattle.std.specs.List.{list_all}
 use Rattle.std.proofs.lemmas.Option.{none-some}
 use Rattle.std.proofs.lemmas.List.Elements.{Contains-append_left}
@@ -16,7 +16,8 @@ use Rattle.event_core.specs.declared.entry.Entry.TheVariants.{Commit}
 use Rattle.event_core.specs.Bases.{sequence_at}
 use Rattle.event_core.specs.History.{History, names_at}
 use Rattle.result_print.specs.declared.refusal.Refusal.{Refusal}
-use Rattle.result_print.specs.declared.refusal.Refusal.TheVariants.{TooLong, Parse, HistoryFull, NotBuilt, Typing, Cell, Disk, Damaged, SequenceEnd, Full, Memory}
+use Rattle.result_print.specs.declared.refusal.Refusal.TheVariants.{TooLong, Parse, HistoryFull, Typing, Cell, Disk, Damaged, SequenceEnd, Full, Memory}
+use Rattle.statement_answers.specs.Outcomes.{leaves_for}
 use Rattle.statement_replies.specs.Statements.{Accepted, reply_to}
 use Rattle.statement_replies.specs.StatementKinds.{HasStatementKind}
 use Rattle.store_ledger.specs.declared.note.NoteKind.TheVariants.{Fault}
@@ -32,7 +33,7 @@ use Rattle.told_stores.specs.Told.{entries_in, is_sealed, told}
 use Rattle.told_stores.proofs.Telling.{entries_in-append}
 use Rattle.session_replies.specs.Acts.{Course, nothing, looking, trying, making}
 use Rattle.session_replies.specs.Laws.{RepliesStay}
-use Rattle.session_replies.specs.Replies.{names_before, EnteredAt, HadNoRoom, HadRoomFor, HasFault, HoldsSincePin, HoldsWhereRefused, IsAllowedAt, IsChangeAt, IsPayloadPage, IsToldFor, Says, SaysChange, WasAt, WasUncommitted}
+use Rattle.session_replies.specs.Replies.{names_before, EnteredAt, HadNoRoom, HadRoomFor, HasFault, HoldsSincePin, HoldsWhereRefused, IsAllowedAt, IsChangeAt, IsDamagedPage, IsToldFor, ReadsAt, Says, SaysChange, WasAt, WasUncommitted}
 use Rattle.session_replies.specs.declared.reply.Reply.{Reply}
 use Rattle.session_replies.proofs.Beginnings.{history_stays, places_see_the_same, reached}
 
@@ -80,17 +81,24 @@ module _ {D : Type 0} (moment : D → Moment) (start : Start D) (old more : List
     told = λ db began. ap (λ (answer : Accepted). answer.change) (same_reply db) ∙ s.told db began;
   }
 
-  pub page_later : (page : ℕ) → list_all is_sealed old ≡ true → IsPayloadPage start old place page → IsPayloadPage start (old ++ more) place page
+  pub page_later : (page : ℕ) → list_all is_sealed old ≡ true → IsDamagedPage moment start old place page → IsDamagedPage moment start (old ++ more) place page
   page_later page sealed p = record {
     leaf = p.leaf;
     at = p.at;
     named = subst (λ (names : Names). IsLeafOf names p.leaf) (sym names_stay) p.named;
     begins = subst (λ (found : Option DirEntry). IsSomeAnd found (λ entry. page ≡ slice_index entry.pages 0))
         (sym ((places_see_the_same start old more place within sealed).payloads p.leaf p.at)) p.begins;
+    was = p.was;
   }
 
   allowed_later : IsAllowedAt start old text tree place → IsAllowedAt start (old ++ more) text tree place
   allowed_later a = (a.0, ap (λ (names : Names). check_of tree text names) names_stay ∙ a.1)
+
+  reads_later : ReadsAt start old text tree place → ReadsAt start (old ++ more) text tree place
+  reads_later r = record {
+    allowed = allowed_later r.allowed;
+    reads = subst (λ (names : Names). leaves_for names (check_of tree text names) ≢ []) (sym names_stay) r.reads;
+  }
 
   -- what is needed at a history is needed there whatever comes later
   fits_later : (h : History) (change : Change) → FitsAfter moment (told start old) h change → FitsAfter moment (told start (old ++ more)) h change
@@ -150,16 +158,12 @@ module _ {D : Type 0} (moment : D → Moment) (start : Start D) (session pin : �
   told_stays (Some HistoryFull) looking t = absurd t
   told_stays (Some HistoryFull) (trying change) t = absurd t
   told_stays (Some HistoryFull) (making change) t = absurd t
-  told_stays (Some NotBuilt) nothing t = absurd t
-  told_stays (Some NotBuilt) looking t = absurd t
-  told_stays (Some NotBuilt) (trying change) t = absurd t
-  told_stays (Some NotBuilt) (making change) t = absurd t
   told_stays (Some (Typing span kind)) nothing t = absurd t
   told_stays (Some (Typing span kind)) looking t = (where_stays t.0, says_later moment start old more text tree reply.place within _ t.1)
   told_stays (Some (Typing span kind)) (trying change) t = absurd t
   told_stays (Some (Typing span kind)) (making change) t = absurd t
   told_stays (Some Disk) nothing t = absurd t
-  told_stays (Some Disk) looking t = (where_stays t.0, fault_stays t.1, allowed_later moment start old more text tree reply.place within t.2)
+  told_stays (Some Disk) looking t = (where_stays t.0, fault_stays t.1, reads_later moment start old more text tree reply.place within t.2)
   told_stays (Some Disk) (trying change) t = (since_stays t.0, fault_stays t.1, uncommitted_stays change (faults.Disk reply.place) t.2)
   told_stays (Some Disk) (making change) t = absurd t
   told_stays (Some (Damaged page)) nothing t = absurd t
@@ -167,7 +171,7 @@ module _ {D : Type 0} (moment : D → Moment) (start : Start D) (session pin : �
     where_stays t.0,
     page_later moment start old more text tree reply.place within page sealed t.1,
     t.2,
-    allowed_later moment start old more text tree reply.place within t.3,
+    reads_later moment start old more text tree reply.place within t.3,
   )
   told_stays (Some (Damaged page)) (trying change) t = absurd t
   told_stays (Some (Damaged page)) (making change) t = absurd t

@@ -3,7 +3,7 @@
 -- What holds at a place holds of the database after the commits before it. The reply to a query, and to a statement that lists something,
 -- holds behind the statement's own pin. That of an accepted change holds before the change's own commit. A refusal for a rule or a cell
 -- holds behind the pin, or, of a change, in the turn of the commit.
-use Rattle.std.specs.Prelude.{◌≡◌, ◌≤◌, ◌<◌, ◌+◌, ◌-◌, ◌^◌, ◌⊎◌, ◌++◌, ℕ}
+use Rattle.std.specs.Prelude.{◌≡◌, ◌≢◌, ◌≤◌, ◌<◌, ◌+◌, ◌-◌, ◌^◌, ◌⊎◌, ◌++◌, ℕ}
 use Rattle.std.specs.Prelude.{false, List, [], Contains, length, slice_get, slice_index, Option, None, Some, IsSomeAnd, Ok}
 use Rattle.arrayvec.specs.ArrayVec.{ArrayVec}
 use Rattle.afl_outside.specs.Disk.{Moment}
@@ -23,6 +23,7 @@ use Rattle.event_core.specs.History.{names_at}
 use Rattle.result_print.specs.declared.refusal.Refusal.{Refusal}
 use Rattle.result_print.specs.declared.refusal.Refusal.TheVariants.{HistoryFull, Typing, Cell, Disk, Damaged, SequenceEnd, Full, Memory}
 use Rattle.result_print.specs.Lines.{line_of_refusal}
+use Rattle.statement_answers.specs.Outcomes.{leaves_for}
 use Rattle.statement_replies.specs.declared.replies.Reply.{Reply as Told}
 use Rattle.statement_replies.specs.Statements.{Accepted, reply_to}
 use Rattle.statement_replies.specs.StatementKinds.{HasStatementKind}
@@ -31,6 +32,7 @@ use Rattle.store_ledger.specs.Ledger.{has_room}
 use Rattle.store_state.specs.declared.event.Event.{Event}
 use Rattle.store_state.specs.declared.event.Event.TheVariants.{Noted}
 use Rattle.store_state.specs.Calls.{database_with, history_at, payload_at, IsLeafOf}
+use Rattle.store_state.specs.Payloads.{HasTold, WasDamagedAt}
 use Rattle.store_state.specs.Standings.{base_of, BeganAs}
 use Rattle.told_stores.specs.Start.{Start}
 use Rattle.told_stores.specs.CommitFault.{CommitFault}
@@ -50,12 +52,14 @@ words_of reply = record { text = reply.text; refusal = reply.refusal }
 
 -- THIS IS WHAT THE STATEMENT SAYS AT A PLACE: what the names there alone tell, and, where the file began as a database, what its meaning is
 -- in the database after the commits before the place
-pub record Says {D : Type 0} (moment : D → Moment) (start : Start D) (events : List Event) (text : List ℕ) (tree : Term) (place : ℕ) (answer : Accepted) : Type 0 where
+pub record Says {D : Type 0} (moment : D → Moment) (start : Start D) (events : List Event) (text : List ℕ) (tree : Term) (place : ℕ)
+    (answer : Accepted) : Type 0 where
   pub kind : HasStatementKind (names_before start events place) (check_of tree text (names_before start events place)) answer
   pub told : (db : Database) → BeganAs (moment start.opened.disk).state db → reply_to (database_with db (told start events) place) text tree ≡ answer
 
 -- it is this change at a place, and one that is accepted
-pub record SaysChange {D : Type 0} (moment : D → Moment) (start : Start D) (events : List Event) (text : List ℕ) (tree : Term) (place : ℕ) (change : Change) : Type 0 where
+pub record SaysChange {D : Type 0} (moment : D → Moment) (start : Start D) (events : List Event) (text : List ℕ) (tree : Term) (place : ℕ)
+    (change : Change) : Type 0 where
   pub typed : check_of tree text (names_before start events place) ≡ Ok (AChange change)
   pub told : (db : Database) → BeganAs (moment start.opened.disk).state db
       → (reply_to (database_with db (told start events) place) text tree).change ≡ Some change
@@ -67,6 +71,11 @@ IsChangeAt start events text tree place = (change : Change) × (check_of tree te
 -- by the names at a place it breaks no rule
 abbrev pub IsAllowedAt : {D : Type 0} → Start D → List Event → List ℕ → Term → ℕ → Type 0
 IsAllowedAt start events text tree place = (typed : Typed) × (check_of tree text (names_before start events place) ≡ Ok typed)
+
+-- and there is an array that it reads, of a version or of none
+pub record ReadsAt {D : Type 0} (start : Start D) (events : List Event) (text : List ℕ) (tree : Term) (place : ℕ) : Type 0 where
+  pub allowed : IsAllowedAt start events text tree place
+  pub reads : leaves_for (names_before start events place) (check_of tree text (names_before start events place)) ≢ []
 
 -- an entry came at a place, behind so many entries
 pub record EnteredAt (least : ℕ) (entry : Entry) (place : ℕ) (events : List Event) : Type 0 where
@@ -83,12 +92,14 @@ pub record WasAt (place : ℕ) (then now : List Event) : Type 0 where
 abbrev pub HasFault : ℕ → List Event → Type 0
 HasFault session own = (after : ℕ) × Contains own (Noted (record { session = session; kind = Fault; after = after }))
 
--- the payload of some chunk of an array that could be named at a place begins at a page
-pub record IsPayloadPage {D : Type 0} (start : Start D) (events : List Event) (place page : ℕ) : Type 0 where
+-- DAMAGE: the payload of some chunk of an array that could be named at a place begins at a page. Where an honest disk told its bytes as it was
+-- opened, a payload was listed then that begins there, and by that array's schema it wasn't whole
+pub record IsDamagedPage {D : Type 0} (moment : D → Moment) (start : Start D) (events : List Event) (place page : ℕ) : Type 0 where
   pub leaf : Leaf
   pub at : ArrayVec ℕ
   pub named : IsLeafOf (names_before start events place) leaf
   pub begins : IsSomeAnd (payload_at (told start events) place leaf at) (λ entry. page ≡ slice_index entry.pages 0)
+  pub was : (file : List ℕ) → HasTold (moment start.opened.disk).state file → WasDamagedAt page (told start events).first file leaf.schema
 
 -- the file began as no database
 abbrev pub BeganAsNone : {D : Type 0} → (D → Moment) → Start D → Type 0
@@ -147,10 +158,10 @@ module _ {D : Type 0} (moment : D → Moment) (start : Start D) (session pin : �
   IsToldFor (Some (Typing span kind)) looking = HoldsWhereRefused × SaysReply
   IsToldFor (Some (Cell at kind)) looking = HoldsWhereRefused × SaysReply
   IsToldFor (Some HistoryFull) nothing = (then : List Event) × WasAt reply.place then new × (has_room (ledger_of start then) 4 ≡ false)
-  IsToldFor (Some Disk) looking = HoldsWhereRefused × HasFault session own × IsAllowedAt start new text tree reply.place
+  IsToldFor (Some Disk) looking = HoldsWhereRefused × HasFault session own × ReadsAt start new text tree reply.place
   IsToldFor (Some Disk) (trying change) = HoldsSincePin × HasFault session own × WasUncommitted change (faults.Disk reply.place)
-  IsToldFor (Some (Damaged page)) looking = HoldsWhereRefused × IsPayloadPage start new reply.place page × BeganAsNone moment start
-      × IsAllowedAt start new text tree reply.place
+  IsToldFor (Some (Damaged page)) looking = HoldsWhereRefused × IsDamagedPage moment start new reply.place page × BeganAsNone moment start
+      × ReadsAt start new text tree reply.place
   IsToldFor (Some SequenceEnd) (trying change) = HoldsSincePin × WasUncommitted change (faults.SequenceEnd reply.place)
   IsToldFor (Some (Full needed free)) (trying change) = HoldsSincePin × WasUncommitted change (faults.Full needed free reply.place)
   IsToldFor (Some Memory) nothing = Unit {0}

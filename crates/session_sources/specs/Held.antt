@@ -1,5 +1,5 @@
 -- The source of what a store has in a turn that is held: from when the turn is lent to when it is handed back.
-use Rattle.std.specs.Prelude.{◌≡◌, ℕ, ◌<◌, ◌++◌, List, length, None, IfSome, IsTrue}
+use Rattle.std.specs.Prelude.{◌≡◌, ℕ, ◌<◌, ◌++◌, List, [], length, None, IfSome, IsTrue}
 use Rattle.afl_outside.specs.Disk.{Moment}
 use Rattle.chunk_source.specs.Source.{SourceState}
 use Rattle.logical_plan.specs.declared.names.Names.{Names}
@@ -21,7 +21,7 @@ use Rattle.session_sources.specs.declared.holding.Holding.{Holding}
 use Rattle.session_sources.specs.declared.marks.Marks.{Marks}
 use Rattle.session_sources.specs.Courses.{IsFaultAtMost}
 use Rattle.session_sources.specs.Inner.Marking.{no_marks}
-use Rattle.session_sources.specs.Stored.{numbers_at, schema_of, AreRowsAfter, BeginsPayload}
+use Rattle.session_sources.specs.Stored.{numbers_at, schema_of, AreRowsAfter, BeginsDamage}
 
 abbrev pub holding_of : {D : Type 0} → ℕ → Turn (StoreParts D) → Turn (StoreParts D) → Marks → Holding D
 holding_of session before turn marks = record { lent = record { turn = before; session = session }; turn = turn; marks = marks }
@@ -76,6 +76,10 @@ pub record HasHeld {D : Type 0} (moment : D → Moment) (h : Holding D) : Type 0
   -- a failure comes only with such a note, and no commit was tried
   pub faults : 0 < h.marks.faults → IsTrue (is_noted is_fault (store_now moment h).ledger h.lent.session)
   pub tried : is_noted is_tried (store_now moment h).ledger h.lent.session ≡ is_noted is_tried (store_then moment h).ledger h.lent.session
-  -- a damaged page begins the payload of a chunk that the store has. There is none where the store began as a database
-  pub damaged : IfSome h.marks.damaged (BeginsPayload (names_now (store_then moment h).ledger) (store_then moment h) (length (store_then moment h).ledger.entries))
+  -- a damaged page begins the payload of a chunk that the store has, and it was damaged as the file was opened. There is none where the store
+  -- began as a database
+  pub damaged : IfSome h.marks.damaged
+      (BeginsDamage moment (names_now (store_then moment h).ledger) (store_then moment h) (length (store_then moment h).ledger.entries))
   pub whole : (db : Database) → BeganAs (moment (store_then moment h).opened.disk).state db → h.marks.damaged ≡ None
+  -- it found no damage and didn't fail before a chunk was asked for
+  pub unasked : h.marks.asked ≡ [] → (h.marks.damaged ≡ None) × (h.marks.faults ≡ 0)

@@ -3,7 +3,7 @@ use Rattle.std.proofs.Common.{◌≡◌, ◌∙◌, inl, inr, ℕ, ◌+◌, ◌<
 use Rattle.afl_outside.specs.Disk.{Moment}
 use Rattle.afl_trees.specs.Term.{Term}
 use Rattle.result_print.specs.declared.refusal.Refusal.{Refusal}
-use Rattle.result_print.specs.declared.refusal.Refusal.TheVariants.{TooLong, Parse, HistoryFull, NotBuilt, Typing, Cell, Disk, Damaged, SequenceEnd, Full, Memory}
+use Rattle.result_print.specs.declared.refusal.Refusal.TheVariants.{TooLong, Parse, HistoryFull, Typing, Cell, Disk, Damaged, SequenceEnd, Full, Memory}
 use Rattle.statement_replies.specs.declared.replies.Reply.{Reply as Told}
 use Rattle.statement_replies.specs.Reply.{refused}
 use Rattle.session_outcomes.specs.Owners.{ExtendsByOwn}
@@ -61,7 +61,6 @@ module _ {D : Type 0} (moment : D → Moment) (start : Start D) (session pin : �
     earlier_pin later own (TooLong bytes) t = absurd t
     earlier_pin later own (Parse at kind) t = absurd t
     earlier_pin later own HistoryFull t = absurd t
-    earlier_pin later own NotBuilt t = absurd t
     earlier_pin later own (Typing span kind) t = (later_refused own, t.1)
     earlier_pin later own Disk t = (later_refused own, t.1, t.2)
     earlier_pin later own (Damaged page) t = (later_refused own, t.1, t.2, t.3)

@@ -28,6 +28,7 @@ pinned_kept before =
       versions = x.versions;
       slots = x.slots;
       doubt = refl;
+      cause = x.cause;
       acked = refl;
       made = refl;
       tried = refl;

@@ -47,7 +47,7 @@ invariant_of-self-2 g c =
     (subst (λ h. IsLeafOf (names_now (store_then moment h).ledger) c.args.leaf.now) (sym c.self.view_is)
     (chunk_leaf moment c.args.self.now c.args.leaf.now c.args.at.now c.requires.listed c.requires.reads))
     (subst (λ h. IsTrue (is_among c.args.at.now (listed (held_state moment h) c.args.leaf.now))) (sym c.self.view_is) c.requires.listed)
-    c.read_now-answer.result c.answer.new.self m.is e.cause e.whole
+    c.read_now-answer.result c.answer.new.self m.is e.cause e.damaged e.whole
 
 pub returns-clause-stored : goal.returns-clause-stored
 returns-clause-stored g c = ok_answer c.read_now-answer.result c.answer.result (IsStored c.args.leaf.now.schema c.args.at.now) c.answer.ensures.answer c.read_now-answer.ensures.stored
