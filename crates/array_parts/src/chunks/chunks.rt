@@ -1,5 +1,6 @@
 //! The cells of a chunk, changed one after the other.
-ghost use Rattle.std.specs.Prelude.{◌≡◌, ◌<◌, [], List as Items, Some, length, slice_index_or, OnOk, IfOk};
+ghost use Rattle.std.specs.Prelude.{◌≡◌, ◌<◌, [], List as Items, Some, length, slice_index_or, IsTrue, OnOk, IfOk};
+ghost use Rattle.std.specs.List.{AllByRecursion};
 ghost use Rattle.cell_values.specs.declared.datum.Cell.TheVariants.{Full};
 ghost use Rattle.cell_values.specs.declared.datum.Row.{Row};
 ghost use Rattle.cell_columns.specs.Inner.CellsIn.{cells_in};
@@ -8,6 +9,7 @@ ghost use Rattle.array_geom.specs.Geometry.{HasFrame, coordinate_in, volume};
 ghost use Rattle.array_geom.specs.Link.{IsPart};
 ghost use Rattle.array_geom.specs.Inner.Ranges.{IsGrid};
 ghost use Rattle.array_parts.specs.Made.{IsPlaced, IsMadeBy, with_cell};
+ghost use Rattle.array_parts.specs.Inner.Quickly.{StaysAnywhere};
 
 use crate::chunks::{CellChange, Quick};
 use array_geom::{Chunk, Grid, grid_of};
@@ -96,8 +98,8 @@ fn push_next<C: CellChange>(
     }
 }
 
-/// The chunk with each cell changed, those of its margins too.
-pub fn change_chunk<C: CellChange>(
+/// The chunk with one cell after the other changed.
+fn change_each<C: CellChange>(
     schema: &Schema,
     margins: &Margins,
     chunk: Chunk,
@@ -125,4 +127,56 @@ pub fn change_chunk<C: CellChange>(
         push_next(&mut made, &grid, places[k], form, k, change)?;
     }
     Ok(made)
+}
+
+/// Whether a cell is known to stay as it is.
+fn stays<C: CellChange>(rows: &Rows, k: usize, change: &C) -> bool
+    requires { k < length rows.now }
+    ensures { IsTrue result → StaysAnywhere (C.changed change.now) (Full (slice_index_or rows.now k [])) }
+{
+    match change.quick(rows, k) {
+        Quick::Stays => true,
+        Quick::Goes => false,
+        Quick::Unknown => false,
+    }
+}
+
+fn all_rows_stay<C: CellChange>(rows: &Rows, change: &C) -> bool
+    ensures { IsTrue result → AllByRecursion (λ row. StaysAnywhere (C.changed change.now) (Full row)) rows.now }
+{
+    for k in 0..rows.len() {
+        if !stays(rows, k, change) {
+            return false;
+        }
+    }
+    true
+}
+
+/// Whether all cells are known to stay as they are.
+fn all_stay<C: CellChange>(form: &Form, change: &C) -> bool
+    ensures { IsTrue result → AllByRecursion (StaysAnywhere (C.changed change.now)) (cells_in form.now) }
+{
+    match form {
+        Form::Even(rows) => all_rows_stay(rows, change),
+        Form::Mixed(_) => false,
+    }
+}
+
+/// The chunk with each cell changed, those of its margins too. Where all are known to stay, none is moved.
+pub fn change_chunk<C: CellChange>(
+    schema: &Schema,
+    margins: &Margins,
+    chunk: Chunk,
+    change: &C,
+) -> Result<Chunk, Memory>
+    requires framed { HasFrame schema.now margins.now.items chunk.at.items }
+    requires placed { IsPlaced schema.now.dimensions margins.now.items chunk }
+    ensures made { IfOk result (IsMadeBy (cell_wise (C.changed change.now)) schema.now.dimensions margins.now.items chunk) }
+    ensures part { (rows : Items Row) → IsPart schema.now.dimensions margins.now.items rows chunk → IfOk result (IsPart schema.now.dimensions margins.now.items (cell_wise (C.changed change.now) rows)) }
+{
+    if all_stay(chunk.cells.form(), change) {
+        Ok(chunk)
+    } else {
+        change_each(schema, margins, chunk, change)
+    }
 }

@@ -1,7 +1,7 @@
 use Rattle.std.proofs.Common.{drop}
 use Rattle.cell_columns.specs.Inner.CellsIn.{cells_in}
 use Rattle.array_parts.proofs.Steps.{IsOngoing}
-use Rattle.array_parts.proofs.chunks.chunks.change_chunk.Given as goal
+use Rattle.array_parts.proofs.chunks.chunks.change_each.Given as goal
 
 abbrev pub invariant-loop-k : goal.invariant-loop-k
 invariant-loop-k g l =
