@@ -69,7 +69,7 @@ part_side d low high x near a b =
     let near_low = near.low in
     let near_high = near.high in
     let same : saturate_signed w64 (int_min d.hi high -ℤ int_max d.lo low) ≡ (int_min d.hi high -ℤ int_max d.lo low) =
-      sat_same (int_min d.hi high -ℤ int_max d.lo low) (omega (arith, ints, clamps)) (omega (arith, ints, clamps)) in
+    sat_same (int_min d.hi high -ℤ int_max d.lo low) (omega (arith, ints, clamps)) (omega (arith, ints, clamps)) in
     let within : (x -ℤ int_max d.lo low) ≤ℤ (int_min d.hi high -ℤ int_max d.lo low) = omega (arith, ints, clamps) in
     (omega (arith, ints, clamps), subst (λ (z : ℤ). (x -ℤ int_max d.lo low) ≤ℤ z) (sym same) within)
 
