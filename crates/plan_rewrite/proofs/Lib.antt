@@ -2,6 +2,8 @@ pub mod AlikePlans
 pub mod AlikeScans
 pub mod AlikeSteps
 pub mod BoxSteps
+pub mod Inside
+pub mod InsidePlans
 pub mod ItemPlaces
 pub mod ProjectSteps
 pub mod RowLists

@@ -160,7 +160,7 @@ both_wide m n k f h (Ok left) (Ok right) v w = h left right v w
 both_wide m n k f h (Ok left) (Err broken) v w = w
 both_wide m n k f h (Err broken) r v w = v
 
-many_names : (given names : List (List ℕ)) → length (free_names given names) ≡ length names
+pub many_names : (given names : List (List ℕ)) → length (free_names given names) ≡ length names
 many_names given [] = refl
 many_names given (name ∷ names) = ap suc (many_names (given ++ free_name given name ∷ []) names)
 
