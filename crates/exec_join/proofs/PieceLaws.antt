@@ -25,7 +25,6 @@ use Rattle.chunk_cells.specs.Frames.{HasFrames}
 use Rattle.chunk_cells.proofs.MergeLaws.{IsRising-core_rows}
 use Rattle.logical_plan.specs.Joins.{cell_beside, join_rows}
 use Rattle.logical_plan.specs.PlanSchema.{free_names, join_schema, renamed_dimension}
-use Rattle.area_cells.proofs.CutLaws.{at_index}
 use Rattle.area_cells.proofs.ListedLaws.{core_listed}
 use Rattle.area_cells.proofs.PieceLaws.{changed_parts}
 use Rattle.exec_join.proofs.JoinLaws.{within_join}
@@ -92,11 +91,6 @@ joined_frame left right schema old margins chunk e placed frames =
     let r = renamed left right schema e in
     let there : has_core schema.dimensions chunk.at.items ≡ has_core left.dimensions chunk.at.items = ap (λ (dims : List Dimension). has_core dims chunk.at.items) r.same ∙ same_has_core left.dimensions r.names chunk.at.items r.enough in
     record { valid = frames.valid; core = there ∙ placed.framed.core; each = frames.each; places = frames.places }
-
-pub frame_at : (left right schema : Schema) (old margins : List ℕ) (chunks items : List Chunk) (i : ℕ) (chunk : Chunk) → schema ≡ join_schema left right → HasFrames schema margins → HaveCells left old chunks → items ≡ chunks → i < length items → chunk ≡ get_or items i chunk
-    → HasFrame schema margins chunk.at.items
-frame_at left right schema old margins chunks items i chunk e frames cells s l same =
-    joined_frame left right schema old margins chunk e (at_index (HasPlaces left old) items i chunk (subst (AllByRecursion (HasPlaces left old)) (sym s) cells.placed.all) l same) frames
 
 -- the parts of joined rows, one for each left chunk
 pub joined_parts : (left right schema : Schema) (old margins : List ℕ) (rows other : List Row) (chunks parts : List Chunk) → schema ≡ join_schema left right → rows ≡ core_rows left.dimensions old chunks → HaveCells left old chunks → numbers parts ≡ numbers chunks

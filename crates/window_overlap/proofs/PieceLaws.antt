@@ -26,7 +26,6 @@ use Rattle.array_parts.specs.Cores.{HaveCells}
 use Rattle.array_parts.specs.Parts.{AreParts}
 use Rattle.array_parts.specs.Placed.{HasPlaces}
 use Rattle.chunk_cells.specs.Frames.{HasFrames}
-use Rattle.area_cells.proofs.CutLaws.{at_index}
 use Rattle.area_cells.proofs.ListedLaws.{core_listed}
 use Rattle.area_cells.proofs.PieceLaws.{changed_parts}
 use Rattle.logical_plan.specs.declared.parts.Aggregate.{Aggregate}
@@ -189,8 +188,6 @@ whole_parts source target old margins reach gs chunks parts same cells e rise si
     (changed_parts source.dimensions margins (window_cell reach gs rows) rows chunks parts e rise sized (λ k l h. core_listed source.dimensions old chunks k (valid_placed source cells.placed.valid).near sized l h)
     (subst (λ (ds : List Dimension). AllByRecursion (IsPart ds margins (window_rows reach gs rows)) parts) same each))
 
-pub frame_at : (source target : Schema) (old margins : List ℕ) (chunks items : List Chunk) (i : ℕ) (chunk : Chunk) → target.dimensions ≡ source.dimensions → HasFrames target margins → HaveCells source old chunks → items ≡ chunks → i < length items → chunk ≡ get_or items i chunk
-    → HasFrame target margins chunk.at.items
-frame_at source target old margins chunks items i chunk same frames cells e l is =
-    let placed = at_index (HasPlaces source old) items i chunk (subst (AllByRecursion (HasPlaces source old)) (sym e) cells.placed.all) l is in
+pub same_frame : (source target : Schema) (old margins : List ℕ) (chunk : Chunk) → target.dimensions ≡ source.dimensions → HasFrames target margins → HasPlaces source old chunk → HasFrame target margins chunk.at.items
+same_frame source target old margins chunk same frames placed =
     record { valid = frames.valid; core = ap (λ (ds : List Dimension). has_core ds chunk.at.items) same ∙ placed.framed.core; each = frames.each; places = frames.places }

@@ -7,7 +7,7 @@ use Rattle.exec_join.proofs.SideLaws.{join_are_rows}
 use Rattle.exec_join.proofs.arrays.pieces.by_parts.Goals as goal
 
 pub returns-clause-array : goal.returns-clause-array
-returns-clause-array c =
+returns-clause-array g c =
     let left = c.args.left in
     let right = c.args.right in
     let rows = join_rows (cores_of left) (cores_of right) in

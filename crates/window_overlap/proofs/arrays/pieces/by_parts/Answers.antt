@@ -9,7 +9,7 @@ use Rattle.window_overlap.proofs.PieceLaws.{whole_parts}
 use Rattle.window_overlap.proofs.arrays.pieces.by_parts.Goals as goal
 
 pub returns-clause-array : goal.returns-clause-array
-returns-clause-array c =
+returns-clause-array g c =
     let array = c.args.array in
     let target = c.args.target.now in
     let all = cores_of array in
