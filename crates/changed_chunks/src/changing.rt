@@ -120,7 +120,9 @@ pub fn changed<S: ChunkSource, R: Threads + Sync, G: Gate>(
             stored(rt, alloc, plan, schema, source, workers, session, gate)
         }
         Change::Insert { schema, plan, .. } => {
-            inserted(rt, alloc, plan, schema, target, source, workers, session, gate)
+            inserted(
+                rt, alloc, plan, schema, target, source, workers, session, gate,
+            )
         }
         _ => unreachable!(),
     }

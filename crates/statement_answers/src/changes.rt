@@ -100,9 +100,11 @@ fn chunks_of<S: ChunkSource, R: Threads + Sync, G: Gate>(
     ensures start { S.start source.new ≡ S.start source.old }
 {
     match change {
-        Change::Store { name, schema, .. } => chunks_put(rt, alloc, change, name, schema, names, source, workers, session, gate,
+        Change::Store { name, schema, .. } => chunks_put(
+            rt, alloc, change, name, schema, names, source, workers, session, gate,
         ),
-        Change::Insert { name, schema, .. } => chunks_put(rt, alloc, change, name, schema, names, source, workers, session, gate,
+        Change::Insert { name, schema, .. } => chunks_put(
+            rt, alloc, change, name, schema, names, source, workers, session, gate,
         ),
         Change::Create { .. } => Ok(Ok(None)),
         Change::Remove { .. } => Ok(Ok(None)),

@@ -102,7 +102,14 @@ impl Work<ChunkAt, Chunk> for OfArray<'_> {
     ghost gives = { λ of number made. IsPartAt of.target.now of.margins.now.items (window_rows of.reach.now of.aggs.now (cores_of of.array.now)) number made };
 
     fn work(&self, number: ChunkAt) -> Result<Chunk, Memory> {
-        window_part(self.array, self.reach, self.aggs, self.target, self.margins, &number)
+        window_part(
+            self.array,
+            self.reach,
+            self.aggs,
+            self.target,
+            self.margins,
+            &number,
+        )
     }
 }
 
