@@ -111,7 +111,7 @@ fn tell_steps(
     Ok(lines.len())
 }
 
-fn tell_answer(rt: &(impl Print + AllocGlobal + Threads + Sync), line: &str, answer: &Answer) -> Result<()> {
+fn tell_answer(rt: &(impl Print + AllocGlobal), line: &str, answer: &Answer) -> Result<()> {
     let mut out = String::new(rt.alloc());
     begin_answer(&mut out, line)?;
     answer.push(&mut out)?;

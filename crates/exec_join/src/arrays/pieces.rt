@@ -96,14 +96,14 @@ fn join_parts<R: Threads + Sync, G: Gate>(
     ensures places { IfOk result (AllByRecursion (HasPlaces schema.now margins.now.items)) }
     ensures parts { IfOk result (AllByRecursion (IsPart schema.now.dimensions margins.now.items (join_rows (cores_of left.now) (cores_of right.now)))) }
 {
-    let numbers = numbers_of(&left.chunks)?;
+    let pieces = numbers_of(&left.chunks)?;
     let of = OfBoth {
         left,
         right,
         schema,
         margins,
     };
-    over_pieces(crew, numbers, &of)
+    over_pieces(crew, pieces, &of)
 }
 
 /// The join of two arrays of which none is broken, chunk by chunk.

@@ -131,7 +131,7 @@ fn window_parts<R: Threads + Sync, G: Gate>(
     ensures places { IfOk result (AllByRecursion (HasPlaces target.now margins.now.items)) }
     ensures parts { IfOk result (AllByRecursion (IsPart target.now.dimensions margins.now.items (window_rows reach.now aggs.now (cores_of array.now)))) }
 {
-    let numbers = numbers_of(&array.chunks)?;
+    let pieces = numbers_of(&array.chunks)?;
     let of = OfArray {
         array,
         reach,
@@ -139,7 +139,7 @@ fn window_parts<R: Threads + Sync, G: Gate>(
         target,
         margins,
     };
-    over_pieces(crew, numbers, &of)
+    over_pieces(crew, pieces, &of)
 }
 
 /// The windows of an array that is not broken, chunk by chunk.

@@ -1,4 +1,4 @@
-use Rattle.std.proofs.Common.{ℕ, List, sym, subst, IfOk}
+use Rattle.std.proofs.Common.{ℕ, List, sym, subst}
 use Rattle.std.specs.List.{AllByRecursion, AllZip}
 use Rattle.std.proofs.lemmas.Result.{IfOk-weaker}
 use Rattle.arrayvec.specs.ArrayVec.{ArrayVec}
@@ -20,7 +20,7 @@ over_pieces-requires g c κs lives =
     let margins = c.args.margins.now.items in
     let can : ArrayVec ℕ → Type 0 = λ number. HaveCells left.schema left.margins.items left.chunks × HaveCells right.schema right.margins.items right.chunks × NumbersRise (numbers left.chunks) × NumbersRise (numbers right.chunks)
     × HasFrame schema margins number.items in
-    subst (λ (ks : List (ArrayVec ℕ)). AllByRecursion can ks) (sym c.in_ok-numbers.ensures)
+    subst (λ (ks : List (ArrayVec ℕ)). AllByRecursion can ks) (sym c.in_ok-pieces.ensures)
     (each_number can (HasPlaces left.schema left.margins.items)
     (λ chunk placed. (c.requires.left_cells, c.requires.right_cells, c.requires.left_rise, c.requires.right_rise, joined_frame left.schema right.schema schema left.margins.items margins chunk c.requires.schema placed c.requires.frames))
     left.chunks c.requires.left_cells.placed.all)
@@ -30,17 +30,17 @@ returns-clause-numbers g c =
     let rows = join_rows (cores_of c.args.left.now) (cores_of c.args.right.now) in
     IfOk-weaker c.over_pieces.result _ _
     (λ parts h. parts_numbers c.args.schema.now c.args.margins.now.items rows c.args.left.now.chunks parts
-    (subst (λ (ks : List (ArrayVec ℕ)). AllZip (IsPartAt c.args.schema.now c.args.margins.now.items rows) ks parts) c.in_ok-numbers.ensures h))
+    (subst (λ (ks : List (ArrayVec ℕ)). AllZip (IsPartAt c.args.schema.now c.args.margins.now.items rows) ks parts) c.in_ok-pieces.ensures h))
     c.over_pieces.ensures.each
 
 pub returns-clause-places : goal.returns-clause-places
 returns-clause-places g c =
     IfOk-weaker c.over_pieces.result _ _
-    (λ parts h. parts_places c.args.schema.now c.args.margins.now.items (join_rows (cores_of c.args.left.now) (cores_of c.args.right.now)) c.in_ok-numbers.numbers parts h)
+    (λ parts h. parts_places c.args.schema.now c.args.margins.now.items (join_rows (cores_of c.args.left.now) (cores_of c.args.right.now)) c.in_ok-pieces.pieces parts h)
     c.over_pieces.ensures.each
 
 pub returns-clause-parts : goal.returns-clause-parts
 returns-clause-parts g c =
     IfOk-weaker c.over_pieces.result _ _
-    (λ parts h. parts_each c.args.schema.now c.args.margins.now.items (join_rows (cores_of c.args.left.now) (cores_of c.args.right.now)) c.in_ok-numbers.numbers parts h)
+    (λ parts h. parts_each c.args.schema.now c.args.margins.now.items (join_rows (cores_of c.args.left.now) (cores_of c.args.right.now)) c.in_ok-pieces.pieces parts h)
     c.over_pieces.ensures.each

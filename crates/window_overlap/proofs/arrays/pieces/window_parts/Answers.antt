@@ -1,4 +1,4 @@
-use Rattle.std.proofs.Common.{◌≡◌, ℕ, List, IsTrue, sym, subst, IfOk}
+use Rattle.std.proofs.Common.{◌≡◌, ℕ, List, IsTrue, sym, subst}
 use Rattle.std.specs.List.{AllByRecursion, AllZip}
 use Rattle.std.proofs.lemmas.Result.{IfOk-weaker}
 use Rattle.arrayvec.specs.ArrayVec.{ArrayVec}
@@ -20,7 +20,7 @@ over_pieces-requires g c κs lives =
     let margins = c.args.margins.now.items in
     let can : ArrayVec ℕ → Type 0 = λ number. HaveCells array.schema array.margins.items array.chunks × NumbersRise (numbers array.chunks) × IsTrue (are_windows_of array.schema c.args.reach.now)
     × IsTrue (are_aggregates_of array.schema.attributes c.args.aggs.now) × (target.dimensions ≡ array.schema.dimensions) × HasFrame target margins number.items in
-    subst (λ (ks : List (ArrayVec ℕ)). AllByRecursion can ks) (sym c.in_ok-numbers.ensures)
+    subst (λ (ks : List (ArrayVec ℕ)). AllByRecursion can ks) (sym c.in_ok-pieces.ensures)
     (each_number can (HasPlaces array.schema array.margins.items)
     (λ chunk placed. (c.requires.cells, c.requires.rise, c.requires.reach, c.requires.typed, c.requires.same, same_frame array.schema target array.margins.items margins chunk c.requires.same c.requires.frames placed))
     array.chunks c.requires.cells.placed.all)
@@ -30,17 +30,17 @@ returns-clause-numbers g c =
     let rows = window_rows c.args.reach.now c.args.aggs.now (cores_of c.args.array.now) in
     IfOk-weaker c.over_pieces.result _ _
     (λ parts h. parts_numbers c.args.target.now c.args.margins.now.items rows c.args.array.now.chunks parts
-    (subst (λ (ks : List (ArrayVec ℕ)). AllZip (IsPartAt c.args.target.now c.args.margins.now.items rows) ks parts) c.in_ok-numbers.ensures h))
+    (subst (λ (ks : List (ArrayVec ℕ)). AllZip (IsPartAt c.args.target.now c.args.margins.now.items rows) ks parts) c.in_ok-pieces.ensures h))
     c.over_pieces.ensures.each
 
 pub returns-clause-places : goal.returns-clause-places
 returns-clause-places g c =
     IfOk-weaker c.over_pieces.result _ _
-    (λ parts h. parts_places c.args.target.now c.args.margins.now.items (window_rows c.args.reach.now c.args.aggs.now (cores_of c.args.array.now)) c.in_ok-numbers.numbers parts h)
+    (λ parts h. parts_places c.args.target.now c.args.margins.now.items (window_rows c.args.reach.now c.args.aggs.now (cores_of c.args.array.now)) c.in_ok-pieces.pieces parts h)
     c.over_pieces.ensures.each
 
 pub returns-clause-parts : goal.returns-clause-parts
 returns-clause-parts g c =
     IfOk-weaker c.over_pieces.result _ _
-    (λ parts h. parts_each c.args.target.now c.args.margins.now.items (window_rows c.args.reach.now c.args.aggs.now (cores_of c.args.array.now)) c.in_ok-numbers.numbers parts h)
+    (λ parts h. parts_each c.args.target.now c.args.margins.now.items (window_rows c.args.reach.now c.args.aggs.now (cores_of c.args.array.now)) c.in_ok-pieces.pieces parts h)
     c.over_pieces.ensures.each
