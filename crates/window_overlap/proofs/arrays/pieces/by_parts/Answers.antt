@@ -1,5 +1,6 @@
 use Rattle.std.proofs.Common.{◌≡◌, refl, ap}
 use Rattle.cell_values.specs.declared.schema.Schema.{Schema}
+use Rattle.array_geom.proofs.MarginLaws.{overlap_each, overlap_places}
 use Rattle.array_parts.specs.Cores.{cores_of}
 use Rattle.logical_plan.specs.Groups.{window_rows}
 use Rattle.logical_plan.specs.PlanSchema.{window_schema}
@@ -7,6 +8,12 @@ use Rattle.exec_group.proofs.WholeLaws.{means_whole, of_cores, stands_for}
 use Rattle.window_overlap.proofs.ArraysWindowLaws.{windows_are_rows}
 use Rattle.window_overlap.proofs.PieceLaws.{whole_parts}
 use Rattle.window_overlap.proofs.arrays.pieces.by_parts.Goals as goal
+
+pub window_parts-requires-clause-frames : goal.window_parts-requires-clause-frames
+window_parts-requires-clause-frames g c κs lives =
+    let target = c.args.target.now in
+    let margins = c.margins_of-margins in
+    record { valid = c.requires.valid; each = overlap_each target margins.result.items margins.ensures; places = overlap_places target margins.result.items margins.ensures c.requires.valid }
 
 pub returns-clause-array : goal.returns-clause-array
 returns-clause-array g c =
