@@ -79,7 +79,6 @@ impl Work<ChunkAt, Chunk> for OfBoth<'_> {
     }
 }
 
-#[tactic(auto, using(crate::proofs::PieceLaws::can_join))]
 fn join_parts<R: Threads + Sync, G: Gate>(
     crew: &mut Crew<'_, R, G>,
     left: &ChunkedArray,

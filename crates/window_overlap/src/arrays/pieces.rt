@@ -113,7 +113,6 @@ impl Work<ChunkAt, Chunk> for OfArray<'_> {
     }
 }
 
-#[tactic(auto, using(crate::proofs::PieceLaws::can_have_windows))]
 fn window_parts<R: Threads + Sync, G: Gate>(
     crew: &mut Crew<'_, R, G>,
     array: &ChunkedArray,
