@@ -1,10 +1,8 @@
 pub mod ArraysCrossLaws
 pub mod JoinLaws
-pub mod JoinSteps
 pub mod MadeLaws
 pub mod MoveLaws
 pub mod PartnerLaws
 pub mod PieceLaws
-pub mod RepartLaws
 pub mod RowsCrossLaws
 pub mod SideLaws

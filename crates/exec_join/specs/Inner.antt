@@ -1,4 +1,3 @@
 pub mod Beside
 pub mod Cross
-pub mod Joining
 pub mod Partners

@@ -7,6 +7,7 @@ use array_store::Store;
 use cell_values::{Bytes, Memory};
 use page_file::OpenCause;
 use std::alloc::Global;
+use std::thread::Threads;
 use store_opening::Limits;
 use test_disks::QuietDisk;
 use test_files::disk_of;
@@ -19,11 +20,16 @@ const LIMITS: Limits = Limits {
 };
 
 /// The database with a change.
-pub fn with_change(alloc: Global, file: Bytes, change: &str) -> Result<Bytes, Memory> {
+pub fn with_change<R: Threads + Sync>(
+    rt: &R,
+    alloc: Global,
+    file: Bytes,
+    change: &str,
+) -> Result<Bytes, Memory> {
     let (disk, watch) = QuietDisk::watched(alloc, disk_of(alloc, file, None)?)?;
     match opened(alloc, disk, LIMITS) {
         Ok(mut store) => {
-            let answer = once(alloc, &mut store, 0, change.as_bytes());
+            let answer = once(rt, alloc, &mut store, 0, change.as_bytes());
             drop(answer);
             drop(store);
             watch.bytes()

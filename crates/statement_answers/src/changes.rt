@@ -24,6 +24,7 @@ use plan_changes::{Change, has_its_names, let_go_change, newest_of};
 use result_print::Refusal;
 use statement_replies::{Reply, accepted_line, refuse};
 use std::alloc::Global;
+use std::thread::Threads;
 
 /// The newest version of an array, version 0 where there is none.
 fn newest_leaf(names: &Names, name: &Name, schema: &Schema) -> Result<Leaf, Memory>
@@ -37,7 +38,8 @@ fn newest_leaf(names: &Names, name: &Name, schema: &Schema) -> Result<Leaf, Memo
 }
 
 /// The chunks of a change that puts a version under this name, with this schema, or its fault.
-fn chunks_put<S: ChunkSource, G: Gate>(
+fn chunks_put<S: ChunkSource, R: Threads + Sync, G: Gate>(
+    rt: &R,
     alloc: Global,
     change: &Change,
     name: &Name,
@@ -65,14 +67,15 @@ fn chunks_put<S: ChunkSource, G: Gate>(
     ensures start { S.start source.new ≡ S.start source.old }
 {
     let target = newest_leaf(names, name, schema)?;
-    match changed(alloc, change, &target, source, workers, session, gate)? {
+    match changed(rt, alloc, change, &target, source, workers, session, gate)? {
         Ok(changed) => Ok(Ok(Some(changed))),
         Err(broken) => Ok(Err(broken)),
     }
 }
 
 /// The chunks that come with a change, or its fault.
-fn chunks_of<S: ChunkSource, G: Gate>(
+fn chunks_of<S: ChunkSource, R: Threads + Sync, G: Gate>(
+    rt: &R,
     alloc: Global,
     change: &Change,
     names: &Names,
@@ -98,10 +101,10 @@ fn chunks_of<S: ChunkSource, G: Gate>(
 {
     match change {
         Change::Store { name, schema, .. } => chunks_put(
-            alloc, change, name, schema, names, source, workers, session, gate,
+            rt, alloc, change, name, schema, names, source, workers, session, gate,
         ),
         Change::Insert { name, schema, .. } => chunks_put(
-            alloc, change, name, schema, names, source, workers, session, gate,
+            rt, alloc, change, name, schema, names, source, workers, session, gate,
         ),
         Change::Create { .. } => Ok(Ok(None)),
         Change::Remove { .. } => Ok(Ok(None)),
@@ -132,7 +135,8 @@ fn faulty(alloc: Global, broken: Broken) -> Result<Reply, Memory>
 }
 
 /// What a change is answered: it is offered for a commit, or refused.
-fn offer_of<S: ChunkSource, G: Gate>(
+fn offer_of<S: ChunkSource, R: Threads + Sync, G: Gate>(
+    rt: &R,
     alloc: Global,
     change: &Change,
     names: &Names,
@@ -158,14 +162,15 @@ fn offer_of<S: ChunkSource, G: Gate>(
     ensures start { S.start source.new ≡ S.start source.old }
 {
     has_its_names(change);
-    match chunks_of(alloc, change, names, source, workers, session, gate)? {
+    match chunks_of(rt, alloc, change, names, source, workers, session, gate)? {
         Ok(changed) => Ok(Ok(offered(alloc, change, names, changed)?)),
         Err(broken) => Ok(Err(faulty(alloc, broken)?)),
     }
 }
 
 /// What comes of a change.
-pub(crate) fn outcome_of_change<S: ChunkSource, G: Gate>(
+pub(crate) fn outcome_of_change<S: ChunkSource, R: Threads + Sync, G: Gate>(
+    rt: &R,
     alloc: Global,
     change: Change,
     names: &Names,
@@ -190,7 +195,7 @@ pub(crate) fn outcome_of_change<S: ChunkSource, G: Gate>(
     ensures cause { Answers (S.state source.old) (S.state source.new) result }
     ensures start { S.start source.new ≡ S.start source.old }
 {
-    match offer_of(alloc, &change, names, source, workers, session, gate) {
+    match offer_of(rt, alloc, &change, names, source, workers, session, gate) {
         Ok(offer) => Ok(outcome_with(change, offer)),
         Err(fault) => {
             let_go_change(change);

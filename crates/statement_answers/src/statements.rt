@@ -24,9 +24,11 @@ use logical_plan::{Names, Plan, let_go};
 use result_print::Refusal;
 use statement_replies::{answer_query, list_reply, refuse, show_reply, versions_reply};
 use std::alloc::Global;
+use std::thread::Threads;
 
 /// What comes of a query.
-fn outcome_of_query<S: ChunkSource, G: Gate>(
+fn outcome_of_query<S: ChunkSource, R: Threads + Sync, G: Gate>(
+    rt: &R,
     alloc: Global,
     plan: &Plan,
     names: &Names,
@@ -49,14 +51,15 @@ fn outcome_of_query<S: ChunkSource, G: Gate>(
     ensures cause { Answers (S.state source.old) (S.state source.new) result }
     ensures start { S.start source.new ≡ S.start source.old }
 {
-    match answer_query(alloc, plan, source, workers, session, gate) {
+    match answer_query(rt, alloc, plan, source, workers, session, gate) {
         Ok(reply) => Ok(Outcome::Replied(reply)),
         Err(fault) => Err(fault),
     }
 }
 
 /// What comes of a typed statement.
-fn outcome_of_typed<S: ChunkSource, G: Gate>(
+fn outcome_of_typed<S: ChunkSource, R: Threads + Sync, G: Gate>(
+    rt: &R,
     alloc: Global,
     typed: Typed,
     names: &Names,
@@ -82,12 +85,12 @@ fn outcome_of_typed<S: ChunkSource, G: Gate>(
 {
     match typed {
         Typed::Query(plan) => {
-            let outcome = outcome_of_query(alloc, &plan, names, source, workers, session, gate);
+            let outcome = outcome_of_query(rt, alloc, &plan, names, source, workers, session, gate);
             let_go(plan);
             outcome
         }
         Typed::Change(change) => {
-            outcome_of_change(alloc, change, names, source, workers, session, gate)
+            outcome_of_change(rt, alloc, change, names, source, workers, session, gate)
         }
         Typed::Versions(name) => Ok(Outcome::Replied(versions_reply(alloc, &name, names)?)),
         Typed::Show(name) => Ok(Outcome::Replied(show_reply(alloc, &name, names)?)),
@@ -96,8 +99,9 @@ fn outcome_of_typed<S: ChunkSource, G: Gate>(
 }
 
 /// What comes of a statement's tree, which is of this text, over the arrays of a source that has the versions of these names: its
-/// reply, or a change that may be committed. The number of workers and the gate change nothing.
-pub fn outcome_of<S: ChunkSource, G: Gate>(
+/// reply, or a change that may be committed. How many workers there are changes nothing.
+pub fn outcome_of<S: ChunkSource, R: Threads + Sync, G: Gate>(
+    rt: &R,
     alloc: Global,
     text: &[u8],
     tree: &Tree,
@@ -127,7 +131,7 @@ pub fn outcome_of<S: ChunkSource, G: Gate>(
     ensures start { S.start source.new ≡ S.start source.old }
 {
     match check(alloc, tree, text, names) {
-        Ok(typed) => outcome_of_typed(alloc, typed, names, source, workers, session, gate),
+        Ok(typed) => outcome_of_typed(rt, alloc, typed, names, source, workers, session, gate),
         Err(TypeFault::Rule { span, kind }) => {
             Ok(Outcome::Replied(refuse(alloc, Refusal::Typing { span, kind })?))
         }

@@ -29,10 +29,12 @@ use logical_plan::{Names, Plan};
 use plan_rows::{PlanArray, array_of};
 use result_print::Refusal;
 use std::alloc::Global;
+use std::thread::Threads;
 
 /// The reply to the tree of a query, over the arrays of a source that has the versions of these names: the first rule that it
 /// breaks, else its array's first fault, else its array's text.
-pub fn reply_to_query<S: ChunkSource, G: Gate>(
+pub fn reply_to_query<S: ChunkSource, R: Threads + Sync, G: Gate>(
+    rt: &R,
     alloc: Global,
     text: &[u8],
     tree: &Tree,
@@ -60,7 +62,7 @@ pub fn reply_to_query<S: ChunkSource, G: Gate>(
 {
     match query_plan(alloc, tree, text, names) {
         Ok(plan) => {
-            let answer = answer_query(alloc, &plan, source, workers, session, gate);
+            let answer = answer_query(rt, alloc, &plan, source, workers, session, gate);
             drop(plan);
             answer
         }
@@ -71,7 +73,8 @@ pub fn reply_to_query<S: ChunkSource, G: Gate>(
 
 /// The reply to a query's plan, over the arrays of a source that has the versions which it reads: its array's first fault, or else
 /// its array's text.
-pub fn answer_query<S: ChunkSource, G: Gate>(
+pub fn answer_query<S: ChunkSource, R: Threads + Sync, G: Gate>(
+    rt: &R,
     alloc: Global,
     plan: &Plan,
     source: &mut S,
@@ -90,7 +93,7 @@ pub fn answer_query<S: ChunkSource, G: Gate>(
     ensures cause { Answers (S.state source.old) (S.state source.new) result }
     ensures start { S.start source.new ≡ S.start source.old }
 {
-    match array_of(alloc, plan, source, workers, session, gate) {
+    match array_of(rt, alloc, plan, source, workers, session, gate) {
         Ok(found) => match reply_of(alloc, found) {
             Ok(reply) => Ok(reply),
             Err(Memory) => Err(ExecFault::Memory),

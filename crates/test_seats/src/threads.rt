@@ -52,7 +52,7 @@ fn statement_behind(alloc: Global, name: &str, commits: u32) -> Result<String, A
 }
 
 /// Makes so many commits of the session's array.
-fn commit_often<D: Disk, R: Wait>(
+fn commit_often<D: Disk, R: Threads + Wait + Sync>(
     rt: &R,
     alloc: Global,
     shared: &Shared<D>,
@@ -278,7 +278,7 @@ pub(crate) fn push_threads<R: Threads + Wait + Sync>(
     count: u32,
 ) -> Result<()> {
     let alloc = *out.allocator();
-    let file = with_change(alloc, made(alloc)?, "create array A <v:int64>[i=0:0,1,0]")?;
-    let file = with_change(alloc, file, "create array B <v:int64>[i=0:0,1,0]")?;
+    let file = with_change(rt, alloc, made(alloc)?, "create array A <v:int64>[i=0:0,1,0]")?;
+    let file = with_change(rt, alloc, file, "create array B <v:int64>[i=0:0,1,0]")?;
     Ok(push_run(rt, out, file, limits, count)?)
 }

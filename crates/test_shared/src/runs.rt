@@ -12,6 +12,7 @@ use shared_visits::{Step, Visitor, arrived};
 use snapshot_manager::{Seat, Shared};
 use std::alloc::Global;
 use std::sync::Wait;
+use std::thread::Threads;
 use test_stores::Answer as StoreAnswer;
 
 /// A store that three sessions share.
@@ -27,7 +28,7 @@ pub(crate) struct Run {
 }
 
 /// What a step of a session is answered.
-pub(crate) fn answer_to<R: Wait>(
+pub(crate) fn answer_to<R: Threads + Wait + Sync>(
     rt: &R,
     alloc: Global,
     run: &mut Run,

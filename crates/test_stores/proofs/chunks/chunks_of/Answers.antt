@@ -6,7 +6,7 @@ use Rattle.test_stores.proofs.Making.{insert_can_be_made}
 use Rattle.test_stores.proofs.chunks.chunks_of.Goals as goal
 
 pub chunks_made-requires-then-reads_nothing-2 : goal.chunks_made-requires-then-reads_nothing-2
-chunks_made-requires-then-reads_nothing-2 c =
+chunks_made-requires-then-reads_nothing-2 g c κs lives =
     let i = c.in-Insert in
     let e : c.args.change.now ≡ Insert i.name i.schema i.plan = cc in
     let typed = subst (IsTypedFor c.args.names.now) e c.requires.typed in
