@@ -15,6 +15,7 @@ use session_answers::{Options, Seat, Shared};
 use session_reports::{Mark, SessionEnd, SessionReport};
 use std::alloc::Global;
 use std::sync::Wait;
+use std::thread::Threads;
 
 /// How many bytes are read at a time.
 const PIECE: usize = 4096;
@@ -41,7 +42,7 @@ impl Stopped {
 
 impl<K: Sink> Session<K> {
     /// Answers the statement that the splitter told, if it told one.
-    fn take_step<D: Disk, R: Wait, G: Gate>(
+    fn take_step<D: Disk, R: Threads + Wait + Sync, G: Gate>(
         &mut self,
         rt: &R,
         shared: &Shared<D>,
@@ -90,7 +91,7 @@ impl<K: Sink> Session<K> {
     }
 
     /// Takes the next bytes of the script.
-    fn take_bytes<D: Disk, R: Wait, G: Gate>(
+    fn take_bytes<D: Disk, R: Threads + Wait + Sync, G: Gate>(
         &mut self,
         rt: &R,
         shared: &Shared<D>,
@@ -129,7 +130,7 @@ impl<K: Sink> Session<K> {
     }
 
     /// Takes the script's end.
-    fn take_end<D: Disk, R: Wait, G: Gate>(
+    fn take_end<D: Disk, R: Threads + Wait + Sync, G: Gate>(
         &mut self,
         rt: &R,
         shared: &Shared<D>,
@@ -159,7 +160,7 @@ impl<K: Sink> Session<K> {
 }
 
 /// Answers the script of a source, from its start to its end.
-fn converse<D: Disk, S: Source, K: Sink, R: Wait, G: Gate>(
+fn converse<D: Disk, S: Source, K: Sink, R: Threads + Wait + Sync, G: Gate>(
     rt: &R,
     shared: &Shared<D>,
     seat: Seat<D>,
@@ -206,7 +207,7 @@ fn converse<D: Disk, S: Source, K: Sink, R: Wait, G: Gate>(
 
 /// Answers the statements of a script over a store that is shared, as they end, and writes the texts of their replies. The room of a
 /// statement's mark is there before it is answered; where there is none the session ends.
-pub fn serve<D: Disk, S: Source, K: Sink, R: Wait, G: Gate>(
+pub fn serve<D: Disk, S: Source, K: Sink, R: Threads + Wait + Sync, G: Gate>(
     rt: &R,
     alloc: Global,
     shared: &Shared<D>,

@@ -14,9 +14,10 @@ use session_answers::{Options, Reply, Seat, Shared, answer, refusal_or_want};
 use session_reports::Mark;
 use std::alloc::{AllocError, Global};
 use std::sync::Wait;
+use std::thread::Threads;
 
 /// The reply to a statement between these places, which has no text where it is too long, and this number.
-fn reply_to<D: Disk, R: Wait, G: Gate>(
+fn reply_to<D: Disk, R: Threads + Wait + Sync, G: Gate>(
     rt: &R,
     alloc: Global,
     shared: &Shared<D>,
@@ -118,7 +119,7 @@ fn keep_mark(marks: &mut Vec<Mark>, from: u64, to: u64, reply: Reply)
 }
 
 /// Answers a statement, for whose mark there is room: it is the one of the number that counts those before it.
-fn answer_marked<D: Disk, K: Sink, R: Wait, G: Gate>(
+fn answer_marked<D: Disk, K: Sink, R: Threads + Wait + Sync, G: Gate>(
     rt: &R,
     alloc: Global,
     shared: &Shared<D>,
@@ -154,7 +155,7 @@ fn answer_marked<D: Disk, K: Sink, R: Wait, G: Gate>(
 }
 
 /// Answers a statement and keeps its mark, if there is room for that.
-pub(crate) fn answer_statement<D: Disk, K: Sink, R: Wait, G: Gate>(
+pub(crate) fn answer_statement<D: Disk, K: Sink, R: Threads + Wait + Sync, G: Gate>(
     rt: &R,
     alloc: Global,
     shared: &Shared<D>,

@@ -16,13 +16,14 @@ use result_print::Refusal;
 use session_turns::{Options, Reply, Seat, Shared, refusal_at, refusal_or_want, want};
 use std::alloc::Global;
 use std::sync::Wait;
+use std::thread::Threads;
 use store_ledger::PinFault;
 
 /// Answers a statement of a seat's session, which is its statement of this number.
 ///
 /// It is parsed, and checked and computed under a pin of its own, outside every turn. A change is then committed; where the arrays that it
 /// reads are no longer as they were, it is checked and computed again in the turn of its commit.
-pub fn answer<D: Disk, R: Wait, G: Gate>(
+pub fn answer<D: Disk, R: Threads + Wait + Sync, G: Gate>(
     rt: &R,
     alloc: Global,
     shared: &Shared<D>,
@@ -52,7 +53,7 @@ pub fn answer<D: Disk, R: Wait, G: Gate>(
 }
 
 /// Answers a statement of this text.
-fn answer_text<D: Disk, R: Wait, G: Gate>(
+fn answer_text<D: Disk, R: Threads + Wait + Sync, G: Gate>(
     rt: &R,
     alloc: Global,
     shared: &Shared<D>,
@@ -91,7 +92,7 @@ fn answer_text<D: Disk, R: Wait, G: Gate>(
 }
 
 /// Answers a statement with this tree.
-fn answer_tree<D: Disk, R: Wait, G: Gate>(
+fn answer_tree<D: Disk, R: Threads + Wait + Sync, G: Gate>(
     rt: &R,
     alloc: Global,
     shared: &Shared<D>,

@@ -22,10 +22,11 @@ use session_turns::{Commit, Options, Reply, Seat, Shared, answer_held, at_place,
 use statement_replies::Reply as Words;
 use std::alloc::Global;
 use std::sync::Wait;
+use std::thread::Threads;
 use store_ledger::Pinned;
 
 /// Commits a change that a statement was under the pin, with these words where it is made, and answers as it goes.
-pub(crate) fn commit<D: Disk, R: Wait, G: Gate>(
+pub(crate) fn commit<D: Disk, R: Threads + Wait + Sync, G: Gate>(
     rt: &R,
     alloc: Global,
     shared: &Shared<D>,

@@ -23,10 +23,11 @@ use session_turns::{
 use statement_answers::{Outcome, outcome_of};
 use std::alloc::Global;
 use std::sync::Wait;
+use std::thread::Threads;
 use store_ledger::Pinned;
 
 /// Answers a statement under the pin of its session.
-pub(crate) fn answer_pinned<D: Disk, R: Wait, G: Gate>(
+pub(crate) fn answer_pinned<D: Disk, R: Threads + Wait + Sync, G: Gate>(
     rt: &R,
     alloc: Global,
     shared: &Shared<D>,
@@ -86,7 +87,7 @@ fn behind<D: Disk>(shared: &Shared<D>, seat: &Seat<D>, pinned: &Pinned) -> u64
 }
 
 /// What comes of a statement over what the pin sees.
-fn read_under<D: Disk, R: Wait, G: Gate>(
+fn read_under<D: Disk, R: Threads + Wait + Sync, G: Gate>(
     rt: &R,
     alloc: Global,
     shared: &Shared<D>,
@@ -107,6 +108,7 @@ fn read_under<D: Disk, R: Wait, G: Gate>(
     sources_hold_their_versions::<D>();
     let mut source = PinnedSource::new(rt, alloc, shared, seat, pinned);
     let outcome = outcome_of(
+        rt,
         alloc,
         text,
         tree,

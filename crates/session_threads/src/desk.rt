@@ -29,7 +29,7 @@ pub(crate) enum Desk<D: Disk, S, K> {
 
 impl<D: Disk + Drop, S: Source + Drop, K: Sink + Drop> Desk<D, S, K> {
     // The session's whole work.
-    fn work<R: Wait, G: Gate>(
+    fn work<R: Threads + Wait + Sync, G: Gate>(
         &mut self,
         rt: &R,
         alloc: Global,

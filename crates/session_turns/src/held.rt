@@ -33,10 +33,11 @@ use statement_answers::{Outcome, outcome_of};
 use statement_replies::Reply as Words;
 use std::alloc::Global;
 use std::sync::Wait;
+use std::thread::Threads;
 use store_ledger::Pinned;
 
 /// Answers a statement over the store of a turn that its seat holds, and ends the turn. Under the pin the statement was a change.
-pub fn answer_held<D: Disk, R: Wait, G: Gate>(
+pub fn answer_held<D: Disk, R: Threads + Wait + Sync, G: Gate>(
     rt: &R,
     alloc: Global,
     shared: &Shared<D>,
@@ -67,14 +68,15 @@ pub fn answer_held<D: Disk, R: Wait, G: Gate>(
     let mut seat = seat;
     let mut turn = turn;
     turn.value().is_at();
-    let (reply, mut turn) = answer_in_turn(alloc, turn, pinned.session, text, tree, options, gate);
+    let (reply, mut turn) = answer_in_turn(rt, alloc, turn, pinned.session, text, tree, options, gate);
     turn.value().is_at();
     shared.end_turn(rt, &mut seat, turn);
     (reply, seat)
 }
 
 /// Answers a statement of a session over the store of a turn.
-fn answer_in_turn<D: Disk, G: Gate>(
+fn answer_in_turn<D: Disk, R: Threads + Sync, G: Gate>(
+    rt: &R,
     alloc: Global,
     turn: StoreTurn<D>,
     session: u32,
@@ -95,13 +97,14 @@ fn answer_in_turn<D: Disk, G: Gate>(
     let store = turn.value();
     let place = store.history().len() as u64;
     match store.names().copy() {
-        Ok(names) => answer_over(alloc, turn, session, text, tree, &names, options, gate),
+        Ok(names) => answer_over(rt, alloc, turn, session, text, tree, &names, options, gate),
         Err(Memory) => (want(alloc, place), turn),
     }
 }
 
 /// Answers a statement over the store of a turn, whose names these are.
-fn answer_over<D: Disk, G: Gate>(
+fn answer_over<D: Disk, R: Threads + Sync, G: Gate>(
+    rt: &R,
     alloc: Global,
     turn: StoreTurn<D>,
     session: u32,
@@ -123,6 +126,7 @@ fn answer_over<D: Disk, G: Gate>(
 {
     let mut source = HeldSource::new(alloc, turn, session);
     let outcome = outcome_of(
+        rt,
         alloc,
         text,
         tree,
