@@ -40,7 +40,8 @@ pub enum PlanArray {
 }
 
 /// What a plan gives over the arrays of a source, in chunks.
-pub fn array_of<S: ChunkSource, G: Gate>(
+pub fn array_of<S: ChunkSource, R: Threads + Sync, G: Gate>(
+    rt: &R,
     alloc: Global,
     plan: &Plan,
     source: &mut S,
@@ -60,7 +61,7 @@ pub fn array_of<S: ChunkSource, G: Gate>(
     ensures cause { Answers (S.state source.old) (S.state source.new) result }
     ensures start { S.start source.new ≡ S.start source.old }
 {
-    match execute(alloc, plan, source, workers, session, gate) {
+    match execute(rt, alloc, plan, source, workers, session, gate) {
         Ok(array) => Ok(array_in(array)),
         Err(fault) => Err(fault),
     }
