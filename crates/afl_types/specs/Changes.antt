@@ -6,7 +6,8 @@ use Rattle.std.specs.Str.{bytes_eq}
 use Rattle.cell_values.specs.declared.name.Span.{Span}
 use Rattle.cell_values.specs.declared.schema.Schema.{Schema}
 use Rattle.schema_grammar.specs.declared.shape_text.SchemaText.{SchemaText}
-use Rattle.schema_grammar.specs.declared.kinds.TypeKind.TheVariants.{WrongType, WrongCount, UnknownName, UnknownArray, UnknownVersion, ArrayExists, SchemaDiffers, TooManyArrays, TooManyVersions}
+use Rattle.schema_grammar.specs.declared.kinds.TypeKind.TheVariants.{WrongType, WrongCount, UnknownName, UnknownArray, UnknownVersion}
+use Rattle.schema_grammar.specs.declared.kinds.TypeKind.TheVariants.{ArrayExists, SchemaDiffers, TooManyArrays, TooManyVersions}
 use Rattle.afl_trees.specs.Term.{Term, reference, text, Terms, no_terms, and_term}
 use Rattle.afl_trees.specs.Grammar.{span_of}
 use Rattle.logical_plan.specs.PlanSchema.{schema_of}

@@ -46,4 +46,5 @@ TypedHaveKinds = (attributes : List Attribute) (dimensions : List Dimension) (t 
 abbrev pub InnerFaultsFirst : Type 0
 InnerFaultsFirst = (attributes : List Attribute) (dimensions : List Dimension) (s at : Span) (op : BinaryOp) (a b : Term) (kind : TypeKind)
     → (typed attributes dimensions a ≡ refused at kind → typed attributes dimensions (binary s op a b) ≡ refused at kind)
-    × ((x : Operand) → typed attributes dimensions a ≡ Ok x → typed attributes dimensions b ≡ refused at kind → typed attributes dimensions (binary s op a b) ≡ refused at kind)
+    × ((x : Operand) → typed attributes dimensions a ≡ Ok x → typed attributes dimensions b ≡ refused at kind
+    → typed attributes dimensions (binary s op a b) ≡ refused at kind)

@@ -4,7 +4,8 @@ ghost use Rattle.afl_trees.specs.Term.{to_terms};
 ghost use Rattle.expr_nulls.specs.Expr.{literal};
 ghost use Rattle.check_rules.specs.Checked.{Answers, then};
 ghost use Rattle.check_rules.specs.Operators.{operator_named, form_named};
-ghost use Rattle.check_exprs.specs.Expressions.{operand, attribute_place, dimension_place, kind_at, named, negated, denied, combined, chosen, applied, bracketed, typed, typed_call};
+ghost use Rattle.check_exprs.specs.Expressions.{operand, attribute_place, dimension_place, kind_at, named, negated};
+ghost use Rattle.check_exprs.specs.Expressions.{denied, combined, chosen, applied, bracketed, typed, typed_call};
 ghost use Rattle.check_rules.specs.declared.rules.operator.Form.{Form};
 
 use crate::Operand;
@@ -233,7 +234,8 @@ fn typed_choice(
 ) -> Result<Operand, TypeFault>
     requires attributes { length attributes.now ≤ 64 }
     requires dimensions { length dimensions.now ≤ 6 }
-    ensures { Answers result (then (typed attributes.now dimensions.now test.now) (λ x. then (typed attributes.now dimensions.now a.now) (λ y. then (typed attributes.now dimensions.now b.now) (chosen span x y)))) }
+    ensures { Answers result (then (typed attributes.now dimensions.now test.now)
+        (λ x. then (typed attributes.now dimensions.now a.now) (λ y. then (typed attributes.now dimensions.now b.now) (chosen span x y)))) }
 {
     let test = typed(alloc, attributes, dimensions, test)?;
     match typed(alloc, attributes, dimensions, a) {

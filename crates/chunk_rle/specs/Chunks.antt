@@ -46,7 +46,11 @@ abbrev pub all_values : List Column → List (List Datum)
 all_values columns = map (λ column. values_of column.runs) columns
 
 abbrev pub chunk_of : ArrayVec ℕ → ChunkRuns → Chunk
-chunk_of at runs = record { at = at; positions = positions_of runs.positions; cells = cells_from 0 (length (positions_of runs.positions)) (all_values runs.columns) }
+chunk_of at runs = record {
+  at = at;
+  positions = positions_of runs.positions;
+  cells = cells_from 0 (length (positions_of runs.positions)) (all_values runs.columns);
+}
 
 -- a chunk, or how many bytes are left at the first wrong item of the payload
 unfoldable pub chunk_payload : Frame → ArrayVec ℕ → List Attribute → List ℕ → Result Chunk ℕ

@@ -33,7 +33,8 @@ values_of (run ∷ runs) = replicate run.length run.value ++ values_of runs
 -- a value before some runs: the first one grows, or it is a run of its own
 abbrev pub put_value : Datum → List Run → List Run
 put_value v [] = record { length = 1; value = v } ∷ []
-put_value v (run ∷ runs) = if is_same v run.value then record { length = suc run.length; value = run.value } ∷ runs else record { length = 1; value = v } ∷ run ∷ runs
+put_value v (run ∷ runs) = if is_same v run.value then record { length = suc run.length; value = run.value } ∷ runs
+    else record { length = 1; value = v } ∷ run ∷ runs
 
 abbrev pub value_runs : List Datum → List Run
 value_runs [] = []

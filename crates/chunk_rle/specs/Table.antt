@@ -1,5 +1,6 @@
 -- The items of a payload in their order, each with its test over the items before it.
-use Rattle.std.specs.Prelude.{ℕ, ◌+◌, zero, suc, Bool, true, false, not, ◌&&◌, ◌||◌, ◌==◌, nat_lt, nat_le, List, [], ◌∷◌, length, sum_by, Option, Some, None, Result, Ok, Err, if◌then◌else◌}
+use Rattle.std.specs.Prelude.{ℕ, ◌+◌, zero, suc, Bool, true, false, not, ◌&&◌, ◌||◌, ◌==◌, nat_lt, nat_le, List}
+use Rattle.std.specs.Prelude.{[], ◌∷◌, length, sum_by, Option, Some, None, Result, Ok, Err, if◌then◌else◌}
 use Rattle.std.specs.Int.{w16, w64, cast_signed}
 use Rattle.std.specs.Ordering.{int_eq}
 use Rattle.std.specs.Str.{bytes_eq}
@@ -32,7 +33,8 @@ is_start frame before start = nat_le before.least start && nat_lt start frame.vo
 -- not 0, no position past the volume or outside the bounds, and in the last run some position so far in the core
 abbrev pub is_length : Frame → Seen → Bool → ℕ → ℕ → Bool
 is_length frame before last start length =
-    nat_lt 0 length && nat_le (start + length) frame.volume && all_from frame.is_inside start length && (not last || (before.core || any_from frame.is_core start length))
+    nat_lt 0 length && nat_le (start + length) frame.volume && all_from frame.is_inside start length
+    && (not last || (before.core || any_from frame.is_core start length))
 
 unfoldable pub position_run_at : Frame → Seen → ℕ → Reading PosRun
 position_run_at frame before after bytes = do

@@ -9,13 +9,16 @@ use Rattle.chunk_rle.specs.declared.runs.Run.{Run}
 use Rattle.chunk_rle.specs.declared.runs.Column.{Column}
 use Rattle.chunk_rle.specs.declared.runs.ChunkRuns.{ChunkRuns}
 use Rattle.chunk_rle.specs.Spelling.{IsSpelled}
-use Rattle.chunk_rle.specs.Table.{Values, no_positions, with_run, is_start, is_length, count_positions, no_values, with_values, is_run_length, is_run_value, others}
+use Rattle.chunk_rle.specs.Table.{Values, no_positions, with_run, is_start, is_length, count_positions}
+use Rattle.chunk_rle.specs.Table.{no_values, with_values, is_run_length, is_run_value, others}
 
 abbrev pub IsPositionRun : Frame → Seen → ℕ → PosRun → Type 0
-IsPositionRun frame before after run = ((run.start < 2 ^ 64) × (is_start frame before run.start ≡ true)) × ((run.length < 2 ^ 64) × (is_length frame before (after == 0) run.start run.length ≡ true))
+IsPositionRun frame before after run = ((run.start < 2 ^ 64) × (is_start frame before run.start ≡ true))
+    × ((run.length < 2 ^ 64) × (is_length frame before (after == 0) run.start run.length ≡ true))
 
 abbrev pub IsRun : Attribute → ℕ → Values → ℕ → Run → Type 0
-IsRun attribute n before after run = ((run.length < 2 ^ 64) × (is_run_length n before.total (after == 0) run.length ≡ true)) × (IsSpelled run.value × (is_run_value attribute before run.value ≡ true))
+IsRun attribute n before after run = ((run.length < 2 ^ 64) × (is_run_length n before.total (after == 0) run.length ≡ true))
+    × (IsSpelled run.value × (is_run_value attribute before run.value ≡ true))
 
 abbrev pub some_runs : ℕ → ℕ → Bool
 some_runs n count = nat_lt 0 count && nat_le count n

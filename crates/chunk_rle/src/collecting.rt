@@ -30,7 +30,8 @@ fn continues(start: u64, length: u64, position: u64) -> bool
 #[tactic(auto, using(crate::proofs::Steps::position_joins, crate::proofs::Steps::position_begins))]
 fn take_position(runs: &mut List<PosRun>, run: PosRun, position: u64) -> Result<PosRun, Memory>
     requires { (0 < run.length) × (run.length < 2 ^ 63) }
-    ensures same { IfOk result (λ now. (rest : Items ℕ) → runs.new ++ position_runs (numbers_from now.start now.length ++ rest) ≡ runs.old ++ position_runs (numbers_from run.start run.length ++ position ∷ rest)) }
+    ensures same { IfOk result (λ now. (rest : Items ℕ) → runs.new ++ position_runs (numbers_from now.start now.length ++ rest)
+        ≡ runs.old ++ position_runs (numbers_from run.start run.length ++ position ∷ rest)) }
     ensures length { IfOk result (λ now. (0 < now.length) × (now.length ≤ run.length + 1)) }
 {
     if continues(run.start, run.length, position) {
@@ -88,7 +89,8 @@ fn value_runs(alloc: Global, cells: &[Cell], attribute: usize) -> Result<List<Ru
 fn take_value(runs: &mut List<Run>, run: Run, value: Datum) -> Result<Run, Memory>
     requires count { (0 < run.length) × (run.length < 2 ^ 63) }
     requires same { 1 < run.length → is_same run.value run.value ≡ true }
-    ensures same { IfOk result (λ now. (rest : Items OneDatum) → runs.new ++ value_runs (replicate now.length now.value ++ rest) ≡ runs.old ++ value_runs (replicate run.length run.value ++ value ∷ rest)) }
+    ensures same { IfOk result (λ now. (rest : Items OneDatum)
+        → runs.new ++ value_runs (replicate now.length now.value ++ rest) ≡ runs.old ++ value_runs (replicate run.length run.value ++ value ∷ rest)) }
     ensures length { IfOk result (λ now. (0 < now.length) × (now.length ≤ run.length + 1)) }
     ensures alike { IfOk result (λ now. 1 < now.length → is_same now.value now.value ≡ true) }
 {

@@ -100,7 +100,8 @@ pub fn decode(
     ensures number { IfOk result (λ chunk. chunk.at ≡ at.now) }
     ensures spelled { IfOk result (λ chunk. bytes.now ≡ spelling schema.now.attributes chunk) }
     // A chunk that is spelled so is answered, unless memory runs out.
-    ensures only { (chunk : AChunk) → IsStored schema.now chunk → chunk.at ≡ at.now → bytes.now ≡ spelling schema.now.attributes chunk → Answers (λ x. x) result bytes.now (Ok chunk) }
+    ensures only { (chunk : AChunk) → IsStored schema.now chunk → chunk.at ≡ at.now
+        → bytes.now ≡ spelling schema.now.attributes chunk → Answers (λ x. x) result bytes.now (Ok chunk) }
     // Which item is the first wrong one.
     ensures exact { Answers (λ x. x) result bytes.now (chunk_payload (frame_of schema.now at.now.items) at.now schema.now.attributes bytes.now) }
 {
@@ -112,5 +113,6 @@ pub fn decode(
 
 /// Two chunks with one number and one spelling are the same.
 pub fn same_spelling_same_chunk()
-    ensures { (schema : ASchema) (a b : AChunk) → IsStored schema a → IsStored schema b → a.at ≡ b.at → spelling schema.attributes a ≡ spelling schema.attributes b → a ≡ b }
+    ensures { (schema : ASchema) (a b : AChunk) → IsStored schema a → IsStored schema b → a.at ≡ b.at
+        → spelling schema.attributes a ≡ spelling schema.attributes b → a ≡ b }
 {}

@@ -54,7 +54,12 @@ abbrev pub blob_of : ℕ → BlobAt
 blob_of bytes = record { length = bytes; pages = replicate (pages_needed bytes) 1 }
 
 abbrev pub dir_entry : Schema → List Row → ChunkNumber → DirEntry
-dir_entry schema rows k = record { at = record { items = k }; length = payload_length schema rows k; birth = 1; pages = replicate (pages_needed (payload_length schema rows k)) 1 }
+dir_entry schema rows k = record {
+  at = record { items = k };
+  length = payload_length schema rows k;
+  birth = 1;
+  pages = replicate (pages_needed (payload_length schema rows k)) 1;
+}
 
 -- the directory of a version of these rows
 abbrev pub directory_of : Schema → List Row → BlobAt

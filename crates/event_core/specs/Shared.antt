@@ -38,7 +38,8 @@ shared_store = Store (codes "A") shared_schema (built shared_schema (literal (In
 
 -- another number at one place of the second chunk
 abbrev pub shared_insert : Change
-shared_insert = Insert (codes "A") shared_schema (between (built shared_schema (literal (Int (pos 8)))) (record { lo = record { items = pos 2 ∷ [] }; hi = record { items = pos 2 ∷ [] } }))
+shared_insert = Insert (codes "A") shared_schema
+    (between (built shared_schema (literal (Int (pos 8)))) (record { lo = record { items = pos 2 ∷ [] }; hi = record { items = pos 2 ∷ [] } }))
 
 -- session 0 stores A: its chunks on pages 3 and 4, its directory on 5, a record on 6. Session 1 pins. Session 0 inserts into the second chunk: the
 -- first one stays on page 3, the second comes on 7, the directory on 8, a record on 9. It removes the version 1, which session 1 can name, with a

@@ -22,7 +22,8 @@ fn add_versions(set: &mut PageSet, versions: &List<VersionPages>)
 /// Adds the pages that pins keep to a set.
 fn add_pins(set: &mut PageSet, pins: &List<CorePin>)
     ensures limit { length set.new ≡ length set.old }
-    ensures pages { (p : ℕ) → p < length set.old → slice_index_or set.new p false ≡ (slice_index_or set.old p false || list_any (λ pin. has_page pin.pages p) pins.now) }
+    ensures pages { (p : ℕ) → p < length set.old
+        → slice_index_or set.new p false ≡ (slice_index_or set.old p false || list_any (λ pin. has_page pin.pages p) pins.now) }
 {
     for pin in pins.as_slice() {
         add_versions(set, &pin.pages);

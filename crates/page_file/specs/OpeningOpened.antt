@@ -55,7 +55,8 @@ FrontRead file (Err Memory) = Unit {0}
 abbrev pub LogRead : List ℕ → ℕ → Result (List RecordAt) OpenCause → Type 0
 LogRead file log (Ok records) = IsPage log (length file) × IsLog (4096 * log) records file
 LogRead file log (Err Disk) = Unit {0}
-LogRead file log (Err (NotDatabase page)) = ((page ≡ 0) × (¬ IsPage log (length file))) ⊎ (IsPage log (length file) × (page ≡ log) × HasStray (4096 * page) file)
+LogRead file log (Err (NotDatabase page)) = ((page ≡ 0) × (¬ IsPage log (length file)))
+    ⊎ (IsPage log (length file) × (page ≡ log) × HasStray (4096 * page) file)
 LogRead file log (Err Memory) = Unit {0}
 
 -- the records of a current slot were read, of which format 1 has none

@@ -24,7 +24,8 @@ blobs_need Root catalog newest change written = base_needs catalog newest change
 -- they take the first free pages, and the log page of a new base is the next one
 abbrev pub base_by : Target → ℕ → Catalog → Directory → Change → Option Written → List ℕ → Option NewBase
 base_by Record sequence catalog newest change written free = None
-base_by Root sequence catalog newest change written free = Some (record { sequence = sequence; log = slice_index free (base_needs catalog newest change written) })
+base_by Root sequence catalog newest change written free = Some
+    (record { sequence = sequence; log = slice_index free (base_needs catalog newest change written) })
 
 abbrev pub laid_by : Target → Catalog → List ℕ → Directory → Change → Option Written → List ℕ → Laid
 laid_by Record catalog catalogue newest change written free =

@@ -261,7 +261,8 @@ fn counted_over(
     requires comes { is_some written.now ≡ makes_version change.now }
     requires written { IfSome written.now IsWritten }
     requires newest { AreRising (newest_at (names_in catalog.now) table.now.rows place change.now).entries }
-    ensures { IfOk result (λ count. count ≡ needs_by target catalog.now (newest_at (names_in catalog.now) table.now.rows place change.now) change.now written.now) }
+    ensures { IfOk result (λ count. count ≡ needs_by target catalog.now
+        (newest_at (names_in catalog.now) table.now.rows place change.now) change.now written.now) }
 {
     let newest = newest_at(table, ledger.names(), place, change);
     needed_over(alloc, target, catalog, newest, change, written)

@@ -33,7 +33,8 @@ fn parse_line(alloc: Global, at: u32, kind: ParseKind) -> Result<Bytes, Memory>
 }
 
 fn type_line(alloc: Global, span: Span, kind: TypeKind) -> Result<Bytes, Memory>
-    ensures { IfOk result (λ line. line ≡ codes "error: type at " ++ decimal span.start ++ codes ".." ++ decimal span.end ++ codes ": " ++ type_text kind ++ codes "\n") }
+    ensures { IfOk result (λ line. line ≡ codes "error: type at " ++ decimal span.start
+        ++ codes ".." ++ decimal span.end ++ codes ": " ++ type_text kind ++ codes "\n") }
 {
     let mut line = Bytes::from_slice(alloc, b"error: type at ")?;
     write_count(&mut line, u64::from(span.start))?;

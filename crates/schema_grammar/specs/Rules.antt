@@ -1,5 +1,6 @@
 -- The rules of schemas, as a list in the order in which they are tested. The first that is broken is the answer.
-use Rattle.std.specs.Prelude.{◌≡◌, ℕ, Bool, not, ◌&&◌, nat_le, nat_lt, int_le, Option, Some, None, is_some, unwrap_or, Result, Ok, Err, List, [], ◌∷◌, ◌++◌, map, length, codes, if◌then◌else◌}
+use Rattle.std.specs.Prelude.{◌≡◌, ℕ, Bool, not, ◌&&◌, nat_le, nat_lt, int_le, Option, Some, None, is_some}
+use Rattle.std.specs.Prelude.{unwrap_or, Result, Ok, Err, List, [], ◌∷◌, ◌++◌, map, length, codes, if◌then◌else◌}
 use Rattle.std.specs.List.{find}
 use Rattle.std.specs.Option.{option_map}
 use Rattle.std.specs.Str.{bytes_eq}
@@ -15,7 +16,9 @@ use Rattle.schema_grammar.specs.declared.shape_text.AttrText.{AttrText}
 use Rattle.schema_grammar.specs.declared.shape_text.DimText.{DimText}
 use Rattle.schema_grammar.specs.declared.rules.Rule.{Rule}
 use Rattle.schema_grammar.specs.declared.kinds.TypeKind.{TypeKind}
-use Rattle.schema_grammar.specs.declared.kinds.TypeKind.TheVariants.{UnknownType, RepeatedName, BoundsOrder, BoundsRange, ZeroChunk, OverlapTooLarge, TooManyDimensions, TooManyAttributes, ChunkTooLarge, WrongCount}
+use Rattle.schema_grammar.specs.declared.kinds.TypeKind.TheVariants.{UnknownType, RepeatedName, BoundsOrder, BoundsRange}
+use Rattle.schema_grammar.specs.declared.kinds.TypeKind.TheVariants.{ZeroChunk, OverlapTooLarge, TooManyDimensions}
+use Rattle.schema_grammar.specs.declared.kinds.TypeKind.TheVariants.{TooManyAttributes, ChunkTooLarge, WrongCount}
 use Rattle.schema_grammar.specs.declared.kinds.SchemaFault.{SchemaFault}
 use Rattle.schema_grammar.specs.declared.kinds.SchemaFault.TheVariants as fault
 

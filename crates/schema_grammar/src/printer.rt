@@ -5,7 +5,8 @@ ghost use Rattle.std.specs.List.{All, join_with_byte};
 ghost use Rattle.cell_values.specs.Naming.{IsName};
 ghost use Rattle.cell_values.specs.Schemas.{IsValid};
 ghost use Rattle.schema_grammar.specs.ReadAs.{IsReadAs};
-ghost use Rattle.schema_grammar.specs.SchemaBytes.{attr_bytes, bounds_bytes, dim_bytes, high_bytes, kind_bytes, lengths_bytes, parts_bytes, schema_bytes, separator, shape_bytes};
+ghost use Rattle.schema_grammar.specs.SchemaBytes.{attr_bytes, bounds_bytes, dim_bytes, high_bytes, kind_bytes};
+ghost use Rattle.schema_grammar.specs.SchemaBytes.{lengths_bytes, parts_bytes, schema_bytes, separator, shape_bytes};
 
 use crate::shape_text::UNBOUNDED;
 use crate::{AttrText, DimText, SchemaText};

@@ -22,7 +22,8 @@ use Rattle.session_outcomes.specs.Under.{WasPinned}
 module _ {D : Type 0} (moment : D → Moment) (r : Reading D) (text : List ℕ) (tree : Term) (change : Change) (changed : Option Changed) (words : Told) where
   -- the change that comes of the statement over the pin's source
   abbrev pub HasOutcomesChange : Type 0
-  HasOutcomesChange = ComesOver r.lent.pinned.names (pinned_state moment (unread r.lent.shared r.lent.pinned r.lent.seat)) text tree (Changes change changed words)
+  HasOutcomesChange = ComesOver r.lent.pinned.names
+      (pinned_state moment (unread r.lent.shared r.lent.pinned r.lent.seat)) text tree (Changes change changed words)
 
   -- it is said right behind the pin, with its reply; and it may be committed, as no commit was tried under the pin
   pub record IsReadChange : Type 0 where

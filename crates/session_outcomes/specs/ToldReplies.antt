@@ -50,11 +50,13 @@ SaidRepliesAreTold {D} moment = (start : Start D) (session pin : ℕ) (events ow
     → IsSaidBehindPin moment start session pin events own text tree reply → IsLookedReply moment start session pin events own text tree reply
 
 abbrev pub UnreadRepliesAreTold : {D : Type 0} → (D → Moment) → Type 0
-UnreadRepliesAreTold {D} moment = (start : Start D) (session pin : ℕ) (events own : List Event) (text : List ℕ) (tree : Term) (reply : Reply) (fault : ExecFault)
+UnreadRepliesAreTold {D} moment = (start : Start D) (session pin : ℕ) (events own : List Event)
+    (text : List ℕ) (tree : Term) (reply : Reply) (fault : ExecFault)
     → IsCausedSincePin moment start session pin events own text tree reply fault → IsLookedReply moment start session pin events own text tree reply
 
 -- A READING THAT FAILED UNDER A PIN LEFT ITS NOTE, if no note was under the pin before
 abbrev pub FailuresAreNoted : {D : Type 0} → (D → Moment) → Type 0
 FailuresAreNoted {D} moment = (r : Reading D) → HasRead moment r → 0 < r.marks.faults
     → ((kinds : NoteKind → Bool) → is_noted kinds (ledger_seen moment r.lent.shared r.lent.seat) (session_of r.lent.seat) ≡ false)
-    → (adds : AddsAtMostFault (start moment r.lent.shared) (session_of r.lent.seat) (seen r.lent.seat) (seen r.seat)) → HasFault (session_of r.lent.seat) adds.own
+    → (adds : AddsAtMostFault (start moment r.lent.shared) (session_of r.lent.seat) (seen r.lent.seat) (seen r.seat))
+    → HasFault (session_of r.lent.seat) adds.own

@@ -49,4 +49,5 @@ ReadRepliesAreTold {D} moment = (r : Reading D) (text : List ℕ) (tree : Term) 
 
 abbrev pub FailedRepliesAreTold : {D : Type 0} → (D → Moment) → Type 0
 FailedRepliesAreTold {D} moment = (r : Reading D) (text : List ℕ) (tree : Term) (reply : Reply) (fault : ExecFault) → HasRead moment r
-    → WasPinned moment r → SaysWhy moment r fault → MayFail fault (check_of tree text r.lent.pinned.names) → IsUnreadReply fault reply → IsToldUnder moment r text tree reply
+    → WasPinned moment r → SaysWhy moment r fault → MayFail fault (check_of tree text r.lent.pinned.names)
+    → IsUnreadReply fault reply → IsToldUnder moment r text tree reply

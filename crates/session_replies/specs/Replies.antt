@@ -50,12 +50,14 @@ words_of reply = record { text = reply.text; refusal = reply.refusal }
 
 -- THIS IS WHAT THE STATEMENT SAYS AT A PLACE: what the names there alone tell, and, where the file began as a database, what its meaning is
 -- in the database after the commits before the place
-pub record Says {D : Type 0} (moment : D → Moment) (start : Start D) (events : List Event) (text : List ℕ) (tree : Term) (place : ℕ) (answer : Accepted) : Type 0 where
+pub record Says {D : Type 0} (moment : D → Moment) (start : Start D) (events : List Event)
+    (text : List ℕ) (tree : Term) (place : ℕ) (answer : Accepted) : Type 0 where
   pub kind : HasStatementKind (names_before start events place) (check_of tree text (names_before start events place)) answer
   pub told : (db : Database) → BeganAs (moment start.opened.disk).state db → reply_to (database_with db (told start events) place) text tree ≡ answer
 
 -- it is this change at a place, and one that is accepted
-pub record SaysChange {D : Type 0} (moment : D → Moment) (start : Start D) (events : List Event) (text : List ℕ) (tree : Term) (place : ℕ) (change : Change) : Type 0 where
+pub record SaysChange {D : Type 0} (moment : D → Moment) (start : Start D) (events : List Event)
+    (text : List ℕ) (tree : Term) (place : ℕ) (change : Change) : Type 0 where
   pub typed : check_of tree text (names_before start events place) ≡ Ok (AChange change)
   pub told : (db : Database) → BeganAs (moment start.opened.disk).state db
       → (reply_to (database_with db (told start events) place) text tree).change ≡ Some change

@@ -77,5 +77,6 @@ pub record HasHeld {D : Type 0} (moment : D → Moment) (h : Holding D) : Type 0
   pub faults : 0 < h.marks.faults → IsTrue (is_noted is_fault (store_now moment h).ledger h.lent.session)
   pub tried : is_noted is_tried (store_now moment h).ledger h.lent.session ≡ is_noted is_tried (store_then moment h).ledger h.lent.session
   -- a damaged page begins the payload of a chunk that the store has. There is none where the store began as a database
-  pub damaged : IfSome h.marks.damaged (BeginsPayload (names_now (store_then moment h).ledger) (store_then moment h) (length (store_then moment h).ledger.entries))
+  pub damaged : IfSome h.marks.damaged (BeginsPayload (names_now (store_then moment h).ledger)
+      (store_then moment h) (length (store_then moment h).ledger.entries))
   pub whole : (db : Database) → BeganAs (moment (store_then moment h).opened.disk).state db → h.marks.damaged ≡ None

@@ -17,7 +17,8 @@ ghost use Rattle.told_stores.specs.Starts.{start_of};
 ghost use Rattle.told_stores.specs.Causes.{FitsAfter, IsUncommitted};
 ghost use Rattle.snapshot_manager.specs.Commits.{IfDone, IfStale, OnEnd};
 ghost use Rattle.told_stores.specs.Tries.{is_fresh_since, MakesCommit, MakesHere, TriesCommit, TriesHere};
-ghost use Rattle.snapshot_manager.specs.Seats.{ledger_seen, read_count, seen, session_of, start, store_of, store_seen, HasTurn, HoldsPin, IsIdle, IsSameSeat, IsSeatOf};
+ghost use Rattle.snapshot_manager.specs.Seats.{ledger_seen, read_count, seen, session_of, start, store_of};
+ghost use Rattle.snapshot_manager.specs.Seats.{store_seen, HasTurn, HoldsPin, IsIdle, IsSameSeat, IsSeatOf};
 ghost use Rattle.told_stores.specs.Told.{IsTold};
 ghost use Rattle.told_stores.specs.Turns.{Adds};
 

@@ -10,7 +10,8 @@ ghost use Rattle.store_state.specs.declared.event.Event.TheVariants.{Entered};
 ghost use Rattle.store_state.specs.Calls.{database_with};
 ghost use Rattle.store_state.specs.Standings.{BeganAs};
 ghost use Rattle.told_stores.specs.Databases.{IsDatabaseOf};
-ghost use Rattle.snapshot_manager.specs.Seats.{ledger_found, ledger_seen, read_count, seen, session_of, start, store_seen, HoldsNone, HoldsPin, IsIdle, IsSameSeat, IsSeatOf};
+ghost use Rattle.snapshot_manager.specs.Seats.{ledger_found, ledger_seen, read_count, seen, session_of, start};
+ghost use Rattle.snapshot_manager.specs.Seats.{store_seen, HoldsNone, HoldsPin, IsIdle, IsSameSeat, IsSeatOf};
 ghost use Rattle.told_stores.specs.Turns.{pin_event, reap_events, Adds};
 
 use crate::seat::Seat;

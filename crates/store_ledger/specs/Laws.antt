@@ -9,7 +9,8 @@ use Rattle.event_core.specs.History.{History, leaves_pin, pin_before}
 use Rattle.store_ledger.specs.declared.note.Note.{Note}
 use Rattle.store_ledger.specs.declared.note.NoteKind.{NoteKind}
 use Rattle.store_ledger.specs.declared.pinned.Pinned.{Pinned}
-use Rattle.store_ledger.specs.Ledger.{LedgerState, with_entries, with_notes, AreWithin, has_note, history, IsLedger, reserved, reserved_by, IsOpenPin, entered, noted, events, attempt, is_noted, is_tried, note_now}
+use Rattle.store_ledger.specs.Ledger.{LedgerState, with_entries, with_notes, AreWithin, has_note, history, IsLedger, reserved}
+use Rattle.store_ledger.specs.Ledger.{reserved_by, IsOpenPin, entered, noted, events, attempt, is_noted, is_tried, note_now}
 
 -- a pin reserves three entries more than were reserved
 abbrev pub PinsReserveThree : Type 0

@@ -1,5 +1,6 @@
 -- The ledger of a store: a history, notes, and the entries that open pins reserve.
-use Rattle.std.specs.Prelude.{◌≡◌, ◌≤◌, ◌<◌, ◌+◌, ℕ, Bool, true, false, not, ◌&&◌, if◌then◌else◌, nat_eq, nat_le, nat_lt, List, [], ◌∷◌, ◌++◌, length, map, reverse, Option, None, Some, IfSome, IsTrue}
+use Rattle.std.specs.Prelude.{◌≡◌, ◌≤◌, ◌<◌, ◌+◌, ℕ, Bool, true, false, not, ◌&&◌, if◌then◌else◌, nat_eq, nat_le}
+use Rattle.std.specs.Prelude.{nat_lt, List, [], ◌∷◌, ◌++◌, length, map, reverse, Option, None, Some, IfSome, IsTrue}
 use Rattle.std.specs.List.{filter, list_all, list_any, sum_by}
 use Rattle.plan_changes.specs.declared.change.Change.{Change}
 use Rattle.event_core.specs.declared.entry.Entry.{Entry}
@@ -65,7 +66,8 @@ pub record IsNote (h : History) (others : List Note) (note : Note) : Type 0 wher
   pub within : note.after ≤ length h
   pub rising : IsTrue (list_all (λ other. nat_le other.after note.after) others)
   pub pinned : IsTrue (is_pinned note.session (up_to note.after h))
-  pub once : IfSome (pin_before note.session (up_to note.after h)) (λ before. has_note (is_kind note.kind) others (record { session = note.session; before = before }) ≡ false)
+  pub once : IfSome (pin_before note.session (up_to note.after h))
+      (λ before. has_note (is_kind note.kind) others (record { session = note.session; before = before }) ≡ false)
 
 -- whether a note of some kinds was made under the open pin of a session, if it has one
 abbrev pub has_under : (NoteKind → Bool) → List Note → ℕ → Option History → Bool

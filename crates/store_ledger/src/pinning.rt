@@ -62,7 +62,8 @@ impl Ledger {
         requires { IsTrue (not (is_pinned session (history self.old))) }
         ensures ok { OnOk result (self.new ≡ with_entries (Pin session ∷ []) self.old) }
         ensures room { OnOk result (IsTrue (has_room self.old 4)) }
-        ensures pinned { IfOk result (λ pinned. pinned ≡ record { session = session; place = length self.old.entries; names = names_at self.old.base (history self.old) }) }
+        ensures pinned { IfOk result (λ pinned. pinned
+            ≡ record { session = session; place = length self.old.entries; names = names_at self.old.base (history self.old) }) }
         ensures open { IfOk result (λ pinned. IsOpenPin self.new pinned) }
         ensures untried { OnOk result ((kinds : NoteKind → Bool) → is_noted kinds self.new session ≡ false) }
         ensures err { OnErr result (self.new ≡ self.old) }

@@ -77,7 +77,12 @@ items_at before bytes = do
 
 abbrev pub array_of : Items → CatalogArray
 array_of items = record {
-  entry = record { name = items.name; schema = items.content.schema; next = items.content.numbered.next; versions = map (λ version. version.number) items.content.numbered.versions };
+  entry = record {
+    name = items.name;
+    schema = items.content.schema;
+    next = items.content.numbered.next;
+    versions = map (λ version. version.number) items.content.numbered.versions;
+  };
   directories = map (λ version. version.directory) items.content.numbered.versions;
 }
 

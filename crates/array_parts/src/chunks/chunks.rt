@@ -50,7 +50,8 @@ fn push_slowly<C: CellChange>(
 ) -> Result<(), Memory>
     requires grid { IsGrid grid.now }
     requires inside { position < volume grid.now.lengths.items }
-    ensures { OnOk result (made.new ≡ with_cell made.old position (C.changed change.now (coordinate_in grid.now.low.items grid.now.lengths.items position) cell)) }
+    ensures { OnOk result (made.new ≡ with_cell made.old position
+        (C.changed change.now (coordinate_in grid.now.low.items grid.now.lengths.items position) cell)) }
 {
     let at = grid.place(position);
     push_changed(made, position, &at, cell, change)
@@ -67,7 +68,8 @@ fn push_row_changed<C: CellChange>(
     requires place { k < length rows.now }
     requires grid { IsGrid grid.now }
     requires inside { position < volume grid.now.lengths.items }
-    ensures { OnOk result (made.new ≡ with_cell made.old position (C.changed change.now (coordinate_in grid.now.low.items grid.now.lengths.items position) (Full (slice_index_or rows.now k [])))) }
+    ensures { OnOk result (made.new ≡ with_cell made.old position
+        (C.changed change.now (coordinate_in grid.now.low.items grid.now.lengths.items position) (Full (slice_index_or rows.now k [])))) }
 {
     match change.quick(rows, k) {
         Quick::Stays => push_same(made, position, rows, k),
@@ -88,7 +90,8 @@ fn push_next<C: CellChange>(
     requires place { k < length (cells_in form.now) }
     requires grid { IsGrid grid.now }
     requires inside { position < volume grid.now.lengths.items }
-    ensures { OnOk result (made.new ≡ with_cell made.old position (C.changed change.now (coordinate_in grid.now.low.items grid.now.lengths.items position) (slice_index_or (cells_in form.now) k (Full [])))) }
+    ensures { OnOk result (made.new ≡ with_cell made.old position
+        (C.changed change.now (coordinate_in grid.now.low.items grid.now.lengths.items position) (slice_index_or (cells_in form.now) k (Full [])))) }
 {
     match form {
         Form::Even(rows) => push_row_changed(made, grid, position, rows, k, change),
@@ -106,7 +109,8 @@ pub fn change_chunk<C: CellChange>(
     requires framed { HasFrame schema.now margins.now.items chunk.at.items }
     requires placed { IsPlaced schema.now.dimensions margins.now.items chunk }
     ensures made { IfOk result (IsMadeBy (cell_wise (C.changed change.now)) schema.now.dimensions margins.now.items chunk) }
-    ensures part { (rows : Items Row) → IsPart schema.now.dimensions margins.now.items rows chunk → IfOk result (IsPart schema.now.dimensions margins.now.items (cell_wise (C.changed change.now) rows)) }
+    ensures part { (rows : Items Row) → IsPart schema.now.dimensions margins.now.items rows chunk
+        → IfOk result (IsPart schema.now.dimensions margins.now.items (cell_wise (C.changed change.now) rows)) }
 {
     let grid = grid_of(schema, margins, &chunk.at);
     let Chunk {

@@ -63,7 +63,8 @@ pub fn with_cells(
     requires { HavePlaces schema.now margins.now.items chunks }
     ensures exact { IfOk result (λ kept. kept ≡ filter (holds_cell schema.now.dimensions margins.now.items) chunks) }
     ensures placed { IfOk result (HavePlaces schema.now margins.now.items) }
-    ensures chunks { (rows : Items Row) → AreParts schema.now.dimensions margins.now.items rows chunks → IfOk result (AreChunksOf schema.now.dimensions margins.now.items rows) }
+    ensures chunks { (rows : Items Row) → AreParts schema.now.dimensions margins.now.items rows chunks
+        → IfOk result (AreChunksOf schema.now.dimensions margins.now.items rows) }
 {
     kept_chunks(schema, margins, chunks)
 }

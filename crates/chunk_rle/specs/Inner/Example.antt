@@ -4,4 +4,7 @@ use Rattle.cell_values.specs.declared.schema.Kind.TheVariants.{Int64}
 use Rattle.cell_values.specs.declared.schema.Schema.{Schema}
 
 abbrev pub example : Schema
-example = record { attributes = record { name = codes "v"; kind = Int64; nullable = true } ∷ []; dimensions = record { name = codes "i"; lo = pos 0; hi = pos 1; chunk = 2; overlap = 0 } ∷ [] }
+example = record {
+  attributes = record { name = codes "v"; kind = Int64; nullable = true } ∷ [];
+  dimensions = record { name = codes "i"; lo = pos 0; hi = pos 1; chunk = 2; overlap = 0 } ∷ [];
+}

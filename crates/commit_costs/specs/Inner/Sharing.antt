@@ -35,7 +35,8 @@ stored_twice =
 
 -- under a pin of session 1 version 1 is removed, and a reap frees none of its pages
 abbrev pub removed_pinned : History
-removed_pinned = Reap ∷ Unpin 0 ∷ Commit 0 (RemoveVersions (codes "A") 2) (record { version = []; catalogue = 1 ∷ 2 ∷ 6 ∷ 9 ∷ 10 ∷ [] }) ∷ Pin 0 ∷ Pin 1 ∷ Unpin 0 ∷ stored_twice
+removed_pinned = Reap ∷ Unpin 0 ∷ Commit 0 (RemoveVersions (codes "A") 2)
+    (record { version = []; catalogue = 1 ∷ 2 ∷ 6 ∷ 9 ∷ 10 ∷ [] }) ∷ Pin 0 ∷ Pin 1 ∷ Unpin 0 ∷ stored_twice
 
 -- once session 1 has unpinned a second reap frees those that version 2 does not share
 abbrev pub reaped_again : History

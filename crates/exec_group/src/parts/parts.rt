@@ -73,7 +73,8 @@ pub fn aggregate_part(
 ) -> Result<Groups, Memory>
     requires cells { HaveCells schema.now margins.now.items (chunk.now ∷ []) }
     requires names { length dims.now ≤ 6 }
-    ensures groups { IfOk result (λ part. AreGroupsOf aggs.now (aggregate_sets dims.now (core_of schema.now.dimensions margins.now.items chunk.now)) part.groups) }
+    ensures groups { IfOk result (λ part. AreGroupsOf aggs.now
+        (aggregate_sets dims.now (core_of schema.now.dimensions margins.now.items chunk.now)) part.groups) }
     ensures cells { IfOk result (λ part. cells_in part.groups ≤ length (core_of schema.now.dimensions margins.now.items chunk.now)) }
 {
     let rows = rows_of_core(schema, margins, chunk)?;
@@ -89,7 +90,8 @@ pub fn regrid_part(
     aggs: &[Aggregate],
 ) -> Result<Groups, Memory>
     requires cells { HaveCells schema.now margins.now.items (chunk.now ∷ []) }
-    ensures groups { IfOk result (λ part. AreGroupsOf aggs.now (regrid_sets schema.now.dimensions blocks.now (core_of schema.now.dimensions margins.now.items chunk.now)) part.groups) }
+    ensures groups { IfOk result (λ part. AreGroupsOf aggs.now
+        (regrid_sets schema.now.dimensions blocks.now (core_of schema.now.dimensions margins.now.items chunk.now)) part.groups) }
     ensures cells { IfOk result (λ part. cells_in part.groups ≤ length (core_of schema.now.dimensions margins.now.items chunk.now)) }
 {
     let rows = rows_of_core(schema, margins, chunk)?;

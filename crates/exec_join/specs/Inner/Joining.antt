@@ -26,7 +26,8 @@ pub record Joins (left right made : Chunk) (at_left at_right : ℕ) (made' : Chu
   pub number : made'.at ≡ made.at
   pub as_many : length made.cells ≡ length made.positions → length made'.cells ≡ length made'.positions
   pub in_box : (n : ℕ) → AllByRecursion (λ p. p < n) left.positions → AllByRecursion (λ p. p < n) made.positions → AllByRecursion (λ p. p < n) made'.positions
-  pub rows : (low : List ℤ) (lengths : List ℕ) → ArePlaces low lengths left.positions → ArePlaces low lengths right.positions → length made.cells ≡ length made.positions
+  pub rows : (low : List ℤ) (lengths : List ℕ) → ArePlaces low lengths left.positions
+      → ArePlaces low lengths right.positions → length made.cells ≡ length made.positions
       → IsRising (rows_from low lengths left at_left) → IsRising (rows_from low lengths right at_right)
       → AreJoinedOn (rows_in low lengths made.positions made.cells) (rows_from low lengths left at_left) (rows_from low lengths right at_right)
       (rows_in low lengths made'.positions made'.cells) (rows_from low lengths left at_left') (rows_from low lengths right at_right')

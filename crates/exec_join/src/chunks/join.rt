@@ -73,7 +73,8 @@ pub fn join_chunks(left: &Chunk, right: &Chunk) -> Result<Chunk, Memory>
     requires right_each { length right.now.cells ≡ length right.now.positions }
     ensures number { IfOk result (λ made. made.at ≡ left.now.at) }
     ensures placed { (dims : Items Dimension) (margins : Items ℕ) → IsPlaced dims margins left.now → IfOk result (IsPlaced dims margins) }
-    ensures part { (schema : Schema) (margins : Items ℕ) (left_rows right_rows : Items Row) → HasFrame schema margins left.now.at.items → IsRising left_rows → IsRising right_rows
+    ensures part { (schema : Schema) (margins : Items ℕ) (left_rows right_rows : Items Row)
+        → HasFrame schema margins left.now.at.items → IsRising left_rows → IsRising right_rows
         → IsPart schema.dimensions margins left_rows left.now → IsPart schema.dimensions margins right_rows right.now
         → IfOk result (IsPart schema.dimensions margins (join_rows left_rows right_rows)) }
 {

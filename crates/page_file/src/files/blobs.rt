@@ -26,7 +26,8 @@ impl<D: Disk> PageFile<D> {
         ensures cause { IfErr result (λ fault. IsDeviceFault fault (D.moment self.old.disk).state (D.moment self.new.disk).state) }
         ensures slots { self.new.slots ≡ self.old.slots }
         ensures reads { OnlyReads (D.moment self.old.disk) (D.moment self.new.disk) }
-        ensures sound { (seen : List ℕ) → IsSound self.old.slots seen (D.moment self.old.disk).may_leave → IsSound self.new.slots seen (D.moment self.new.disk).may_leave }
+        ensures sound { (seen : List ℕ) → IsSound self.old.slots seen (D.moment self.old.disk).may_leave
+            → IsSound self.new.slots seen (D.moment self.new.disk).may_leave }
     {
         let before = self.disk.faults();
         match self.disk.len() {
@@ -49,7 +50,8 @@ impl<D: Disk> PageFile<D> {
         ensures fault { IsErrOf result BlobFault.Disk → Rose (D.moment self.old.disk).state.faults (D.moment self.new.disk).state.faults }
         ensures slots { self.new.slots ≡ self.old.slots }
         ensures reads { OnlyReads (D.moment self.old.disk) (D.moment self.new.disk) }
-        ensures sound { (seen : List ℕ) → IsSound self.old.slots seen (D.moment self.old.disk).may_leave → IsSound self.new.slots seen (D.moment self.new.disk).may_leave }
+        ensures sound { (seen : List ℕ) → IsSound self.old.slots seen (D.moment self.old.disk).may_leave
+            → IsSound self.new.slots seen (D.moment self.new.disk).may_leave }
     {
         page_chain::read_blob(alloc, &mut self.disk, pages, count)
     }
@@ -63,7 +65,8 @@ impl<D: Disk> PageFile<D> {
         ensures fault { IsErrOf result OpenCause.Disk → Rose (D.moment self.old.disk).state.faults (D.moment self.new.disk).state.faults }
         ensures slots { self.new.slots ≡ self.old.slots }
         ensures reads { OnlyReads (D.moment self.old.disk) (D.moment self.new.disk) }
-        ensures sound { (seen : List ℕ) → IsSound self.old.slots seen (D.moment self.old.disk).may_leave → IsSound self.new.slots seen (D.moment self.new.disk).may_leave }
+        ensures sound { (seen : List ℕ) → IsSound self.old.slots seen (D.moment self.old.disk).may_leave
+            → IsSound self.new.slots seen (D.moment self.new.disk).may_leave }
     {
         let first = Link {
             holder: 0,
@@ -83,13 +86,16 @@ impl<D: Disk> PageFile<D> {
     ) -> Result<(Bytes, List<u32>), OpenCause>
         requires { number < length self.old.slots.records }
         ensures exact { IfSome (D.moment self.old.disk).state.seen (λ seen. (d : RecordAt)
-            → IsChainRead seen taken.now self.old.slots.current.root.log (slice_index_or self.old.slots.records number d).first (slice_index_or self.old.slots.records number d).length result) }
+            → IsChainRead seen taken.now self.old.slots.current.root.log (slice_index_or self.old.slots.records number d).first
+            (slice_index_or self.old.slots.records number d).length result) }
         ensures size { (d : RecordAt) → IfOk result (λ x. length x.0 ≡ (slice_index_or self.old.slots.records number d).length) }
-        ensures pages { (d : RecordAt) → IfOk result (λ x. length x.1 ≡ pages_for (content_size page_size) (slice_index_or self.old.slots.records number d).length) }
+        ensures pages { (d : RecordAt) → IfOk result
+            (λ x. length x.1 ≡ pages_for (content_size page_size) (slice_index_or self.old.slots.records number d).length) }
         ensures fault { IsErrOf result OpenCause.Disk → Rose (D.moment self.old.disk).state.faults (D.moment self.new.disk).state.faults }
         ensures slots { self.new.slots ≡ self.old.slots }
         ensures reads { OnlyReads (D.moment self.old.disk) (D.moment self.new.disk) }
-        ensures sound { (seen : List ℕ) → IsSound self.old.slots seen (D.moment self.old.disk).may_leave → IsSound self.new.slots seen (D.moment self.new.disk).may_leave }
+        ensures sound { (seen : List ℕ) → IsSound self.old.slots seen (D.moment self.old.disk).may_leave
+            → IsSound self.new.slots seen (D.moment self.new.disk).may_leave }
     {
         let at = self.slots.records.as_slice()[number as usize];
         let log = self.slots.current.root.log;
@@ -105,10 +111,12 @@ impl<D: Disk> PageFile<D> {
         requires closed { IsClosed self.old.slots }
         requires free { MayWrite pages.now self.old.slots }
         requires pages { length pages.now ≡ pages_for page_size (length bytes.now) }
-        ensures slots { MatchResult result (λ _. self.new.slots ≡ blob_written pages.now bytes.now self.old.slots) (λ _. self.new.slots ≡ pages_written pages.now self.old.slots) }
+        ensures slots { MatchResult result (λ _. self.new.slots ≡ blob_written pages.now bytes.now self.old.slots)
+            (λ _. self.new.slots ≡ pages_written pages.now self.old.slots) }
         ensures sound { KeepsSound self.old.slots self.new.slots (D.moment self.old.disk) (D.moment self.new.disk) }
         ensures opens { LeavesOpening self.old.slots (emptied self.old.slots) (D.moment self.old.disk) (D.moment self.new.disk) }
-        ensures seen { Sees (D.moment self.old.disk).state (D.moment self.new.disk).state (λ seen now. KeepsPages pages.now seen now × OnOk result (HoldsBlob page_size now pages.now bytes.now)) }
+        ensures seen { Sees (D.moment self.old.disk).state (D.moment self.new.disk).state
+            (λ seen now. KeepsPages pages.now seen now × OnOk result (HoldsBlob page_size now pages.now bytes.now)) }
         ensures writes { OnlyWrites pages.now (D.moment self.old.disk) (D.moment self.new.disk) }
         ensures cause { FailsWithCause result (D.moment self.old.disk) (D.moment self.new.disk) }
     {
@@ -123,7 +131,8 @@ impl<D: Disk> PageFile<D> {
         ensures slots { self.new.slots ≡ pages_written pages.now self.old.slots }
         ensures sound { KeepsSound self.old.slots self.new.slots (D.moment self.old.disk) (D.moment self.new.disk) }
         ensures opens { LeavesOpening self.old.slots (emptied self.old.slots) (D.moment self.old.disk) (D.moment self.new.disk) }
-        ensures seen { Sees (D.moment self.old.disk).state (D.moment self.new.disk).state (λ seen now. KeepsPages pages.now seen now × OnOk result (HoldsChain page_size now pages.now bytes.now)) }
+        ensures seen { Sees (D.moment self.old.disk).state (D.moment self.new.disk).state
+            (λ seen now. KeepsPages pages.now seen now × OnOk result (HoldsChain page_size now pages.now bytes.now)) }
         ensures writes { OnlyWrites pages.now (D.moment self.old.disk) (D.moment self.new.disk) }
         ensures cause { FailsWithCause result (D.moment self.old.disk) (D.moment self.new.disk) }
     {

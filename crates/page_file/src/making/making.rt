@@ -42,7 +42,9 @@ fn lay<D: Disk>(disk: &mut D, body: &[u8]) -> Result<(), Failed>
 
 /// Writes page 0 with closed slots, and then opens slot A. Each of the two is synced.
 fn make<D: Disk>(disk: &mut D, body: &[u8]) -> Result<(), Failed>
-    ensures made { OnOk result (IsTrue (D.moment disk.old).state.honest → IfSome (D.moment disk.old).state.seen (λ seen. ((D.moment disk.new).state.seen ≡ Some (made body.now seen)) × Only (made body.now seen) (D.moment disk.new).may_leave)) }
+    ensures made { OnOk result (IsTrue (D.moment disk.old).state.honest
+        → IfSome (D.moment disk.old).state.seen (λ seen. ((D.moment disk.new).state.seen ≡ Some (made body.now seen))
+        × Only (made body.now seen) (D.moment disk.new).may_leave)) }
     ensures same { DiskGoesOn (D.moment disk.old).state (D.moment disk.new).state }
     ensures cause { FailsWithCause result (D.moment disk.old) (D.moment disk.new) }
 {
@@ -85,7 +87,9 @@ fn measure<D: Disk>(disk: &mut D) -> Result<(), InitFault>
 }
 
 fn make_first<D: Disk>(disk: &mut D) -> Result<(), InitFault>
-    ensures made { OnOk result (IsTrue (D.moment disk.old).state.honest → IfSome (D.moment disk.old).state.seen (λ seen. length seen ≡ 0 → (file : List ℕ) × ((D.moment disk.new).state.seen ≡ Some file) × IsEmptyDatabase file × Only file (D.moment disk.new).may_leave)) }
+    ensures made { OnOk result (IsTrue (D.moment disk.old).state.honest
+        → IfSome (D.moment disk.old).state.seen (λ seen. length seen ≡ 0
+        → (file : List ℕ) × ((D.moment disk.new).state.seen ≡ Some file) × IsEmptyDatabase file × Only file (D.moment disk.new).may_leave)) }
     ensures same { DiskGoesOn (D.moment disk.old).state (D.moment disk.new).state }
     ensures cause { IfErr result (λ fault. IsDeviceFault fault (D.moment disk.old).state (D.moment disk.new).state) }
 {
@@ -101,7 +105,9 @@ fn make_first<D: Disk>(disk: &mut D) -> Result<(), InitFault>
 /// as it is, also where the disk fails.
 pub fn init<D: Disk>(disk: &mut D) -> Result<(), InitFault>
     ensures init { IfSome (D.moment disk.old).state.seen (λ seen. IsInit seen result) }
-    ensures made { OnOk result (IsTrue (D.moment disk.old).state.honest → IfSome (D.moment disk.old).state.seen (λ _. (file : List ℕ) × ((D.moment disk.new).state.seen ≡ Some file) × IsEmptyDatabase file × Only file (D.moment disk.new).may_leave)) }
+    ensures made { OnOk result (IsTrue (D.moment disk.old).state.honest
+        → IfSome (D.moment disk.old).state.seen (λ _. (file : List ℕ) × ((D.moment disk.new).state.seen ≡ Some file)
+        × IsEmptyDatabase file × Only file (D.moment disk.new).may_leave)) }
     ensures kept { IfErr result (λ fault. WhereNotEmpty fault (OnlySyncs (D.moment disk.old) (D.moment disk.new))) }
     ensures not_written { IfSome (D.moment disk.old).state.seen (λ seen. length seen ≢ 0 → OnlySyncs (D.moment disk.old) (D.moment disk.new)) }
     ensures same { DiskGoesOn (D.moment disk.old).state (D.moment disk.new).state }

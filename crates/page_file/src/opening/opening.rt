@@ -129,7 +129,8 @@ fn target_of(format: Format, records: &Records) -> Target
 
 fn open_parts<D: Disk>(disk: &mut D) -> Result<Slots, OpenCause>
     ensures opened { IfSome (D.moment disk.old).state.seen (λ seen. IsOpened seen result) }
-    ensures other { IfSome (D.moment disk.old).state.seen (λ seen. IfOk result (λ slots. OtherHolds slots.other (other slots.current.side) slots.current.root.sequence seen)) }
+    ensures other { IfSome (D.moment disk.old).state.seen
+        (λ seen. IfOk result (λ slots. OtherHolds slots.other (other slots.current.side) slots.current.root.sequence seen)) }
     ensures durable { OnOk result (IsSettled (D.moment disk.old) (D.moment disk.new)) }
     ensures fresh { IfOk result (λ slots. AreFresh slots) }
     ensures reads { OnlySyncs (D.moment disk.old) (D.moment disk.new) }
@@ -157,7 +158,8 @@ fn open_parts<D: Disk>(disk: &mut D) -> Result<Slots, OpenCause>
 pub fn open_slots<D: Disk>(disk: &mut D) -> Result<Slots, OpenCause>
     ensures opened { IfSome (D.moment disk.old).state.seen (λ seen. IsOpened seen result) }
     ensures durable { OnOk result (IsSettled (D.moment disk.old) (D.moment disk.new)) }
-    ensures sound { IsTrue (D.moment disk.old).state.honest → IfSome (D.moment disk.old).state.seen (λ seen. IfOk result (λ slots. IsSound slots seen (D.moment disk.new).may_leave)) }
+    ensures sound { IsTrue (D.moment disk.old).state.honest
+        → IfSome (D.moment disk.old).state.seen (λ seen. IfOk result (λ slots. IsSound slots seen (D.moment disk.new).may_leave)) }
     ensures fresh { IfOk result (λ slots. AreFresh slots) }
     ensures reads { OnlySyncs (D.moment disk.old) (D.moment disk.new) }
     ensures cause { IfErr result (λ fault. HasCause fault (D.moment disk.old).state (D.moment disk.new).state) }

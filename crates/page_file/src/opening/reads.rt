@@ -16,7 +16,8 @@ pub(crate) fn read_page<D: Disk>(
 ) -> Result<bool, OpenCause>
     requires { length page.old ≡ 4096 }
     ensures size { length page.new ≡ 4096 }
-    ensures bytes { IfSome (D.moment disk.old).state.seen (λ seen. IfOk result (λ whole. MatchBool whole (HasPage number page.new seen) (CutsPage number seen))) }
+    ensures bytes { IfSome (D.moment disk.old).state.seen
+        (λ seen. IfOk result (λ whole. MatchBool whole (HasPage number page.new seen) (CutsPage number seen))) }
     ensures reads { OnlySyncs (D.moment disk.old) (D.moment disk.new) }
     ensures cause { IfErr result (λ fault. IsDeviceFault fault (D.moment disk.old).state (D.moment disk.new).state) }
 {

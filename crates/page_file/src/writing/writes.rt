@@ -68,7 +68,8 @@ pub fn write_blob<D: Disk>(
     ensures slots { MatchResult result (λ _. slots.new ≡ blob_written pages.now bytes.now slots.old) (λ _. slots.new ≡ pages_written pages.now slots.old) }
     ensures sound { KeepsSound slots.old slots.new (D.moment disk.old) (D.moment disk.new) }
     ensures opens { LeavesOpening slots.old (emptied slots.old) (D.moment disk.old) (D.moment disk.new) }
-    ensures seen { Sees (D.moment disk.old).state (D.moment disk.new).state (λ seen now. KeepsPages pages.now seen now × OnOk result (HoldsBlob page_size now pages.now bytes.now)) }
+    ensures seen { Sees (D.moment disk.old).state (D.moment disk.new).state
+        (λ seen now. KeepsPages pages.now seen now × OnOk result (HoldsBlob page_size now pages.now bytes.now)) }
     ensures cause { FailsWithCause result (D.moment disk.old) (D.moment disk.new) }
     ensures writes { OnlyWrites pages.now (D.moment disk.old) (D.moment disk.new) }
 {
@@ -98,7 +99,8 @@ pub fn write_chain<D: Disk>(
     ensures slots { slots.new ≡ pages_written pages.now slots.old }
     ensures sound { KeepsSound slots.old slots.new (D.moment disk.old) (D.moment disk.new) }
     ensures opens { LeavesOpening slots.old (emptied slots.old) (D.moment disk.old) (D.moment disk.new) }
-    ensures seen { Sees (D.moment disk.old).state (D.moment disk.new).state (λ seen now. KeepsPages pages.now seen now × OnOk result (HoldsChain page_size now pages.now bytes.now)) }
+    ensures seen { Sees (D.moment disk.old).state (D.moment disk.new).state
+        (λ seen now. KeepsPages pages.now seen now × OnOk result (HoldsChain page_size now pages.now bytes.now)) }
     ensures cause { FailsWithCause result (D.moment disk.old) (D.moment disk.new) }
     ensures writes { OnlyWrites pages.now (D.moment disk.old) (D.moment disk.new) }
 {

@@ -119,9 +119,11 @@ pub fn window_chunk(
     requires cells { HaveCells schema.now margins.now.items (chunk.now ∷ []) }
     requires reach { AreWithinMargins reach.now margins.now.items }
     requires typed { IsTrue (are_aggregates_of schema.now.attributes aggs.now) }
-    ensures made { IfOk result (IsMadeBy (core_windows schema.now.dimensions chunk.now.at.items reach.now aggs.now) schema.now.dimensions margins.now.items chunk.now) }
+    ensures made { IfOk result (IsMadeBy (core_windows schema.now.dimensions chunk.now.at.items reach.now aggs.now)
+        schema.now.dimensions margins.now.items chunk.now) }
     ensures array { (rows : Items Placed) → IsPart schema.now.dimensions margins.now.items rows chunk.now
-        → IfOk result (λ made. chunk_rows schema.now.dimensions margins.now.items made ≡ core_windows schema.now.dimensions chunk.now.at.items reach.now aggs.now rows) }
+        → IfOk result (λ made. chunk_rows schema.now.dimensions margins.now.items made
+        ≡ core_windows schema.now.dimensions chunk.now.at.items reach.now aggs.now rows) }
 {
     let grid = grid_of(schema, margins, &chunk.at);
     let rows = frame_rows(&grid, chunk)?;
