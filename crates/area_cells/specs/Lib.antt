@@ -1,2 +1,3 @@
+pub use Rattle.chunk_cells.specs.Whole
 pub mod Cut
 pub mod Inner

@@ -8,9 +8,9 @@ ghost use Rattle.exec_group.specs.Inner.Merging.{CanBeMerged, CanBeTold, HoldsSe
 
 use crate::parts::results::rows_told;
 use crate::rows::{Groups, merge_all};
+use area_cells::assemble;
 use array_geom::{ChunkedArray, margins_of};
 use cell_values::{List, Memory, Schema};
-use chunk_cells::assemble;
 
 /// The array of the target with a cell for each group, whose values are the aggregates of the group's cells.
 #[tactic(auto, using(array_geom::proofs::MarginLaws::overlap_each, array_geom::proofs::MarginLaws::overlap_places))]

@@ -15,8 +15,8 @@ ghost use Rattle.exec_group.specs.Inner.Parts.{IsBlockPartOf};
 
 use crate::parts::{regrid_groups, told_array};
 use crate::pieces::parts::{are_few, rows_of_core};
-use crate::pieces::rising::are_rising;
 use crate::rows::{Groups, merge_all};
+use area_cells::are_rising;
 use array_geom::{Chunk, ChunkedArray};
 use cell_values::{List, Margins, Memory, Schema};
 use logical_plan::Aggregate;
