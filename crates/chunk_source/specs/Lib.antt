@@ -1,3 +1,4 @@
+pub use Rattle.array_parts.specs.Placed
 pub mod Faults
 pub mod Found
 pub mod InMemory
