@@ -1,1 +1,2 @@
+pub use Rattle.prepared_commits.specs.Prepared
 pub mod Laws

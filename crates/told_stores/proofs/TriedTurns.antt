@@ -36,7 +36,7 @@ use Rattle.store_state.specs.At.{standing}
 use Rattle.store_state.specs.Calls.{database_with, history_at}
 use Rattle.store_state.specs.Events.{events, owner_of}
 use Rattle.store_state.specs.Standings.{BeganAs, Standing, base_of}
-use Rattle.prepared_commits.specs.Prepared.{IsAsked, MayBeMade}
+use Rattle.fresh_commits.specs.Prepared.{IsAsked, MayBeMade}
 use Rattle.store_commits.specs.Parts.{IsFull}
 use Rattle.store_commits.specs.Start.{Start}
 use Rattle.store_commits.specs.Growth.{tried_events}
