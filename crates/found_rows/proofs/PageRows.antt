@@ -15,7 +15,7 @@ use Rattle.version_catalog.specs.declared.rules.catalog.CatalogArray.{CatalogArr
 use Rattle.catalog_changes.specs.Changed.{changed}
 use Rattle.catalog_changes.specs.Records.{entries_of, is_array, with_new, with_directory, from_version, without}
 use Rattle.catalog_changes.proofs.Kept.{new_named}
-use Rattle.file_meaning.specs.Opening.{version_pages}
+use Rattle.next_files.specs.Opening.{version_pages}
 use Rattle.laid_commits.specs.Premises.{pages_made}
 use Rattle.next_files.specs.Next.{Made, Rows, blob_of}
 use Rattle.found_rows.specs.Rows.{IsMadeWith}

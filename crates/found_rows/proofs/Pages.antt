@@ -21,7 +21,7 @@ use Rattle.catalog_changes.specs.Records.{entries_of}
 use Rattle.event_core.specs.declared.state.VersionPages.{VersionPages}
 use Rattle.event_core.specs.History.{is_pages_of, pages_after}
 use Rattle.event_core.specs.Pages.{has_page}
-use Rattle.file_meaning.specs.Opening.{all_of, row_pages}
+use Rattle.next_files.specs.Opening.{all_of, row_pages}
 use Rattle.laid_commits.proofs.Apart.{both_all}
 use Rattle.laid_commits.specs.Premises.{pages_made}
 use Rattle.next_files.specs.Next.{Rows, blob_of}

@@ -13,7 +13,7 @@ use Rattle.catalog_changes.specs.Changed.{after_change}
 use Rattle.event_core.specs.declared.state.VersionPages.{VersionPages}
 use Rattle.event_core.specs.History.{pages_after}
 use Rattle.event_core.specs.Pages.{has_page}
-use Rattle.file_meaning.specs.Opening.{all_of, row_pages}
+use Rattle.next_files.specs.Opening.{all_of, row_pages}
 use Rattle.next_files.specs.Next.{Made, Rows, blob_of, rows_after}
 use Rattle.laid_commits.specs.Premises.{last_of_row, pages_made}
 use Rattle.next_files.specs.Premises.{row_of}

@@ -9,7 +9,7 @@ use Rattle.plan_changes.specs.declared.change.Change.TheVariants.{Store, Insert}
 use Rattle.version_catalog.specs.declared.rules.catalog.Catalog.{Catalog}
 use Rattle.event_core.specs.declared.state.VersionPages.{VersionPages}
 use Rattle.event_core.specs.History.{is_pages_of}
-use Rattle.file_meaning.specs.Opening.{version_pages}
+use Rattle.next_files.specs.Opening.{version_pages}
 use Rattle.next_files.specs.Next.{Made, Rows}
 use Rattle.store_versions.specs.Versions.{MadeVersion, is_of}
 
