@@ -2,6 +2,7 @@ pub use Rattle.found_rows.specs.Changes
 pub use Rattle.found_rows.specs.Commits
 pub use Rattle.found_rows.specs.Costs
 pub use Rattle.found_rows.specs.Laid
+pub use Rattle.found_rows.specs.Rows
 pub use Rattle.found_rows.specs.Versions
 pub use Rattle.found_rows.specs.Written
 pub mod At
