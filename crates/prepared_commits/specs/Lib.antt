@@ -6,6 +6,7 @@ pub use Rattle.store_state.specs.Kept
 pub use Rattle.store_state.specs.Payloads
 pub use Rattle.store_state.specs.Standings
 pub use Rattle.store_state.specs.Worked
+pub use Rattle.store_state.specs.declared.event.Event
 pub use Rattle.store_state.specs.declared.parts.StoreParts
 pub mod Needs
 pub mod Prepared
