@@ -5,6 +5,7 @@ pub use Rattle.found_rows.specs.Laid
 pub use Rattle.found_rows.specs.Rows
 pub use Rattle.found_rows.specs.Versions
 pub use Rattle.found_rows.specs.Written
+pub use Rattle.store_ledger.specs.Ledger
 pub mod At
 pub mod Calls
 pub mod Cells

@@ -19,3 +19,4 @@ pub use listing::{listed, listed_now};
 pub use parts::StoreParts;
 pub use pins::{pin, unpin};
 pub use reaping::reap;
+pub use store_ledger::ReadyCommit;
