@@ -13,8 +13,7 @@ use crate::state::{
     AttrPlace, Bound, BoundPlace, Count, DimPlace, Head, Label, NumberPlace, PartStep,
 };
 use crate::{AttrText, DimText, SchemaText, ShapeState, ShapeStep};
-use afl_lexer::{Symbol, Token, TokenKind, Word, name_value};
-use cell_values::{List, Memory, Name, Span};
+use afl_lexer::{List, Memory, Name, Span, Symbol, Token, TokenKind, Word, name_value};
 use std::alloc::Global;
 
 /// Nothing goes on so, and what was read of the part is let go.

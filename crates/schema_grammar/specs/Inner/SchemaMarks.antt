@@ -1,8 +1,8 @@
 -- The tokens of a schema's text.
 use Rattle.std.specs.Prelude.{◌≢◌, ℕ, suc, ◌^◌, ◌<◌, ℤ, pos, negsuc, unsigned_abs, Bool, true, false, ◌==◌, if◌then◌else◌, List, [], ◌∷◌, map}
 use Rattle.std.specs.List.{AllByRecursion}
-use Rattle.cell_values.specs.Naming.{IsName}
-use Rattle.cell_values.specs.declared.name.Span.{Span}
+use Rattle.afl_lexer.specs.Naming.{IsName}
+use Rattle.afl_lexer.specs.Span.{Span}
 use Rattle.afl_lexer.specs.Lexemes.{a_name, a_number, a_word, a_symbol}
 use Rattle.afl_lexer.specs.Spelling.{Mark, a_space, says}
 use Rattle.afl_lexer.specs.declared.token.Word.TheVariants.{Not, Null}
