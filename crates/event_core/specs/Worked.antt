@@ -3,7 +3,7 @@ use Rattle.std.specs.Prelude.{ℕ, pos, true, [], ◌∷◌, codes}
 use Rattle.cell_values.specs.declared.datum.Datum.TheVariants.{Int}
 use Rattle.cell_values.specs.declared.schema.Kind.TheVariants.{Int64}
 use Rattle.cell_values.specs.declared.schema.Schema.{Schema}
-use Rattle.expr_nulls.specs.Expr.{literal}
+use Rattle.plan_changes.specs.Expr.{literal}
 use Rattle.plan_changes.specs.Query.{built}
 use Rattle.plan_changes.specs.declared.change.Change.{Change}
 use Rattle.plan_changes.specs.declared.change.Change.TheVariants.{Create, Store, Insert, Remove, RemoveVersions}

@@ -1,3 +1,4 @@
+pub use Rattle.expr_nulls.specs.Expr
 pub use Rattle.logical_plan.specs.Lemmas.QueryCode
 pub use Rattle.logical_plan.specs.Query
 pub use Rattle.logical_plan.specs.declared.names.NameEntry
