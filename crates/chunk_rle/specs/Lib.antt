@@ -1,3 +1,6 @@
+pub use Rattle.array_geom.specs.Geometry
+pub use Rattle.array_geom.specs.Link
+pub use Rattle.array_geom.specs.declared.chunk.Chunk
 pub mod Chunks
 pub mod Decoding
 pub mod Frames
