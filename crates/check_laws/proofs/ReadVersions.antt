@@ -33,8 +33,8 @@ use Rattle.afl_types.specs.OverTwo.TheVariants.{Join, CrossJoin}
 use Rattle.check_groups.specs.Blocks.{regrid_parts}
 use Rattle.check_groups.specs.Groups.{aggregate_parts}
 use Rattle.check_groups.specs.Windows.{window_parts}
-use Rattle.check_joins.specs.Crosses.{cross_parts}
-use Rattle.check_joins.specs.JoinSchemas.{joined_schema}
+use Rattle.afl_types.specs.Crosses.{cross_parts}
+use Rattle.afl_types.specs.JoinSchemas.{joined_schema}
 use Rattle.afl_types.specs.Redimension.{redimension_parts}
 use Rattle.check_rules.proofs.OperatorsHolding.{new_holds}
 use Rattle.afl_types.proofs.NoQuery.{nested_holds}

@@ -32,8 +32,8 @@ use Rattle.check_cellwise.proofs.BoxesHolding.{between_holds, subarray_holds, sl
 use Rattle.check_groups.specs.Blocks.{regrid_parts}
 use Rattle.check_groups.specs.Groups.{aggregate_parts}
 use Rattle.check_groups.specs.Windows.{window_parts}
-use Rattle.check_joins.specs.Crosses.{cross_parts}
-use Rattle.check_joins.specs.JoinSchemas.{joined_schema}
+use Rattle.afl_types.specs.Crosses.{cross_parts}
+use Rattle.afl_types.specs.JoinSchemas.{joined_schema}
 use Rattle.afl_types.specs.Redimension.{redimension_parts}
 use Rattle.afl_types.specs.Calls.{call_of, fits_count, fits_two, ruled, ruled_two}
 use Rattle.afl_types.specs.Content.{content_span}

@@ -1,3 +1,5 @@
+pub use Rattle.check_joins.specs.Crosses
+pub use Rattle.check_joins.specs.JoinSchemas
 pub use Rattle.check_redimension.specs.Redimension
 pub mod Arrays
 pub mod Calls
