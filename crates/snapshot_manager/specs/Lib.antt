@@ -1,4 +1,4 @@
-pub use Rattle.prepared_commits.specs.Prepared
+pub use Rattle.told_stores.specs.Prepared
 pub use Rattle.told_stores.specs.Causes
 pub use Rattle.told_stores.specs.Changes
 pub use Rattle.told_stores.specs.CommitFault

@@ -12,7 +12,7 @@ ghost use Rattle.store_state.specs.At.{standing};
 ghost use Rattle.store_state.specs.Calls.{database_with, history_at};
 ghost use Rattle.store_state.specs.Events.{events};
 ghost use Rattle.store_state.specs.Standings.{base_of, BeganAs};
-ghost use Rattle.prepared_commits.specs.Prepared.{IsAsked, MayBeMade};
+ghost use Rattle.told_stores.specs.Prepared.{IsAsked, MayBeMade};
 ghost use Rattle.told_stores.specs.Starts.{start_of};
 ghost use Rattle.told_stores.specs.Causes.{FitsAfter, IsUncommitted};
 ghost use Rattle.snapshot_manager.specs.Commits.{IfDone, IfStale, OnEnd};

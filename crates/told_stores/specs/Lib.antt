@@ -1,4 +1,5 @@
 pub use Rattle.commit_pages.specs.Changes
+pub use Rattle.fresh_commits.specs.Prepared
 pub use Rattle.store_commits.specs.Causes
 pub use Rattle.store_commits.specs.Growth
 pub use Rattle.store_commits.specs.Start
