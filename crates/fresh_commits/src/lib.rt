@@ -4,3 +4,4 @@
 mod laws;
 
 pub use laws::fresh_changes_may_be_made;
+pub use prepared_commits::ReadFault;

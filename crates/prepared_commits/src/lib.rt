@@ -6,4 +6,4 @@ mod prepared;
 
 pub use fault::PrepareFault;
 pub use prepared::{NewBase, Prepared};
-pub use store_state::{StoreParts, a_store_is_kept};
+pub use store_state::{ReadFault, StoreParts, a_store_is_kept};
