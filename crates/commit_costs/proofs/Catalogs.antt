@@ -22,9 +22,9 @@ use Rattle.version_catalog.specs.declared.rules.catalog.BlobAt.{BlobAt}
 use Rattle.version_catalog.specs.declared.rules.catalog.CatalogArray.{CatalogArray}
 use Rattle.version_catalog.specs.declared.rules.catalog.Catalog.{Catalog}
 use Rattle.version_catalog.specs.Spelling.{spelling}
-use Rattle.catalog_changes.specs.Records.{entries_of, with_new, with_directory, without}
-use Rattle.catalog_changes.specs.Records as records
-use Rattle.catalog_changes.specs.Changed.{after_change, changed}
+use Rattle.file_meaning.specs.Records.{entries_of, with_new, with_directory, without}
+use Rattle.file_meaning.specs.Records as records
+use Rattle.file_meaning.specs.Changed.{after_change, changed}
 use Rattle.commit_costs.specs.Costs.{directory_of, directory_for, catalog_of, chain_pages}
 use Rattle.commit_costs.specs.Lengths.{CatalogsOfDatabases, RecordPagesAreTold, CataloguePagesAreTold}
 use Rattle.commit_costs.proofs.Lengths.{records_read_no_page, catalogs_read_no_page, changes_keep_alike}

@@ -22,7 +22,7 @@ use Rattle.version_catalog.specs.declared.rules.catalog.BlobAt.{BlobAt}
 use Rattle.version_catalog.specs.declared.rules.catalog.CatalogArray.{CatalogArray}
 use Rattle.version_catalog.specs.declared.rules.catalog_record.CatalogRecord.TheVariants as entries
 use Rattle.version_catalog.specs.Spelling.{versions_at, spelling, spell_array, spell_version, spell_blob, spell_record}
-use Rattle.catalog_changes.specs.Records.{entries_of, is_array, with_new, with_directory, from_version, without}
+use Rattle.file_meaning.specs.Records.{entries_of, is_array, with_new, with_directory, from_version, without}
 use Rattle.commit_costs.specs.Costs.{numbers_of, payload_length, dir_entry, directory_of}
 use Rattle.commit_costs.specs.Lengths.{AreListed, HasItsLength, AreAlike, AreAlikeArrays, DirectoriesAreAlike, CatalogsReadNoPage, RecordsReadNoPage, ChangesKeepAlike}
 use Rattle.commit_costs.proofs.Orders.{total, any_order}

@@ -20,7 +20,7 @@ use Rattle.plan_changes.specs.Databases.{Database, after, entry_of, fitted, new_
 use Rattle.version_catalog.specs.declared.rules.catalog.BlobAt.{BlobAt}
 use Rattle.version_catalog.specs.declared.rules.catalog.Catalog.{Catalog}
 use Rattle.version_catalog.specs.declared.rules.catalog_record.CatalogRecord.{CatalogRecord}
-use Rattle.catalog_changes.specs.Changed.{record_for}
+use Rattle.file_meaning.specs.Changed.{record_for}
 use Rattle.version_catalog.specs.Spelling.{spell_record, spelling}
 use Rattle.file_meaning.specs.Standing.{stored_chunk}
 use Rattle.event_core.specs.Bases.{records_at}

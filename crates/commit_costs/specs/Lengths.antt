@@ -21,7 +21,7 @@ use Rattle.version_catalog.specs.declared.rules.catalog.CatalogArray.{CatalogArr
 use Rattle.version_catalog.specs.declared.rules.catalog.Catalog.{Catalog}
 use Rattle.version_catalog.specs.Catalogs.{IsBlob}
 use Rattle.version_catalog.specs.Spelling.{spelling}
-use Rattle.catalog_changes.specs.Changed.{after_change, record_for}
+use Rattle.file_meaning.specs.Changed.{after_change, record_for}
 use Rattle.commit_costs.specs.Costs.{numbers_of, payload_length, payload_pages, touched, directory_of, directory_for}
 use Rattle.commit_costs.specs.Costs.{catalog_of, chain_pages, record_length, record_pages, catalogue_pages}
 
