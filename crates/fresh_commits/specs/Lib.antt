@@ -1,3 +1,4 @@
+pub use Rattle.fresh_laws.specs.Fresh
 pub use Rattle.prepared_commits.specs.At
 pub use Rattle.prepared_commits.specs.Calls
 pub use Rattle.prepared_commits.specs.Event

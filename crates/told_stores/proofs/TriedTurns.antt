@@ -25,7 +25,7 @@ use Rattle.event_core.proofs.Tests.{both_not}
 use Rattle.event_laws.specs.Pins.{PlaceTells}
 use Rattle.event_laws.proofs.Pins.{places_tell_pins}
 use Rattle.store_commits.specs.Fresh.{IsFresh}
-use Rattle.fresh_laws.specs.Fresh.{FreshChangesAreTyped}
+use Rattle.fresh_commits.specs.Fresh.{FreshChangesAreTyped}
 use Rattle.fresh_commits.specs.Laws.{FreshChangesMayBeMade}
 use Rattle.store_ledger.specs.declared.pinned.Pinned.{Pinned}
 use Rattle.store_ledger.specs.Ledger.{LedgerState, IsOpenPin, history, is_fault, is_noted, is_tried}
