@@ -10,7 +10,7 @@ ghost use Rattle.logical_plan.specs.PlanSchema.{schema_of};
 ghost use Rattle.chunk_source.specs.Faults.{Answers};
 ghost use Rattle.chunk_source.specs.Reading.{asked_of};
 ghost use Rattle.chunk_source.specs.Source.{AsksFront, Keeps};
-ghost use Rattle.chunk_exec.specs.Computed.{CanCompute};
+ghost use Rattle.plan_rows.specs.Computed.{CanCompute};
 ghost use Rattle.plan_rows.specs.Found.{HasSchema, IsFound};
 ghost use Rattle.plan_rows.specs.Held.{HoldsCells, rows_held};
 ghost use Rattle.statement_replies.specs.Kinds.{IsQueryReply, IsRowsReply};
