@@ -1,3 +1,4 @@
+pub use Rattle.array_rows.specs.Boxes
 pub mod Areas
 pub mod Chunks
 pub mod Geometry

@@ -5,7 +5,7 @@ use Rattle.std.proofs.lemmas.Int.{ints}
 use Rattle.cell_values.specs.declared.schema.Bounds.{Bounds}
 use Rattle.cell_values.specs.declared.schema.Dimension.{Dimension}
 use Rattle.cell_values.specs.declared.schema.Schema.{Schema}
-use Rattle.array_rows.specs.Boxes.{is_between, is_inside, bounds_of}
+use Rattle.array_geom.specs.Boxes.{is_between, is_inside, bounds_of}
 use Rattle.array_geom.specs.Geometry.{ChunkNumber, HasFrame, frame, frame_low, frame_lengths, overlaps, volume, coordinate_in}
 use Rattle.array_geom.specs.Inner.Ranges.{IsGrid}
 use Rattle.array_geom.proofs.TestLaws.{and_parts, and_both, le_test, le_from_test}

@@ -3,7 +3,7 @@
 use Rattle.std.specs.Prelude.{ℕ, zero, suc, ℤ, Bool, true, false, ◌&&◌, ◌||◌, List}
 use Rattle.cell_values.specs.declared.schema.Bounds.{Bounds}
 use Rattle.cell_values.specs.declared.schema.Schema.{Schema}
-use Rattle.array_rows.specs.Boxes.{is_inside, bounds_of}
+use Rattle.array_geom.specs.Boxes.{is_inside, bounds_of}
 use Rattle.array_geom.specs.Geometry.{ChunkNumber, core, coordinate_in, frame_low, frame_lengths, overlaps, volume}
 use Rattle.chunk_rle.specs.declared.places.Places.{Places}
 

@@ -1,7 +1,7 @@
 //! Which positions of a chunk's frame are within the schema's bounds, and which in its core.
 ghost use Rattle.std.specs.Prelude.{◌≡◌, ◌+◌, ◌<◌, ◌≤◌, ◌&&◌, length, map, IsTrue};
 ghost use Rattle.cell_values.specs.Schemas.{IsValid};
-ghost use Rattle.array_rows.specs.Boxes.{bounds_of, is_inside};
+ghost use Rattle.array_geom.specs.Boxes.{bounds_of, is_inside};
 ghost use Rattle.array_geom.specs.Geometry.{core, frame_lengths, frame_low, has_core, overlaps, volume};
 ghost use Rattle.array_geom.specs.Inner.Ranges.{IsGrid};
 ghost use Rattle.chunk_rle.specs.Frames.{all_from, any_from, frame_in, frame_of};
