@@ -1,3 +1,13 @@
+pub use Rattle.event_core.specs.Agree
+pub use Rattle.event_core.specs.Allowed
+pub use Rattle.event_core.specs.Apart
+pub use Rattle.event_core.specs.History
+pub use Rattle.event_core.specs.Legal
+pub use Rattle.event_core.specs.Shared
+pub use Rattle.event_core.specs.declared.entry.Entry
+pub use Rattle.event_core.specs.declared.entry.Used
+pub use Rattle.event_core.specs.declared.state.Core
+pub use Rattle.event_core.specs.declared.state.VersionPages
 pub mod Inner
 pub mod Rows
 pub mod States

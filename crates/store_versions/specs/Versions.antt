@@ -8,10 +8,10 @@ use Rattle.plan_changes.specs.declared.change.Change.{Change}
 use Rattle.plan_changes.specs.declared.change.Change.TheVariants.{Create, Store, Insert, Remove, RemoveVersions}
 use Rattle.plan_changes.specs.Changes.{next_of}
 use Rattle.chunk_map.specs.declared.directory.Directory.{Directory}
-use Rattle.event_core.specs.declared.entry.Entry.TheVariants.{Pin, Unpin, Commit, Reap}
-use Rattle.event_core.specs.declared.state.Core.{Core}
-use Rattle.event_core.specs.Agree.{can_name}
-use Rattle.event_core.specs.History.{History, names_at}
+use Rattle.lean_core.specs.Entry.TheVariants.{Pin, Unpin, Commit, Reap}
+use Rattle.lean_core.specs.Core.{Core}
+use Rattle.lean_core.specs.Agree.{can_name}
+use Rattle.lean_core.specs.History.{History, names_at}
 
 -- a version of an array, with the directory that it was made with
 pub record MadeVersion : Type 0 where
