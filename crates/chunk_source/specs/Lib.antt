@@ -1,4 +1,7 @@
 pub use Rattle.array_parts.specs.Placed
+pub use Rattle.logical_plan.specs.Typing
+pub use Rattle.logical_plan.specs.declared.names.NameEntry
+pub use Rattle.logical_plan.specs.declared.names.Names
 pub mod Faults
 pub mod Found
 pub mod InMemory
