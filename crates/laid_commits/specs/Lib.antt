@@ -3,6 +3,7 @@ pub use Rattle.commit_pages.specs.Commits
 pub use Rattle.commit_pages.specs.Costs
 pub use Rattle.commit_pages.specs.Versions
 pub use Rattle.commit_pages.specs.declared.laid.Laid
+pub use Rattle.commit_pages.specs.declared.version.NewVersion
 pub use Rattle.commit_pages.specs.declared.written.Written
 pub mod Inner
 pub mod Laws
