@@ -18,9 +18,9 @@ use Rattle.plan_changes.specs.Changes.{name_of}
 use Rattle.plan_changes.specs.Databases.{Database, entry_of, names_of, new_rows, after}
 use Rattle.plan_changes.specs.Stored.{IsDatabase, IsStored}
 use Rattle.plan_changes.proofs.DatabaseLaws.{changes_keep_databases}
-use Rattle.version_catalog.specs.declared.rules.catalog.CatalogArray.{CatalogArray}
-use Rattle.version_catalog.specs.declared.rules.catalog.Catalog.{Catalog}
-use Rattle.version_catalog.specs.Catalogs.{names_in}
+use Rattle.file_laws.specs.CatalogArray.{CatalogArray}
+use Rattle.file_laws.specs.Catalog.{Catalog}
+use Rattle.file_laws.specs.Catalogs.{names_in}
 use Rattle.file_laws.specs.Changed.{has_its_directory, changed, after_change}
 use Rattle.file_laws.proofs.DirectoryLaws.{follow_databases}
 use Rattle.file_laws.specs.Slots.{Slots}

@@ -20,7 +20,7 @@ use Rattle.plan_changes.specs.Databases.{Database, Stored, entry_of, new_rows, w
 use Rattle.plan_changes.specs.Stored.{is_before, IsDatabase, NamesRise}
 use Rattle.plan_changes.proofs.NamesOf.{prefix_map, map_insert, names_depend_on_no_row}
 use Rattle.plan_changes.proofs.StoredLaws.{all_inserted, add_array, names_in}
-use Rattle.version_catalog.specs.declared.rules.catalog.CatalogArray.{CatalogArray}
+use Rattle.file_laws.specs.CatalogArray.{CatalogArray}
 use Rattle.file_laws.specs.Records.{entries_of, is_array as has_its_name, with_new, with_directory}
 use Rattle.file_laws.specs.Changed.{changed}
 use Rattle.file_laws.proofs.Kept.{new_named}

@@ -15,8 +15,8 @@ use Rattle.plan_changes.specs.Stored.{NamesRise}
 use Rattle.plan_changes.specs.Typed.{FitsInto}
 use Rattle.plan_changes.proofs.DatabaseLaws.{apart}
 use Rattle.plan_changes.proofs.StoredLaws.{names_in, tail_rises, after_next, RiseAfter}
-use Rattle.version_catalog.specs.declared.rules.catalog.BlobAt.{BlobAt}
-use Rattle.version_catalog.specs.declared.rules.catalog.CatalogArray.{CatalogArray}
+use Rattle.file_laws.specs.BlobAt.{BlobAt}
+use Rattle.file_laws.specs.CatalogArray.{CatalogArray}
 use Rattle.file_laws.specs.Opening.{is_same, is_seen, Rules, rows_in, all_of, version_pages, row_pages}
 use Rattle.file_laws.proofs.Apart.{both_all}
 use Rattle.file_laws.proofs.Elsewhere.{rows_steps}

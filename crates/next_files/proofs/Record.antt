@@ -12,12 +12,12 @@ use Rattle.page_chain.proofs.PageLaws.{chain_read}
 use Rattle.logical_plan.specs.declared.names.Names.{Names}
 use Rattle.plan_changes.specs.declared.change.Change.{Change}
 use Rattle.plan_changes.specs.Allowed.{names_allow}
-use Rattle.version_catalog.specs.declared.rules.catalog.Catalog.{Catalog}
-use Rattle.version_catalog.specs.declared.rules.catalog_record.CatalogRecord.{CatalogRecord}
-use Rattle.version_catalog.specs.Catalogs.{names_in}
-use Rattle.version_catalog.specs.Spelling.{spell_record}
-use Rattle.version_catalog.specs.Table.{catalog_in}
-use Rattle.version_catalog.proofs.RuleLaws.{record_again}
+use Rattle.file_laws.specs.Catalog.{Catalog}
+use Rattle.file_laws.specs.CatalogRecord.{CatalogRecord}
+use Rattle.file_laws.specs.Catalogs.{names_in}
+use Rattle.file_laws.specs.Spelling.{spell_record}
+use Rattle.file_laws.specs.Table.{catalog_in}
+use Rattle.file_laws.proofs.RuleLaws.{record_again}
 use Rattle.file_laws.specs.Records.{is_allowed, after_record}
 use Rattle.file_laws.specs.Changed.{after_change}
 use Rattle.file_laws.proofs.DirectoryLaws.{are_allowed, do_their_change}

@@ -18,8 +18,8 @@ use Rattle.chunk_map.specs.Entries.{AreRising}
 use Rattle.chunk_map.specs.Table.{is_number, next_number, number_of, payload_at, entry_after, next_entry, number_in, entries_at, directory_in}
 use Rattle.chunk_map.proofs.Moves.{IsBefore, before-trans}
 use Rattle.plan_changes.specs.Stored.{IsStored}
-use Rattle.version_catalog.specs.declared.rules.catalog.BlobAt.{BlobAt}
-use Rattle.version_catalog.specs.declared.rules.catalog.CatalogArray.{CatalogArray}
+use Rattle.file_laws.specs.BlobAt.{BlobAt}
+use Rattle.file_laws.specs.CatalogArray.{CatalogArray}
 use Rattle.file_laws.specs.Records.{entries_of}
 use Rattle.file_laws.specs.Opening.{Listed, Rules, directory_from, Row, row_in, rows_in}
 use Rattle.file_laws.proofs.Steps.{blamed_ok}

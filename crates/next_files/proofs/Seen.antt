@@ -16,8 +16,8 @@ use Rattle.chunk_map.specs.declared.directory.Directory.{Directory}
 use Rattle.chunk_map.specs.Entries.{AreRising, entry_at}
 use Rattle.chunk_map.proofs.Moves.{number_order_total, IsBefore, before-trans}
 use Rattle.plan_changes.specs.Changes.{name_of}
-use Rattle.version_catalog.specs.declared.rules.catalog.Catalog.{Catalog}
-use Rattle.version_catalog.specs.Catalogs.{names_in}
+use Rattle.file_laws.specs.Catalog.{Catalog}
+use Rattle.file_laws.specs.Catalogs.{names_in}
 use Rattle.file_laws.specs.Opening.{is_same, is_seen, is_entry, are_pages, Rules, rows_in, sequence_of}
 use Rattle.file_laws.proofs.Parts.{both_true}
 use Rattle.file_laws.proofs.Elsewhere.{found_steps}

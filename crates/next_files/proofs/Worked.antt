@@ -7,7 +7,7 @@ use Rattle.page_chain.specs.Links.{AreFree}
 use Rattle.chunk_map.specs.Spelling.{IsDirectory, spell_entry, spelling}
 use Rattle.file_items.specs.Spelling.{spell_name}
 use Rattle.plan_changes.specs.Databases.{after}
-use Rattle.version_catalog.specs.Spelling.{spell_blob, spell_record}
+use Rattle.file_laws.specs.Spelling.{spell_blob, spell_record}
 use Rattle.file_laws.specs.Slots.{slots_in}
 use Rattle.file_laws.specs.Inner.Example.{schema, rows, database, zeros, front, catalog_bytes, directory_bytes, payload_bytes, file_with, file}
 use Rattle.file_laws.proofs.Worked.{database_is, found_is, version_is, payload_is}

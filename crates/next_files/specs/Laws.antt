@@ -18,9 +18,9 @@ use Rattle.chunk_map.specs.Entries.{AreRising}
 use Rattle.plan_changes.specs.declared.change.Change.{Change}
 use Rattle.plan_changes.specs.Changes.{name_of}
 use Rattle.plan_changes.specs.Databases.{Database, after}
-use Rattle.version_catalog.specs.declared.rules.catalog_record.CatalogRecord.{CatalogRecord}
-use Rattle.version_catalog.specs.Spelling.{spell_record, spelling as catalog_spelling}
-use Rattle.version_catalog.specs.Catalogs.{names_in}
+use Rattle.file_laws.specs.CatalogRecord.{CatalogRecord}
+use Rattle.file_laws.specs.Spelling.{spell_record, spelling as catalog_spelling}
+use Rattle.file_laws.specs.Catalogs.{names_in}
 use Rattle.file_laws.specs.Changed.{after_change}
 use Rattle.file_laws.specs.Slots.{Slots, slots_in}
 use Rattle.file_laws.specs.Opening.{Opens, is_seen, pages_of, sequence_of}

@@ -7,8 +7,8 @@ use Rattle.logical_plan.specs.declared.names.NameEntry.{NameEntry}
 use Rattle.plan_changes.specs.declared.change.Change.{Change}
 use Rattle.plan_changes.specs.declared.change.Change.TheVariants.{Create, Store, Insert, Remove, RemoveVersions}
 use Rattle.plan_changes.specs.Changes.{is_named, has_array, place_of, with_absent}
-use Rattle.version_catalog.specs.declared.rules.catalog.BlobAt.{BlobAt}
-use Rattle.version_catalog.specs.Catalogs.{names_in}
+use Rattle.file_laws.specs.BlobAt.{BlobAt}
+use Rattle.file_laws.specs.Catalogs.{names_in}
 use Rattle.file_laws.specs.Changed.{after_change}
 use Rattle.file_laws.specs.Found.{Found}
 

@@ -26,9 +26,9 @@ use Rattle.plan_changes.specs.Databases.{Database, names_of, new_rows, fault_of_
 use Rattle.plan_changes.specs.Kept.{StoresArray}
 use Rattle.plan_changes.specs.Stored.{HasItsNames, IsDatabase}
 use Rattle.plan_changes.specs.Typed.{IsTypedFor}
-use Rattle.version_catalog.specs.declared.rules.catalog_record.CatalogRecord.{CatalogRecord}
-use Rattle.version_catalog.specs.Catalogs.{IsCatalog, IsRecord, names_in}
-use Rattle.version_catalog.specs.Spelling.{spell_record, spelling as catalog_spelling}
+use Rattle.file_laws.specs.CatalogRecord.{CatalogRecord}
+use Rattle.file_laws.specs.Catalogs.{IsCatalog, IsRecord, names_in}
+use Rattle.file_laws.specs.Spelling.{spell_record, spelling as catalog_spelling}
 use Rattle.file_laws.specs.Changed.{record_for, after_change}
 use Rattle.file_laws.specs.Slots.{Slots}
 use Rattle.file_laws.specs.Opening.{is_seen, found_in, pages_of, sequence_of}
