@@ -9,7 +9,7 @@ use Rattle.logical_plan.specs.Meaning.{version_rows}
 use Rattle.plan_changes.specs.declared.change.Change.{Change}
 use Rattle.plan_changes.specs.Databases.{Database, after, rows_of}
 use Rattle.file_laws.proofs.Payloads.{part_stored}
-use Rattle.file_meaning.specs.Standing.{HoldsFound, Stands, stored_chunk}
+use Rattle.file_laws.specs.Standing.{HoldsFound, Stands, stored_chunk}
 use Rattle.event_core.specs.declared.entry.Entry.{Entry}
 use Rattle.event_core.specs.Cells.{at}
 use Rattle.event_core.specs.History.{History, up_to}
