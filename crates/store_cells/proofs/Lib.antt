@@ -1,3 +1,4 @@
+pub use Rattle.laid_commits.proofs.Records
 mod Asked
 mod Commit
 mod Found

@@ -31,7 +31,7 @@ use Rattle.commit_pages.specs.declared.laid.Laid.{Laid}
 use Rattle.commit_pages.specs.Commits.{record_needs, base_needs, record_laid, base_laid}
 use Rattle.commit_pages.specs.Versions.{IsWritten, new_version}
 use Rattle.commit_pages.proofs.Chains.{record_lies, base_lies}
-use Rattle.laid_commits.proofs.Records.{draft_comes, draft_written}
+use Rattle.store_cells.proofs.Records.{draft_comes, draft_written}
 use Rattle.next_files.proofs.Free.{none_cons}
 use Rattle.store_ledger.specs.Ledger.{history}
 use Rattle.prepared_commits.specs.Standings.{Standing}
