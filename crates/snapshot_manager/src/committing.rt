@@ -26,12 +26,11 @@ use crate::seat::Seat;
 use crate::shared::{Shared, StoreTurn};
 use afl_outside::Disk;
 use array_geom::Changed;
-use fresh_laws::fresh_changes_stay;
 use plan_changes::Change;
 use std::alloc::Global;
 use std::sync::Wait;
 use store_ledger::Pinned;
-use told_stores::{CommitFault, commit, fresh_changes_may_be_made, give_up};
+use told_stores::{CommitFault, commit, fresh_changes_may_be_made, fresh_changes_stay, give_up};
 
 /// What came of a commit that wasn't refused.
 pub enum Commit<D: Disk> {
