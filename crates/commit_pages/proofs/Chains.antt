@@ -16,8 +16,8 @@ use Rattle.version_catalog.specs.declared.rules.catalog.CatalogArray.{CatalogArr
 use Rattle.version_catalog.specs.declared.rules.catalog.Catalog.{Catalog}
 use Rattle.version_catalog.specs.declared.rules.catalog_record.CatalogRecord.TheVariants as entries
 use Rattle.version_catalog.specs.Spelling.{spell_record, spell_array, spelling}
-use Rattle.catalog_changes.specs.Changed.{has_its_directory, record_for, after_change}
-use Rattle.catalog_changes.specs.Records.{entries_of}
+use Rattle.file_laws.specs.Changed.{has_its_directory, record_for, after_change}
+use Rattle.file_laws.specs.Records.{entries_of}
 use Rattle.event_core.specs.Apart.{makes_version}
 use Rattle.commit_costs.specs.Lengths.{AreAlike, AreAlikeArrays, AreBothAlike}
 use Rattle.commit_costs.proofs.Lengths.{records_read_no_page, catalogs_read_no_page, changes_keep_alike}

@@ -27,7 +27,7 @@ use Rattle.chunk_rle.specs.Stored.{IsStored}
 use Rattle.file_items.specs.Pages.{LieIn}
 use Rattle.file_laws.proofs.Counts.{counts_agree}
 use Rattle.version_catalog.specs.declared.rules.catalog.BlobAt.{BlobAt}
-use Rattle.catalog_changes.specs.Changed.{IsItsBlob}
+use Rattle.file_laws.specs.Changed.{IsItsBlob}
 use Rattle.commit_writes.specs.declared.placed.Placed.{Placed}
 use Rattle.commit_writes.specs.Commits.{pages_of, IsBlobSized}
 use Rattle.commit_pages.specs.declared.written.Written.{Written}

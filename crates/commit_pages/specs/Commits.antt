@@ -9,7 +9,7 @@ use Rattle.version_catalog.specs.declared.rules.catalog.BlobAt.{BlobAt}
 use Rattle.version_catalog.specs.declared.rules.catalog.Catalog.{Catalog}
 use Rattle.version_catalog.specs.declared.rules.catalog_record.CatalogRecord.{CatalogRecord}
 use Rattle.version_catalog.specs.Spelling.{spell_record, spelling}
-use Rattle.catalog_changes.specs.Changed.{after_change, record_for}
+use Rattle.file_laws.specs.Changed.{after_change, record_for}
 use Rattle.commit_writes.specs.declared.placed.Placed.{Placed}
 use Rattle.commit_writes.specs.Commits.{pages_of}
 use Rattle.commit_pages.specs.declared.written.Written.{Written}
