@@ -18,8 +18,8 @@ use Rattle.check_rules.specs.Checked.{Checked}
 use Rattle.check_rules.specs.Checked.{refused as broken}
 use Rattle.check_laws.proofs.ReadVersions.{plan_reads}
 use Rattle.check_laws.proofs.TypedQueries.{checked_typed}
-use Rattle.check_queries.specs.Arrays.{AreValid}
-use Rattle.check_queries.specs.Queries.{query_of}
+use Rattle.check_laws.specs.Arrays.{AreValid}
+use Rattle.check_laws.specs.Queries.{query_of}
 use Rattle.result_print.specs.declared.refusal.Refusal.TheVariants.{Typing}
 use Rattle.chunk_source.specs.Reading.{asked_of}
 use Rattle.chunk_source.specs.Source.{SourceState, AsksFront, Reads}

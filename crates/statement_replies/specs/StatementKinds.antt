@@ -9,7 +9,7 @@ use Rattle.plan_changes.specs.Databases.{Database, names_of, rows_of}
 use Rattle.plan_changes.specs.declared.change.Change.{Change}
 use Rattle.plan_changes.specs.declared.change.Change.TheVariants.{Create, Store, Insert, Remove, RemoveVersions}
 use Rattle.check_rules.specs.Checked.{Checked}
-use Rattle.check_queries.specs.Queries.{query_of}
+use Rattle.check_laws.specs.Queries.{query_of}
 use Rattle.check_laws.specs.Checking.{check_of}
 use Rattle.check_laws.specs.Statements.{queried}
 use Rattle.check_laws.specs.Typed.{Typed}
