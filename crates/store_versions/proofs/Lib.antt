@@ -1,3 +1,5 @@
+pub use Rattle.event_laws.proofs.Agree
+pub use Rattle.event_laws.proofs.Conserved
 pub mod Ends
 pub mod Found
 pub mod Given
