@@ -18,10 +18,10 @@ use Rattle.plan_changes.specs.Typed.{FitsInto, IsTypedFor}
 use Rattle.plan_changes.proofs.DatabaseLaws.{apart}
 use Rattle.plan_changes.proofs.NamesOf.{map_filter, map_insert, prefix_map}
 use Rattle.plan_changes.proofs.StoredLaws.{RiseAfter, tail_rises, after_next, all_inserted}
-use Rattle.version_catalog.specs.declared.rules.catalog.BlobAt.{BlobAt}
-use Rattle.version_catalog.specs.declared.rules.catalog.CatalogArray.{CatalogArray}
-use Rattle.version_catalog.specs.declared.rules.catalog.Catalog.{Catalog}
-use Rattle.version_catalog.specs.Spelling.{spelling}
+use Rattle.file_meaning.specs.BlobAt.{BlobAt}
+use Rattle.file_meaning.specs.CatalogArray.{CatalogArray}
+use Rattle.file_meaning.specs.Catalog.{Catalog}
+use Rattle.file_meaning.specs.Spelling.{spelling}
 use Rattle.file_meaning.specs.Records.{entries_of, with_new, with_directory, without}
 use Rattle.file_meaning.specs.Records as records
 use Rattle.file_meaning.specs.Changed.{after_change, changed}

@@ -18,10 +18,10 @@ use Rattle.plan_changes.specs.Stored.{is_before}
 use Rattle.chunk_map.specs.declared.directory.DirEntry.{DirEntry}
 use Rattle.chunk_map.specs.Entries.{numbers}
 use Rattle.chunk_map.specs.Spelling.{spelling as directory_spelling, spell_entry}
-use Rattle.version_catalog.specs.declared.rules.catalog.BlobAt.{BlobAt}
-use Rattle.version_catalog.specs.declared.rules.catalog.CatalogArray.{CatalogArray}
-use Rattle.version_catalog.specs.declared.rules.catalog_record.CatalogRecord.TheVariants as entries
-use Rattle.version_catalog.specs.Spelling.{versions_at, spelling, spell_array, spell_version, spell_blob, spell_record}
+use Rattle.file_meaning.specs.BlobAt.{BlobAt}
+use Rattle.file_meaning.specs.CatalogArray.{CatalogArray}
+use Rattle.file_meaning.specs.CatalogRecord.TheVariants as entries
+use Rattle.file_meaning.specs.Spelling.{versions_at, spelling, spell_array, spell_version, spell_blob, spell_record}
 use Rattle.file_meaning.specs.Records.{entries_of, is_array, with_new, with_directory, from_version, without}
 use Rattle.commit_costs.specs.Costs.{numbers_of, payload_length, dir_entry, directory_of}
 use Rattle.commit_costs.specs.Lengths.{AreListed, HasItsLength, AreAlike, AreAlikeArrays, DirectoriesAreAlike, CatalogsReadNoPage, RecordsReadNoPage, ChangesKeepAlike}

@@ -10,9 +10,9 @@ use Rattle.chunk_rle.specs.Table.{is_same}
 use Rattle.chunk_map.specs.declared.directory.DirEntry.{DirEntry}
 use Rattle.chunk_map.specs.Entries.{numbers}
 use Rattle.chunk_map.specs.Spelling.{spelling as directory_spelling, spell_entry}
-use Rattle.version_catalog.specs.declared.rules.catalog.BlobAt.{BlobAt}
-use Rattle.version_catalog.specs.declared.rules.catalog.Catalog.{Catalog}
-use Rattle.version_catalog.specs.Catalogs.{IsBlob}
+use Rattle.file_meaning.specs.BlobAt.{BlobAt}
+use Rattle.file_meaning.specs.Catalog.{Catalog}
+use Rattle.file_meaning.specs.Catalogs.{IsBlob}
 use Rattle.commit_costs.specs.Costs.{payload_length, directory_of, catalog_of}
 use Rattle.commit_costs.specs.Lengths.{AreListed, HasItsLength, AreAlike, AreAlikeCatalogs}
 use Rattle.commit_costs.specs.Inner.Examples.{schema, cell_at, stored}

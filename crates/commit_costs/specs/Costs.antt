@@ -17,11 +17,11 @@ use Rattle.page_chain.specs.Pages.{page_size, pages_for}
 use Rattle.plan_changes.specs.declared.change.Change.{Change}
 use Rattle.plan_changes.specs.declared.change.Change.TheVariants.{Create, Store, Insert, Remove, RemoveVersions}
 use Rattle.plan_changes.specs.Databases.{Database, after, entry_of, fitted, new_rows, rows_if_whole}
-use Rattle.version_catalog.specs.declared.rules.catalog.BlobAt.{BlobAt}
-use Rattle.version_catalog.specs.declared.rules.catalog.Catalog.{Catalog}
-use Rattle.version_catalog.specs.declared.rules.catalog_record.CatalogRecord.{CatalogRecord}
+use Rattle.file_meaning.specs.BlobAt.{BlobAt}
+use Rattle.file_meaning.specs.Catalog.{Catalog}
+use Rattle.file_meaning.specs.CatalogRecord.{CatalogRecord}
 use Rattle.file_meaning.specs.Changed.{record_for}
-use Rattle.version_catalog.specs.Spelling.{spell_record, spelling}
+use Rattle.file_meaning.specs.Spelling.{spell_record, spelling}
 use Rattle.file_meaning.specs.Standing.{stored_chunk}
 use Rattle.event_core.specs.Bases.{records_at}
 use Rattle.event_core.specs.Legal.{Cost}

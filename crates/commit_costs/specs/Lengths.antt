@@ -16,11 +16,11 @@ use Rattle.plan_changes.specs.declared.change.Change.{Change}
 use Rattle.plan_changes.specs.Databases.{Database, names_of, after}
 use Rattle.plan_changes.specs.Stored.{IsDatabase}
 use Rattle.plan_changes.specs.Typed.{IsTypedFor}
-use Rattle.version_catalog.specs.declared.rules.catalog.BlobAt.{BlobAt}
-use Rattle.version_catalog.specs.declared.rules.catalog.CatalogArray.{CatalogArray}
-use Rattle.version_catalog.specs.declared.rules.catalog.Catalog.{Catalog}
-use Rattle.version_catalog.specs.Catalogs.{IsBlob}
-use Rattle.version_catalog.specs.Spelling.{spelling}
+use Rattle.file_meaning.specs.BlobAt.{BlobAt}
+use Rattle.file_meaning.specs.CatalogArray.{CatalogArray}
+use Rattle.file_meaning.specs.Catalog.{Catalog}
+use Rattle.file_meaning.specs.Catalogs.{IsBlob}
+use Rattle.file_meaning.specs.Spelling.{spelling}
 use Rattle.file_meaning.specs.Changed.{after_change, record_for}
 use Rattle.commit_costs.specs.Costs.{numbers_of, payload_length, payload_pages, touched, directory_of, directory_for}
 use Rattle.commit_costs.specs.Costs.{catalog_of, chain_pages, record_length, record_pages, catalogue_pages}
