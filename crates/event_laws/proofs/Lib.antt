@@ -1,3 +1,4 @@
+pub use Rattle.plan_changes.proofs.Maps
 pub mod Agree
 pub mod Apart
 pub mod Cells

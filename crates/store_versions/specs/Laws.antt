@@ -1,7 +1,7 @@
 -- What holds of tables of versions.
 use Rattle.std.specs.Prelude.{◌≡◌, ◌≤◌, ℕ, List, [], ◌∷◌, length, map, Some, nat_eq, if◌then◌else◌, IsTrue}
 use Rattle.logical_plan.specs.declared.names.Names.{Names}
-use Rattle.plan_changes.specs.declared.change.Change.{Change}
+use Rattle.event_laws.specs.Change.{Change}
 use Rattle.chunk_map.specs.declared.directory.Directory.{Directory}
 use Rattle.lean_core.specs.Used.{Used}
 use Rattle.lean_core.specs.Entry.TheVariants.{Pin, Unpin, Commit, Reap}

@@ -5,9 +5,9 @@ use Rattle.std.specs.List.{filter, list_any}
 use Rattle.std.specs.Str.{bytes_eq}
 use Rattle.logical_plan.specs.declared.names.Names.{Names}
 use Rattle.logical_plan.specs.declared.names.NameEntry.{NameEntry}
-use Rattle.plan_changes.specs.declared.change.Change.{Change}
-use Rattle.plan_changes.specs.declared.change.Change.TheVariants.{Create, Store, Insert, Remove, RemoveVersions}
-use Rattle.plan_changes.specs.Changes.{next_of}
+use Rattle.event_laws.specs.Change.{Change}
+use Rattle.event_laws.specs.Change.TheVariants.{Create, Store, Insert, Remove, RemoveVersions}
+use Rattle.event_laws.specs.Changes.{next_of}
 use Rattle.chunk_map.specs.declared.directory.Directory.{Directory}
 use Rattle.lean_core.specs.History.{History, open_pins}
 use Rattle.store_versions.specs.declared.ready.ReadyVersion.{ReadyVersion}

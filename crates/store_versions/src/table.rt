@@ -11,9 +11,9 @@ use crate::first::first_rows;
 use crate::{ReadyVersion, Room, VersionRow};
 use cell_values::{List, Memory, Name};
 use chunk_map::Directory;
+use event_laws::Change;
 use lean_core::LeanPin;
 use logical_plan::Names;
-use plan_changes::Change;
 
 /// The versions that the present or an open pin may see, in the order in which they came.
 #[derive(Drop)]
