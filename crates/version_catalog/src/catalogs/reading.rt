@@ -8,8 +8,7 @@ ghost use Rattle.version_catalog.specs.Table.{blob_at, is_version, version_at, n
 ghost use Rattle.version_catalog.specs.Table.{items_at, is_next_name, array_at, next_array, name_in, last_name, catalog_in};
 
 use crate::rules::{BlobAt, Catalog, CatalogArray};
-use cell_values::{List, Name};
-use file_items::{Stop, name, pages, positive, schema, u32_at};
+use file_items::{List, Name, Stop, name, pages, positive, schema, u32_at};
 use plan_changes::NameEntry;
 use std::alloc::Global;
 
