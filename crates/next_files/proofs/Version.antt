@@ -17,8 +17,8 @@ use Rattle.chunk_map.specs.Spelling.{spelling}
 use Rattle.chunk_map.specs.Table.{directory_in}
 use Rattle.chunk_map.proofs.Laws.{directory_again}
 use Rattle.chunk_map.proofs.Rules.{are_entries}
-use Rattle.chunk_rle.specs.Frames.{frame_of}
-use Rattle.chunk_rle.specs.Chunks.{chunk_payload}
+use Rattle.file_laws.specs.Frames.{frame_of}
+use Rattle.file_laws.specs.Chunks.{chunk_payload}
 use Rattle.logical_plan.specs.Query.{Query}
 use Rattle.logical_plan.specs.declared.names.NameEntry.{NameEntry}
 use Rattle.plan_changes.specs.declared.change.Change.{Change}

@@ -10,8 +10,8 @@ use Rattle.page_layout.specs.declared.roots.Root.{Root}
 use Rattle.page_slots.specs.Standing.{root_in}
 use Rattle.page_chain.specs.Pages.{page_size, first_past}
 use Rattle.page_chain.specs.Links.{AreFree}
-use Rattle.chunk_rle.specs.Chunks.{spelling}
-use Rattle.chunk_rle.specs.Stored.{IsStored}
+use Rattle.file_laws.specs.Chunks.{spelling}
+use Rattle.file_laws.specs.Stored.{IsStored}
 use Rattle.chunk_map.specs.Replacing.{AreReplaced}
 use Rattle.chunk_map.specs.declared.directory.DirEntry.{DirEntry}
 use Rattle.chunk_map.specs.Entries.{AreRising}
