@@ -18,7 +18,7 @@ use Rattle.version_catalog.specs.declared.rules.catalog_record.CatalogRecord.The
 use Rattle.version_catalog.specs.Spelling.{spell_record, spell_array, spelling}
 use Rattle.file_laws.specs.Changed.{has_its_directory, record_for, after_change}
 use Rattle.file_laws.specs.Records.{entries_of}
-use Rattle.event_core.specs.Apart.{makes_version}
+use Rattle.commit_costs.specs.Apart.{makes_version}
 use Rattle.commit_costs.specs.Lengths.{AreAlike, AreAlikeArrays, AreBothAlike}
 use Rattle.commit_costs.proofs.Lengths.{records_read_no_page, catalogs_read_no_page, changes_keep_alike}
 use Rattle.commit_costs.specs.Costs.{record_length}

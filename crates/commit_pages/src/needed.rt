@@ -6,7 +6,7 @@ ghost use Rattle.version_catalog.specs.Catalogs.{names_in};
 ghost use Rattle.version_catalog.specs.Spelling.{spell_record, spelling};
 ghost use Rattle.file_laws.specs.Changed.{has_its_directory};
 ghost use Rattle.commit_writes.specs.Commits.{pages_of};
-ghost use Rattle.event_core.specs.Apart.{makes_version};
+ghost use Rattle.commit_costs.specs.Apart.{makes_version};
 ghost use Rattle.std.specs.Option.{is_some};
 ghost use Rattle.commit_pages.specs.Versions.{blob_at, drafted, directory_bytes, draft_at};
 ghost use Rattle.commit_pages.specs.Versions.{count_at, payload_count, version_needs, HasRisingNumbers};
