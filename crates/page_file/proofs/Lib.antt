@@ -1,3 +1,6 @@
+pub use Rattle.page_chain.proofs.LinkLaws
+pub use Rattle.page_chain.proofs.PageLaws
+pub use Rattle.page_chain.proofs.TakenPages
 pub mod AimLemmas
 pub mod Emptied
 pub mod First
