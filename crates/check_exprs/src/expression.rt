@@ -1,6 +1,6 @@
 //! Expressions: from a tree to a typed expression over the attributes and dimensions of a source.
 ghost use Rattle.std.specs.Prelude.{◌≡◌, ◌≤◌, ◌<◌, Some, None, Ok, length, IfSome};
-ghost use Rattle.afl_trees.specs.Term.{to_terms};
+ghost use Rattle.check_rules.specs.Term.{to_terms};
 ghost use Rattle.expr_nulls.specs.Expr.{literal};
 ghost use Rattle.check_rules.specs.Checked.{Answers, then};
 ghost use Rattle.check_rules.specs.Operators.{operator_named, form_named};
@@ -10,10 +10,10 @@ ghost use Rattle.check_rules.specs.declared.rules.operator.Form.{Form};
 
 use crate::Operand;
 use crate::operand::{applied, chosen, combined, denied, let_go_both, negated};
-use afl_trees::{BinaryOp, Node, Tree};
 use cell_values::{Attribute, Datum, Dimension, Kind, Span};
 use check_rules::{
-    Form, OneForm, TypeFault, broken, form_named, name_span, operator_named, same_name,
+    BinaryOp, Form, Node, OneForm, Tree, TypeFault, broken, form_named, name_span, operator_named,
+    same_name,
 };
 use expr_nulls::{TypedExpr, let_go_expr};
 use schema_grammar::TypeKind;
