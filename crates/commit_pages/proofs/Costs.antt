@@ -30,7 +30,7 @@ use Rattle.logical_plan.specs.Query.{Query}
 use Rattle.plan_changes.specs.declared.change.Change.{Change}
 use Rattle.plan_changes.specs.declared.change.Change.TheVariants.{Create, Store, Insert, Remove, RemoveVersions}
 use Rattle.plan_changes.specs.Databases.{Database, fitted, new_rows, newest_rows, rows_if_whole}
-use Rattle.version_catalog.specs.declared.rules.catalog.Catalog.{Catalog}
+use Rattle.file_laws.specs.Catalog.{Catalog}
 use Rattle.file_laws.specs.Standing.{stored_chunk}
 use Rattle.file_laws.proofs.Counts.{counts_agree}
 use Rattle.file_laws.proofs.Payloads.{part_stored}

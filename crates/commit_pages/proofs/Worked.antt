@@ -10,7 +10,7 @@ use Rattle.chunk_rle.specs.Chunks.{spelling as payload_spelling}
 use Rattle.chunk_rle.specs.Spelling.{spell_runs, spell_value}
 use Rattle.chunk_rle.specs.Table.{is_same}
 use Rattle.chunk_map.specs.Spelling.{spelling as directory_spelling, spell_entry}
-use Rattle.version_catalog.specs.Spelling.{spell_blob, spell_record}
+use Rattle.file_laws.specs.Spelling.{spell_blob, spell_record}
 use Rattle.file_items.specs.Spelling.{spell_name}
 use Rattle.page_chain.specs.Pages.{page_size}
 use Rattle.logical_plan.specs.Typing.{AreSound}

@@ -20,8 +20,8 @@ use Rattle.plan_changes.specs.Changes.{name_of}
 use Rattle.plan_changes.specs.Databases.{Database, names_of, new_rows, newest_rows}
 use Rattle.plan_changes.specs.Stored.{IsDatabase}
 use Rattle.plan_changes.specs.Typed.{IsTypedFor}
-use Rattle.version_catalog.specs.declared.rules.catalog.BlobAt.{BlobAt}
-use Rattle.version_catalog.specs.declared.rules.catalog.Catalog.{Catalog}
+use Rattle.file_laws.specs.BlobAt.{BlobAt}
+use Rattle.file_laws.specs.Catalog.{Catalog}
 use Rattle.version_reaper.specs.PageSets.{holds}
 use Rattle.commit_costs.specs.VersionPages.{VersionPages}
 use Rattle.commit_costs.specs.Allowed.{are_different}

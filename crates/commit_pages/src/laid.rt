@@ -4,7 +4,7 @@ ghost use Rattle.std.specs.List.{AllByRecursion};
 ghost use Rattle.chunk_map.specs.Entries.{AreRising};
 ghost use Rattle.chunk_map.specs.Spelling.{IsDirectory};
 ghost use Rattle.plan_changes.specs.Allowed.{names_allow};
-ghost use Rattle.version_catalog.specs.Catalogs.{names_in};
+ghost use Rattle.file_laws.specs.Catalogs.{names_in};
 ghost use Rattle.file_laws.specs.Changed.{after_change, has_its_directory, IsItsBlob};
 ghost use Rattle.commit_writes.specs.Commits.{base_pages, commit_pages, IsBlobSized, IsChainSized};
 ghost use Rattle.commit_pages.specs.Versions.{new_version, HasRisingNumbers, IsWritten, CanBeListed};
@@ -21,10 +21,9 @@ use cell_values::{Bytes, List, Memory};
 use chunk_map::Directory;
 use commit_costs::Used;
 use commit_writes::Placed;
-use file_laws::with_change;
+use file_laws::{BlobAt, Catalog, with_change};
 use plan_changes::Change;
 use std::alloc::Global;
-use version_catalog::{BlobAt, Catalog};
 
 /// What a commit writes, and what there is after it.
 #[derive(Drop)]
