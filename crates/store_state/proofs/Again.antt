@@ -13,8 +13,8 @@ use Rattle.file_laws.specs.Standing.{HoldsFound, Stands, stored_chunk}
 use Rattle.event_core.specs.declared.entry.Entry.{Entry}
 use Rattle.event_core.specs.Cells.{at}
 use Rattle.event_core.specs.History.{History, up_to}
-use Rattle.event_laws.specs.Pins.{PlaceTells}
-use Rattle.event_laws.proofs.Pins.{places_tell_pins}
+use Rattle.store_versions.specs.Pins.{PlaceTells}
+use Rattle.store_versions.proofs.Pins.{places_tell_pins}
 use Rattle.store_ledger.specs.declared.note.Note.{Note}
 use Rattle.store_ledger.specs.Ledger.{history}
 use Rattle.store_state.specs.Calls.{database_with, history_at}

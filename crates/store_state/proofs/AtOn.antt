@@ -17,7 +17,7 @@ use Rattle.event_core.specs.declared.state.Core.{Core}
 use Rattle.event_core.specs.Allowed.{is_pinned}
 use Rattle.event_core.specs.History.{History, open_pins}
 use Rattle.event_core.specs.Legal.{has_committed}
-use Rattle.event_laws.specs.Cores.{is_no_commit}
+use Rattle.store_versions.specs.Cores.{is_no_commit}
 use Rattle.store_ledger.specs.declared.note.Note.{Note}
 use Rattle.store_ledger.specs.declared.note.NoteKind.TheVariants.{Fault}
 use Rattle.store_ledger.specs.Ledger.{LedgerState, has_note, history, is_noted, is_under, note_now, with_fault, is_tried, is_fault}

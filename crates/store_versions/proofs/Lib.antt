@@ -1,5 +1,8 @@
 pub use Rattle.event_laws.proofs.Agree
+pub use Rattle.event_laws.proofs.Cells
 pub use Rattle.event_laws.proofs.Conserved
+pub use Rattle.event_laws.proofs.Legal
+pub use Rattle.event_laws.proofs.Pins
 pub mod Ends
 pub mod Found
 pub mod Given

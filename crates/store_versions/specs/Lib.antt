@@ -1,3 +1,5 @@
+pub use Rattle.event_laws.specs.Cores
+pub use Rattle.event_laws.specs.Pins
 pub mod Laws
 pub mod Rows
 pub mod Seen
