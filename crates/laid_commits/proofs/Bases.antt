@@ -11,8 +11,8 @@ use Rattle.plan_changes.specs.Databases.{Database, after}
 use Rattle.version_catalog.specs.declared.rules.catalog.BlobAt.{BlobAt}
 use Rattle.version_catalog.specs.Catalogs.{IsCatalog}
 use Rattle.version_catalog.specs.Spelling.{spelling}
-use Rattle.catalog_changes.specs.Changed.{after_change}
-use Rattle.catalog_changes.proofs.Spelled.{changes_keep_catalogs}
+use Rattle.next_files.specs.Changed.{after_change}
+use Rattle.next_files.proofs.Spelled.{changes_keep_catalogs}
 use Rattle.next_files.specs.Slots.{Slots}
 use Rattle.next_files.specs.Opening.{pages_of as found_pages, sequence_of}
 use Rattle.next_files.specs.Found.{Found}

@@ -19,8 +19,8 @@ use Rattle.version_catalog.specs.declared.rules.catalog_record.CatalogRecord.{Ca
 use Rattle.version_catalog.specs.declared.rules.catalog_record.CatalogRecord.TheVariants as entries
 use Rattle.version_catalog.specs.Catalogs.{names_in}
 use Rattle.version_catalog.specs.Spelling.{spell_record}
-use Rattle.catalog_changes.specs.Changed.{has_its_directory, record_for, stored_by}
-use Rattle.catalog_changes.proofs.Spelled.{changes_have_records}
+use Rattle.next_files.specs.Changed.{has_its_directory, record_for, stored_by}
+use Rattle.next_files.proofs.Spelled.{changes_have_records}
 use Rattle.event_core.specs.Apart.{makes_version}
 use Rattle.next_files.specs.Slots.{Slots}
 use Rattle.next_files.specs.Opening.{pages_of as found_pages, sequence_of}

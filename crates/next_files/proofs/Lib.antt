@@ -1,5 +1,6 @@
 pub use Rattle.file_laws.proofs.Apart
 pub use Rattle.file_laws.proofs.SlotLaws
+pub use Rattle.file_laws.proofs.Spelled
 mod Appended
 mod Base
 mod Both

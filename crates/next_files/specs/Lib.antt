@@ -1,3 +1,4 @@
+pub use Rattle.file_laws.specs.Changed
 pub use Rattle.file_laws.specs.Found
 pub use Rattle.file_laws.specs.Inner.Example
 pub use Rattle.file_laws.specs.Opening
