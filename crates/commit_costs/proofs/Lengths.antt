@@ -12,9 +12,9 @@ use Rattle.array_geom.specs.Link.{has_cell}
 use Rattle.file_items.specs.Pages.{pages_needed}
 use Rattle.file_items.specs.Spelling.{spell_name, spell_schema}
 use Rattle.logical_plan.specs.declared.names.NameEntry.{NameEntry}
-use Rattle.plan_changes.specs.declared.change.Change.TheVariants.{Create, Store, Insert, Remove, RemoveVersions}
-use Rattle.plan_changes.specs.Changes.{is_named, has_array, new_entry, with_version, without_below}
-use Rattle.plan_changes.specs.Stored.{is_before}
+use Rattle.event_core.specs.Change.TheVariants.{Create, Store, Insert, Remove, RemoveVersions}
+use Rattle.event_core.specs.Changes.{is_named, has_array, new_entry, with_version, without_below}
+use Rattle.event_core.specs.Stored.{is_before}
 use Rattle.chunk_map.specs.declared.directory.DirEntry.{DirEntry}
 use Rattle.chunk_map.specs.Entries.{numbers}
 use Rattle.chunk_map.specs.Spelling.{spelling as directory_spelling, spell_entry}

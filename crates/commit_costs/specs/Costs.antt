@@ -14,9 +14,9 @@ use Rattle.chunk_map.specs.declared.directory.DirEntry.{DirEntry}
 use Rattle.chunk_map.specs.Spelling.{spelling as directory_spelling}
 use Rattle.page_chain.specs.Chains.{content_size}
 use Rattle.page_chain.specs.Pages.{page_size, pages_for}
-use Rattle.plan_changes.specs.declared.change.Change.{Change}
-use Rattle.plan_changes.specs.declared.change.Change.TheVariants.{Create, Store, Insert, Remove, RemoveVersions}
-use Rattle.plan_changes.specs.Databases.{Database, after, entry_of, fitted, new_rows, rows_if_whole}
+use Rattle.event_core.specs.Change.{Change}
+use Rattle.event_core.specs.Change.TheVariants.{Create, Store, Insert, Remove, RemoveVersions}
+use Rattle.event_core.specs.Databases.{Database, after, entry_of, fitted, new_rows, rows_if_whole}
 use Rattle.file_meaning.specs.BlobAt.{BlobAt}
 use Rattle.file_meaning.specs.Catalog.{Catalog}
 use Rattle.file_meaning.specs.CatalogRecord.{CatalogRecord}

@@ -12,10 +12,10 @@ use Rattle.file_items.specs.Pages.{pages_needed}
 use Rattle.chunk_map.specs.declared.directory.DirEntry.{DirEntry}
 use Rattle.chunk_map.specs.Entries.{numbers}
 use Rattle.chunk_map.specs.Spelling.{spelling as directory_spelling}
-use Rattle.plan_changes.specs.declared.change.Change.{Change}
-use Rattle.plan_changes.specs.Databases.{Database, names_of, after}
-use Rattle.plan_changes.specs.Stored.{IsDatabase}
-use Rattle.plan_changes.specs.Typed.{IsTypedFor}
+use Rattle.event_core.specs.Change.{Change}
+use Rattle.event_core.specs.Databases.{Database, names_of, after}
+use Rattle.event_core.specs.Stored.{IsDatabase}
+use Rattle.event_core.specs.Typed.{IsTypedFor}
 use Rattle.file_meaning.specs.BlobAt.{BlobAt}
 use Rattle.file_meaning.specs.CatalogArray.{CatalogArray}
 use Rattle.file_meaning.specs.Catalog.{Catalog}

@@ -1,7 +1,7 @@
 -- A worked list of entries at the costs of the file, whose versions share a page: over a base of no arrays with 16 pages, page 1 as
 -- the chain of its catalogue and page 2 as its log, which keeps the record of each commit.
 use Rattle.std.specs.Prelude.{◌≡◌, [], ◌∷◌, codes, Some}
-use Rattle.plan_changes.specs.declared.change.Change.TheVariants.{RemoveVersions}
+use Rattle.event_core.specs.Change.TheVariants.{RemoveVersions}
 use Rattle.event_core.specs.declared.entry.Entry.TheVariants.{Pin, Unpin, Commit, Reap}
 use Rattle.event_core.specs.declared.state.Core.{Core}
 use Rattle.event_core.specs.Apart.{AllShareOwn, AreApart}
