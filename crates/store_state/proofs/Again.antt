@@ -3,7 +3,7 @@ use Rattle.std.proofs.Common.{◌≡◌, ◌∙◌, ℕ, suc, ◌-◌, ◌≤◌
 use Rattle.std.proofs.lemmas.List.{reverse-append}
 use Rattle.arrayvec.specs.ArrayVec.{ArrayVec}
 use Rattle.array_geom.specs.declared.chunk.Chunk.{Chunk}
-use Rattle.chunk_source.specs.Source.{IsChunkIn, IsStored}
+use Rattle.file_laws.specs.Source.{IsChunkIn, IsStored}
 use Rattle.logical_plan.specs.declared.parts.Leaf.{Leaf}
 use Rattle.logical_plan.specs.Meaning.{version_rows}
 use Rattle.plan_changes.specs.declared.change.Change.{Change}

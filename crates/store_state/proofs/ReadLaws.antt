@@ -19,7 +19,7 @@ use Rattle.chunk_map.specs.declared.directory.Directory.{Directory}
 use Rattle.chunk_map.specs.Entries.{numbers}
 use Rattle.chunk_map.specs.Spelling.{IsEntry}
 use Rattle.chunk_rle.specs.Stored.{IsStored as IsSpelled}
-use Rattle.chunk_source.specs.Source.{is_among, numbers_of, version_chunks, IsChunkIn, IsStored}
+use Rattle.file_laws.specs.Source.{is_among, numbers_of, version_chunks, IsChunkIn, IsStored}
 use Rattle.file_laws.proofs.Counts.{counts_agree}
 use Rattle.file_laws.proofs.Parts.{pages_there}
 use Rattle.file_laws.proofs.Payloads.{stored_part}

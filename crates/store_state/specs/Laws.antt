@@ -3,7 +3,7 @@ use Rattle.std.specs.Prelude.{◌≡◌, ℕ, ◌+◌, ◌*◌, ◌≤◌, ◌�
 use Rattle.arrayvec.specs.ArrayVec.{ArrayVec}
 use Rattle.afl_outside.specs.Disk.{DiskState}
 use Rattle.array_geom.specs.declared.chunk.Chunk.{Chunk}
-use Rattle.chunk_source.specs.Source.{IsChunkIn, IsStored}
+use Rattle.file_laws.specs.Source.{IsChunkIn, IsStored}
 use Rattle.logical_plan.specs.declared.parts.Leaf.{Leaf}
 use Rattle.plan_changes.specs.declared.change.Change.{Change}
 use Rattle.plan_changes.specs.Databases.{Database, after, rows_of}
