@@ -1,12 +1,17 @@
 pub use Rattle.event_core.specs.Agree
 pub use Rattle.event_core.specs.Allowed
 pub use Rattle.event_core.specs.Apart
+pub use Rattle.event_core.specs.Bases
 pub use Rattle.event_core.specs.History
 pub use Rattle.event_core.specs.Legal
+pub use Rattle.event_core.specs.Pages
+pub use Rattle.event_core.specs.Ready
+pub use Rattle.event_core.specs.Replay
 pub use Rattle.event_core.specs.Shared
 pub use Rattle.event_core.specs.declared.entry.Entry
 pub use Rattle.event_core.specs.declared.entry.Used
 pub use Rattle.event_core.specs.declared.state.Core
+pub use Rattle.event_core.specs.declared.state.CorePin
 pub use Rattle.event_core.specs.declared.state.VersionPages
 pub mod Inner
 pub mod Rows

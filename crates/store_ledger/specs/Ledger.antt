@@ -3,14 +3,14 @@ use Rattle.std.specs.Prelude.{◌≡◌, ◌≤◌, ◌<◌, ◌+◌, ℕ, Bool,
 use Rattle.std.specs.Prelude.{nat_lt, List, [], ◌∷◌, ◌++◌, length, map, reverse, Option, None, Some, IfSome, IsTrue}
 use Rattle.std.specs.List.{filter, list_all, list_any, sum_by}
 use Rattle.plan_changes.specs.declared.change.Change.{Change}
-use Rattle.event_core.specs.declared.entry.Entry.{Entry}
-use Rattle.event_core.specs.declared.entry.Entry.TheVariants.{Pin, Unpin, Commit, Reap}
-use Rattle.event_core.specs.declared.state.Core.{Core}
+use Rattle.lean_core.specs.Entry.{Entry}
+use Rattle.lean_core.specs.Entry.TheVariants.{Pin, Unpin, Commit, Reap}
+use Rattle.lean_core.specs.Core.{Core}
 use Rattle.version_reaper.specs.PageSets.{pages_below}
-use Rattle.event_core.specs.Allowed.{IsBase, is_allowed, is_pinned}
-use Rattle.event_core.specs.Bases.{commits}
-use Rattle.event_core.specs.Pages.{is_live, is_awaiting}
-use Rattle.event_core.specs.History.{History, OpenPin, names_at, open_pins, pin_before, up_to}
+use Rattle.lean_core.specs.Allowed.{IsBase, is_allowed, is_pinned}
+use Rattle.lean_core.specs.Bases.{commits}
+use Rattle.lean_core.specs.Pages.{is_live, is_awaiting}
+use Rattle.lean_core.specs.History.{History, OpenPin, names_at, open_pins, pin_before, up_to}
 use Rattle.store_ledger.specs.declared.note.Note.{Note}
 use Rattle.store_ledger.specs.declared.note.NoteKind.{NoteKind}
 use Rattle.store_ledger.specs.declared.note.NoteKind.TheVariants.{Fault, Tried}

@@ -2,8 +2,8 @@
 ghost use Rattle.std.specs.Prelude.{false, [], ◌∷◌, length, IfSome, IsTrue, ◌≡◌, ◌&&◌, if◌then◌else◌, nat_eq, nat_lt};
 ghost use Rattle.std.specs.List.{list_any};
 ghost use Rattle.store_ledger.specs.declared.note.NoteKind.TheVariants.{Fault};
-ghost use Rattle.event_core.specs.Allowed.{is_pinned};
-ghost use Rattle.event_core.specs.History.{pin_before};
+ghost use Rattle.lean_core.specs.Allowed.{is_pinned};
+ghost use Rattle.lean_core.specs.History.{pin_before};
 ghost use Rattle.store_ledger.specs.Ledger.{MayReap, attempt, has_note, has_room, history, is_fault, is_noted, is_tried, note_now, with_fault, with_notes};
 
 use crate::{Ledger, Note, NoteKind};
