@@ -2,7 +2,7 @@
 use Rattle.std.specs.Prelude.{◌≡◌, ℕ, List}
 use Rattle.std.specs.List.{AllByRecursion}
 use Rattle.cell_values.specs.declared.schema.Schema.{Schema}
-use Rattle.array_rows.specs.Arrays.{AreRowsOf, Meant}
+use Rattle.array_geom.specs.Arrays.{AreRowsOf, Meant}
 use Rattle.array_geom.specs.declared.chunk.Chunk.{Chunk}
 use Rattle.array_geom.specs.declared.chunk.ChunkedArray.{ChunkedArray}
 use Rattle.array_geom.specs.Chunks.{IsChunk}

@@ -5,10 +5,10 @@ use Rattle.cell_values.specs.declared.datum.Cell.{Cell}
 use Rattle.cell_values.specs.declared.datum.Row.{Row}
 use Rattle.cell_values.specs.declared.schema.Bounds.{Bounds}
 use Rattle.cell_values.specs.declared.schema.Dimension.{Dimension}
-use Rattle.array_rows.specs.Arrays.{Meant}
-use Rattle.array_rows.specs.Boxes.{within}
-use Rattle.array_rows.specs.Cellwise.{cell_wise}
-use Rattle.array_rows.specs.Rows.{Coordinate}
+use Rattle.array_geom.specs.Arrays.{Meant}
+use Rattle.array_geom.specs.Boxes.{within}
+use Rattle.array_geom.specs.Cellwise.{cell_wise}
+use Rattle.array_geom.specs.Rows.{Coordinate}
 use Rattle.array_geom.specs.declared.chunk.Chunk.{Chunk}
 use Rattle.array_geom.specs.declared.chunk.ChunkedArray.{ChunkedArray}
 use Rattle.array_geom.specs.Link.{AreChunksOf, Is}

@@ -3,7 +3,7 @@ ghost use Rattle.std.specs.Prelude.{◌≡◌, ◌<◌, [], List as Items, Some,
 ghost use Rattle.cell_values.specs.declared.datum.Cell.TheVariants.{Full};
 ghost use Rattle.cell_values.specs.declared.datum.Row.{Row};
 ghost use Rattle.cell_columns.specs.Inner.CellsIn.{cells_in};
-ghost use Rattle.array_rows.specs.Cellwise.{cell_wise};
+ghost use Rattle.array_geom.specs.Cellwise.{cell_wise};
 ghost use Rattle.array_geom.specs.Geometry.{HasFrame, coordinate_in, volume};
 ghost use Rattle.array_geom.specs.Link.{IsPart};
 ghost use Rattle.array_geom.specs.Inner.Ranges.{IsGrid};

@@ -1,7 +1,7 @@
 //! Chunks whose core holds a cell.
 ghost use Rattle.std.specs.Prelude.{◌≡◌, ◌<◌, List as Items, length, filter, IfOk};
 ghost use Rattle.std.specs.List.{AllByRecursion, list_any};
-ghost use Rattle.array_rows.specs.Boxes.{is_inside};
+ghost use Rattle.array_geom.specs.Boxes.{is_inside};
 ghost use Rattle.array_geom.specs.Geometry.{coordinate_in, volume};
 ghost use Rattle.array_geom.specs.Link.{AreChunksOf};
 ghost use Rattle.array_geom.specs.Inner.Ranges.{IsGrid};
