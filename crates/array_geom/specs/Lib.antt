@@ -2,6 +2,7 @@ pub use Rattle.array_rows.specs.Arrays
 pub use Rattle.array_rows.specs.Boxes
 pub use Rattle.array_rows.specs.Cellwise
 pub use Rattle.array_rows.specs.Rows
+pub use Rattle.cell_columns.specs.Inner.CellsIn
 pub mod Areas
 pub mod Chunks
 pub mod Geometry

@@ -10,7 +10,7 @@ mod laws;
 mod margins;
 
 pub use boxes::Boxes;
-pub use cell_columns::Cells;
+pub use cell_columns::{Cells, Form, Rows};
 pub use chunk::{Changed, Chunk, ChunkedArray};
 pub use cores::{chunk_of, chunks_meeting, core_box, has_core};
 pub use frames::{frame, grid_of, place, position};

@@ -5,7 +5,7 @@ ghost use Rattle.cell_values.specs.declared.datum.Cell.TheVariants.{Full};
 ghost use Rattle.array_geom.specs.Rows.{Coordinate};
 ghost use Rattle.array_parts.specs.Inner.Quickly.{IsQuickly};
 
-use cell_columns::Rows;
+use array_geom::Rows;
 use cell_values::{Cell, Coord, Memory};
 
 /// What is known of a cell's change without its coordinate and without a list of its values.

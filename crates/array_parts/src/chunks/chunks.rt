@@ -2,7 +2,7 @@
 ghost use Rattle.std.specs.Prelude.{◌≡◌, ◌<◌, [], List as Items, Some, length, slice_index_or, OnOk, IfOk};
 ghost use Rattle.cell_values.specs.declared.datum.Cell.TheVariants.{Full};
 ghost use Rattle.cell_values.specs.declared.datum.Row.{Row};
-ghost use Rattle.cell_columns.specs.Inner.CellsIn.{cells_in};
+ghost use Rattle.array_geom.specs.CellsIn.{cells_in};
 ghost use Rattle.array_geom.specs.Cellwise.{cell_wise};
 ghost use Rattle.array_geom.specs.Geometry.{HasFrame, coordinate_in, volume};
 ghost use Rattle.array_geom.specs.Link.{IsPart};
@@ -10,8 +10,7 @@ ghost use Rattle.array_geom.specs.Inner.Ranges.{IsGrid};
 ghost use Rattle.array_parts.specs.Made.{IsPlaced, IsMadeBy, with_cell};
 
 use crate::chunks::{CellChange, Quick};
-use array_geom::{Chunk, Grid, grid_of};
-use cell_columns::{Form, Rows};
+use array_geom::{Chunk, Form, Grid, Rows, grid_of};
 use cell_values::{Cell, Coord, Margins, Memory, Schema};
 
 /// Adds what becomes of a cell.
