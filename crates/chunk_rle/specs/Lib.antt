@@ -1,3 +1,4 @@
+pub use Rattle.array_geom.specs.Boxes
 pub use Rattle.array_geom.specs.Geometry
 pub use Rattle.array_geom.specs.Link
 pub use Rattle.array_geom.specs.declared.chunk.Chunk
