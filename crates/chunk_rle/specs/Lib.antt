@@ -2,6 +2,7 @@ pub use Rattle.array_geom.specs.Boxes
 pub use Rattle.array_geom.specs.Geometry
 pub use Rattle.array_geom.specs.Link
 pub use Rattle.array_geom.specs.declared.chunk.Chunk
+pub use Rattle.file_items.specs.Items
 pub mod Chunks
 pub mod Decoding
 pub mod Frames
