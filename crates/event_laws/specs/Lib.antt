@@ -1,4 +1,6 @@
 pub use Rattle.plan_changes.specs.Changes
+pub use Rattle.plan_changes.specs.NameEntry
+pub use Rattle.plan_changes.specs.Names
 pub use Rattle.plan_changes.specs.declared.change.Change
 pub mod Cores
 pub mod Legal

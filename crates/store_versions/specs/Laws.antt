@@ -1,6 +1,6 @@
 -- What holds of tables of versions.
 use Rattle.std.specs.Prelude.{◌≡◌, ◌≤◌, ℕ, List, [], ◌∷◌, length, map, Some, nat_eq, if◌then◌else◌, IsTrue}
-use Rattle.logical_plan.specs.declared.names.Names.{Names}
+use Rattle.event_laws.specs.Names.{Names}
 use Rattle.event_laws.specs.Change.{Change}
 use Rattle.chunk_map.specs.declared.directory.Directory.{Directory}
 use Rattle.lean_core.specs.Used.{Used}

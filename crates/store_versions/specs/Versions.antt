@@ -3,7 +3,7 @@ use Rattle.std.specs.Prelude.{◌≡◌, ℕ, Bool, not, ◌&&◌, nat_eq, nat_l
 use Rattle.std.specs.List.{filter, find, list_any}
 use Rattle.std.specs.Option.{option_map}
 use Rattle.std.specs.Str.{bytes_eq}
-use Rattle.logical_plan.specs.declared.names.Names.{Names}
+use Rattle.event_laws.specs.Names.{Names}
 use Rattle.event_laws.specs.Change.{Change}
 use Rattle.event_laws.specs.Change.TheVariants.{Create, Store, Insert, Remove, RemoveVersions}
 use Rattle.event_laws.specs.Changes.{next_of}

@@ -11,9 +11,8 @@ use crate::first::first_rows;
 use crate::{ReadyVersion, Room, VersionRow};
 use cell_values::{List, Memory, Name};
 use chunk_map::Directory;
-use event_laws::Change;
+use event_laws::{Change, Names};
 use lean_core::LeanPin;
-use logical_plan::Names;
 
 /// The versions that the present or an open pin may see, in the order in which they came.
 #[derive(Drop)]

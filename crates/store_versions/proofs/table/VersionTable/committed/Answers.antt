@@ -1,5 +1,5 @@
 use Rattle.std.proofs.Common.{◌≡◌, ℕ, true, false, List, length, Option, refl, ap}
-use Rattle.logical_plan.specs.declared.names.Names.{Names}
+use Rattle.event_laws.specs.Names.{Names}
 use Rattle.event_laws.specs.Change.{Change}
 use Rattle.event_laws.specs.Change.TheVariants.{Create, Store, Insert, Remove, RemoveVersions}
 use Rattle.event_laws.specs.Changes.{next_of}
