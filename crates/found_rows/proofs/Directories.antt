@@ -13,8 +13,8 @@ use Rattle.plan_changes.specs.Changes.{is_named, has_array, name_of, next_of, na
 use Rattle.version_reaper.specs.PageSets.{holds}
 use Rattle.version_catalog.specs.declared.rules.catalog.Catalog.{Catalog}
 use Rattle.version_catalog.specs.Catalogs.{names_in}
-use Rattle.catalog_changes.specs.Changed.{has_its_directory, after_change}
-use Rattle.catalog_changes.specs.Records.{entries_of}
+use Rattle.next_files.specs.Changed.{has_its_directory, after_change}
+use Rattle.next_files.specs.Records.{entries_of}
 use Rattle.event_core.proofs.Tests.{none_weaker}
 use Rattle.next_files.specs.Next.{Made, Rows, blob_of, without_row, rows_after}
 use Rattle.store_versions.specs.Versions.{MadeVersion, HaveDirectories, is_of, is_numbered, versions_after}

@@ -19,9 +19,9 @@ use Rattle.plan_changes.proofs.StoredLaws.{RiseAfter, names_in, after_next, tail
 use Rattle.plan_changes.proofs.DatabaseLaws.{apart}
 use Rattle.version_catalog.specs.declared.rules.catalog.BlobAt.{BlobAt}
 use Rattle.version_catalog.specs.declared.rules.catalog.CatalogArray.{CatalogArray}
-use Rattle.catalog_changes.specs.Changed.{has_its_directory, changed}
-use Rattle.catalog_changes.specs.Records.{entries_of, is_array, with_new, with_directory, from_version, without}
-use Rattle.catalog_changes.proofs.Kept.{new_named}
+use Rattle.next_files.specs.Changed.{has_its_directory, changed}
+use Rattle.next_files.specs.Records.{entries_of, is_array, with_new, with_directory, from_version, without}
+use Rattle.next_files.proofs.Kept.{new_named}
 use Rattle.found_rows.proofs.Filters.{name_sym, others_left, others_uncut, own_cut, one_more, cut_off}
 
 -- ---- lists of lists beside the arrays' entries

@@ -10,7 +10,7 @@ use Rattle.plan_changes.specs.Changes.{is_named, has_array, last_of, newest_or, 
 use Rattle.plan_changes.specs.Stored.{IsStored, RiseBetween}
 use Rattle.version_catalog.specs.declared.rules.catalog.CatalogArray.{CatalogArray}
 use Rattle.version_catalog.specs.Catalogs.{names_in}
-use Rattle.catalog_changes.specs.Records.{entries_of, is_array}
+use Rattle.next_files.specs.Records.{entries_of, is_array}
 use Rattle.laid_commits.specs.Premises.{last_of_row}
 use Rattle.next_files.specs.Premises.{row_of}
 use Rattle.store_versions.specs.Versions.{MadeVersion, is_of, is_numbered, directory_of}

@@ -11,7 +11,7 @@ use Rattle.plan_changes.specs.Changes.{is_named, has_array}
 use Rattle.plan_changes.specs.Stored.{NamesRise}
 use Rattle.plan_changes.proofs.StoredLaws.{names_in, tail_rises}
 use Rattle.version_catalog.specs.declared.rules.catalog.CatalogArray.{CatalogArray}
-use Rattle.catalog_changes.specs.Records.{entries_of}
+use Rattle.next_files.specs.Records.{entries_of}
 use Rattle.store_versions.proofs.Agree.{name_refl}
 use Rattle.next_files.specs.Next.{Rows}
 use Rattle.store_versions.specs.Rows.{array_rows, first_rows}

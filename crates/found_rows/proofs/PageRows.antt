@@ -12,9 +12,9 @@ use Rattle.plan_changes.specs.Stored.{is_before}
 use Rattle.plan_changes.proofs.NamesOf.{prefix_map}
 use Rattle.version_catalog.specs.declared.rules.catalog.BlobAt.{BlobAt}
 use Rattle.version_catalog.specs.declared.rules.catalog.CatalogArray.{CatalogArray}
-use Rattle.catalog_changes.specs.Changed.{changed}
-use Rattle.catalog_changes.specs.Records.{entries_of, is_array, with_new, with_directory, from_version, without}
-use Rattle.catalog_changes.proofs.Kept.{new_named}
+use Rattle.next_files.specs.Changed.{changed}
+use Rattle.next_files.specs.Records.{entries_of, is_array, with_new, with_directory, from_version, without}
+use Rattle.next_files.proofs.Kept.{new_named}
 use Rattle.next_files.specs.Opening.{version_pages}
 use Rattle.laid_commits.specs.Premises.{pages_made}
 use Rattle.next_files.specs.Next.{Made, Rows, blob_of}

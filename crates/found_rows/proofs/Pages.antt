@@ -16,8 +16,8 @@ use Rattle.version_reaper.specs.PageSets.{holds}
 use Rattle.version_catalog.specs.declared.rules.catalog.CatalogArray.{CatalogArray}
 use Rattle.version_catalog.specs.declared.rules.catalog.Catalog.{Catalog}
 use Rattle.version_catalog.specs.Catalogs.{HasDirectories, names_in}
-use Rattle.catalog_changes.specs.Changed.{after_change}
-use Rattle.catalog_changes.specs.Records.{entries_of}
+use Rattle.next_files.specs.Changed.{after_change}
+use Rattle.next_files.specs.Records.{entries_of}
 use Rattle.event_core.specs.declared.state.VersionPages.{VersionPages}
 use Rattle.event_core.specs.History.{is_pages_of, pages_after}
 use Rattle.event_core.specs.Pages.{has_page}

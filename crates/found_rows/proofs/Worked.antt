@@ -15,7 +15,7 @@ use Rattle.plan_changes.specs.Stored.{AreStored}
 use Rattle.version_catalog.specs.declared.rules.catalog.BlobAt.{BlobAt}
 use Rattle.version_catalog.specs.declared.rules.catalog.Catalog.{Catalog}
 use Rattle.version_catalog.specs.Catalogs.{IsBlob, IsCatalog, names_in}
-use Rattle.catalog_changes.specs.Changed.{after_change}
+use Rattle.next_files.specs.Changed.{after_change}
 use Rattle.event_core.specs.declared.state.VersionPages.{VersionPages}
 use Rattle.event_core.specs.History.{pages_after}
 use Rattle.laid_commits.specs.Premises.{pages_made}

@@ -9,7 +9,7 @@ use Rattle.plan_changes.specs.Changes.{names_after, newest_of}
 use Rattle.plan_changes.specs.Stored.{AreStored}
 use Rattle.version_catalog.specs.declared.rules.catalog.Catalog.{Catalog}
 use Rattle.version_catalog.specs.Catalogs.{IsCatalog, names_in}
-use Rattle.catalog_changes.specs.Changed.{after_change}
+use Rattle.next_files.specs.Changed.{after_change}
 use Rattle.event_core.specs.declared.state.VersionPages.{VersionPages}
 use Rattle.event_core.specs.History.{pages_after}
 use Rattle.event_core.specs.Pages.{has_page}

@@ -1,4 +1,5 @@
 pub use Rattle.file_laws.proofs.Apart
+pub use Rattle.file_laws.proofs.Kept
 pub use Rattle.file_laws.proofs.SlotLaws
 pub use Rattle.file_laws.proofs.Spelled
 mod Appended

@@ -2,6 +2,7 @@ pub use Rattle.file_laws.specs.Changed
 pub use Rattle.file_laws.specs.Found
 pub use Rattle.file_laws.specs.Inner.Example
 pub use Rattle.file_laws.specs.Opening
+pub use Rattle.file_laws.specs.Records
 pub use Rattle.file_laws.specs.Slots
 pub use Rattle.file_laws.specs.Standing
 pub mod Inner
