@@ -1,3 +1,7 @@
+pub use Rattle.chunk_rle.specs.Chunks
+pub use Rattle.chunk_rle.specs.Spelling
+pub use Rattle.chunk_rle.specs.Stored
+pub use Rattle.chunk_rle.specs.Table
 pub use Rattle.event_core.specs.Allowed
 pub use Rattle.event_core.specs.Apart
 pub use Rattle.event_core.specs.Bases

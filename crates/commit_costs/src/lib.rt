@@ -3,6 +3,7 @@
 
 mod laws;
 
+pub use chunk_rle::encode;
 pub use event_core::Used;
 pub use laws::{
     a_history_is_legal_at_its_costs, commits_cost_their_pages, costs_follow_the_catalogue,

@@ -17,8 +17,8 @@ use Rattle.array_geom.specs.declared.chunk.Chunk.{Chunk}
 use Rattle.array_geom.specs.Geometry.{ChunkNumber, frame, has_core, overlaps}
 use Rattle.array_geom.specs.Link.{IsPart, NumbersRise, number_order, is_listed, has_cell}
 use Rattle.array_geom.specs.Link as link
-use Rattle.chunk_rle.specs.Chunks.{spelling as payload_spelling}
-use Rattle.chunk_rle.specs.Stored.{IsStored}
+use Rattle.commit_costs.specs.Chunks.{spelling as payload_spelling}
+use Rattle.commit_costs.specs.Stored.{IsStored}
 use Rattle.chunk_map.specs.declared.directory.DirEntry.{DirEntry}
 use Rattle.chunk_map.specs.declared.directory.Directory.{Directory}
 use Rattle.chunk_map.specs.Entries.{AreRising, entry_at, numbers}

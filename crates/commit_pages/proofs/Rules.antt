@@ -21,9 +21,9 @@ use Rattle.chunk_map.specs.declared.directory.Directory.{Directory}
 use Rattle.chunk_map.specs.Entries.{AreRising}
 use Rattle.chunk_map.specs.Spelling.{spelling as directory_spelling, spell_entry, IsEntry, IsDirectory}
 use Rattle.chunk_map.proofs.Replacements.{are_directories}
-use Rattle.chunk_rle.specs.Chunks.{spelling as payload_spelling, as_runs}
-use Rattle.chunk_rle.specs.Spelling.{spell_runs, spell_position_run, spell_column}
-use Rattle.chunk_rle.specs.Stored.{IsStored}
+use Rattle.commit_costs.specs.Chunks.{spelling as payload_spelling, as_runs}
+use Rattle.commit_costs.specs.Spelling.{spell_runs, spell_position_run, spell_column}
+use Rattle.commit_costs.specs.Stored.{IsStored}
 use Rattle.file_items.specs.Pages.{LieIn}
 use Rattle.file_laws.proofs.Counts.{counts_agree}
 use Rattle.file_laws.specs.BlobAt.{BlobAt}

@@ -7,7 +7,7 @@ use Rattle.arrayvec.specs.ArrayVec.{ArrayVec}
 use Rattle.array_rows.specs.Boxes.{by_pairs}
 use Rattle.array_geom.specs.declared.chunk.Changed.{Changed}
 use Rattle.array_geom.specs.Link.{number_order, NumbersRise}
-use Rattle.chunk_rle.specs.Chunks.{spelling as payload_spelling}
+use Rattle.commit_costs.specs.Chunks.{spelling as payload_spelling}
 use Rattle.chunk_map.specs.declared.directory.DirEntry.{DirEntry}
 use Rattle.chunk_map.specs.declared.directory.Directory.{Directory}
 use Rattle.chunk_map.specs.Spelling.{spelling as directory_spelling}
