@@ -1,3 +1,4 @@
+pub use Rattle.commit_costs.specs.Apart
 pub use Rattle.commit_costs.specs.Costs
 pub use Rattle.commit_costs.specs.Lengths
 pub mod Changes

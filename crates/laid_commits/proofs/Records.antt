@@ -21,7 +21,7 @@ use Rattle.version_catalog.specs.Catalogs.{names_in}
 use Rattle.version_catalog.specs.Spelling.{spell_record}
 use Rattle.next_files.specs.Changed.{has_its_directory, record_for, stored_by}
 use Rattle.next_files.proofs.Spelled.{changes_have_records}
-use Rattle.event_core.specs.Apart.{makes_version}
+use Rattle.commit_pages.specs.Apart.{makes_version}
 use Rattle.next_files.specs.Slots.{Slots}
 use Rattle.next_files.specs.Opening.{pages_of as found_pages, sequence_of}
 use Rattle.next_files.specs.Found.{Found}
