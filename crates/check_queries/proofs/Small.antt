@@ -34,9 +34,9 @@ use Rattle.check_queries.specs.declared.call.OverSource.{OverSource}
 use Rattle.check_queries.specs.declared.call.OverSource.TheVariants.{Filter, Apply, Project, Between, Subarray, Slice, Redimension, Regrid, Window, Aggregate}
 use Rattle.check_queries.specs.declared.call.OverTwo.{OverTwo}
 use Rattle.check_queries.specs.declared.call.OverTwo.TheVariants.{Join, CrossJoin}
-use Rattle.check_groups.specs.Blocks.{regrid_parts}
-use Rattle.check_groups.specs.Groups.{aggregate_parts}
-use Rattle.check_groups.specs.Windows.{window_parts}
+use Rattle.check_joins.specs.Blocks.{regrid_parts}
+use Rattle.check_joins.specs.Groups.{aggregate_parts}
+use Rattle.check_joins.specs.Windows.{window_parts}
 use Rattle.check_joins.specs.Crosses.{cross_parts}
 use Rattle.check_joins.specs.JoinSchemas.{joined_schema}
 use Rattle.check_redimension.specs.Redimension.{redimension_parts}
