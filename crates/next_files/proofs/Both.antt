@@ -10,8 +10,8 @@ use Rattle.page_chain.specs.Chains.{names_page}
 use Rattle.chunk_map.specs.declared.directory.DirEntry.{DirEntry}
 use Rattle.chunk_map.specs.declared.directory.Directory.{Directory}
 use Rattle.chunk_map.specs.Entries.{AreRising}
-use Rattle.logical_plan.specs.declared.names.NameEntry.{NameEntry}
-use Rattle.logical_plan.specs.declared.names.Names.{Names}
+use Rattle.plan_changes.specs.NameEntry.{NameEntry}
+use Rattle.plan_changes.specs.Names.{Names}
 use Rattle.plan_changes.specs.declared.change.Change.{Change}
 use Rattle.plan_changes.specs.declared.change.Change.TheVariants.{Create, Store, Insert, Remove, RemoveVersions}
 use Rattle.plan_changes.specs.Changes.{name_of}

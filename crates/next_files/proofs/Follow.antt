@@ -9,9 +9,9 @@ use Rattle.cell_values.specs.Schemas.{is_valid}
 use Rattle.page_layout.specs.Places.{IsNone}
 use Rattle.chunk_map.specs.declared.directory.Directory.{Directory}
 use Rattle.chunk_map.specs.Entries.{AreRising}
-use Rattle.logical_plan.specs.Query.{Query}
-use Rattle.logical_plan.specs.declared.names.NameEntry.{NameEntry}
-use Rattle.logical_plan.specs.declared.names.Names.{Names}
+use Rattle.plan_changes.specs.Query.{Query}
+use Rattle.plan_changes.specs.NameEntry.{NameEntry}
+use Rattle.plan_changes.specs.Names.{Names}
 use Rattle.plan_changes.specs.declared.change.Change.{Change}
 use Rattle.plan_changes.specs.declared.change.Change.TheVariants.{Create, Store, Insert, Remove, RemoveVersions}
 use Rattle.plan_changes.specs.Allowed.{has_room, has_number}

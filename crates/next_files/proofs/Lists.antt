@@ -7,8 +7,8 @@ use Rattle.cell_values.specs.declared.schema.Schema.{Schema}
 use Rattle.array_rows.specs.Boxes.{by_pairs}
 use Rattle.chunk_map.specs.declared.directory.DirEntry.{DirEntry}
 use Rattle.chunk_map.specs.declared.directory.Directory.{Directory}
-use Rattle.logical_plan.specs.Query.{Query}
-use Rattle.logical_plan.specs.declared.names.NameEntry.{NameEntry}
+use Rattle.plan_changes.specs.Query.{Query}
+use Rattle.plan_changes.specs.NameEntry.{NameEntry}
 use Rattle.plan_changes.specs.Changes.{is_named, has_array, new_entry}
 use Rattle.plan_changes.specs.Databases.{Database, is_array, has_stored, entry_of}
 use Rattle.plan_changes.specs.Stored.{NamesRise}

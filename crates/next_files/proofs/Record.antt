@@ -9,7 +9,7 @@ use Rattle.page_chain.specs.Pages.{page_size, has_page}
 use Rattle.page_chain.specs.Chains.{chain, chain_bytes}
 use Rattle.page_chain.specs.Links.{AreFree}
 use Rattle.page_chain.proofs.PageLaws.{chain_read}
-use Rattle.logical_plan.specs.declared.names.Names.{Names}
+use Rattle.plan_changes.specs.Names.{Names}
 use Rattle.plan_changes.specs.declared.change.Change.{Change}
 use Rattle.plan_changes.specs.Allowed.{names_allow}
 use Rattle.file_laws.specs.Catalog.{Catalog}

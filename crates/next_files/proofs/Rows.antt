@@ -9,7 +9,7 @@ use Rattle.array_rows.specs.Boxes.{by_pairs}
 use Rattle.page_layout.specs.Places.{IsNone}
 use Rattle.chunk_map.specs.declared.directory.DirEntry.{DirEntry}
 use Rattle.chunk_map.specs.declared.directory.Directory.{Directory}
-use Rattle.logical_plan.specs.declared.names.NameEntry.{NameEntry}
+use Rattle.plan_changes.specs.NameEntry.{NameEntry}
 use Rattle.plan_changes.specs.Changes.{is_named, has_array, new_entry}
 use Rattle.file_laws.specs.BlobAt.{BlobAt}
 use Rattle.file_laws.specs.CatalogArray.{CatalogArray}

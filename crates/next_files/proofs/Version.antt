@@ -19,8 +19,8 @@ use Rattle.chunk_map.proofs.Laws.{directory_again}
 use Rattle.chunk_map.proofs.Rules.{are_entries}
 use Rattle.file_laws.specs.Frames.{frame_of}
 use Rattle.file_laws.specs.Chunks.{chunk_payload}
-use Rattle.logical_plan.specs.Query.{Query}
-use Rattle.logical_plan.specs.declared.names.NameEntry.{NameEntry}
+use Rattle.plan_changes.specs.Query.{Query}
+use Rattle.plan_changes.specs.NameEntry.{NameEntry}
 use Rattle.plan_changes.specs.declared.change.Change.{Change}
 use Rattle.plan_changes.specs.declared.change.Change.TheVariants.{Create, Store, Insert, Remove, RemoveVersions}
 use Rattle.plan_changes.specs.Allowed.{has_room, has_number}

@@ -18,7 +18,7 @@ use Rattle.chunk_map.specs.declared.directory.DirEntry.{DirEntry}
 use Rattle.chunk_map.specs.declared.directory.Directory.{Directory}
 use Rattle.chunk_map.specs.Entries.{numbers}
 use Rattle.chunk_map.specs.Spelling.{IsDirectory, spelling}
-use Rattle.logical_plan.specs.declared.names.NameEntry.{NameEntry}
+use Rattle.plan_changes.specs.NameEntry.{NameEntry}
 use Rattle.plan_changes.specs.declared.change.Change.{Change}
 use Rattle.plan_changes.specs.declared.change.Change.TheVariants.{Store, Insert}
 use Rattle.plan_changes.specs.Changes.{is_named, name_of}

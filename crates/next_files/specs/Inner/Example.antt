@@ -1,6 +1,6 @@
 -- An array that is stored again: the file before, the file after, and what the commit of its record has done.
 use Rattle.std.specs.Prelude.{ℕ, List, [], ◌∷◌, ◌++◌, codes, Some}
-use Rattle.logical_plan.specs.Query.{scanned}
+use Rattle.plan_changes.specs.Query.{scanned}
 use Rattle.page_layout.specs.declared.sides.Side.TheVariants.{A}
 use Rattle.page_layout.specs.declared.sides.Format.TheVariants.{Two}
 use Rattle.chunk_map.specs.declared.directory.DirEntry.{DirEntry}
