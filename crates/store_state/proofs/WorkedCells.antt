@@ -13,7 +13,7 @@ use Rattle.page_layout.specs.declared.sides.Side.TheVariants.{A, B}
 use Rattle.page_chain.specs.Pages.{page_size}
 use Rattle.page_slots.specs.Standing.{Holds}
 use Rattle.plan_changes.specs.Databases.{Database, rows_of}
-use Rattle.commit_writes.specs.Moments.{IsKnown}
+use Rattle.found_rows.specs.Moments.{IsKnown}
 use Rattle.file_laws.specs.Slots.{slots_in}
 use Rattle.file_laws.specs.Opening.{are_pages, found_in, opened}
 use Rattle.file_laws.specs.Standing.{HoldsDatabase, HoldsFound, Stands}

@@ -14,7 +14,7 @@ use Rattle.plan_changes.specs.Databases.{Database, after}
 use Rattle.plan_changes.specs.Stored.{IsDatabase}
 use Rattle.version_catalog.specs.declared.rules.catalog.Catalog.{Catalog}
 use Rattle.found_rows.specs.Costs.{cost_from}
-use Rattle.commit_writes.specs.Moments.{IsKnown}
+use Rattle.found_rows.specs.Moments.{IsKnown}
 use Rattle.file_laws.specs.Opening.{found_in}
 use Rattle.file_laws.specs.Slots.{Slots as FoundSlots}
 use Rattle.file_laws.specs.Standing.{HoldsDatabase}
