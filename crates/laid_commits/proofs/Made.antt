@@ -20,7 +20,7 @@ use Rattle.plan_changes.specs.declared.change.Change.TheVariants.{Create, Store,
 use Rattle.plan_changes.specs.Allowed.{has_number}
 use Rattle.plan_changes.specs.Changes.{has_array, name_of}
 use Rattle.plan_changes.specs.Databases.{Database, names_of, new_rows, newest_rows}
-use Rattle.version_catalog.specs.Catalogs.{names_in}
+use Rattle.next_files.specs.Catalogs.{names_in}
 use Rattle.next_files.specs.Changed.{IsItsBlob}
 use Rattle.next_files.specs.Slots.{Slots}
 use Rattle.next_files.specs.Opening.{is_seen, sequence_of, version_pages}

@@ -13,12 +13,12 @@ use Rattle.plan_changes.specs.declared.change.Change.{Change}
 use Rattle.plan_changes.specs.declared.change.Change.TheVariants.{Create, Store, Insert, Remove, RemoveVersions}
 use Rattle.plan_changes.specs.Allowed.{names_allow}
 use Rattle.plan_changes.specs.Databases.{Database, after}
-use Rattle.version_catalog.specs.declared.rules.catalog.BlobAt.{BlobAt}
-use Rattle.version_catalog.specs.declared.rules.catalog.Catalog.{Catalog}
-use Rattle.version_catalog.specs.declared.rules.catalog_record.CatalogRecord.{CatalogRecord}
-use Rattle.version_catalog.specs.declared.rules.catalog_record.CatalogRecord.TheVariants as entries
-use Rattle.version_catalog.specs.Catalogs.{names_in}
-use Rattle.version_catalog.specs.Spelling.{spell_record}
+use Rattle.next_files.specs.BlobAt.{BlobAt}
+use Rattle.next_files.specs.Catalog.{Catalog}
+use Rattle.next_files.specs.CatalogRecord.{CatalogRecord}
+use Rattle.next_files.specs.CatalogRecord.TheVariants as entries
+use Rattle.next_files.specs.Catalogs.{names_in}
+use Rattle.next_files.specs.Spelling.{spell_record}
 use Rattle.next_files.specs.Changed.{has_its_directory, record_for, stored_by}
 use Rattle.next_files.proofs.Spelled.{changes_have_records}
 use Rattle.commit_pages.specs.Apart.{makes_version}

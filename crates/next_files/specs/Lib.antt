@@ -1,9 +1,14 @@
+pub use Rattle.file_laws.specs.BlobAt
+pub use Rattle.file_laws.specs.Catalog
+pub use Rattle.file_laws.specs.CatalogRecord
+pub use Rattle.file_laws.specs.Catalogs
 pub use Rattle.file_laws.specs.Changed
 pub use Rattle.file_laws.specs.Found
 pub use Rattle.file_laws.specs.Inner.Example
 pub use Rattle.file_laws.specs.Opening
 pub use Rattle.file_laws.specs.Records
 pub use Rattle.file_laws.specs.Slots
+pub use Rattle.file_laws.specs.Spelling
 pub use Rattle.file_laws.specs.Standing
 pub mod Inner
 pub mod Laws
