@@ -1,9 +1,9 @@
 -- A second worked list, over a base of no arrays, with 16 pages, whose catalogue is a chain on page 1 and a log on page 2: versions share a page, and
 -- some are removed under a pin.
 use Rattle.std.specs.Prelude.{ℕ, pos, true, [], ◌∷◌, codes}
-use Rattle.cell_values.specs.declared.datum.Datum.TheVariants.{Int}
-use Rattle.cell_values.specs.declared.schema.Kind.TheVariants.{Int64}
-use Rattle.cell_values.specs.declared.schema.Schema.{Schema}
+use Rattle.version_reaper.specs.Datum.TheVariants.{Int}
+use Rattle.version_reaper.specs.Kind.TheVariants.{Int64}
+use Rattle.version_reaper.specs.Schema.{Schema}
 use Rattle.plan_changes.specs.Expr.{literal}
 use Rattle.plan_changes.specs.Query.{built, between}
 use Rattle.plan_changes.specs.declared.change.Change.{Change}

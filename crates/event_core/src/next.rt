@@ -6,10 +6,10 @@ ghost use Rattle.event_core.specs.Inner.Next.{pages_by, HasRoom};
 
 use crate::commit::{without_array, without_below};
 use crate::{Core, VersionPages};
-use cell_values::{List, Memory, Name};
 use plan_changes::{Change, Names, next_of};
 use std::alloc::Global;
 use std::marker::Model;
+use version_reaper::{List, Memory, Name};
 
 /// Room for versions. Contracts see for how many.
 #[derive(Drop)]

@@ -6,8 +6,7 @@ ghost use Rattle.event_core.specs.Pages.{has_page};
 ghost use Rattle.event_core.specs.Replay.{is_core_live, is_core_awaiting};
 
 use crate::{Core, CorePin, VersionPages};
-use cell_values::{List, Memory};
-use version_reaper::{PageSet, free_of};
+use version_reaper::{List, Memory, PageSet, free_of};
 
 /// Adds the pages of versions to a set.
 fn add_versions(set: &mut PageSet, versions: &List<VersionPages>)
