@@ -23,7 +23,7 @@ use Rattle.event_core.specs.Bases.{records_at}
 use Rattle.event_core.specs.Cells.{at}
 use Rattle.event_core.specs.History.{History, names_at}
 use Rattle.file_meaning.specs.declared.found.Found.{Found}
-use Rattle.next_files.specs.Premises.{StandsBy, row_of}
+use Rattle.found_rows.specs.Premises.{StandsBy, row_of}
 use Rattle.commit_costs.specs.Costs.{cost_from, has_log_room}
 use Rattle.commit_pages.specs.Changes.{ComesWith}
 use Rattle.commit_pages.specs.Versions.{draft_of}
