@@ -1,3 +1,4 @@
+pub use Rattle.check_queries.proofs.Holding
 pub use Rattle.check_queries.proofs.NoQuery
 pub use Rattle.check_queries.proofs.PartsFit
 pub use Rattle.check_queries.proofs.SchemasFit

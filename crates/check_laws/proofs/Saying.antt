@@ -24,9 +24,9 @@ use Rattle.check_rules.specs.declared.rules.operator.Operator.TheVariants as ope
 use Rattle.check_rules.proofs.RulesHolding.{demanded, thens, of_answer}
 use Rattle.check_rules.proofs.OperatorsHolding.{new_holds}
 use Rattle.check_rules.specs.Sorts.{to_list, number_in}
-use Rattle.check_sources.specs.Build.{meant}
-use Rattle.check_sources.specs.Stored.{is_version, newest_of, at_version, version_of, referred, scan_call}
-use Rattle.check_sources.proofs.Holding.{build_holds}
+use Rattle.afl_types.specs.Build.{meant}
+use Rattle.afl_types.specs.Stored.{is_version, newest_of, at_version, version_of, referred, scan_call}
+use Rattle.afl_types.proofs.Holding.{build_holds}
 use Rattle.check_cellwise.proofs.CellsHolding.{filter_holds, apply_holds, project_holds}
 use Rattle.check_cellwise.proofs.BoxesHolding.{between_holds, subarray_holds, slice_holds}
 use Rattle.check_groups.specs.Blocks.{regrid_parts}
