@@ -1,13 +1,17 @@
 pub use Rattle.store_state.specs.At
 pub use Rattle.store_state.specs.Calls
 pub use Rattle.store_state.specs.Cells
+pub use Rattle.store_state.specs.Commits
 pub use Rattle.store_state.specs.Events
 pub use Rattle.store_state.specs.Inner.Keeping
 pub use Rattle.store_state.specs.Inner.Sights
 pub use Rattle.store_state.specs.Kept
+pub use Rattle.store_state.specs.Laid
 pub use Rattle.store_state.specs.Payloads
 pub use Rattle.store_state.specs.Standings
+pub use Rattle.store_state.specs.Versions
 pub use Rattle.store_state.specs.Worked
+pub use Rattle.store_state.specs.Written
 pub use Rattle.store_state.specs.declared.event.Event
 pub use Rattle.store_state.specs.declared.fault.ReadFault
 pub use Rattle.store_state.specs.declared.parts.StoreParts
