@@ -1,3 +1,4 @@
+pub use Rattle.plan_changes.specs.Allowed
 pub use Rattle.plan_changes.specs.Changes
 pub use Rattle.plan_changes.specs.NameEntry
 pub use Rattle.plan_changes.specs.Names

@@ -4,7 +4,7 @@ use Rattle.std.specs.List.{filter, list_any}
 use Rattle.std.proofs.lemmas.Bool.{and_parts}
 use Rattle.std.proofs.lemmas.Bool.Decides.{nat_tests}
 use Rattle.std.proofs.lemmas.List.{length-reverse}
-use Rattle.plan_changes.specs.declared.change.Change.{Change}
+use Rattle.event_laws.specs.Change.{Change}
 use Rattle.version_reaper.specs.PageSets.{pages_below}
 use Rattle.lean_core.specs.Used.{Used}
 use Rattle.lean_core.specs.Entry.{Entry}

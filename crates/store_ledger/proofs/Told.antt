@@ -13,7 +13,7 @@ use Rattle.lean_core.proofs.Tests.{any_map}
 use Rattle.event_laws.specs.Pins.{pins_of}
 use Rattle.event_laws.proofs.Pins.{open_pins_are_these}
 use Rattle.store_ledger.specs.declared.note.Note.{Note}
-use Rattle.plan_changes.specs.declared.change.Change.{Change}
+use Rattle.event_laws.specs.Change.{Change}
 use Rattle.store_ledger.specs.Ledger.{LedgerState, AreFew, IsLedger, MayReap, attempt, note_now, has_note, has_room, has_under, history, is_noted, reserved, with_notes, is_tried, is_fault}
 use Rattle.store_ledger.specs.Laws.{NotesAreWithin}
 use Rattle.store_ledger.specs.Inner.Kept.{IsKept}

@@ -4,7 +4,7 @@ use Rattle.std.specs.List.{filter, list_any}
 use Rattle.std.proofs.lemmas.Bool.{eq-eqb, or_from, or_left, or_right}
 use Rattle.std.proofs.lemmas.List.Elements.{filter-append}
 use Rattle.std.proofs.lemmas.List.Folds.{list_any-append}
-use Rattle.plan_changes.specs.declared.change.Change.{Change}
+use Rattle.event_laws.specs.Change.{Change}
 use Rattle.version_reaper.specs.PageSets.{holds, pages_below}
 use Rattle.lean_core.specs.Used.{Used}
 use Rattle.lean_core.specs.Entry.TheVariants.{Pin, Unpin, Commit, Reap}

@@ -1,7 +1,7 @@
 -- What holds of ledgers.
 use Rattle.std.specs.Prelude.{◌≡◌, ◌+◌, ℕ, List, [], ◌∷◌, ◌++◌, length, reverse, Bool, not, ◌&&◌, nat_eq, false, Some, IsTrue}
 use Rattle.std.specs.List.{list_all}
-use Rattle.plan_changes.specs.declared.change.Change.{Change}
+use Rattle.event_laws.specs.Change.{Change}
 use Rattle.lean_core.specs.Entry.{Entry}
 use Rattle.lean_core.specs.Entry.TheVariants.{Pin, Unpin}
 use Rattle.lean_core.specs.Allowed.{is_allowed}

@@ -7,8 +7,8 @@ ghost use Rattle.lean_core.specs.History.{pin_before};
 ghost use Rattle.store_ledger.specs.Ledger.{MayReap, attempt, has_note, has_room, history, is_fault, is_noted, is_tried, note_now, with_fault, with_notes};
 
 use crate::{Ledger, Note, NoteKind};
+use event_laws::Change;
 use lean_core::LeanPin;
-use plan_changes::Change;
 use std::snapshot::Snapshot;
 
 /// Whether a fault was noted under the pin of a session and a place.
