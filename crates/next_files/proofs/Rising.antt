@@ -6,8 +6,8 @@ use Rattle.std.specs.List.{AllByRecursion}
 use Rattle.std.specs.Ordering.{ordering_then}
 use Rattle.std.specs.declared.cmp.Ordering.{Ordering}
 use Rattle.std.specs.declared.cmp.Ordering.TheVariants.{Less, Equal, Greater}
-use Rattle.array_geom.specs.Geometry.{ChunkNumber}
-use Rattle.array_geom.specs.Link.{number_order}
+use Rattle.chunk_map.specs.Geometry.{ChunkNumber}
+use Rattle.chunk_map.specs.Link.{number_order}
 use Rattle.cell_values.specs.declared.schema.Dimension.{Dimension}
 use Rattle.file_items.specs.Items.{Reading, number_at, item, repeat, counted, Are}
 use Rattle.file_items.proofs.BytesLaws.{bind_ok, test_ok, ok_is}

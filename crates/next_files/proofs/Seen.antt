@@ -7,9 +7,9 @@ use Rattle.std.specs.Ordering.{is_eq, ordering_reverse}
 use Rattle.std.specs.declared.cmp.Ordering.{Ordering}
 use Rattle.std.specs.declared.cmp.Ordering.TheVariants.{Less, Equal, Greater}
 use Rattle.std.proofs.lemmas.Bool.Decides.{nat_tests}
-use Rattle.array_geom.specs.Geometry.{ChunkNumber, has_core}
-use Rattle.array_geom.specs.Link.{number_order}
-use Rattle.array_geom.proofs.NumberLaws.{same_number, is_equal}
+use Rattle.chunk_map.specs.Geometry.{ChunkNumber, has_core}
+use Rattle.chunk_map.specs.Link.{number_order}
+use Rattle.chunk_map.proofs.NumberLaws.{same_number, is_equal}
 use Rattle.cell_values.specs.declared.schema.Dimension.{Dimension}
 use Rattle.chunk_map.specs.declared.directory.DirEntry.{DirEntry}
 use Rattle.chunk_map.specs.declared.directory.Directory.{Directory}

@@ -4,8 +4,8 @@ use Rattle.std.specs.Prelude.{List, [], ◌∷◌, ◌++◌, length, slice_index
 use Rattle.std.specs.List.{AllByRecursion, filter, flat_map}
 use Rattle.cell_values.specs.declared.datum.Row.{Row}
 use Rattle.cell_values.specs.declared.schema.Schema.{Schema}
-use Rattle.array_geom.specs.Geometry.{ChunkNumber, has_core}
-use Rattle.array_geom.specs.Link.{is_listed, has_cell}
+use Rattle.chunk_map.specs.Geometry.{ChunkNumber, has_core}
+use Rattle.chunk_map.specs.Link.{is_listed, has_cell}
 use Rattle.page_layout.specs.Places.{IsNone, KeepsPages}
 use Rattle.page_layout.specs.declared.logs.RecordAt.{RecordAt}
 use Rattle.page_layout.specs.declared.roots.Root.{Root}
