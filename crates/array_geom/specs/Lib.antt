@@ -1,7 +1,17 @@
 pub use Rattle.array_rows.specs.Arrays
+pub use Rattle.array_rows.specs.Attribute
+pub use Rattle.array_rows.specs.Bounds
 pub use Rattle.array_rows.specs.Boxes
+pub use Rattle.array_rows.specs.Cell
+pub use Rattle.array_rows.specs.Cells
 pub use Rattle.array_rows.specs.Cellwise
+pub use Rattle.array_rows.specs.Datum
+pub use Rattle.array_rows.specs.Dimension
+pub use Rattle.array_rows.specs.Kind
 pub use Rattle.array_rows.specs.Rows
+pub use Rattle.array_rows.specs.Schema
+pub use Rattle.array_rows.specs.Schemas
+pub use Rattle.array_rows.specs.Table
 pub use Rattle.cell_columns.specs.Inner.CellsIn
 pub mod Areas
 pub mod Chunks

@@ -1,8 +1,8 @@
 //! Decoding payloads.
 ghost use Rattle.std.specs.Prelude.{◌≡◌, ◌+◌, ◌<◌, ◌^◌, All, IfOk, IsTrue, Ok};
 ghost use Rattle.file_items.specs.Items.{IsRead};
-ghost use Rattle.cell_values.specs.Schemas.{IsValid};
-ghost use Rattle.cell_values.specs.declared.schema.Schema.{Schema as ASchema};
+ghost use Rattle.array_geom.specs.Schemas.{IsValid};
+ghost use Rattle.array_geom.specs.Schema.{Schema as ASchema};
 ghost use Rattle.array_geom.specs.Geometry.{has_core};
 ghost use Rattle.array_geom.specs.declared.chunk.Chunk.{Chunk as AChunk};
 ghost use Rattle.chunk_rle.specs.Chunks.{spelling, chunk_of, chunk_payload};
@@ -15,8 +15,7 @@ use crate::expanding::{all_values, cells, positions};
 use crate::places::{Places, places_of};
 use crate::reading::payload;
 use crate::runs::ChunkRuns;
-use array_geom::{Cells, Chunk};
-use cell_values::{Attribute, ChunkAt, Memory, Schema, copy_numbers};
+use array_geom::{Attribute, Cells, Chunk, ChunkAt, Memory, Schema, copy_numbers};
 use file_items::Stop;
 use std::alloc::Global;
 

@@ -9,7 +9,7 @@ ghost use Rattle.chunk_rle.specs.Table.{is_length, position_run_at, value_fields
 
 use crate::places::Places;
 use crate::runs::{ChunkRuns, Column, PosRun, Run, Seen};
-use cell_values::{Attribute, Code, Datum, Kind, List};
+use array_geom::{Attribute, Code, Datum, Kind, List};
 use file_items::{Stop, bytes_at, u16_at, u64_at};
 use std::alloc::Global;
 
