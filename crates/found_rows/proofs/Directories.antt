@@ -11,8 +11,8 @@ use Rattle.plan_changes.specs.declared.change.Change.TheVariants.{Create, Store,
 use Rattle.plan_changes.specs.Allowed.{names_allow}
 use Rattle.plan_changes.specs.Changes.{is_named, has_array, name_of, next_of, names_after}
 use Rattle.version_reaper.specs.PageSets.{holds}
-use Rattle.version_catalog.specs.declared.rules.catalog.Catalog.{Catalog}
-use Rattle.version_catalog.specs.Catalogs.{names_in}
+use Rattle.next_files.specs.Catalog.{Catalog}
+use Rattle.next_files.specs.Catalogs.{names_in}
 use Rattle.next_files.specs.Changed.{has_its_directory, after_change}
 use Rattle.next_files.specs.Records.{entries_of}
 use Rattle.event_core.proofs.Tests.{none_weaker}

@@ -17,8 +17,8 @@ use Rattle.plan_changes.proofs.FitLaws.{mapped}
 use Rattle.plan_changes.proofs.NamesOf.{map_filter, map_insert, prefix_map}
 use Rattle.plan_changes.proofs.StoredLaws.{RiseAfter, names_in, after_next, tail_rises, all_inserted}
 use Rattle.plan_changes.proofs.DatabaseLaws.{apart}
-use Rattle.version_catalog.specs.declared.rules.catalog.BlobAt.{BlobAt}
-use Rattle.version_catalog.specs.declared.rules.catalog.CatalogArray.{CatalogArray}
+use Rattle.next_files.specs.BlobAt.{BlobAt}
+use Rattle.next_files.specs.CatalogArray.{CatalogArray}
 use Rattle.next_files.specs.Changed.{has_its_directory, changed}
 use Rattle.next_files.specs.Records.{entries_of, is_array, with_new, with_directory, from_version, without}
 use Rattle.next_files.proofs.Kept.{new_named}

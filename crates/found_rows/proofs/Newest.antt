@@ -8,8 +8,8 @@ use Rattle.std.proofs.lemmas.Bool.Decides.{nat_tests}
 use Rattle.chunk_map.specs.declared.directory.Directory.{Directory}
 use Rattle.plan_changes.specs.Changes.{is_named, has_array, last_of, newest_or, newest_of}
 use Rattle.plan_changes.specs.Stored.{IsStored, RiseBetween}
-use Rattle.version_catalog.specs.declared.rules.catalog.CatalogArray.{CatalogArray}
-use Rattle.version_catalog.specs.Catalogs.{names_in}
+use Rattle.next_files.specs.CatalogArray.{CatalogArray}
+use Rattle.next_files.specs.Catalogs.{names_in}
 use Rattle.next_files.specs.Records.{entries_of, is_array}
 use Rattle.laid_commits.specs.Premises.{last_of_row}
 use Rattle.next_files.specs.Premises.{row_of}

@@ -10,7 +10,7 @@ use Rattle.logical_plan.specs.declared.names.NameEntry.{NameEntry}
 use Rattle.plan_changes.specs.Changes.{is_named, has_array}
 use Rattle.plan_changes.specs.Stored.{NamesRise}
 use Rattle.plan_changes.proofs.StoredLaws.{names_in, tail_rises}
-use Rattle.version_catalog.specs.declared.rules.catalog.CatalogArray.{CatalogArray}
+use Rattle.next_files.specs.CatalogArray.{CatalogArray}
 use Rattle.next_files.specs.Records.{entries_of}
 use Rattle.store_versions.proofs.Agree.{name_refl}
 use Rattle.next_files.specs.Next.{Rows}

@@ -10,8 +10,8 @@ use Rattle.plan_changes.specs.declared.change.Change.TheVariants.{Create, Store,
 use Rattle.plan_changes.specs.Changes.{has_array, place_of, new_entry, with_array, with_version, without_below}
 use Rattle.plan_changes.specs.Stored.{is_before}
 use Rattle.plan_changes.proofs.NamesOf.{prefix_map}
-use Rattle.version_catalog.specs.declared.rules.catalog.BlobAt.{BlobAt}
-use Rattle.version_catalog.specs.declared.rules.catalog.CatalogArray.{CatalogArray}
+use Rattle.next_files.specs.BlobAt.{BlobAt}
+use Rattle.next_files.specs.CatalogArray.{CatalogArray}
 use Rattle.next_files.specs.Changed.{changed}
 use Rattle.next_files.specs.Records.{entries_of, is_array, with_new, with_directory, from_version, without}
 use Rattle.next_files.proofs.Kept.{new_named}

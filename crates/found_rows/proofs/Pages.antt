@@ -13,9 +13,9 @@ use Rattle.plan_changes.specs.declared.change.Change.TheVariants.{Create, Store,
 use Rattle.plan_changes.specs.Changes.{name_of, next_of}
 use Rattle.plan_changes.proofs.StoredLaws.{all_less}
 use Rattle.version_reaper.specs.PageSets.{holds}
-use Rattle.version_catalog.specs.declared.rules.catalog.CatalogArray.{CatalogArray}
-use Rattle.version_catalog.specs.declared.rules.catalog.Catalog.{Catalog}
-use Rattle.version_catalog.specs.Catalogs.{HasDirectories, names_in}
+use Rattle.next_files.specs.CatalogArray.{CatalogArray}
+use Rattle.next_files.specs.Catalog.{Catalog}
+use Rattle.next_files.specs.Catalogs.{HasDirectories, names_in}
 use Rattle.next_files.specs.Changed.{after_change}
 use Rattle.next_files.specs.Records.{entries_of}
 use Rattle.event_core.specs.declared.state.VersionPages.{VersionPages}

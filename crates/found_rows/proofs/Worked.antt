@@ -12,9 +12,9 @@ use Rattle.plan_changes.specs.declared.change.Change.TheVariants.{Store, RemoveV
 use Rattle.plan_changes.specs.Allowed.{names_allow}
 use Rattle.plan_changes.specs.Changes.{names_after, newest_of}
 use Rattle.plan_changes.specs.Stored.{AreStored}
-use Rattle.version_catalog.specs.declared.rules.catalog.BlobAt.{BlobAt}
-use Rattle.version_catalog.specs.declared.rules.catalog.Catalog.{Catalog}
-use Rattle.version_catalog.specs.Catalogs.{IsBlob, IsCatalog, names_in}
+use Rattle.next_files.specs.BlobAt.{BlobAt}
+use Rattle.next_files.specs.Catalog.{Catalog}
+use Rattle.next_files.specs.Catalogs.{IsBlob, IsCatalog, names_in}
 use Rattle.next_files.specs.Changed.{after_change}
 use Rattle.event_core.specs.declared.state.VersionPages.{VersionPages}
 use Rattle.event_core.specs.History.{pages_after}

@@ -6,7 +6,7 @@ use Rattle.chunk_map.specs.declared.directory.Directory.{Directory}
 use Rattle.logical_plan.specs.declared.names.Names.{Names}
 use Rattle.plan_changes.specs.declared.change.Change.{Change}
 use Rattle.plan_changes.specs.declared.change.Change.TheVariants.{Store, Insert}
-use Rattle.version_catalog.specs.declared.rules.catalog.Catalog.{Catalog}
+use Rattle.next_files.specs.Catalog.{Catalog}
 use Rattle.event_core.specs.declared.state.VersionPages.{VersionPages}
 use Rattle.event_core.specs.History.{is_pages_of}
 use Rattle.next_files.specs.Opening.{version_pages}

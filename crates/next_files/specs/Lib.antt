@@ -1,5 +1,6 @@
 pub use Rattle.file_laws.specs.BlobAt
 pub use Rattle.file_laws.specs.Catalog
+pub use Rattle.file_laws.specs.CatalogArray
 pub use Rattle.file_laws.specs.CatalogRecord
 pub use Rattle.file_laws.specs.Catalogs
 pub use Rattle.file_laws.specs.Changed
