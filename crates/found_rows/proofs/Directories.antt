@@ -15,7 +15,7 @@ use Rattle.next_files.specs.Catalog.{Catalog}
 use Rattle.next_files.specs.Catalogs.{names_in}
 use Rattle.next_files.specs.Changed.{has_its_directory, after_change}
 use Rattle.next_files.specs.Records.{entries_of}
-use Rattle.event_core.proofs.Tests.{none_weaker}
+use Rattle.store_versions.proofs.Tests.{none_weaker}
 use Rattle.next_files.specs.Next.{Made, Rows, blob_of, without_row, rows_after}
 use Rattle.store_versions.specs.Versions.{MadeVersion, HaveDirectories, is_of, is_numbered, versions_after}
 use Rattle.found_rows.specs.Rows.{directories_in, AreInOrder, IsMadeWith}

@@ -9,7 +9,7 @@ use Rattle.std.proofs.lemmas.List.Elements.{filter-append}
 use Rattle.std.proofs.lemmas.List.Sums.{sum_by-cons}
 use Rattle.plan_changes.specs.Stored.{RiseBetween}
 use Rattle.plan_changes.proofs.Stays.{not_both}
-use Rattle.event_core.proofs.Tests.{filter_agrees}
+use Rattle.store_versions.proofs.Tests.{filter_agrees}
 use Rattle.store_versions.proofs.Conserved.{filter_filter}
 
 -- ---- names and numbers

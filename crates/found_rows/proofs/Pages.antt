@@ -18,9 +18,9 @@ use Rattle.next_files.specs.Catalog.{Catalog}
 use Rattle.next_files.specs.Catalogs.{HasDirectories, names_in}
 use Rattle.next_files.specs.Changed.{after_change}
 use Rattle.next_files.specs.Records.{entries_of}
-use Rattle.event_core.specs.declared.state.VersionPages.{VersionPages}
-use Rattle.event_core.specs.History.{is_pages_of, pages_after}
-use Rattle.event_core.specs.Pages.{has_page}
+use Rattle.store_versions.specs.VersionPages.{VersionPages}
+use Rattle.store_versions.specs.History.{is_pages_of, pages_after}
+use Rattle.store_versions.specs.Pages.{has_page}
 use Rattle.next_files.specs.Opening.{all_of, row_pages}
 use Rattle.laid_commits.proofs.Apart.{both_all}
 use Rattle.laid_commits.specs.Premises.{pages_made}

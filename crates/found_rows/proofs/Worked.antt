@@ -16,8 +16,8 @@ use Rattle.next_files.specs.BlobAt.{BlobAt}
 use Rattle.next_files.specs.Catalog.{Catalog}
 use Rattle.next_files.specs.Catalogs.{IsBlob, IsCatalog, names_in}
 use Rattle.next_files.specs.Changed.{after_change}
-use Rattle.event_core.specs.declared.state.VersionPages.{VersionPages}
-use Rattle.event_core.specs.History.{pages_after}
+use Rattle.store_versions.specs.VersionPages.{VersionPages}
+use Rattle.store_versions.specs.History.{pages_after}
 use Rattle.laid_commits.specs.Premises.{pages_made}
 use Rattle.next_files.specs.Next.{Made, Rows, blob_of, rows_after}
 use Rattle.store_versions.specs.Rows.{first_rows}

@@ -10,9 +10,9 @@ use Rattle.plan_changes.specs.Stored.{AreStored}
 use Rattle.next_files.specs.Catalog.{Catalog}
 use Rattle.next_files.specs.Catalogs.{IsCatalog, names_in}
 use Rattle.next_files.specs.Changed.{after_change}
-use Rattle.event_core.specs.declared.state.VersionPages.{VersionPages}
-use Rattle.event_core.specs.History.{pages_after}
-use Rattle.event_core.specs.Pages.{has_page}
+use Rattle.store_versions.specs.VersionPages.{VersionPages}
+use Rattle.store_versions.specs.History.{pages_after}
+use Rattle.store_versions.specs.Pages.{has_page}
 use Rattle.next_files.specs.Opening.{all_of, row_pages}
 use Rattle.next_files.specs.Next.{Made, Rows, blob_of, rows_after}
 use Rattle.laid_commits.specs.Premises.{last_of_row, pages_made}

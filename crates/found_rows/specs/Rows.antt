@@ -7,8 +7,8 @@ use Rattle.logical_plan.specs.declared.names.Names.{Names}
 use Rattle.plan_changes.specs.declared.change.Change.{Change}
 use Rattle.plan_changes.specs.declared.change.Change.TheVariants.{Store, Insert}
 use Rattle.next_files.specs.Catalog.{Catalog}
-use Rattle.event_core.specs.declared.state.VersionPages.{VersionPages}
-use Rattle.event_core.specs.History.{is_pages_of}
+use Rattle.store_versions.specs.VersionPages.{VersionPages}
+use Rattle.store_versions.specs.History.{is_pages_of}
 use Rattle.next_files.specs.Opening.{version_pages}
 use Rattle.next_files.specs.Next.{Made, Rows}
 use Rattle.store_versions.specs.Versions.{MadeVersion, is_of}
