@@ -11,7 +11,7 @@ use Rattle.array_geom.specs.Geometry.{ChunkNumber}
 use Rattle.array_geom.specs.Link.{has_cell}
 use Rattle.file_items.specs.Pages.{pages_needed}
 use Rattle.file_items.specs.Spelling.{spell_name, spell_schema}
-use Rattle.logical_plan.specs.declared.names.NameEntry.{NameEntry}
+use Rattle.event_core.specs.NameEntry.{NameEntry}
 use Rattle.event_core.specs.Change.TheVariants.{Create, Store, Insert, Remove, RemoveVersions}
 use Rattle.event_core.specs.Changes.{is_named, has_array, new_entry, with_version, without_below}
 use Rattle.event_core.specs.Stored.{is_before}

@@ -6,7 +6,7 @@ use Rattle.cell_values.specs.declared.datum.Datum.TheVariants.{Int, Text}
 use Rattle.cell_values.specs.declared.schema.Kind.TheVariants.{Int64, Str}
 use Rattle.cell_values.specs.declared.schema.Schema.{Schema}
 use Rattle.array_rows.specs.Rows.{placed}
-use Rattle.logical_plan.specs.Query.{Query, listed}
+use Rattle.event_core.specs.Query.{Query, listed}
 use Rattle.event_core.specs.Change.{Change}
 use Rattle.event_core.specs.Change.TheVariants.{Create, Store, Insert, Remove, RemoveVersions}
 use Rattle.event_core.specs.Databases.{Database, after}
