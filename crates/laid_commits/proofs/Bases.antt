@@ -6,8 +6,8 @@ use Rattle.page_layout.specs.Places.{IsNone, KeepsPages}
 use Rattle.page_layout.specs.declared.sides.Side.{Side}
 use Rattle.page_chain.specs.Links.{AreFree}
 use Rattle.chunk_map.specs.declared.directory.Directory.{Directory}
-use Rattle.plan_changes.specs.declared.change.Change.{Change}
-use Rattle.plan_changes.specs.Databases.{Database, after}
+use Rattle.next_files.specs.Change.{Change}
+use Rattle.next_files.specs.Databases.{Database, after}
 use Rattle.next_files.specs.BlobAt.{BlobAt}
 use Rattle.next_files.specs.Catalogs.{IsCatalog}
 use Rattle.next_files.specs.Spelling.{spelling}

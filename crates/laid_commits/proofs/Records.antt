@@ -9,10 +9,10 @@ use Rattle.page_layout.specs.Places.{IsNone, KeepsPages}
 use Rattle.page_chain.specs.Links.{AreFree}
 use Rattle.chunk_map.specs.declared.directory.Directory.{Directory}
 use Rattle.logical_plan.specs.declared.names.Names.{Names}
-use Rattle.plan_changes.specs.declared.change.Change.{Change}
-use Rattle.plan_changes.specs.declared.change.Change.TheVariants.{Create, Store, Insert, Remove, RemoveVersions}
-use Rattle.plan_changes.specs.Allowed.{names_allow}
-use Rattle.plan_changes.specs.Databases.{Database, after}
+use Rattle.next_files.specs.Change.{Change}
+use Rattle.next_files.specs.Change.TheVariants.{Create, Store, Insert, Remove, RemoveVersions}
+use Rattle.next_files.specs.Allowed.{names_allow}
+use Rattle.next_files.specs.Databases.{Database, after}
 use Rattle.next_files.specs.BlobAt.{BlobAt}
 use Rattle.next_files.specs.Catalog.{Catalog}
 use Rattle.next_files.specs.CatalogRecord.{CatalogRecord}

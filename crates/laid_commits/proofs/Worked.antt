@@ -6,7 +6,7 @@ use Rattle.chunk_map.specs.Spelling.{spelling as directory_spelling, spell_entry
 use Rattle.chunk_rle.specs.Chunks.{spelling as payload_spelling}
 use Rattle.chunk_rle.specs.Spelling.{spell_runs, spell_value}
 use Rattle.chunk_rle.specs.Table.{is_same}
-use Rattle.plan_changes.specs.Stored.{AreStored}
+use Rattle.next_files.specs.Stored.{AreStored}
 use Rattle.next_files.specs.Catalogs.{IsCatalog, names_in}
 use Rattle.next_files.specs.Spelling.{spelling}
 use Rattle.commit_pages.specs.Costs.{catalog_of}

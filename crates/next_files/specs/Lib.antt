@@ -11,6 +11,12 @@ pub use Rattle.file_laws.specs.Records
 pub use Rattle.file_laws.specs.Slots
 pub use Rattle.file_laws.specs.Spelling
 pub use Rattle.file_laws.specs.Standing
+pub use Rattle.plan_changes.specs.Allowed
+pub use Rattle.plan_changes.specs.Changes
+pub use Rattle.plan_changes.specs.Databases
+pub use Rattle.plan_changes.specs.Stored
+pub use Rattle.plan_changes.specs.Typed
+pub use Rattle.plan_changes.specs.declared.change.Change
 pub mod Inner
 pub mod Laws
 pub mod Next
