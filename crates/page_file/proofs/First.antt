@@ -7,8 +7,8 @@ use Rattle.std.proofs.lemmas.List.{get_or_append_left, get_or-append_right, get_
 use Rattle.std.proofs.lemmas.Grind.{same_number_lists}
 use Rattle.std.proofs.lemmas.Bool.{cases_lt}
 use Rattle.std.proofs.lemmas.Bool.Decides.{nat_tests}
-use Rattle.afl_outside.specs.Disk.{written}
-use Rattle.afl_outside.specs.Lemmas.TornLaws.{Torn-written}
+use Rattle.page_slots.specs.Disk.{written}
+use Rattle.page_slots.specs.TornLaws.{Torn-written}
 use Rattle.page_layout.specs.Places.{number_at, SameBut}
 use Rattle.page_layout.specs.Roots.{has_front, text_number, root_at, slot_in, current}
 use Rattle.page_layout.specs.declared.sides.Side.TheVariants.{A, B}

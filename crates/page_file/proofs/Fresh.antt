@@ -1,6 +1,6 @@
 -- What was read is what is known.
 use Rattle.std.proofs.Common.{ℕ, List, length, Option, None, refl, sym, subst, arith}
-use Rattle.afl_outside.specs.Disk.{Only}
+use Rattle.page_slots.specs.Disk.{Only}
 use Rattle.page_layout.specs.Places.{other}
 use Rattle.page_layout.specs.Opens.{HasLog, OpensAs}
 use Rattle.page_layout.specs.declared.sides.Format.{Format}

@@ -1,7 +1,7 @@
 -- A page that was written stands there after the log entry was.
 use Rattle.std.proofs.Common.{◌≡◌, ◌≢◌, ◌<◌, ◌≤◌, ℕ, zero, suc, ◌+◌, Bool, List, [], ◌∷◌, length, slice_index, IsTrue, Option, Some, None, IfSome, sym, ◌∙◌, ap, subst, arith}
-use Rattle.afl_outside.proofs.Moments.{seeing, telling}
-use Rattle.afl_outside.specs.Disk.{DiskState, DiskGoesOn, Torn, Only}
+use Rattle.page_slots.proofs.Moments.{seeing, telling}
+use Rattle.page_slots.specs.Disk.{DiskState, DiskGoesOn, Torn, Only}
 use Rattle.page_layout.specs.Places.{gate_of, body_of, IsNone, KeepsPages, IsPage}
 use Rattle.page_layout.specs.declared.sides.Side.{Side}
 use Rattle.page_layout.specs.declared.sides.Side.TheVariants.{A, B}

@@ -1,7 +1,7 @@
 -- A slot that was opened, or may be open.
 use Rattle.std.proofs.Common.{◌≡◌, ◌⊎◌, inl, inr, ⊎_elim, ℕ, true, false, List, [], ◌∷◌, ◌++◌, IsTrue, Option, Some, None, IfSome, ◌∙◌, ap, subst}
-use Rattle.afl_outside.proofs.Moments.{seeing}
-use Rattle.afl_outside.specs.Disk.{DiskState, Follows, Torn}
+use Rattle.page_slots.proofs.Moments.{seeing}
+use Rattle.page_slots.specs.Disk.{DiskState, Follows, Torn}
 use Rattle.page_layout.specs.Places.{other}
 use Rattle.page_layout.specs.Opens.{OpensAs}
 use Rattle.page_layout.specs.declared.sides.Format.TheVariants.{Two}

@@ -1,8 +1,8 @@
 -- Pages that aren't page 0 or the log page were written: the slots stay sound.
 use Rattle.std.proofs.Common.{◌≡◌, ◌<◌, ◌≤◌, ℕ, ◌+◌, ◌-◌, ◌*◌, true, false, List, length, slice_index, Option, Some, None, IfSome, sym, ◌∙◌, ap, subst, arith}
 use Rattle.std.proofs.lemmas.Bool.Decides.{nat_tests}
-use Rattle.afl_outside.proofs.Moments.{moment_at, seeing, stated}
-use Rattle.afl_outside.specs.Disk.{DiskState, Follows, LeavesOnly}
+use Rattle.page_slots.proofs.Moments.{moment_at, seeing, stated}
+use Rattle.page_slots.specs.Disk.{DiskState, Follows, LeavesOnly}
 use Rattle.page_layout.specs.Places.{other, IsNone, KeepsPages, SameBut}
 use Rattle.page_layout.specs.Roots.{has_front}
 use Rattle.page_layout.specs.declared.sides.Format.{Format}

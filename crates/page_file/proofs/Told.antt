@@ -1,7 +1,7 @@
 -- From a page that was read to the file.
 use Rattle.std.proofs.Common.{◌≡◌, ◌≢◌, ◌<◌, ◌≤◌, inl, inr, ℕ, ◌+◌, ◌*◌, List, length, slice_index, nat_le, ◌==◌, ◌&&◌, ◌||◌, if◌then◌else◌, Bool, true, false, MatchBool, Option, Some, None, IfSome, IfOk, Result, Ok, Err, refl, sym, ◌∙◌, ap, subst, arith}
 use Rattle.std.proofs.lemmas.Bool.Decides.{nat_tests}
-use Rattle.afl_outside.specs.Disk.{DiskState, Only}
+use Rattle.page_slots.specs.Disk.{DiskState, Only}
 use Rattle.page_layout.specs.Places.{number_at, gate_of, body_of, other}
 use Rattle.page_layout.specs.Roots.{has_front, slot_in, newer, current, text_number}
 use Rattle.page_layout.specs.Logs.{HasStray}

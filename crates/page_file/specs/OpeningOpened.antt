@@ -1,7 +1,7 @@
 -- What opening a file answers.
 use Rattle.std.specs.Prelude.{◌≡◌, ℕ, ◌+◌, ◌*◌, ◌<◌, ◌≤◌, ◌⊎◌, List, length, slice_index, false, Some, None, Result, Ok, Err}
-use Rattle.afl_outside.specs.Counts.{Rose}
-use Rattle.afl_outside.specs.Disk.{DiskState}
+use Rattle.page_slots.specs.Counts.{Rose}
+use Rattle.page_slots.specs.Disk.{DiskState}
 use Rattle.page_layout.specs.Places.{other, IsPage}
 use Rattle.page_layout.specs.Roots.{current}
 use Rattle.page_layout.specs.Logs.{IsLog, HasStray}

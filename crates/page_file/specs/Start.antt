@@ -1,7 +1,7 @@
 -- The file of an empty database.
 use Rattle.std.specs.Prelude.{◌≡◌, ◌≢◌, ℕ, ◌*◌, List, [], ◌∷◌, length, Result, Ok, Err}
-use Rattle.afl_outside.specs.Counts.{Rose}
-use Rattle.afl_outside.specs.Disk.{DiskState}
+use Rattle.page_slots.specs.Counts.{Rose}
+use Rattle.page_slots.specs.Disk.{DiskState}
 use Rattle.page_layout.specs.Opens.{OpensAs}
 use Rattle.page_layout.specs.declared.sides.Side.TheVariants.{A}
 use Rattle.page_layout.specs.declared.sides.Format.TheVariants.{Two}

@@ -6,7 +6,7 @@ ghost use Rattle.page_layout.specs.Places.{other, IsNone, KeepsPages};
 ghost use Rattle.page_layout.specs.declared.sides.Format.TheVariants.{Two};
 ghost use Rattle.page_slots.specs.declared.slots.RootSlot.TheVariants as roots;
 ghost use Rattle.page_slots.specs.declared.slots.NextEntry.TheVariants as entries;
-ghost use Rattle.afl_outside.specs.Disk.{DiskGoesOn, Only};
+ghost use Rattle.page_slots.specs.Disk.{DiskGoesOn, Only};
 ghost use Rattle.page_chain.specs.Pages.{page_size, pages_for};
 ghost use Rattle.page_chain.specs.Chains.{content_size, HoldsChain};
 ghost use Rattle.page_chain.specs.Inner.Runs.{OnlyWrites, Sees};
@@ -16,8 +16,8 @@ ghost use Rattle.page_slots.specs.Standing.{root_in, IsClosed, IsSound, IsTarget
 ghost use Rattle.page_slots.specs.declared.slots.Target.TheVariants as targets;
 
 use crate::files::PageFile;
-use afl_outside::{Disk, Failed};
 use page_layout::{RecordAt, Root};
+use page_slots::{Disk, Failed};
 
 /// A write within a page that each image has, also one that was torn, is a write of that page.
 pub fn puts_are_writes<D: Disk>()

@@ -1,3 +1,4 @@
+pub use Rattle.afl_outside.proofs.Moments
 pub mod Bytes
 pub mod EntryCommits
 pub mod Lies

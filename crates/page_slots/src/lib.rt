@@ -8,6 +8,7 @@ mod slots;
 mod steps;
 mod torn;
 
+pub use afl_outside::{Disk, Failed, has_risen};
 pub use commits::{close_slot, open_slot, write_record, write_root};
 pub use images::{images_open, images_open_as_current, opens_as_one_root, slots_lie_in_pages};
 pub use slots::{NextEntry, RootSlot, Slots, Target};

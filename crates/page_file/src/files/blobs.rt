@@ -1,7 +1,7 @@
 //! Blobs and chains in a database's file.
 ghost use Rattle.std.specs.Prelude.{◌≡◌, ℕ, List, [], ◌∷◌, ◌<◌, ◌/◌, length, slice_index_or, IfSome, IfOk, IfErr, OnOk, IsErrOf, MatchResult};
-ghost use Rattle.afl_outside.specs.Disk.{FailsWithCause};
-ghost use Rattle.afl_outside.specs.Counts.{Rose};
+ghost use Rattle.page_slots.specs.Disk.{FailsWithCause};
+ghost use Rattle.page_slots.specs.Counts.{Rose};
 ghost use Rattle.page_layout.specs.Places.{KeepsPages};
 ghost use Rattle.page_layout.specs.declared.logs.RecordAt.{RecordAt};
 ghost use Rattle.page_chain.specs.Pages.{page_size, pages_for, IsBlobRead, HoldsBlob};
@@ -13,10 +13,10 @@ ghost use Rattle.page_file.specs.OpeningOpened.{IsDeviceFault};
 ghost use Rattle.page_file.specs.Written.{MayWrite, pages_written, blob_written};
 
 use crate::files::PageFile;
-use afl_outside::{Disk, Failed, has_risen};
 use cell_values::{Bytes, List};
 use page_chain::{BlobFault, Link, OpenCause};
 use page_layout::Root;
+use page_slots::{Disk, Failed, has_risen};
 use std::alloc::Global;
 
 impl<D: Disk> PageFile<D> {

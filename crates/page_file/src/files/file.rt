@@ -1,6 +1,6 @@
 //! A database's file.
 ghost use Rattle.std.specs.Prelude.{◌≡◌, ℕ, List, ◌<◌, ◌+◌, true, false, IsTrue, IfSome, IfOk, IfErr, OnOk, Ok, Err, MatchResult};
-ghost use Rattle.afl_outside.specs.Disk.{FailsWithCause, Only};
+ghost use Rattle.page_slots.specs.Disk.{FailsWithCause, Only};
 ghost use Rattle.page_layout.specs.Places.{body_of, other};
 ghost use Rattle.page_slots.specs.Puts.{OnlyPuts, OnlySyncs};
 ghost use Rattle.page_slots.specs.Standing.{entry_gate, gate_place, IsTarget, IsShut, IsReady, IsShutRoot};
@@ -13,10 +13,9 @@ ghost use Rattle.page_file.specs.Inner.Aims.{target_of, IsAim};
 ghost use Rattle.page_file.specs.OpeningOpened.{IsOpened, AreFresh, HasCause};
 
 use crate::opening::open_slots;
-use afl_outside::{Disk, Failed};
 use page_chain::OpenCause;
 use page_layout::{RecordAt, Root, Side, Slot};
-use page_slots::{Slots, Target};
+use page_slots::{Disk, Failed, Slots, Target};
 use std::marker::Model;
 
 fn target_of(slot: Slot) -> Target

@@ -1,13 +1,13 @@
 //! The first pages of a file.
 ghost use Rattle.std.specs.Prelude.{◌≡◌, ◌≢◌, ℕ, List, length, Some, IfSome, IfErr, IsTrue, OnOk};
-ghost use Rattle.afl_outside.specs.Disk.{DiskGoesOn, FailsWithCause, Only};
+ghost use Rattle.page_slots.specs.Disk.{DiskGoesOn, FailsWithCause, Only};
 ghost use Rattle.page_slots.specs.Puts.{OnlySyncs};
 ghost use Rattle.page_file.specs.Start.{IsEmptyDatabase, IsInit, HasCause, IsDeviceFault, WhereNotEmpty};
 ghost use Rattle.page_file.specs.Inner.Laid.{Lays, laid, made};
 
 use crate::making::InitFault;
-use afl_outside::{Disk, Failed, has_risen};
 use page_layout::{PAGE, Root, Side, root_body};
+use page_slots::{Disk, Failed, has_risen};
 
 /// `AFLSTORE`, and the format 2.
 const HEAD: [u8; 12] = [65, 70, 76, 83, 84, 79, 82, 69, 2, 0, 0, 0];

@@ -2,17 +2,16 @@
 ghost use Rattle.std.specs.Prelude.{◌≡◌, ◌≤◌, length, slice_index, false, IsTrue, Some, None, IfSome, OnOk, IfOk, IfErr};
 ghost use Rattle.page_slots.specs.Puts.{OnlySyncs};
 ghost use Rattle.page_slots.specs.Standing.{IsSound, OtherHolds};
-ghost use Rattle.afl_outside.specs.Disk.{IsSettled};
+ghost use Rattle.page_slots.specs.Disk.{IsSettled};
 ghost use Rattle.page_layout.specs.Places.{gate_of, other};
 ghost use Rattle.page_layout.specs.Roots.{current};
 ghost use Rattle.page_slots.specs.Steps.{first_target};
 ghost use Rattle.page_file.specs.OpeningOpened.{FrontRead, PageLog, LogRead, RecordsRead, IsRead, IsOpened, AreFresh, HasCause};
 
 use crate::opening::reads::{read_page, settle};
-use afl_outside::Disk;
 use page_chain::OpenCause;
 use page_layout::{Format, LOG_ENTRIES, OpenRoot, PAGE, Records, Side, current_in, log_in};
-use page_slots::{NextEntry, RootSlot, Slots, Target};
+use page_slots::{Disk, NextEntry, RootSlot, Slots, Target};
 
 fn front_of(page: &[u8]) -> Result<(OpenRoot, RootSlot), OpenCause>
     requires { length page.now ≡ 4096 }

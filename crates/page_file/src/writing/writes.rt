@@ -1,6 +1,6 @@
 //! Blobs and chains, written beside the slots.
 ghost use Rattle.std.specs.Prelude.{◌≡◌, nat_eq, length, OnOk, MatchResult};
-ghost use Rattle.afl_outside.specs.Disk.{FailsWithCause};
+ghost use Rattle.page_slots.specs.Disk.{FailsWithCause};
 ghost use Rattle.std.specs.List.{list_all, list_any};
 ghost use Rattle.page_layout.specs.Places.{KeepsPages};
 ghost use Rattle.page_chain.specs.Pages.{page_size, pages_for, HoldsBlob};
@@ -10,8 +10,7 @@ ghost use Rattle.page_slots.specs.Standing.{IsClosed, KeepsSound, LeavesOpening}
 ghost use Rattle.page_slots.specs.Steps.{emptied};
 ghost use Rattle.page_file.specs.Written.{MayWrite, unwritten, zeroed_by, pages_written, blob_written};
 
-use afl_outside::{Disk, Failed};
-use page_slots::Slots;
+use page_slots::{Disk, Failed, Slots};
 
 fn is_among(pages: &[u32], page: u32) -> bool
     ensures { result ≡ list_any (λ other. nat_eq other page) pages.now }

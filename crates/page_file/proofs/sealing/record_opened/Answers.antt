@@ -1,5 +1,5 @@
 use Rattle.std.proofs.Common.{◌⊎◌, [], ◌∷◌, ◌++◌, subst, arith}
-use Rattle.afl_outside.specs.Disk.{Torn}
+use Rattle.page_slots.specs.Disk.{Torn}
 use Rattle.page_layout.specs.Opens.{OpensAs}
 use Rattle.page_slots.specs.Standing.{gate_place, entry_gate}
 use Rattle.page_slots.specs.declared.slots.Target.{Target}

@@ -1,5 +1,5 @@
 use Rattle.std.proofs.Common.{◌⊎◌, [], subst}
-use Rattle.afl_outside.specs.Disk.{Torn}
+use Rattle.page_slots.specs.Disk.{Torn}
 use Rattle.page_layout.specs.Places.{other, gate_of}
 use Rattle.page_layout.specs.Opens.{OpensAs}
 use Rattle.page_layout.specs.declared.sides.Format.TheVariants.{Two}
