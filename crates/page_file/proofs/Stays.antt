@@ -3,11 +3,11 @@ use Rattle.std.proofs.Common.{◌≡◌, ◌<◌, ◌≤◌, ℕ, ◌+◌, ◌-�
 use Rattle.std.proofs.lemmas.Bool.Decides.{nat_tests}
 use Rattle.page_slots.proofs.Moments.{moment_at, seeing, stated}
 use Rattle.page_slots.specs.Disk.{DiskState, Follows, LeavesOnly}
-use Rattle.page_layout.specs.Places.{other, IsNone, KeepsPages, SameBut}
-use Rattle.page_layout.specs.Roots.{has_front}
-use Rattle.page_layout.specs.declared.sides.Format.{Format}
-use Rattle.page_layout.specs.declared.sides.Format.TheVariants.{One, Two}
-use Rattle.page_layout.specs.declared.logs.RecordAt.{RecordAt}
+use Rattle.page_slots.specs.Places.{other, IsNone, KeepsPages, SameBut}
+use Rattle.page_slots.specs.Roots.{has_front}
+use Rattle.page_slots.specs.Format.{Format}
+use Rattle.page_slots.specs.Format.TheVariants.{One, Two}
+use Rattle.page_slots.specs.RecordAt.{RecordAt}
 use Rattle.page_chain.specs.Inner.Runs.{Over, OnlyWrites, Sees}
 use Rattle.page_slots.specs.Standing.{Holds, LogHolds, IsClosed, IsSound, IsAlone, IsStillRoot, ZeroHolds, filled_gate, entry_gate, KeepsSound, LeavesOpening, MayOpen}
 use Rattle.page_slots.specs.Steps.{emptied_root, emptied_entry, emptied}

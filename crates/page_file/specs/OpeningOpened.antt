@@ -2,13 +2,13 @@
 use Rattle.std.specs.Prelude.{◌≡◌, ℕ, ◌+◌, ◌*◌, ◌<◌, ◌≤◌, ◌⊎◌, List, length, slice_index, false, Some, None, Result, Ok, Err}
 use Rattle.page_slots.specs.Counts.{Rose}
 use Rattle.page_slots.specs.Disk.{DiskState}
-use Rattle.page_layout.specs.Places.{other, IsPage}
-use Rattle.page_layout.specs.Roots.{current}
-use Rattle.page_layout.specs.Logs.{IsLog, HasStray}
-use Rattle.page_layout.specs.Opens.{HasLog, OpensAs, WrongAt}
-use Rattle.page_layout.specs.declared.sides.Format.TheVariants.{Two}
-use Rattle.page_layout.specs.declared.roots.OpenRoot.{OpenRoot}
-use Rattle.page_layout.specs.declared.logs.RecordAt.{RecordAt}
+use Rattle.page_slots.specs.Places.{other, IsPage}
+use Rattle.page_slots.specs.Roots.{current}
+use Rattle.page_slots.specs.Logs.{IsLog, HasStray}
+use Rattle.page_slots.specs.Opens.{HasLog, OpensAs, WrongAt}
+use Rattle.page_slots.specs.Format.TheVariants.{Two}
+use Rattle.page_slots.specs.OpenRoot.{OpenRoot}
+use Rattle.page_slots.specs.RecordAt.{RecordAt}
 use Rattle.page_slots.specs.Standing.{OtherHolds}
 use Rattle.page_slots.specs.declared.slots.RootSlot.{RootSlot}
 use Rattle.page_slots.specs.declared.slots.RootSlot.TheVariants as roots

@@ -1,9 +1,9 @@
 //! What a sealed commit leaves.
 
 ghost use Rattle.std.specs.Prelude.{◌≡◌, ◌≢◌, ◌<◌, ◌≤◌, ◌⊎◌, ◌+◌, ◌*◌, ◌∷◌, ◌++◌, [], ℕ, List, length, false, IsTrue, Some, IfSome, OnOk, OnErr};
-ghost use Rattle.page_layout.specs.Opens.{OpensAs};
-ghost use Rattle.page_layout.specs.Places.{other, IsNone, KeepsPages};
-ghost use Rattle.page_layout.specs.declared.sides.Format.TheVariants.{Two};
+ghost use Rattle.page_slots.specs.Opens.{OpensAs};
+ghost use Rattle.page_slots.specs.Places.{other, IsNone, KeepsPages};
+ghost use Rattle.page_slots.specs.Format.TheVariants.{Two};
 ghost use Rattle.page_slots.specs.declared.slots.RootSlot.TheVariants as roots;
 ghost use Rattle.page_slots.specs.declared.slots.NextEntry.TheVariants as entries;
 ghost use Rattle.page_slots.specs.Disk.{DiskGoesOn, Only};
@@ -16,8 +16,7 @@ ghost use Rattle.page_slots.specs.Standing.{root_in, IsClosed, IsSound, IsTarget
 ghost use Rattle.page_slots.specs.declared.slots.Target.TheVariants as targets;
 
 use crate::files::PageFile;
-use page_layout::{RecordAt, Root};
-use page_slots::{Disk, Failed};
+use page_slots::{Disk, Failed, RecordAt, Root};
 
 /// A write within a page that each image has, also one that was torn, is a write of that page.
 pub fn puts_are_writes<D: Disk>()

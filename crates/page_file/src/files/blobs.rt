@@ -2,8 +2,8 @@
 ghost use Rattle.std.specs.Prelude.{◌≡◌, ℕ, List, [], ◌∷◌, ◌<◌, ◌/◌, length, slice_index_or, IfSome, IfOk, IfErr, OnOk, IsErrOf, MatchResult};
 ghost use Rattle.page_slots.specs.Disk.{FailsWithCause};
 ghost use Rattle.page_slots.specs.Counts.{Rose};
-ghost use Rattle.page_layout.specs.Places.{KeepsPages};
-ghost use Rattle.page_layout.specs.declared.logs.RecordAt.{RecordAt};
+ghost use Rattle.page_slots.specs.Places.{KeepsPages};
+ghost use Rattle.page_slots.specs.RecordAt.{RecordAt};
 ghost use Rattle.page_chain.specs.Pages.{page_size, pages_for, IsBlobRead, HoldsBlob};
 ghost use Rattle.page_chain.specs.Chains.{content_size, IsChainRead, HoldsChain};
 ghost use Rattle.page_chain.specs.Inner.Runs.{OnlyReads, OnlyWrites, Sees};
@@ -15,8 +15,7 @@ ghost use Rattle.page_file.specs.Written.{MayWrite, pages_written, blob_written}
 use crate::files::PageFile;
 use cell_values::{Bytes, List};
 use page_chain::{BlobFault, Link, OpenCause};
-use page_layout::Root;
-use page_slots::{Disk, Failed, has_risen};
+use page_slots::{Disk, Failed, Root, has_risen};
 use std::alloc::Global;
 
 impl<D: Disk> PageFile<D> {

@@ -1,7 +1,7 @@
 //! A database's file.
 ghost use Rattle.std.specs.Prelude.{◌≡◌, ℕ, List, ◌<◌, ◌+◌, true, false, IsTrue, IfSome, IfOk, IfErr, OnOk, Ok, Err, MatchResult};
 ghost use Rattle.page_slots.specs.Disk.{FailsWithCause, Only};
-ghost use Rattle.page_layout.specs.Places.{body_of, other};
+ghost use Rattle.page_slots.specs.Places.{body_of, other};
 ghost use Rattle.page_slots.specs.Puts.{OnlyPuts, OnlySyncs};
 ghost use Rattle.page_slots.specs.Standing.{entry_gate, gate_place, IsTarget, IsShut, IsReady, IsShutRoot};
 ghost use Rattle.page_slots.specs.Standing.{IsShutEntry, IsSound, KeepsSound, LeavesOpening, IsDurable};
@@ -14,8 +14,7 @@ ghost use Rattle.page_file.specs.OpeningOpened.{IsOpened, AreFresh, HasCause};
 
 use crate::opening::open_slots;
 use page_chain::OpenCause;
-use page_layout::{RecordAt, Root, Side, Slot};
-use page_slots::{Disk, Failed, Slots, Target};
+use page_slots::{Disk, Failed, RecordAt, Root, Side, Slot, Slots, Target};
 use std::marker::Model;
 
 fn target_of(slot: Slot) -> Target

@@ -6,8 +6,7 @@ ghost use Rattle.page_file.specs.Start.{IsEmptyDatabase, IsInit, HasCause, IsDev
 ghost use Rattle.page_file.specs.Inner.Laid.{Lays, laid, made};
 
 use crate::making::InitFault;
-use page_layout::{PAGE, Root, Side, root_body};
-use page_slots::{Disk, Failed, has_risen};
+use page_slots::{Disk, Failed, PAGE, Root, Side, has_risen, root_body};
 
 /// `AFLSTORE`, and the format 2.
 const HEAD: [u8; 12] = [65, 70, 76, 83, 84, 79, 82, 69, 2, 0, 0, 0];

@@ -3,15 +3,17 @@ ghost use Rattle.std.specs.Prelude.{◌≡◌, ◌≤◌, length, slice_index, f
 ghost use Rattle.page_slots.specs.Puts.{OnlySyncs};
 ghost use Rattle.page_slots.specs.Standing.{IsSound, OtherHolds};
 ghost use Rattle.page_slots.specs.Disk.{IsSettled};
-ghost use Rattle.page_layout.specs.Places.{gate_of, other};
-ghost use Rattle.page_layout.specs.Roots.{current};
+ghost use Rattle.page_slots.specs.Places.{gate_of, other};
+ghost use Rattle.page_slots.specs.Roots.{current};
 ghost use Rattle.page_slots.specs.Steps.{first_target};
 ghost use Rattle.page_file.specs.OpeningOpened.{FrontRead, PageLog, LogRead, RecordsRead, IsRead, IsOpened, AreFresh, HasCause};
 
 use crate::opening::reads::{read_page, settle};
 use page_chain::OpenCause;
-use page_layout::{Format, LOG_ENTRIES, OpenRoot, PAGE, Records, Side, current_in, log_in};
-use page_slots::{Disk, NextEntry, RootSlot, Slots, Target};
+use page_slots::{
+    Disk, Format, LOG_ENTRIES, NextEntry, OpenRoot, PAGE, Records, RootSlot, Side, Slots, Target,
+    current_in, log_in,
+};
 
 fn front_of(page: &[u8]) -> Result<(OpenRoot, RootSlot), OpenCause>
     requires { length page.now ≡ 4096 }

@@ -5,8 +5,7 @@ ghost use Rattle.page_slots.specs.Puts.{OnlySyncs};
 ghost use Rattle.page_file.specs.OpeningOpened.{HasPage, CutsPage, IsDeviceFault};
 
 use page_chain::OpenCause;
-use page_layout::PAGE;
-use page_slots::{Disk, Failed, has_risen};
+use page_slots::{Disk, Failed, PAGE, has_risen};
 
 /// Reads a page, and says whether the disk has all of it.
 pub(crate) fn read_page<D: Disk>(

@@ -2,7 +2,7 @@
 ghost use Rattle.std.specs.Prelude.{◌≡◌, nat_eq, length, OnOk, MatchResult};
 ghost use Rattle.page_slots.specs.Disk.{FailsWithCause};
 ghost use Rattle.std.specs.List.{list_all, list_any};
-ghost use Rattle.page_layout.specs.Places.{KeepsPages};
+ghost use Rattle.page_slots.specs.Places.{KeepsPages};
 ghost use Rattle.page_chain.specs.Pages.{page_size, pages_for, HoldsBlob};
 ghost use Rattle.page_chain.specs.Chains.{content_size, HoldsChain};
 ghost use Rattle.page_chain.specs.Inner.Runs.{OnlyWrites, Sees};
