@@ -13,8 +13,7 @@ ghost use Rattle.page_file.specs.OpeningOpened.{IsDeviceFault};
 ghost use Rattle.page_file.specs.Written.{MayWrite, pages_written, blob_written};
 
 use crate::files::PageFile;
-use cell_values::{Bytes, List};
-use page_chain::{BlobFault, Link, OpenCause};
+use page_chain::{BlobFault, Bytes, Link, List, OpenCause};
 use page_slots::{Disk, Failed, Root, has_risen};
 use std::alloc::Global;
 
