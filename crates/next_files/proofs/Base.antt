@@ -5,10 +5,10 @@ use Rattle.std.specs.List.{AllByRecursion}
 use Rattle.page_layout.specs.Places.{IsNone}
 use Rattle.page_layout.specs.declared.roots.Root.{Root}
 use Rattle.page_layout.specs.declared.sides.Side.{Side}
-use Rattle.page_chain.specs.Pages.{page_size, has_page}
-use Rattle.page_chain.specs.Chains.{chain, chain_bytes}
-use Rattle.page_chain.specs.Links.{AreFree}
-use Rattle.page_chain.proofs.PageLaws.{chain_read}
+use Rattle.file_laws.specs.Pages.{page_size, has_page}
+use Rattle.file_laws.specs.Chains.{chain, chain_bytes}
+use Rattle.file_laws.specs.Links.{AreFree}
+use Rattle.file_laws.proofs.PageLaws.{chain_read}
 use Rattle.chunk_map.specs.declared.directory.Directory.{Directory}
 use Rattle.file_laws.specs.Catalog.{Catalog}
 use Rattle.file_laws.specs.Spelling.{spelling}

@@ -5,8 +5,8 @@ use Rattle.std.specs.List.{AllByRecursion, AllZip}
 use Rattle.cell_values.specs.declared.datum.Row.{Row}
 use Rattle.cell_values.specs.declared.schema.Schema.{Schema}
 use Rattle.page_layout.specs.Places.{IsNone, KeepsPages}
-use Rattle.page_chain.specs.Pages.{page_size, has_page, first_past}
-use Rattle.page_chain.specs.Chains.{names_page}
+use Rattle.file_laws.specs.Pages.{page_size, has_page, first_past}
+use Rattle.file_laws.specs.Chains.{names_page}
 use Rattle.chunk_map.specs.declared.directory.DirEntry.{DirEntry}
 use Rattle.chunk_map.specs.declared.directory.Directory.{Directory}
 use Rattle.chunk_map.specs.Entries.{AreRising}

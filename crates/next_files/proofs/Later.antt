@@ -5,7 +5,7 @@ use Rattle.std.proofs.lemmas.Bool.Decides.{nat_tests}
 use Rattle.file_items.specs.Items.{◌>>=◌}
 use Rattle.cell_values.specs.declared.schema.Dimension.{Dimension}
 use Rattle.chunk_map.specs.Geometry.{has_core}
-use Rattle.page_chain.specs.Pages.{page_size, blob}
+use Rattle.file_laws.specs.Pages.{page_size, blob}
 use Rattle.chunk_map.specs.declared.directory.DirEntry.{DirEntry}
 use Rattle.chunk_map.specs.declared.directory.Directory.{Directory}
 use Rattle.chunk_map.specs.Table.{directory_in}

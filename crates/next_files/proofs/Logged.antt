@@ -5,8 +5,8 @@ use Rattle.std.specs.List.{list_any}
 use Rattle.std.proofs.lemmas.Bool.Decides.{nat_tests}
 use Rattle.page_layout.specs.Places.{IsNone}
 use Rattle.page_layout.specs.declared.logs.RecordAt.{RecordAt}
-use Rattle.page_chain.specs.Pages.{page_size}
-use Rattle.page_chain.specs.Chains.{chain, chain_bytes}
+use Rattle.file_laws.specs.Pages.{page_size}
+use Rattle.file_laws.specs.Chains.{chain, chain_bytes}
 use Rattle.file_laws.specs.Catalog.{Catalog}
 use Rattle.file_laws.specs.CatalogRecord.{CatalogRecord}
 use Rattle.file_laws.specs.CatalogRecord.TheVariants.{Create, First, Next, Remove, RemoveVersions}

@@ -5,10 +5,10 @@ use Rattle.std.specs.List.{AllByRecursion, list_any}
 use Rattle.std.proofs.lemmas.List.{length-append}
 use Rattle.page_layout.specs.Places.{IsNone}
 use Rattle.page_layout.specs.declared.logs.RecordAt.{RecordAt}
-use Rattle.page_chain.specs.Pages.{page_size, has_page}
-use Rattle.page_chain.specs.Chains.{chain, chain_bytes}
-use Rattle.page_chain.specs.Links.{AreFree}
-use Rattle.page_chain.proofs.PageLaws.{chain_read}
+use Rattle.file_laws.specs.Pages.{page_size, has_page}
+use Rattle.file_laws.specs.Chains.{chain, chain_bytes}
+use Rattle.file_laws.specs.Links.{AreFree}
+use Rattle.file_laws.proofs.PageLaws.{chain_read}
 use Rattle.plan_changes.specs.Names.{Names}
 use Rattle.plan_changes.specs.declared.change.Change.{Change}
 use Rattle.plan_changes.specs.Allowed.{names_allow}

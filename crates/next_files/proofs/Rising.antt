@@ -11,7 +11,7 @@ use Rattle.chunk_map.specs.Link.{number_order}
 use Rattle.cell_values.specs.declared.schema.Dimension.{Dimension}
 use Rattle.file_items.specs.Items.{Reading, number_at, item, repeat, counted, Are}
 use Rattle.file_items.proofs.BytesLaws.{bind_ok, test_ok, ok_is}
-use Rattle.page_chain.specs.Pages.{page_size, blob}
+use Rattle.file_laws.specs.Pages.{page_size, blob}
 use Rattle.chunk_map.specs.declared.directory.DirEntry.{DirEntry}
 use Rattle.chunk_map.specs.declared.directory.Directory.{Directory}
 use Rattle.chunk_map.specs.Entries.{AreRising}

@@ -5,8 +5,8 @@ use Rattle.std.specs.List.{AllByRecursion}
 use Rattle.file_items.specs.Items.{◌>>=◌}
 use Rattle.cell_values.specs.declared.schema.Dimension.{Dimension}
 use Rattle.page_layout.specs.Places.{IsNone}
-use Rattle.page_chain.specs.Pages.{page_size, blob}
-use Rattle.page_chain.specs.Chains.{names_page}
+use Rattle.file_laws.specs.Pages.{page_size, blob}
+use Rattle.file_laws.specs.Chains.{names_page}
 use Rattle.chunk_map.specs.declared.directory.DirEntry.{DirEntry}
 use Rattle.chunk_map.specs.declared.directory.Directory.{Directory}
 use Rattle.chunk_map.specs.Entries.{AreRising}

@@ -6,9 +6,9 @@ use Rattle.cell_values.specs.declared.schema.Dimension.{Dimension}
 use Rattle.array_rows.specs.Boxes.{by_pairs}
 use Rattle.page_layout.specs.Places.{IsNone}
 use Rattle.page_layout.specs.declared.logs.RecordAt.{RecordAt}
-use Rattle.page_chain.specs.Pages.{page_size}
-use Rattle.page_chain.specs.Chains.{names_page}
-use Rattle.page_chain.proofs.LinkLaws.{chain_linked}
+use Rattle.file_laws.specs.Pages.{page_size}
+use Rattle.file_laws.specs.Chains.{names_page}
+use Rattle.file_laws.proofs.LinkLaws.{chain_linked}
 use Rattle.chunk_map.specs.declared.directory.DirEntry.{DirEntry}
 use Rattle.chunk_map.specs.declared.directory.Directory.{Directory}
 use Rattle.file_laws.specs.BlobAt.{BlobAt}

@@ -9,9 +9,9 @@ use Rattle.cell_values.specs.declared.schema.Schema.{Schema}
 use Rattle.cell_values.specs.Schemas.{IsValid, is_valid, has_attributes, has_dimensions, are_distinct, names_of as names_in_schema, is_dimension, frame_fits}
 use Rattle.chunk_map.specs.Geometry.{has_core}
 use Rattle.page_layout.specs.Places.{IsNone, KeepsPages}
-use Rattle.page_chain.specs.Pages.{page_size, has_page, first_past, blob}
-use Rattle.page_chain.specs.Chains.{names_page}
-use Rattle.page_chain.proofs.PageLaws.{blob_read}
+use Rattle.file_laws.specs.Pages.{page_size, has_page, first_past, blob}
+use Rattle.file_laws.specs.Chains.{names_page}
+use Rattle.file_laws.proofs.PageLaws.{blob_read}
 use Rattle.chunk_map.specs.declared.directory.DirEntry.{DirEntry}
 use Rattle.chunk_map.specs.Spelling.{spelling}
 use Rattle.chunk_map.specs.Table.{directory_in}

@@ -2,9 +2,9 @@
 use Rattle.std.proofs.Common.{◌≡◌, ◌≢◌, ◌<◌, ◌≤◌, inr, ℕ, zero, suc, ◌+◌, ◌*◌, List, [], ◌∷◌, ◌++◌, length, slice_index, None, Ok, refl, sym, ◌∙◌, ap, subst, arith}
 use Rattle.page_layout.specs.Places.{IsNone, KeepsPages, number_at}
 use Rattle.page_layout.specs.declared.sides.Side.TheVariants.{B}
-use Rattle.page_chain.specs.Pages.{page_size, page_at}
-use Rattle.page_chain.specs.Chains.{chain_piece}
-use Rattle.page_chain.specs.Links.{AreFree}
+use Rattle.file_laws.specs.Pages.{page_size, page_at}
+use Rattle.file_laws.specs.Chains.{chain_piece}
+use Rattle.file_laws.specs.Links.{AreFree}
 use Rattle.file_laws.specs.Catalog.{Catalog}
 use Rattle.file_laws.specs.Catalogs.{IsCatalog}
 use Rattle.file_laws.specs.Spelling.{spelling}

@@ -8,8 +8,8 @@ use Rattle.page_layout.specs.declared.sides.Side.{Side}
 use Rattle.page_layout.specs.declared.sides.Format.TheVariants.{One}
 use Rattle.page_layout.specs.declared.roots.Root.{Root}
 use Rattle.page_slots.specs.Standing.{root_in}
-use Rattle.page_chain.specs.Pages.{page_size, first_past}
-use Rattle.page_chain.specs.Links.{AreFree}
+use Rattle.file_laws.specs.Pages.{page_size, first_past}
+use Rattle.file_laws.specs.Links.{AreFree}
 use Rattle.file_laws.specs.Chunks.{spelling}
 use Rattle.file_laws.specs.Stored.{IsStored}
 use Rattle.chunk_map.specs.Replacing.{AreReplaced}

@@ -11,9 +11,9 @@ use Rattle.page_layout.specs.declared.logs.RecordAt.{RecordAt}
 use Rattle.page_layout.specs.declared.roots.Root.{Root}
 use Rattle.page_layout.specs.declared.sides.Side.{Side}
 use Rattle.page_layout.specs.declared.sides.Format.TheVariants.{Two}
-use Rattle.page_chain.specs.Pages.{page_size, pages_for, first_past, HoldsBlob}
-use Rattle.page_chain.specs.Chains.{content_size, HoldsChain}
-use Rattle.page_chain.specs.Links.{AreFree}
+use Rattle.file_laws.specs.Pages.{page_size, pages_for, first_past, HoldsBlob}
+use Rattle.file_laws.specs.Chains.{content_size, HoldsChain}
+use Rattle.file_laws.specs.Links.{AreFree}
 use Rattle.chunk_map.specs.declared.directory.DirEntry.{DirEntry}
 use Rattle.chunk_map.specs.declared.directory.Directory.{Directory}
 use Rattle.chunk_map.specs.Entries.{numbers}

@@ -1,4 +1,5 @@
 pub use Rattle.page_chain.specs.Chains
+pub use Rattle.page_chain.specs.Links
 pub use Rattle.page_chain.specs.Pages
 pub use Rattle.page_slots.specs.Puts
 pub use Rattle.page_slots.specs.Standing
