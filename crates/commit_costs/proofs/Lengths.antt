@@ -7,8 +7,8 @@ use Rattle.std.proofs.lemmas.List.{length-append, length-replicate}
 use Rattle.cell_values.specs.declared.datum.Row.{Row}
 use Rattle.cell_values.specs.declared.schema.Schema.{Schema}
 use Rattle.array_rows.specs.Arrays.{AreRowsOf}
-use Rattle.array_geom.specs.Geometry.{ChunkNumber}
-use Rattle.array_geom.specs.Link.{has_cell}
+use Rattle.chunk_rle.specs.Geometry.{ChunkNumber}
+use Rattle.chunk_rle.specs.Link.{has_cell}
 use Rattle.file_items.specs.Pages.{pages_needed}
 use Rattle.file_items.specs.Spelling.{spell_name, spell_schema}
 use Rattle.event_core.specs.NameEntry.{NameEntry}

@@ -2,8 +2,8 @@
 use Rattle.std.proofs.Common.{◌≡◌, ℕ, List, [], ◌∷◌, length, refl, codes, arith}
 use Rattle.std.specs.List.{AllByRecursion}
 use Rattle.cell_values.specs.declared.datum.Row.{Row}
-use Rattle.array_geom.specs.Link.{has_cell}
-use Rattle.array_geom.proofs.NearLemmas.{valid_placed}
+use Rattle.chunk_rle.specs.Link.{has_cell}
+use Rattle.chunk_rle.proofs.NearLemmas.{valid_placed}
 use Rattle.chunk_rle.specs.Chunks.{spelling as payload_spelling}
 use Rattle.chunk_rle.specs.Spelling.{spell_runs, spell_value}
 use Rattle.chunk_rle.specs.Table.{is_same}

@@ -6,8 +6,8 @@ use Rattle.cell_values.specs.declared.datum.Row.{Row}
 use Rattle.cell_values.specs.declared.schema.Dimension.{Dimension}
 use Rattle.cell_values.specs.declared.schema.Schema.{Schema}
 use Rattle.array_rows.specs.Boxes.{within}
-use Rattle.array_geom.specs.Geometry.{ChunkNumber, chunk_of, frame, overlaps}
-use Rattle.array_geom.specs.Link.{is_listed, is_not_empty}
+use Rattle.chunk_rle.specs.Geometry.{ChunkNumber, chunk_of, frame, overlaps}
+use Rattle.chunk_rle.specs.Link.{is_listed, is_not_empty}
 use Rattle.file_items.specs.Pages.{pages_needed}
 use Rattle.chunk_rle.specs.Chunks.{spelling as payload_spelling}
 use Rattle.chunk_map.specs.declared.directory.DirEntry.{DirEntry}

@@ -6,8 +6,8 @@ use Rattle.cell_values.specs.declared.schema.Dimension.{Dimension}
 use Rattle.cell_values.specs.declared.schema.Schema.{Schema}
 use Rattle.array_rows.specs.Arrays.{AreRowsOf}
 use Rattle.array_rows.specs.Boxes.{within}
-use Rattle.array_geom.specs.Geometry.{ChunkNumber, frame, overlaps}
-use Rattle.array_geom.specs.Link.{NumbersRise, is_listed, has_cell, is_not_empty}
+use Rattle.chunk_rle.specs.Geometry.{ChunkNumber, frame, overlaps}
+use Rattle.chunk_rle.specs.Link.{NumbersRise, is_listed, has_cell, is_not_empty}
 use Rattle.file_items.specs.Pages.{pages_needed}
 use Rattle.chunk_map.specs.declared.directory.DirEntry.{DirEntry}
 use Rattle.chunk_map.specs.Entries.{numbers}
