@@ -8,7 +8,7 @@ use Rattle.plan_changes.specs.declared.change.Change.TheVariants.{Create, Store,
 use Rattle.plan_changes.specs.Names.{Names}
 use Rattle.plan_changes.specs.Allowed.{names_allow}
 use Rattle.plan_changes.specs.Changes.{newest_of, name_of}
-use Rattle.version_reaper.specs.PageSets.{holds, pages_from, pages_below}
+use Rattle.event_core.specs.PageSets.{holds, pages_from, pages_below}
 use Rattle.event_core.specs.declared.entry.Used.{Used}
 use Rattle.event_core.specs.declared.entry.Entry.TheVariants.{Pin, Unpin, Commit, Reap}
 use Rattle.event_core.specs.declared.state.VersionPages.{VersionPages}

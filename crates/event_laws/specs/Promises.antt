@@ -2,7 +2,7 @@
 use Rattle.std.specs.Prelude.{◌≡◌, ℕ, ◌+◌, ◌-◌, ◌<◌, ◌≤◌, length, ◌↔◌, Bool, true, false, not, nat_eq, [], ◌∷◌, ◌++◌, IsTrue}
 use Rattle.std.specs.List.{filter, list_all, list_any}
 use Rattle.plan_changes.specs.declared.change.Change.{Change}
-use Rattle.version_reaper.specs.PageSets.{holds, pages_below}
+use Rattle.event_core.specs.PageSets.{holds, pages_below}
 use Rattle.event_core.specs.declared.entry.Used.{Used}
 use Rattle.event_core.specs.declared.entry.Entry.{Entry}
 use Rattle.event_core.specs.declared.entry.Entry.TheVariants.{Pin, Unpin, Commit, Reap}

@@ -1,7 +1,7 @@
 -- What is computed of the worked list in which versions share a page.
 use Rattle.std.specs.Prelude.{◌≡◌, ℕ, List, [], ◌∷◌, map}
 use Rattle.std.specs.List.{filter}
-use Rattle.version_reaper.specs.PageSets.{pages_from}
+use Rattle.event_core.specs.PageSets.{pages_from}
 use Rattle.event_core.specs.History.{up_to}
 use Rattle.event_core.specs.Pages.{is_live, free_at}
 use Rattle.event_core.specs.Allowed.{IsBase}

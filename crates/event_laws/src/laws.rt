@@ -1,6 +1,6 @@
 //! What holds of each allowed history, whatever the code does.
 ghost use Rattle.std.specs.Prelude.{◌≡◌, true, ◌&&◌, [], ◌∷◌, map, length};
-ghost use Rattle.version_reaper.specs.PageSets.{holds};
+ghost use Rattle.event_core.specs.PageSets.{holds};
 ghost use Rattle.event_core.specs.History.{open_pins, catalogue_at, pages_at};
 ghost use Rattle.event_core.specs.Pages.{free_at, has_page};
 ghost use Rattle.event_core.specs.Allowed.{IsBase};
