@@ -7,7 +7,6 @@ ghost use Rattle.store_state.specs.Calls.{IsLeafOf};
 ghost use Rattle.test_readings.specs.Holds.{HasNoPins, IsHold, LeavesAll, LeavesOthers};
 ghost use Rattle.test_commits.specs.Runs.{IsRun};
 
-use array_store::Store;
 use cell_values::{Bytes, List, Memory, Name};
 use logical_plan::{Leaf, Names};
 use plan_changes::entry_named;
@@ -15,7 +14,7 @@ use std::alloc::Global;
 use std::mem::replace;
 use store_ledger::Pinned;
 use test_disks::QuietDisk;
-use test_readings::{Answer, Hold, cells, changed, leaf_of, once, pinned, unpinned};
+use test_readings::{Answer, Hold, Store, cells, changed, leaf_of, once, pinned, unpinned};
 
 /// A store, and what two sessions have of it.
 #[derive(Drop)]
