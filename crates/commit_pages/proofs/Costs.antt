@@ -26,7 +26,7 @@ use Rattle.chunk_map.specs.Replacing.{AreReplaced}
 use Rattle.chunk_map.proofs.Moves.{IsBefore}
 use Rattle.chunk_map.proofs.Replacements.{are_listed}
 use Rattle.file_items.specs.Pages.{pages_needed}
-use Rattle.logical_plan.specs.Query.{Query}
+use Rattle.plan_changes.specs.Query.{Query}
 use Rattle.plan_changes.specs.declared.change.Change.{Change}
 use Rattle.plan_changes.specs.declared.change.Change.TheVariants.{Create, Store, Insert, Remove, RemoveVersions}
 use Rattle.plan_changes.specs.Databases.{Database, fitted, new_rows, newest_rows, rows_if_whole}

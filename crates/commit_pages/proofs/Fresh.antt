@@ -15,7 +15,7 @@ use Rattle.chunk_map.specs.declared.directory.DirEntry.{DirEntry}
 use Rattle.chunk_map.specs.declared.directory.Directory.{Directory}
 use Rattle.chunk_map.specs.Entries.{AreRising}
 use Rattle.chunk_map.proofs.Moves.{IsBefore}
-use Rattle.logical_plan.specs.declared.names.Names.{Names}
+use Rattle.plan_changes.specs.Names.{Names}
 use Rattle.plan_changes.specs.declared.change.Change.{Change}
 use Rattle.version_reaper.specs.PageSets.{holds}
 use Rattle.commit_costs.specs.VersionPages.{VersionPages}

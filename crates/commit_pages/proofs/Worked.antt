@@ -13,7 +13,7 @@ use Rattle.chunk_map.specs.Spelling.{spelling as directory_spelling, spell_entry
 use Rattle.file_laws.specs.Spelling.{spell_blob, spell_record}
 use Rattle.file_items.specs.Spelling.{spell_name}
 use Rattle.page_chain.specs.Pages.{page_size}
-use Rattle.logical_plan.specs.Typing.{AreSound}
+use Rattle.plan_changes.specs.Typing.{AreSound}
 use Rattle.plan_changes.specs.Databases.{names_of}
 use Rattle.plan_changes.specs.Stored.{IsDatabase}
 use Rattle.plan_changes.specs.Typed.{IsTypedFor}

@@ -8,7 +8,7 @@ use Rattle.array_rows.specs.Arrays.{AreRowsOf}
 use Rattle.array_geom.specs.declared.chunk.Changed.{Changed}
 use Rattle.array_geom.specs.Geometry.{ChunkNumber, has_core, overlaps}
 use Rattle.array_geom.specs.Link.{IsPart, is_listed, has_cell}
-use Rattle.logical_plan.specs.declared.names.Names.{Names}
+use Rattle.plan_changes.specs.Names.{Names}
 use Rattle.chunk_map.specs.declared.directory.DirEntry.{DirEntry}
 use Rattle.chunk_map.specs.declared.directory.Directory.{Directory}
 use Rattle.chunk_map.specs.Entries.{AreRising, entry_at, numbers}
