@@ -7,9 +7,9 @@ use Rattle.std.proofs.lemmas.List.{append-nil, map-append}
 use Rattle.std.proofs.lemmas.List.Elements.{filter-append}
 use Rattle.chunk_map.specs.declared.directory.Directory.{Directory}
 use Rattle.logical_plan.specs.declared.names.NameEntry.{NameEntry}
-use Rattle.plan_changes.specs.Changes.{is_named, has_array}
-use Rattle.plan_changes.specs.Stored.{NamesRise}
-use Rattle.plan_changes.proofs.StoredLaws.{names_in, tail_rises}
+use Rattle.next_files.specs.Changes.{is_named, has_array}
+use Rattle.next_files.specs.Stored.{NamesRise}
+use Rattle.next_files.proofs.StoredLaws.{names_in, tail_rises}
 use Rattle.next_files.specs.CatalogArray.{CatalogArray}
 use Rattle.next_files.specs.Records.{entries_of}
 use Rattle.store_versions.proofs.Agree.{name_refl}

@@ -5,11 +5,11 @@ use Rattle.cell_values.specs.declared.schema.Schema.{Schema}
 use Rattle.array_rows.specs.Boxes.{by_pairs}
 use Rattle.chunk_map.specs.declared.directory.Directory.{Directory}
 use Rattle.logical_plan.specs.declared.names.NameEntry.{NameEntry}
-use Rattle.plan_changes.specs.declared.change.Change.{Change}
-use Rattle.plan_changes.specs.declared.change.Change.TheVariants.{Create, Store, Insert, Remove, RemoveVersions}
-use Rattle.plan_changes.specs.Changes.{has_array, place_of, new_entry, with_array, with_version, without_below}
-use Rattle.plan_changes.specs.Stored.{is_before}
-use Rattle.plan_changes.proofs.NamesOf.{prefix_map}
+use Rattle.next_files.specs.Change.{Change}
+use Rattle.next_files.specs.Change.TheVariants.{Create, Store, Insert, Remove, RemoveVersions}
+use Rattle.next_files.specs.Changes.{has_array, place_of, new_entry, with_array, with_version, without_below}
+use Rattle.next_files.specs.Stored.{is_before}
+use Rattle.next_files.proofs.NamesOf.{prefix_map}
 use Rattle.next_files.specs.BlobAt.{BlobAt}
 use Rattle.next_files.specs.CatalogArray.{CatalogArray}
 use Rattle.next_files.specs.Changed.{changed}

@@ -8,10 +8,10 @@ use Rattle.std.proofs.lemmas.List.{length-map}
 use Rattle.array_rows.specs.Boxes.{by_pairs}
 use Rattle.logical_plan.specs.declared.names.NameEntry.{NameEntry}
 use Rattle.logical_plan.specs.declared.names.Names.{Names}
-use Rattle.plan_changes.specs.declared.change.Change.{Change}
-use Rattle.plan_changes.specs.declared.change.Change.TheVariants.{Create, Store, Insert, Remove, RemoveVersions}
-use Rattle.plan_changes.specs.Changes.{name_of, next_of}
-use Rattle.plan_changes.proofs.StoredLaws.{all_less}
+use Rattle.next_files.specs.Change.{Change}
+use Rattle.next_files.specs.Change.TheVariants.{Create, Store, Insert, Remove, RemoveVersions}
+use Rattle.next_files.specs.Changes.{name_of, next_of}
+use Rattle.next_files.proofs.StoredLaws.{all_less}
 use Rattle.version_reaper.specs.PageSets.{holds}
 use Rattle.next_files.specs.CatalogArray.{CatalogArray}
 use Rattle.next_files.specs.Catalog.{Catalog}

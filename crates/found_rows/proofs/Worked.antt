@@ -7,11 +7,11 @@ use Rattle.cell_values.specs.declared.schema.Kind.TheVariants.{Int64}
 use Rattle.chunk_map.specs.declared.directory.DirEntry.{DirEntry}
 use Rattle.chunk_map.specs.declared.directory.Directory.{Directory}
 use Rattle.logical_plan.specs.Query.{scanned}
-use Rattle.plan_changes.specs.declared.change.Change.{Change}
-use Rattle.plan_changes.specs.declared.change.Change.TheVariants.{Store, RemoveVersions}
-use Rattle.plan_changes.specs.Allowed.{names_allow}
-use Rattle.plan_changes.specs.Changes.{names_after, newest_of}
-use Rattle.plan_changes.specs.Stored.{AreStored}
+use Rattle.next_files.specs.Change.{Change}
+use Rattle.next_files.specs.Change.TheVariants.{Store, RemoveVersions}
+use Rattle.next_files.specs.Allowed.{names_allow}
+use Rattle.next_files.specs.Changes.{names_after, newest_of}
+use Rattle.next_files.specs.Stored.{AreStored}
 use Rattle.next_files.specs.BlobAt.{BlobAt}
 use Rattle.next_files.specs.Catalog.{Catalog}
 use Rattle.next_files.specs.Catalogs.{IsBlob, IsCatalog, names_in}

@@ -3,10 +3,10 @@ use Rattle.std.specs.Prelude.{◌≡◌, ℕ, List, length, map, Option, Some, I
 use Rattle.std.specs.List.{AllByRecursion, AllZip}
 use Rattle.array_rows.specs.Boxes.{by_pairs}
 use Rattle.chunk_map.specs.declared.directory.Directory.{Directory}
-use Rattle.plan_changes.specs.declared.change.Change.{Change}
-use Rattle.plan_changes.specs.Allowed.{names_allow}
-use Rattle.plan_changes.specs.Changes.{names_after, newest_of}
-use Rattle.plan_changes.specs.Stored.{AreStored}
+use Rattle.next_files.specs.Change.{Change}
+use Rattle.next_files.specs.Allowed.{names_allow}
+use Rattle.next_files.specs.Changes.{names_after, newest_of}
+use Rattle.next_files.specs.Stored.{AreStored}
 use Rattle.next_files.specs.Catalog.{Catalog}
 use Rattle.next_files.specs.Catalogs.{IsCatalog, names_in}
 use Rattle.next_files.specs.Changed.{after_change}

@@ -4,8 +4,8 @@ use Rattle.std.specs.List.{AllByRecursion, filter}
 use Rattle.array_rows.specs.Boxes.{by_pairs}
 use Rattle.chunk_map.specs.declared.directory.Directory.{Directory}
 use Rattle.logical_plan.specs.declared.names.Names.{Names}
-use Rattle.plan_changes.specs.declared.change.Change.{Change}
-use Rattle.plan_changes.specs.declared.change.Change.TheVariants.{Store, Insert}
+use Rattle.next_files.specs.Change.{Change}
+use Rattle.next_files.specs.Change.TheVariants.{Store, Insert}
 use Rattle.next_files.specs.Catalog.{Catalog}
 use Rattle.store_versions.specs.VersionPages.{VersionPages}
 use Rattle.store_versions.specs.History.{is_pages_of}
