@@ -22,8 +22,8 @@ use Rattle.store_state.specs.declared.event.Event.TheVariants.{Entered, Acknowle
 use Rattle.store_state.specs.Events.{events, owner_of}
 use Rattle.store_state.specs.Inner.Keeping.{AreCounted}
 use Rattle.store_state.specs.Standings.{Standing}
-use Rattle.told_stores.proofs.Telling.{notes_are}
-use Rattle.told_stores.specs.Told.{notes_in}
+use Rattle.session_threads.proofs.Telling.{notes_are}
+use Rattle.session_threads.specs.Told.{notes_in}
 use Rattle.session_threads.specs.Acts.{Course, nothing, looking, trying, making}
 use Rattle.session_threads.specs.Replies.{BeganAsNone, HasFault, IsToldFor}
 use Rattle.session_threads.specs.Reply.{Reply}

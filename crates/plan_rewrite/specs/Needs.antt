@@ -2,7 +2,8 @@
 use Rattle.std.specs.Prelude.{Bool, true, false, List, [], ◌∷◌, ◌++◌}
 use Rattle.cell_values.specs.declared.schema.Bounds.{Bounds}
 use Rattle.logical_plan.specs.PlanSchema.{schema_of}
-use Rattle.logical_plan.specs.Query.{Query, built, listed, scanned, filtered, applied, projected, between, subarray, sliced, joined, crossed, redimensioned, regridded, windowed, aggregated}
+use Rattle.logical_plan.specs.Query.{Query, built, listed, scanned, filtered, applied, projected, between, subarray}
+use Rattle.logical_plan.specs.Query.{sliced, joined, crossed, redimensioned, regridded, windowed, aggregated}
 use Rattle.plan_rewrite.specs.Sides.{Sides, sides_of, box_of, whole, of_between, of_subarray, of_slice, of_left, of_right, of_regrid, of_aggregate, of_window}
 
 -- a scan under filters, applies, projects and betweens alone: each chunk of it has its neighbours' cells as far as the overlap

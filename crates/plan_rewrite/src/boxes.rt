@@ -1,7 +1,8 @@
 //! What an operator needs of its source.
 ghost use Rattle.std.specs.Prelude.{◌≡◌, map};
 ghost use Rattle.cell_values.specs.Schemas.{IsValid};
-ghost use Rattle.plan_rewrite.specs.Sides.{are_near, of_aggregate, of_between, named_sides, of_left, of_regrid, of_right, of_slice, of_subarray, of_windows, whole};
+ghost use Rattle.plan_rewrite.specs.Sides.{are_near, of_aggregate, of_between, named_sides, of_left};
+ghost use Rattle.plan_rewrite.specs.Sides.{of_regrid, of_right, of_slice, of_subarray, of_windows, whole};
 ghost use Rattle.plan_rewrite.specs.Stretches.{nothing};
 
 use crate::sides::{

@@ -1,7 +1,8 @@
 //! Plans over plans that are given.
 ghost use Rattle.std.specs.Prelude.{◌≡◌, Some, IfOk};
 ghost use Rattle.std.specs.Option.{option_copied};
-ghost use Rattle.logical_plan.specs.Query.{filtered, applied, projected, between, subarray, sliced, joined, crossed, redimensioned, regridded, windowed, aggregated};
+ghost use Rattle.logical_plan.specs.Query.{filtered, applied, projected, between, subarray, sliced, joined};
+ghost use Rattle.logical_plan.specs.Query.{crossed, redimensioned, regridded, windowed, aggregated};
 ghost use Rattle.plan_rewrite.specs.Inner.Pending.{boxed, pending, shown};
 ghost use Rattle.plan_rewrite.specs.Inner.Settling.{applied_for};
 ghost use Rattle.plan_rewrite.specs.Inner.Trimmed.{met};

@@ -21,9 +21,9 @@ use Rattle.plan_changes.specs.declared.change.Change.{Change}
 use Rattle.plan_changes.specs.declared.change.Change.TheVariants.{Create, Store, Insert, Remove, RemoveVersions}
 use Rattle.result_print.specs.declared.refusal.Refusal.{Refusal}
 use Rattle.result_print.specs.declared.refusal.Refusal.TheVariants.{Disk, Damaged, Memory}
-use Rattle.statement_answers.specs.declared.outcome.Outcome.{Outcome}
-use Rattle.statement_answers.specs.declared.outcome.Outcome.TheVariants.{Replied, Changes}
-use Rattle.statement_answers.specs.Outcomes.{leaves_for, leaves_read}
+use Rattle.session_turns.specs.Outcome.{Outcome}
+use Rattle.session_turns.specs.Outcome.TheVariants.{Replied, Changes}
+use Rattle.session_turns.specs.Outcomes.{leaves_for, leaves_read}
 use Rattle.statement_replies.specs.declared.replies.Reply.{Reply as Told}
 use Rattle.statement_replies.specs.StatementKinds.{HasChangeKind, HasStatementKind, MayBreak}
 use Rattle.statement_replies.specs.Statements.{Accepted, without_change}

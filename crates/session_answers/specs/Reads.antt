@@ -5,7 +5,7 @@ use Rattle.afl_types.specs.Checking.{check_of}
 use Rattle.event_core.specs.declared.entry.Entry.TheVariants.{Pin}
 use Rattle.logical_plan.specs.declared.names.Names.{Names}
 use Rattle.logical_plan.specs.declared.parts.Leaf.{Leaf}
-use Rattle.statement_answers.specs.Outcomes.{leaves_for}
+use Rattle.session_turns.specs.Outcomes.{leaves_for}
 use Rattle.store_state.specs.declared.event.Event.{Event}
 use Rattle.store_state.specs.Calls.{chunks_at}
 use Rattle.session_turns.specs.Replies.{names_before, EnteredAt}

@@ -18,9 +18,9 @@ use afl_outside::{Disk, Gate, Point};
 use afl_trees::Tree;
 use chunk_source::ExecFault;
 use session_turns::{
-    Options, PinnedSource, Reply, Seat, Shared, at_place, sources_hold_their_versions, unread,
+    Options, Outcome, PinnedSource, Reply, Seat, Shared, at_place, outcome_of,
+    sources_hold_their_versions, unread,
 };
-use statement_answers::{Outcome, outcome_of};
 use std::alloc::Global;
 use std::sync::Wait;
 use std::thread::Threads;

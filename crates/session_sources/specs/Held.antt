@@ -9,11 +9,11 @@ use Rattle.event_core.specs.History.{names_at}
 use Rattle.turn_lock.specs.Owners.{ExtendsByOwn}
 use Rattle.turn_lock.specs.declared.seat.Turn.{Turn}
 use Rattle.store_ledger.specs.Ledger.{LedgerState, history, is_fault, is_noted, is_tried}
-use Rattle.store_state.specs.declared.event.Event.{Event}
-use Rattle.store_state.specs.declared.parts.StoreParts.{StoreParts}
-use Rattle.store_state.specs.At.{standing}
-use Rattle.store_state.specs.Events.{events, owner_of}
-use Rattle.store_state.specs.Standings.{Standing, BeganAs}
+use Rattle.snapshot_manager.specs.Event.{Event}
+use Rattle.snapshot_manager.specs.StoreParts.{StoreParts}
+use Rattle.snapshot_manager.specs.At.{standing}
+use Rattle.snapshot_manager.specs.Events.{events, owner_of}
+use Rattle.snapshot_manager.specs.Standings.{Standing, BeganAs}
 use Rattle.snapshot_manager.specs.Starts.{start_of}
 use Rattle.snapshot_manager.specs.declared.seat.Seat.{Seat}
 use Rattle.snapshot_manager.specs.Seats.{store_of, HasTurn}

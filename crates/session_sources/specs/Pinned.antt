@@ -5,8 +5,8 @@ use Rattle.chunk_source.specs.Source.{SourceState}
 use Rattle.plan_changes.specs.Databases.{Database}
 use Rattle.store_ledger.specs.declared.pinned.Pinned.{Pinned}
 use Rattle.store_ledger.specs.Ledger.{is_fault, is_noted, is_tried}
-use Rattle.store_state.specs.Calls.{history_at}
-use Rattle.store_state.specs.Standings.{Standing, BeganAs}
+use Rattle.snapshot_manager.specs.Calls.{history_at}
+use Rattle.snapshot_manager.specs.Standings.{Standing, BeganAs}
 use Rattle.snapshot_manager.specs.declared.seat.Seat.{Seat}
 use Rattle.snapshot_manager.specs.declared.shared.Shared.{Shared}
 use Rattle.snapshot_manager.specs.Seats.{ledger_seen, read_count, seen, session_of, start, store_seen, HoldsPin, IsIdle, IsSameSeat, IsSeatOf}

@@ -7,8 +7,8 @@ use Rattle.plan_changes.specs.declared.change.Change.{Change}
 use Rattle.afl_types.specs.Checking.{check_of}
 use Rattle.afl_types.specs.declared.statements.checking.Typed.TheVariants.{Change as AChange}
 use Rattle.event_core.specs.Allowed.{is_pinned}
-use Rattle.statement_answers.specs.Forms.{a_change, form_said}
-use Rattle.statement_answers.proofs.Saying.{forms_said}
+use Rattle.session_outcomes.specs.Forms.{a_change, form_said}
+use Rattle.session_outcomes.proofs.Saying.{forms_said}
 use Rattle.session_outcomes.specs.Owners.{ExtendsByOwn}
 use Rattle.session_outcomes.specs.Lent.{turn_with}
 use Rattle.session_outcomes.specs.Turn.{Turn}

@@ -11,8 +11,8 @@ use Rattle.event_core.specs.declared.entry.Entry.{Entry}
 use Rattle.event_core.specs.declared.entry.Entry.TheVariants.{Reap}
 use Rattle.event_core.specs.declared.state.Core.{Core}
 use Rattle.event_core.specs.History.{History, names_at, up_to}
-use Rattle.statement_answers.specs.declared.outcome.Outcome.{Outcome}
-use Rattle.statement_answers.specs.Outcomes.{HasOutcomeKind, IsOutcomeOf, IsToldBy}
+use Rattle.session_outcomes.specs.Outcome.{Outcome}
+use Rattle.session_outcomes.specs.Outcomes.{HasOutcomeKind, IsOutcomeOf, IsToldBy}
 use Rattle.statement_replies.specs.Statements.{reply_to}
 use Rattle.session_outcomes.specs.Turn.{Turn}
 use Rattle.store_ledger.specs.Ledger.{history}

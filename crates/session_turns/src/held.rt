@@ -26,10 +26,9 @@ use cell_values::Memory;
 use logical_plan::Names;
 use plan_changes::Change;
 use session_outcomes::{
-    CommitFault, HeldSource, Reply, Seat, Shared, StoreTurn, at_place, commit, uncommitted, unread,
-    want,
+    CommitFault, HeldSource, Outcome, Reply, Seat, Shared, StoreTurn, at_place, commit, outcome_of,
+    uncommitted, unread, want,
 };
-use statement_answers::{Outcome, outcome_of};
 use statement_replies::Reply as Words;
 use std::alloc::Global;
 use std::sync::Wait;

@@ -3,7 +3,6 @@ ghost use Rattle.std.specs.Prelude.{◌≡◌, [], IfOk};
 ghost use Rattle.test_stores.specs.Holds.{HasNoPins};
 
 use crate::silent_disk::SilentDisk;
-use array_store::Store;
 use cell_values::{Bytes, Memory};
 use page_file::OpenCause;
 use std::alloc::Global;
@@ -11,7 +10,7 @@ use std::thread::Threads;
 use store_opening::Limits;
 use test_disks::QuietDisk;
 use test_files::disk_of;
-use test_stores::{once, opened};
+use test_stores::{Store, once, opened};
 
 /// How much the store may use that makes a database.
 const LIMITS: Limits = Limits {

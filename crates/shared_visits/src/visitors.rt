@@ -1,12 +1,11 @@
 //! Steps of a session that keeps its seat.
-ghost use Rattle.snapshot_manager.specs.Seats.{IsIdle, IsSeatOf};
+ghost use Rattle.shared_steps.specs.Seats.{IsIdle, IsSeatOf};
 ghost use Rattle.shared_steps.specs.Visits.{IsFree, IsHeld, IsUntold};
 ghost use Rattle.shared_visits.specs.Visitors.{IsVisitor};
 
 use crate::reading::told_cells;
 use afl_outside::Disk;
-use shared_steps::{Answer, Hold, change, once, pin, unpin};
-use snapshot_manager::{Seat, Shared};
+use shared_steps::{Answer, Hold, Seat, Shared, change, once, pin, unpin};
 use std::alloc::Global;
 use std::mem::replace;
 use std::sync::Wait;

@@ -21,7 +21,7 @@ use logical_plan::Leaf;
 use std::alloc::Global;
 use std::sync::Wait;
 use store_ledger::Pinned;
-use store_state::ReadFault;
+use told_stores::ReadFault;
 
 impl<D: Disk> Shared<D> {
     /// The numbers of a leaf's chunks under the session's pin, rising.

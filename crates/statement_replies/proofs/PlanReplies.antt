@@ -10,7 +10,7 @@ use Rattle.logical_plan.proofs.SchemaLaws.{meaning_schema}
 use Rattle.plan_rows.specs.declared.answers.rows.PlanRows.TheVariants.{Fault, Rows}
 use Rattle.plan_rows.specs.Found.{IsFound}
 use Rattle.check_rules.specs.Checked.{Checked}
-use Rattle.check_queries.specs.Queries.{query_of}
+use Rattle.check_laws.specs.Queries.{query_of}
 use Rattle.statement_replies.specs.Kinds.{HasKind, IsRowsReply, RepliesHaveKinds}
 use Rattle.statement_replies.specs.Reply.{array_reply, cell_reply, checked_reply, fault_or_text, meant_reply, text_reply}
 use Rattle.statement_replies.specs.declared.replies.Reply.{Reply}

@@ -18,12 +18,12 @@ use Rattle.check_rules.specs.Checked.{Checked}
 use Rattle.check_rules.specs.Checked.{refused as broken}
 use Rattle.check_laws.proofs.ReadVersions.{plan_reads}
 use Rattle.check_laws.proofs.TypedQueries.{checked_typed}
-use Rattle.check_queries.specs.Arrays.{AreValid}
-use Rattle.check_queries.specs.Queries.{query_of}
+use Rattle.check_laws.specs.Arrays.{AreValid}
+use Rattle.check_laws.specs.Queries.{query_of}
 use Rattle.result_print.specs.declared.refusal.Refusal.TheVariants.{Typing}
 use Rattle.chunk_source.specs.Reading.{asked_of}
 use Rattle.chunk_source.specs.Source.{SourceState, AsksFront, Reads}
-use Rattle.chunk_exec.specs.Computed.{CanCompute}
+use Rattle.plan_rows.specs.Computed.{CanCompute}
 use Rattle.statement_replies.specs.Kinds.{HasKind, IsQueryReply, IsRowsReply}
 use Rattle.statement_replies.specs.Reading.{HoldsVersions, asked_for}
 use Rattle.statement_replies.specs.Reply.{checked_reply, plan_reply, refused}

@@ -12,11 +12,11 @@ use Rattle.plan_changes.specs.declared.change.Change.{Change}
 use Rattle.plan_changes.specs.declared.change.Change.TheVariants.{Create, Store, Insert, Remove, RemoveVersions}
 use Rattle.check_rules.specs.Checked.{Checked}
 use Rattle.check_rules.specs.Checked.{refused as broken_rule}
-use Rattle.check_queries.specs.Queries.{query_of}
-use Rattle.afl_types.specs.Checking.{check_of}
-use Rattle.afl_types.specs.Statements.{queried}
-use Rattle.afl_types.specs.declared.statements.checking.Typed.{Typed}
-use Rattle.afl_types.specs.declared.statements.checking.Typed.TheVariants.{Query as AQuery, Change as AChange, Versions, Show, ListArrays}
+use Rattle.check_laws.specs.Queries.{query_of}
+use Rattle.check_laws.specs.Checking.{check_of}
+use Rattle.check_laws.specs.Statements.{queried}
+use Rattle.check_laws.specs.Typed.{Typed}
+use Rattle.check_laws.specs.Typed.TheVariants.{Query as AQuery, Change as AChange, Versions, Show, ListArrays}
 use Rattle.result_print.specs.declared.refusal.Refusal.TheVariants.{Typing}
 use Rattle.statement_replies.specs.Kinds.{IsRowsReply}
 use Rattle.statement_replies.specs.Reply.{cell_reply, checked_reply, plan_reply, refused}

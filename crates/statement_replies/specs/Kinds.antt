@@ -9,7 +9,7 @@ use Rattle.logical_plan.specs.Meaning.{Database}
 use Rattle.logical_plan.specs.PlanSchema.{schema_of}
 use Rattle.logical_plan.specs.Query.{Query}
 use Rattle.check_rules.specs.Checked.{Checked}
-use Rattle.check_queries.specs.Queries.{query_of}
+use Rattle.check_laws.specs.Queries.{query_of}
 use Rattle.result_print.specs.declared.refusal.Refusal.TheVariants.{Typing}
 use Rattle.statement_replies.specs.Reply.{cell_reply, query_reply, refused, text_reply}
 use Rattle.statement_replies.specs.declared.replies.Reply.{Reply}

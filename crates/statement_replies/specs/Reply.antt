@@ -15,7 +15,7 @@ use Rattle.logical_plan.specs.Query.{Query}
 use Rattle.logical_plan.specs.Faults.{first_fault}
 use Rattle.logical_plan.specs.Meaning.{Database, Meant, meaning}
 use Rattle.check_rules.specs.Checked.{Checked}
-use Rattle.check_queries.specs.Queries.{query_of}
+use Rattle.check_laws.specs.Queries.{query_of}
 use Rattle.result_print.specs.Texts.{array_text}
 use Rattle.result_print.specs.Lines.{line_of_refusal}
 use Rattle.result_print.specs.declared.refusal.Refusal.{Refusal}

@@ -10,7 +10,7 @@ use std::alloc::{AllocError, Global};
 use std::thread::Threads;
 use test_disks::QuietDisk;
 use test_kit::begin_answer;
-use test_stores::{Answer, opened, reaped};
+use test_readings::{Answer, opened, reaped};
 
 /// Adds how many pages nobody can name, and how many entries and notes there are.
 fn push_counts(out: &mut String, run: &mut Run) -> Result<(), AllocError>

@@ -4,10 +4,9 @@ ghost use Rattle.cell_values.specs.Schemas.{IsValid};
 ghost use Rattle.plan_changes.specs.Stored.{AreStored};
 ghost use Rattle.store_ledger.specs.Ledger.{IsOpenPin};
 ghost use Rattle.store_state.specs.Calls.{IsLeafOf};
-ghost use Rattle.test_stores.specs.Holds.{HasNoPins, IsHold, LeavesAll, LeavesOthers};
+ghost use Rattle.test_readings.specs.Holds.{HasNoPins, IsHold, LeavesAll, LeavesOthers};
 ghost use Rattle.test_commits.specs.Runs.{IsRun};
 
-use array_store::Store;
 use cell_values::{Bytes, List, Memory, Name};
 use logical_plan::{Leaf, Names};
 use plan_changes::entry_named;
@@ -16,8 +15,7 @@ use std::thread::Threads;
 use std::mem::replace;
 use store_ledger::Pinned;
 use test_disks::QuietDisk;
-use test_readings::{cells, leaf_of};
-use test_stores::{Answer, Hold, changed, once, pinned, unpinned};
+use test_readings::{Answer, Hold, Store, cells, changed, leaf_of, once, pinned, unpinned};
 
 /// A store, and what two sessions have of it.
 #[derive(Drop)]

@@ -1,7 +1,7 @@
 //! Two sessions on threads, beside one that reaps.
 ghost use Rattle.std.specs.Prelude.{◌≡◌, ◌≤◌, [], false, length, vec_capacity, vec_len, All};
 ghost use Rattle.snapshot_manager.specs.Seats.{seats_in_all, IsIdle, IsSeatOf};
-ghost use Rattle.test_stores.specs.Holds.{HasNoPins};
+ghost use Rattle.test_readings.specs.Holds.{HasNoPins};
 ghost use Rattle.shared_steps.specs.Visits.{IsFree, IsUntold};
 
 use afl_outside::Disk;
@@ -18,8 +18,7 @@ use std::thread;
 use std::thread::{Promise, Threads};
 use store_opening::Limits;
 use test_files::made;
-use test_readings::whole;
-use test_stores::Answer;
+use test_readings::{Answer, whole};
 
 /// The name of the array that a session stores.
 fn array_of(session: u32) -> &'static str {

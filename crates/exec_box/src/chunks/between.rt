@@ -45,7 +45,8 @@ pub fn between_chunk(
     requires framed { HasFrame schema.now margins.now.items chunk.at.items }
     requires placed { IsPlaced schema.now.dimensions margins.now.items chunk }
     ensures made { IfOk result (IsMadeBy (within area.now) schema.now.dimensions margins.now.items chunk) }
-    ensures part { (rows : Items Row) → IsPart schema.now.dimensions margins.now.items rows chunk → IfOk result (IsPart schema.now.dimensions margins.now.items (within area.now rows)) }
+    ensures part { (rows : Items Row) → IsPart schema.now.dimensions margins.now.items rows chunk
+        → IfOk result (IsPart schema.now.dimensions margins.now.items (within area.now rows)) }
 {
     change_chunk(schema, margins, chunk, &Cut { area })
 }

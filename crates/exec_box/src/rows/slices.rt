@@ -59,7 +59,8 @@ fn free_row(row: &Row, fixed: &[Fixed]) -> Result<Row, Memory>
 
 /// Adds a row, if it has the fixed numbers.
 fn push_slice(rows: &mut List<Row>, row: &Row, fixed: &[Fixed]) -> Result<(), Memory>
-    ensures { OnOk result (rows.new ≡ rows.old ++ (if has_fixed fixed.now row.now.at.items then moved (items_but (fixed_places fixed.now) 0) row.now ∷ [] else [])) }
+    ensures { OnOk result (rows.new ≡ rows.old
+        ++ (if has_fixed fixed.now row.now.at.items then moved (items_but (fixed_places fixed.now) 0) row.now ∷ [] else [])) }
 {
     if has_fixed(&row.at, fixed) {
         rows.push(free_row(row, fixed)?)

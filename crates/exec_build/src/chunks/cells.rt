@@ -203,7 +203,8 @@ pub(crate) fn add_cells(
     requires room { length at.now.items + length lo.now ≤ 6 }
     requires grid { IsGrid grid.now }
     requires inside { (c : Coordinate) → is_between lo.now hi.now c ≡ true → is_in_grid grid.now.low.items grid.now.lengths.items (at.now.items ++ c) ≡ true }
-    ensures { OnOk result (TakesRows grid.now.low.items grid.now.lengths.items (rows_between (built_row attributes.now value.now) at.now.items lo.now hi.now) chunk.old chunk.new) }
+    ensures { OnOk result (TakesRows grid.now.low.items grid.now.lengths.items
+        (rows_between (built_row attributes.now value.now) at.now.items lo.now hi.now) chunk.old chunk.new) }
 {
     match lo {
         [] => match hi {
@@ -268,8 +269,10 @@ fn add_along(
 ) -> Result<(), Memory>
     requires room { length at.now.items + length lo.now < 6 }
     requires grid { IsGrid grid.now }
-    requires inside { (c : Coordinate) → is_between (low.now ∷ lo.now) (high.now ∷ hi.now) c ≡ true → is_in_grid grid.now.low.items grid.now.lengths.items (at.now.items ++ c) ≡ true }
-    ensures { OnOk result (TakesRows grid.now.low.items grid.now.lengths.items (rows_between (built_row attributes.now value.now) at.now.items (low.now ∷ lo.now) (high.now ∷ hi.now)) chunk.old chunk.new) }
+    requires inside { (c : Coordinate) → is_between (low.now ∷ lo.now) (high.now ∷ hi.now) c ≡ true
+        → is_in_grid grid.now.low.items grid.now.lengths.items (at.now.items ++ c) ≡ true }
+    ensures { OnOk result (TakesRows grid.now.low.items grid.now.lengths.items
+        (rows_between (built_row attributes.now value.now) at.now.items (low.now ∷ lo.now) (high.now ∷ hi.now)) chunk.old chunk.new) }
 {
     for offset in 0..count_of(*low, *high)? {
         let mut next = copy_coord(at);

@@ -72,7 +72,8 @@ pub fn apply_chunk(
     requires framed { HasFrame schema.now margins.now.items chunk.at.items }
     requires placed { IsPlaced schema.now.dimensions margins.now.items chunk }
     ensures made { IfOk result (IsMadeBy (apply_rows values.now) schema.now.dimensions margins.now.items chunk) }
-    ensures part { (rows : Items Row) → IsPart schema.now.dimensions margins.now.items rows chunk → IfOk result (IsPart schema.now.dimensions margins.now.items (apply_rows values.now rows)) }
+    ensures part { (rows : Items Row) → IsPart schema.now.dimensions margins.now.items rows chunk
+        → IfOk result (IsPart schema.now.dimensions margins.now.items (apply_rows values.now rows)) }
 {
     change_chunk(schema, margins, chunk, &Apply { values })
 }

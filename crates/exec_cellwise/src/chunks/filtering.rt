@@ -62,7 +62,8 @@ pub fn filter_chunk(
     requires framed { HasFrame schema.now margins.now.items chunk.at.items }
     requires placed { IsPlaced schema.now.dimensions margins.now.items chunk }
     ensures made { IfOk result (IsMadeBy (filter_rows test.now) schema.now.dimensions margins.now.items chunk) }
-    ensures part { (rows : Items Row) → IsPart schema.now.dimensions margins.now.items rows chunk → IfOk result (IsPart schema.now.dimensions margins.now.items (filter_rows test.now rows)) }
+    ensures part { (rows : Items Row) → IsPart schema.now.dimensions margins.now.items rows chunk
+        → IfOk result (IsPart schema.now.dimensions margins.now.items (filter_rows test.now rows)) }
 {
     change_chunk(schema, margins, chunk, &Filter { test })
 }

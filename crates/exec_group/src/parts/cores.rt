@@ -6,9 +6,9 @@ ghost use Rattle.array_rows.specs.Rows.{IsRising};
 ghost use Rattle.array_parts.specs.Cores.{HaveCells, cores_of};
 ghost use Rattle.exec_group.specs.Inner.Keys.{core_of};
 
+use area_cells::into_core_rows;
 use array_geom::{Chunk, ChunkedArray};
 use cell_values::{List, Margins, Memory, Row, Schema, copy_numbers};
-use chunk_cells::into_core_rows;
 
 /// More rows than can be counted are as good as no memory.
 fn counted(rows: List<Row>) -> Result<List<Row>, Memory>

@@ -75,7 +75,8 @@ fn blocks_by_parts<R: Threads + Sync, G: Gate>(
 ) -> Result<Groups, Memory>
     requires cells { HaveCells schema.now margins.now.items chunks }
     ensures whole { NumbersRise (numbers chunks) → AllByRecursion (λ k. length k ≡ length schema.now.dimensions) (numbers chunks)
-        → IfOk result (λ all. AreGroupsOf aggs.now (regrid_sets schema.now.dimensions blocks.now (core_rows schema.now.dimensions margins.now.items chunks)) all.groups) }
+        → IfOk result (λ all. AreGroupsOf aggs.now
+        (regrid_sets schema.now.dimensions blocks.now (core_rows schema.now.dimensions margins.now.items chunks)) all.groups) }
     ensures cells { IfOk result (λ all. cells_in all.groups < 2 ^ 63) }
 {
     if !are_few(chunks.as_slice()) {

@@ -88,7 +88,8 @@ pub(crate) fn groups_by_parts<R: Threads + Sync, G: Gate>(
     requires names { length dims.now ≤ 6 }
     ensures groups { AreAllApart (sets_of dims.now schema.now.dimensions margins.now.items chunks)
         → IfOk result (λ all. AreGroupsOf aggs.now (all_sets (sets_of dims.now schema.now.dimensions margins.now.items chunks)) all.groups) }
-    ensures whole { IsTrue (has_parts dims.now chunks) → NumbersRise (numbers chunks) → AllByRecursion (λ k. length k ≡ length schema.now.dimensions) (numbers chunks)
+    ensures whole { IsTrue (has_parts dims.now chunks) → NumbersRise (numbers chunks)
+        → AllByRecursion (λ k. length k ≡ length schema.now.dimensions) (numbers chunks)
         → IfOk result (λ all. AreGroupsOf aggs.now (aggregate_sets dims.now (core_rows schema.now.dimensions margins.now.items chunks)) all.groups) }
     ensures cells { IfOk result (λ all. cells_in all.groups < 2 ^ 63) }
 {

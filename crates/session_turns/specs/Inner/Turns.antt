@@ -6,7 +6,7 @@ use Rattle.array_geom.specs.declared.chunk.Changed.{Changed}
 use Rattle.chunk_source.specs.declared.reading.fault.ExecFault.{ExecFault}
 use Rattle.chunk_source.specs.declared.reading.fault.ExecFault.TheVariants.{Source, Damaged, Memory}
 use Rattle.plan_changes.specs.declared.change.Change.{Change}
-use Rattle.statement_answers.specs.declared.outcome.Outcome.{Outcome}
+use Rattle.session_outcomes.specs.Outcome.{Outcome}
 use Rattle.afl_types.specs.Checking.{check_of}
 use Rattle.statement_answers.specs.declared.outcome.Outcome.TheVariants.{Replied, Changes}
 use Rattle.statement_replies.specs.declared.replies.Reply.{Reply as Told}

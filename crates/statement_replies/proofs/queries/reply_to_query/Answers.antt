@@ -2,7 +2,7 @@ use Rattle.std.proofs.Common.{◌≡◌, Err, refl, subst}
 use Rattle.logical_plan.specs.Query.{Query}
 use Rattle.check_rules.specs.Checked.{Answers, refused}
 use Rattle.check_rules.specs.declared.rules.fault.TypeFault.{TypeFault}
-use Rattle.check_queries.specs.Queries.{query_of}
+use Rattle.check_laws.specs.Queries.{query_of}
 use Rattle.chunk_source.proofs.ReadLemmas.{asked_none, on_err}
 use Rattle.statement_replies.proofs.QueryReplies.{asked_of_breach, asked_of_plan, can_compute, front_of_plan, of_breach, plan_answer}
 use Rattle.statement_replies.proofs.queries.reply_to_query.Goals as goal

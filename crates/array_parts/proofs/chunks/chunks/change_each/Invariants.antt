@@ -1,5 +1,5 @@
 use Rattle.std.proofs.Common.{drop}
-use Rattle.cell_columns.specs.Inner.CellsIn.{cells_in}
+use Rattle.array_geom.specs.CellsIn.{cells_in}
 use Rattle.array_parts.proofs.Steps.{IsOngoing}
 use Rattle.array_parts.proofs.chunks.chunks.change_each.Given as goal
 

@@ -1,7 +1,7 @@
 use Rattle.std.proofs.Common.{IfOk, IsTrue, subst, sym, ap, refl}
 use Rattle.chunk_source.specs.Source.{is_among, listed, AsksFor, Blames, IsChunkIn, IsStored, Keeps}
 use Rattle.logical_plan.specs.Meaning.{Database as Rows}
-use Rattle.store_state.specs.Calls.{IsLeafOf}
+use Rattle.snapshot_manager.specs.Calls.{IsLeafOf}
 use Rattle.session_sources.specs.declared.marks.Marks.{Marks}
 use Rattle.session_sources.specs.Pinned.{pinned_state}
 use Rattle.session_sources.proofs.Answering.{asks_by, blames, marked, ok_answer, with_asked}
