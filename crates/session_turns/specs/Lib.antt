@@ -2,6 +2,8 @@ pub use Rattle.session_outcomes.specs.Acts
 pub use Rattle.session_outcomes.specs.BehindPins
 pub use Rattle.session_outcomes.specs.Changing
 pub use Rattle.session_outcomes.specs.Fresh
+pub use Rattle.session_outcomes.specs.Outcome
+pub use Rattle.session_outcomes.specs.Outcomes
 pub use Rattle.session_outcomes.specs.Reads
 pub use Rattle.session_outcomes.specs.Refusals
 pub use Rattle.session_outcomes.specs.Replies
