@@ -87,5 +87,13 @@ pub fn over_pieces<R: Threads + Sync, P: Send + Drop, M: Send + Drop, W: Work<P,
     let first = crew.pieces;
     crew.pieces = first.saturating_add(pieces.len() as u64);
     let workers = worth(pieces.len(), crew.workers);
-    in_parts(crew.rt, pieces, workers, work, first, crew.session, crew.gate)
+    in_parts(
+        crew.rt,
+        pieces,
+        workers,
+        work,
+        first,
+        crew.session,
+        crew.gate,
+    )
 }

@@ -115,17 +115,17 @@ module _ {D : Type 0} (moment : D → Moment) (session : ℕ) (old : Turn (Store
   read_by new h lent turn held text tree result kind told front cause allowed =
       let why : IfErr result (IsWhy h.marks) =
       why_by result (held_state moment start) (held_state moment h) h.marks (ap (λ (x : Holding D). x.marks.faults) made) refl refl cause in record {
-    marks = h.marks;
-    held = subst (λ (t : Turn (StoreParts D)). HasHeld moment (holding_of session old t h.marks)) (sym turn)
-        (subst (λ (l : LentTurn D). HasHeld moment (record { lent = l; turn = h.turn; marks = h.marks })) (lent ∙ ap (λ (x : Holding D). x.lent) made) held);
-    comes = subst (λ (ns : Names). IfOk result (ComesOver ns (held_state moment (unheld session old)) text tree)) named
-        (subst (λ (x : Holding D). IfOk result (ComesOver names (held_state moment x) text tree)) made
-        (comes_by names (held_state moment start) text tree result kind told));
-    why = why;
-    reads = subst (λ (ns : Names). IfErr result (MayLack ns (check_of tree text ns))) named
-        (lack_by names text tree result (held_state moment start) (held_state moment h) h.marks (ap (λ (x : Holding D). x.marks.asked) made) refl
-        held.unasked front allowed why);
-  }
+        marks = h.marks;
+        held = subst (λ (t : Turn (StoreParts D)). HasHeld moment (holding_of session old t h.marks)) (sym turn)
+            (subst (λ (l : LentTurn D). HasHeld moment (record { lent = l; turn = h.turn; marks = h.marks })) (lent ∙ ap (λ (x : Holding D). x.lent) made) held);
+        comes = subst (λ (ns : Names). IfOk result (ComesOver ns (held_state moment (unheld session old)) text tree)) named
+            (subst (λ (x : Holding D). IfOk result (ComesOver names (held_state moment x) text tree)) made
+            (comes_by names (held_state moment start) text tree result kind told));
+        why = why;
+        reads = subst (λ (ns : Names). IfErr result (MayLack ns (check_of tree text ns))) named
+            (lack_by names text tree result (held_state moment start) (held_state moment h) h.marks (ap (λ (x : Holding D). x.marks.asked) made) refl
+            held.unasked front allowed why);
+      }
 
 -- ---- a change that was read may be committed in the turn
 

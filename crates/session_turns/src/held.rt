@@ -67,7 +67,16 @@ pub fn answer_held<D: Disk, R: Threads + Wait + Sync, G: Gate>(
     let mut seat = seat;
     let mut turn = turn;
     turn.value().is_at();
-    let (reply, mut turn) = answer_in_turn(rt, alloc, turn, pinned.session, text, tree, options, gate);
+    let (reply, mut turn) = answer_in_turn(
+        rt,
+        alloc,
+        turn,
+        pinned.session,
+        text,
+        tree,
+        options,
+        gate,
+    );
     turn.value().is_at();
     shared.end_turn(rt, &mut seat, turn);
     (reply, seat)

@@ -79,7 +79,12 @@ fn opens(line: &str) -> bool {
 }
 
 /// Prints a line with its answer.
-fn tell(rt: &(impl Print + AllocGlobal + Threads + Sync), bench: &mut Bench, run: &mut Run, line: &str) -> Result<()>
+fn tell(
+    rt: &(impl Print + AllocGlobal + Threads + Sync),
+    bench: &mut Bench,
+    run: &mut Run,
+    line: &str,
+) -> Result<()>
     requires { IsRun run.old }
     ensures { IsRun run.new }
 {

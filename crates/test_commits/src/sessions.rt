@@ -11,8 +11,8 @@ use cell_values::{Bytes, List, Memory, Name};
 use logical_plan::{Leaf, Names};
 use plan_changes::entry_named;
 use std::alloc::Global;
-use std::thread::Threads;
 use std::mem::replace;
+use std::thread::Threads;
 use store_ledger::Pinned;
 use test_disks::QuietDisk;
 use test_readings::{Answer, Hold, Store, cells, changed, leaf_of, once, pinned, unpinned};
@@ -158,7 +158,13 @@ fn take_step<R: Threads + Sync>(
 }
 
 /// What a step of a session is answered.
-pub(crate) fn answer_to<R: Threads + Sync>(rt: &R, alloc: Global, run: &mut Run, session: &str, step: Step<'_>) -> Answer
+pub(crate) fn answer_to<R: Threads + Sync>(
+    rt: &R,
+    alloc: Global,
+    run: &mut Run,
+    session: &str,
+    step: Step<'_>,
+) -> Answer
     requires { IsRun run.old }
     ensures { IsRun run.new }
 {
@@ -194,7 +200,13 @@ fn create_one<R: Threads + Sync>(rt: &R, alloc: Global, run: &mut Run, number: u
 }
 
 /// Creates an array for each number from one up to another, each in a commit of its own, as long as that is done.
-pub(crate) fn create_all<R: Threads + Sync>(rt: &R, alloc: Global, run: &mut Run, from: &str, to: &str) -> Answer
+pub(crate) fn create_all<R: Threads + Sync>(
+    rt: &R,
+    alloc: Global,
+    run: &mut Run,
+    from: &str,
+    to: &str,
+) -> Answer
     requires { IsRun run.old }
     ensures { IsRun run.new }
 {

@@ -10,7 +10,13 @@ use store_state::ReadFault;
 use test_disks::QuietDisk;
 use test_stores::{Answer, Store, once, opened};
 
-fn answered<R: Threads + Sync>(rt: &R, alloc: Global, disk: QuietDisk, limits: Limits, change: &[u8]) -> Answer {
+fn answered<R: Threads + Sync>(
+    rt: &R,
+    alloc: Global,
+    disk: QuietDisk,
+    limits: Limits,
+    change: &[u8],
+) -> Answer {
     match opened(alloc, disk, limits) {
         Ok(mut store) => {
             let answer = once(rt, alloc, &mut store, 0, change);

@@ -277,7 +277,12 @@ pub(crate) fn push_threads<R: Threads + Wait + Sync>(
     count: u32,
 ) -> Result<()> {
     let alloc = *out.allocator();
-    let file = with_change(rt, alloc, made(alloc)?, "create array A <v:int64>[i=0:0,1,0]")?;
+    let file = with_change(
+        rt,
+        alloc,
+        made(alloc)?,
+        "create array A <v:int64>[i=0:0,1,0]",
+    )?;
     let file = with_change(rt, alloc, file, "create array B <v:int64>[i=0:0,1,0]")?;
     Ok(push_run(rt, out, file, limits, count)?)
 }

@@ -42,7 +42,13 @@ fn text_behind(line: &str) -> &str {
 }
 
 /// The answer to the words of a line that is a step.
-fn answer_step<R: Threads + Wait + Sync>(rt: &R, alloc: Global, run: &mut Run, line: &str, words: &[&str]) -> Answer
+fn answer_step<R: Threads + Wait + Sync>(
+    rt: &R,
+    alloc: Global,
+    run: &mut Run,
+    line: &str,
+    words: &[&str],
+) -> Answer
     requires { IsRun run.old }
     ensures { IsRun run.new }
 {
@@ -62,7 +68,11 @@ fn answer_step<R: Threads + Wait + Sync>(rt: &R, alloc: Global, run: &mut Run, l
 }
 
 /// Prints a line that is a step, with its answer.
-fn tell<R: Print + AllocGlobal + Threads + Wait + Sync>(rt: &R, run: &mut Run, line: &str) -> Result<()>
+fn tell<R: Print + AllocGlobal + Threads + Wait + Sync>(
+    rt: &R,
+    run: &mut Run,
+    line: &str,
+) -> Result<()>
     requires { IsRun run.old }
     ensures { IsRun run.new }
 {

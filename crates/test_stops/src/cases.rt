@@ -43,7 +43,12 @@ fn attempt<R: Threads + Sync>(
 }
 
 /// The file behind a change.
-fn behind<R: Threads + Sync>(rt: &R, alloc: Global, file: &Bytes, change: &str) -> Result<Bytes, Memory> {
+fn behind<R: Threads + Sync>(
+    rt: &R,
+    alloc: Global,
+    file: &Bytes,
+    change: &str,
+) -> Result<Bytes, Memory> {
     let mut told = String::new(alloc);
     let watch = attempt(rt, &mut told, file, change, None)?;
     let bytes = watch.bytes();
@@ -59,7 +64,12 @@ fn held_or_nothing(alloc: Global, file: Bytes) -> Result<Bytes, Memory> {
 }
 
 /// What a file holds before and after a change.
-fn versions_of<R: Threads + Sync>(rt: &R, alloc: Global, file: &Bytes, change: &str) -> Result<Versions, Memory> {
+fn versions_of<R: Threads + Sync>(
+    rt: &R,
+    alloc: Global,
+    file: &Bytes,
+    change: &str,
+) -> Result<Versions, Memory> {
     let after = held_or_nothing(alloc, behind(rt, alloc, file, change)?)?;
     match held_or_nothing(alloc, file.copy()?) {
         Ok(before) => Ok(Versions { before, after }),
@@ -76,7 +86,12 @@ fn push_left(out: &mut String, watch: &Watch, versions: &Versions) -> Result<usi
 }
 
 /// Adds what the change is answered, and what a stop behind each of its calls leaves. How many calls there were is the answer.
-fn push_attempt<R: Threads + Sync>(rt: &R, out: &mut String, case: &Case<'_>, fails: Option<u64>) -> Result<usize, Memory> {
+fn push_attempt<R: Threads + Sync>(
+    rt: &R,
+    out: &mut String,
+    case: &Case<'_>,
+    fails: Option<u64>,
+) -> Result<usize, Memory> {
     let watch = attempt(rt, out, case.file, case.change, fails)?;
     let left = push_left(out, &watch, case.versions);
     drop(watch);
@@ -92,14 +107,23 @@ fn tell_range(rt: &impl Print, from: usize, to: usize, told: &str) -> Result<()>
     Ok(())
 }
 
-fn told_failing<R: Threads + Sync>(rt: &R, alloc: Global, case: &Case<'_>, call: u64) -> Result<String, Memory> {
+fn told_failing<R: Threads + Sync>(
+    rt: &R,
+    alloc: Global,
+    case: &Case<'_>,
+    call: u64,
+) -> Result<String, Memory> {
     let mut told = String::new(alloc);
     push_attempt(rt, &mut told, case, Some(call))?;
     Ok(told)
 }
 
 /// Prints what comes of the change where each of so many calls fails. Calls of which the same comes are told at once.
-fn tell_failing(rt: &(impl Print + AllocGlobal + Threads + Sync), case: &Case<'_>, calls: usize) -> Result<()> {
+fn tell_failing(
+    rt: &(impl Print + AllocGlobal + Threads + Sync),
+    case: &Case<'_>,
+    calls: usize,
+) -> Result<()> {
     let mut told = String::new(rt.alloc());
     let mut from = 0;
     for call in 0..calls {
@@ -113,7 +137,11 @@ fn tell_failing(rt: &(impl Print + AllocGlobal + Threads + Sync), case: &Case<'_
     tell_range(rt, from, calls.saturating_sub(1), told.as_str())
 }
 
-fn tell_case(rt: &(impl Print + AllocGlobal + Threads + Sync), title: &str, case: &Case<'_>) -> Result<()> {
+fn tell_case(
+    rt: &(impl Print + AllocGlobal + Threads + Sync),
+    title: &str,
+    case: &Case<'_>,
+) -> Result<()> {
     let mut told = String::new(rt.alloc());
     let calls = push_attempt(rt, &mut told, case, None)?;
     print!(rt; "## {title}\nno call fails: {told}")?;
@@ -155,7 +183,12 @@ fn second<R: Threads + Sync>(rt: &R, alloc: Global) -> Result<Bytes> {
     Ok(behind(rt, alloc, &file, SECOND)?)
 }
 
-fn with_array<R: Threads + Sync>(rt: &R, alloc: Global, file: &Bytes, number: u32) -> Result<Bytes, Memory> {
+fn with_array<R: Threads + Sync>(
+    rt: &R,
+    alloc: Global,
+    file: &Bytes,
+    number: u32,
+) -> Result<Bytes, Memory> {
     let change = format!(in alloc; "create array A{number} <v:int64>[i=0:0,1,0]")?;
     behind(rt, alloc, file, change.as_str())
 }
@@ -175,6 +208,11 @@ pub(crate) fn tell_cases(rt: &(impl Print + AllocGlobal + Threads + Sync)) -> Re
     let migration = "the first commit to a file of format 1";
     tell_change(rt, SECOND, &first(rt, rt.alloc())?, SECOND)?;
     tell_change(rt, removal, &second(rt, rt.alloc())?, removal)?;
-    tell_change(rt, "the 65th commit", &with_full_log(rt, rt.alloc())?, CREATED)?;
+    tell_change(
+        rt,
+        "the 65th commit",
+        &with_full_log(rt, rt.alloc())?,
+        CREATED,
+    )?;
     tell_change(rt, migration, &of_format_one(rt.alloc())?, CREATED)
 }

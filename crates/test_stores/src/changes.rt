@@ -86,7 +86,12 @@ pub struct Offer {
 }
 
 /// The change with the chunks that come with it.
-fn with_chunks<R: Threads + Sync>(rt: &R, alloc: Global, names: &Names, change: Change) -> Result<Offer, Answer>
+fn with_chunks<R: Threads + Sync>(
+    rt: &R,
+    alloc: Global,
+    names: &Names,
+    change: Change,
+) -> Result<Offer, Answer>
     requires stored { AreStored names.now }
     requires typed { IsTypedFor names.now change }
     ensures { IfOk result (IsOffer names.now) }
@@ -101,7 +106,12 @@ fn with_chunks<R: Threads + Sync>(rt: &R, alloc: Global, names: &Names, change: 
 }
 
 /// The change that a text is over some names, with the chunks that come with it.
-pub fn offer_over<R: Threads + Sync>(rt: &R, alloc: Global, names: &Names, text: &[u8]) -> Result<Offer, Answer>
+pub fn offer_over<R: Threads + Sync>(
+    rt: &R,
+    alloc: Global,
+    names: &Names,
+    text: &[u8],
+) -> Result<Offer, Answer>
     requires { AreStored names.now }
     ensures { IfOk result (IsOffer names.now) }
 {

@@ -138,7 +138,13 @@ pub fn changed<R: Threads + Sync>(
 }
 
 /// A pin of a session that has none, the change that a text is, committed under it, and the unpin.
-pub fn once<R: Threads + Sync>(rt: &R, alloc: Global, store: &mut Store<QuietDisk>, session: u32, text: &[u8]) -> Answer
+pub fn once<R: Threads + Sync>(
+    rt: &R,
+    alloc: Global,
+    store: &mut Store<QuietDisk>,
+    session: u32,
+    text: &[u8],
+) -> Answer
     requires { IsHold store.old.ledger session Hold.Free }
     ensures own { IsHold store.new.ledger session Hold.Free }
     ensures others { LeavesOthers session store.old.ledger store.new.ledger }
