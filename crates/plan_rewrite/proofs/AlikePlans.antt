@@ -33,12 +33,12 @@ use Rattle.plan_rewrite.proofs.BoxSteps.{length-by_pairs}
 
 -- ---- sides of boxes
 
-box_lengths : (s : Schema) (area : Bounds) → IsTrue (is_box_of s area) → (length area.lo.items ≡ length s.dimensions) × (length area.hi.items ≡ length s.dimensions)
+pub box_lengths : (s : Schema) (area : Bounds) → IsTrue (is_box_of s area) → (length area.lo.items ≡ length s.dimensions) × (length area.hi.items ≡ length s.dimensions)
 box_lengths s area t =
     let both = and_parts (length area.lo.items == length s.dimensions) (length area.hi.items == length s.dimensions) t in
     (eqb-true (length area.lo.items) (length s.dimensions) both.0, eqb-true (length area.hi.items) (length s.dimensions) both.1)
 
-between_length : (s : Schema) (sides : Sides) (area : Bounds) → length sides ≡ length s.dimensions → IsTrue (is_box_of s area) → length (of_between area sides) ≡ length s.dimensions
+pub between_length : (s : Schema) (sides : Sides) (area : Bounds) → length sides ≡ length s.dimensions → IsTrue (is_box_of s area) → length (of_between area sides) ≡ length s.dimensions
 between_length s sides area e t =
     let l = box_lengths s area t in
     length-by_pairs shared sides (sides_of area) (length-by_pairs stretch area.lo.items area.hi.items (l.1 ∙ sym l.0) ∙ l.0 ∙ sym e) ∙ e
@@ -55,7 +55,7 @@ high_sides [] (h ∷ hi) e = absurd (omega arith)
 high_sides (l ∷ lo) [] e = absurd (omega arith)
 high_sides (l ∷ lo) (h ∷ hi) e = ap (λ (zs : List ℤ). h ∷ zs) (high_sides lo hi (omega arith))
 
-box_of_sides : (area : Bounds) → length area.hi.items ≡ length area.lo.items → box_of (sides_of area) ≡ area
+pub box_of_sides : (area : Bounds) → length area.hi.items ≡ length area.lo.items → box_of (sides_of area) ≡ area
 box_of_sides area e = λ i. corners (low_sides area.lo.items area.hi.items e i) (high_sides area.lo.items area.hi.items e i)
 
 -- ---- plans that keep places mean arrays
@@ -105,7 +105,7 @@ alike a b (regridded source sizes gs) k t la lb sides s h = absurd cc
 alike a b (windowed source reach gs) k t la lb sides s h = absurd cc
 alike a b (aggregated source gs places) k t la lb sides s h = absurd cc
 
-one_meaning : (a b : Meant) → a.schema ≡ b.schema → a.rows ≡ b.rows → a ≡ b
+pub one_meaning : (a b : Meant) → a.schema ≡ b.schema → a.rows ≡ b.rows → a ≡ b
 one_meaning a b e f = λ i. record { schema = e i; rows = f i }
 
 pub placed_needs_suffice : PlacedNeedsSuffice

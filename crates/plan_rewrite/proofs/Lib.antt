@@ -1,6 +1,12 @@
+pub mod AlikeAll
+pub mod AlikeBlocks
+pub mod AlikeGroups
+pub mod AlikeNear
+pub mod AlikeParts
 pub mod AlikePlans
 pub mod AlikeScans
 pub mod AlikeSteps
+pub mod AlikeWindows
 pub mod BoxSteps
 pub mod Inside
 pub mod InsidePlans

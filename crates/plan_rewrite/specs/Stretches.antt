@@ -35,9 +35,9 @@ grown d r s =
     if is_empty s then s
     else shared (all_of d) (stretch (saturate_signed w64 (s.first -ℤ pos r.before)) (saturate_signed w64 (s.last +ℤ pos r.after)))
 
--- blocks of a length are numbered from a dimension's low bound on: the first and the last place of one
+-- blocks of a length are numbered from a dimension's low bound on: the first and the last place of one. No block is below the first
 abbrev pub block_first : ℤ → ℕ → ℤ → ℤ
-block_first low size x = saturate_signed w64 (low +ℤ pos (unsigned_abs (x -ℤ low) * size))
+block_first low size x = saturate_signed w64 (low +ℤ pos (unsigned_abs (int_max low x -ℤ low) * size))
 
 abbrev pub block_last : ℤ → ℕ → ℤ → ℤ
 block_last low size x = saturate_signed w64 (low +ℤ pos (unsigned_abs (x -ℤ low) * size + (size - 1)))

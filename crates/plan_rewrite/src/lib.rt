@@ -10,6 +10,6 @@ mod rewriting;
 mod sides;
 mod stretch;
 
-pub use laws::placed_needs_suffice;
+pub use laws::{placed_needs_suffice, uncrossed_needs_suffice};
 pub use needs::need;
 pub use rewriting::{rewrite, rewritten};

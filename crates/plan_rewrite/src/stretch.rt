@@ -69,7 +69,7 @@ pub(crate) fn grown(dimension: &Dimension, reach: Reach, side: Stretch) -> Stret
 fn block_first(low: i64, size: u64, x: i64) -> i64
     ensures { result ≡ block_first low size x }
 {
-    low.saturating_add_unsigned(x.abs_diff(low).saturating_mul(size))
+    low.saturating_add_unsigned(low.max(x).abs_diff(low).saturating_mul(size))
 }
 
 /// The last place of a block.
