@@ -37,7 +37,8 @@ new_source name content fails = record { name = name; bytes = unread content; tu
 
 -- A read gives as much as fits. It fails exactly where its number is listed, and then gives nothing.
 abbrev pub MemoryReads : List ℕ → MemorySource → MemorySource → Result ℕ Failed → Type 0
-MemoryReads into old new (Ok n) = ¬ IsListed old.turns × ReadsPiece old.bytes n into × (new ≡ record old { bytes = read_on n old.bytes; turns = passed old.turns })
+MemoryReads into old new (Ok n) = ¬ IsListed old.turns × ReadsPiece old.bytes n into
+    × (new ≡ record old { bytes = read_on n old.bytes; turns = passed old.turns })
 MemoryReads into old new (Err e) = IsListed old.turns × (new ≡ record old { turns = failed old.turns })
 
 -- a source that never fails gives as much as fits
@@ -85,7 +86,8 @@ new_sink name content fails = record { name = name; bytes = unwritten content; t
 
 -- A write takes the whole piece. It takes nothing where its number is listed, or where no memory is found.
 abbrev pub MemoryWrites : List ℕ → MemorySink → MemorySink → Result ℕ Failed → Type 0
-MemoryWrites piece old new (Ok n) = ¬ IsListed old.turns × (n ≡ length piece) × (new ≡ record old { bytes = written_on piece old.bytes; turns = passed old.turns })
+MemoryWrites piece old new (Ok n) = ¬ IsListed old.turns × (n ≡ length piece)
+    × (new ≡ record old { bytes = written_on piece old.bytes; turns = passed old.turns })
 MemoryWrites piece old new (Err e) = (IsListed old.turns × (new ≡ record old { turns = failed old.turns }))
     ⊎ (¬ IsListed old.turns × (new ≡ record old { bytes = starved old.bytes; turns = passed old.turns }))
 

@@ -8,7 +8,8 @@ use cell_values::List;
 
 /// Where the first file of a name stands.
 fn place_of(files: &List<MemFile>, name: &[u8]) -> Option<usize>
-    ensures file { MatchOption result (file_of files.now name.now ≡ None) (λ i. (i < length files.now) × HoldsAt (λ f. (f.name ≡ name.now) × (file_of files.now name.now ≡ Some f)) files.now i) }
+    ensures file { MatchOption result (file_of files.now name.now ≡ None)
+        (λ i. (i < length files.now) × HoldsAt (λ f. (f.name ≡ name.now) × (file_of files.now name.now ≡ Some f)) files.now i) }
     ensures rest { MatchOption result (without files.now name.now ≡ files.now) (λ i. without files.now name.now ≡ remove files.now i) }
 {
     for (i, file) in files.as_slice().iter().enumerate() {

@@ -1,3 +1,10 @@
+pub use Rattle.cell_values.specs.Naming
+pub use Rattle.cell_values.specs.Schemas
+pub use Rattle.cell_values.specs.declared.name.Span
+pub use Rattle.cell_values.specs.declared.schema.Attribute
+pub use Rattle.cell_values.specs.declared.schema.Dimension
+pub use Rattle.cell_values.specs.declared.schema.Kind
+pub use Rattle.cell_values.specs.declared.schema.Schema
 pub mod Inner
 pub mod Lexemes
 pub mod Outcome

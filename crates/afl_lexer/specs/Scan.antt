@@ -1,5 +1,6 @@
 -- What stands at the front of some bytes, counted from the first one on.
-use Rattle.std.specs.Prelude.{ℕ, pos, ◌+◌, Bool, false, not, ◌&&◌, ◌||◌, ◌==◌, nat_lt, nat_le, if◌then◌else◌, Option, Some, None, List, [], ◌∷◌, length, take, codes}
+use Rattle.std.specs.Prelude.{ℕ, pos, ◌+◌, Bool, false, not, ◌&&◌, ◌||◌, ◌==◌, nat_lt, nat_le}
+use Rattle.std.specs.Prelude.{if◌then◌else◌, Option, Some, None, List, [], ◌∷◌, length, take, codes}
 use Rattle.std.specs.List.{prefix_len}
 use Rattle.std.specs.Option.{option_map}
 use Rattle.std.specs.Str.{bytes_eq}
@@ -10,7 +11,9 @@ use Rattle.afl_lexer.specs.declared.token.TokenKind.TheVariants.{Name, Int, Text
 use Rattle.afl_lexer.specs.declared.token.Word.{Word as AWord}
 use Rattle.afl_lexer.specs.declared.token.Word.TheVariants.{And, Or, Not, Null, True, False, As, Create, Array}
 use Rattle.afl_lexer.specs.declared.token.Symbol.{Symbol as ASymbol}
-use Rattle.afl_lexer.specs.declared.token.Symbol.TheVariants.{LeftParen, RightParen, LeftBracket, RightBracket, Less, More, AtMost, AtLeast, Equal, Differs, NotEqual, Comma, Colon, Star, Plus, Minus, Slash, Percent, At}
+use Rattle.afl_lexer.specs.declared.token.Symbol.TheVariants.{LeftParen, RightParen, LeftBracket, RightBracket, Less}
+use Rattle.afl_lexer.specs.declared.token.Symbol.TheVariants.{More, AtMost, AtLeast, Equal, Differs, NotEqual}
+use Rattle.afl_lexer.specs.declared.token.Symbol.TheVariants.{Comma, Colon, Star, Plus, Minus, Slash, Percent, At}
 use Rattle.afl_lexer.specs.declared.token.LexKind.TheVariants.{UnknownCharacter, OpenText, BadEscape, TextTooLong, NameTooLong, LiteralTooLarge}
 use Rattle.afl_lexer.specs.declared.reading.Reading.{Reading}
 use Rattle.afl_lexer.specs.declared.reading.Reading.TheVariants.{Found, Wrong}
@@ -110,7 +113,8 @@ double_symbol b c = if b == 60 && c == 61 then Some AtMost else if b == 62 && c 
     else if b == 60 && c == 62 then Some Differs else if b == 33 && c == 61 then Some NotEqual else None
 
 abbrev pub single_symbol : ℕ → Option ASymbol
-single_symbol b = if b == 40 then Some LeftParen else if b == 41 then Some RightParen else if b == 91 then Some LeftBracket else if b == 93 then Some RightBracket
+single_symbol b = if b == 40 then Some LeftParen else if b == 41 then Some RightParen
+    else if b == 91 then Some LeftBracket else if b == 93 then Some RightBracket
     else if b == 60 then Some Less else if b == 62 then Some More else if b == 61 then Some Equal else if b == 44 then Some Comma
     else if b == 58 then Some Colon else if b == 42 then Some Star else if b == 43 then Some Plus else if b == 45 then Some Minus
     else if b == 47 then Some Slash else if b == 37 then Some Percent else if b == 64 then Some At else None

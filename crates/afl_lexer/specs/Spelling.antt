@@ -7,7 +7,9 @@ use Rattle.afl_lexer.specs.declared.token.Token.{Token}
 use Rattle.afl_lexer.specs.declared.token.TokenKind.{TokenKind}
 use Rattle.afl_lexer.specs.declared.token.TokenKind.TheVariants.{Name, Int, Text, Code, Word, Symbol}
 use Rattle.afl_lexer.specs.declared.token.Symbol.{Symbol as ASymbol}
-use Rattle.afl_lexer.specs.declared.token.Symbol.TheVariants.{LeftParen, RightParen, LeftBracket, RightBracket, Less, More, AtMost, AtLeast, Equal, Differs, NotEqual, Comma, Colon, Star, Plus, Minus, Slash, Percent, At}
+use Rattle.afl_lexer.specs.declared.token.Symbol.TheVariants.{LeftParen, RightParen, LeftBracket, RightBracket, Less}
+use Rattle.afl_lexer.specs.declared.token.Symbol.TheVariants.{More, AtMost, AtLeast, Equal, Differs, NotEqual}
+use Rattle.afl_lexer.specs.declared.token.Symbol.TheVariants.{Comma, Colon, Star, Plus, Minus, Slash, Percent, At}
 use Rattle.afl_lexer.specs.Lexemes.{Lexeme, a_name, a_number, a_text, a_code, a_word, a_symbol, lexeme_of}
 use Rattle.afl_lexer.specs.Tokens.{word_bytes, symbol_bytes, AreTokens}
 

@@ -1,5 +1,6 @@
 -- The tokens of a text, and where a text stops to have any.
-use Rattle.std.specs.Prelude.{◌≡◌, ◌≢◌, ◌⊎◌, ℕ, pos, ◌+◌, ◌^◌, ◌<◌, ◌≤◌, Bool, false, not, ◌&&◌, ◌||◌, ◌==◌, IsTrue, ⊤, Some, List, [], ◌∷◌, ◌++◌, length, drop, slice_range, slice_get, codes}
+use Rattle.std.specs.Prelude.{◌≡◌, ◌≢◌, ◌⊎◌, ℕ, pos, ◌+◌, ◌^◌, ◌<◌, ◌≤◌, Bool, false, not, ◌&&◌, ◌||◌, ◌==◌}
+use Rattle.std.specs.Prelude.{IsTrue, ⊤, Some, List, [], ◌∷◌, ◌++◌, length, drop, slice_range, slice_get, codes}
 use Rattle.std.specs.List.{list_all, concat}
 use Rattle.std.specs.Str.Parse.{digits_value}
 use Rattle.cell_values.specs.Naming.{is_digit, is_word_byte, begins_well, IsName}
@@ -9,7 +10,9 @@ use Rattle.afl_lexer.specs.declared.token.TokenKind.TheVariants.{Name, Int, Text
 use Rattle.afl_lexer.specs.declared.token.Word.{Word as AWord}
 use Rattle.afl_lexer.specs.declared.token.Word.TheVariants.{And, Or, Not, Null, True, False, As, Create, Array}
 use Rattle.afl_lexer.specs.declared.token.Symbol.{Symbol as ASymbol}
-use Rattle.afl_lexer.specs.declared.token.Symbol.TheVariants.{LeftParen, RightParen, LeftBracket, RightBracket, Less, More, AtMost, AtLeast, Equal, Differs, NotEqual, Comma, Colon, Star, Plus, Minus, Slash, Percent, At}
+use Rattle.afl_lexer.specs.declared.token.Symbol.TheVariants.{LeftParen, RightParen, LeftBracket, RightBracket, Less}
+use Rattle.afl_lexer.specs.declared.token.Symbol.TheVariants.{More, AtMost, AtLeast, Equal, Differs, NotEqual}
+use Rattle.afl_lexer.specs.declared.token.Symbol.TheVariants.{Comma, Colon, Star, Plus, Minus, Slash, Percent, At}
 use Rattle.afl_lexer.specs.declared.token.LexKind.{LexKind}
 use Rattle.afl_lexer.specs.declared.token.LexKind.TheVariants.{UnknownCharacter, OpenText, BadEscape, TextTooLong, NameTooLong, LiteralTooLarge}
 use Rattle.afl_lexer.specs.Quoted.{items_of, is_known, IsText}
@@ -114,7 +117,8 @@ pub record BeginsAt (text : List ℕ) (at : ℕ) (token : Token) : Type 0 where
 -- From one place to the other the text has these tokens, each behind a gap. Gaps are as long as they can be, and so are tokens.
 abbrev pub Reaches : List ℕ → ℕ → List Token → ℕ → Type 0
 Reaches text from [] to = from ≡ to
-Reaches text from (token ∷ tokens) to = IsLongest IsGap text from token.span.start × IsLongest IsForm text token.span.start token.span.end × IsTokenOf text token × Reaches text token.span.end tokens to
+Reaches text from (token ∷ tokens) to = IsLongest IsGap text from token.span.start
+    × IsLongest IsForm text token.span.start token.span.end × IsTokenOf text token × Reaches text token.span.end tokens to
 
 -- The text is gap, token, gap, .., token, gap, with these tokens.
 pub record AreTokens (text : List ℕ) (tokens : List Token) : Type 0 where
@@ -145,7 +149,8 @@ pub record IsBadEscape (bytes : List ℕ) (at : ℕ) : Type 0 where
 -- The bytes have a form, and break a rule that it has besides, at a place among them.
 abbrev pub IsWrong : LexKind → List ℕ → ℕ → Type 0
 IsWrong NameTooLong bytes at = (at ≡ 0) × IsTrue (is_word bytes) × (64 < length bytes)
-IsWrong LiteralTooLarge bytes at = (at ≡ 0) × ((IsTrue (is_number bytes) × (2 ^ 63 ≤ digits_value 10 bytes)) ⊎ (IsTrue (is_code bytes) × (127 < digits_value 10 (drop 1 bytes))))
+IsWrong LiteralTooLarge bytes at = (at ≡ 0)
+    × ((IsTrue (is_number bytes) × (2 ^ 63 ≤ digits_value 10 bytes)) ⊎ (IsTrue (is_code bytes) × (127 < digits_value 10 (drop 1 bytes))))
 IsWrong TextTooLong bytes at = (at ≡ 0) × IsText bytes × (65535 < length (items_of bytes))
 IsWrong BadEscape bytes at = IsText bytes × (length (items_of bytes) ≤ 65535) × IsBadEscape bytes at
 IsWrong OpenText bytes at = ⊥
@@ -155,7 +160,8 @@ IsWrong UnknownCharacter bytes at = ⊥
 abbrev pub FailsAt : List ℕ → ℕ → ℕ → LexKind → Type 0
 FailsAt text start at UnknownCharacter = (at ≡ start) × HasNoForm text start × (slice_get text start ≢ Some 39)
 FailsAt text start at OpenText = (at ≡ start) × HasNoForm text start × (slice_get text start ≡ Some 39)
-FailsAt text start at kind = (end : ℕ) × (further : ℕ) × (at ≡ start + further) × IsLongest IsForm text start end × IsWrong kind (slice_range text start end) further
+FailsAt text start at kind = (end : ℕ) × (further : ℕ) × (at ≡ start + further)
+    × IsLongest IsForm text start end × IsWrong kind (slice_range text start end) further
 
 -- The text begins with gaps and tokens, and what stands behind them is no token, for this reason and at this place.
 pub record LexStops (text : List ℕ) (at : ℕ) (kind : LexKind) : Type 0 where

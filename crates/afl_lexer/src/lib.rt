@@ -8,6 +8,9 @@ mod reading;
 mod splitter;
 mod token;
 
+pub use cell_values::{
+    Attribute, Bytes, Copies, Dimension, Kind, List, Memory, Name, Schema, Span,
+};
 pub use gap::gap_end;
 pub use lexer::{
     name_value, spelled_lexemes_are_read_again, text_value, texts_have_tokens_or_stop, tokens,

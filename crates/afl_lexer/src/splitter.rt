@@ -123,7 +123,8 @@ impl Splitter {
         ensures stands { (script : List ℕ) → StandsAfter script self.old → StandsAfter (script ++ byte ∷ []) self.new }
         ensures step { (script : List ℕ) → StandsAfter script self.old → result ≡ step_at script byte }
         ensures shown { (script : List ℕ) → StandsAfter script self.old → result ≢ SplitStep.More → Shows self.new (last_piece script) }
-        ensures statements { (script : List ℕ) → StandsAfter script self.old → closed_statements (script ++ byte ∷ []) ≡ closed_statements script ++ told result self.new }
+        ensures statements { (script : List ℕ) → StandsAfter script self.old
+            → closed_statements (script ++ byte ∷ []) ≡ closed_statements script ++ told result self.new }
     {
         self.begin();
         if self.is_end(byte) {

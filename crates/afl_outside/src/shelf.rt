@@ -42,7 +42,8 @@ pub trait Shelf {
     /// Opens a device.
     fn device(&mut self, name: &str) -> Result<Self::Device, Failed>
         ensures handed { IfOk result (λ d. IsNewDisk name.now (Self.Device.moment d).state) }
-        ensures told { KeepsWord ((state self.old).devices name.now) (state self.old).wants (state self.new).wants (λ d. (Self.Device.moment d).state.first) result }
+        ensures told { KeepsWord ((state self.old).devices name.now) (state self.old).wants
+            (state self.new).wants (λ d. (Self.Device.moment d).state.first) result }
         ensures others { LeavesOthers name.now (state self.old) (state self.new) }
         ensures counted { Hands (state self.old).handed (state self.new).handed result }
         ensures cause { OnErr result (Rose (state self.old).faults (state self.new).faults ⊎ Rose (state self.old).wants (state self.new).wants) };

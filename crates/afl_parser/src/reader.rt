@@ -6,7 +6,9 @@ ghost use Rattle.afl_lexer.specs.Lexemes.{what_of, lexeme_of};
 ghost use Rattle.afl_lexer.specs.Tokens.{IsTokenOf};
 ghost use Rattle.schema_grammar.specs.Inner.Reading.{shape_turn};
 ghost use Rattle.afl_trees.specs.Grammar.{op_of};
-ghost use Rattle.afl_parser.specs.Inner.Machine.{Turn, Go, Stop, shaped, shallow, settle, leaf_of, opening, begin, start, array_word, title, made, first, operated, named, opened, dated, date, closed, separated, joined, extend, name_it, turn, whole, finished, FitsBelow, Fits};
+ghost use Rattle.afl_parser.specs.Inner.Machine.{Turn, Go, Stop, shaped, shallow, settle, leaf_of, opening, begin, start};
+ghost use Rattle.afl_parser.specs.Inner.Machine.{array_word, title, made, first, operated, named, opened, dated, date, closed};
+ghost use Rattle.afl_parser.specs.Inner.Machine.{separated, joined, extend, name_it, turn, whole, finished, FitsBelow, Fits};
 ghost use Rattle.afl_parser.specs.Inner.Reply.{Gives, GivesWhole};
 
 use crate::frame::{Focus, Frame, Stack};

@@ -10,7 +10,8 @@ use Rattle.afl_lexer.specs.Lexemes.{Lexeme, a_name as Name, a_number as Number, 
 use Rattle.afl_lexer.specs.declared.token.Word.TheVariants.{And as AndWord, Or as OrWord, Not, Null, True, False, As, Create, Array}
 use Rattle.afl_lexer.specs.declared.token.Symbol.TheVariants as symbol
 use Rattle.schema_grammar.specs.Spelling.{placed, across, SpellsSchema}
-use Rattle.afl_trees.specs.Term.{Term, create, number, text, truth, null, missing, reference, version, call, schema, star, renamed, opposite, negative, binary, group, Terms, no_terms, and_term}
+use Rattle.afl_trees.specs.Term.{Term, create, number, text, truth, null, missing, reference, version, call, schema}
+use Rattle.afl_trees.specs.Term.{star, renamed, opposite, negative, binary, group, Terms, no_terms, and_term}
 use Rattle.afl_trees.specs.declared.tree.BinaryOp.{BinaryOp}
 use Rattle.afl_trees.specs.declared.tree.BinaryOp.TheVariants.{Or, And, Equal, Differs, Less, AtMost, More, AtLeast, Add, Sub, Mul, Div, Rem}
 use Rattle.afl_trees.specs.declared.kind.StopKind.{StopKind}
@@ -132,14 +133,16 @@ abbrev mutual
   Spells (null s) xs zs = (xs ≡ placed (Word Null) s ∷ zs) ⊎ (xs ≡ placed (Code 0) s ∷ zs)
   Spells (missing s c) xs zs = (1 ≤ c) × (xs ≡ placed (Code c) s ∷ zs)
   Spells (reference s n) xs zs = xs ≡ placed (Name n) s ∷ zs
-  Spells (version s n v) xs zs = (b : Span) × (w : Span) × (e : Span) × (xs ≡ placed (Name n) b ∷ placed (Symbol symbol.At) w ∷ placed (Number v) e ∷ zs) × (s ≡ across b e)
+  Spells (version s n v) xs zs = (b : Span) × (w : Span) × (e : Span)
+      × (xs ≡ placed (Name n) b ∷ placed (Symbol symbol.At) w ∷ placed (Number v) e ∷ zs) × (s ≡ across b e)
   Spells (call s n ts) xs zs = (b : Span) × (l : Span) × (r : Span) × (ys : List Placed)
       × (xs ≡ placed (Name n) b ∷ placed (Symbol symbol.LeftParen) l ∷ ys) × (s ≡ across b r) × SpellsArguments ts r ys zs
   Spells (schema s m) xs zs = SpellsSchema m s xs zs
   Spells (star s) xs zs = xs ≡ placed (Symbol symbol.Star) s ∷ zs
   Spells (renamed s a n) xs zs = (w : Span) × (e : Span) × (s ≡ across (span_of a) e) × (1 ≤ line a) × Spells a xs (placed (Word As) w ∷ placed (Name n) e ∷ zs)
   Spells (opposite s a) xs zs = (w : Span) × (ys : List Placed) × (xs ≡ placed (Word Not) w ∷ ys) × (s ≡ across w (span_of a)) × (3 ≤ line a) × Spells a ys zs
-  Spells (negative s a) xs zs = (w : Span) × (ys : List Placed) × (xs ≡ placed (Symbol symbol.Minus) w ∷ ys) × (s ≡ across w (span_of a)) × (7 ≤ line a) × Spells a ys zs
+  Spells (negative s a) xs zs = (w : Span) × (ys : List Placed) × (xs ≡ placed (Symbol symbol.Minus) w ∷ ys)
+      × (s ≡ across w (span_of a)) × (7 ≤ line a) × Spells a ys zs
   Spells (binary s o a b) xs zs = (x : Lexeme) × (w : Span) × (ys : List Placed) × (op_of x ≡ Some o) × (s ≡ across (span_of a) (span_of b))
       × (left_line o ≤ line a) × Spells a xs (placed x w ∷ ys) × (right_line o ≤ line b) × Spells b ys zs
   Spells (group s a) xs zs = (l : Span) × (r : Span) × (ys : List Placed)
@@ -152,7 +155,8 @@ abbrev mutual
 
   pub SpellsMore : Terms → Span → List Placed → List Placed → Type 0
   SpellsMore no_terms r xs zs = xs ≡ placed (Symbol symbol.RightParen) r ∷ zs
-  SpellsMore (and_term t ts) r xs zs = (w : Span) × (ys : List Placed) × (ws : List Placed) × (xs ≡ placed (Symbol symbol.Comma) w ∷ ys) × Spells t ys ws × SpellsMore ts r ws zs
+  SpellsMore (and_term t ts) r xs zs = (w : Span) × (ys : List Placed) × (ws : List Placed)
+      × (xs ≡ placed (Symbol symbol.Comma) w ∷ ys) × Spells t ys ws × SpellsMore ts r ws zs
 
 -- `create array` with a name and a schema
 abbrev pub SpellsCreate : Term → List Placed → List Placed → Type 0

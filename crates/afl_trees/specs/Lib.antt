@@ -1,3 +1,6 @@
+pub use Rattle.schema_grammar.specs.declared.kinds.SchemaFault
+pub use Rattle.schema_grammar.specs.declared.kinds.TypeKind
+pub use Rattle.schema_grammar.specs.declared.shape_text.SchemaText
 pub mod Grammar
 pub mod Inner
 pub mod Lemmas

@@ -5,7 +5,8 @@ use Rattle.std.specs.List.{join_with_byte}
 use Rattle.afl_lexer.specs.Spelling.{quoted_text}
 use Rattle.schema_grammar.specs.SchemaBytes.{shape_bytes}
 use Rattle.schema_grammar.specs.Inner.SchemaMarks.{nowhere, bare_shape}
-use Rattle.afl_trees.specs.Term.{Term, create, number, text, truth, null, missing, reference, version, call, schema, star, renamed, opposite, negative, binary, group, Terms, no_terms, and_term}
+use Rattle.afl_trees.specs.Term.{Term, create, number, text, truth, null, missing, reference, version, call, schema}
+use Rattle.afl_trees.specs.Term.{star, renamed, opposite, negative, binary, group, Terms, no_terms, and_term}
 use Rattle.afl_trees.specs.Statement.{DerivesText}
 use Rattle.afl_trees.specs.declared.tree.BinaryOp.{BinaryOp}
 use Rattle.afl_trees.specs.declared.tree.BinaryOp.TheVariants.{Or, And, Equal, Differs, Less, AtMost, More, AtLeast, Add, Sub, Mul, Div, Rem}

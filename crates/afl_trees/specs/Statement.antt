@@ -10,7 +10,8 @@ use Rattle.afl_trees.specs.Grammar.{IsStatement, Stops}
 use Rattle.afl_trees.specs.declared.kind.StopKind.{StopKind}
 use Rattle.afl_trees.specs.declared.kind.StopKind.TheVariants as stop
 use Rattle.afl_trees.specs.declared.kind.ParseKind.{ParseKind}
-use Rattle.afl_trees.specs.declared.kind.ParseKind.TheVariants.{UnknownCharacter, OpenText, BadEscape, TextTooLong, NameTooLong, LiteralTooLarge, Unexpected, TooDeep}
+use Rattle.afl_trees.specs.declared.kind.ParseKind.TheVariants.{UnknownCharacter, OpenText, BadEscape, TextTooLong}
+use Rattle.afl_trees.specs.declared.kind.ParseKind.TheVariants.{NameTooLong, LiteralTooLarge, Unexpected, TooDeep}
 
 -- the tokens with what their bytes say
 abbrev pub lexemes : List ℕ → List Token → List Placed

@@ -6,7 +6,8 @@ use Rattle.std.specs.Str.{bytes_eq}
 use Rattle.cell_values.specs.declared.name.Span.{Span}
 use Rattle.cell_values.specs.declared.schema.Schema.{Schema}
 use Rattle.schema_grammar.specs.declared.shape_text.SchemaText.{SchemaText}
-use Rattle.schema_grammar.specs.declared.kinds.TypeKind.TheVariants.{WrongType, WrongCount, UnknownName, UnknownArray, UnknownVersion, ArrayExists, SchemaDiffers, TooManyArrays, TooManyVersions}
+use Rattle.schema_grammar.specs.declared.kinds.TypeKind.TheVariants.{WrongType, WrongCount, UnknownName, UnknownArray, UnknownVersion}
+use Rattle.schema_grammar.specs.declared.kinds.TypeKind.TheVariants.{ArrayExists, SchemaDiffers, TooManyArrays, TooManyVersions}
 use Rattle.afl_trees.specs.Term.{Term, reference, text, Terms, no_terms, and_term}
 use Rattle.afl_trees.specs.Grammar.{span_of}
 use Rattle.logical_plan.specs.PlanSchema.{schema_of}
@@ -19,7 +20,7 @@ use Rattle.plan_changes.specs.declared.change.Change.{Change}
 use Rattle.plan_changes.specs.declared.change.Change.TheVariants.{Create, Store, Insert, RemoveVersions}
 use Rattle.check_rules.specs.Checked.{Checked, refused, demand, then}
 use Rattle.check_rules.specs.Sorts.{number_in}
-use Rattle.check_sources.specs.Build.{meant}
+use Rattle.check_queries.specs.Build.{meant}
 use Rattle.afl_types.specs.declared.changes.put.Target.{Target}
 
 -- ---- a new array

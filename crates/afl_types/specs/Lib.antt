@@ -1,11 +1,15 @@
 pub use Rattle.check_queries.specs.Arrays
+pub use Rattle.check_queries.specs.Build
 pub use Rattle.check_queries.specs.Calls
 pub use Rattle.check_queries.specs.Content
+pub use Rattle.check_queries.specs.Crosses
 pub use Rattle.check_queries.specs.GroupCalls
 pub use Rattle.check_queries.specs.JoinCalls
+pub use Rattle.check_queries.specs.JoinSchemas
 pub use Rattle.check_queries.specs.MovedCalls
 pub use Rattle.check_queries.specs.Queries
 pub use Rattle.check_queries.specs.Redimension
+pub use Rattle.check_queries.specs.Stored
 pub use Rattle.check_queries.specs.declared.call.Call
 pub use Rattle.check_queries.specs.declared.call.OverSource
 pub use Rattle.check_queries.specs.declared.call.OverTwo

@@ -5,5 +5,6 @@ mod changes;
 mod statements;
 
 pub use changes::{Target, array_call, create_array, cut_call, insert_call, list_call, store_call};
+pub use check_queries::query_plan;
 pub use check_rules::TypeFault;
 pub use statements::{Typed, check, let_go_typed};

@@ -7,7 +7,8 @@ use Rattle.agg_states.specs.Stands.{AreApart}
 
 -- two cells at different coordinates
 abbrev pub CellsInAnyOrder : Type 0
-CellsInAnyOrder = (x y : Row) (rows : List Row) → IsRising rows → (row_major x.at.items y.at.items ≡ Equal → ⊥) → put_row x (put_row y rows) ≡ put_row y (put_row x rows)
+CellsInAnyOrder = (x y : Row) (rows : List Row) → IsRising rows → (row_major x.at.items y.at.items ≡ Equal → ⊥)
+    → put_row x (put_row y rows) ≡ put_row y (put_row x rows)
 
 -- two sets that have no coordinate in common
 abbrev pub SetsInAnyOrder : Type 0

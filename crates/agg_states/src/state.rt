@@ -37,7 +37,14 @@ impl Model for AggState {
 
     ghost Value = { Summary };
 
-    ghost view = { λ state. record { function = state.function; fault = state.fault; cells = state.cells; values = state.values; total = state.total; best = state.best } };
+    ghost view = { λ state. record {
+      function = state.function;
+      fault = state.fault;
+      cells = state.cells;
+      values = state.values;
+      total = state.total;
+      best = state.best;
+    } };
 
     ghost invariant = { λ state. IsInRange state.cells state.values state.total };
 }
@@ -61,7 +68,8 @@ impl AggState {
     /// Adds a cell at a coordinate at which none was taken, with the value of an attribute, from 0. `CountAll` looks at no value.
     pub fn take(&mut self, at: &Coord, cell: &Cell, attribute: u32) -> Result<(), Memory>
         requires room { self.old.cells + 1 < 2 ^ 63 }
-        ensures stands { OnOk result ((g : Aggregate) (rows : Items Row) → StandsFor g rows self.old → g.attribute ≡ attribute → cell_at rows at.now.items ≡ None → StandsFor g (put_row (placed at.now.items cell.now) rows) self.new) }
+        ensures stands { OnOk result ((g : Aggregate) (rows : Items Row) → StandsFor g rows self.old → g.attribute ≡ attribute
+            → cell_at rows at.now.items ≡ None → StandsFor g (put_row (placed at.now.items cell.now) rows) self.new) }
         ensures cells { OnOk result (self.new.cells ≡ self.old.cells + 1) }
         ensures err { OnErr result (self.new ≡ self.old) }
     {
@@ -95,7 +103,8 @@ impl AggState {
     /// The aggregate of the cells in row-major order: the kind of the first fault, else the total, the number, the least or the
     /// greatest of the values that are not null.
     pub fn finish(self) -> Datum
-        ensures { (g : Aggregate) (attributes : Items Attribute) (rows : Items Row) → StandsFor g rows self → IsTrue (is_aggregate_of attributes g) → AllByRecursion (λ row. IsCellOf attributes row.cell) rows → result ≡ aggregate_of g (cells_of rows) }
+        ensures { (g : Aggregate) (attributes : Items Attribute) (rows : Items Row) → StandsFor g rows self
+            → IsTrue (is_aggregate_of attributes g) → AllByRecursion (λ row. IsCellOf attributes row.cell) rows → result ≡ aggregate_of g (cells_of rows) }
     {
         let AggState {
             function,

@@ -1,3 +1,5 @@
+pub use Rattle.chunk_cells.proofs.MergeLaws
+pub use Rattle.chunk_cells.proofs.NumberLaws
 pub mod ApartLaws
 pub mod BandLaws
 pub mod CountLaws

@@ -1,7 +1,6 @@
 -- Arrays that are made chunk by chunk, each chunk of the rows in its frame.
-use Rattle.std.proofs.Common.{◌≡◌, ℕ, ◌+◌, ◌<◌, ◌≤◌, ◌++◌, Bool, true, false, cond, List, [], ◌∷◌, length, get_or, take, drop, Option, refl, sym, ap, ◌∙◌, subst}
-use Rattle.std.specs.List.{AllByRecursion}
-use Rattle.std.proofs.lemmas.List.{take_all, take_more}
+use Rattle.std.proofs.Common.{◌≡◌, ℕ, ◌+◌, ◌<◌, ◌≤◌, ◌++◌, Bool, true, false, cond, List, [], ◌∷◌, length, map, take, drop, Option, refl, sym, ap, ◌∙◌, subst}
+use Rattle.std.specs.List.{AllByRecursion, AllZip}
 use Rattle.arrayvec.specs.ArrayVec.{ArrayVec}
 use Rattle.cell_values.specs.declared.datum.Cell.{Cell}
 use Rattle.cell_values.specs.declared.datum.Row.{Row}
@@ -22,6 +21,7 @@ use Rattle.array_parts.specs.Parts.{AreParts}
 use Rattle.array_parts.specs.Cores.{HaveCells}
 use Rattle.array_parts.specs.Placed.{HasPlaces, HavePlaces}
 use Rattle.chunk_cells.specs.Whole.{CoresRise}
+use Rattle.area_cells.specs.Pieces.{IsPartAt}
 use Rattle.area_cells.proofs.CutLaws.{all_drop, all_take}
 
 pub all_within : (area : Bounds) (rows made : List Row) → made ≡ within area rows → AllByRecursion (λ row. is_inside area row.at.items ≡ true) made
@@ -61,30 +61,31 @@ changed_parts dims margins change rows chunks parts e rise sized listed each = r
   parts = each;
 }
 
--- ---- one chunk after the other
+-- ---- a part for each number
 
-all_push : {X : Type 0} (P : X → Type 0) (xs : List X) (x : X) → AllByRecursion P xs → P x → AllByRecursion P (xs ++ x ∷ [])
-all_push P [] x a p = (p, tt)
-all_push P (y ∷ ys) x a p = (a.0, all_push P ys x a.1 p)
+pub each_number : (P : ArrayVec ℕ → Type 0) (Q : Chunk → Type 0) → ((chunk : Chunk) → Q chunk → P chunk.at) → (chunks : List Chunk) → AllByRecursion Q chunks → AllByRecursion P (map (λ chunk. chunk.at) chunks)
+each_number P Q f [] q = tt
+each_number P Q f (chunk ∷ chunks) q = (f chunk q.0, each_number P Q f chunks q.1)
 
-numbers_push : (xs : List Chunk) (x : Chunk) → numbers (xs ++ x ∷ []) ≡ numbers xs ++ x.at.items ∷ []
-numbers_push [] x = refl
-numbers_push (y ∷ xs) x = ap (λ (ks : List ChunkNumber). y.at.items ∷ ks) (numbers_push xs x)
+pub parts_numbers : (schema : Schema) (margins : List ℕ) (rows : List Row) (chunks parts : List Chunk) → AllZip (IsPartAt schema margins rows) (map (λ chunk. chunk.at) chunks) parts → numbers parts ≡ numbers chunks
+parts_numbers schema margins rows [] [] h = refl
+parts_numbers schema margins rows [] (part ∷ parts) h = absurd h
+parts_numbers schema margins rows (chunk ∷ chunks) [] h = absurd h
+parts_numbers schema margins rows (chunk ∷ chunks) (part ∷ parts) h =
+    let rest = parts_numbers schema margins rows chunks parts h.1 in
+    λ i. (h.0.number_is i).items ∷ rest i
 
-pub next_numbers : (chunks : List Chunk) (i : ℕ) (chunk part : Chunk) (parts parts' : List Chunk) → i < length chunks → chunk ≡ get_or chunks i chunk → part.at ≡ chunk.at → parts' ≡ parts ++ part ∷ [] → numbers parts ≡ numbers (take i chunks)
-    → numbers parts' ≡ numbers (take (i + 1) chunks)
-next_numbers chunks i chunk part parts parts' l e n p h =
-    ap numbers p
-    ∙ numbers_push parts part
-    ∙ (λ j. h j ++ (n j).items ∷ [])
-    ∙ sym (numbers_push (take i chunks) chunk)
-    ∙ ap numbers (ap (λ (z : Chunk). take i chunks ++ z ∷ []) e ∙ sym (take_more chunks i chunk l))
+pub parts_places : (schema : Schema) (margins : List ℕ) (rows : List Row) (at : List (ArrayVec ℕ)) (parts : List Chunk) → AllZip (IsPartAt schema margins rows) at parts → AllByRecursion (HasPlaces schema margins) parts
+parts_places schema margins rows [] [] h = tt
+parts_places schema margins rows [] (part ∷ parts) h = absurd h
+parts_places schema margins rows (k ∷ at) [] h = absurd h
+parts_places schema margins rows (k ∷ at) (part ∷ parts) h = (h.0.places, parts_places schema margins rows at parts h.1)
 
-pub all_more : (P : Chunk → Type 0) (part : Chunk) (parts parts' : List Chunk) → parts' ≡ parts ++ part ∷ [] → AllByRecursion P parts → P part → AllByRecursion P parts'
-all_more P part parts parts' e a p = subst (AllByRecursion P) (sym e) (all_push P parts part a p)
-
-pub all_numbers : (items chunks parts : List Chunk) (i : ℕ) → items ≡ chunks → length items ≤ i → numbers parts ≡ numbers (take i items) → numbers parts ≡ numbers chunks
-all_numbers items chunks parts i e l h = h ∙ ap numbers (take_all i items l ∙ e)
+pub parts_each : (schema : Schema) (margins : List ℕ) (rows : List Row) (at : List (ArrayVec ℕ)) (parts : List Chunk) → AllZip (IsPartAt schema margins rows) at parts → AllByRecursion (IsPart schema.dimensions margins rows) parts
+parts_each schema margins rows [] [] h = tt
+parts_each schema margins rows [] (part ∷ parts) h = absurd h
+parts_each schema margins rows (k ∷ at) [] h = absurd h
+parts_each schema margins rows (k ∷ at) (part ∷ parts) h = (h.0.part, parts_each schema margins rows at parts h.1)
 
 -- ---- parts of chunks
 

@@ -1,2 +1,4 @@
+pub use Rattle.chunk_cells.specs.Whole
 pub mod Cut
 pub mod Inner
+pub mod Pieces

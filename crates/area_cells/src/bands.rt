@@ -29,7 +29,8 @@ pub fn count_in_band(schema: &Schema, chunks: &[Chunk]) -> usize
     requires rise { NumbersRise (numbers chunks.now) }
     ensures some { 0 < result }
     ensures within { result ≤ length chunks.now }
-    ensures rows { (margins : Items ℕ) → core_rows schema.now.dimensions margins chunks.now ≡ core_rows schema.now.dimensions margins (take result chunks.now) ++ core_rows schema.now.dimensions margins (drop result chunks.now) }
+    ensures rows { (margins : Items ℕ) → core_rows schema.now.dimensions margins chunks.now ≡ core_rows schema.now.dimensions margins
+        (take result chunks.now) ++ core_rows schema.now.dimensions margins (drop result chunks.now) }
 {
     let _ = schema;
     let first = first_number(&chunks[0]);
@@ -65,7 +66,8 @@ pub fn half_of_bands(schema: &Schema, chunks: &[Chunk]) -> usize
     requires rise { NumbersRise (numbers chunks.now) }
     ensures some { 0 < result }
     ensures within { result ≤ length chunks.now }
-    ensures rows { (margins : Items ℕ) → core_rows schema.now.dimensions margins chunks.now ≡ core_rows schema.now.dimensions margins (take result chunks.now) ++ core_rows schema.now.dimensions margins (drop result chunks.now) }
+    ensures rows { (margins : Items ℕ) → core_rows schema.now.dimensions margins chunks.now ≡ core_rows schema.now.dimensions margins
+        (take result chunks.now) ++ core_rows schema.now.dimensions margins (drop result chunks.now) }
 {
     let _ = schema;
     let half = chunks.len() / 2;

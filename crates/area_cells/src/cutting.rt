@@ -37,7 +37,8 @@ fn push_inside(
     requires place { k < length (cells_in form.now) }
     requires grid { IsGrid grid.now }
     requires inside { position < volume grid.now.lengths.items }
-    ensures { OnOk result (made.new ≡ with_cell made.old position (cell_inside area.now (coordinate_in grid.now.low.items grid.now.lengths.items position) (slice_index_or (cells_in form.now) k (Full [])))) }
+    ensures { OnOk result (made.new ≡ with_cell made.old position
+        (cell_inside area.now (coordinate_in grid.now.low.items grid.now.lengths.items position) (slice_index_or (cells_in form.now) k (Full [])))) }
 {
     if is_in_box(area, &grid.place(position)) {
         push_cell(made, position, form, k)?;

@@ -22,7 +22,8 @@ fn add_row(chunk: &mut Chunk, grid: &Grid, row: Row) -> Result<(), Memory>
     requires grid { IsGrid grid.now }
     requires inside { IsTrue (is_in_grid grid.now.low.items grid.now.lengths.items row.at.items) }
     ensures number { OnOk result (chunk.new.at ≡ chunk.old.at) }
-    ensures filled { OnOk result ((rows : Items Placed) → IsFilled grid.now.low.items grid.now.lengths.items rows chunk.old → IsFilled grid.now.low.items grid.now.lengths.items (rows ++ row ∷ []) chunk.new) }
+    ensures filled { OnOk result ((rows : Items Placed) → IsFilled grid.now.low.items grid.now.lengths.items rows chunk.old
+        → IsFilled grid.now.low.items grid.now.lengths.items (rows ++ row ∷ []) chunk.new) }
 {
     let place = grid.position(&row.at);
     chunk.positions.push(place)?;

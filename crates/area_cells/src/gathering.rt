@@ -47,7 +47,8 @@ fn lies_off(schema: &Schema, first: &ChunkAt, last: &ChunkAt, area: &Bounds) -> 
     requires valid { IsValid schema.now }
     requires first { IsTrue (has_core schema.now.dimensions first.now.items) }
     requires last { IsTrue (has_core schema.now.dimensions last.now.items) }
-    ensures { result ≡ (begins_above area.now.lo.items (core schema.now.dimensions last.now.items).hi.items || begins_above (core schema.now.dimensions first.now.items).lo.items area.now.hi.items) }
+    ensures { result ≡ (begins_above area.now.lo.items (core schema.now.dimensions last.now.items).hi.items
+        || begins_above (core schema.now.dimensions first.now.items).lo.items area.now.hi.items) }
 {
     let from = core_box(schema, first);
     let upto = core_box(schema, last);

@@ -1,3 +1,5 @@
+pub use Rattle.array_rows.proofs.RowSets
+pub use Rattle.array_rows.proofs.RowsLemmas
 mod AreaLaws
 pub mod CoreLaws
 pub mod ExampleLaws

@@ -19,6 +19,8 @@ pub record IsChunk (schema : Schema) (margins : List ℕ) (chunk : Chunk) : Type
   pub each : length chunk.cells ≡ length chunk.positions
   pub rising : AreRising chunk.positions
   pub in_frame : AllByRecursion (λ p. p < volume (frame_lengths schema.dimensions margins)) chunk.positions
-  pub in_bounds : AllByRecursion (λ p. IsTrue (is_inside (bounds_of schema.dimensions) (coordinate_at schema.dimensions margins chunk.at.items p))) chunk.positions
-  pub in_core : IsTrue (list_any (λ p. is_inside (core schema.dimensions chunk.at.items) (coordinate_at schema.dimensions margins chunk.at.items p)) chunk.positions)
+  pub in_bounds : AllByRecursion (λ p. IsTrue
+      (is_inside (bounds_of schema.dimensions) (coordinate_at schema.dimensions margins chunk.at.items p))) chunk.positions
+  pub in_core : IsTrue (list_any (λ p. is_inside (core schema.dimensions chunk.at.items)
+      (coordinate_at schema.dimensions margins chunk.at.items p)) chunk.positions)
   pub cells : AllByRecursion (IsCellOf schema.attributes) chunk.cells

@@ -1,6 +1,7 @@
 -- Chunks of an array's places. In each dimension the places from the low bound on are cut into chunks of one length. A chunk's
 -- core is what the bounds leave of it, its frame is all of it with a margin on both sides, whatever the bounds are.
-use Rattle.std.specs.Prelude.{◌≡◌, ℕ, ◌+◌, ◌-◌, ◌*◌, ◌/◌, ◌%◌, ◌≤◌, ◌^◌, ℤ, pos, ◌+ℤ◌, ◌-ℤ◌, int_le, unsigned_abs, Bool, true, false, ◌&&◌, List, [], ◌∷◌, map, length, IsTrue}
+use Rattle.std.specs.Prelude.{◌≡◌, ℕ, ◌+◌, ◌-◌, ◌*◌, ◌/◌, ◌%◌, ◌≤◌, ◌^◌, ℤ, pos, ◌+ℤ◌, ◌-ℤ◌, int_le}
+use Rattle.std.specs.Prelude.{unsigned_abs, Bool, true, false, ◌&&◌, List, [], ◌∷◌, map, length, IsTrue}
 use Rattle.std.specs.Int.{int_min}
 use Rattle.array_rows.specs.Bounds.{Bounds}
 use Rattle.array_rows.specs.Dimension.{Dimension}

@@ -17,7 +17,8 @@ MeetHoldsBoth = (a b : Bounds) (c : Coordinate) → HasDimensions a c → HasDim
 
 -- a box that is moved holds what it held, moved
 abbrev pub ShiftedHoldsMoved : Type 0
-ShiftedHoldsMoved = (area : Bounds) (by c : Coordinate) → HasDimensions area c → length by ≡ length c → is_inside (shifted area by) (moved_by by c) ≡ is_inside area c
+ShiftedHoldsMoved = (area : Bounds) (by c : Coordinate) → HasDimensions area c → length by ≡ length c
+    → is_inside (shifted area by) (moved_by by c) ≡ is_inside area c
 
 -- a box has a coordinate exactly where no low number is above its high one
 abbrev pub LowestIsInside : Type 0
@@ -32,27 +33,35 @@ CoresCover = (schema : Schema) (c : Coordinate) → IsValid schema → IsTrue (i
     → IsTrue (has_core schema.dimensions (chunk_of schema.dimensions c)) × IsTrue (is_inside (core schema.dimensions (chunk_of schema.dimensions c)) c)
 
 abbrev pub CoresLieApart : Type 0
-CoresLieApart = (schema : Schema) (k : ChunkNumber) (c : Coordinate) → IsValid schema → length k ≡ length schema.dimensions → IsTrue (is_inside (core schema.dimensions k) c) → k ≡ chunk_of schema.dimensions c
+CoresLieApart = (schema : Schema) (k : ChunkNumber) (c : Coordinate) → IsValid schema → length k ≡ length schema.dimensions
+    → IsTrue (is_inside (core schema.dimensions k) c) → k ≡ chunk_of schema.dimensions c
 
 -- a core lies within the bounds, and in its frame
 abbrev pub CoreIsWithinBounds : Type 0
-CoreIsWithinBounds = (schema : Schema) (k : ChunkNumber) (c : Coordinate) → IsTrue (has_core schema.dimensions k) → IsTrue (is_inside (core schema.dimensions k) c) → IsTrue (is_inside (bounds_of schema.dimensions) c)
+CoreIsWithinBounds = (schema : Schema) (k : ChunkNumber) (c : Coordinate) → IsTrue (has_core schema.dimensions k)
+    → IsTrue (is_inside (core schema.dimensions k) c) → IsTrue (is_inside (bounds_of schema.dimensions) c)
 
 abbrev pub CoreIsInFrame : Type 0
-CoreIsInFrame = (schema : Schema) (margins : List ℕ) (k : ChunkNumber) (c : Coordinate) → length margins ≡ length schema.dimensions → IsTrue (is_inside (core schema.dimensions k) c) → IsTrue (is_inside (frame schema.dimensions margins k) c)
+CoreIsInFrame = (schema : Schema) (margins : List ℕ) (k : ChunkNumber) (c : Coordinate) → length margins ≡ length schema.dimensions
+    → IsTrue (is_inside (core schema.dimensions k) c) → IsTrue (is_inside (frame schema.dimensions margins k) c)
 
 -- places and coordinates of a frame are one another's
 abbrev pub PlaceOfCoordinate : Type 0
-PlaceOfCoordinate = (schema : Schema) (margins : List ℕ) (k : ChunkNumber) (c : Coordinate) → HasFrame schema margins k → IsTrue (is_inside (frame schema.dimensions margins k) c)
-    → (position_of schema.dimensions margins k c < volume (frame_lengths schema.dimensions margins)) × (coordinate_at schema.dimensions margins k (position_of schema.dimensions margins k c) ≡ c)
+PlaceOfCoordinate = (schema : Schema) (margins : List ℕ) (k : ChunkNumber) (c : Coordinate)
+    → HasFrame schema margins k → IsTrue (is_inside (frame schema.dimensions margins k) c)
+    → (position_of schema.dimensions margins k c < volume (frame_lengths schema.dimensions margins))
+    × (coordinate_at schema.dimensions margins k (position_of schema.dimensions margins k c) ≡ c)
 
 abbrev pub CoordinateAtPlace : Type 0
-CoordinateAtPlace = (schema : Schema) (margins : List ℕ) (k : ChunkNumber) (p : ℕ) → HasFrame schema margins k → p < volume (frame_lengths schema.dimensions margins)
-    → IsTrue (is_inside (frame schema.dimensions margins k) (coordinate_at schema.dimensions margins k p)) × (position_of schema.dimensions margins k (coordinate_at schema.dimensions margins k p) ≡ p)
+CoordinateAtPlace = (schema : Schema) (margins : List ℕ) (k : ChunkNumber) (p : ℕ)
+    → HasFrame schema margins k → p < volume (frame_lengths schema.dimensions margins)
+    → IsTrue (is_inside (frame schema.dimensions margins k) (coordinate_at schema.dimensions margins k p))
+    × (position_of schema.dimensions margins k (coordinate_at schema.dimensions margins k p) ≡ p)
 
 -- the core cells of an array's chunks, put together, are its rows
 abbrev pub ChunksHaveTheirRows : Type 0
-ChunksHaveTheirRows = (schema : Schema) (array : ChunkedArray) (rows : List Row) → HoldsRows schema array rows → core_rows schema.dimensions array.margins.items array.chunks ≡ rows
+ChunksHaveTheirRows = (schema : Schema) (array : ChunkedArray) (rows : List Row) → HoldsRows schema array rows
+    → core_rows schema.dimensions array.margins.items array.chunks ≡ rows
 
 -- so chunks are those of one array alone
 abbrev pub ChunksHaveOneMeaning : Type 0

@@ -1,5 +1,6 @@
 //! The cores of chunks.
-ghost use Rattle.std.specs.Prelude.{◌≡◌, ◌+◌, ◌*◌, ◌/◌, ◌≤◌, ◌<◌, ℕ, ℤ, pos, ◌≤ℤ◌, ◌+ℤ◌, ◌-ℤ◌, ◌++◌, List as Items, filter, map, length, int_le, unsigned_abs, IsTrue, IfOk};
+ghost use Rattle.std.specs.Prelude.{◌≡◌, ◌+◌, ◌*◌, ◌/◌, ◌≤◌, ◌<◌, ℕ, ℤ, pos, ◌≤ℤ◌, ◌+ℤ◌, ◌-ℤ◌, ◌++◌};
+ghost use Rattle.std.specs.Prelude.{List as Items, filter, map, length, int_le, unsigned_abs, IsTrue, IfOk};
 ghost use Rattle.std.specs.List.{AllByRecursion};
 ghost use Rattle.std.specs.Int.{int_min, int_max};
 ghost use Rattle.array_rows.specs.Schemas.{IsValid};
@@ -180,7 +181,8 @@ fn meets_side(d: &Dimension, k: u64, lo: i64, hi: i64) -> bool
 
 fn meets(dims: &[Dimension], chunk: &[u64], lo: &[i64], hi: &[i64]) -> bool
     requires { AreNear dims.now }
-    ensures { result ≡ are_ordered (by_pairs int_max (by_pairs first_in dims.now chunk.now) lo.now) (by_pairs int_min (by_pairs (λ d n. int_min d.hi (last_in d n)) dims.now chunk.now) hi.now) }
+    ensures { result ≡ are_ordered (by_pairs int_max (by_pairs first_in dims.now chunk.now) lo.now)
+        (by_pairs int_min (by_pairs (λ d n. int_min d.hi (last_in d n)) dims.now chunk.now) hi.now) }
 {
     match dims {
         [] => true,

@@ -1,5 +1,7 @@
 //! Laws of boxes, cores, frames and places.
-ghost use Rattle.array_geom.specs.Laws.{ChunksHaveOneMeaning, ChunksHaveTheirRows, MeetHoldsBoth, ShiftedHoldsMoved, LowestIsInside, WhatHoldsIsOrdered, CoresCover, CoresLieApart, CoreIsWithinBounds, CoreIsInFrame, PlaceOfCoordinate, CoordinateAtPlace};
+ghost use Rattle.array_geom.specs.Laws.{ChunksHaveOneMeaning, ChunksHaveTheirRows, MeetHoldsBoth, ShiftedHoldsMoved};
+ghost use Rattle.array_geom.specs.Laws.{LowestIsInside, WhatHoldsIsOrdered, CoresCover, CoresLieApart};
+ghost use Rattle.array_geom.specs.Laws.{CoreIsWithinBounds, CoreIsInFrame, PlaceOfCoordinate, CoordinateAtPlace};
 
 /// What a box holds that two boxes share, or that is moved, and which boxes hold something.
 #[tactic(auto, using(crate::proofs::LawProofs::meet_holds_both, crate::proofs::LawProofs::shifted_holds_moved, crate::proofs::LawProofs::lowest_is_inside, crate::proofs::LawProofs::what_holds_is_ordered))]

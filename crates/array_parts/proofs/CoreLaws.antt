@@ -10,10 +10,10 @@ use Rattle.cell_values.specs.declared.schema.Bounds.{Bounds}
 use Rattle.cell_values.specs.declared.schema.Dimension.{Dimension}
 use Rattle.cell_values.specs.declared.schema.Schema.{Schema}
 use Rattle.cell_values.specs.Cells.{IsCellOf}
-use Rattle.array_rows.specs.Arrays.{AreRowsOf}
-use Rattle.array_rows.specs.Boxes.{is_inside, bounds_of, within}
-use Rattle.array_rows.specs.Rows.{IsRising, put_all, put_by, put_row, row_major}
-use Rattle.array_rows.proofs.RowSets.{IsRising-put_all, IsRising-rows_where}
+use Rattle.array_geom.specs.Arrays.{AreRowsOf}
+use Rattle.array_geom.specs.Boxes.{is_inside, bounds_of, within}
+use Rattle.array_geom.specs.Rows.{IsRising, put_all, put_by, put_row, row_major}
+use Rattle.array_geom.proofs.RowSets.{IsRising-put_all, IsRising-rows_where}
 use Rattle.array_geom.specs.declared.chunk.Chunk.{Chunk}
 use Rattle.array_geom.specs.declared.chunk.ChunkedArray.{ChunkedArray}
 use Rattle.array_geom.specs.Geometry.{core, frame}

@@ -9,8 +9,8 @@ use Rattle.cell_values.specs.declared.schema.Schema.{Schema}
 use Rattle.cell_values.specs.declared.datum.Cell.{Cell}
 use Rattle.cell_values.specs.declared.schema.Bounds.{Bounds}
 use Rattle.cell_values.specs.declared.schema.Dimension.{Dimension}
-use Rattle.array_rows.specs.Boxes.{is_inside, within}
-use Rattle.array_rows.specs.Rows.{placed}
+use Rattle.array_geom.specs.Boxes.{is_inside, within}
+use Rattle.array_geom.specs.Rows.{placed}
 use Rattle.array_geom.specs.declared.chunk.Chunk.{Chunk}
 use Rattle.array_geom.specs.Geometry.{HasFrame, coordinate_in, core, frame_low, frame_lengths}
 use Rattle.array_geom.specs.Link.{rows_in, is_not_empty, AreChunksOf}

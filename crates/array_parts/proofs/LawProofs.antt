@@ -7,9 +7,9 @@ use Rattle.cell_values.specs.declared.schema.Bounds.{Bounds}
 use Rattle.cell_values.specs.declared.schema.Dimension.{Dimension}
 use Rattle.cell_values.specs.declared.schema.Schema.{Schema}
 use Rattle.cell_values.specs.Schemas.{IsValid}
-use Rattle.array_rows.specs.Arrays.{AreRows}
-use Rattle.array_rows.specs.Boxes.{is_inside, within, bounds_of}
-use Rattle.array_rows.specs.Rows.{Coordinate}
+use Rattle.array_geom.specs.Arrays.{AreRows}
+use Rattle.array_geom.specs.Boxes.{is_inside, within, bounds_of}
+use Rattle.array_geom.specs.Rows.{Coordinate}
 use Rattle.array_geom.specs.declared.chunk.Chunk.{Chunk}
 use Rattle.array_geom.specs.declared.chunk.ChunkedArray.{ChunkedArray}
 use Rattle.array_geom.specs.Geometry.{ChunkNumber, core, has_core, frame_lengths, volume}

@@ -4,4 +4,5 @@ pub mod LawProofs
 pub mod Lists
 pub mod PartLemmas
 pub mod PlaceRows
+pub mod StayLaws
 pub mod Steps

@@ -3,7 +3,7 @@ use Rattle.std.proofs.Common.{◌≡◌, ℕ, suc, ◌<◌, ℤ, List, [], ◌�
 use Rattle.std.specs.List.{AllByRecursion}
 use Rattle.cell_values.specs.declared.datum.Cell.{Cell}
 use Rattle.cell_values.specs.declared.datum.Row.{Row}
-use Rattle.array_rows.specs.Rows.{placed}
+use Rattle.array_geom.specs.Rows.{placed}
 use Rattle.array_geom.specs.Chunks.{AreRising}
 use Rattle.array_geom.specs.Geometry.{coordinate_in}
 use Rattle.array_geom.specs.Link.{rows_in}

@@ -7,8 +7,8 @@ use Rattle.std.proofs.lemmas.Cmp.{lists_total, nat_cmp_total, tied_itself}
 use Rattle.cell_values.specs.declared.datum.Row.{Row}
 use Rattle.cell_values.specs.declared.schema.Bounds.{Bounds}
 use Rattle.cell_values.specs.declared.schema.Dimension.{Dimension}
-use Rattle.array_rows.specs.Boxes.{is_inside, within}
-use Rattle.array_rows.proofs.RowsLemmas.{cond_out, within-cell_wise}
+use Rattle.array_geom.specs.Boxes.{is_inside, within}
+use Rattle.array_geom.proofs.RowsLemmas.{cond_out, within-cell_wise}
 use Rattle.array_geom.specs.declared.chunk.Chunk.{Chunk}
 use Rattle.array_geom.specs.Geometry.{ChunkNumber, core, frame}
 use Rattle.array_geom.specs.Link.{IsPart, number_order, NumbersRise, numbers, is_listed, is_not_empty, has_cell, AreChunksOf}

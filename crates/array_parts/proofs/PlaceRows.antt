@@ -11,9 +11,9 @@ use Rattle.cell_values.specs.declared.datum.Cell.{Cell}
 use Rattle.cell_values.specs.declared.datum.Row.{Row}
 use Rattle.cell_values.specs.declared.schema.Schema.{Schema}
 use Rattle.cell_values.specs.Cells.{IsCellOf}
-use Rattle.array_rows.specs.Arrays.{AreRowsOf}
-use Rattle.array_rows.specs.Boxes.{is_inside, bounds_of}
-use Rattle.array_rows.specs.Rows.{Coordinate, IsBefore, IsRising, row_major}
+use Rattle.array_geom.specs.Arrays.{AreRowsOf}
+use Rattle.array_geom.specs.Boxes.{is_inside, bounds_of}
+use Rattle.array_geom.specs.Rows.{Coordinate, IsBefore, IsRising, row_major}
 use Rattle.array_geom.specs.declared.chunk.Chunk.{Chunk}
 use Rattle.array_geom.specs.Chunks.{AreRising, IsChunk}
 use Rattle.array_geom.specs.Geometry.{coordinate_in, frame_low, frame_lengths, volume}

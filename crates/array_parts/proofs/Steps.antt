@@ -6,10 +6,10 @@ use Rattle.std.specs.Prelude.{slice_index_or}
 use Rattle.cell_values.specs.declared.datum.Cell.{Cell}
 use Rattle.cell_values.specs.declared.datum.Row.{Row}
 use Rattle.cell_values.specs.declared.schema.Dimension.{Dimension}
-use Rattle.array_rows.specs.Boxes.{within}
-use Rattle.array_rows.specs.Cellwise.{put_first, cell_wise}
-use Rattle.array_rows.specs.Rows.{Coordinate, placed}
-use Rattle.array_rows.proofs.RowsLemmas.{within-cell_wise}
+use Rattle.array_geom.specs.Boxes.{within}
+use Rattle.array_geom.specs.Cellwise.{put_first, cell_wise}
+use Rattle.array_geom.specs.Rows.{Coordinate, placed}
+use Rattle.array_geom.proofs.RowsLemmas.{within-cell_wise}
 use Rattle.arrayvec.specs.ArrayVec.{ArrayVec}
 use Rattle.array_geom.specs.declared.chunk.Chunk.{Chunk}
 use Rattle.array_geom.specs.Chunks.{AreRising}

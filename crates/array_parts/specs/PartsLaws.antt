@@ -5,10 +5,10 @@ use Rattle.cell_values.specs.declared.datum.Cell.{Cell}
 use Rattle.cell_values.specs.declared.datum.Row.{Row}
 use Rattle.cell_values.specs.declared.schema.Bounds.{Bounds}
 use Rattle.cell_values.specs.declared.schema.Dimension.{Dimension}
-use Rattle.array_rows.specs.Arrays.{Meant}
-use Rattle.array_rows.specs.Boxes.{within}
-use Rattle.array_rows.specs.Cellwise.{cell_wise}
-use Rattle.array_rows.specs.Rows.{Coordinate}
+use Rattle.array_geom.specs.Arrays.{Meant}
+use Rattle.array_geom.specs.Boxes.{within}
+use Rattle.array_geom.specs.Cellwise.{cell_wise}
+use Rattle.array_geom.specs.Rows.{Coordinate}
 use Rattle.array_geom.specs.declared.chunk.Chunk.{Chunk}
 use Rattle.array_geom.specs.declared.chunk.ChunkedArray.{ChunkedArray}
 use Rattle.array_geom.specs.Link.{AreChunksOf, Is}
@@ -22,10 +22,12 @@ ArraysAreSound = (array : ChunkedArray) (meant : Meant) → Is array meant → I
 
 -- the chunks of an array are parts, and of parts those whose core holds a cell are the chunks of an array
 abbrev pub ChunksAreParts : Type 0
-ChunksAreParts = (dims : List Dimension) (margins : List ℕ) (rows : List Row) (chunks : List Chunk) → AreChunksOf dims margins rows chunks → AreParts dims margins rows chunks
+ChunksAreParts = (dims : List Dimension) (margins : List ℕ) (rows : List Row) (chunks : List Chunk)
+    → AreChunksOf dims margins rows chunks → AreParts dims margins rows chunks
 
 abbrev pub HeldPartsAreChunks : Type 0
-HeldPartsAreChunks = (dims : List Dimension) (margins : List ℕ) (rows : List Row) (chunks : List Chunk) → AreParts dims margins rows chunks → length margins ≡ length dims
+HeldPartsAreChunks = (dims : List Dimension) (margins : List ℕ) (rows : List Row) (chunks : List Chunk)
+    → AreParts dims margins rows chunks → length margins ≡ length dims
     → AreChunksOf dims margins rows (filter (holds_cell dims margins) chunks)
 
 -- what a local operator makes of parts are parts of what it makes of the rows

@@ -31,13 +31,15 @@ InOrderRises = (rows : List Row) → IsRising (in_order rows)
 -- ---- the cell at a coordinate
 
 abbrev pub CellWiseCells : Type 0
-CellWiseCells = (change : Coordinate → Cell → Option Cell) (rows : List Row) (c : Coordinate) → IsRising rows → cell_at (cell_wise change rows) c ≡ option_and_then (change c) (cell_at rows c)
+CellWiseCells = (change : Coordinate → Cell → Option Cell) (rows : List Row) (c : Coordinate) → IsRising rows
+    → cell_at (cell_wise change rows) c ≡ option_and_then (change c) (cell_at rows c)
 
 abbrev pub PartCells : Type 0
 PartCells = (test : Coordinate → Bool) (rows : List Row) (c : Coordinate) → cell_at (rows_where test rows) c ≡ (if test c then cell_at rows c else None)
 
 abbrev pub PutRowCells : Type 0
-PutRowCells = (new : Row) (rows : List Row) (c : Coordinate) → cell_at (put_row new rows) c ≡ (if is_eq (row_major new.at.items c) then Some new.cell else cell_at rows c)
+PutRowCells = (new : Row) (rows : List Row) (c : Coordinate)
+    → cell_at (put_row new rows) c ≡ (if is_eq (row_major new.at.items c) then Some new.cell else cell_at rows c)
 
 abbrev pub PutAllCells : Type 0
 PutAllCells = (new rows : List Row) (c : Coordinate) → cell_at (put_all new rows) c ≡ option_or (cell_at new c) (cell_at rows c)

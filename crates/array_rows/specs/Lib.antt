@@ -5,6 +5,7 @@ pub use Rattle.cell_values.specs.declared.datum.Broken
 pub use Rattle.cell_values.specs.declared.datum.Cell
 pub use Rattle.cell_values.specs.declared.datum.Datum
 pub use Rattle.cell_values.specs.declared.datum.Row
+pub use Rattle.cell_values.specs.declared.schema.Attribute
 pub use Rattle.cell_values.specs.declared.schema.Bounds
 pub use Rattle.cell_values.specs.declared.schema.Dimension
 pub use Rattle.cell_values.specs.declared.schema.Kind

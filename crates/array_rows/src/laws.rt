@@ -1,5 +1,6 @@
 //! Laws of rows.
-ghost use Rattle.array_rows.specs.Laws.{SameCellsAreSameRows, CellWiseRises, PartsRise, PutRowRises, PutAllRises, InOrderRises, CellWiseCells, PartCells, PutRowCells, PutAllCells, InOrderCells};
+ghost use Rattle.array_rows.specs.Laws.{SameCellsAreSameRows, CellWiseRises, PartsRise, PutRowRises, PutAllRises};
+ghost use Rattle.array_rows.specs.Laws.{InOrderRises, CellWiseCells, PartCells, PutRowCells, PutAllCells, InOrderCells};
 
 /// Two arrays with the same cell at each coordinate have the same rows.
 pub fn same_cells_are_same_rows()

@@ -6,6 +6,7 @@ mod laws;
 
 pub use boxes::is_in_box;
 pub use cell_values::{
-    Bounds, Broken, ChunkAt, Coord, Copies, Dimension, List, Margins, Memory, Schema, copy_numbers,
+    Attribute, Bounds, Broken, Bytes, Cell, ChunkAt, Code, Coord, Copies, Datum, Dimension, Kind,
+    List, Margins, Memory, Schema, copy_numbers,
 };
 pub use laws::{cells_at_coordinates, rows_rise, same_cells_are_same_rows};

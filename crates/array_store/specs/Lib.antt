@@ -1,3 +1,4 @@
+pub use Rattle.fresh_changes.specs.Fresh
 pub use Rattle.store_preparing.specs.Left
 pub use Rattle.store_preparing.specs.Parts
 pub use Rattle.store_sealing.specs.Steps

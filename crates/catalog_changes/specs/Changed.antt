@@ -31,7 +31,8 @@ with_its_directory name (Some directory) arrays = map (with_directory name direc
 
 abbrev pub changed : List CatalogArray → Change → Option BlobAt → List CatalogArray
 changed arrays (Create name schema) directory = with_new name schema arrays
-changed arrays (Store name schema plan) directory = with_its_directory name directory (if has_array (entries_of arrays) name then arrays else with_new name schema arrays)
+changed arrays (Store name schema plan) directory = with_its_directory name directory
+    (if has_array (entries_of arrays) name then arrays else with_new name schema arrays)
 changed arrays (Insert name schema plan) directory = with_its_directory name directory arrays
 changed arrays (Remove name) directory = without name arrays
 changed arrays (RemoveVersions name below) directory = map (from_version name below) arrays
@@ -56,11 +57,13 @@ record_for catalog (RemoveVersions name below) directory = Some (entries.RemoveV
 
 -- the names of the catalogue after a change are those after the change
 abbrev pub NamesAreKept : Type 0
-NamesAreKept = (catalog : Catalog) (change : Change) (directory : Option BlobAt) → IsTrue (has_its_directory change directory) → names_in (after_change catalog change directory) ≡ names_after (names_in catalog) change
+NamesAreKept = (catalog : Catalog) (change : Change) (directory : Option BlobAt) → IsTrue (has_its_directory change directory)
+    → names_in (after_change catalog change directory) ≡ names_after (names_in catalog) change
 
 -- a record that is allowed leaves a catalogue that has a spelling
 abbrev pub RecordsKeepCatalogs : Type 0
-RecordsKeepCatalogs = (catalog : Catalog) (entry : CatalogRecord) → IsCatalog catalog → IsRecord entry → IsTrue (is_allowed catalog entry) → IsCatalog (after_record catalog entry)
+RecordsKeepCatalogs = (catalog : Catalog) (entry : CatalogRecord) → IsCatalog catalog → IsRecord entry
+    → IsTrue (is_allowed catalog entry) → IsCatalog (after_record catalog entry)
 
 -- a directory, where one comes, in as many pages as it needs
 abbrev pub IsItsBlob : Option BlobAt → Type 0
@@ -69,10 +72,12 @@ IsItsBlob (Some directory) = IsBlob directory
 
 -- the record of a change that the names allow has a spelling
 abbrev pub ChangesHaveRecords : Type 0
-ChangesHaveRecords = (catalog : Catalog) (change : Change) (directory : Option BlobAt) (entry : CatalogRecord) → IsCatalog catalog → HasItsNames change → IsTrue (names_allow (names_in catalog) change) → IsItsBlob directory →
+ChangesHaveRecords = (catalog : Catalog) (change : Change) (directory : Option BlobAt) (entry : CatalogRecord) → IsCatalog catalog
+    → HasItsNames change → IsTrue (names_allow (names_in catalog) change) → IsItsBlob directory →
     record_for catalog change directory ≡ Some entry → IsRecord entry
 
 -- such a change leaves a catalogue that has a spelling
 abbrev pub ChangesKeepCatalogs : Type 0
-ChangesKeepCatalogs = (catalog : Catalog) (change : Change) (directory : Option BlobAt) → IsCatalog catalog → HasItsNames change → IsTrue (names_allow (names_in catalog) change) → IsTrue (has_its_directory change directory) → IsItsBlob directory →
+ChangesKeepCatalogs = (catalog : Catalog) (change : Change) (directory : Option BlobAt) → IsCatalog catalog → HasItsNames change
+    → IsTrue (names_allow (names_in catalog) change) → IsTrue (has_its_directory change directory) → IsItsBlob directory →
     IsCatalog (after_change catalog change directory)

@@ -1,5 +1,6 @@
 pub use Rattle.version_catalog.specs.Catalogs
 pub use Rattle.version_catalog.specs.Databases
+pub use Rattle.version_catalog.specs.Spelling
 pub use Rattle.version_catalog.specs.Stored
 pub use Rattle.version_catalog.specs.Table
 pub use Rattle.version_catalog.specs.declared.rules.catalog.BlobAt

@@ -39,15 +39,22 @@ is_array name array = is_named name array.entry
 
 -- one more array without versions, in its place by name
 abbrev pub with_new : List ℕ → Schema → List CatalogArray → List CatalogArray
-with_new name schema arrays = insert arrays (prefix_len (λ array. is_before array.entry.name name) arrays) (record { entry = new_entry name schema; directories = [] })
+with_new name schema arrays = insert arrays (prefix_len (λ array. is_before array.entry.name name) arrays)
+    (record { entry = new_entry name schema; directories = [] })
 
 -- one more version under the next number, and its directory
 abbrev pub with_directory : List ℕ → BlobAt → CatalogArray → CatalogArray
-with_directory name directory array = if is_array name array then record { entry = with_version name array.entry; directories = array.directories ++ directory ∷ [] } else array
+with_directory name directory array = if is_array name array then record {
+  entry = with_version name array.entry;
+  directories = array.directories ++ directory ∷ [];
+} else array
 
 -- no version below a number. As many of the first directories go as versions
 abbrev pub from_version : List ℕ → ℕ → CatalogArray → CatalogArray
-from_version name below array = if is_array name array then record { entry = without_below name below array.entry; directories = drop (count_by (λ version. nat_lt version below) array.entry.versions) array.directories } else array
+from_version name below array = if is_array name array then record {
+  entry = without_below name below array.entry;
+  directories = drop (count_by (λ version. nat_lt version below) array.entry.versions) array.directories;
+} else array
 
 abbrev pub without : List ℕ → List CatalogArray → List CatalogArray
 without name arrays = filter (λ array. not (is_array name array)) arrays

@@ -69,7 +69,8 @@ frame_fits dimensions = nat_le (frame_size dimensions) 281474976710656
 
 abbrev pub is_valid : Schema → Bool
 is_valid schema =
-    has_attributes schema.attributes && has_dimensions schema.dimensions && are_distinct (names_of schema) && list_all is_dimension schema.dimensions && frame_fits schema.dimensions
+    has_attributes schema.attributes && has_dimensions schema.dimensions && are_distinct (names_of schema)
+    && list_all is_dimension schema.dimensions && frame_fits schema.dimensions
 
 abbrev pub IsValid : Schema → Type 0
 IsValid schema = IsTrue (is_valid schema)

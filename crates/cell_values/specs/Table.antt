@@ -1,7 +1,8 @@
 -- The values of expressions: what each operator and function gives for the values of its operands.
 -- A fault of an operand is the answer, else a null of an operand with its code, the left operand first; `and` and `or` also
 -- stop at false and at true. Each definition is total; for operands of types that the operator does not have its answer means nothing.
-use Rattle.std.specs.Prelude.{ℕ, zero, ◌+◌, ℤ, pos, negsuc, neg_ℤ, ◌+ℤ◌, ◌-ℤ◌, ◌*ℤ◌, int_div, int_rem, Bool, true, false, not, if◌then◌else◌, nat_lt, nat_le, List, ◌++◌, length}
+use Rattle.std.specs.Prelude.{ℕ, zero, ◌+◌, ℤ, pos, negsuc, neg_ℤ, ◌+ℤ◌, ◌-ℤ◌, ◌*ℤ◌, int_div, int_rem}
+use Rattle.std.specs.Prelude.{Bool, true, false, not, if◌then◌else◌, nat_lt, nat_le, List, ◌++◌, length}
 use Rattle.std.specs.declared.cmp.Ordering.{Ordering}
 use Rattle.std.specs.Ordering.{is_eq, is_ne, is_lt, is_gt, is_le, is_ge, nat_cmp, int_cmp, bool_cmp, int_eq}
 use Rattle.std.specs.Cmp.Lexicographic.{slice_cmp}

@@ -1,5 +1,6 @@
 //! A list that contracts see as the list of its items, and copies of values.
-ghost use Rattle.std.specs.Prelude.{◌≡◌, ◌<◌, ◌≤◌, ◌^◌, ◌++◌, [], ◌∷◌, ◌↔◌, length, take, insert, remove, slice_get, slice_index_or, slice_set, IsTrue, IsOk, IfOk, OnOk, OnErr, OnSome, MatchOption};
+ghost use Rattle.std.specs.Prelude.{◌≡◌, ◌<◌, ◌≤◌, ◌^◌, ◌++◌, [], ◌∷◌, ◌↔◌, length, take, insert, remove, slice_get};
+ghost use Rattle.std.specs.Prelude.{slice_index_or, slice_set, IsTrue, IsOk, IfOk, OnOk, OnErr, OnSome, MatchOption};
 ghost use Rattle.std.specs.Option.{option_copied};
 ghost use Rattle.std.specs.Iterator.Runs.{EveryRun, ItemsMapTo};
 ghost use Rattle.std.specs.Iterator.Adapters.{IterYieldsInOrder};

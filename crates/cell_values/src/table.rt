@@ -2,7 +2,8 @@
 //!
 //! For operands of types that an operator does not have the answer means nothing.
 ghost use Rattle.std.specs.Prelude.{◌≡◌, IfOk, MatchOption};
-ghost use Rattle.cell_values.specs.Table.{exact, joined, total, difference, product, quotient, remainder, negation, holds, comparison, both_of, either_of, opposite};
+ghost use Rattle.cell_values.specs.Table.{exact, joined, total, difference, product, quotient, remainder};
+ghost use Rattle.cell_values.specs.Table.{negation, holds, comparison, both_of, either_of, opposite};
 
 use crate::limits::MAX_TEXT;
 use crate::{CompareOp, Datum, FaultKind, List, Memory};

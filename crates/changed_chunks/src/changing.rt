@@ -21,9 +21,11 @@ use chunk_source::ChunkSource;
 use logical_plan::{Leaf, Plan};
 use plan_changes::Change;
 use std::alloc::Global;
+use std::thread::Threads;
 
 /// The chunks that a store writes.
-fn stored<S: ChunkSource, G: Gate>(
+fn stored<S: ChunkSource, R: Threads + Sync, G: Gate>(
+    rt: &R,
     alloc: Global,
     plan: &Plan,
     schema: &Schema,
@@ -45,14 +47,15 @@ fn stored<S: ChunkSource, G: Gate>(
     ensures cause { Answers (S.state source.old) (S.state source.new) result }
     ensures start { S.start source.new ≡ S.start source.old }
 {
-    match input_of(alloc, plan, schema, source, workers, session, gate)? {
+    match input_of(rt, alloc, plan, schema, source, workers, session, gate)? {
         Ok(input) => Ok(Ok(all_of(stored_array(schema, input)?))),
         Err(broken) => Ok(Err(broken)),
     }
 }
 
 /// The chunks that an insert writes over its target.
-fn inserted<S: ChunkSource, G: Gate>(
+fn inserted<S: ChunkSource, R: Threads + Sync, G: Gate>(
+    rt: &R,
     alloc: Global,
     plan: &Plan,
     schema: &Schema,
@@ -80,15 +83,16 @@ fn inserted<S: ChunkSource, G: Gate>(
     ensures cause { Answers (S.state source.old) (S.state source.new) result }
     ensures start { S.start source.new ≡ S.start source.old }
 {
-    match input_of(alloc, plan, schema, source, workers, session, gate)? {
+    match input_of(rt, alloc, plan, schema, source, workers, session, gate)? {
         Ok(input) => Ok(Ok(put_over_target(alloc, plan, schema, input, target, source)?)),
         Err(broken) => Ok(Err(broken)),
     }
 }
 
 /// The chunks that a store or an insert writes, or where and why its plan's array has a fault. An insert's target is the newest
-/// version of its array; a store's isn't looked at. The number of workers and the gate change nothing.
-pub fn changed<S: ChunkSource, G: Gate>(
+/// version of its array; a store's isn't looked at. How many workers there are changes nothing.
+pub fn changed<S: ChunkSource, R: Threads + Sync, G: Gate>(
+    rt: &R,
     alloc: Global,
     change: &Change,
     target: &Leaf,
@@ -113,10 +117,12 @@ pub fn changed<S: ChunkSource, G: Gate>(
 {
     match change {
         Change::Store { schema, plan, .. } => {
-            stored(alloc, plan, schema, source, workers, session, gate)
+            stored(rt, alloc, plan, schema, source, workers, session, gate)
         }
         Change::Insert { schema, plan, .. } => {
-            inserted(alloc, plan, schema, target, source, workers, session, gate)
+            inserted(
+                rt, alloc, plan, schema, target, source, workers, session, gate,
+            )
         }
         _ => unreachable!(),
     }

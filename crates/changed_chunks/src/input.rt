@@ -22,6 +22,7 @@ use chunk_exec::{ExecFault, execute};
 use chunk_source::ChunkSource;
 use logical_plan::Plan;
 use std::alloc::Global;
+use std::thread::Threads;
 
 /// The first row with a fault.
 fn first_fault(rows: &[Row]) -> Option<Broken>
@@ -86,7 +87,8 @@ fn rows_in(array: ChunkedArray, schema: &Schema) -> Result<Result<List<Row>, Bro
 }
 
 /// The rows that are stored of a plan's array under a schema, or its first fault.
-pub(crate) fn input_of<S: ChunkSource, G: Gate>(
+pub(crate) fn input_of<S: ChunkSource, R: Threads + Sync, G: Gate>(
+    rt: &R,
     alloc: Global,
     plan: &Plan,
     schema: &Schema,
@@ -107,7 +109,7 @@ pub(crate) fn input_of<S: ChunkSource, G: Gate>(
     ensures cause { Answers (S.state source.old) (S.state source.new) result }
     ensures start { S.start source.new ≡ S.start source.old }
 {
-    match execute(alloc, plan, source, workers, session, gate) {
+    match execute(rt, alloc, plan, source, workers, session, gate) {
         Ok(array) => match rows_in(array, schema) {
             Ok(found) => Ok(found),
             Err(Memory) => Err(ExecFault::Memory),

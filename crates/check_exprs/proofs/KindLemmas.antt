@@ -17,9 +17,9 @@ use Rattle.cell_values.specs.declared.datum.Datum.TheVariants as datum
 use Rattle.cell_values.specs.Cells.{is_of_kind}
 use Rattle.schema_grammar.specs.declared.kinds.TypeKind.{TypeKind}
 use Rattle.schema_grammar.specs.declared.kinds.TypeKind.TheVariants.{WrongType}
-use Rattle.afl_trees.specs.Term.{Term, create, number, text, truth, null, missing, reference, version, call, schema, star, renamed, opposite, negative, binary, group, Terms, no_terms, and_term}
-use Rattle.afl_trees.specs.declared.tree.BinaryOp.{BinaryOp}
-use Rattle.afl_trees.specs.declared.tree.BinaryOp.TheVariants.{Or, And, Equal, Differs, Less, AtMost, More, AtLeast, Add, Sub, Mul, Div, Rem}
+use Rattle.check_rules.specs.Term.{Term, create, number, text, truth, null, missing, reference, version, call, schema, star, renamed, opposite, negative, binary, group, Terms, no_terms, and_term}
+use Rattle.check_rules.specs.BinaryOp.{BinaryOp}
+use Rattle.check_rules.specs.BinaryOp.TheVariants.{Or, And, Equal, Differs, Less, AtMost, More, AtLeast, Add, Sub, Mul, Div, Rem}
 use Rattle.expr_nulls.specs.Expr.{Expr, literal, calculation, relation}
 use Rattle.expr_nulls.specs.Typing.{same_kind, calculates, compares, has_kind, is_kind_at}
 use Rattle.expr_nulls.specs.declared.expr.ArithOp.{ArithOp}

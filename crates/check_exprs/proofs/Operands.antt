@@ -4,7 +4,7 @@ use Rattle.cell_values.specs.declared.name.Span.{Span}
 use Rattle.cell_values.specs.declared.schema.Attribute.{Attribute}
 use Rattle.cell_values.specs.declared.schema.Dimension.{Dimension}
 use Rattle.schema_grammar.specs.declared.kinds.TypeKind.TheVariants.{WrongCount}
-use Rattle.afl_trees.specs.Term.{Term, to_terms}
+use Rattle.check_rules.specs.Term.{Term, to_terms}
 use Rattle.check_rules.specs.Checked.{refused}
 use Rattle.check_exprs.specs.Expressions.{typed_call}
 use Rattle.check_rules.specs.declared.rules.operator.Form.TheVariants.{Iif, One}

@@ -6,8 +6,8 @@ use Rattle.cell_values.specs.declared.schema.Kind.TheVariants.{Int64}
 use Rattle.cell_values.specs.declared.schema.Dimension.{Dimension}
 use Rattle.cell_values.specs.declared.datum.Datum.TheVariants as datum
 use Rattle.schema_grammar.specs.declared.kinds.TypeKind.TheVariants.{UnknownName, WrongType, WrongCount}
-use Rattle.afl_trees.specs.Term.{number, text, truth, null, missing, reference, version, call, binary, group, no_terms, and_term}
-use Rattle.afl_trees.specs.declared.tree.BinaryOp.TheVariants.{Equal, Less, Add, Sub}
+use Rattle.check_rules.specs.Term.{number, text, truth, null, missing, reference, version, call, binary, group, no_terms, and_term}
+use Rattle.check_rules.specs.BinaryOp.TheVariants.{Equal, Less, Add, Sub}
 use Rattle.expr_nulls.specs.Expr.{literal, dimension_value, calculation, conditional}
 use Rattle.expr_nulls.specs.declared.expr.ArithOp.TheVariants as arith_op
 use Rattle.check_rules.specs.Checked.{refused}

@@ -17,10 +17,12 @@ use Rattle.cell_values.specs.declared.datum.Datum.TheVariants as datum
 use Rattle.cell_values.specs.declared.datum.CompareOp.{CompareOp}
 use Rattle.cell_values.specs.declared.datum.CompareOp.TheVariants as compare
 use Rattle.schema_grammar.specs.declared.kinds.TypeKind.TheVariants.{UnknownName, WrongType, WrongCount}
-use Rattle.afl_trees.specs.Term.{Term, create, number, text, truth, null, missing, reference, version, call, schema, star, renamed, opposite, negative, binary, group, Terms, no_terms, and_term}
-use Rattle.afl_trees.specs.declared.tree.BinaryOp.{BinaryOp}
-use Rattle.afl_trees.specs.declared.tree.BinaryOp.TheVariants.{Or, And, Equal, Differs, Less, AtMost, More, AtLeast, Add, Sub, Mul, Div, Rem}
-use Rattle.expr_nulls.specs.Expr.{Expr, literal, attribute_value, dimension_value, minus, denial, calculation, relation, conjunction, disjunction, conditional, null_test, byte_length, decimal_text, coded_null, null_code}
+use Rattle.check_rules.specs.Term.{Term, create, number, text, truth, null, missing, reference, version, call, schema}
+use Rattle.check_rules.specs.Term.{star, renamed, opposite, negative, binary, group, Terms, no_terms, and_term}
+use Rattle.check_rules.specs.BinaryOp.{BinaryOp}
+use Rattle.check_rules.specs.BinaryOp.TheVariants.{Or, And, Equal, Differs, Less, AtMost, More, AtLeast, Add, Sub, Mul, Div, Rem}
+use Rattle.expr_nulls.specs.Expr.{Expr, literal, attribute_value, dimension_value, minus, denial, calculation, relation, conjunction}
+use Rattle.expr_nulls.specs.Expr.{disjunction, conditional, null_test, byte_length, decimal_text, coded_null, null_code}
 use Rattle.expr_nulls.specs.Typing.{same_kind}
 use Rattle.expr_nulls.specs.declared.expr.ArithOp.{ArithOp}
 use Rattle.expr_nulls.specs.declared.expr.ArithOp.TheVariants as arith

@@ -6,8 +6,8 @@ use Rattle.cell_values.specs.declared.schema.Kind.{Kind}
 use Rattle.cell_values.specs.declared.schema.Kind.TheVariants.{Int64, Str}
 use Rattle.cell_values.specs.declared.schema.Attribute.{Attribute}
 use Rattle.cell_values.specs.declared.schema.Dimension.{Dimension}
-use Rattle.afl_trees.specs.Term.{Term, number, text, missing, call, renamed, opposite, negative, binary, group, Terms, no_terms, and_term}
-use Rattle.afl_trees.specs.declared.tree.BinaryOp.{BinaryOp}
+use Rattle.check_rules.specs.Term.{Term, number, text, missing, call, renamed, opposite, negative, binary, group, Terms, no_terms, and_term}
+use Rattle.check_rules.specs.BinaryOp.{BinaryOp}
 use Rattle.cell_values.specs.declared.name.Span.{Span}
 use Rattle.schema_grammar.specs.declared.kinds.TypeKind.{TypeKind}
 use Rattle.expr_nulls.specs.Typing.{has_kind}
@@ -46,4 +46,5 @@ TypedHaveKinds = (attributes : List Attribute) (dimensions : List Dimension) (t 
 abbrev pub InnerFaultsFirst : Type 0
 InnerFaultsFirst = (attributes : List Attribute) (dimensions : List Dimension) (s at : Span) (op : BinaryOp) (a b : Term) (kind : TypeKind)
     → (typed attributes dimensions a ≡ refused at kind → typed attributes dimensions (binary s op a b) ≡ refused at kind)
-    × ((x : Operand) → typed attributes dimensions a ≡ Ok x → typed attributes dimensions b ≡ refused at kind → typed attributes dimensions (binary s op a b) ≡ refused at kind)
+    × ((x : Operand) → typed attributes dimensions a ≡ Ok x → typed attributes dimensions b ≡ refused at kind
+    → typed attributes dimensions (binary s op a b) ≡ refused at kind)

@@ -1,18 +1,19 @@
 //! Expressions: from a tree to a typed expression over the attributes and dimensions of a source.
 ghost use Rattle.std.specs.Prelude.{◌≡◌, ◌≤◌, ◌<◌, Some, None, Ok, length, IfSome};
-ghost use Rattle.afl_trees.specs.Term.{to_terms};
+ghost use Rattle.check_rules.specs.Term.{to_terms};
 ghost use Rattle.expr_nulls.specs.Expr.{literal};
 ghost use Rattle.check_rules.specs.Checked.{Answers, then};
 ghost use Rattle.check_rules.specs.Operators.{operator_named, form_named};
-ghost use Rattle.check_exprs.specs.Expressions.{operand, attribute_place, dimension_place, kind_at, named, negated, denied, combined, chosen, applied, bracketed, typed, typed_call};
+ghost use Rattle.check_exprs.specs.Expressions.{operand, attribute_place, dimension_place, kind_at, named, negated};
+ghost use Rattle.check_exprs.specs.Expressions.{denied, combined, chosen, applied, bracketed, typed, typed_call};
 ghost use Rattle.check_rules.specs.declared.rules.operator.Form.{Form};
 
 use crate::Operand;
 use crate::operand::{applied, chosen, combined, denied, let_go_both, negated};
-use afl_trees::{BinaryOp, Node, Tree};
 use cell_values::{Attribute, Datum, Dimension, Kind, Span};
 use check_rules::{
-    Form, OneForm, TypeFault, broken, form_named, name_span, operator_named, same_name,
+    BinaryOp, Form, Node, OneForm, Tree, TypeFault, broken, form_named, name_span, operator_named,
+    same_name,
 };
 use expr_nulls::{TypedExpr, let_go_expr};
 use schema_grammar::TypeKind;
@@ -233,7 +234,8 @@ fn typed_choice(
 ) -> Result<Operand, TypeFault>
     requires attributes { length attributes.now ≤ 64 }
     requires dimensions { length dimensions.now ≤ 6 }
-    ensures { Answers result (then (typed attributes.now dimensions.now test.now) (λ x. then (typed attributes.now dimensions.now a.now) (λ y. then (typed attributes.now dimensions.now b.now) (chosen span x y)))) }
+    ensures { Answers result (then (typed attributes.now dimensions.now test.now)
+        (λ x. then (typed attributes.now dimensions.now a.now) (λ y. then (typed attributes.now dimensions.now b.now) (chosen span x y)))) }
 {
     let test = typed(alloc, attributes, dimensions, test)?;
     match typed(alloc, attributes, dimensions, a) {

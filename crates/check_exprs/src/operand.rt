@@ -5,11 +5,11 @@ ghost use Rattle.check_rules.specs.declared.rules.fault.TypeFault.{TypeFault};
 ghost use Rattle.check_rules.specs.declared.rules.operator.OneForm.{OneForm};
 ghost use Rattle.expr_nulls.specs.Typing.{same_kind};
 ghost use Rattle.check_rules.specs.Checked.{Answers};
-ghost use Rattle.check_exprs.specs.Expressions.{fits, fits_beside, is_ordered, is_text, sum_kind, common_kind, negated, denied, calculated, equated, ranked, conjoined, disjoined, combined, chosen, applied};
+ghost use Rattle.check_exprs.specs.Expressions.{fits, fits_beside, is_ordered, is_text, sum_kind, common_kind, negated, denied};
+ghost use Rattle.check_exprs.specs.Expressions.{calculated, equated, ranked, conjoined, disjoined, combined, chosen, applied};
 
-use afl_trees::BinaryOp;
 use cell_values::{CompareOp, Kind, Span};
-use check_rules::{OneForm, TypeFault, broken};
+use check_rules::{BinaryOp, OneForm, TypeFault, broken};
 use expr_nulls::{ArithOp, TypedExpr, let_go_expr};
 use schema_grammar::TypeKind;
 use std::alloc::Global;

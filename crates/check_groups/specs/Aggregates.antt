@@ -29,7 +29,11 @@ given_or t own = own
 
 abbrev pub new_aggregate : List (List ℕ) → List Aggregate → Span → AggFunction → ℕ → List ℕ → Checked Aggregate
 new_aggregate names done s function place name =
-    demand (not (is_among name names || is_among name (aggregate_names done))) s RepeatedName (Ok (record { function = function; attribute = place; name = name }))
+    demand (not (is_among name names || is_among name (aggregate_names done))) s RepeatedName (Ok (record {
+      function = function;
+      attribute = place;
+      name = name;
+    }))
 
 -- `count(*)` looks at no attribute
 abbrev pub attribute_in : List Attribute → AggFunction → Term → Checked ℕ

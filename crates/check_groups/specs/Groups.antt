@@ -16,7 +16,8 @@ use Rattle.check_groups.specs.declared.groups.aggregate.Groups.{Groups}
 
 abbrev pub with_places : Span → Schema → List Term → List ℕ → Checked Groups
 with_places s source aggregates places =
-    then (aggregates_of s source.attributes (dimension_names (group_dimensions places source.dimensions)) aggregates) (λ gs. Ok (record { aggregates = gs; places = places }))
+    then (aggregates_of s source.attributes (dimension_names (group_dimensions places source.dimensions)) aggregates)
+    (λ gs. Ok (record { aggregates = gs; places = places }))
 
 abbrev pub groups_of : Span → Schema → List Term → List Term → Checked Groups
 groups_of s source aggregates names =

@@ -23,4 +23,5 @@ beside s dimensions attributes =
 
 -- `join`: the dimensions are as many and have the same bounds
 abbrev pub joined_schema : Span → Schema → Schema → Checked Schema
-joined_schema s left right = demand (same_bounds left.dimensions right.dimensions) s BoundsDiffer (beside s left.dimensions (left.attributes ++ right.attributes))
+joined_schema s left right = demand (same_bounds left.dimensions right.dimensions) s BoundsDiffer
+    (beside s left.dimensions (left.attributes ++ right.attributes))

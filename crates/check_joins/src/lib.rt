@@ -6,5 +6,6 @@ mod cross;
 mod free;
 mod join;
 
+pub use check_groups::{Blocks, Groups, Windows, aggregate_parts, regrid_parts, window_parts};
 pub use cross::{Crossed, cross_parts};
 pub use join::join_schema;

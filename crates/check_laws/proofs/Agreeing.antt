@@ -18,8 +18,8 @@ use Rattle.check_rules.specs.Operators.{operator_named}
 use Rattle.check_rules.specs.declared.rules.operator.Operator.{Operator}
 use Rattle.check_rules.specs.declared.rules.operator.Operator.TheVariants as operator
 use Rattle.check_rules.specs.Sorts.{to_list, number_in}
-use Rattle.check_sources.specs.Build.{meant}
-use Rattle.check_sources.specs.Stored.{newest_of, version_of, referred, scan_call}
+use Rattle.afl_types.specs.Build.{meant}
+use Rattle.afl_types.specs.Stored.{newest_of, version_of, referred, scan_call}
 use Rattle.afl_types.specs.Calls.{call_of}
 use Rattle.afl_types.specs.Content.{content_span}
 use Rattle.afl_types.specs.Queries.{called, over, over_two, query_of}

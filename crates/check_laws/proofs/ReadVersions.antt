@@ -17,8 +17,8 @@ use Rattle.plan_changes.specs.Typed.{IsVersionOf}
 use Rattle.check_rules.specs.Operators.{operator_named}
 use Rattle.check_rules.proofs.RulesHolding.{demanded, thens, of_answer}
 use Rattle.check_rules.specs.Sorts.{to_list}
-use Rattle.check_sources.specs.Stored.{newest, is_version, leaf_of, newest_of, at_version, version_of, referred, scan_call}
-use Rattle.check_sources.proofs.Holding.{build_holds}
+use Rattle.afl_types.specs.Stored.{newest, is_version, leaf_of, newest_of, at_version, version_of, referred, scan_call}
+use Rattle.afl_types.proofs.Holding.{build_holds}
 use Rattle.check_cellwise.proofs.CellsHolding.{filter_holds, apply_holds, project_holds}
 use Rattle.check_cellwise.proofs.BoxesHolding.{between_holds, subarray_holds, slice_holds}
 use Rattle.afl_types.specs.Calls.{call_of, fits_count, fits_two, ruled, ruled_two}
@@ -33,8 +33,8 @@ use Rattle.afl_types.specs.OverTwo.TheVariants.{Join, CrossJoin}
 use Rattle.check_groups.specs.Blocks.{regrid_parts}
 use Rattle.check_groups.specs.Groups.{aggregate_parts}
 use Rattle.check_groups.specs.Windows.{window_parts}
-use Rattle.check_joins.specs.Crosses.{cross_parts}
-use Rattle.check_joins.specs.JoinSchemas.{joined_schema}
+use Rattle.afl_types.specs.Crosses.{cross_parts}
+use Rattle.afl_types.specs.JoinSchemas.{joined_schema}
 use Rattle.afl_types.specs.Redimension.{redimension_parts}
 use Rattle.check_rules.proofs.OperatorsHolding.{new_holds}
 use Rattle.afl_types.proofs.NoQuery.{nested_holds}

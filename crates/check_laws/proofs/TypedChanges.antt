@@ -28,8 +28,8 @@ use Rattle.check_rules.specs.declared.rules.operator.Operator.TheVariants as ope
 use Rattle.check_rules.proofs.RulesHolding.{demanded, thens, of_answer}
 use Rattle.check_exprs.specs.Laws.{leaves_fit, all_leaves_fit}
 use Rattle.check_rules.specs.Sorts.{number_in}
-use Rattle.check_sources.specs.Build.{meant}
-use Rattle.check_sources.proofs.Holding.{meant_valid}
+use Rattle.afl_types.specs.Build.{meant}
+use Rattle.afl_types.proofs.Holding.{meant_valid}
 use Rattle.afl_types.specs.Changes.{array_call, below_of, created, created_as, cut_at, cut_by, cut_call, cut_from, cut_of, insert_call, insert_target, inserted_schema, known, list_call, store_call, store_target, stored_name, stored_schema}
 use Rattle.afl_types.specs.Place.{created_place}
 use Rattle.afl_types.specs.declared.changes.put.Target.{Target}

@@ -35,7 +35,7 @@ use Rattle.check_rules.specs.Sorts.{to_list}
 use Rattle.check_rules.proofs.Names.{distinct_front}
 use Rattle.check_rules.proofs.Turns.{turns_keep, turns_count, pairs_keep}
 use Rattle.check_rules.proofs.ValidSchemas.{ValidParts, valid_parts, valid_of_parts, has_some}
-use Rattle.check_sources.proofs.Holding.{build_holds, referred_holds, scan_holds}
+use Rattle.afl_types.proofs.Holding.{build_holds, referred_holds, scan_holds}
 use Rattle.check_cellwise.specs.Apply.{applied_one}
 use Rattle.check_cellwise.specs.Project.{projected_one}
 use Rattle.check_cellwise.proofs.AppliedValues.{Added, adds}

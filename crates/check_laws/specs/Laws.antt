@@ -21,12 +21,14 @@ use Rattle.afl_types.specs.declared.statements.checking.Typed.TheVariants.{Chang
 
 -- over stored arrays of valid schemas, and for a tree whose numbers, texts and codes are within the limits of values
 abbrev pub CheckedPlansAreTyped : Type 0
-CheckedPlansAreTyped = (arrays : List NameEntry) (tree : Term) (query : Query) → AreValid arrays → IsTrue (leaves_fit tree) → query_of arrays tree ≡ Ok query → IsTyped query
+CheckedPlansAreTyped = (arrays : List NameEntry) (tree : Term) (query : Query) → AreValid arrays
+    → IsTrue (leaves_fit tree) → query_of arrays tree ≡ Ok query → IsTyped query
 
 -- a change that checking answers over the names of stored arrays is one that they allow, of a typed plan that reads versions which
 -- stand, into an array that its schema fits
 abbrev pub CheckedChangesAreTyped : Type 0
-CheckedChangesAreTyped = (names : Names) (text : List ℕ) (tree : Term) (change : Change) → AreStored names → IsTrue (leaves_fit tree) → check_of tree text names ≡ Ok (AChange change) → IsTypedFor names change
+CheckedChangesAreTyped = (names : Names) (text : List ℕ) (tree : Term) (change : Change) → AreStored names
+    → IsTrue (leaves_fit tree) → check_of tree text names ≡ Ok (AChange change) → IsTypedFor names change
 
 -- those of each tree that a text of bytes derives are
 abbrev pub ParsedLeavesFit : Type 0
@@ -34,5 +36,6 @@ ParsedLeavesFit = (text : List ℕ) (tree : Term) → ((i : ℕ) → get_or text
 
 -- the place that is told of a created array's name is that of the statement's third token
 abbrev pub CreatedPlaceIsTheName : Type 0
-CreatedPlaceIsTheName = (text : List ℕ) (s : Span) (name : List ℕ) (written : SchemaText) → length text ≤ 1048576 → (d : DerivesText text (create s name written))
+CreatedPlaceIsTheName = (text : List ℕ) (s : Span) (name : List ℕ) (written : SchemaText)
+    → length text ≤ 1048576 → (d : DerivesText text (create s name written))
     → option_map (λ token. token.span) (slice_get d.tokens 2) ≡ Some (created_place text s name)

@@ -37,8 +37,10 @@ change_names (RemoveVersions name below) = name ∷ []
 
 -- a tree that is a change says just these
 abbrev pub CheckedChangesSayTheirNames : Type 0
-CheckedChangesSayTheirNames = (names : Names) (text : List ℕ) (tree : Term) (change : Change) → check_of tree text names ≡ Ok (AChange change) → said_names tree ≡ change_names change
+CheckedChangesSayTheirNames = (names : Names) (text : List ℕ) (tree : Term) (change : Change)
+    → check_of tree text names ≡ Ok (AChange change) → said_names tree ≡ change_names change
 
 -- so over names that agree on them it is the same change
 abbrev pub CheckedChangesStay : Type 0
-CheckedChangesStay = (a b : Names) (text : List ℕ) (tree : Term) (change : Change) → Agree a b (change_names change) → check_of tree text a ≡ Ok (AChange change) → check_of tree text b ≡ Ok (AChange change)
+CheckedChangesStay = (a b : Names) (text : List ℕ) (tree : Term) (change : Change) → Agree a b (change_names change)
+    → check_of tree text a ≡ Ok (AChange change) → check_of tree text b ≡ Ok (AChange change)

@@ -4,6 +4,7 @@
 mod laws;
 mod names;
 
+pub use afl_types::query_plan;
 pub use laws::{
     checked_changes_are_typed, checked_plans_are_typed, created_places_are_names, parsed_leaves_fit,
 };

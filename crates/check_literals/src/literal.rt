@@ -5,7 +5,9 @@ ghost use Rattle.check_literals.specs.declared.literal.Place.{Place};
 ghost use Rattle.afl_lexer.specs.Lexemes.{lexeme_of};
 ghost use Rattle.afl_lexer.specs.Tokens.{IsTokenOf};
 ghost use Rattle.check_literals.specs.Literals.{mark_of, whats};
-ghost use Rattle.check_literals.specs.Inner.Reader.{is_number, with_element, with_bare, with_value, signed_value, before_element, before_value, behind_value, behind_element, turn_at, turn, finished, spelled, elements_of};
+ghost use Rattle.check_literals.specs.Inner.Reader.{is_number, with_element, with_bare, with_value, signed_value};
+ghost use Rattle.check_literals.specs.Inner.Reader.{before_element, before_value, behind_value};
+ghost use Rattle.check_literals.specs.Inner.Reader.{behind_element, turn_at, turn, finished, spelled, elements_of};
 
 use afl_lexer::{LexFault, Symbol, Token, TokenKind, Word, text_value, tokens};
 use cell_values::{Code, Datum, List, Memory, neg};

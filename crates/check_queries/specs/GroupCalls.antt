@@ -6,9 +6,9 @@ use Rattle.logical_plan.specs.PlanSchema.{schema_of}
 use Rattle.logical_plan.specs.Query.{Query, regridded, windowed, aggregated}
 use Rattle.check_rules.specs.Checked.{Checked, then}
 use Rattle.check_rules.specs.NewSchema.{of_new_schema}
-use Rattle.check_groups.specs.Blocks.{regrid_parts}
-use Rattle.check_groups.specs.Groups.{aggregate_parts}
-use Rattle.check_groups.specs.Windows.{window_parts}
+use Rattle.check_joins.specs.Blocks.{regrid_parts}
+use Rattle.check_joins.specs.Groups.{aggregate_parts}
+use Rattle.check_joins.specs.Windows.{window_parts}
 
 abbrev pub regrid_call : Span → Query → List Term → Checked Query
 regrid_call s source arguments = then (regrid_parts s (schema_of source) arguments) (λ p. of_new_schema s (regridded source p.sizes p.aggregates))

@@ -2,14 +2,14 @@
 ghost use Rattle.std.specs.Prelude.{◌≤◌, length};
 ghost use Rattle.logical_plan.specs.PlanSchema.{schema_of};
 ghost use Rattle.check_rules.specs.Checked.{Answers};
-ghost use Rattle.check_groups.specs.Blocks.{regrid_parts};
-ghost use Rattle.check_groups.specs.Groups.{aggregate_parts};
-ghost use Rattle.check_groups.specs.Windows.{window_parts};
+ghost use Rattle.check_joins.specs.Blocks.{regrid_parts};
+ghost use Rattle.check_joins.specs.Groups.{aggregate_parts};
+ghost use Rattle.check_joins.specs.Windows.{window_parts};
 ghost use Rattle.check_queries.specs.GroupCalls.{aggregate_call, regrid_call, window_call};
 
 use afl_trees::Tree;
 use cell_values::Span;
-use check_groups::{Blocks, Groups, Windows, aggregate_parts, regrid_parts, window_parts};
+use check_joins::{Blocks, Groups, Windows, aggregate_parts, regrid_parts, window_parts};
 use check_rules::{TypeFault, of_new_schema, shape_of};
 use logical_plan::{Plan, let_go};
 use std::alloc::Global;

@@ -1,3 +1,4 @@
+pub use Rattle.check_sources.proofs.Holding
 pub mod Origins
 pub mod PartsFit
 mod WorkedRedimensions

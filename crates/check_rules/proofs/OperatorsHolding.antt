@@ -5,7 +5,7 @@ use Rattle.std.proofs.lemmas.Bool.{leb-true}
 use Rattle.cell_values.specs.declared.name.Span.{Span}
 use Rattle.cell_values.specs.declared.schema.Schema.{Schema}
 use Rattle.cell_values.specs.Schemas.{frame_fits}
-use Rattle.schema_grammar.specs.declared.kinds.TypeKind.TheVariants.{TooManyDimensions, TooManyAttributes, ChunkTooLarge}
+use Rattle.afl_trees.specs.TypeKind.TheVariants.{TooManyDimensions, TooManyAttributes, ChunkTooLarge}
 use Rattle.plan_schemas.specs.PlanSchema.{schema_of}
 use Rattle.plan_schemas.specs.Query.{Query}
 use Rattle.check_rules.specs.Checked.{Checked}

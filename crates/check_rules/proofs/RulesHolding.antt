@@ -1,7 +1,7 @@
 -- What holds of a thing wherever it is what checking answers.
 use Rattle.std.proofs.Common.{◌≡◌, Bool, true, false, Ok, Err, IfOk, refl, subst}
 use Rattle.cell_values.specs.declared.name.Span.{Span}
-use Rattle.schema_grammar.specs.declared.kinds.TypeKind.{TypeKind}
+use Rattle.afl_trees.specs.TypeKind.{TypeKind}
 use Rattle.check_rules.specs.Checked.{Checked, demand, then}
 
 module _ {A : Type 0} (P : A → Type 0) where

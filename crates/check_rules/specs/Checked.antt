@@ -1,9 +1,9 @@
 -- What checking answers: a typed thing, or the first rule that is broken.
 use Rattle.std.specs.Prelude.{◌≡◌, Bool, true, false, Result, Ok, Err, ⊤}
 use Rattle.cell_values.specs.declared.name.Span.{Span}
-use Rattle.schema_grammar.specs.declared.kinds.TypeKind.{TypeKind}
-use Rattle.schema_grammar.specs.declared.kinds.SchemaFault.{SchemaFault}
-use Rattle.schema_grammar.specs.declared.kinds.SchemaFault.TheVariants as schema
+use Rattle.afl_trees.specs.TypeKind.{TypeKind}
+use Rattle.afl_trees.specs.SchemaFault.{SchemaFault}
+use Rattle.afl_trees.specs.SchemaFault.TheVariants as schema
 use Rattle.check_rules.specs.declared.rules.fault.TypeFault.{TypeFault}
 use Rattle.check_rules.specs.declared.rules.fault.TypeFault.TheVariants.{Rule, Memory}
 

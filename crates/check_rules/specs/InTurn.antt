@@ -2,7 +2,7 @@
 use Rattle.std.specs.Prelude.{ℕ, not, ◌==◌, Option, Some, None, Ok, List, [], ◌∷◌, ◌++◌}
 use Rattle.std.specs.List.{list_any}
 use Rattle.cell_values.specs.declared.name.Span.{Span}
-use Rattle.schema_grammar.specs.declared.kinds.TypeKind.TheVariants.{UnknownName, RepeatedName}
+use Rattle.afl_trees.specs.TypeKind.TheVariants.{UnknownName, RepeatedName}
 use Rattle.check_rules.specs.Checked.{Checked, refused, demand, then}
 
 -- one argument after the other

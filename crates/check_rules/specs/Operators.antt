@@ -3,7 +3,10 @@ use Rattle.std.specs.Prelude.{ℕ, ◌+◌, min, List, length, codes, Option, So
 use Rattle.std.specs.Str.{bytes_eq}
 use Rattle.cell_values.specs.declared.name.Span.{Span}
 use Rattle.check_rules.specs.declared.rules.operator.Operator.{Operator}
-use Rattle.check_rules.specs.declared.rules.operator.Operator.TheVariants.{Build, Scan, Filter, Apply, Project, Between, Subarray, Slice, Join, CrossJoin, Redimension, Regrid, Window, Aggregate, Store, Insert, Remove, RemoveVersions, Versions, Show, ListNames}
+use Rattle.check_rules.specs.declared.rules.operator.Operator.TheVariants.{Build, Scan, Filter, Apply, Project, Between}
+use Rattle.check_rules.specs.declared.rules.operator.Operator.TheVariants.{Subarray, Slice, Join, CrossJoin, Redimension}
+use Rattle.check_rules.specs.declared.rules.operator.Operator.TheVariants.{Regrid, Window, Aggregate, Store, Insert, Remove}
+use Rattle.check_rules.specs.declared.rules.operator.Operator.TheVariants.{RemoveVersions, Versions, Show, ListNames}
 use Rattle.check_rules.specs.declared.rules.operator.Form.{Form}
 use Rattle.check_rules.specs.declared.rules.operator.Form.TheVariants.{Iif, One}
 use Rattle.check_rules.specs.declared.rules.operator.OneForm.TheVariants.{IsNull, StrLen, ToText, Missing, Reason}

@@ -2,8 +2,8 @@
 use Rattle.std.specs.Prelude.{ℤ, pos, neg_ℤ, Bool, true, false, is_some, if◌then◌else◌, Option, Some, None, Ok, List, [], ◌∷◌}
 use Rattle.cell_values.specs.declared.name.Span.{Span}
 use Rattle.cell_values.specs.Table.{fits_int64}
-use Rattle.schema_grammar.specs.declared.shape_text.SchemaText.{SchemaText}
-use Rattle.schema_grammar.specs.declared.kinds.TypeKind.TheVariants.{WrongType}
+use Rattle.afl_trees.specs.SchemaText.{SchemaText}
+use Rattle.afl_trees.specs.TypeKind.TheVariants.{WrongType}
 use Rattle.afl_trees.specs.Term.{Term, create, number, null, reference, schema, star, renamed, negative, Terms, no_terms, and_term}
 use Rattle.afl_trees.specs.Grammar.{span_of}
 use Rattle.check_rules.specs.Checked.{Checked, refused}

@@ -4,6 +4,7 @@
 mod operators;
 mod rules;
 
+pub use afl_trees::{BinaryOp, Node, Tree};
 pub use operators::{
     first_but_bounds, first_but_names, first_but_places, first_but_values, is_expression,
     new_place, number_in, of_new_schema, shape_of, wrong_type,

@@ -26,7 +26,8 @@ pub record TakesRow (schema : Schema) (margins : List ℕ) (row : Row) (old new 
 
 -- the same of all chunks
 abbrev pub TakeRow : Schema → List ℕ → Row → List Chunk → List Chunk → Type 0
-TakeRow schema margins row old new = (rows : List Row) → AllByRecursion (IsPart schema.dimensions margins rows) old → AllByRecursion (IsPart schema.dimensions margins (rows ++ row ∷ [])) new
+TakeRow schema margins row old new = (rows : List Row) → AllByRecursion (IsPart schema.dimensions margins rows) old
+    → AllByRecursion (IsPart schema.dimensions margins (rows ++ row ∷ [])) new
 
 abbrev pub HasNoCells : Chunk → Type 0
 HasNoCells chunk = (chunk.positions ≡ []) × (chunk.cells ≡ [])

@@ -11,14 +11,18 @@ use crate::ExecFault;
 use crate::leaf::given_array;
 use crate::operators::{of_one, of_two};
 use crate::sources::{Sources, sources_of};
+use afl_outside::Gate;
 use array_geom::ChunkedArray;
 use chunk_source::ChunkSource;
+use chunk_workers::Crew;
 use logical_plan::Plan;
 use std::alloc::Global;
+use std::thread::Threads;
 
 /// The array of a plan, whose leaves have the next numbers.
 #[cycle(compute)]
-pub(crate) fn compute<S: ChunkSource>(
+pub(crate) fn compute<S: ChunkSource, R: Threads + Sync, G: Gate>(
+    crew: &mut Crew<'_, R, G>,
     alloc: Global,
     plan: &Plan,
     source: &mut S,
@@ -34,14 +38,15 @@ pub(crate) fn compute<S: ChunkSource>(
 {
     match sources_of(plan) {
         Sources::Given => given_array(alloc, plan, source, next),
-        Sources::One(from) => over_one(alloc, plan, from, source, next),
-        Sources::Two(left, right) => over_two(alloc, plan, left, right, source, next),
+        Sources::One(from) => over_one(crew, alloc, plan, from, source, next),
+        Sources::Two(left, right) => over_two(crew, alloc, plan, left, right, source, next),
     }
 }
 
 /// The array of a plan of one source.
 #[cycle(compute)]
-fn over_one<S: ChunkSource>(
+fn over_one<S: ChunkSource, R: Threads + Sync, G: Gate>(
+    crew: &mut Crew<'_, R, G>,
     alloc: Global,
     plan: &Plan,
     from: &Plan,
@@ -57,13 +62,14 @@ fn over_one<S: ChunkSource>(
     ensures cause { Answers (S.state source.old) (S.state source.new) result }
     ensures start { S.start source.new ≡ S.start source.old }
 {
-    let array = compute(alloc, from, source, next)?;
-    Ok(of_one(alloc, plan, array)?)
+    let array = compute(crew, alloc, from, source, next)?;
+    Ok(of_one(crew, alloc, plan, array)?)
 }
 
 /// The array of a plan of two sources.
 #[cycle(compute)]
-fn over_two<S: ChunkSource>(
+fn over_two<S: ChunkSource, R: Threads + Sync, G: Gate>(
+    crew: &mut Crew<'_, R, G>,
     alloc: Global,
     plan: &Plan,
     left: &Plan,
@@ -80,7 +86,7 @@ fn over_two<S: ChunkSource>(
     ensures cause { Answers (S.state source.old) (S.state source.new) result }
     ensures start { S.start source.new ≡ S.start source.old }
 {
-    let left = compute(alloc, left, source, next)?;
-    let right = compute(alloc, right, source, next)?;
-    Ok(of_two(plan, left, right)?)
+    let left = compute(crew, alloc, left, source, next)?;
+    let right = compute(crew, alloc, right, source, next)?;
+    Ok(of_two(crew, plan, left, right)?)
 }

@@ -16,12 +16,15 @@ use crate::compute::compute;
 use afl_outside::Gate;
 use array_geom::ChunkedArray;
 use chunk_source::ChunkSource;
+use chunk_workers::Crew;
 use logical_plan::Plan;
 use std::alloc::Global;
+use std::thread::Threads;
 
-/// The array of a plan over the arrays of a source. The number of workers and the gate change nothing: all is computed by the
-/// caller's thread.
-pub fn execute<S: ChunkSource, G: Gate>(
+/// The array of a plan over the arrays of a source. The caller's thread asks for chunks; at most `workers` threads, the caller's
+/// among them, compute on what was read, and each passes the gate before each piece. How many they are changes nothing.
+pub fn execute<S: ChunkSource, R: Threads + Sync, G: Gate>(
+    rt: &R,
     alloc: Global,
     plan: &Plan,
     source: &mut S,
@@ -42,8 +45,13 @@ pub fn execute<S: ChunkSource, G: Gate>(
     ensures cause { Answers (S.state source.old) (S.state source.new) result }
     ensures start { S.start source.new ≡ S.start source.old }
 {
-    let _ = (workers, session);
-    let _ = gate;
+    let mut crew = Crew {
+        rt,
+        workers,
+        session,
+        gate,
+        pieces: 0,
+    };
     let mut next = 0;
-    compute(alloc, plan, source, &mut next)
+    compute(&mut crew, alloc, plan, source, &mut next)
 }

@@ -1,7 +1,7 @@
 //! Directories and their entries.
 ghost use Rattle.std.specs.Prelude.{◌≡◌, IfOk};
 
-use cell_values::{ChunkAt, Copies, List, Memory, copy_numbers};
+use file_items::{ChunkAt, Copies, List, Memory, copy_numbers};
 
 /// Where the payload of a chunk lies.
 #[derive(Debug, Drop)]

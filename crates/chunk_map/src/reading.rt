@@ -5,8 +5,7 @@ ghost use Rattle.file_items.specs.Items.{IsRead, repeat};
 ghost use Rattle.chunk_map.specs.Table.{is_number, next_number, number_of, entry_after, next_entry, number_in, last_number, directory_in};
 
 use crate::{DirEntry, Directory};
-use cell_values::{ChunkAt, List};
-use file_items::{Stop, pages, positive, u64_at};
+use file_items::{ChunkAt, List, Stop, pages, positive, u64_at};
 use std::alloc::Global;
 
 fn is_number(before: Option<&[u64]>, last: bool, n: u64) -> bool

@@ -10,11 +10,11 @@ use Rattle.file_items.specs.Items.{Are, Stopped}
 use Rattle.file_items.specs.declared.bytes.stop.Stop.{Stop}
 use Rattle.file_items.specs.declared.bytes.stop.Stop.TheVariants as stops
 use Rattle.file_items.proofs.BytesLaws.{AreBytes, bind_ok, ok_is}
-use Rattle.cell_values.specs.declared.datum.Datum.{Datum}
-use Rattle.cell_values.specs.declared.datum.Datum.TheVariants.{Null}
-use Rattle.cell_values.specs.declared.datum.Cell.{Cell}
-use Rattle.cell_values.specs.declared.datum.Cell.TheVariants.{Full, Doubt}
-use Rattle.cell_values.specs.declared.schema.Attribute.{Attribute}
+use Rattle.array_geom.specs.Datum.{Datum}
+use Rattle.array_geom.specs.Datum.TheVariants.{Null}
+use Rattle.array_geom.specs.Cell.{Cell}
+use Rattle.array_geom.specs.Cell.TheVariants.{Full, Doubt}
+use Rattle.array_geom.specs.Attribute.{Attribute}
 use Rattle.chunk_rle.specs.Frames.{Frame}
 use Rattle.chunk_rle.specs.declared.runs.PosRun.{PosRun}
 use Rattle.chunk_rle.specs.declared.runs.Column.{Column}

@@ -1,3 +1,6 @@
+pub use Rattle.array_geom.proofs.CoreLaws
+pub use Rattle.array_geom.proofs.NearLemmas
+pub use Rattle.array_geom.proofs.NumberLaws
 pub mod ChunkLaws
 pub mod ExampleLaws
 pub mod PayloadLaws

@@ -3,9 +3,9 @@ use Rattle.std.proofs.Common.{◌≡◌, ℕ, zero, suc, ◌+◌, ◌<◌, ◌�
 use Rattle.std.specs.Prelude.{◌==◌}
 use Rattle.std.proofs.lemmas.Bool.{eqb-true}
 use Rattle.std.proofs.lemmas.List.{append-nil, nil_from_length, length-drop}
-use Rattle.cell_values.specs.declared.datum.Datum.{Datum}
-use Rattle.cell_values.specs.declared.datum.Cell.{Cell}
-use Rattle.cell_values.specs.declared.datum.Cell.TheVariants.{Full}
+use Rattle.array_geom.specs.Datum.{Datum}
+use Rattle.array_geom.specs.Cell.{Cell}
+use Rattle.array_geom.specs.Cell.TheVariants.{Full}
 use Rattle.chunk_rle.specs.declared.runs.PosRun.{PosRun}
 use Rattle.chunk_rle.specs.declared.runs.Run.{Run}
 use Rattle.chunk_rle.specs.declared.runs.Column.{Column}

@@ -1,8 +1,8 @@
 //! Decoding payloads.
 ghost use Rattle.std.specs.Prelude.{◌≡◌, ◌+◌, ◌<◌, ◌^◌, All, IfOk, IsTrue, Ok};
 ghost use Rattle.file_items.specs.Items.{IsRead};
-ghost use Rattle.cell_values.specs.Schemas.{IsValid};
-ghost use Rattle.cell_values.specs.declared.schema.Schema.{Schema as ASchema};
+ghost use Rattle.array_geom.specs.Schemas.{IsValid};
+ghost use Rattle.array_geom.specs.Schema.{Schema as ASchema};
 ghost use Rattle.array_geom.specs.Geometry.{has_core};
 ghost use Rattle.array_geom.specs.declared.chunk.Chunk.{Chunk as AChunk};
 ghost use Rattle.chunk_rle.specs.Chunks.{spelling, chunk_of, chunk_payload};
@@ -15,9 +15,7 @@ use crate::expanding::{all_values, cells, positions};
 use crate::places::{Places, places_of};
 use crate::reading::payload;
 use crate::runs::ChunkRuns;
-use array_geom::Chunk;
-use cell_columns::Cells;
-use cell_values::{Attribute, ChunkAt, Memory, Schema, copy_numbers};
+use array_geom::{Attribute, Cells, Chunk, ChunkAt, Memory, Schema, copy_numbers};
 use file_items::Stop;
 use std::alloc::Global;
 
@@ -100,7 +98,8 @@ pub fn decode(
     ensures number { IfOk result (λ chunk. chunk.at ≡ at.now) }
     ensures spelled { IfOk result (λ chunk. bytes.now ≡ spelling schema.now.attributes chunk) }
     // A chunk that is spelled so is answered, unless memory runs out.
-    ensures only { (chunk : AChunk) → IsStored schema.now chunk → chunk.at ≡ at.now → bytes.now ≡ spelling schema.now.attributes chunk → Answers (λ x. x) result bytes.now (Ok chunk) }
+    ensures only { (chunk : AChunk) → IsStored schema.now chunk → chunk.at ≡ at.now
+        → bytes.now ≡ spelling schema.now.attributes chunk → Answers (λ x. x) result bytes.now (Ok chunk) }
     // Which item is the first wrong one.
     ensures exact { Answers (λ x. x) result bytes.now (chunk_payload (frame_of schema.now at.now.items) at.now schema.now.attributes bytes.now) }
 {
@@ -112,5 +111,6 @@ pub fn decode(
 
 /// Two chunks with one number and one spelling are the same.
 pub fn same_spelling_same_chunk()
-    ensures { (schema : ASchema) (a b : AChunk) → IsStored schema a → IsStored schema b → a.at ≡ b.at → spelling schema.attributes a ≡ spelling schema.attributes b → a ≡ b }
+    ensures { (schema : ASchema) (a b : AChunk) → IsStored schema a → IsStored schema b → a.at ≡ b.at
+        → spelling schema.attributes a ≡ spelling schema.attributes b → a ≡ b }
 {}

@@ -1,11 +1,11 @@
 //! From runs to cells.
 ghost use Rattle.std.specs.Prelude.{◌≡◌, ◌+◌, ◌<◌, ◌≤◌, ◌^◌, ◌++◌, length, replicate, slice_index_or, All, OnOk, IfOk};
-ghost use Rattle.cell_values.specs.declared.datum.Datum.TheVariants.{Null};
+ghost use Rattle.array_geom.specs.Datum.TheVariants.{Null};
 ghost use Rattle.chunk_rle.specs.Longest.{numbers_from, positions_of, values_of};
 ghost use Rattle.chunk_rle.specs.Chunks.{row_at, cells_from, all_values};
 
 use crate::runs::{Column, PosRun, Run};
-use cell_values::{Cell, Datum, List, Memory};
+use array_geom::{Cell, Datum, List, Memory};
 use std::alloc::Global;
 
 fn push_numbers(positions: &mut List<u64>, start: u64, length: u64) -> Result<(), Memory>

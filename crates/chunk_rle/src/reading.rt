@@ -3,11 +3,13 @@ ghost use Rattle.std.specs.Prelude.{◌≡◌, ◌+◌, ◌<◌, ◌≤◌, ◌^
 ghost use Rattle.file_items.specs.Items.{IsRead, repeat};
 ghost use Rattle.chunk_rle.specs.Frames.{frame_in};
 ghost use Rattle.chunk_rle.specs.Inner.Ready.{IsReady};
-ghost use Rattle.chunk_rle.specs.Table.{with_run, no_positions, count_positions, position_runs_at, last_value, is_new, is_run_length, with_values, no_values, column_at, columns_at, payload, is_length, position_run_at, value_fields, value_at, is_same, is_allowed, run_at};
+ghost use Rattle.chunk_rle.specs.Table.{with_run, no_positions, count_positions, position_runs_at, last_value, is_new};
+ghost use Rattle.chunk_rle.specs.Table.{is_run_length, with_values, no_values, column_at, columns_at, payload};
+ghost use Rattle.chunk_rle.specs.Table.{is_length, position_run_at, value_fields, value_at, is_same, is_allowed, run_at};
 
 use crate::places::Places;
 use crate::runs::{ChunkRuns, Column, PosRun, Run, Seen};
-use cell_values::{Attribute, Code, Datum, Kind, List};
+use array_geom::{Attribute, Code, Datum, Kind, List};
 use file_items::{Stop, bytes_at, u16_at, u64_at};
 use std::alloc::Global;
 
@@ -158,7 +160,8 @@ fn position_runs_from<'a>(
     bytes: &'a [u8],
 ) -> Result<(List<PosRun>, u64, &'a [u8]), Stop>
     requires { IsReady places.now }
-    ensures read { IsRead (λ x. (x.0, x.2.now)) result (repeat (position_run_at (frame_in places.now)) (with_run (frame_in places.now)) count no_positions bytes.now) }
+    ensures read { IsRead (λ x. (x.0, x.2.now)) result
+        (repeat (position_run_at (frame_in places.now)) (with_run (frame_in places.now)) count no_positions bytes.now) }
     ensures count { IfOk result (λ x. x.1 ≡ count_positions x.0) }
 {
     let mut runs = List::new(alloc);

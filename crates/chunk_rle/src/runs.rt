@@ -1,6 +1,6 @@
 //! A chunk as runs.
 
-use cell_values::{Datum, List};
+use array_geom::{Datum, List};
 
 /// Positions one after the other, from `start` on.
 #[derive(Clone, Copy, Debug, PartialEq, Eq)]

@@ -6,7 +6,7 @@ ghost use Rattle.file_items.specs.Items.{spell_counted};
 ghost use Rattle.chunk_rle.specs.Spelling.{spell_value, spell_position_run, spell_run, spell_column, spell_runs};
 
 use crate::runs::{Column, PosRun, Run};
-use cell_values::{Bytes, Datum, Memory};
+use array_geom::{Bytes, Datum, Memory};
 use file_items::put_u64;
 use std::alloc::Global;
 

@@ -1,3 +1,9 @@
+pub use Rattle.array_geom.proofs.CoreLaws
+pub use Rattle.array_geom.proofs.LawProofs
+pub use Rattle.array_geom.proofs.NearLemmas
+pub use Rattle.array_geom.proofs.NumberLaws
+pub use Rattle.array_geom.proofs.RowSets
+pub use Rattle.array_geom.proofs.RowsLemmas
 pub mod MemoryLeafLaws
 pub mod ReadLemmas
 pub mod ReadingLeafLaws

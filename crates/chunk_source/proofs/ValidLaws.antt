@@ -10,10 +10,10 @@ use Rattle.cell_values.specs.declared.datum.Cell.{Cell}
 use Rattle.cell_values.specs.declared.datum.Row.{Row}
 use Rattle.cell_values.specs.declared.schema.Schema.{Schema}
 use Rattle.cell_values.specs.Cells.{IsCellOf}
-use Rattle.array_rows.specs.Arrays.{AreRowsOf}
-use Rattle.array_rows.specs.Boxes.{is_inside, bounds_of, within}
-use Rattle.array_rows.specs.Rows.{Coordinate, row_major, IsRising}
-use Rattle.array_rows.proofs.RowSets.{IsRising-rows_where}
+use Rattle.array_geom.specs.Arrays.{AreRowsOf}
+use Rattle.array_geom.specs.Boxes.{is_inside, bounds_of, within}
+use Rattle.array_geom.specs.Rows.{Coordinate, row_major, IsRising}
+use Rattle.array_geom.proofs.RowSets.{IsRising-rows_where}
 use Rattle.array_geom.specs.declared.chunk.Chunk.{Chunk}
 use Rattle.array_geom.specs.Chunks.{AreRising, IsChunk}
 use Rattle.array_geom.specs.Geometry.{core, frame, frame_low, frame_lengths, volume, coordinate_in, coordinate_at}

@@ -11,7 +11,8 @@ use Rattle.logical_plan.specs.Typing.{is_sound, AreSound}
 
 -- each chunk of an array that holds rows is valid
 abbrev pub ChunksAreValid : Type 0
-ChunksAreValid = (schema : Schema) (array : ChunkedArray) (rows : List Row) → HoldsRows schema array rows → AllByRecursion (IsChunk schema array.margins.items) array.chunks
+ChunksAreValid = (schema : Schema) (array : ChunkedArray) (rows : List Row) → HoldsRows schema array rows
+    → AllByRecursion (IsChunk schema array.margins.items) array.chunks
 
 -- a chunk without a fault, and without a null where none may be
 abbrev pub HasSoundCells : Schema → Chunk → Type 0
@@ -19,4 +20,5 @@ HasSoundCells schema chunk = AllByRecursion (λ cell. IsTrue (is_sound schema.at
 
 -- sound rows stand in sound chunks
 abbrev pub SoundRowsHaveSoundChunks : Type 0
-SoundRowsHaveSoundChunks = (schema : Schema) (array : ChunkedArray) (rows : List Row) → HoldsRows schema array rows → AreSound schema rows → AllByRecursion (HasSoundCells schema) array.chunks
+SoundRowsHaveSoundChunks = (schema : Schema) (array : ChunkedArray) (rows : List Row) → HoldsRows schema array rows
+    → AreSound schema rows → AllByRecursion (HasSoundCells schema) array.chunks

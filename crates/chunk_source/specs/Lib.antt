@@ -1,3 +1,13 @@
+pub use Rattle.array_geom.specs.Arrays
+pub use Rattle.array_geom.specs.Boxes
+pub use Rattle.array_geom.specs.Geometry
+pub use Rattle.array_geom.specs.Link
+pub use Rattle.array_geom.specs.Rows
+pub use Rattle.array_geom.specs.declared.chunk.Chunk
+pub use Rattle.array_parts.specs.Placed
+pub use Rattle.logical_plan.specs.Typing
+pub use Rattle.logical_plan.specs.declared.names.NameEntry
+pub use Rattle.logical_plan.specs.declared.names.Names
 pub mod Faults
 pub mod Found
 pub mod InMemory

@@ -6,7 +6,7 @@ use Rattle.cell_values.specs.declared.datum.Row.{Row}
 use Rattle.cell_values.specs.declared.schema.Schema.{Schema}
 use Rattle.cell_values.specs.Schemas.{IsValid}
 use Rattle.afl_outside.specs.Counts.{Rose}
-use Rattle.array_rows.specs.Arrays.{AreRowsOf}
+use Rattle.array_geom.specs.Arrays.{AreRowsOf}
 use Rattle.array_geom.specs.declared.chunk.Chunk.{Chunk}
 use Rattle.array_geom.specs.declared.chunk.ChunkedArray.{ChunkedArray}
 use Rattle.array_geom.specs.Chunks.{IsChunk}

@@ -8,23 +8,23 @@ use Rattle.std.proofs.lemmas.List.{map-append}
 use Rattle.std.proofs.lemmas.List.Sums.{sum_by-cons}
 use Rattle.cell_values.specs.declared.datum.Row.{Row}
 use Rattle.cell_values.specs.declared.schema.Schema.{Schema}
-use Rattle.logical_plan.specs.Query.{Query}
-use Rattle.plan_changes.specs.declared.change.Change.{Change}
-use Rattle.plan_changes.specs.declared.change.Change.TheVariants.{Create, Store, Insert, Remove, RemoveVersions}
-use Rattle.plan_changes.specs.Changes.{is_named, has_array}
-use Rattle.plan_changes.specs.Databases.{Database, Stored, Version, entry_of, is_array, has_stored, with_stored, with_absent_stored, with_rows, from_version, new_rows, after}
-use Rattle.plan_changes.specs.Stored.{is_before, IsStored, NamesRise, RiseBetween, IsDatabase}
-use Rattle.plan_changes.specs.Typed.{FitsInto, IsTypedFor}
-use Rattle.plan_changes.proofs.DatabaseLaws.{apart}
-use Rattle.plan_changes.proofs.NamesOf.{map_filter, map_insert, prefix_map}
-use Rattle.plan_changes.proofs.StoredLaws.{RiseAfter, tail_rises, after_next, all_inserted}
-use Rattle.version_catalog.specs.declared.rules.catalog.BlobAt.{BlobAt}
-use Rattle.version_catalog.specs.declared.rules.catalog.CatalogArray.{CatalogArray}
-use Rattle.version_catalog.specs.declared.rules.catalog.Catalog.{Catalog}
-use Rattle.version_catalog.specs.Spelling.{spelling}
-use Rattle.catalog_changes.specs.Records.{entries_of, with_new, with_directory, without}
-use Rattle.catalog_changes.specs.Records as records
-use Rattle.catalog_changes.specs.Changed.{after_change, changed}
+use Rattle.event_core.specs.Query.{Query}
+use Rattle.event_core.specs.Change.{Change}
+use Rattle.event_core.specs.Change.TheVariants.{Create, Store, Insert, Remove, RemoveVersions}
+use Rattle.event_core.specs.Changes.{is_named, has_array}
+use Rattle.event_core.specs.Databases.{Database, Stored, Version, entry_of, is_array, has_stored, with_stored, with_absent_stored, with_rows, from_version, new_rows, after}
+use Rattle.event_core.specs.Stored.{is_before, IsStored, NamesRise, RiseBetween, IsDatabase}
+use Rattle.event_core.specs.Typed.{FitsInto, IsTypedFor}
+use Rattle.event_core.proofs.DatabaseLaws.{apart}
+use Rattle.event_core.proofs.NamesOf.{map_filter, map_insert, prefix_map}
+use Rattle.event_core.proofs.StoredLaws.{RiseAfter, tail_rises, after_next, all_inserted}
+use Rattle.file_meaning.specs.BlobAt.{BlobAt}
+use Rattle.file_meaning.specs.CatalogArray.{CatalogArray}
+use Rattle.file_meaning.specs.Catalog.{Catalog}
+use Rattle.file_meaning.specs.Spelling.{spelling}
+use Rattle.file_meaning.specs.Records.{entries_of, with_new, with_directory, without}
+use Rattle.file_meaning.specs.Records as records
+use Rattle.file_meaning.specs.Changed.{after_change, changed}
 use Rattle.commit_costs.specs.Costs.{directory_of, directory_for, catalog_of, chain_pages}
 use Rattle.commit_costs.specs.Lengths.{CatalogsOfDatabases, RecordPagesAreTold, CataloguePagesAreTold}
 use Rattle.commit_costs.proofs.Lengths.{records_read_no_page, catalogs_read_no_page, changes_keep_alike}

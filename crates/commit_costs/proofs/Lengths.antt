@@ -7,22 +7,22 @@ use Rattle.std.proofs.lemmas.List.{length-append, length-replicate}
 use Rattle.cell_values.specs.declared.datum.Row.{Row}
 use Rattle.cell_values.specs.declared.schema.Schema.{Schema}
 use Rattle.array_rows.specs.Arrays.{AreRowsOf}
-use Rattle.array_geom.specs.Geometry.{ChunkNumber}
-use Rattle.array_geom.specs.Link.{has_cell}
+use Rattle.chunk_rle.specs.Geometry.{ChunkNumber}
+use Rattle.chunk_rle.specs.Link.{has_cell}
 use Rattle.file_items.specs.Pages.{pages_needed}
 use Rattle.file_items.specs.Spelling.{spell_name, spell_schema}
-use Rattle.logical_plan.specs.declared.names.NameEntry.{NameEntry}
-use Rattle.plan_changes.specs.declared.change.Change.TheVariants.{Create, Store, Insert, Remove, RemoveVersions}
-use Rattle.plan_changes.specs.Changes.{is_named, has_array, new_entry, with_version, without_below}
-use Rattle.plan_changes.specs.Stored.{is_before}
+use Rattle.event_core.specs.NameEntry.{NameEntry}
+use Rattle.event_core.specs.Change.TheVariants.{Create, Store, Insert, Remove, RemoveVersions}
+use Rattle.event_core.specs.Changes.{is_named, has_array, new_entry, with_version, without_below}
+use Rattle.event_core.specs.Stored.{is_before}
 use Rattle.chunk_map.specs.declared.directory.DirEntry.{DirEntry}
 use Rattle.chunk_map.specs.Entries.{numbers}
 use Rattle.chunk_map.specs.Spelling.{spelling as directory_spelling, spell_entry}
-use Rattle.version_catalog.specs.declared.rules.catalog.BlobAt.{BlobAt}
-use Rattle.version_catalog.specs.declared.rules.catalog.CatalogArray.{CatalogArray}
-use Rattle.version_catalog.specs.declared.rules.catalog_record.CatalogRecord.TheVariants as entries
-use Rattle.version_catalog.specs.Spelling.{versions_at, spelling, spell_array, spell_version, spell_blob, spell_record}
-use Rattle.catalog_changes.specs.Records.{entries_of, is_array, with_new, with_directory, from_version, without}
+use Rattle.file_meaning.specs.BlobAt.{BlobAt}
+use Rattle.file_meaning.specs.CatalogArray.{CatalogArray}
+use Rattle.file_meaning.specs.CatalogRecord.TheVariants as entries
+use Rattle.file_meaning.specs.Spelling.{versions_at, spelling, spell_array, spell_version, spell_blob, spell_record}
+use Rattle.file_meaning.specs.Records.{entries_of, is_array, with_new, with_directory, from_version, without}
 use Rattle.commit_costs.specs.Costs.{numbers_of, payload_length, dir_entry, directory_of}
 use Rattle.commit_costs.specs.Lengths.{AreListed, HasItsLength, AreAlike, AreAlikeArrays, DirectoriesAreAlike, CatalogsReadNoPage, RecordsReadNoPage, ChangesKeepAlike}
 use Rattle.commit_costs.proofs.Orders.{total, any_order}

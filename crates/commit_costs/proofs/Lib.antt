@@ -1,3 +1,4 @@
+pub use Rattle.event_core.proofs.Tests
 pub mod Catalogs
 pub mod Legal
 pub mod Lengths

@@ -10,12 +10,12 @@ use Rattle.cell_values.specs.declared.schema.Schema.{Schema}
 use Rattle.array_rows.specs.Arrays.{AreRowsOf}
 use Rattle.array_rows.specs.Boxes.{is_inside, within, bounds_of}
 use Rattle.array_rows.specs.Rows.{Coordinate}
-use Rattle.array_geom.specs.Geometry.{ChunkNumber, chunk_of, core}
-use Rattle.array_geom.specs.Inner.Ranges.{AreNear}
-use Rattle.array_geom.specs.Link.{number_order, NumbersRise, is_listed, is_not_empty, has_cell}
-use Rattle.array_geom.proofs.CoreLaws.{core_has, core_of, length-chunk_of}
-use Rattle.array_geom.proofs.NearLemmas.{valid_placed}
-use Rattle.array_geom.proofs.NumberLaws.{is_equal, same_number}
+use Rattle.chunk_rle.specs.Geometry.{ChunkNumber, chunk_of, core}
+use Rattle.chunk_rle.specs.Ranges.{AreNear}
+use Rattle.chunk_rle.specs.Link.{number_order, NumbersRise, is_listed, is_not_empty, has_cell}
+use Rattle.chunk_rle.proofs.CoreLaws.{core_has, core_of, length-chunk_of}
+use Rattle.chunk_rle.proofs.NearLemmas.{valid_placed}
+use Rattle.chunk_rle.proofs.NumberLaws.{is_equal, same_number}
 use Rattle.chunk_map.proofs.Moves.{number_order_total}
 use Rattle.file_items.specs.Pages.{pages_needed}
 use Rattle.commit_costs.specs.Costs.{with_number, numbers_of, payload_length, payload_pages, touched}

@@ -5,11 +5,11 @@ use Rattle.chunk_rle.specs.Chunks.{spelling as payload_spelling}
 use Rattle.chunk_rle.specs.Spelling.{spell_runs, spell_value}
 use Rattle.chunk_rle.specs.Table.{is_same}
 use Rattle.chunk_map.specs.Spelling.{spelling as directory_spelling, spell_entry}
-use Rattle.version_catalog.specs.Spelling.{spelling, spell_array, spell_version, spell_blob, spell_record}
+use Rattle.file_meaning.specs.Spelling.{spelling, spell_array, spell_version, spell_blob, spell_record}
 use Rattle.file_items.specs.Spelling.{spell_name, spell_attribute, spell_signed, spell_dimension, spell_schema}
 use Rattle.page_chain.specs.Pages.{page_size}
-use Rattle.plan_changes.specs.Stored.{HasItsNames}
-use Rattle.plan_changes.specs.Typed.{HasTypedPlan}
+use Rattle.event_core.specs.Stored.{HasItsNames}
+use Rattle.event_core.specs.Typed.{HasTypedPlan}
 use Rattle.event_core.specs.declared.entry.Entry.TheVariants.{Pin, Unpin, Commit}
 use Rattle.event_core.specs.Apart.{AllShareOwn, AreApart}
 use Rattle.event_core.specs.History.{names_at}

@@ -6,22 +6,22 @@ use Rattle.cell_values.specs.declared.datum.Row.{Row}
 use Rattle.cell_values.specs.declared.schema.Dimension.{Dimension}
 use Rattle.cell_values.specs.declared.schema.Schema.{Schema}
 use Rattle.array_rows.specs.Boxes.{within}
-use Rattle.array_geom.specs.Geometry.{ChunkNumber, chunk_of, frame, overlaps}
-use Rattle.array_geom.specs.Link.{is_listed, is_not_empty}
+use Rattle.chunk_rle.specs.Geometry.{ChunkNumber, chunk_of, frame, overlaps}
+use Rattle.chunk_rle.specs.Link.{is_listed, is_not_empty}
 use Rattle.file_items.specs.Pages.{pages_needed}
 use Rattle.chunk_rle.specs.Chunks.{spelling as payload_spelling}
 use Rattle.chunk_map.specs.declared.directory.DirEntry.{DirEntry}
 use Rattle.chunk_map.specs.Spelling.{spelling as directory_spelling}
 use Rattle.page_chain.specs.Chains.{content_size}
 use Rattle.page_chain.specs.Pages.{page_size, pages_for}
-use Rattle.plan_changes.specs.declared.change.Change.{Change}
-use Rattle.plan_changes.specs.declared.change.Change.TheVariants.{Create, Store, Insert, Remove, RemoveVersions}
-use Rattle.plan_changes.specs.Databases.{Database, after, entry_of, fitted, new_rows, rows_if_whole}
-use Rattle.version_catalog.specs.declared.rules.catalog.BlobAt.{BlobAt}
-use Rattle.version_catalog.specs.declared.rules.catalog.Catalog.{Catalog}
-use Rattle.version_catalog.specs.declared.rules.catalog_record.CatalogRecord.{CatalogRecord}
-use Rattle.catalog_changes.specs.Changed.{record_for}
-use Rattle.version_catalog.specs.Spelling.{spell_record, spelling}
+use Rattle.event_core.specs.Change.{Change}
+use Rattle.event_core.specs.Change.TheVariants.{Create, Store, Insert, Remove, RemoveVersions}
+use Rattle.event_core.specs.Databases.{Database, after, entry_of, fitted, new_rows, rows_if_whole}
+use Rattle.file_meaning.specs.BlobAt.{BlobAt}
+use Rattle.file_meaning.specs.Catalog.{Catalog}
+use Rattle.file_meaning.specs.CatalogRecord.{CatalogRecord}
+use Rattle.file_meaning.specs.Changed.{record_for}
+use Rattle.file_meaning.specs.Spelling.{spell_record, spelling}
 use Rattle.file_meaning.specs.Standing.{stored_chunk}
 use Rattle.event_core.specs.Bases.{records_at}
 use Rattle.event_core.specs.Legal.{Cost}
@@ -54,7 +54,12 @@ abbrev pub blob_of : ℕ → BlobAt
 blob_of bytes = record { length = bytes; pages = replicate (pages_needed bytes) 1 }
 
 abbrev pub dir_entry : Schema → List Row → ChunkNumber → DirEntry
-dir_entry schema rows k = record { at = record { items = k }; length = payload_length schema rows k; birth = 1; pages = replicate (pages_needed (payload_length schema rows k)) 1 }
+dir_entry schema rows k = record {
+  at = record { items = k };
+  length = payload_length schema rows k;
+  birth = 1;
+  pages = replicate (pages_needed (payload_length schema rows k)) 1;
+}
 
 -- the directory of a version of these rows
 abbrev pub directory_of : Schema → List Row → BlobAt

@@ -6,23 +6,24 @@ use Rattle.cell_values.specs.declared.schema.Dimension.{Dimension}
 use Rattle.cell_values.specs.declared.schema.Schema.{Schema}
 use Rattle.array_rows.specs.Arrays.{AreRowsOf}
 use Rattle.array_rows.specs.Boxes.{within}
-use Rattle.array_geom.specs.Geometry.{ChunkNumber, frame, overlaps}
-use Rattle.array_geom.specs.Link.{NumbersRise, is_listed, has_cell, is_not_empty}
+use Rattle.chunk_rle.specs.Geometry.{ChunkNumber, frame, overlaps}
+use Rattle.chunk_rle.specs.Link.{NumbersRise, is_listed, has_cell, is_not_empty}
 use Rattle.file_items.specs.Pages.{pages_needed}
 use Rattle.chunk_map.specs.declared.directory.DirEntry.{DirEntry}
 use Rattle.chunk_map.specs.Entries.{numbers}
 use Rattle.chunk_map.specs.Spelling.{spelling as directory_spelling}
-use Rattle.plan_changes.specs.declared.change.Change.{Change}
-use Rattle.plan_changes.specs.Databases.{Database, names_of, after}
-use Rattle.plan_changes.specs.Stored.{IsDatabase}
-use Rattle.plan_changes.specs.Typed.{IsTypedFor}
-use Rattle.version_catalog.specs.declared.rules.catalog.BlobAt.{BlobAt}
-use Rattle.version_catalog.specs.declared.rules.catalog.CatalogArray.{CatalogArray}
-use Rattle.version_catalog.specs.declared.rules.catalog.Catalog.{Catalog}
-use Rattle.version_catalog.specs.Catalogs.{IsBlob}
-use Rattle.version_catalog.specs.Spelling.{spelling}
-use Rattle.catalog_changes.specs.Changed.{after_change, record_for}
-use Rattle.commit_costs.specs.Costs.{numbers_of, payload_length, payload_pages, touched, directory_of, directory_for, catalog_of, chain_pages, record_length, record_pages, catalogue_pages}
+use Rattle.event_core.specs.Change.{Change}
+use Rattle.event_core.specs.Databases.{Database, names_of, after}
+use Rattle.event_core.specs.Stored.{IsDatabase}
+use Rattle.event_core.specs.Typed.{IsTypedFor}
+use Rattle.file_meaning.specs.BlobAt.{BlobAt}
+use Rattle.file_meaning.specs.CatalogArray.{CatalogArray}
+use Rattle.file_meaning.specs.Catalog.{Catalog}
+use Rattle.file_meaning.specs.Catalogs.{IsBlob}
+use Rattle.file_meaning.specs.Spelling.{spelling}
+use Rattle.file_meaning.specs.Changed.{after_change, record_for}
+use Rattle.commit_costs.specs.Costs.{numbers_of, payload_length, payload_pages, touched, directory_of, directory_for}
+use Rattle.commit_costs.specs.Costs.{catalog_of, chain_pages, record_length, record_pages, catalogue_pages}
 
 -- ---- chunks
 

@@ -1,3 +1,13 @@
+pub use Rattle.chunk_rle.specs.Chunks
+pub use Rattle.chunk_rle.specs.Spelling
+pub use Rattle.chunk_rle.specs.Stored
+pub use Rattle.chunk_rle.specs.Table
+pub use Rattle.event_core.specs.Allowed
+pub use Rattle.event_core.specs.Apart
+pub use Rattle.event_core.specs.Bases
+pub use Rattle.event_core.specs.History
+pub use Rattle.event_core.specs.Pages
+pub use Rattle.event_core.specs.declared.state.VersionPages
 pub mod Costs
 pub mod Inner
 pub mod Lengths

@@ -1,7 +1,9 @@
 //! Worked costs of commits, and how long a log gets.
 ghost use Rattle.commit_costs.specs.Inner.Examples.{CommitsCostTheirPages, WorkedIsLegal, LogsComeRound};
 ghost use Rattle.commit_costs.specs.Inner.Sharing.{SharingIsLegal};
-ghost use Rattle.commit_costs.specs.Lengths.{StoredPagesAreTold, WrittenPagesAreTold, DirectoriesAreAlike, CatalogsReadNoPage, RecordsReadNoPage, ChangesKeepAlike, CatalogsOfDatabases, RecordPagesAreTold, CataloguePagesAreTold};
+ghost use Rattle.commit_costs.specs.Lengths.{StoredPagesAreTold, WrittenPagesAreTold, DirectoriesAreAlike};
+ghost use Rattle.commit_costs.specs.Lengths.{CatalogsReadNoPage, RecordsReadNoPage, ChangesKeepAlike};
+ghost use Rattle.commit_costs.specs.Lengths.{CatalogsOfDatabases, RecordPagesAreTold, CataloguePagesAreTold};
 
 /// What some changes of a small array cost, with a log that has room, with a full one and without one.
 pub fn commits_cost_their_pages()

@@ -3,6 +3,8 @@
 
 mod laws;
 
+pub use chunk_rle::encode;
+pub use event_core::Used;
 pub use laws::{
     a_history_is_legal_at_its_costs, commits_cost_their_pages, costs_follow_the_catalogue,
     lengths_hang_on_no_page, logs_come_round, payloads_cost_the_same_in_any_order,

@@ -11,14 +11,14 @@ use Rattle.cell_values.specs.declared.schema.Schema.{Schema}
 use Rattle.plan_changes.specs.declared.change.Change.{Change}
 use Rattle.plan_changes.specs.declared.change.Change.TheVariants.{Create, Store, Insert, Remove, RemoveVersions}
 use Rattle.plan_changes.specs.Changes.{has_array}
-use Rattle.version_catalog.specs.declared.rules.catalog.BlobAt.{BlobAt}
-use Rattle.version_catalog.specs.declared.rules.catalog.CatalogArray.{CatalogArray}
-use Rattle.version_catalog.specs.declared.rules.catalog.Catalog.{Catalog}
-use Rattle.version_catalog.specs.declared.rules.catalog_record.CatalogRecord.TheVariants as entries
-use Rattle.version_catalog.specs.Spelling.{spell_record, spell_array, spelling}
-use Rattle.catalog_changes.specs.Changed.{has_its_directory, record_for, after_change}
-use Rattle.catalog_changes.specs.Records.{entries_of}
-use Rattle.event_core.specs.Apart.{makes_version}
+use Rattle.file_laws.specs.BlobAt.{BlobAt}
+use Rattle.file_laws.specs.CatalogArray.{CatalogArray}
+use Rattle.file_laws.specs.Catalog.{Catalog}
+use Rattle.file_laws.specs.CatalogRecord.TheVariants as entries
+use Rattle.file_laws.specs.Spelling.{spell_record, spell_array, spelling}
+use Rattle.file_laws.specs.Changed.{has_its_directory, record_for, after_change}
+use Rattle.file_laws.specs.Records.{entries_of}
+use Rattle.commit_costs.specs.Apart.{makes_version}
 use Rattle.commit_costs.specs.Lengths.{AreAlike, AreAlikeArrays, AreBothAlike}
 use Rattle.commit_costs.proofs.Lengths.{records_read_no_page, catalogs_read_no_page, changes_keep_alike}
 use Rattle.commit_costs.specs.Costs.{record_length}

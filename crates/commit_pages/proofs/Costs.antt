@@ -17,8 +17,8 @@ use Rattle.array_geom.specs.declared.chunk.Chunk.{Chunk}
 use Rattle.array_geom.specs.Geometry.{ChunkNumber, frame, has_core, overlaps}
 use Rattle.array_geom.specs.Link.{IsPart, NumbersRise, number_order, is_listed, has_cell}
 use Rattle.array_geom.specs.Link as link
-use Rattle.chunk_rle.specs.Chunks.{spelling as payload_spelling}
-use Rattle.chunk_rle.specs.Stored.{IsStored}
+use Rattle.commit_costs.specs.Chunks.{spelling as payload_spelling}
+use Rattle.commit_costs.specs.Stored.{IsStored}
 use Rattle.chunk_map.specs.declared.directory.DirEntry.{DirEntry}
 use Rattle.chunk_map.specs.declared.directory.Directory.{Directory}
 use Rattle.chunk_map.specs.Entries.{AreRising, entry_at, numbers}
@@ -26,11 +26,11 @@ use Rattle.chunk_map.specs.Replacing.{AreReplaced}
 use Rattle.chunk_map.proofs.Moves.{IsBefore}
 use Rattle.chunk_map.proofs.Replacements.{are_listed}
 use Rattle.file_items.specs.Pages.{pages_needed}
-use Rattle.logical_plan.specs.Query.{Query}
+use Rattle.plan_changes.specs.Query.{Query}
 use Rattle.plan_changes.specs.declared.change.Change.{Change}
 use Rattle.plan_changes.specs.declared.change.Change.TheVariants.{Create, Store, Insert, Remove, RemoveVersions}
 use Rattle.plan_changes.specs.Databases.{Database, fitted, new_rows, newest_rows, rows_if_whole}
-use Rattle.version_catalog.specs.declared.rules.catalog.Catalog.{Catalog}
+use Rattle.file_laws.specs.Catalog.{Catalog}
 use Rattle.file_laws.specs.Standing.{stored_chunk}
 use Rattle.file_laws.proofs.Counts.{counts_agree}
 use Rattle.file_laws.proofs.Payloads.{part_stored}

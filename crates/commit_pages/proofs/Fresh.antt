@@ -15,11 +15,11 @@ use Rattle.chunk_map.specs.declared.directory.DirEntry.{DirEntry}
 use Rattle.chunk_map.specs.declared.directory.Directory.{Directory}
 use Rattle.chunk_map.specs.Entries.{AreRising}
 use Rattle.chunk_map.proofs.Moves.{IsBefore}
-use Rattle.logical_plan.specs.declared.names.Names.{Names}
+use Rattle.plan_changes.specs.Names.{Names}
 use Rattle.plan_changes.specs.declared.change.Change.{Change}
 use Rattle.version_reaper.specs.PageSets.{holds}
-use Rattle.event_core.specs.declared.state.VersionPages.{VersionPages}
-use Rattle.event_core.specs.Pages.{is_newest}
+use Rattle.commit_costs.specs.VersionPages.{VersionPages}
+use Rattle.commit_costs.specs.Pages.{is_newest}
 use Rattle.plan_changes.specs.Changes.{name_of}
 use Rattle.commit_writes.specs.declared.placed.Placed.{Placed}
 use Rattle.commit_writes.specs.Commits.{pages_of}

@@ -17,8 +17,8 @@ use Rattle.chunk_map.specs.declared.directory.Directory.{Directory}
 use Rattle.chunk_map.specs.Entries.{numbers}
 use Rattle.chunk_map.specs.Replacing.{AreReplaced}
 use Rattle.page_chain.specs.Pages.{page_size, HoldsBlob}
-use Rattle.chunk_rle.specs.Chunks.{spelling as payload_spelling}
-use Rattle.logical_plan.specs.Query.{Query}
+use Rattle.commit_costs.specs.Chunks.{spelling as payload_spelling}
+use Rattle.plan_changes.specs.Query.{Query}
 use Rattle.plan_changes.specs.declared.change.Change.TheVariants.{Create, Store, Insert, Remove, RemoveVersions}
 use Rattle.plan_changes.specs.Databases.{Database, fitted, new_rows, newest_rows, rows_if_whole}
 use Rattle.file_laws.specs.Standing.{HoldsPart, HoldsVersion}

@@ -6,14 +6,14 @@ use Rattle.array_geom.specs.Geometry.{ChunkNumber}
 use Rattle.array_geom.specs.Link.{number_order, is_listed, has_cell}
 use Rattle.array_geom.proofs.NearLemmas.{valid_placed, stored_frame}
 use Rattle.array_geom.proofs.NumberLaws.{is_equal, same_number}
-use Rattle.chunk_rle.specs.Chunks.{spelling as payload_spelling}
-use Rattle.chunk_rle.specs.Spelling.{spell_runs, spell_value}
-use Rattle.chunk_rle.specs.Table.{is_same}
+use Rattle.commit_costs.specs.Chunks.{spelling as payload_spelling}
+use Rattle.commit_costs.specs.Spelling.{spell_runs, spell_value}
+use Rattle.commit_costs.specs.Table.{is_same}
 use Rattle.chunk_map.specs.Spelling.{spelling as directory_spelling, spell_entry}
-use Rattle.version_catalog.specs.Spelling.{spell_blob, spell_record}
+use Rattle.file_laws.specs.Spelling.{spell_blob, spell_record}
 use Rattle.file_items.specs.Spelling.{spell_name}
 use Rattle.page_chain.specs.Pages.{page_size}
-use Rattle.logical_plan.specs.Typing.{AreSound}
+use Rattle.plan_changes.specs.Typing.{AreSound}
 use Rattle.plan_changes.specs.Databases.{names_of}
 use Rattle.plan_changes.specs.Stored.{IsDatabase}
 use Rattle.plan_changes.specs.Typed.{IsTypedFor}

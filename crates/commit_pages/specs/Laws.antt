@@ -8,7 +8,7 @@ use Rattle.array_rows.specs.Arrays.{AreRowsOf}
 use Rattle.array_geom.specs.declared.chunk.Changed.{Changed}
 use Rattle.array_geom.specs.Geometry.{ChunkNumber, has_core, overlaps}
 use Rattle.array_geom.specs.Link.{IsPart, is_listed, has_cell}
-use Rattle.logical_plan.specs.declared.names.Names.{Names}
+use Rattle.plan_changes.specs.Names.{Names}
 use Rattle.chunk_map.specs.declared.directory.DirEntry.{DirEntry}
 use Rattle.chunk_map.specs.declared.directory.Directory.{Directory}
 use Rattle.chunk_map.specs.Entries.{AreRising, entry_at, numbers}
@@ -20,15 +20,15 @@ use Rattle.plan_changes.specs.Changes.{name_of}
 use Rattle.plan_changes.specs.Databases.{Database, names_of, new_rows, newest_rows}
 use Rattle.plan_changes.specs.Stored.{IsDatabase}
 use Rattle.plan_changes.specs.Typed.{IsTypedFor}
-use Rattle.version_catalog.specs.declared.rules.catalog.BlobAt.{BlobAt}
-use Rattle.version_catalog.specs.declared.rules.catalog.Catalog.{Catalog}
+use Rattle.file_laws.specs.BlobAt.{BlobAt}
+use Rattle.file_laws.specs.Catalog.{Catalog}
 use Rattle.version_reaper.specs.PageSets.{holds}
-use Rattle.event_core.specs.declared.state.VersionPages.{VersionPages}
-use Rattle.event_core.specs.Allowed.{are_different}
-use Rattle.event_core.specs.Apart.{makes_version}
-use Rattle.event_core.specs.Bases.{records_at}
-use Rattle.event_core.specs.History.{History}
-use Rattle.event_core.specs.Pages.{fresh_of, is_newest}
+use Rattle.commit_costs.specs.VersionPages.{VersionPages}
+use Rattle.commit_costs.specs.Allowed.{are_different}
+use Rattle.commit_costs.specs.Apart.{makes_version}
+use Rattle.commit_costs.specs.Bases.{records_at}
+use Rattle.commit_costs.specs.History.{History}
+use Rattle.commit_costs.specs.Pages.{fresh_of, is_newest}
 use Rattle.file_laws.specs.Standing.{HoldsPart, HoldsVersion}
 use Rattle.commit_costs.specs.Costs.{catalog_of, has_log_room, cost_from}
 use Rattle.commit_costs.specs.Lengths.{AreAlikeCatalogs, AreListed, HasItsLength}

@@ -1,5 +1,10 @@
+pub use Rattle.commit_costs.specs.Apart
+pub use Rattle.commit_costs.specs.Chunks
 pub use Rattle.commit_costs.specs.Costs
 pub use Rattle.commit_costs.specs.Lengths
+pub use Rattle.commit_costs.specs.Spelling
+pub use Rattle.commit_costs.specs.Stored
+pub use Rattle.commit_costs.specs.Table
 pub mod Changes
 pub mod Commits
 pub mod Inner

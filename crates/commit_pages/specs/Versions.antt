@@ -7,12 +7,12 @@ use Rattle.arrayvec.specs.ArrayVec.{ArrayVec}
 use Rattle.array_rows.specs.Boxes.{by_pairs}
 use Rattle.array_geom.specs.declared.chunk.Changed.{Changed}
 use Rattle.array_geom.specs.Link.{number_order, NumbersRise}
-use Rattle.chunk_rle.specs.Chunks.{spelling as payload_spelling}
+use Rattle.commit_costs.specs.Chunks.{spelling as payload_spelling}
 use Rattle.chunk_map.specs.declared.directory.DirEntry.{DirEntry}
 use Rattle.chunk_map.specs.declared.directory.Directory.{Directory}
 use Rattle.chunk_map.specs.Spelling.{spelling as directory_spelling}
 use Rattle.page_chain.specs.Pages.{page_size, pages_for}
-use Rattle.version_catalog.specs.declared.rules.catalog.BlobAt.{BlobAt}
+use Rattle.file_laws.specs.BlobAt.{BlobAt}
 use Rattle.file_laws.specs.Opening.{version_pages}
 use Rattle.commit_writes.specs.declared.placed.Placed.{Placed}
 use Rattle.commit_writes.specs.Commits.{pages_of, IsBlobSized}

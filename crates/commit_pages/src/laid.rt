@@ -4,11 +4,11 @@ ghost use Rattle.std.specs.List.{AllByRecursion};
 ghost use Rattle.chunk_map.specs.Entries.{AreRising};
 ghost use Rattle.chunk_map.specs.Spelling.{IsDirectory};
 ghost use Rattle.plan_changes.specs.Allowed.{names_allow};
-ghost use Rattle.version_catalog.specs.Catalogs.{names_in};
-ghost use Rattle.catalog_changes.specs.Changed.{after_change, has_its_directory, IsItsBlob};
+ghost use Rattle.file_laws.specs.Catalogs.{names_in};
+ghost use Rattle.file_laws.specs.Changed.{after_change, has_its_directory, IsItsBlob};
 ghost use Rattle.commit_writes.specs.Commits.{base_pages, commit_pages, IsBlobSized, IsChainSized};
 ghost use Rattle.commit_pages.specs.Versions.{new_version, HasRisingNumbers, IsWritten, CanBeListed};
-ghost use Rattle.event_core.specs.Apart.{makes_version};
+ghost use Rattle.commit_costs.specs.Apart.{makes_version};
 ghost use Rattle.std.specs.Option.{is_some};
 ghost use Rattle.commit_pages.specs.Commits.{chain_in, record_bytes, catalog_bytes, rest_of, with_record, with_base};
 ghost use Rattle.commit_pages.specs.Commits.{record_needs, base_needs, record_laid, base_laid};
@@ -17,14 +17,13 @@ use crate::Written;
 use crate::needed::{catalog_bytes, count_pages, payload_count, record_bytes};
 use crate::version::{NewVersion, new_version};
 use crate::written::{chain_count, first_pages, pages_behind};
-use catalog_changes::with_change;
 use cell_values::{Bytes, List, Memory};
 use chunk_map::Directory;
+use commit_costs::Used;
 use commit_writes::Placed;
-use event_core::Used;
+use file_laws::{BlobAt, Catalog, with_change};
 use plan_changes::Change;
 use std::alloc::Global;
-use version_catalog::{BlobAt, Catalog};
 
 /// What a commit writes, and what there is after it.
 #[derive(Drop)]

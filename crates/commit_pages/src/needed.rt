@@ -2,11 +2,11 @@
 ghost use Rattle.std.specs.Prelude.{◌≡◌, ◌+◌, length, Some, IfOk, IfSome, IsTrue};
 ghost use Rattle.chunk_map.specs.Entries.{AreRising};
 ghost use Rattle.plan_changes.specs.Allowed.{names_allow};
-ghost use Rattle.version_catalog.specs.Catalogs.{names_in};
-ghost use Rattle.version_catalog.specs.Spelling.{spell_record, spelling};
-ghost use Rattle.catalog_changes.specs.Changed.{has_its_directory};
+ghost use Rattle.file_laws.specs.Catalogs.{names_in};
+ghost use Rattle.file_laws.specs.Spelling.{spell_record, spelling};
+ghost use Rattle.file_laws.specs.Changed.{has_its_directory};
 ghost use Rattle.commit_writes.specs.Commits.{pages_of};
-ghost use Rattle.event_core.specs.Apart.{makes_version};
+ghost use Rattle.commit_costs.specs.Apart.{makes_version};
 ghost use Rattle.std.specs.Option.{is_some};
 ghost use Rattle.commit_pages.specs.Versions.{blob_at, drafted, directory_bytes, draft_at};
 ghost use Rattle.commit_pages.specs.Versions.{count_at, payload_count, version_needs, HasRisingNumbers};
@@ -15,14 +15,13 @@ ghost use Rattle.commit_pages.specs.Commits.{chain_count, record_bytes, catalog_
 use crate::Written;
 use crate::version::directory_bytes;
 use crate::written::drafted_pages;
-use catalog_changes::{record_of, with_change};
 use cell_values::{Bytes, Memory};
 use chunk_map::Directory;
 use commit_writes::Placed;
+use file_laws::{BlobAt, Catalog, encode_catalog, encode_record, record_of, with_change};
 use page_chain::chain_pages;
 use plan_changes::Change;
 use std::alloc::Global;
-use version_catalog::{BlobAt, Catalog, encode_catalog, encode_record};
 
 /// A sum. One that passes 64 bits is of more pages than memory can name.
 fn sum(count: u64, more: u64) -> Result<u64, Memory>

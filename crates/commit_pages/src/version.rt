@@ -13,8 +13,8 @@ use crate::written::{blob_count, first_pages, pages_behind, settle_all};
 use cell_values::{Bytes, ChunkAt, List, MAX_DIMENSIONS, Memory, copy_numbers};
 use chunk_map::{DirEntry, Directory, encode_directory, replaced};
 use commit_writes::Placed;
+use file_laws::BlobAt;
 use std::alloc::Global;
-use version_catalog::BlobAt;
 
 /// What a version adds to a file.
 #[derive(Drop)]

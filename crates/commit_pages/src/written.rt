@@ -2,14 +2,14 @@
 ghost use Rattle.std.specs.Prelude.{◌≡◌, ◌<◌, ◌≤◌, ◌^◌, map, take, drop, replicate, length, IfOk, IfSome, OnOk};
 ghost use Rattle.std.specs.List.{AllByRecursion};
 ghost use Rattle.array_geom.specs.Link.{NumbersRise, numbers};
-ghost use Rattle.chunk_rle.specs.Chunks.{spelling as payload_spelling};
+ghost use Rattle.commit_costs.specs.Chunks.{spelling as payload_spelling};
 ghost use Rattle.commit_pages.specs.Changes.{AreValid};
 ghost use Rattle.commit_pages.specs.Commits.{chain_count};
 ghost use Rattle.commit_pages.specs.Versions.{blob_count, placed, all_placed, drafted, draft, draft_of, IsWritten, CanBeListed};
 
 use array_geom::{Changed, Chunk};
 use cell_values::{Bytes, ChunkAt, List, Memory, Schema, copy_numbers};
-use chunk_rle::encode;
+use commit_costs::encode;
 use commit_writes::Placed;
 use page_chain::{blob_pages, chain_pages};
 use std::alloc::Global;

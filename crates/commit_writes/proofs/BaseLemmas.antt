@@ -10,15 +10,15 @@ use Rattle.page_layout.specs.declared.sides.Side.TheVariants.{A, B}
 use Rattle.page_layout.specs.declared.roots.Root.{Root}
 use Rattle.page_chain.specs.Pages.{AreDistinct}
 use Rattle.page_chain.specs.Inner.Runs.{OnlyWrites, Sees}
-use Rattle.page_slots.specs.Puts.{OnlyPuts}
-use Rattle.page_slots.specs.Standing.{gate_place, target_page, IsClosed, IsShut, IsShutRoot, IsStillEntry, LeavesOpening, MayOpen, OpensAsRoot}
-use Rattle.page_slots.specs.Steps.{ajar, ajar_root, doubted, emptied, emptied_root, shut, shut_root, with_other, with_root, with_target}
-use Rattle.page_slots.specs.declared.slots.Slots.{Slots}
-use Rattle.page_slots.specs.declared.slots.RootSlot.{RootSlot}
-use Rattle.page_slots.specs.declared.slots.RootSlot.TheVariants as roots
-use Rattle.page_slots.specs.declared.slots.Target.{Target}
-use Rattle.page_slots.specs.declared.slots.Target.TheVariants as targets
-use Rattle.page_slots.proofs.Settling.{no_record, settled}
+use Rattle.page_file.specs.Puts.{OnlyPuts}
+use Rattle.page_file.specs.Standing.{gate_place, target_page, IsClosed, IsShut, IsShutRoot, IsStillEntry, LeavesOpening, MayOpen, OpensAsRoot}
+use Rattle.page_file.specs.Steps.{ajar, ajar_root, doubted, emptied, emptied_root, shut, shut_root, with_other, with_root, with_target}
+use Rattle.page_file.specs.Slots.{Slots}
+use Rattle.page_file.specs.RootSlot.{RootSlot}
+use Rattle.page_file.specs.RootSlot.TheVariants as roots
+use Rattle.page_file.specs.Target.{Target}
+use Rattle.page_file.specs.Target.TheVariants as targets
+use Rattle.page_file.proofs.Settling.{no_record, settled}
 use Rattle.page_file.specs.Written.{MayWrite, unwritten, zeroed_by}
 use Rattle.page_file.proofs.Kept.{root_there, shut_emptied}
 use Rattle.commit_writes.specs.Commits.{HoldsAll, base_pages, commit_pages, root_of}

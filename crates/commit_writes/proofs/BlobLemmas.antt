@@ -8,7 +8,7 @@ use Rattle.page_chain.proofs.Kept.{size_is, page_kept}
 use Rattle.page_chain.proofs.WriteLemmas.{length-piece}
 use Rattle.page_file.proofs.Kept.{chain_on}
 use Rattle.page_file.specs.Written.{MayWrite}
-use Rattle.page_slots.specs.declared.slots.Slots.{Slots}
+use Rattle.page_file.specs.Slots.{Slots}
 use Rattle.page_layout.specs.declared.roots.OpenRoot.{OpenRoot}
 use Rattle.commit_writes.specs.Commits.{pages_of, HoldsBlobs, HoldsAll, IsBlobSized}
 use Rattle.commit_writes.specs.declared.placed.Placed.{Placed}

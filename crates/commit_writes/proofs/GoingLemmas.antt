@@ -6,12 +6,12 @@ use Rattle.page_layout.specs.Opens.{OpensAs}
 use Rattle.page_chain.specs.Inner.Runs.{OnlyWrites, Over, Sees}
 use Rattle.page_chain.proofs.Kept.{keeps_on, keeps_more}
 use Rattle.page_chain.proofs.RunLemmas.{goes}
-use Rattle.page_slots.specs.Puts.{OnlyPuts}
-use Rattle.page_slots.specs.Standing.{gate_place, target_page, IsClosed, IsDurable, IsSound, IsTarget, KeepsSound, LeavesOpening, MayOpen}
-use Rattle.page_slots.specs.Steps.{emptied}
-use Rattle.page_slots.specs.declared.slots.Slots.{Slots}
-use Rattle.page_slots.proofs.Lies.{has_target}
-use Rattle.page_slots.proofs.Settling.{settled}
+use Rattle.page_file.specs.Puts.{OnlyPuts}
+use Rattle.page_file.specs.Standing.{gate_place, target_page, IsClosed, IsDurable, IsSound, IsTarget, KeepsSound, LeavesOpening, MayOpen}
+use Rattle.page_file.specs.Steps.{emptied}
+use Rattle.page_file.specs.Slots.{Slots}
+use Rattle.page_file.proofs.Lies.{has_target}
+use Rattle.page_file.proofs.Settling.{settled}
 use Rattle.page_file.specs.Written.{MayWrite}
 use Rattle.page_file.proofs.Kept.{at_some}
 use Rattle.page_file.proofs.Emptied.{still_root, still_entry}

@@ -3,16 +3,16 @@ use Rattle.std.proofs.Common.{◌≡◌, ◌≤◌, ◌⊎◌, inl, inr, ⊎_eli
 use Rattle.afl_outside.specs.Disk.{Moment}
 use Rattle.page_layout.specs.Opens.{OpensAs}
 use Rattle.page_chain.specs.Inner.Runs.{OnlyWrites, Sees}
-use Rattle.page_slots.specs.Puts.{OnlyPuts}
-use Rattle.page_slots.specs.Standing.{entry_gate, gate_place, target_page, IsClosed, IsTarget, LeavesOpening, MayOpen}
-use Rattle.page_slots.specs.declared.slots.Slots.{Slots}
-use Rattle.page_slots.specs.declared.slots.Target.{Target}
-use Rattle.page_slots.specs.declared.slots.Target.TheVariants as targets
-use Rattle.page_slots.specs.declared.slots.NextEntry.TheVariants as entries
-use Rattle.page_slots.proofs.Settling.{settled}
+use Rattle.page_file.specs.Puts.{OnlyPuts}
+use Rattle.page_file.specs.Standing.{entry_gate, gate_place, target_page, IsClosed, IsTarget, LeavesOpening, MayOpen}
+use Rattle.page_file.specs.Slots.{Slots}
+use Rattle.page_file.specs.Target.{Target}
+use Rattle.page_file.specs.Target.TheVariants as targets
+use Rattle.page_file.specs.NextEntry.TheVariants as entries
+use Rattle.page_file.proofs.Settling.{settled}
 use Rattle.page_file.specs.Written.{MayWrite}
 use Rattle.page_layout.specs.Places.{IsNone, KeepsPages}
-use Rattle.page_slots.specs.Steps.{ajar, emptied, shut_entry}
+use Rattle.page_file.specs.Steps.{ajar, emptied, shut_entry}
 use Rattle.commit_writes.specs.Commits.{HoldsAll, commit_pages, record_of}
 use Rattle.commit_writes.specs.Inner.Going.{Goes}
 use Rattle.commit_writes.specs.Moments.{IsKnown, HasRecord}

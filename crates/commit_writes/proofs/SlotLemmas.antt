@@ -5,16 +5,16 @@ use Rattle.afl_outside.specs.Disk.{DiskState, DiskGoesOn}
 use Rattle.page_layout.specs.Places.{other}
 use Rattle.page_layout.specs.Opens.{OpensAs}
 use Rattle.page_layout.specs.declared.logs.RecordAt.{RecordAt}
-use Rattle.page_slots.specs.Standing.{IsClosed, IsReady, IsShut, IsShutRoot, IsShutEntry, IsStillRoot, MayOpen}
-use Rattle.page_slots.proofs.Settling.{no_root}
-use Rattle.page_slots.specs.Steps.{emptied, emptied_root, emptied_entry, shut, shut_root, shut_entry, ajar, ajar_entry, doubted, with_target, with_next, with_record}
-use Rattle.page_slots.specs.declared.slots.Slots.{Slots}
-use Rattle.page_slots.specs.declared.slots.RootSlot.{RootSlot}
-use Rattle.page_slots.specs.declared.slots.RootSlot.TheVariants as roots
-use Rattle.page_slots.specs.declared.slots.NextEntry.{NextEntry}
-use Rattle.page_slots.specs.declared.slots.NextEntry.TheVariants as entries
-use Rattle.page_slots.specs.declared.slots.Target.{Target}
-use Rattle.page_slots.specs.declared.slots.Target.TheVariants as targets
+use Rattle.page_file.specs.Standing.{IsClosed, IsReady, IsShut, IsShutRoot, IsShutEntry, IsStillRoot, MayOpen}
+use Rattle.page_file.proofs.Settling.{no_root}
+use Rattle.page_file.specs.Steps.{emptied, emptied_root, emptied_entry, shut, shut_root, shut_entry, ajar, ajar_entry, doubted, with_target, with_next, with_record}
+use Rattle.page_file.specs.Slots.{Slots}
+use Rattle.page_file.specs.RootSlot.{RootSlot}
+use Rattle.page_file.specs.RootSlot.TheVariants as roots
+use Rattle.page_file.specs.NextEntry.{NextEntry}
+use Rattle.page_file.specs.NextEntry.TheVariants as entries
+use Rattle.page_file.specs.Target.{Target}
+use Rattle.page_file.specs.Target.TheVariants as targets
 
 root_emptied : (known : RootSlot) → IsShutRoot known → IsShutRoot (emptied_root known)
 root_emptied roots.Closed h = h

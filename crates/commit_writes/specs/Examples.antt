@@ -1,7 +1,7 @@
 -- A commit of a payload and of a record or a catalogue, which may be written: a witness.
 use Rattle.std.specs.Prelude.{◌≡◌, [], ◌∷◌}
 use Rattle.std.specs.List.{AllByRecursion}
-use Rattle.page_slots.specs.declared.slots.Slots.{Slots}
+use Rattle.page_file.specs.Slots.{Slots}
 use Rattle.page_file.specs.Written.{MayWrite}
 use Rattle.commit_writes.specs.declared.placed.Placed.{Placed}
 use Rattle.commit_writes.specs.Commits.{base_pages, commit_pages, IsBlobSized, IsChainSized}

@@ -5,11 +5,11 @@ use Rattle.page_layout.specs.Places.{other, KeepsPages}
 use Rattle.page_layout.specs.Opens.{OpensAs}
 use Rattle.page_layout.specs.declared.sides.Format.TheVariants.{Two}
 use Rattle.page_chain.specs.Inner.Runs.{Over}
-use Rattle.page_slots.specs.Standing.{root_in, IsSound, MayOpen, OpensAsRoot}
-use Rattle.page_slots.specs.Steps.{doubted, emptied, with_record, with_root}
-use Rattle.page_slots.specs.declared.slots.Slots.{Slots}
-use Rattle.page_slots.specs.declared.slots.RootSlot.TheVariants as roots
-use Rattle.page_slots.specs.declared.slots.NextEntry.TheVariants as entries
+use Rattle.page_file.specs.Standing.{root_in, IsSound, MayOpen, OpensAsRoot}
+use Rattle.page_file.specs.Steps.{doubted, emptied, with_record, with_root}
+use Rattle.page_file.specs.Slots.{Slots}
+use Rattle.page_file.specs.RootSlot.TheVariants as roots
+use Rattle.page_file.specs.NextEntry.TheVariants as entries
 use Rattle.commit_writes.specs.declared.placed.Placed.{Placed}
 use Rattle.commit_writes.specs.declared.stopped.Stopped.{Stopped}
 use Rattle.commit_writes.specs.declared.stopped.Stopped.TheVariants as stages

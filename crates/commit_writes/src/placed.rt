@@ -7,8 +7,8 @@ ghost use Rattle.page_layout.specs.declared.logs.RecordAt.{RecordAt};
 ghost use Rattle.page_chain.specs.Pages.{page_size, HoldsBlob};
 ghost use Rattle.page_chain.specs.Chains.{HoldsChain};
 ghost use Rattle.page_chain.specs.Inner.Runs.{OnlyWrites, Sees};
-ghost use Rattle.page_slots.specs.Standing.{IsClosed, KeepsSound};
-ghost use Rattle.page_slots.specs.Steps.{emptied};
+ghost use Rattle.page_file.specs.Standing.{IsClosed, KeepsSound};
+ghost use Rattle.page_file.specs.Steps.{emptied};
 ghost use Rattle.page_file.specs.Written.{MayWrite};
 ghost use Rattle.commit_writes.specs.Commits.{record_of, root_of, IsBlobSized, IsChainSized};
 

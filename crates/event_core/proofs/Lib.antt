@@ -1,3 +1,6 @@
+pub use Rattle.plan_changes.proofs.DatabaseLaws
+pub use Rattle.plan_changes.proofs.NamesOf
+pub use Rattle.plan_changes.proofs.StoredLaws
 pub mod Knowing
 pub mod Marking
 pub mod Reaping

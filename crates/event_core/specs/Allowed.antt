@@ -26,7 +26,9 @@ are_different (page ∷ pages) = not (holds pages page) && are_different pages
 abbrev pub allows : Core → History → Entry → Bool
 allows base h (Pin s) = not (is_pinned s h)
 allows base h (Unpin s) = is_pinned s h
-allows base h (Commit s change used) = is_pinned s h && (names_allow (names_at base h) change && (are_different (fresh_at base h change used) && list_all (holds (free_at base h)) (fresh_at base h change used)))
+allows base h (Commit s change used) = is_pinned s h
+    && (names_allow (names_at base h) change
+    && (are_different (fresh_at base h change used) && list_all (holds (free_at base h)) (fresh_at base h change used)))
 allows base h Reap = true
 
 -- whether each entry of a history is allowed after those before it

@@ -22,7 +22,8 @@ makes_version (RemoveVersions name below) = false
 -- the pages of a commit are its own, or those that it may share: the version's with the array's newest version, the catalogue's
 -- with the catalogue before. A change that makes no version uses no page for one
 pub record SharesOwn (base : Core) (h : History) (change : Change) (used : Used) : Type 0 where
-  pub version : IsTrue (list_all (λ page. holds (fresh_at base h change used) page || is_newest (names_at base h) (pages_at base h) (name_of change) page) used.version)
+  pub version : IsTrue (list_all (λ page. holds (fresh_at base h change used) page
+      || is_newest (names_at base h) (pages_at base h) (name_of change) page) used.version)
   pub catalogue : IsTrue (list_all (λ page. holds (fresh_at base h change used) page || holds (catalogue_at base h) page) used.catalogue)
   pub none : makes_version change ≡ false → used.version ≡ []
 

@@ -51,7 +51,8 @@ pub record BeginsAt (db : Database) (start : Core) : Type 0 where
 -- each entry is allowed, orderly and sound after those before it
 abbrev pub IsLegal : Cost → Database → Core → History → Type 0
 IsLegal cost db base [] = BeginsAt db base
-IsLegal cost db base (entry ∷ before) = IsLegal cost db base before × IsTrue (allows base before entry) × IsOrderly base before entry × IsSound cost db base before entry
+IsLegal cost db base (entry ∷ before) = IsLegal cost db base before × IsTrue (allows base before entry)
+    × IsOrderly base before entry × IsSound cost db base before entry
 
 -- ---- where nothing is known of the cells
 

@@ -1,3 +1,11 @@
+pub use Rattle.plan_changes.specs.Changes
+pub use Rattle.plan_changes.specs.Databases
+pub use Rattle.plan_changes.specs.NameEntry
+pub use Rattle.plan_changes.specs.Query
+pub use Rattle.plan_changes.specs.Stored
+pub use Rattle.plan_changes.specs.Typed
+pub use Rattle.plan_changes.specs.declared.change.Change
+pub use Rattle.version_reaper.specs.PageSets
 pub mod Agree
 pub mod Allowed
 pub mod Apart

@@ -30,7 +30,8 @@ is_newest names versions name page = list_any (λ v. is_pages_of name v && nat_e
 
 -- the fresh pages of a commit: those that are neither of the array's newest version nor of the catalogue before
 abbrev pub fresh_of : Names → List VersionPages → List ℕ → Change → Used → List ℕ
-fresh_of names versions catalogue change used = filter (λ page. not (is_newest names versions (name_of change) page || holds catalogue page)) (used.version ++ used.catalogue)
+fresh_of names versions catalogue change used = filter
+    (λ page. not (is_newest names versions (name_of change) page || holds catalogue page)) (used.version ++ used.catalogue)
 
 abbrev pub fresh_at : Core → History → Change → Used → List ℕ
 fresh_at base h change used = fresh_of (names_at base h) (pages_at base h) (catalogue_at base h) change used

@@ -58,5 +58,7 @@ is_core_pinned core session = list_any (λ pin. nat_eq pin.session session) core
 abbrev pub core_allows : Core → Entry → Bool
 core_allows core (Pin session) = not (is_core_pinned core session)
 core_allows core (Unpin session) = is_core_pinned core session
-core_allows core (Commit session change used) = is_core_pinned core session && (names_allow core.names change && (are_different (fresh_of core.names core.pages core.catalogue change used) && list_all (holds core.free) (fresh_of core.names core.pages core.catalogue change used)))
+core_allows core (Commit session change used) = is_core_pinned core session
+    && (names_allow core.names change && (are_different (fresh_of core.names core.pages core.catalogue change used)
+    && list_all (holds core.free) (fresh_of core.names core.pages core.catalogue change used)))
 core_allows core Reap = true

@@ -1,10 +1,10 @@
 -- A second worked list, over a base of no arrays, with 16 pages, whose catalogue is a chain on page 1 and a log on page 2: versions share a page, and
 -- some are removed under a pin.
 use Rattle.std.specs.Prelude.{ℕ, pos, true, [], ◌∷◌, codes}
-use Rattle.cell_values.specs.declared.datum.Datum.TheVariants.{Int}
-use Rattle.cell_values.specs.declared.schema.Kind.TheVariants.{Int64}
-use Rattle.cell_values.specs.declared.schema.Schema.{Schema}
-use Rattle.expr_nulls.specs.Expr.{literal}
+use Rattle.version_reaper.specs.Datum.TheVariants.{Int}
+use Rattle.version_reaper.specs.Kind.TheVariants.{Int64}
+use Rattle.version_reaper.specs.Schema.{Schema}
+use Rattle.plan_changes.specs.Expr.{literal}
 use Rattle.plan_changes.specs.Query.{built, between}
 use Rattle.plan_changes.specs.declared.change.Change.{Change}
 use Rattle.plan_changes.specs.declared.change.Change.TheVariants.{Create, Store, Insert, Remove, RemoveVersions}
@@ -38,7 +38,8 @@ shared_store = Store (codes "A") shared_schema (built shared_schema (literal (In
 
 -- another number at one place of the second chunk
 abbrev pub shared_insert : Change
-shared_insert = Insert (codes "A") shared_schema (between (built shared_schema (literal (Int (pos 8)))) (record { lo = record { items = pos 2 ∷ [] }; hi = record { items = pos 2 ∷ [] } }))
+shared_insert = Insert (codes "A") shared_schema
+    (between (built shared_schema (literal (Int (pos 8)))) (record { lo = record { items = pos 2 ∷ [] }; hi = record { items = pos 2 ∷ [] } }))
 
 -- session 0 stores A: its chunks on pages 3 and 4, its directory on 5, a record on 6. Session 1 pins. Session 0 inserts into the second chunk: the
 -- first one stays on page 3, the second comes on 7, the directory on 8, a record on 9. It removes the version 1, which session 1 can name, with a

@@ -1,9 +1,9 @@
 -- A worked list of entries, over a base of no arrays, with 16 pages and page 1 as its catalogue.
 use Rattle.std.specs.Prelude.{ℕ, pos, true, [], ◌∷◌, codes}
-use Rattle.cell_values.specs.declared.datum.Datum.TheVariants.{Int}
-use Rattle.cell_values.specs.declared.schema.Kind.TheVariants.{Int64}
-use Rattle.cell_values.specs.declared.schema.Schema.{Schema}
-use Rattle.expr_nulls.specs.Expr.{literal}
+use Rattle.version_reaper.specs.Datum.TheVariants.{Int}
+use Rattle.version_reaper.specs.Kind.TheVariants.{Int64}
+use Rattle.version_reaper.specs.Schema.{Schema}
+use Rattle.plan_changes.specs.Expr.{literal}
 use Rattle.plan_changes.specs.Query.{built}
 use Rattle.plan_changes.specs.declared.change.Change.{Change}
 use Rattle.plan_changes.specs.declared.change.Change.TheVariants.{Create, Store, Insert, Remove, RemoveVersions}

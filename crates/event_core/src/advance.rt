@@ -7,8 +7,8 @@ ghost use Rattle.event_core.specs.Replay.{core_after, core_allows};
 
 use crate::reap::reaped;
 use crate::{Core, CorePin, Entry, Used};
-use cell_values::{List, Memory};
 use plan_changes::Change;
+use version_reaper::{List, Memory};
 
 /// The pins without that of a session.
 fn without_session(pins: List<CorePin>, session: u32) -> List<CorePin>

@@ -8,8 +8,8 @@ ghost use Rattle.event_core.specs.Inner.Known.{pages_if, known_of};
 
 use crate::marks::Marks;
 use crate::{Core, Used, VersionPages};
-use cell_values::{List, Memory, Name};
 use plan_changes::{Change, changed_name, is_same, newest_of};
+use version_reaper::{List, Memory, Name};
 
 /// Adds the pages of a version, if it is this one.
 fn push_if(

@@ -1,8 +1,8 @@
 //! What can happen to a store.
 ghost use Rattle.std.specs.Prelude.{◌≡◌, IfOk};
 
-use cell_values::{Copies, List, Memory};
 use plan_changes::Change;
+use version_reaper::{Copies, List, Memory};
 
 /// The pages of a commit.
 #[derive(Debug, Drop)]

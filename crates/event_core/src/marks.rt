@@ -2,9 +2,8 @@
 ghost use Rattle.std.specs.Prelude.{◌≡◌, ◌<◌, ℕ, false, length, slice_index_or, IfOk};
 ghost use Rattle.version_reaper.specs.PageSets.{holds};
 
-use cell_values::{List, Memory};
 use std::marker::Model;
-use version_reaper::{PageSet, is_in};
+use version_reaper::{List, Memory, PageSet, is_in};
 
 /// A list of pages, and which of them are below a limit. Contracts see the list.
 #[derive(Debug, Drop)]

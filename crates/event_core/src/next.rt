@@ -6,10 +6,10 @@ ghost use Rattle.event_core.specs.Inner.Next.{pages_by, HasRoom};
 
 use crate::commit::{without_array, without_below};
 use crate::{Core, VersionPages};
-use cell_values::{List, Memory, Name};
 use plan_changes::{Change, Names, next_of};
 use std::alloc::Global;
 use std::marker::Model;
+use version_reaper::{List, Memory, Name};
 
 /// Room for versions. Contracts see for how many.
 #[derive(Drop)]
@@ -75,7 +75,8 @@ fn next_version(names: &Names, name: &Name, used: &List<u32>) -> Result<VersionP
 
 /// One more version of an array, under its next number.
 fn one_more(core: &Core, name: &Name, used: &List<u32>) -> Result<NextPages, Memory>
-    ensures pages { IfOk result (λ next. pages_by next core.now.pages ≡ core.now.pages ++ record { name = name.now; version = next_of core.now.names.arrays name.now; pages = used.now } ∷ []) }
+    ensures pages { IfOk result (λ next. pages_by next core.now.pages
+        ≡ core.now.pages ++ record { name = name.now; version = next_of core.now.names.arrays name.now; pages = used.now } ∷ []) }
     ensures room { IfOk result (λ next. HasRoom next (length core.now.pages)) }
 {
     let next = next_version(&core.names, name, used)?;

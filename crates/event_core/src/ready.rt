@@ -13,10 +13,10 @@ use crate::commit::{fresh_pages, without_pages};
 use crate::marks::Marks;
 use crate::next::{NextPages, changed_pages, next_pages};
 use crate::{Core, Used};
-use cell_values::{List, Memory};
 use plan_changes::{Change, Names, changed_names};
 use std::marker::Model;
 use std::snapshot::Snapshot;
+use version_reaper::{List, Memory};
 
 /// What a commit makes of the core, but for the free pages.
 #[derive(Drop)]

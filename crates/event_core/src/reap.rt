@@ -6,8 +6,7 @@ ghost use Rattle.event_core.specs.Pages.{has_page};
 ghost use Rattle.event_core.specs.Replay.{is_core_live, is_core_awaiting};
 
 use crate::{Core, CorePin, VersionPages};
-use cell_values::{List, Memory};
-use version_reaper::{PageSet, free_of};
+use version_reaper::{List, Memory, PageSet, free_of};
 
 /// Adds the pages of versions to a set.
 fn add_versions(set: &mut PageSet, versions: &List<VersionPages>)
@@ -22,7 +21,8 @@ fn add_versions(set: &mut PageSet, versions: &List<VersionPages>)
 /// Adds the pages that pins keep to a set.
 fn add_pins(set: &mut PageSet, pins: &List<CorePin>)
     ensures limit { length set.new ≡ length set.old }
-    ensures pages { (p : ℕ) → p < length set.old → slice_index_or set.new p false ≡ (slice_index_or set.old p false || list_any (λ pin. has_page pin.pages p) pins.now) }
+    ensures pages { (p : ℕ) → p < length set.old
+        → slice_index_or set.new p false ≡ (slice_index_or set.old p false || list_any (λ pin. has_page pin.pages p) pins.now) }
 {
     for pin in pins.as_slice() {
         add_versions(set, &pin.pages);

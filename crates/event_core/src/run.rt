@@ -6,7 +6,7 @@ ghost use Rattle.event_core.specs.Allowed.{IsBase, is_allowed};
 ghost use Rattle.event_core.specs.Replay.{core_at, core_after, core_allows};
 
 use crate::{Core, Entry};
-use cell_values::Memory;
+use version_reaper::Memory;
 
 /// The core after one more entry. The second clause says that where the core is that of some history, the next one is that of
 /// the history with this entry.

@@ -1,8 +1,8 @@
 //! What is known after some entries.
 ghost use Rattle.std.specs.Prelude.{◌≡◌, IfOk};
 
-use cell_values::{Copies, List, Memory, Name};
 use plan_changes::Names;
+use version_reaper::{Copies, List, Memory, Name};
 
 /// The pages of a version.
 #[derive(Debug, Drop)]

@@ -10,12 +10,12 @@ use Rattle.std.proofs.lemmas.Bool.{and_parts, and_from, or_parts, or_from, not-t
 use Rattle.cell_values.specs.declared.schema.Schema.{Schema}
 use Rattle.plan_changes.specs.declared.change.Change.{Change}
 use Rattle.plan_changes.specs.declared.change.Change.TheVariants.{Create, Store, Insert, Remove, RemoveVersions}
-use Rattle.logical_plan.specs.declared.names.NameEntry.{NameEntry}
-use Rattle.logical_plan.specs.declared.names.Names.{Names}
+use Rattle.plan_changes.specs.NameEntry.{NameEntry}
+use Rattle.plan_changes.specs.Names.{Names}
 use Rattle.plan_changes.specs.Changes.{is_named, has_array, place_of, with_array, with_absent, with_version, without_below, arrays_after, names_after, next_of, next_or}
 use Rattle.plan_changes.specs.Allowed.{names_allow, has_number, has_room}
 use Rattle.cell_values.specs.Schemas.{is_valid}
-use Rattle.version_reaper.specs.PageSets.{holds}
+use Rattle.event_core.specs.PageSets.{holds}
 use Rattle.event_core.specs.declared.entry.Used.{Used}
 use Rattle.event_core.specs.declared.entry.Entry.TheVariants.{Pin, Unpin, Commit, Reap}
 use Rattle.event_core.specs.declared.state.VersionPages.{VersionPages}

@@ -1,6 +1,6 @@
 -- The core of a history, entry by entry.
 use Rattle.std.proofs.Common.{false, not, ◌&&◌, refl, ap, sym}
-use Rattle.version_reaper.specs.PageSets.{holds}
+use Rattle.event_core.specs.PageSets.{holds}
 use Rattle.event_core.specs.declared.entry.Entry.TheVariants.{Pin, Unpin, Commit, Reap}
 use Rattle.event_core.specs.Pages.{free_at}
 use Rattle.event_core.proofs.Steps.{core_live}

@@ -5,10 +5,10 @@ use Rattle.std.proofs.lemmas.List.Folds.{list_any-append}
 use Rattle.std.proofs.lemmas.Bool.{and_parts, and_from, or_parts, or_from, or_cases, not-true, not_from_false, eqb-true, eq-eqb, cases_eq, or_left, or_right}
 use Rattle.plan_changes.specs.declared.change.Change.{Change}
 use Rattle.plan_changes.specs.declared.change.Change.TheVariants.{Create, Store, Insert, Remove, RemoveVersions}
-use Rattle.logical_plan.specs.declared.names.Names.{Names}
+use Rattle.plan_changes.specs.Names.{Names}
 use Rattle.plan_changes.specs.Allowed.{names_allow}
 use Rattle.plan_changes.specs.Changes.{newest_of, name_of}
-use Rattle.version_reaper.specs.PageSets.{holds, pages_from, pages_below}
+use Rattle.event_core.specs.PageSets.{holds, pages_from, pages_below}
 use Rattle.event_core.specs.declared.entry.Used.{Used}
 use Rattle.event_core.specs.declared.entry.Entry.TheVariants.{Pin, Unpin, Commit, Reap}
 use Rattle.event_core.specs.declared.state.VersionPages.{VersionPages}

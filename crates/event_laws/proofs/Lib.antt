@@ -1,3 +1,5 @@
+pub use Rattle.event_core.proofs.Tests
+pub use Rattle.plan_changes.proofs.Maps
 pub mod Agree
 pub mod Apart
 pub mod Cells

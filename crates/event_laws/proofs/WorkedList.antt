@@ -2,8 +2,8 @@
 use Rattle.std.proofs.Common.{◌≡◌, true, false, [], ◌∷◌, length, map, refl, arith}
 use Rattle.std.specs.Prelude.{pos}
 use Rattle.cell_values.specs.declared.datum.Datum.TheVariants.{Int}
-use Rattle.expr_nulls.specs.Expr.{literal}
-use Rattle.logical_plan.specs.Query.{built}
+use Rattle.plan_changes.specs.Expr.{literal}
+use Rattle.plan_changes.specs.Query.{built}
 use Rattle.plan_changes.proofs.DatabaseLaws.{plans_mean_arrays}
 use Rattle.plan_changes.specs.Stored.{HasItsNames}
 use Rattle.plan_changes.specs.Typed.{HasTypedPlan}

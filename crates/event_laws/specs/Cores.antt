@@ -35,4 +35,5 @@ is_no_commit Reap = true
 
 -- what was made ready over a core is ready over the core after a pin, an unpin or a reap
 abbrev pub ReadyOutlasts : Type 0
-ReadyOutlasts = (ready : ReadyFor) (core : Core) (entry : Entry) → IsTrue (is_no_commit entry) → IsReadyOver ready core → IsReadyOver ready (core_after core entry)
+ReadyOutlasts = (ready : ReadyFor) (core : Core) (entry : Entry) → IsTrue (is_no_commit entry)
+    → IsReadyOver ready core → IsReadyOver ready (core_after core entry)

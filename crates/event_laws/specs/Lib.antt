@@ -1,3 +1,11 @@
+pub use Rattle.event_core.specs.History
+pub use Rattle.event_core.specs.Pages
+pub use Rattle.event_core.specs.declared.state.VersionPages
+pub use Rattle.plan_changes.specs.Allowed
+pub use Rattle.plan_changes.specs.Changes
+pub use Rattle.plan_changes.specs.NameEntry
+pub use Rattle.plan_changes.specs.Names
+pub use Rattle.plan_changes.specs.declared.change.Change
 pub mod Cores
 pub mod Legal
 pub mod Pins

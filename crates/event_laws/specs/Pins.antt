@@ -11,7 +11,8 @@ use Rattle.event_core.specs.Replay.{pin_at, core_at}
 
 -- what was before a session's pin is found behind it, and is left by all entries but its own pins and unpins
 abbrev pub PinsStay : Type 0
-PinsStay = (session : ℕ) (later before : History) → IsTrue (list_all (leaves_pin session) later) → pin_before session (later ++ Pin session ∷ before) ≡ Some before
+PinsStay = (session : ℕ) (later before : History) → IsTrue (list_all (leaves_pin session) later)
+    → pin_before session (later ++ Pin session ∷ before) ≡ Some before
 
 -- the same of a pin that is open: no other session's entry, no reap and no commit closes it or makes it another one
 abbrev pub OpenPinsStay : Type 0

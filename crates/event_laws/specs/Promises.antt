@@ -2,7 +2,7 @@
 use Rattle.std.specs.Prelude.{◌≡◌, ℕ, ◌+◌, ◌-◌, ◌<◌, ◌≤◌, length, ◌↔◌, Bool, true, false, not, nat_eq, [], ◌∷◌, ◌++◌, IsTrue}
 use Rattle.std.specs.List.{filter, list_all, list_any}
 use Rattle.plan_changes.specs.declared.change.Change.{Change}
-use Rattle.version_reaper.specs.PageSets.{holds, pages_below}
+use Rattle.event_core.specs.PageSets.{holds, pages_below}
 use Rattle.event_core.specs.declared.entry.Used.{Used}
 use Rattle.event_core.specs.declared.entry.Entry.{Entry}
 use Rattle.event_core.specs.declared.entry.Entry.TheVariants.{Pin, Unpin, Commit, Reap}
@@ -14,11 +14,13 @@ use Rattle.event_core.specs.Apart.{AllShareOwn, AreApart}
 
 -- no free page is live
 abbrev pub NoFreePageIsLive : Type 0
-NoFreePageIsLive = (base : Core) (h : History) → IsBase base → IsTrue (is_allowed base h) → (page : ℕ) → IsTrue (holds (free_at base h) page) → is_live base h page ≡ false
+NoFreePageIsLive = (base : Core) (h : History) → IsBase base → IsTrue (is_allowed base h)
+    → (page : ℕ) → IsTrue (holds (free_at base h) page) → is_live base h page ≡ false
 
 -- no fresh page of an allowed commit was live before it
 abbrev pub NoFreshPageWasLive : Type 0
-NoFreshPageWasLive = (base : Core) (h : History) (session : ℕ) (change : Change) (used : Used) → IsBase base → IsTrue (is_allowed base (Commit session change used ∷ h)) →
+NoFreshPageWasLive = (base : Core) (h : History) (session : ℕ) (change : Change) (used : Used)
+    → IsBase base → IsTrue (is_allowed base (Commit session change used ∷ h)) →
     (page : ℕ) → IsTrue (holds (fresh_at base h change used) page) → is_live base h page ≡ false
 
 -- whether an entry is another one than the unpin of a session
@@ -44,12 +46,14 @@ FreePagesAreWithin = (base : Core) (h : History) → IsBase base → (page : ℕ
 
 -- a reap takes no page from the free ones
 abbrev pub ReapKeepsFreePages : Type 0
-ReapKeepsFreePages = (base : Core) (h : History) → IsBase base → IsTrue (is_allowed base h) → (page : ℕ) → IsTrue (holds (free_at base h) page) → IsTrue (holds (free_at base (Reap ∷ h)) page)
+ReapKeepsFreePages = (base : Core) (h : History) → IsBase base → IsTrue (is_allowed base h) → (page : ℕ)
+    → IsTrue (holds (free_at base h) page) → IsTrue (holds (free_at base (Reap ∷ h)) page)
 
 -- each page from 1 below the limit is free, live or awaiting a reap, and is so once
 abbrev pub PagesAreConserved : Type 0
 PagesAreConserved = (base : Core) (h : History) → IsBase base → IsTrue (is_allowed base h) →
-    length (free_at base h) + (length (filter (is_live base h) (pages_below base.limit)) + length (filter (is_awaiting base h) (pages_below base.limit))) ≡ base.limit - 1
+    length (free_at base h) + (length (filter (is_live base h) (pages_below base.limit)) + length
+    (filter (is_awaiting base h) (pages_below base.limit))) ≡ base.limit - 1
 
 -- where no page awaits a reap, a reap leaves the free pages as they were
 abbrev pub ReapsWithoutGainChangeNothing : Type 0

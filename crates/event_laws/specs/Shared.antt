@@ -1,7 +1,7 @@
 -- What is computed of the worked list in which versions share a page.
 use Rattle.std.specs.Prelude.{◌≡◌, ℕ, List, [], ◌∷◌, map}
 use Rattle.std.specs.List.{filter}
-use Rattle.version_reaper.specs.PageSets.{pages_from}
+use Rattle.event_core.specs.PageSets.{pages_from}
 use Rattle.event_core.specs.History.{up_to}
 use Rattle.event_core.specs.Pages.{is_live, free_at}
 use Rattle.event_core.specs.Allowed.{IsBase}
@@ -26,7 +26,8 @@ pub record SharedIsLegal : Type 0 where
 -- alone wait for the unpin, and page 3 stays, since the version after it has it too
 pub record SharedPages : Type 0 where
   pub free : map free_after (pages_from 0 14) ≡
-      pages_from 3 13 ∷ pages_from 3 13 ∷ pages_from 7 9 ∷ pages_from 7 9 ∷ pages_from 7 9 ∷ pages_from 7 9 ∷ pages_from 10 6 ∷ pages_from 10 6 ∷ pages_from 10 6
+      pages_from 3 13 ∷ pages_from 3 13 ∷ pages_from 7 9 ∷ pages_from 7 9 ∷ pages_from 7 9
+      ∷ pages_from 7 9 ∷ pages_from 10 6 ∷ pages_from 10 6 ∷ pages_from 10 6
       ∷ pages_from 12 4 ∷ pages_from 12 4
       ∷ (1 ∷ 2 ∷ 6 ∷ 9 ∷ 12 ∷ 13 ∷ 14 ∷ 15 ∷ []) ∷ (1 ∷ 2 ∷ 6 ∷ 9 ∷ 12 ∷ 13 ∷ 14 ∷ 15 ∷ [])
       ∷ (1 ∷ 2 ∷ 4 ∷ 5 ∷ 6 ∷ 9 ∷ 12 ∷ 13 ∷ 14 ∷ 15 ∷ []) ∷ []

@@ -1,14 +1,17 @@
 //! What holds of each allowed history, whatever the code does.
 ghost use Rattle.std.specs.Prelude.{◌≡◌, true, ◌&&◌, [], ◌∷◌, map, length};
-ghost use Rattle.version_reaper.specs.PageSets.{holds};
+ghost use Rattle.event_core.specs.PageSets.{holds};
 ghost use Rattle.event_core.specs.History.{open_pins, catalogue_at, pages_at};
 ghost use Rattle.event_core.specs.Pages.{free_at, has_page};
 ghost use Rattle.event_core.specs.Allowed.{IsBase};
 ghost use Rattle.event_core.specs.Apart.{AllShareOwn, AreApart};
 ghost use Rattle.event_core.specs.Legal.{IsLegal, AllStoreArrays};
 ghost use Rattle.event_core.specs.Worked.{worked_base, worked, worked_on, worked_cost, page_used_twice};
-ghost use Rattle.event_laws.specs.Legal.{NamedVersionsHavePages, NamesAreOfTheDatabase, LegalIsOrdered, OrderedIsAllowed, OrderedNamesAreStored, OrderedVersionsHavePages, LegalDatabases};
-ghost use Rattle.event_laws.specs.Promises.{CataloguesStayApart, NoFreePageIsLive, NoFreshPageWasLive, PinnedPagesStayLive, ReapFreesTheRest, FreePagesAreWithin, ReapKeepsFreePages, ReapsWithoutGainChangeNothing, PagesAreConserved};
+ghost use Rattle.event_laws.specs.Legal.{NamedVersionsHavePages, NamesAreOfTheDatabase, LegalIsOrdered, OrderedIsAllowed};
+ghost use Rattle.event_laws.specs.Legal.{OrderedNamesAreStored, OrderedVersionsHavePages, LegalDatabases};
+ghost use Rattle.event_laws.specs.Promises.{CataloguesStayApart, NoFreePageIsLive, NoFreshPageWasLive};
+ghost use Rattle.event_laws.specs.Promises.{PinnedPagesStayLive, ReapFreesTheRest, FreePagesAreWithin};
+ghost use Rattle.event_laws.specs.Promises.{ReapKeepsFreePages, ReapsWithoutGainChangeNothing, PagesAreConserved};
 ghost use Rattle.event_laws.specs.Cores.{CoreFollowsEntries, CoreTellsAllowed, BaseIsFirstCore, CoreTellsPages, ReadyOutlasts};
 ghost use Rattle.event_laws.specs.Pins.{PinsStay, OpenPinsStay, OpenPinsAreThese, CorePinsAreThese, BeginningsAreKept, AllEntriesAreTheHistory, PlacesTellPins};
 ghost use Rattle.event_laws.specs.Shared.{SharedIsLegal, SharedPages};

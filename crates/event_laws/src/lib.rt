@@ -13,3 +13,4 @@ pub use laws::{
     pinned_pages_stay_live, ready_outlasts, reap_frees_the_rest, reap_keeps_free_pages,
     reaps_without_gain_change_nothing,
 };
+pub use plan_changes::{Change, NameEntry, Names, is_same};

@@ -1,5 +1,5 @@
 -- The array that an operator makes.
-use Rattle.std.proofs.Common.{◌≡◌, ℕ, ◌≤◌, ◌^◌, List, [], ◌∷◌, length, filter, None, Result, Ok, Err, refl, sym, ap, ◌∙◌, subst, ◌++◌, append_assoc}
+use Rattle.std.proofs.Common.{◌≡◌, ℕ, ◌≤◌, ◌^◌, List, [], ◌∷◌, length, filter, None, Result, Ok, Err, refl, sym, ap, ◌∙◌, subst}
 use Rattle.std.specs.List.{AllByRecursion, AllZip}
 use Rattle.std.specs.Prelude.{IfOk}
 use Rattle.cell_values.specs.declared.datum.Row.{Row}
@@ -96,13 +96,3 @@ made_whole operator schema array chunks has valid dims local none made = record 
   cells = λ gives whole. cells_made operator array.schema schema array.margins.items dims array.chunks chunks valid gives (has none) made;
   chunks = λ whole rows are. chunks_made operator array.schema schema array.margins.items dims array.chunks chunks rows local (has none).placed.each made are;
 }
-
--- ---- the chunks one after the other
-
-pub next_made : (P : Chunk → Type 0) (R : Chunk → Chunk → Type 0) (chunks made before after : List Chunk) (chunk new : Chunk) (more : List Chunk) → before ≡ chunk ∷ after → more ≡ made ++ new ∷ [] → AllByRecursion P before
-    → ((rest : List Chunk) → AllZip R before rest → AllZip R chunks (made ++ rest)) → R chunk new → AllByRecursion P after × ((rest : List Chunk) → AllZip R after rest → AllZip R chunks (more ++ rest))
-next_made P R chunks made before after chunk new more b m h f r =
-    let all : AllByRecursion P (chunk ∷ after) = subst (AllByRecursion P) b h in (
-      all.1,
-      λ rest a. subst (AllZip R chunks) (sym (ap (λ (z : List Chunk). z ++ rest) m ∙ append_assoc made (new ∷ []) rest)) (f (new ∷ rest) (subst (λ (z : List Chunk). AllZip R z (new ∷ rest)) (sym b) (r, a))),
-    )

@@ -29,4 +29,5 @@ pub record IsMadeOf (operator : List Row → List Row) (schema : Schema) (old ne
   pub margins : new.margins ≡ old.margins
   pub broken : new.broken ≡ old.broken
   pub cells : GivesRows operator old.schema schema → HasCells new
-  pub chunks : old.broken ≡ None → (rows : List Row) → AreChunksOf schema.dimensions new.margins.items rows old.chunks → AreChunksOf schema.dimensions new.margins.items (operator rows) new.chunks
+  pub chunks : old.broken ≡ None → (rows : List Row) → AreChunksOf schema.dimensions new.margins.items rows old.chunks
+      → AreChunksOf schema.dimensions new.margins.items (operator rows) new.chunks

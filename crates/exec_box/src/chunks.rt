@@ -2,4 +2,4 @@
 
 mod between;
 
-pub use between::{between_chunk, between_owned};
+pub use between::between_chunk;

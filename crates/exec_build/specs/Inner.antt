@@ -1,2 +1,3 @@
+pub mod Quickly
 pub mod Rows
 pub mod Walks

@@ -3,5 +3,6 @@
 mod cells;
 mod chunks;
 mod numbers;
+mod quickly;
 
 pub use chunks::built_array;

@@ -1,3 +1,2 @@
-pub mod Appended
 pub mod Inner
 pub mod Picked

@@ -4,6 +4,6 @@ mod applying;
 mod filtering;
 mod projecting;
 
-pub use applying::{apply_chunk, apply_owned};
-pub use filtering::{filter_chunk, filter_owned};
+pub use applying::apply_chunk;
+pub use filtering::filter_chunk;
 pub use projecting::project_chunk;

@@ -6,5 +6,5 @@ mod chunks;
 mod columns;
 
 pub use arrays::{apply, filter, project};
-pub use chunks::{apply_chunk, apply_owned, filter_chunk, filter_owned, project_chunk};
+pub use chunks::{apply_chunk, filter_chunk, project_chunk};
 pub use columns::walk;

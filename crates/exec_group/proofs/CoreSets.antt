@@ -19,8 +19,8 @@ use Rattle.array_geom.specs.Link.{chunk_rows, core_rows, number_order, numbers, 
 use Rattle.array_geom.proofs.LawProofs.{cores_lie_apart}
 use Rattle.agg_states.specs.Stands.{AreApart}
 use Rattle.array_parts.specs.Cores.{HaveCells}
-use Rattle.chunk_cells.proofs.NumberLaws.{number_order_total}
-use Rattle.chunk_cells.proofs.MergeLaws.{put_all-none, IsRising-core_rows}
+use Rattle.area_cells.proofs.NumberLaws.{number_order_total}
+use Rattle.area_cells.proofs.MergeLaws.{put_all-none, IsRising-core_rows}
 use Rattle.exec_group.specs.Inner.Keys.{core_of, aggregate_sets, block_at, regrid_sets}
 use Rattle.std.specs.Prelude.{IfOk}
 use Rattle.std.proofs.lemmas.Result.{IfOk-weaker}

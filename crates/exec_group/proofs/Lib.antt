@@ -8,7 +8,6 @@ pub mod KindLaws
 pub mod MergeLaws
 pub mod PartsPartLaws
 mod PiecesPartLaws
-mod RisingLaws
 pub mod RowLemmas
 pub mod RowsPartLaws
 pub mod StateLaws

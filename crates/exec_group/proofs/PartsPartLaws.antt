@@ -20,8 +20,8 @@ use Rattle.array_geom.proofs.NearLemmas.{valid_placed, size_is_volume}
 use Rattle.array_geom.proofs.TestLaws.{and_parts, at_most}
 use Rattle.array_parts.proofs.PartLemmas.{all_kept}
 use Rattle.array_parts.specs.Cores.{HaveCells, cores_of}
-use Rattle.chunk_cells.specs.Whole.{CoresRise}
-use Rattle.chunk_cells.proofs.MergeLaws.{put_all-none}
+use Rattle.area_cells.specs.Whole.{CoresRise}
+use Rattle.area_cells.proofs.MergeLaws.{put_all-none}
 use Rattle.exec_group.specs.Inner.Keys.{core_of}
 
 pub core_rises : (schema : Schema) (margins : List ℕ) (chunk : Chunk) → HaveCells schema margins (chunk ∷ []) → IsRising (core_of schema.dimensions margins chunk)

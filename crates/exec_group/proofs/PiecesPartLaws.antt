@@ -64,10 +64,6 @@ few_in_parts gs places dims margins (chunk ∷ chunks) [] h = absurd h
 few_in_parts gs places dims margins (chunk ∷ chunks) (part ∷ parts) h =
     let first = h.0.cells in let core = few_in_core dims margins chunk in let rest = few_in_parts gs places dims margins chunks parts h.1 in omega arith
 
--- what is left to make is nothing
-pub ended : (R : Chunk → Groups → Type 0) (chunks items : List Chunk) (made : List Groups) → items ≡ [] → ((rest : List Groups) → AllZip R items rest → AllZip R chunks (made ++ rest)) → AllZip R chunks made
-ended R chunks items made e f = subst (AllZip R chunks) (append-nil made) (f [] (subst (λ (z : List Chunk). AllZip R z []) (sym e) tt))
-
 -- ---- blocks
 
 pub block_parts_found : (gs : List Aggregate) (sizes : List ℕ) (dims : List Dimension) (margins : List ℕ) (chunks : List Chunk) (parts : List Groups)

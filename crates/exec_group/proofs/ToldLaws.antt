@@ -29,7 +29,7 @@ use Rattle.exec_group.specs.Counts.{cells_of as counted, cells_in}
 use Rattle.exec_group.specs.Grouped.{AreStatesOf, ComesBefore, AreInOrder, states_at, IsGroupOf, AreGroupsOf}
 use Rattle.exec_group.specs.declared.rows.groups.Groups.{Groups}
 use Rattle.exec_group.specs.Sets.{Sets, all_sets}
-use Rattle.exec_group.specs.Inner.Merging.{IsSetFor, CanBeTold, CanBeMerged}
+use Rattle.exec_group.specs.Inner.Merging.{IsSetFor, CanBeTold}
 use Rattle.exec_group.specs.Told.{IsTold, AreTold, IsRowOf, AreRowsOfSets}
 use Rattle.exec_group.proofs.KindLaws.{aggregate_has_kind, kinds_for}
 
@@ -222,7 +222,3 @@ rows_of_target gs attributes target sets groups rows valid g told typed k kinds 
 pub if_ok : {X E : Type 0} {P Q : X → Type 0} (r : Result X E) → IfOk r P → ((x : X) → P x → Q x) → IfOk r Q
 if_ok (Ok x) p f = f x p
 if_ok (Err e) p f = p
-
--- what the merged groups of parts tell
-pub can_tell : (target : Schema) (parts : List Groups) (groups : List Group) (can : CanBeMerged target parts) → AreGroupsOf can.gs (all_sets can.sets) groups → CanBeTold target groups
-can_tell target parts groups can are = record { gs = can.gs; attributes = can.attributes; sets = all_sets can.sets; groups_of = are; typed = can.typed; cells = can.cells; kinds = can.kinds }

@@ -7,8 +7,8 @@ mod pieces;
 mod rows;
 
 pub use parts::{
-    aggregate_groups, aggregate_part, merge_parts, regrid_groups, regrid_part, rows_of_cores,
-    rows_told, told_array,
+    aggregate_groups, aggregate_part, regrid_groups, regrid_part, rows_of_cores, rows_told,
+    told_array,
 };
 pub use pieces::{aggregate, regrid};
 pub use rows::{Group, Groups, groups_of, merge_all, merge_two, one_group};

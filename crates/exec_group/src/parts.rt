@@ -8,6 +8,6 @@ mod parts;
 mod results;
 
 pub use cores::rows_of_cores;
-pub use merged::{merge_parts, told_array};
+pub use merged::told_array;
 pub use parts::{aggregate_groups, aggregate_part, regrid_groups, regrid_part};
 pub use results::rows_told;

@@ -3,7 +3,6 @@
 mod aggregates;
 mod blocks;
 mod parts;
-mod rising;
 
 pub use aggregates::aggregate;
 pub use blocks::regrid;

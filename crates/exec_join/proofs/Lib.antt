@@ -1,10 +1,9 @@
 pub mod ArraysCrossLaws
+pub mod CrossPieceLaws
 pub mod JoinLaws
-pub mod JoinSteps
 pub mod MadeLaws
 pub mod MoveLaws
 pub mod PartnerLaws
 pub mod PieceLaws
-pub mod RepartLaws
 pub mod RowsCrossLaws
 pub mod SideLaws

@@ -1,6 +1,6 @@
 -- Joins chunk by chunk.
-use Rattle.std.proofs.Common.{◌≡◌, ℕ, suc, ◌+◌, ◌≤◌, Bool, ◌&&◌, List, [], ◌∷◌, ◌++◌, length, get_or, take, refl, sym, ap, ◌∙◌, subst, arith, length-append, length-take}
-use Rattle.std.specs.Prelude.{◌<◌, int_le}
+use Rattle.std.proofs.Common.{◌≡◌, ℕ, suc, ◌+◌, ◌≤◌, Bool, ◌&&◌, List, [], ◌∷◌, ◌++◌, length, map, take, refl, sym, ap, ◌∙◌, subst, arith, length-append, length-take}
+use Rattle.std.specs.Prelude.{int_le}
 use Rattle.std.specs.Int.{int_min}
 use Rattle.std.specs.List.{AllByRecursion}
 use Rattle.std.specs.Option.{option_map}
@@ -14,7 +14,9 @@ use Rattle.cell_values.specs.Schemas.{attribute_names, dimension_names}
 use Rattle.array_rows.specs.Boxes.{by_pairs, corners, is_inside, within}
 use Rattle.array_rows.specs.Rows.{IsRising, cell_at}
 use Rattle.array_rows.proofs.RowSets.{IsRising-rows_where}
+use Rattle.arrayvec.specs.ArrayVec.{ArrayVec}
 use Rattle.array_geom.specs.declared.chunk.Chunk.{Chunk}
+use Rattle.array_geom.specs.declared.chunk.ChunkedArray.{ChunkedArray}
 use Rattle.array_geom.specs.Geometry.{ChunkNumber, HasFrame, core, first_in, has_core, last_in}
 use Rattle.array_geom.specs.Link.{IsPart, NumbersRise, core_rows, has_cell, is_not_empty, numbers}
 use Rattle.array_geom.proofs.NearLemmas.{valid_placed}
@@ -25,9 +27,8 @@ use Rattle.chunk_cells.specs.Frames.{HasFrames}
 use Rattle.chunk_cells.proofs.MergeLaws.{IsRising-core_rows}
 use Rattle.logical_plan.specs.Joins.{cell_beside, join_rows}
 use Rattle.logical_plan.specs.PlanSchema.{free_names, join_schema, renamed_dimension}
-use Rattle.area_cells.proofs.CutLaws.{at_index}
 use Rattle.area_cells.proofs.ListedLaws.{core_listed}
-use Rattle.area_cells.proofs.PieceLaws.{changed_parts}
+use Rattle.area_cells.proofs.PieceLaws.{changed_parts, each_number}
 use Rattle.exec_join.proofs.JoinLaws.{within_join}
 use Rattle.exec_join.proofs.SideLaws.{as_many_names}
 
@@ -93,10 +94,14 @@ joined_frame left right schema old margins chunk e placed frames =
     let there : has_core schema.dimensions chunk.at.items ≡ has_core left.dimensions chunk.at.items = ap (λ (dims : List Dimension). has_core dims chunk.at.items) r.same ∙ same_has_core left.dimensions r.names chunk.at.items r.enough in
     record { valid = frames.valid; core = there ∙ placed.framed.core; each = frames.each; places = frames.places }
 
-pub frame_at : (left right schema : Schema) (old margins : List ℕ) (chunks items : List Chunk) (i : ℕ) (chunk : Chunk) → schema ≡ join_schema left right → HasFrames schema margins → HaveCells left old chunks → items ≡ chunks → i < length items → chunk ≡ get_or items i chunk
-    → HasFrame schema margins chunk.at.items
-frame_at left right schema old margins chunks items i chunk e frames cells s l same =
-    joined_frame left right schema old margins chunk e (at_index (HasPlaces left old) items i chunk (subst (AllByRecursion (HasPlaces left old)) (sym s) cells.placed.all) l same) frames
+-- each number is that of a chunk that can be joined
+pub can_join : (left right : ChunkedArray) (schema : Schema) (margins : List ℕ) (ks : List (ArrayVec ℕ)) → ks ≡ map (λ chunk. chunk.at) left.chunks → schema ≡ join_schema left.schema right.schema → HasFrames schema margins
+    → HaveCells left.schema left.margins.items left.chunks → HaveCells right.schema right.margins.items right.chunks → NumbersRise (numbers left.chunks) → NumbersRise (numbers right.chunks)
+    → AllByRecursion (λ number. HaveCells left.schema left.margins.items left.chunks × HaveCells right.schema right.margins.items right.chunks × NumbersRise (numbers left.chunks) × NumbersRise (numbers right.chunks) × HasFrame schema margins number.items) ks
+can_join left right schema margins ks e same frames on_left on_right rises also =
+    let can : ArrayVec ℕ → Type 0 = λ number. HaveCells left.schema left.margins.items left.chunks × HaveCells right.schema right.margins.items right.chunks × NumbersRise (numbers left.chunks) × NumbersRise (numbers right.chunks) × HasFrame schema margins number.items in
+    subst (λ (z : List (ArrayVec ℕ)). AllByRecursion can z) (sym e)
+    (each_number can (HasPlaces left.schema left.margins.items) (λ chunk placed. (on_left, on_right, rises, also, joined_frame left.schema right.schema schema left.margins.items margins chunk same placed frames)) left.chunks on_left.placed.all)
 
 -- the parts of joined rows, one for each left chunk
 pub joined_parts : (left right schema : Schema) (old margins : List ℕ) (rows other : List Row) (chunks parts : List Chunk) → schema ≡ join_schema left right → rows ≡ core_rows left.dimensions old chunks → HaveCells left old chunks → numbers parts ≡ numbers chunks

@@ -1,4 +1,4 @@
 pub mod Beside
 pub mod Cross
-pub mod Joining
 pub mod Partners
+pub mod Pieces

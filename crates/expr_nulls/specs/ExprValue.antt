@@ -3,10 +3,12 @@
 use Rattle.std.specs.Prelude.{ℕ, ℤ, List, slice_get, slice_index_or, option_map, unwrap_or}
 use Rattle.cell_values.specs.declared.datum.Datum.{Datum}
 use Rattle.cell_values.specs.declared.datum.Datum.TheVariants.{Null, Int}
-use Rattle.cell_values.specs.Table.{total, difference, product, quotient, remainder, negation, comparison, both_of, either_of, opposite, chosen, nullness, text_length, text_of, missing_of, reason_of}
+use Rattle.cell_values.specs.Table.{total, difference, product, quotient, remainder, negation, comparison, both_of}
+use Rattle.cell_values.specs.Table.{either_of, opposite, chosen, nullness, text_length, text_of, missing_of, reason_of}
 use Rattle.expr_nulls.specs.declared.expr.ArithOp.{ArithOp}
 use Rattle.expr_nulls.specs.declared.expr.ArithOp.TheVariants.{Add, Sub, Mul, Div, Rem}
-use Rattle.expr_nulls.specs.Expr.{Expr, literal, attribute_value, dimension_value, minus, denial, calculation, relation, conjunction, disjunction, conditional, null_test, byte_length, decimal_text, coded_null, null_code}
+use Rattle.expr_nulls.specs.Expr.{Expr, literal, attribute_value, dimension_value, minus, denial, calculation, relation, conjunction}
+use Rattle.expr_nulls.specs.Expr.{disjunction, conditional, null_test, byte_length, decimal_text, coded_null, null_code}
 
 abbrev pub calculated : ArithOp → Datum → Datum → Datum
 calculated Add = total

@@ -1,6 +1,7 @@
 //! The value of an expression at a cell.
 ghost use Rattle.std.specs.Prelude.{◌≡◌, IsTrue, IfOk, slice_index_or};
-ghost use Rattle.expr_nulls.specs.Expr.{minus, denial, calculation, relation, conjunction, disjunction, conditional, null_test, byte_length, decimal_text, coded_null, null_code};
+ghost use Rattle.expr_nulls.specs.Expr.{minus, denial, calculation, relation, conjunction, disjunction};
+ghost use Rattle.expr_nulls.specs.Expr.{conditional, null_test, byte_length, decimal_text, coded_null, null_code};
 ghost use Rattle.expr_nulls.specs.ExprValue.{value_of, calculated, number_at};
 ghost use Rattle.expr_nulls.specs.Typing.{TypedValuesFit};
 ghost use Rattle.expr_nulls.specs.Inner.Seen.{datum_of, DecidesBoth, DecidesEither};

@@ -1,6 +1,7 @@
 //! Expressions whose names are resolved.
 ghost use Rattle.std.specs.Prelude.{◌≡◌, IfOk};
-ghost use Rattle.expr_nulls.specs.Expr.{literal, attribute_value, dimension_value, minus, denial, calculation, relation, conjunction, disjunction, conditional, null_test, byte_length, decimal_text, coded_null, null_code};
+ghost use Rattle.expr_nulls.specs.Expr.{literal, attribute_value, dimension_value, minus, denial, calculation, relation, conjunction};
+ghost use Rattle.expr_nulls.specs.Expr.{disjunction, conditional, null_test, byte_length, decimal_text, coded_null, null_code};
 
 use cell_values::{CompareOp, Datum, Memory};
 use std::alloc::Global;

@@ -1,7 +1,8 @@
 -- Bytes as items that stand one after the other, each with a test that may look at the items before it.
 -- A reading is a value and the bytes after it. Where an item is cut by the end, or fails its test, the
 -- reading is wrong at that item, which is named by how many bytes are left where it begins.
-use Rattle.std.specs.Prelude.{◌≡◌, ℕ, zero, suc, ◌-◌, ◌<◌, Bool, true, List, [], ◌∷◌, ◌++◌, length, take, drop, Option, Some, None, Result, Ok, Err, nat_lt, ◌==◌, if◌then◌else◌}
+use Rattle.std.specs.Prelude.{◌≡◌, ℕ, zero, suc, ◌-◌, ◌<◌, Bool, true, List, [], ◌∷◌, ◌++◌, length, take}
+use Rattle.std.specs.Prelude.{drop, Option, Some, None, Result, Ok, Err, nat_lt, ◌==◌, if◌then◌else◌}
 use Rattle.std.specs.List.{flat_map}
 use Rattle.std.specs.Int.{Width, byte_len, to_le_bytes, from_le_bytes}
 use Rattle.file_items.specs.declared.bytes.stop.Stop.{Stop}
@@ -39,7 +40,8 @@ one_item reads bytes = at_start (length bytes) (reads bytes)
 -- so many of a kind: `one` is told what came before (`so_far`, which `next` carries on) and how many come after
 unfoldable pub repeat : {S A : Type 0} → (S → ℕ → Reading A) → (S → A → S) → ℕ → S → Reading (List A)
 repeat one next zero so_far bytes = Ok ([], bytes)
-repeat one next (suc n) so_far bytes = one so_far n bytes >>= λ first. repeat one next n (next so_far first.0) first.1 >>= λ others. Ok (first.0 ∷ others.0, others.1)
+repeat one next (suc n) so_far bytes = one so_far n bytes >>= λ first. repeat one next n (next so_far first.0) first.1
+    >>= λ others. Ok (first.0 ∷ others.0, others.1)
 
 -- a count of this width with its test, and so many of a kind
 abbrev pub counted : {S A : Type 0} → Width → (ℕ → Bool) → (S → ℕ → Reading A) → (S → A → S) → S → Reading (List A)

@@ -33,7 +33,8 @@ spell_signed number = to_le_bytes w64 (cast_unsigned w64 number)
 
 -- the name, the bounds, the length of a chunk and the overlap
 unfoldable pub spell_dimension : Dimension → List ℕ
-spell_dimension dimension = spell_name dimension.name ++ ((spell_signed dimension.lo ++ spell_signed dimension.hi) ++ (to_le_bytes w64 dimension.chunk ++ to_le_bytes w64 dimension.overlap))
+spell_dimension dimension = spell_name dimension.name
+    ++ ((spell_signed dimension.lo ++ spell_signed dimension.hi) ++ (to_le_bytes w64 dimension.chunk ++ to_le_bytes w64 dimension.overlap))
 
 -- the attributes and the dimensions, each with their count before them
 unfoldable pub spell_schema : Schema → List ℕ

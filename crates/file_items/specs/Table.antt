@@ -1,5 +1,6 @@
 -- The items of names and schemas in their order, each with its test over the items before it.
-use Rattle.std.specs.Prelude.{ℕ, ℤ, zero, suc, int_le, ◌+◌, ◌*◌, Bool, true, false, not, ◌&&◌, ◌||◌, ◌==◌, nat_lt, nat_le, List, [], ◌∷◌, ◌++◌, length, Result, Ok, Err}
+use Rattle.std.specs.Prelude.{ℕ, ℤ, zero, suc, int_le, ◌+◌, ◌*◌, Bool, true, false, not, ◌&&◌, ◌||◌}
+use Rattle.std.specs.Prelude.{◌==◌, nat_lt, nat_le, List, [], ◌∷◌, ◌++◌, length, Result, Ok, Err}
 use Rattle.std.specs.Int.{w8, w64, cast_signed}
 use Rattle.file_items.specs.Items.{◌>>=◌, Reading, number_at, bytes_at, item, one_item, counted}
 use Rattle.cell_values.specs.Naming.{is_name}

@@ -100,7 +100,8 @@ pub(crate) fn claim_payloads(
 ) -> bool
     requires { AllByRecursion (λ directory. AreRising directory.entries) before.now }
     ensures { (file taken_before : List ℕ) (named : ℕ) → IsTaken file taken.old taken_before
-        → IsClaimed file result taken.new (payloads_in file (base.now.sequence + base.now.records) schema.now.dimensions named (entries_of [] before.now) taken_before entries.now) named }
+        → IsClaimed file result taken.new (payloads_in file (base.now.sequence + base.now.records) schema.now.dimensions named
+        (entries_of [] before.now) taken_before entries.now) named }
 {
     for entry in entries {
         if !is_entry(taken, base, schema, entry) {

@@ -44,7 +44,8 @@ fn read_logged<D: Disk>(
     ensures exact { (seen : List ℕ) → (D.moment file.old.disk).state.seen ≡ Some seen → (d : RecordAt) (later : List RecordAt)
         → GoesOn result
         (behind_log logged.new (logged_in seen file.old.slots.current.root.log taken.new catalog.new later))
-        (behind_log logged.old (logged_in seen file.old.slots.current.root.log taken.old catalog.old (slice_index_or file.old.slots.records number d ∷ later))) }
+        (behind_log logged.old (logged_in seen file.old.slots.current.root.log taken.old catalog.old
+        (slice_index_or file.old.slots.records number d ∷ later))) }
     ensures rules { OnOk result (IsCatalog catalog.new) }
     ensures held { OnOk result ((others : List ℕ) → HaveAll taken.old (others ++ all_of logged.old) → HaveAll taken.new (others ++ all_of logged.new)) }
     ensures fault { IsErrOf result OpenCause.Disk → Rose (D.moment file.old.disk).state.faults (D.moment file.new.disk).state.faults }

@@ -1,3 +1,4 @@
+pub use Rattle.file_laws.proofs.Parts
 pub mod Blobs
 pub mod FoundRows
 pub mod Newest

@@ -1,2 +1,3 @@
+pub use Rattle.laid_commits.specs.Premises
 pub mod Inner
 pub mod Laws

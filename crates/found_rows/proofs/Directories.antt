@@ -6,16 +6,16 @@ use Rattle.std.proofs.lemmas.Bool.{or_parts}
 use Rattle.chunk_map.specs.declared.directory.Directory.{Directory}
 use Rattle.logical_plan.specs.declared.names.NameEntry.{NameEntry}
 use Rattle.logical_plan.specs.declared.names.Names.{Names}
-use Rattle.plan_changes.specs.declared.change.Change.{Change}
-use Rattle.plan_changes.specs.declared.change.Change.TheVariants.{Create, Store, Insert, Remove, RemoveVersions}
-use Rattle.plan_changes.specs.Allowed.{names_allow}
-use Rattle.plan_changes.specs.Changes.{is_named, has_array, name_of, next_of, names_after}
+use Rattle.next_files.specs.Change.{Change}
+use Rattle.next_files.specs.Change.TheVariants.{Create, Store, Insert, Remove, RemoveVersions}
+use Rattle.next_files.specs.Allowed.{names_allow}
+use Rattle.next_files.specs.Changes.{is_named, has_array, name_of, next_of, names_after}
 use Rattle.version_reaper.specs.PageSets.{holds}
-use Rattle.version_catalog.specs.declared.rules.catalog.Catalog.{Catalog}
-use Rattle.version_catalog.specs.Catalogs.{names_in}
-use Rattle.catalog_changes.specs.Changed.{has_its_directory, after_change}
-use Rattle.catalog_changes.specs.Records.{entries_of}
-use Rattle.event_core.proofs.Tests.{none_weaker}
+use Rattle.next_files.specs.Catalog.{Catalog}
+use Rattle.next_files.specs.Catalogs.{names_in}
+use Rattle.next_files.specs.Changed.{has_its_directory, after_change}
+use Rattle.next_files.specs.Records.{entries_of}
+use Rattle.store_versions.proofs.Tests.{none_weaker}
 use Rattle.next_files.specs.Next.{Made, Rows, blob_of, without_row, rows_after}
 use Rattle.store_versions.specs.Versions.{MadeVersion, HaveDirectories, is_of, is_numbered, versions_after}
 use Rattle.found_rows.specs.Rows.{directories_in, AreInOrder, IsMadeWith}

@@ -7,10 +7,10 @@ use Rattle.std.proofs.lemmas.Bool.Decides.{nat_tests, same_from_decides}
 use Rattle.std.proofs.lemmas.List.{append-nil, map-append}
 use Rattle.std.proofs.lemmas.List.Elements.{filter-append}
 use Rattle.std.proofs.lemmas.List.Sums.{sum_by-cons}
-use Rattle.plan_changes.specs.Stored.{RiseBetween}
-use Rattle.plan_changes.proofs.Stays.{not_both}
-use Rattle.event_core.proofs.Tests.{filter_agrees}
-use Rattle.event_laws.proofs.Conserved.{filter_filter}
+use Rattle.next_files.specs.Stored.{RiseBetween}
+use Rattle.next_files.proofs.Stays.{not_both}
+use Rattle.store_versions.proofs.Tests.{filter_agrees}
+use Rattle.store_versions.proofs.Conserved.{filter_filter}
 
 -- ---- names and numbers
 

@@ -8,20 +8,20 @@ use Rattle.cell_values.specs.Schemas.{is_valid}
 use Rattle.cell_values.specs.declared.schema.Schema.{Schema}
 use Rattle.array_rows.specs.Boxes.{by_pairs}
 use Rattle.logical_plan.specs.declared.names.NameEntry.{NameEntry}
-use Rattle.plan_changes.specs.declared.change.Change.{Change}
-use Rattle.plan_changes.specs.declared.change.Change.TheVariants.{Create, Store, Insert, Remove, RemoveVersions}
-use Rattle.plan_changes.specs.Allowed.{has_room, names_allow}
-use Rattle.plan_changes.specs.Changes.{is_named, has_array, name_of, next_or, next_of, place_of, new_entry, with_array, with_absent, with_version, without_below, arrays_after}
-use Rattle.plan_changes.specs.Stored.{is_before, NamesRise, RiseBetween, IsStored, AreStored}
-use Rattle.plan_changes.proofs.FitLaws.{mapped}
-use Rattle.plan_changes.proofs.NamesOf.{map_filter, map_insert, prefix_map}
-use Rattle.plan_changes.proofs.StoredLaws.{RiseAfter, names_in, after_next, tail_rises, all_inserted}
-use Rattle.plan_changes.proofs.DatabaseLaws.{apart}
-use Rattle.version_catalog.specs.declared.rules.catalog.BlobAt.{BlobAt}
-use Rattle.version_catalog.specs.declared.rules.catalog.CatalogArray.{CatalogArray}
-use Rattle.catalog_changes.specs.Changed.{has_its_directory, changed}
-use Rattle.catalog_changes.specs.Records.{entries_of, is_array, with_new, with_directory, from_version, without}
-use Rattle.catalog_changes.proofs.Kept.{new_named}
+use Rattle.next_files.specs.Change.{Change}
+use Rattle.next_files.specs.Change.TheVariants.{Create, Store, Insert, Remove, RemoveVersions}
+use Rattle.next_files.specs.Allowed.{has_room, names_allow}
+use Rattle.next_files.specs.Changes.{is_named, has_array, name_of, next_or, next_of, place_of, new_entry, with_array, with_absent, with_version, without_below, arrays_after}
+use Rattle.next_files.specs.Stored.{is_before, NamesRise, RiseBetween, IsStored, AreStored}
+use Rattle.next_files.proofs.FitLaws.{mapped}
+use Rattle.next_files.proofs.NamesOf.{map_filter, map_insert, prefix_map}
+use Rattle.next_files.proofs.StoredLaws.{RiseAfter, names_in, after_next, tail_rises, all_inserted}
+use Rattle.next_files.proofs.DatabaseLaws.{apart}
+use Rattle.next_files.specs.BlobAt.{BlobAt}
+use Rattle.next_files.specs.CatalogArray.{CatalogArray}
+use Rattle.next_files.specs.Changed.{has_its_directory, changed}
+use Rattle.next_files.specs.Records.{entries_of, is_array, with_new, with_directory, from_version, without}
+use Rattle.next_files.proofs.Kept.{new_named}
 use Rattle.found_rows.proofs.Filters.{name_sym, others_left, others_uncut, own_cut, one_more, cut_off}
 
 -- ---- lists of lists beside the arrays' entries

@@ -1,3 +1,4 @@
+pub use Rattle.laid_commits.proofs.Cores
 pub mod Filters
 pub mod Items
 pub mod Directories

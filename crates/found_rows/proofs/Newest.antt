@@ -6,11 +6,11 @@ use Rattle.std.specs.Option.{option_map}
 use Rattle.std.specs.Cmp.Lexicographic.{bytes_decides}
 use Rattle.std.proofs.lemmas.Bool.Decides.{nat_tests}
 use Rattle.chunk_map.specs.declared.directory.Directory.{Directory}
-use Rattle.plan_changes.specs.Changes.{is_named, has_array, last_of, newest_or, newest_of}
-use Rattle.plan_changes.specs.Stored.{IsStored, RiseBetween}
-use Rattle.version_catalog.specs.declared.rules.catalog.CatalogArray.{CatalogArray}
-use Rattle.version_catalog.specs.Catalogs.{names_in}
-use Rattle.catalog_changes.specs.Records.{entries_of, is_array}
+use Rattle.next_files.specs.Changes.{is_named, has_array, last_of, newest_or, newest_of}
+use Rattle.next_files.specs.Stored.{IsStored, RiseBetween}
+use Rattle.next_files.specs.CatalogArray.{CatalogArray}
+use Rattle.next_files.specs.Catalogs.{names_in}
+use Rattle.next_files.specs.Records.{entries_of, is_array}
 use Rattle.laid_commits.specs.Premises.{last_of_row}
 use Rattle.next_files.specs.Premises.{row_of}
 use Rattle.store_versions.specs.Versions.{MadeVersion, is_of, is_numbered, directory_of}

@@ -7,12 +7,12 @@ use Rattle.std.proofs.lemmas.List.{append-nil, map-append}
 use Rattle.std.proofs.lemmas.List.Elements.{filter-append}
 use Rattle.chunk_map.specs.declared.directory.Directory.{Directory}
 use Rattle.logical_plan.specs.declared.names.NameEntry.{NameEntry}
-use Rattle.plan_changes.specs.Changes.{is_named, has_array}
-use Rattle.plan_changes.specs.Stored.{NamesRise}
-use Rattle.plan_changes.proofs.StoredLaws.{names_in, tail_rises}
-use Rattle.version_catalog.specs.declared.rules.catalog.CatalogArray.{CatalogArray}
-use Rattle.catalog_changes.specs.Records.{entries_of}
-use Rattle.event_laws.proofs.Agree.{name_refl}
+use Rattle.next_files.specs.Changes.{is_named, has_array}
+use Rattle.next_files.specs.Stored.{NamesRise}
+use Rattle.next_files.proofs.StoredLaws.{names_in, tail_rises}
+use Rattle.next_files.specs.CatalogArray.{CatalogArray}
+use Rattle.next_files.specs.Records.{entries_of}
+use Rattle.store_versions.proofs.Agree.{name_refl}
 use Rattle.next_files.specs.Next.{Rows}
 use Rattle.store_versions.specs.Rows.{array_rows, first_rows}
 use Rattle.store_versions.specs.Seen.{version_of}

@@ -5,17 +5,17 @@ use Rattle.cell_values.specs.declared.schema.Schema.{Schema}
 use Rattle.array_rows.specs.Boxes.{by_pairs}
 use Rattle.chunk_map.specs.declared.directory.Directory.{Directory}
 use Rattle.logical_plan.specs.declared.names.NameEntry.{NameEntry}
-use Rattle.plan_changes.specs.declared.change.Change.{Change}
-use Rattle.plan_changes.specs.declared.change.Change.TheVariants.{Create, Store, Insert, Remove, RemoveVersions}
-use Rattle.plan_changes.specs.Changes.{has_array, place_of, new_entry, with_array, with_version, without_below}
-use Rattle.plan_changes.specs.Stored.{is_before}
-use Rattle.plan_changes.proofs.NamesOf.{prefix_map}
-use Rattle.version_catalog.specs.declared.rules.catalog.BlobAt.{BlobAt}
-use Rattle.version_catalog.specs.declared.rules.catalog.CatalogArray.{CatalogArray}
-use Rattle.catalog_changes.specs.Changed.{changed}
-use Rattle.catalog_changes.specs.Records.{entries_of, is_array, with_new, with_directory, from_version, without}
-use Rattle.catalog_changes.proofs.Kept.{new_named}
-use Rattle.file_meaning.specs.Opening.{version_pages}
+use Rattle.next_files.specs.Change.{Change}
+use Rattle.next_files.specs.Change.TheVariants.{Create, Store, Insert, Remove, RemoveVersions}
+use Rattle.next_files.specs.Changes.{has_array, place_of, new_entry, with_array, with_version, without_below}
+use Rattle.next_files.specs.Stored.{is_before}
+use Rattle.next_files.proofs.NamesOf.{prefix_map}
+use Rattle.next_files.specs.BlobAt.{BlobAt}
+use Rattle.next_files.specs.CatalogArray.{CatalogArray}
+use Rattle.next_files.specs.Changed.{changed}
+use Rattle.next_files.specs.Records.{entries_of, is_array, with_new, with_directory, from_version, without}
+use Rattle.next_files.proofs.Kept.{new_named}
+use Rattle.next_files.specs.Opening.{version_pages}
 use Rattle.laid_commits.specs.Premises.{pages_made}
 use Rattle.next_files.specs.Next.{Made, Rows, blob_of}
 use Rattle.found_rows.specs.Rows.{IsMadeWith}

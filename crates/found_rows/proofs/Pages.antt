@@ -8,20 +8,20 @@ use Rattle.std.proofs.lemmas.List.{length-map}
 use Rattle.array_rows.specs.Boxes.{by_pairs}
 use Rattle.logical_plan.specs.declared.names.NameEntry.{NameEntry}
 use Rattle.logical_plan.specs.declared.names.Names.{Names}
-use Rattle.plan_changes.specs.declared.change.Change.{Change}
-use Rattle.plan_changes.specs.declared.change.Change.TheVariants.{Create, Store, Insert, Remove, RemoveVersions}
-use Rattle.plan_changes.specs.Changes.{name_of, next_of}
-use Rattle.plan_changes.proofs.StoredLaws.{all_less}
+use Rattle.next_files.specs.Change.{Change}
+use Rattle.next_files.specs.Change.TheVariants.{Create, Store, Insert, Remove, RemoveVersions}
+use Rattle.next_files.specs.Changes.{name_of, next_of}
+use Rattle.next_files.proofs.StoredLaws.{all_less}
 use Rattle.version_reaper.specs.PageSets.{holds}
-use Rattle.version_catalog.specs.declared.rules.catalog.CatalogArray.{CatalogArray}
-use Rattle.version_catalog.specs.declared.rules.catalog.Catalog.{Catalog}
-use Rattle.version_catalog.specs.Catalogs.{HasDirectories, names_in}
-use Rattle.catalog_changes.specs.Changed.{after_change}
-use Rattle.catalog_changes.specs.Records.{entries_of}
-use Rattle.event_core.specs.declared.state.VersionPages.{VersionPages}
-use Rattle.event_core.specs.History.{is_pages_of, pages_after}
-use Rattle.event_core.specs.Pages.{has_page}
-use Rattle.file_meaning.specs.Opening.{all_of, row_pages}
+use Rattle.next_files.specs.CatalogArray.{CatalogArray}
+use Rattle.next_files.specs.Catalog.{Catalog}
+use Rattle.next_files.specs.Catalogs.{HasDirectories, names_in}
+use Rattle.next_files.specs.Changed.{after_change}
+use Rattle.next_files.specs.Records.{entries_of}
+use Rattle.store_versions.specs.VersionPages.{VersionPages}
+use Rattle.store_versions.specs.History.{is_pages_of, pages_after}
+use Rattle.store_versions.specs.Pages.{has_page}
+use Rattle.next_files.specs.Opening.{all_of, row_pages}
 use Rattle.laid_commits.proofs.Apart.{both_all}
 use Rattle.laid_commits.specs.Premises.{pages_made}
 use Rattle.next_files.specs.Next.{Rows, blob_of}

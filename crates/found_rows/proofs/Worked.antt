@@ -7,17 +7,17 @@ use Rattle.cell_values.specs.declared.schema.Kind.TheVariants.{Int64}
 use Rattle.chunk_map.specs.declared.directory.DirEntry.{DirEntry}
 use Rattle.chunk_map.specs.declared.directory.Directory.{Directory}
 use Rattle.logical_plan.specs.Query.{scanned}
-use Rattle.plan_changes.specs.declared.change.Change.{Change}
-use Rattle.plan_changes.specs.declared.change.Change.TheVariants.{Store, RemoveVersions}
-use Rattle.plan_changes.specs.Allowed.{names_allow}
-use Rattle.plan_changes.specs.Changes.{names_after, newest_of}
-use Rattle.plan_changes.specs.Stored.{AreStored}
-use Rattle.version_catalog.specs.declared.rules.catalog.BlobAt.{BlobAt}
-use Rattle.version_catalog.specs.declared.rules.catalog.Catalog.{Catalog}
-use Rattle.version_catalog.specs.Catalogs.{IsBlob, IsCatalog, names_in}
-use Rattle.catalog_changes.specs.Changed.{after_change}
-use Rattle.event_core.specs.declared.state.VersionPages.{VersionPages}
-use Rattle.event_core.specs.History.{pages_after}
+use Rattle.next_files.specs.Change.{Change}
+use Rattle.next_files.specs.Change.TheVariants.{Store, RemoveVersions}
+use Rattle.next_files.specs.Allowed.{names_allow}
+use Rattle.next_files.specs.Changes.{names_after, newest_of}
+use Rattle.next_files.specs.Stored.{AreStored}
+use Rattle.next_files.specs.BlobAt.{BlobAt}
+use Rattle.next_files.specs.Catalog.{Catalog}
+use Rattle.next_files.specs.Catalogs.{IsBlob, IsCatalog, names_in}
+use Rattle.next_files.specs.Changed.{after_change}
+use Rattle.store_versions.specs.VersionPages.{VersionPages}
+use Rattle.store_versions.specs.History.{pages_after}
 use Rattle.laid_commits.specs.Premises.{pages_made}
 use Rattle.next_files.specs.Next.{Made, Rows, blob_of, rows_after}
 use Rattle.store_versions.specs.Rows.{first_rows}

@@ -3,17 +3,17 @@ use Rattle.std.specs.Prelude.{◌≡◌, ℕ, List, length, map, Option, Some, I
 use Rattle.std.specs.List.{AllByRecursion, AllZip}
 use Rattle.array_rows.specs.Boxes.{by_pairs}
 use Rattle.chunk_map.specs.declared.directory.Directory.{Directory}
-use Rattle.plan_changes.specs.declared.change.Change.{Change}
-use Rattle.plan_changes.specs.Allowed.{names_allow}
-use Rattle.plan_changes.specs.Changes.{names_after, newest_of}
-use Rattle.plan_changes.specs.Stored.{AreStored}
-use Rattle.version_catalog.specs.declared.rules.catalog.Catalog.{Catalog}
-use Rattle.version_catalog.specs.Catalogs.{IsCatalog, names_in}
-use Rattle.catalog_changes.specs.Changed.{after_change}
-use Rattle.event_core.specs.declared.state.VersionPages.{VersionPages}
-use Rattle.event_core.specs.History.{pages_after}
-use Rattle.event_core.specs.Pages.{has_page}
-use Rattle.file_meaning.specs.Opening.{all_of, row_pages}
+use Rattle.next_files.specs.Change.{Change}
+use Rattle.next_files.specs.Allowed.{names_allow}
+use Rattle.next_files.specs.Changes.{names_after, newest_of}
+use Rattle.next_files.specs.Stored.{AreStored}
+use Rattle.next_files.specs.Catalog.{Catalog}
+use Rattle.next_files.specs.Catalogs.{IsCatalog, names_in}
+use Rattle.next_files.specs.Changed.{after_change}
+use Rattle.store_versions.specs.VersionPages.{VersionPages}
+use Rattle.store_versions.specs.History.{pages_after}
+use Rattle.store_versions.specs.Pages.{has_page}
+use Rattle.next_files.specs.Opening.{all_of, row_pages}
 use Rattle.next_files.specs.Next.{Made, Rows, blob_of, rows_after}
 use Rattle.laid_commits.specs.Premises.{last_of_row, pages_made}
 use Rattle.next_files.specs.Premises.{row_of}

@@ -2,6 +2,8 @@ pub use Rattle.laid_commits.specs.Changes
 pub use Rattle.laid_commits.specs.Commits
 pub use Rattle.laid_commits.specs.Costs
 pub use Rattle.laid_commits.specs.Laid
+pub use Rattle.laid_commits.specs.Moments
+pub use Rattle.laid_commits.specs.NewVersion
 pub use Rattle.laid_commits.specs.Versions
 pub use Rattle.laid_commits.specs.Written
 pub use Rattle.next_files.specs.Premises

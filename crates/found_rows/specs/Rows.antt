@@ -4,12 +4,12 @@ use Rattle.std.specs.List.{AllByRecursion, filter}
 use Rattle.array_rows.specs.Boxes.{by_pairs}
 use Rattle.chunk_map.specs.declared.directory.Directory.{Directory}
 use Rattle.logical_plan.specs.declared.names.Names.{Names}
-use Rattle.plan_changes.specs.declared.change.Change.{Change}
-use Rattle.plan_changes.specs.declared.change.Change.TheVariants.{Store, Insert}
-use Rattle.version_catalog.specs.declared.rules.catalog.Catalog.{Catalog}
-use Rattle.event_core.specs.declared.state.VersionPages.{VersionPages}
-use Rattle.event_core.specs.History.{is_pages_of}
-use Rattle.file_meaning.specs.Opening.{version_pages}
+use Rattle.next_files.specs.Change.{Change}
+use Rattle.next_files.specs.Change.TheVariants.{Store, Insert}
+use Rattle.next_files.specs.Catalog.{Catalog}
+use Rattle.store_versions.specs.VersionPages.{VersionPages}
+use Rattle.store_versions.specs.History.{is_pages_of}
+use Rattle.next_files.specs.Opening.{version_pages}
 use Rattle.next_files.specs.Next.{Made, Rows}
 use Rattle.store_versions.specs.Versions.{MadeVersion, is_of}
 

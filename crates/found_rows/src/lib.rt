@@ -4,6 +4,8 @@
 ghost use Rattle.found_rows.specs.Laws.{DirectoriesFollow, OrdersFollow, PagesFollow, FoundPagesAreOfVersions};
 ghost use Rattle.found_rows.specs.Laws.{FirstRowsAreInOrder, NewestAreLast};
 
+pub use laid_commits::{Laid, Written, lay_base, lay_record, needed_for_base, needed_for_record};
+
 /// A change makes of the directories in a catalogue what it makes of the versions, which go on to stand in order.
 pub fn directories_follow()
     ensures directories { DirectoriesFollow }

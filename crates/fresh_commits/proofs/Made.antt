@@ -20,8 +20,8 @@ use Rattle.plan_changes.specs.Databases.{Database, fitted, new_rows, rows_if_who
 use Rattle.plan_changes.specs.Kept.{MeansArray, StoresArray}
 use Rattle.event_core.specs.Cells.{at}
 use Rattle.event_core.specs.History.{History}
-use Rattle.check_laws.specs.NamesLaws.{leaf_names}
-use Rattle.check_laws.proofs.Agreeing.{first_of}
+use Rattle.fresh_laws.specs.NamesLaws.{leaf_names}
+use Rattle.fresh_laws.proofs.Agreeing.{first_of}
 use Rattle.fresh_laws.specs.Left.{IsLeft}
 use Rattle.fresh_laws.specs.Fresh.{AreLeft}
 use Rattle.fresh_laws.proofs.Left.{plans_stay}

@@ -6,13 +6,13 @@ use Rattle.page_layout.specs.Places.{IsNone, KeepsPages}
 use Rattle.page_layout.specs.declared.sides.Side.{Side}
 use Rattle.page_chain.specs.Links.{AreFree}
 use Rattle.chunk_map.specs.declared.directory.Directory.{Directory}
-use Rattle.plan_changes.specs.declared.change.Change.{Change}
-use Rattle.plan_changes.specs.Databases.{Database, after}
-use Rattle.version_catalog.specs.declared.rules.catalog.BlobAt.{BlobAt}
-use Rattle.version_catalog.specs.Catalogs.{IsCatalog}
-use Rattle.version_catalog.specs.Spelling.{spelling}
-use Rattle.catalog_changes.specs.Changed.{after_change}
-use Rattle.catalog_changes.proofs.Spelled.{changes_keep_catalogs}
+use Rattle.next_files.specs.Change.{Change}
+use Rattle.next_files.specs.Databases.{Database, after}
+use Rattle.next_files.specs.BlobAt.{BlobAt}
+use Rattle.next_files.specs.Catalogs.{IsCatalog}
+use Rattle.next_files.specs.Spelling.{spelling}
+use Rattle.next_files.specs.Changed.{after_change}
+use Rattle.next_files.proofs.Spelled.{changes_keep_catalogs}
 use Rattle.next_files.specs.Slots.{Slots}
 use Rattle.next_files.specs.Opening.{pages_of as found_pages, sequence_of}
 use Rattle.next_files.specs.Found.{Found}

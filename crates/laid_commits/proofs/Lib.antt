@@ -1,3 +1,7 @@
+pub use Rattle.commit_pages.proofs.Blobs
+pub use Rattle.commit_pages.proofs.Chains
+pub use Rattle.commit_pages.proofs.Costs
+pub use Rattle.commit_pages.proofs.Directories
 pub use Rattle.next_files.proofs.Apart
 pub mod Bases
 pub mod Cores

@@ -15,13 +15,13 @@ use Rattle.chunk_map.specs.declared.directory.Directory.{Directory}
 use Rattle.chunk_map.specs.Entries.{AreRising}
 use Rattle.chunk_map.specs.Spelling.{IsDirectory, spelling as directory_spelling}
 use Rattle.logical_plan.specs.declared.names.Names.{Names}
-use Rattle.plan_changes.specs.declared.change.Change.{Change}
-use Rattle.plan_changes.specs.declared.change.Change.TheVariants.{Create, Store, Insert, Remove, RemoveVersions}
-use Rattle.plan_changes.specs.Allowed.{has_number}
-use Rattle.plan_changes.specs.Changes.{has_array, name_of}
-use Rattle.plan_changes.specs.Databases.{Database, names_of, new_rows, newest_rows}
-use Rattle.version_catalog.specs.Catalogs.{names_in}
-use Rattle.catalog_changes.specs.Changed.{IsItsBlob}
+use Rattle.next_files.specs.Change.{Change}
+use Rattle.next_files.specs.Change.TheVariants.{Create, Store, Insert, Remove, RemoveVersions}
+use Rattle.next_files.specs.Allowed.{has_number}
+use Rattle.next_files.specs.Changes.{has_array, name_of}
+use Rattle.next_files.specs.Databases.{Database, names_of, new_rows, newest_rows}
+use Rattle.next_files.specs.Catalogs.{names_in}
+use Rattle.next_files.specs.Changed.{IsItsBlob}
 use Rattle.next_files.specs.Slots.{Slots}
 use Rattle.next_files.specs.Opening.{is_seen, sequence_of, version_pages}
 use Rattle.next_files.specs.Standing.{HoldsVersion}

@@ -7,10 +7,10 @@ use Rattle.cell_values.specs.declared.datum.Row.{Row}
 use Rattle.cell_values.specs.declared.schema.Schema.{Schema}
 use Rattle.chunk_map.specs.declared.directory.Directory.{Directory}
 use Rattle.logical_plan.specs.Query.{Query}
-use Rattle.plan_changes.specs.Changes.{is_named, has_array, last_of}
-use Rattle.plan_changes.specs.Databases.{Database, Version, entry_of, is_array, rows_or, rows_in, newest_in as newest_number}
-use Rattle.plan_changes.specs.Stored.{IsStored, RiseBetween}
-use Rattle.plan_changes.specs.Typed.{FitsInto}
+use Rattle.next_files.specs.Changes.{is_named, has_array, last_of}
+use Rattle.next_files.specs.Databases.{Database, Version, entry_of, is_array, rows_or, rows_in, newest_in as newest_number}
+use Rattle.next_files.specs.Stored.{IsStored, RiseBetween}
+use Rattle.next_files.specs.Typed.{FitsInto}
 use Rattle.next_files.specs.Standing.{HoldsVersion, HoldsVersions}
 use Rattle.next_files.specs.Premises.{row_of}
 use Rattle.laid_commits.specs.Premises.{last_of_row}

@@ -6,7 +6,7 @@ use Rattle.page_layout.specs.declared.sides.Format.TheVariants.{One, Two}
 use Rattle.page_layout.specs.declared.sides.Side.{Side}
 use Rattle.page_layout.specs.declared.roots.Root.{Root}
 use Rattle.page_slots.specs.Standing.{root_in}
-use Rattle.plan_changes.specs.Databases.{Database}
+use Rattle.next_files.specs.Databases.{Database}
 use Rattle.next_files.specs.Opening.{Opens}
 use Rattle.next_files.specs.Standing.{Stands}
 use Rattle.next_files.specs.Found.{Found}

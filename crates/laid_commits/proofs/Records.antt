@@ -9,19 +9,19 @@ use Rattle.page_layout.specs.Places.{IsNone, KeepsPages}
 use Rattle.page_chain.specs.Links.{AreFree}
 use Rattle.chunk_map.specs.declared.directory.Directory.{Directory}
 use Rattle.logical_plan.specs.declared.names.Names.{Names}
-use Rattle.plan_changes.specs.declared.change.Change.{Change}
-use Rattle.plan_changes.specs.declared.change.Change.TheVariants.{Create, Store, Insert, Remove, RemoveVersions}
-use Rattle.plan_changes.specs.Allowed.{names_allow}
-use Rattle.plan_changes.specs.Databases.{Database, after}
-use Rattle.version_catalog.specs.declared.rules.catalog.BlobAt.{BlobAt}
-use Rattle.version_catalog.specs.declared.rules.catalog.Catalog.{Catalog}
-use Rattle.version_catalog.specs.declared.rules.catalog_record.CatalogRecord.{CatalogRecord}
-use Rattle.version_catalog.specs.declared.rules.catalog_record.CatalogRecord.TheVariants as entries
-use Rattle.version_catalog.specs.Catalogs.{names_in}
-use Rattle.version_catalog.specs.Spelling.{spell_record}
-use Rattle.catalog_changes.specs.Changed.{has_its_directory, record_for, stored_by}
-use Rattle.catalog_changes.proofs.Spelled.{changes_have_records}
-use Rattle.event_core.specs.Apart.{makes_version}
+use Rattle.next_files.specs.Change.{Change}
+use Rattle.next_files.specs.Change.TheVariants.{Create, Store, Insert, Remove, RemoveVersions}
+use Rattle.next_files.specs.Allowed.{names_allow}
+use Rattle.next_files.specs.Databases.{Database, after}
+use Rattle.next_files.specs.BlobAt.{BlobAt}
+use Rattle.next_files.specs.Catalog.{Catalog}
+use Rattle.next_files.specs.CatalogRecord.{CatalogRecord}
+use Rattle.next_files.specs.CatalogRecord.TheVariants as entries
+use Rattle.next_files.specs.Catalogs.{names_in}
+use Rattle.next_files.specs.Spelling.{spell_record}
+use Rattle.next_files.specs.Changed.{has_its_directory, record_for, stored_by}
+use Rattle.next_files.proofs.Spelled.{changes_have_records}
+use Rattle.commit_pages.specs.Apart.{makes_version}
 use Rattle.next_files.specs.Slots.{Slots}
 use Rattle.next_files.specs.Opening.{pages_of as found_pages, sequence_of}
 use Rattle.next_files.specs.Found.{Found}

@@ -2,7 +2,7 @@
 use Rattle.std.proofs.Common.{◌≡◌, ◌∙◌, ◌+◌, ℕ, List, [], ◌∷◌, ◌++◌, Option, Some, None, refl, sym, ap, subst}
 use Rattle.std.proofs.lemmas.List.{append_assoc, append-nil}
 use Rattle.chunk_map.specs.declared.directory.Directory.{Directory}
-use Rattle.catalog_changes.specs.Changed.{after_change}
+use Rattle.next_files.specs.Changed.{after_change}
 use Rattle.next_files.specs.Opening.{all_of, sequence_of}
 use Rattle.next_files.specs.Next.{blob_of, with_record, with_base}
 use Rattle.commit_pages.specs.declared.laid.Laid.{Laid}

@@ -3,12 +3,12 @@ use Rattle.std.proofs.Common.{[], ◌∷◌, None, refl, sym, subst, arith}
 use Rattle.page_layout.specs.Places.{KeepsPages}
 use Rattle.page_chain.specs.Pages.{page_size}
 use Rattle.chunk_map.specs.Spelling.{spelling as directory_spelling, spell_entry}
-use Rattle.chunk_rle.specs.Chunks.{spelling as payload_spelling}
-use Rattle.chunk_rle.specs.Spelling.{spell_runs, spell_value}
-use Rattle.chunk_rle.specs.Table.{is_same}
-use Rattle.plan_changes.specs.Stored.{AreStored}
-use Rattle.version_catalog.specs.Catalogs.{IsCatalog, names_in}
-use Rattle.version_catalog.specs.Spelling.{spelling}
+use Rattle.commit_pages.specs.Chunks.{spelling as payload_spelling}
+use Rattle.commit_pages.specs.Spelling.{spell_runs, spell_value}
+use Rattle.commit_pages.specs.Table.{is_same}
+use Rattle.next_files.specs.Stored.{AreStored}
+use Rattle.next_files.specs.Catalogs.{IsCatalog, names_in}
+use Rattle.next_files.specs.Spelling.{spelling}
 use Rattle.commit_pages.specs.Costs.{catalog_of}
 use Rattle.commit_pages.specs.Lengths.{AreAlikeCatalogs}
 use Rattle.commit_writes.specs.Commits.{base_pages, HoldsAll}

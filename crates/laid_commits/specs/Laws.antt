@@ -11,8 +11,8 @@ use Rattle.page_slots.specs.Standing.{OpensAsRoot}
 use Rattle.page_slots.specs.declared.slots.RootSlot.TheVariants.{Opening}
 use Rattle.chunk_map.specs.declared.directory.Directory.{Directory}
 use Rattle.chunk_map.specs.Entries.{AreRising}
-use Rattle.plan_changes.specs.declared.change.Change.{Change}
-use Rattle.plan_changes.specs.Databases.{Database, after}
+use Rattle.next_files.specs.Change.{Change}
+use Rattle.next_files.specs.Databases.{Database, after}
 use Rattle.next_files.specs.Slots.{Slots}
 use Rattle.next_files.specs.Opening.{Opens, catalogue_pages, sequence_of}
 use Rattle.next_files.specs.Standing.{Stands}

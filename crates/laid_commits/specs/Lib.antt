@@ -3,7 +3,9 @@ pub use Rattle.commit_pages.specs.Commits
 pub use Rattle.commit_pages.specs.Costs
 pub use Rattle.commit_pages.specs.Versions
 pub use Rattle.commit_pages.specs.declared.laid.Laid
+pub use Rattle.commit_pages.specs.declared.version.NewVersion
 pub use Rattle.commit_pages.specs.declared.written.Written
+pub use Rattle.commit_writes.specs.Moments
 pub mod Inner
 pub mod Laws
 pub mod Premises

@@ -7,11 +7,11 @@ use Rattle.array_geom.specs.Geometry.{has_core}
 use Rattle.page_chain.specs.Links.{AreFree}
 use Rattle.chunk_map.specs.declared.directory.Directory.{Directory}
 use Rattle.chunk_map.specs.Spelling.{IsDirectory}
-use Rattle.plan_changes.specs.declared.change.Change.{Change}
-use Rattle.plan_changes.specs.Changes.{name_of}
-use Rattle.plan_changes.specs.Databases.{Database}
-use Rattle.version_catalog.specs.declared.rules.catalog.BlobAt.{BlobAt}
-use Rattle.version_catalog.specs.Catalogs.{IsCatalog, names_in}
+use Rattle.next_files.specs.Change.{Change}
+use Rattle.next_files.specs.Changes.{name_of}
+use Rattle.next_files.specs.Databases.{Database}
+use Rattle.next_files.specs.BlobAt.{BlobAt}
+use Rattle.next_files.specs.Catalogs.{IsCatalog, names_in}
 use Rattle.next_files.specs.Slots.{Slots}
 use Rattle.next_files.specs.Opening.{pages_of, sequence_of, version_pages}
 use Rattle.next_files.specs.Found.{Found}

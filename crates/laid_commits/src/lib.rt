@@ -5,6 +5,7 @@ ghost use Rattle.laid_commits.specs.Inner.Removal.{ARemovalIsLaid};
 ghost use Rattle.laid_commits.specs.Laws.{LaidRecordsMakeNext, LaidBasesMakeNext, OpenedFilesStand, OpenedRootsStand};
 ghost use Rattle.laid_commits.specs.Laws.{LaidRecordsHaveTheirPages, LaidBasesHaveTheirPages, LaidDirectoriesHaveCores};
 
+pub use commit_pages::{Laid, Written, lay_base, lay_record, needed_for_base, needed_for_record};
 use next_files::{
     an_array_is_removed, bases_make_next, entries_are_seen, files_stand_by_their_slots,
     free_pages_turn, records_make_next, torn_bases_stand_alike,

@@ -1,7 +1,7 @@
 -- Versions with their pages, and the places that see them.
 use Rattle.std.specs.Prelude.{ℕ, ◌+◌, Bool, true, false, ◌&&◌, ◌||◌, nat_le, nat_lt, if◌then◌else◌, List, [], ◌∷◌, ◌++◌, map, Option, None, Some}
 use Rattle.std.specs.List.{filter, list_any}
-use Rattle.logical_plan.specs.declared.names.Names.{Names}
+use Rattle.plan_changes.specs.Names.{Names}
 use Rattle.plan_changes.specs.declared.change.Change.{Change}
 use Rattle.plan_changes.specs.declared.change.Change.TheVariants.{Create, Store, Insert, Remove, RemoveVersions}
 use Rattle.plan_changes.specs.Changes.{next_of}

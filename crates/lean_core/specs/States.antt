@@ -1,6 +1,6 @@
 -- What a lean core stands for.
 use Rattle.std.specs.Prelude.{ℕ, List, map}
-use Rattle.logical_plan.specs.declared.names.Names.{Names}
+use Rattle.plan_changes.specs.Names.{Names}
 use Rattle.event_core.specs.declared.state.CorePin.{CorePin}
 use Rattle.event_core.specs.declared.state.Core.{Core}
 use Rattle.lean_core.specs.declared.pin.LeanPin.{LeanPin}

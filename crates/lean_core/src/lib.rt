@@ -9,6 +9,7 @@ mod row;
 mod rows;
 mod state;
 
+pub use event_core::{Core, Entry, Used};
 pub use pin::LeanPin;
 pub use ready::LeanReady;
 pub use state::LeanCore;

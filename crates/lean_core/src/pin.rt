@@ -1,6 +1,6 @@
 //! Open pins.
 
-use logical_plan::Names;
+use plan_changes::Names;
 use std::snapshot::Snapshot;
 
 /// An open pin. What could be named when it began is kept for contracts alone.

@@ -1,6 +1,6 @@
 //! The second half of a commit, which takes no memory.
 ghost use Rattle.std.specs.Prelude.{◌≡◌, ◌<◌, ◌≤◌, ◌+◌, ◌-◌, ◌^◌, ℕ, List as Items, vec_capacity, vec_len};
-ghost use Rattle.logical_plan.specs.declared.names.Names.{Names};
+ghost use Rattle.plan_changes.specs.Names.{Names};
 ghost use Rattle.event_core.specs.declared.entry.Entry.TheVariants.{Commit};
 ghost use Rattle.event_core.specs.declared.state.VersionPages.{VersionPages};
 ghost use Rattle.event_core.specs.History.{pages_after};

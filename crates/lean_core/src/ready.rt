@@ -29,7 +29,7 @@ impl Model for LeanReady {
 
     ghost Value = { ReadyFor };
 
-    ghost use Rattle.logical_plan.specs.Lemmas.QueryCode.{query_code};
+    ghost use Rattle.plan_changes.specs.QueryCode.{query_code};
     ghost use Rattle.std.specs.Coded.{codes};
 
     ghost coded = { Prim.hlevel (codes, query_code) };

@@ -9,7 +9,7 @@ use crate::row::Row;
 use crate::rows::{first_rows, forget};
 use cell_values::{List, Memory};
 use event_core::Core;
-use logical_plan::Names;
+use plan_changes::Names;
 use std::marker::Model;
 use std::snapshot::Snapshot;
 

@@ -1,7 +1,8 @@
 -- The stored arrays that a plan reads.
 use Rattle.std.specs.Prelude.{List, [], ◌∷◌, ◌++◌}
 use Rattle.logical_plan.specs.declared.parts.Leaf.{Leaf}
-use Rattle.logical_plan.specs.Query.{Query, built, listed, scanned, filtered, applied, projected, between, subarray, sliced, joined, crossed, redimensioned, regridded, windowed, aggregated}
+use Rattle.logical_plan.specs.Query.{Query, built, listed, scanned, filtered, applied, projected, between, subarray}
+use Rattle.logical_plan.specs.Query.{sliced, joined, crossed, redimensioned, regridded, windowed, aggregated}
 
 -- from left to right, each as often as it is read
 abbrev pub leaves : Query → List Leaf

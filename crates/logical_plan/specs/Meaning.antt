@@ -18,7 +18,8 @@ use Rattle.logical_plan.specs.Faults.{if_whole, and_then}
 use Rattle.logical_plan.specs.Groups.{regrid_rows, window_rows, aggregate_rows}
 use Rattle.logical_plan.specs.Joins.{join_rows, cross_rows}
 use Rattle.logical_plan.specs.PlanSchema.{apply_schema, project_schema, subarray_schema, slice_schema, regrid_schema, window_schema, aggregate_schema}
-use Rattle.logical_plan.specs.Query.{Query, built, listed, scanned, filtered, applied, projected, between, subarray, sliced, joined, crossed, redimensioned, regridded, windowed, aggregated}
+use Rattle.logical_plan.specs.Query.{Query, built, listed, scanned, filtered, applied, projected, between, subarray}
+use Rattle.logical_plan.specs.Query.{sliced, joined, crossed, redimensioned, regridded, windowed, aggregated}
 use Rattle.logical_plan.specs.Redimension.{redimension_rows}
 
 -- ---- databases

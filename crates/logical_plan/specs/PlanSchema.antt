@@ -1,5 +1,6 @@
 -- The schema of a plan.
-use Rattle.std.specs.Prelude.{ℕ, zero, suc, ◌+◌, ℤ, pos, ◌-ℤ◌, if◌then◌else◌, true, List, [], ◌∷◌, ◌++◌, map, length, take, drop, slice_get, codes, Option, Some, None}
+use Rattle.std.specs.Prelude.{ℕ, zero, suc, ◌+◌, ℤ, pos, ◌-ℤ◌, if◌then◌else◌, true, List, [], ◌∷◌}
+use Rattle.std.specs.Prelude.{◌++◌, map, length, take, drop, slice_get, codes, Option, Some, None}
 use Rattle.std.specs.Int.{int_max, int_min, w64, saturate_signed}
 use Rattle.std.specs.Fmt.{decimal}
 use Rattle.cell_values.specs.declared.schema.Attribute.{Attribute}
@@ -19,7 +20,8 @@ use Rattle.logical_plan.specs.declared.parts.Pair.{Pair}
 use Rattle.logical_plan.specs.BoxOps.{items_at, items_but, fixed_places}
 use Rattle.logical_plan.specs.Groups.{block}
 use Rattle.logical_plan.specs.Joins.{right_places}
-use Rattle.logical_plan.specs.Query.{Query, built, listed, scanned, filtered, applied, projected, between, subarray, sliced, joined, crossed, redimensioned, regridded, windowed, aggregated}
+use Rattle.logical_plan.specs.Query.{Query, built, listed, scanned, filtered, applied, projected, between, subarray}
+use Rattle.logical_plan.specs.Query.{sliced, joined, crossed, redimensioned, regridded, windowed, aggregated}
 
 -- ---- attributes
 

@@ -1,6 +1,7 @@
 -- When a plan is typed: each expression is of its kind, each operator's own rules hold, the schemas that it carries are those of
 -- its sources, and each new schema is valid.
-use Rattle.std.specs.Prelude.{◌≡◌, ℕ, ◌+◌, ◌*◌, pos, ◌-ℤ◌, unsigned_abs, max, Bool, true, false, not, ◌&&◌, ◌||◌, ◌==◌, nat_lt, nat_le, List, [], ◌∷◌, map, length, slice_get, Option, Some, None, IsTrue}
+use Rattle.std.specs.Prelude.{◌≡◌, ℕ, ◌+◌, ◌*◌, pos, ◌-ℤ◌, unsigned_abs, max, Bool, true, false, not, ◌&&◌, ◌||◌}
+use Rattle.std.specs.Prelude.{◌==◌, nat_lt, nat_le, List, [], ◌∷◌, map, length, slice_get, Option, Some, None, IsTrue}
 use Rattle.std.specs.List.{AllByRecursion, list_any, list_all}
 use Rattle.std.specs.Ordering.{int_eq}
 use Rattle.cell_values.specs.declared.datum.Cell.{Cell}
@@ -29,7 +30,8 @@ use Rattle.logical_plan.specs.declared.parts.Reach.{Reach}
 use Rattle.logical_plan.specs.BoxOps.{fixed_places}
 use Rattle.logical_plan.specs.Joins.{right_places}
 use Rattle.logical_plan.specs.PlanSchema.{schema_of, aggregate_kind, join_schema, cross_schema}
-use Rattle.logical_plan.specs.Query.{Query, built, listed, scanned, filtered, applied, projected, between, subarray, sliced, joined, crossed, redimensioned, regridded, windowed, aggregated}
+use Rattle.logical_plan.specs.Query.{Query, built, listed, scanned, filtered, applied, projected, between, subarray}
+use Rattle.logical_plan.specs.Query.{sliced, joined, crossed, redimensioned, regridded, windowed, aggregated}
 use Rattle.logical_plan.specs.Redimension.{Origin, from_dimension, from_attribute, counted, origin_of, value_origin, counted_places, named}
 
 -- ---- expressions
@@ -78,7 +80,8 @@ fits_one attributes dims e = false
 
 -- at most 2^24 cells
 abbrev pub builds : Schema → Expr → Bool
-builds schema e = list_all is_bounded schema.dimensions && nat_le (places_in schema.dimensions) 16777216 && fits_one schema.attributes (length schema.dimensions) e
+builds schema e = list_all is_bounded schema.dimensions && nat_le (places_in schema.dimensions) 16777216
+    && fits_one schema.attributes (length schema.dimensions) e
 
 -- a value without fault that is null only where it may be
 abbrev pub may_stand : Attribute → Datum → Bool

@@ -1,6 +1,7 @@
 //! Copies of plans.
 ghost use Rattle.std.specs.Prelude.{◌≡◌, IfOk};
-ghost use Rattle.logical_plan.specs.Query.{built, listed, scanned, filtered, applied, projected, between, subarray, sliced, joined, crossed, redimensioned, regridded, windowed, aggregated};
+ghost use Rattle.logical_plan.specs.Query.{built, listed, scanned, filtered, applied, projected, between, subarray};
+ghost use Rattle.logical_plan.specs.Query.{sliced, joined, crossed, redimensioned, regridded, windowed, aggregated};
 ghost use Rattle.logical_plan.specs.Inner.QueryView.{query_of};
 
 use crate::{Aggregate, Applied, Fixed, Leaf, Pair, Plan, PlanNode, Reach};

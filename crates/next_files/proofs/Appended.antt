@@ -4,11 +4,11 @@ use Rattle.std.specs.Prelude.{if◌then◌else◌, Ok, Err}
 use Rattle.std.specs.List.{AllByRecursion, filter, flat_map}
 use Rattle.file_items.specs.Items.{◌>>=◌}
 use Rattle.cell_values.specs.declared.schema.Dimension.{Dimension}
-use Rattle.page_chain.specs.Pages.{page_size, blob}
+use Rattle.file_laws.specs.Pages.{page_size, blob}
 use Rattle.chunk_map.specs.declared.directory.DirEntry.{DirEntry}
 use Rattle.chunk_map.specs.declared.directory.Directory.{Directory}
 use Rattle.chunk_map.specs.Table.{directory_in}
-use Rattle.version_catalog.specs.declared.rules.catalog.BlobAt.{BlobAt}
+use Rattle.file_laws.specs.BlobAt.{BlobAt}
 use Rattle.file_laws.specs.Opening.{blamed, claimed, is_same, is_seen, is_entry, payload_in, payloads_in, Listed, Rules, directory_from, Row, row_in}
 use Rattle.file_laws.proofs.Steps.{then_is}
 use Rattle.file_laws.proofs.Elsewhere.{row_steps}

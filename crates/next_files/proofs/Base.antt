@@ -5,16 +5,16 @@ use Rattle.std.specs.List.{AllByRecursion}
 use Rattle.page_layout.specs.Places.{IsNone}
 use Rattle.page_layout.specs.declared.roots.Root.{Root}
 use Rattle.page_layout.specs.declared.sides.Side.{Side}
-use Rattle.page_chain.specs.Pages.{page_size, has_page}
-use Rattle.page_chain.specs.Chains.{chain, chain_bytes}
-use Rattle.page_chain.specs.Links.{AreFree}
-use Rattle.page_chain.proofs.PageLaws.{chain_read}
+use Rattle.file_laws.specs.Pages.{page_size, has_page}
+use Rattle.file_laws.specs.Chains.{chain, chain_bytes}
+use Rattle.file_laws.specs.Links.{AreFree}
+use Rattle.file_laws.proofs.PageLaws.{chain_read}
 use Rattle.chunk_map.specs.declared.directory.Directory.{Directory}
-use Rattle.version_catalog.specs.declared.rules.catalog.Catalog.{Catalog}
-use Rattle.version_catalog.specs.Spelling.{spelling}
-use Rattle.version_catalog.specs.Table.{catalog_in}
-use Rattle.version_catalog.proofs.RuleLaws.{catalog_again}
-use Rattle.catalog_changes.specs.Changed.{after_change}
+use Rattle.file_laws.specs.Catalog.{Catalog}
+use Rattle.file_laws.specs.Spelling.{spelling}
+use Rattle.file_laws.specs.Table.{catalog_in}
+use Rattle.file_laws.proofs.RuleLaws.{catalog_again}
+use Rattle.file_laws.specs.Changed.{after_change}
 use Rattle.file_laws.specs.Opening.{blamed, Rules, rows_in, found_in, sequence_of, catalogue_pages, stored_pages, pages_of}
 use Rattle.file_laws.specs.Found.{Found}
 use Rattle.file_laws.proofs.Steps.{then_is}

@@ -5,24 +5,24 @@ use Rattle.std.specs.List.{AllByRecursion, AllZip}
 use Rattle.cell_values.specs.declared.datum.Row.{Row}
 use Rattle.cell_values.specs.declared.schema.Schema.{Schema}
 use Rattle.page_layout.specs.Places.{IsNone, KeepsPages}
-use Rattle.page_chain.specs.Pages.{page_size, has_page, first_past}
-use Rattle.page_chain.specs.Chains.{names_page}
+use Rattle.file_laws.specs.Pages.{page_size, has_page, first_past}
+use Rattle.file_laws.specs.Chains.{names_page}
 use Rattle.chunk_map.specs.declared.directory.DirEntry.{DirEntry}
 use Rattle.chunk_map.specs.declared.directory.Directory.{Directory}
 use Rattle.chunk_map.specs.Entries.{AreRising}
-use Rattle.logical_plan.specs.declared.names.NameEntry.{NameEntry}
-use Rattle.logical_plan.specs.declared.names.Names.{Names}
+use Rattle.plan_changes.specs.NameEntry.{NameEntry}
+use Rattle.plan_changes.specs.Names.{Names}
 use Rattle.plan_changes.specs.declared.change.Change.{Change}
 use Rattle.plan_changes.specs.declared.change.Change.TheVariants.{Create, Store, Insert, Remove, RemoveVersions}
 use Rattle.plan_changes.specs.Changes.{name_of}
 use Rattle.plan_changes.specs.Databases.{Database, entry_of, names_of, new_rows, after}
 use Rattle.plan_changes.specs.Stored.{IsDatabase, IsStored}
 use Rattle.plan_changes.proofs.DatabaseLaws.{changes_keep_databases}
-use Rattle.version_catalog.specs.declared.rules.catalog.CatalogArray.{CatalogArray}
-use Rattle.version_catalog.specs.declared.rules.catalog.Catalog.{Catalog}
-use Rattle.version_catalog.specs.Catalogs.{names_in}
-use Rattle.catalog_changes.specs.Changed.{has_its_directory, changed, after_change}
-use Rattle.catalog_changes.proofs.DirectoryLaws.{follow_databases}
+use Rattle.file_laws.specs.CatalogArray.{CatalogArray}
+use Rattle.file_laws.specs.Catalog.{Catalog}
+use Rattle.file_laws.specs.Catalogs.{names_in}
+use Rattle.file_laws.specs.Changed.{has_its_directory, changed, after_change}
+use Rattle.file_laws.proofs.DirectoryLaws.{follow_databases}
 use Rattle.file_laws.specs.Slots.{Slots}
 use Rattle.file_laws.specs.Opening.{are_pages, Rules, rows_in, found_in, sequence_of, stored_pages, pages_of}
 use Rattle.file_laws.specs.Standing.{HoldsVersions, HoldsDatabase}

@@ -5,8 +5,8 @@ use Rattle.std.specs.List.{AllByRecursion, filter, count_by}
 use Rattle.page_layout.specs.Places.{IsNone}
 use Rattle.chunk_map.specs.declared.directory.Directory.{Directory}
 use Rattle.chunk_map.specs.Entries.{AreRising}
-use Rattle.version_catalog.specs.declared.rules.catalog.CatalogArray.{CatalogArray}
-use Rattle.catalog_changes.specs.Records.{entries_of, is_array, from_version}
+use Rattle.file_laws.specs.CatalogArray.{CatalogArray}
+use Rattle.file_laws.specs.Records.{entries_of, is_array, from_version}
 use Rattle.file_laws.specs.Opening.{Rules, Row, row_in, rows_in}
 use Rattle.file_laws.proofs.Steps.{then_is}
 use Rattle.file_laws.proofs.Parts.{front_all, rest_all}

@@ -9,9 +9,9 @@ use Rattle.cell_values.specs.Schemas.{is_valid}
 use Rattle.page_layout.specs.Places.{IsNone}
 use Rattle.chunk_map.specs.declared.directory.Directory.{Directory}
 use Rattle.chunk_map.specs.Entries.{AreRising}
-use Rattle.logical_plan.specs.Query.{Query}
-use Rattle.logical_plan.specs.declared.names.NameEntry.{NameEntry}
-use Rattle.logical_plan.specs.declared.names.Names.{Names}
+use Rattle.plan_changes.specs.Query.{Query}
+use Rattle.plan_changes.specs.NameEntry.{NameEntry}
+use Rattle.plan_changes.specs.Names.{Names}
 use Rattle.plan_changes.specs.declared.change.Change.{Change}
 use Rattle.plan_changes.specs.declared.change.Change.TheVariants.{Create, Store, Insert, Remove, RemoveVersions}
 use Rattle.plan_changes.specs.Allowed.{has_room, has_number}
@@ -20,10 +20,10 @@ use Rattle.plan_changes.specs.Databases.{Database, Stored, entry_of, new_rows, w
 use Rattle.plan_changes.specs.Stored.{is_before, IsDatabase, NamesRise}
 use Rattle.plan_changes.proofs.NamesOf.{prefix_map, map_insert, names_depend_on_no_row}
 use Rattle.plan_changes.proofs.StoredLaws.{all_inserted, add_array, names_in}
-use Rattle.version_catalog.specs.declared.rules.catalog.CatalogArray.{CatalogArray}
-use Rattle.catalog_changes.specs.Records.{entries_of, is_array as has_its_name, with_new, with_directory}
-use Rattle.catalog_changes.specs.Changed.{changed}
-use Rattle.catalog_changes.proofs.Kept.{new_named}
+use Rattle.file_laws.specs.CatalogArray.{CatalogArray}
+use Rattle.file_laws.specs.Records.{entries_of, is_array as has_its_name, with_new, with_directory}
+use Rattle.file_laws.specs.Changed.{changed}
+use Rattle.file_laws.proofs.Kept.{new_named}
 use Rattle.file_laws.specs.Opening.{Rules, rows_in}
 use Rattle.file_laws.specs.Standing.{HoldsVersion, HoldsVersions}
 use Rattle.file_laws.proofs.More.{Beside}

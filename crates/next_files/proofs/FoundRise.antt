@@ -1,7 +1,7 @@
 -- The entries of each directory that is found rise.
 use Rattle.std.proofs.Common.{◌≡◌, subst}
 use Rattle.std.specs.Prelude.{Ok}
-use Rattle.version_catalog.specs.declared.rules.catalog.Catalog.{Catalog}
+use Rattle.file_laws.specs.Catalog.{Catalog}
 use Rattle.file_laws.specs.Opening.{Rules, rows_in, sequence_of}
 use Rattle.file_laws.proofs.Elsewhere.{found_steps}
 use Rattle.next_files.specs.Laws.{FoundDirectoriesRise}

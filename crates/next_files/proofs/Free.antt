@@ -4,10 +4,10 @@ use Rattle.std.specs.Prelude.{if◌then◌else◌, ◌&&◌, ◌||◌, not, nat_
 use Rattle.std.specs.List.{AllByRecursion, list_any}
 use Rattle.std.proofs.lemmas.Bool.Decides.{nat_tests}
 use Rattle.page_layout.specs.Places.{IsNone}
-use Rattle.page_chain.specs.Pages.{page_size, has_page, first_past, AreDistinct}
-use Rattle.page_chain.specs.Chains.{names_page}
-use Rattle.page_chain.specs.Links.{AreFree}
-use Rattle.page_chain.proofs.LinkLaws.{unequal}
+use Rattle.file_laws.specs.Pages.{page_size, has_page, first_past, AreDistinct}
+use Rattle.file_laws.specs.Chains.{names_page}
+use Rattle.file_laws.specs.Links.{AreFree}
+use Rattle.file_laws.proofs.LinkLaws.{unequal}
 use Rattle.file_laws.specs.Opening.{claimed}
 use Rattle.file_laws.proofs.Parts.{claim_parts, each_none}
 use Rattle.file_laws.proofs.More.{Beside}

@@ -4,13 +4,13 @@ use Rattle.std.specs.Prelude.{if◌then◌else◌, ◌&&◌, nat_le, Ok, Err}
 use Rattle.std.proofs.lemmas.Bool.Decides.{nat_tests}
 use Rattle.file_items.specs.Items.{◌>>=◌}
 use Rattle.cell_values.specs.declared.schema.Dimension.{Dimension}
-use Rattle.array_geom.specs.Geometry.{has_core}
-use Rattle.page_chain.specs.Pages.{page_size, blob}
+use Rattle.chunk_map.specs.Geometry.{has_core}
+use Rattle.file_laws.specs.Pages.{page_size, blob}
 use Rattle.chunk_map.specs.declared.directory.DirEntry.{DirEntry}
 use Rattle.chunk_map.specs.declared.directory.Directory.{Directory}
 use Rattle.chunk_map.specs.Table.{directory_in}
-use Rattle.version_catalog.specs.declared.rules.catalog.BlobAt.{BlobAt}
-use Rattle.version_catalog.specs.declared.rules.catalog.CatalogArray.{CatalogArray}
+use Rattle.file_laws.specs.BlobAt.{BlobAt}
+use Rattle.file_laws.specs.CatalogArray.{CatalogArray}
 use Rattle.file_laws.specs.Opening.{blamed, claimed, are_pages, is_entry, payload_in, payloads_in, Listed, Rules, directory_from, Row, row_in, rows_in}
 use Rattle.file_laws.proofs.Steps.{then_is}
 use Rattle.file_laws.proofs.Parts.{both_true, claim_parts}

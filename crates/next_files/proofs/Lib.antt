@@ -1,5 +1,12 @@
 pub use Rattle.file_laws.proofs.Apart
+pub use Rattle.file_laws.proofs.Kept
 pub use Rattle.file_laws.proofs.SlotLaws
+pub use Rattle.file_laws.proofs.Spelled
+pub use Rattle.plan_changes.proofs.DatabaseLaws
+pub use Rattle.plan_changes.proofs.FitLaws
+pub use Rattle.plan_changes.proofs.NamesOf
+pub use Rattle.plan_changes.proofs.Stays
+pub use Rattle.plan_changes.proofs.StoredLaws
 mod Appended
 mod Base
 mod Both

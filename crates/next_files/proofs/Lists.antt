@@ -7,16 +7,16 @@ use Rattle.cell_values.specs.declared.schema.Schema.{Schema}
 use Rattle.array_rows.specs.Boxes.{by_pairs}
 use Rattle.chunk_map.specs.declared.directory.DirEntry.{DirEntry}
 use Rattle.chunk_map.specs.declared.directory.Directory.{Directory}
-use Rattle.logical_plan.specs.Query.{Query}
-use Rattle.logical_plan.specs.declared.names.NameEntry.{NameEntry}
+use Rattle.plan_changes.specs.Query.{Query}
+use Rattle.plan_changes.specs.NameEntry.{NameEntry}
 use Rattle.plan_changes.specs.Changes.{is_named, has_array, new_entry}
 use Rattle.plan_changes.specs.Databases.{Database, is_array, has_stored, entry_of}
 use Rattle.plan_changes.specs.Stored.{NamesRise}
 use Rattle.plan_changes.specs.Typed.{FitsInto}
 use Rattle.plan_changes.proofs.DatabaseLaws.{apart}
 use Rattle.plan_changes.proofs.StoredLaws.{names_in, tail_rises, after_next, RiseAfter}
-use Rattle.version_catalog.specs.declared.rules.catalog.BlobAt.{BlobAt}
-use Rattle.version_catalog.specs.declared.rules.catalog.CatalogArray.{CatalogArray}
+use Rattle.file_laws.specs.BlobAt.{BlobAt}
+use Rattle.file_laws.specs.CatalogArray.{CatalogArray}
 use Rattle.file_laws.specs.Opening.{is_same, is_seen, Rules, rows_in, all_of, version_pages, row_pages}
 use Rattle.file_laws.proofs.Apart.{both_all}
 use Rattle.file_laws.proofs.Elsewhere.{rows_steps}

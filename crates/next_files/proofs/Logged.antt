@@ -5,14 +5,14 @@ use Rattle.std.specs.List.{list_any}
 use Rattle.std.proofs.lemmas.Bool.Decides.{nat_tests}
 use Rattle.page_layout.specs.Places.{IsNone}
 use Rattle.page_layout.specs.declared.logs.RecordAt.{RecordAt}
-use Rattle.page_chain.specs.Pages.{page_size}
-use Rattle.page_chain.specs.Chains.{chain, chain_bytes}
-use Rattle.version_catalog.specs.declared.rules.catalog.Catalog.{Catalog}
-use Rattle.version_catalog.specs.declared.rules.catalog_record.CatalogRecord.{CatalogRecord}
-use Rattle.version_catalog.specs.declared.rules.catalog_record.CatalogRecord.TheVariants.{Create, First, Next, Remove, RemoveVersions}
-use Rattle.version_catalog.specs.Spelling.{spell_record}
-use Rattle.version_catalog.specs.Table.{record_in}
-use Rattle.catalog_changes.specs.Records.{is_allowed, after_record}
+use Rattle.file_laws.specs.Pages.{page_size}
+use Rattle.file_laws.specs.Chains.{chain, chain_bytes}
+use Rattle.file_laws.specs.Catalog.{Catalog}
+use Rattle.file_laws.specs.CatalogRecord.{CatalogRecord}
+use Rattle.file_laws.specs.CatalogRecord.TheVariants.{Create, First, Next, Remove, RemoveVersions}
+use Rattle.file_laws.specs.Spelling.{spell_record}
+use Rattle.file_laws.specs.Table.{record_in}
+use Rattle.file_laws.specs.Records.{is_allowed, after_record}
 use Rattle.file_laws.specs.Opening.{blamed, if_allowed, Logged, logged_in}
 use Rattle.file_laws.proofs.Steps.{then_is}
 use Rattle.file_laws.proofs.Elsewhere.{record_steps}

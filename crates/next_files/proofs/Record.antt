@@ -5,22 +5,22 @@ use Rattle.std.specs.List.{AllByRecursion, list_any}
 use Rattle.std.proofs.lemmas.List.{length-append}
 use Rattle.page_layout.specs.Places.{IsNone}
 use Rattle.page_layout.specs.declared.logs.RecordAt.{RecordAt}
-use Rattle.page_chain.specs.Pages.{page_size, has_page}
-use Rattle.page_chain.specs.Chains.{chain, chain_bytes}
-use Rattle.page_chain.specs.Links.{AreFree}
-use Rattle.page_chain.proofs.PageLaws.{chain_read}
-use Rattle.logical_plan.specs.declared.names.Names.{Names}
+use Rattle.file_laws.specs.Pages.{page_size, has_page}
+use Rattle.file_laws.specs.Chains.{chain, chain_bytes}
+use Rattle.file_laws.specs.Links.{AreFree}
+use Rattle.file_laws.proofs.PageLaws.{chain_read}
+use Rattle.plan_changes.specs.Names.{Names}
 use Rattle.plan_changes.specs.declared.change.Change.{Change}
 use Rattle.plan_changes.specs.Allowed.{names_allow}
-use Rattle.version_catalog.specs.declared.rules.catalog.Catalog.{Catalog}
-use Rattle.version_catalog.specs.declared.rules.catalog_record.CatalogRecord.{CatalogRecord}
-use Rattle.version_catalog.specs.Catalogs.{names_in}
-use Rattle.version_catalog.specs.Spelling.{spell_record}
-use Rattle.version_catalog.specs.Table.{catalog_in}
-use Rattle.version_catalog.proofs.RuleLaws.{record_again}
-use Rattle.catalog_changes.specs.Records.{is_allowed, after_record}
-use Rattle.catalog_changes.specs.Changed.{after_change}
-use Rattle.catalog_changes.proofs.DirectoryLaws.{are_allowed, do_their_change}
+use Rattle.file_laws.specs.Catalog.{Catalog}
+use Rattle.file_laws.specs.CatalogRecord.{CatalogRecord}
+use Rattle.file_laws.specs.Catalogs.{names_in}
+use Rattle.file_laws.specs.Spelling.{spell_record}
+use Rattle.file_laws.specs.Table.{catalog_in}
+use Rattle.file_laws.proofs.RuleLaws.{record_again}
+use Rattle.file_laws.specs.Records.{is_allowed, after_record}
+use Rattle.file_laws.specs.Changed.{after_change}
+use Rattle.file_laws.proofs.DirectoryLaws.{are_allowed, do_their_change}
 use Rattle.file_laws.specs.Slots.{Slots}
 use Rattle.file_laws.specs.Opening.{blamed, Logged, logged_in, Rules, rows_in, found_in, sequence_of, catalogue_pages, stored_pages, pages_of}
 use Rattle.file_laws.specs.Found.{Found}

@@ -6,21 +6,21 @@ use Rattle.std.specs.List.{AllByRecursion}
 use Rattle.std.specs.Ordering.{ordering_then}
 use Rattle.std.specs.declared.cmp.Ordering.{Ordering}
 use Rattle.std.specs.declared.cmp.Ordering.TheVariants.{Less, Equal, Greater}
-use Rattle.array_geom.specs.Geometry.{ChunkNumber}
-use Rattle.array_geom.specs.Link.{number_order}
+use Rattle.chunk_map.specs.Geometry.{ChunkNumber}
+use Rattle.chunk_map.specs.Link.{number_order}
 use Rattle.cell_values.specs.declared.schema.Dimension.{Dimension}
 use Rattle.file_items.specs.Items.{Reading, number_at, item, repeat, counted, Are}
 use Rattle.file_items.proofs.BytesLaws.{bind_ok, test_ok, ok_is}
-use Rattle.page_chain.specs.Pages.{page_size, blob}
+use Rattle.file_laws.specs.Pages.{page_size, blob}
 use Rattle.chunk_map.specs.declared.directory.DirEntry.{DirEntry}
 use Rattle.chunk_map.specs.declared.directory.Directory.{Directory}
 use Rattle.chunk_map.specs.Entries.{AreRising}
 use Rattle.chunk_map.specs.Table.{is_number, next_number, number_of, payload_at, entry_after, next_entry, number_in, entries_at, directory_in}
 use Rattle.chunk_map.proofs.Moves.{IsBefore, before-trans}
 use Rattle.plan_changes.specs.Stored.{IsStored}
-use Rattle.version_catalog.specs.declared.rules.catalog.BlobAt.{BlobAt}
-use Rattle.version_catalog.specs.declared.rules.catalog.CatalogArray.{CatalogArray}
-use Rattle.catalog_changes.specs.Records.{entries_of}
+use Rattle.file_laws.specs.BlobAt.{BlobAt}
+use Rattle.file_laws.specs.CatalogArray.{CatalogArray}
+use Rattle.file_laws.specs.Records.{entries_of}
 use Rattle.file_laws.specs.Opening.{Listed, Rules, directory_from, Row, row_in, rows_in}
 use Rattle.file_laws.proofs.Steps.{blamed_ok}
 use Rattle.file_laws.proofs.Elsewhere.{directory_steps, row_steps, rows_steps}

@@ -9,9 +9,9 @@ use Rattle.std.specs.Cmp.Lexicographic.{slice_cmp, bytes_decides}
 use Rattle.std.proofs.lemmas.Bool.{and_from, eqb-true}
 use Rattle.std.proofs.lemmas.Cmp.{nat_list_cmp_total}
 use Rattle.std.proofs.lemmas.Map.Text.{is_eq-slice_cmp}
-use Rattle.array_geom.specs.Geometry.{ChunkNumber}
-use Rattle.array_geom.specs.Link.{number_order}
-use Rattle.array_geom.proofs.NumberLaws.{same_number, is_equal}
+use Rattle.chunk_map.specs.Geometry.{ChunkNumber}
+use Rattle.chunk_map.specs.Link.{number_order}
+use Rattle.chunk_map.proofs.NumberLaws.{same_number, is_equal}
 use Rattle.chunk_map.specs.declared.directory.DirEntry.{DirEntry}
 use Rattle.chunk_map.specs.Entries.{numbers}
 use Rattle.file_laws.specs.Opening.{is_same, is_seen}

@@ -7,17 +7,17 @@ use Rattle.std.specs.Ordering.{is_eq, ordering_reverse}
 use Rattle.std.specs.declared.cmp.Ordering.{Ordering}
 use Rattle.std.specs.declared.cmp.Ordering.TheVariants.{Less, Equal, Greater}
 use Rattle.std.proofs.lemmas.Bool.Decides.{nat_tests}
-use Rattle.array_geom.specs.Geometry.{ChunkNumber, has_core}
-use Rattle.array_geom.specs.Link.{number_order}
-use Rattle.array_geom.proofs.NumberLaws.{same_number, is_equal}
+use Rattle.chunk_map.specs.Geometry.{ChunkNumber, has_core}
+use Rattle.chunk_map.specs.Link.{number_order}
+use Rattle.chunk_map.proofs.NumberLaws.{same_number, is_equal}
 use Rattle.cell_values.specs.declared.schema.Dimension.{Dimension}
 use Rattle.chunk_map.specs.declared.directory.DirEntry.{DirEntry}
 use Rattle.chunk_map.specs.declared.directory.Directory.{Directory}
 use Rattle.chunk_map.specs.Entries.{AreRising, entry_at}
 use Rattle.chunk_map.proofs.Moves.{number_order_total, IsBefore, before-trans}
 use Rattle.plan_changes.specs.Changes.{name_of}
-use Rattle.version_catalog.specs.declared.rules.catalog.Catalog.{Catalog}
-use Rattle.version_catalog.specs.Catalogs.{names_in}
+use Rattle.file_laws.specs.Catalog.{Catalog}
+use Rattle.file_laws.specs.Catalogs.{names_in}
 use Rattle.file_laws.specs.Opening.{is_same, is_seen, is_entry, are_pages, Rules, rows_in, sequence_of}
 use Rattle.file_laws.proofs.Parts.{both_true}
 use Rattle.file_laws.proofs.Elsewhere.{found_steps}

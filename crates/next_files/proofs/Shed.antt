@@ -5,13 +5,13 @@ use Rattle.std.specs.List.{AllByRecursion}
 use Rattle.file_items.specs.Items.{◌>>=◌}
 use Rattle.cell_values.specs.declared.schema.Dimension.{Dimension}
 use Rattle.page_layout.specs.Places.{IsNone}
-use Rattle.page_chain.specs.Pages.{page_size, blob}
-use Rattle.page_chain.specs.Chains.{names_page}
+use Rattle.file_laws.specs.Pages.{page_size, blob}
+use Rattle.file_laws.specs.Chains.{names_page}
 use Rattle.chunk_map.specs.declared.directory.DirEntry.{DirEntry}
 use Rattle.chunk_map.specs.declared.directory.Directory.{Directory}
 use Rattle.chunk_map.specs.Entries.{AreRising}
 use Rattle.chunk_map.specs.Table.{directory_in}
-use Rattle.version_catalog.specs.declared.rules.catalog.BlobAt.{BlobAt}
+use Rattle.file_laws.specs.BlobAt.{BlobAt}
 use Rattle.file_laws.specs.Opening.{blamed, claimed, is_same, is_seen, payload_in, payloads_in, Listed, Rules, directory_from, Row, row_in}
 use Rattle.file_laws.proofs.Steps.{then_is}
 use Rattle.file_laws.proofs.Fewer.{Fewer}

@@ -6,14 +6,14 @@ use Rattle.cell_values.specs.declared.schema.Dimension.{Dimension}
 use Rattle.array_rows.specs.Boxes.{by_pairs}
 use Rattle.page_layout.specs.Places.{IsNone}
 use Rattle.page_layout.specs.declared.logs.RecordAt.{RecordAt}
-use Rattle.page_chain.specs.Pages.{page_size}
-use Rattle.page_chain.specs.Chains.{names_page}
-use Rattle.page_chain.proofs.LinkLaws.{chain_linked}
+use Rattle.file_laws.specs.Pages.{page_size}
+use Rattle.file_laws.specs.Chains.{names_page}
+use Rattle.file_laws.proofs.LinkLaws.{chain_linked}
 use Rattle.chunk_map.specs.declared.directory.DirEntry.{DirEntry}
 use Rattle.chunk_map.specs.declared.directory.Directory.{Directory}
-use Rattle.version_catalog.specs.declared.rules.catalog.BlobAt.{BlobAt}
-use Rattle.version_catalog.specs.declared.rules.catalog.CatalogArray.{CatalogArray}
-use Rattle.version_catalog.specs.declared.rules.catalog.Catalog.{Catalog}
+use Rattle.file_laws.specs.BlobAt.{BlobAt}
+use Rattle.file_laws.specs.CatalogArray.{CatalogArray}
+use Rattle.file_laws.specs.Catalog.{Catalog}
 use Rattle.file_laws.specs.Slots.{Slots}
 use Rattle.file_laws.specs.Opening.{Logged, logged_in, claimed, are_pages, is_entry, is_seen, payloads_in, Listed, Rules, directory_from, Row, row_in, rows_in, found_in, all_of, version_pages, catalogue_pages, stored_pages, pages_of}
 use Rattle.file_laws.specs.Found.{Found}

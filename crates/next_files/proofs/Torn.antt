@@ -1,9 +1,9 @@
 -- A new base that is torn to format 1, and payloads that were written.
 use Rattle.std.proofs.Common.{ℕ, List, refl, ◌∙◌, ap}
-use Rattle.page_chain.specs.Pages.{page_size, blob}
-use Rattle.page_chain.proofs.PageLaws.{blob_read}
-use Rattle.chunk_rle.specs.Frames.{frame_of}
-use Rattle.chunk_rle.specs.Chunks.{chunk_payload, spelling}
+use Rattle.file_laws.specs.Pages.{page_size, blob}
+use Rattle.file_laws.proofs.PageLaws.{blob_read}
+use Rattle.file_laws.specs.Frames.{frame_of}
+use Rattle.file_laws.specs.Chunks.{chunk_payload, spelling}
 use Rattle.file_laws.specs.Standing.{stored_chunk}
 use Rattle.file_laws.proofs.Fewer.{torn_root}
 use Rattle.file_laws.proofs.Payloads.{spelled_is_read}

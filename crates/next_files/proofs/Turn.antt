@@ -2,7 +2,7 @@
 use Rattle.std.proofs.Common.{◌≢◌, ◌<◌, ℕ, zero, suc, List, [], ◌∷◌, ◌++◌, length, slice_index, sym, arith}
 use Rattle.std.specs.List.{AllByRecursion}
 use Rattle.page_layout.specs.Places.{IsNone}
-use Rattle.page_chain.specs.Pages.{AreDistinct}
+use Rattle.file_laws.specs.Pages.{AreDistinct}
 use Rattle.file_laws.proofs.Parts.{front_all, rest_all}
 use Rattle.file_laws.proofs.Apart.{both_all}
 use Rattle.next_files.specs.Laws.{FreePagesTurn}

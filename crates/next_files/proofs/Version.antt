@@ -7,20 +7,20 @@ use Rattle.std.proofs.lemmas.Bool.Decides.{nat_tests}
 use Rattle.cell_values.specs.declared.datum.Row.{Row}
 use Rattle.cell_values.specs.declared.schema.Schema.{Schema}
 use Rattle.cell_values.specs.Schemas.{IsValid, is_valid, has_attributes, has_dimensions, are_distinct, names_of as names_in_schema, is_dimension, frame_fits}
-use Rattle.array_geom.specs.Geometry.{has_core}
+use Rattle.chunk_map.specs.Geometry.{has_core}
 use Rattle.page_layout.specs.Places.{IsNone, KeepsPages}
-use Rattle.page_chain.specs.Pages.{page_size, has_page, first_past, blob}
-use Rattle.page_chain.specs.Chains.{names_page}
-use Rattle.page_chain.proofs.PageLaws.{blob_read}
+use Rattle.file_laws.specs.Pages.{page_size, has_page, first_past, blob}
+use Rattle.file_laws.specs.Chains.{names_page}
+use Rattle.file_laws.proofs.PageLaws.{blob_read}
 use Rattle.chunk_map.specs.declared.directory.DirEntry.{DirEntry}
 use Rattle.chunk_map.specs.Spelling.{spelling}
 use Rattle.chunk_map.specs.Table.{directory_in}
 use Rattle.chunk_map.proofs.Laws.{directory_again}
 use Rattle.chunk_map.proofs.Rules.{are_entries}
-use Rattle.chunk_rle.specs.Frames.{frame_of}
-use Rattle.chunk_rle.specs.Chunks.{chunk_payload}
-use Rattle.logical_plan.specs.Query.{Query}
-use Rattle.logical_plan.specs.declared.names.NameEntry.{NameEntry}
+use Rattle.file_laws.specs.Frames.{frame_of}
+use Rattle.file_laws.specs.Chunks.{chunk_payload}
+use Rattle.plan_changes.specs.Query.{Query}
+use Rattle.plan_changes.specs.NameEntry.{NameEntry}
 use Rattle.plan_changes.specs.declared.change.Change.{Change}
 use Rattle.plan_changes.specs.declared.change.Change.TheVariants.{Create, Store, Insert, Remove, RemoveVersions}
 use Rattle.plan_changes.specs.Allowed.{has_room, has_number}

@@ -1,13 +1,13 @@
 -- An array that is stored again, computed: what the law of records asks, and what it says.
 use Rattle.std.proofs.Common.{◌≡◌, ◌≢◌, ◌<◌, ◌≤◌, ◌⊎◌, inl, inr, ℕ, zero, suc, ◌+◌, ◌-◌, ◌*◌, List, [], ◌∷◌, ◌++◌, length, slice_index, Some, Ok, refl, sym, ◌∙◌, ap, subst, arith}
 use Rattle.page_layout.specs.Places.{IsNone, KeepsPages, number_at}
-use Rattle.page_chain.specs.Pages.{page_size, page_at, piece_of}
-use Rattle.page_chain.specs.Chains.{chain_piece}
-use Rattle.page_chain.specs.Links.{AreFree}
+use Rattle.file_laws.specs.Pages.{page_size, page_at, piece_of}
+use Rattle.file_laws.specs.Chains.{chain_piece}
+use Rattle.file_laws.specs.Links.{AreFree}
 use Rattle.chunk_map.specs.Spelling.{IsDirectory, spell_entry, spelling}
 use Rattle.file_items.specs.Spelling.{spell_name}
 use Rattle.plan_changes.specs.Databases.{after}
-use Rattle.version_catalog.specs.Spelling.{spell_blob, spell_record}
+use Rattle.file_laws.specs.Spelling.{spell_blob, spell_record}
 use Rattle.file_laws.specs.Slots.{slots_in}
 use Rattle.file_laws.specs.Inner.Example.{schema, rows, database, zeros, front, catalog_bytes, directory_bytes, payload_bytes, file_with, file}
 use Rattle.file_laws.proofs.Worked.{database_is, found_is, version_is, payload_is}

@@ -2,12 +2,12 @@
 use Rattle.std.proofs.Common.{◌≡◌, ◌≢◌, ◌<◌, ◌≤◌, inr, ℕ, zero, suc, ◌+◌, ◌*◌, List, [], ◌∷◌, ◌++◌, length, slice_index, None, Ok, refl, sym, ◌∙◌, ap, subst, arith}
 use Rattle.page_layout.specs.Places.{IsNone, KeepsPages, number_at}
 use Rattle.page_layout.specs.declared.sides.Side.TheVariants.{B}
-use Rattle.page_chain.specs.Pages.{page_size, page_at}
-use Rattle.page_chain.specs.Chains.{chain_piece}
-use Rattle.page_chain.specs.Links.{AreFree}
-use Rattle.version_catalog.specs.declared.rules.catalog.Catalog.{Catalog}
-use Rattle.version_catalog.specs.Catalogs.{IsCatalog}
-use Rattle.version_catalog.specs.Spelling.{spelling}
+use Rattle.file_laws.specs.Pages.{page_size, page_at}
+use Rattle.file_laws.specs.Chains.{chain_piece}
+use Rattle.file_laws.specs.Links.{AreFree}
+use Rattle.file_laws.specs.Catalog.{Catalog}
+use Rattle.file_laws.specs.Catalogs.{IsCatalog}
+use Rattle.file_laws.specs.Spelling.{spelling}
 use Rattle.file_laws.specs.Slots.{slots_in}
 use Rattle.file_laws.specs.Inner.Example.{database, zeros, front as old_front, catalog_bytes, directory_bytes, payload_bytes, file_with, file}
 use Rattle.next_files.specs.Inner.Example.{stored, found, slots}

@@ -8,20 +8,20 @@ use Rattle.page_layout.specs.declared.sides.Side.{Side}
 use Rattle.page_layout.specs.declared.sides.Format.TheVariants.{One}
 use Rattle.page_layout.specs.declared.roots.Root.{Root}
 use Rattle.page_slots.specs.Standing.{root_in}
-use Rattle.page_chain.specs.Pages.{page_size, first_past}
-use Rattle.page_chain.specs.Links.{AreFree}
-use Rattle.chunk_rle.specs.Chunks.{spelling}
-use Rattle.chunk_rle.specs.Stored.{IsStored}
+use Rattle.file_laws.specs.Pages.{page_size, first_past}
+use Rattle.file_laws.specs.Links.{AreFree}
+use Rattle.file_laws.specs.Chunks.{spelling}
+use Rattle.file_laws.specs.Stored.{IsStored}
 use Rattle.chunk_map.specs.Replacing.{AreReplaced}
 use Rattle.chunk_map.specs.declared.directory.DirEntry.{DirEntry}
 use Rattle.chunk_map.specs.Entries.{AreRising}
 use Rattle.plan_changes.specs.declared.change.Change.{Change}
 use Rattle.plan_changes.specs.Changes.{name_of}
 use Rattle.plan_changes.specs.Databases.{Database, after}
-use Rattle.version_catalog.specs.declared.rules.catalog_record.CatalogRecord.{CatalogRecord}
-use Rattle.version_catalog.specs.Spelling.{spell_record, spelling as catalog_spelling}
-use Rattle.version_catalog.specs.Catalogs.{names_in}
-use Rattle.catalog_changes.specs.Changed.{after_change}
+use Rattle.file_laws.specs.CatalogRecord.{CatalogRecord}
+use Rattle.file_laws.specs.Spelling.{spell_record, spelling as catalog_spelling}
+use Rattle.file_laws.specs.Catalogs.{names_in}
+use Rattle.file_laws.specs.Changed.{after_change}
 use Rattle.file_laws.specs.Slots.{Slots, slots_in}
 use Rattle.file_laws.specs.Opening.{Opens, is_seen, pages_of, sequence_of}
 use Rattle.file_laws.specs.Standing.{Stands, HoldsPart, stored_chunk}

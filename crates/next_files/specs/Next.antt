@@ -3,13 +3,13 @@ use Rattle.std.specs.Prelude.{ℕ, if◌then◌else◌, List, [], ◌∷◌, ◌
 use Rattle.std.specs.List.{count_by}
 use Rattle.array_rows.specs.Boxes.{by_pairs}
 use Rattle.chunk_map.specs.declared.directory.Directory.{Directory}
-use Rattle.logical_plan.specs.declared.names.NameEntry.{NameEntry}
+use Rattle.plan_changes.specs.NameEntry.{NameEntry}
 use Rattle.plan_changes.specs.declared.change.Change.{Change}
 use Rattle.plan_changes.specs.declared.change.Change.TheVariants.{Create, Store, Insert, Remove, RemoveVersions}
 use Rattle.plan_changes.specs.Changes.{is_named, has_array, place_of, with_absent}
-use Rattle.version_catalog.specs.declared.rules.catalog.BlobAt.{BlobAt}
-use Rattle.version_catalog.specs.Catalogs.{names_in}
-use Rattle.catalog_changes.specs.Changed.{after_change}
+use Rattle.file_laws.specs.BlobAt.{BlobAt}
+use Rattle.file_laws.specs.Catalogs.{names_in}
+use Rattle.file_laws.specs.Changed.{after_change}
 use Rattle.file_laws.specs.Found.{Found}
 
 -- the directory of a new version, and where it lies

@@ -4,21 +4,21 @@ use Rattle.std.specs.Prelude.{List, [], ◌∷◌, ◌++◌, length, slice_index
 use Rattle.std.specs.List.{AllByRecursion, filter, flat_map}
 use Rattle.cell_values.specs.declared.datum.Row.{Row}
 use Rattle.cell_values.specs.declared.schema.Schema.{Schema}
-use Rattle.array_geom.specs.Geometry.{ChunkNumber, has_core}
-use Rattle.array_geom.specs.Link.{is_listed, has_cell}
+use Rattle.chunk_map.specs.Geometry.{ChunkNumber, has_core}
+use Rattle.chunk_map.specs.Link.{is_listed, has_cell}
 use Rattle.page_layout.specs.Places.{IsNone, KeepsPages}
 use Rattle.page_layout.specs.declared.logs.RecordAt.{RecordAt}
 use Rattle.page_layout.specs.declared.roots.Root.{Root}
 use Rattle.page_layout.specs.declared.sides.Side.{Side}
 use Rattle.page_layout.specs.declared.sides.Format.TheVariants.{Two}
-use Rattle.page_chain.specs.Pages.{page_size, pages_for, first_past, HoldsBlob}
-use Rattle.page_chain.specs.Chains.{content_size, HoldsChain}
-use Rattle.page_chain.specs.Links.{AreFree}
+use Rattle.file_laws.specs.Pages.{page_size, pages_for, first_past, HoldsBlob}
+use Rattle.file_laws.specs.Chains.{content_size, HoldsChain}
+use Rattle.file_laws.specs.Links.{AreFree}
 use Rattle.chunk_map.specs.declared.directory.DirEntry.{DirEntry}
 use Rattle.chunk_map.specs.declared.directory.Directory.{Directory}
 use Rattle.chunk_map.specs.Entries.{numbers}
 use Rattle.chunk_map.specs.Spelling.{IsDirectory, spelling}
-use Rattle.logical_plan.specs.declared.names.NameEntry.{NameEntry}
+use Rattle.plan_changes.specs.NameEntry.{NameEntry}
 use Rattle.plan_changes.specs.declared.change.Change.{Change}
 use Rattle.plan_changes.specs.declared.change.Change.TheVariants.{Store, Insert}
 use Rattle.plan_changes.specs.Changes.{is_named, name_of}
@@ -26,10 +26,10 @@ use Rattle.plan_changes.specs.Databases.{Database, names_of, new_rows, fault_of_
 use Rattle.plan_changes.specs.Kept.{StoresArray}
 use Rattle.plan_changes.specs.Stored.{HasItsNames, IsDatabase}
 use Rattle.plan_changes.specs.Typed.{IsTypedFor}
-use Rattle.version_catalog.specs.declared.rules.catalog_record.CatalogRecord.{CatalogRecord}
-use Rattle.version_catalog.specs.Catalogs.{IsCatalog, IsRecord, names_in}
-use Rattle.version_catalog.specs.Spelling.{spell_record, spelling as catalog_spelling}
-use Rattle.catalog_changes.specs.Changed.{record_for, after_change}
+use Rattle.file_laws.specs.CatalogRecord.{CatalogRecord}
+use Rattle.file_laws.specs.Catalogs.{IsCatalog, IsRecord, names_in}
+use Rattle.file_laws.specs.Spelling.{spell_record, spelling as catalog_spelling}
+use Rattle.file_laws.specs.Changed.{record_for, after_change}
 use Rattle.file_laws.specs.Slots.{Slots}
 use Rattle.file_laws.specs.Opening.{is_seen, found_in, pages_of, sequence_of}
 use Rattle.file_laws.specs.Standing.{HoldsPart, HoldsDatabase}

@@ -1,5 +1,6 @@
 -- Pages of a file, and blobs, which lie in listed pages. A page is named by its number, from 0.
-use Rattle.std.specs.Prelude.{◌≡◌, ◌≢◌, ℕ, ◌+◌, ◌-◌, ◌*◌, ◌<◌, List, ◌++◌, length, take, drop, replicate, slice_index, find, flat_map, Bool, not, nat_le, Option, Some, None, Result, Ok, Err}
+use Rattle.std.specs.Prelude.{◌≡◌, ◌≢◌, ℕ, ◌+◌, ◌-◌, ◌*◌, ◌<◌, List, ◌++◌, length, take, drop, replicate}
+use Rattle.std.specs.Prelude.{slice_index, find, flat_map, Bool, not, nat_le, Option, Some, None, Result, Ok, Err}
 use Rattle.std.specs.Int.{div_ceil}
 use Rattle.page_chain.specs.declared.fault.BlobFault.{BlobFault}
 use Rattle.page_chain.specs.declared.fault.BlobFault.TheVariants.{Disk, Damaged, Memory}

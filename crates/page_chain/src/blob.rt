@@ -50,7 +50,8 @@ pub fn read_blob<D: Disk>(
 pub fn write_blob<D: Disk>(disk: &mut D, pages: &[u32], bytes: &[u8]) -> Result<(), Failed>
     requires distinct { AreDistinct pages.now }
     requires pages { length pages.now ≡ pages_for page_size (length bytes.now) }
-    ensures seen { Sees (D.moment disk.old).state (D.moment disk.new).state (λ seen now. KeepsPages pages.now seen now × OnOk result (HoldsBlob page_size now pages.now bytes.now)) }
+    ensures seen { Sees (D.moment disk.old).state (D.moment disk.new).state
+        (λ seen now. KeepsPages pages.now seen now × OnOk result (HoldsBlob page_size now pages.now bytes.now)) }
     ensures cause { FailsWithCause result (D.moment disk.old) (D.moment disk.new) }
     ensures writes { OnlyWrites pages.now (D.moment disk.old) (D.moment disk.new) }
 {

@@ -85,7 +85,8 @@ fn follow<D: Disk>(
     piece: &mut [u8],
 ) -> Result<u32, OpenCause>
     requires { length piece.old ≡ page_size }
-    ensures exact { IfSome (D.moment disk.old).state.seen (λ seen. (taken : List ℕ) → used.old ≡ from_list taken → IsFollowed seen taken link.holder link.page used.new piece.new result) }
+    ensures exact { IfSome (D.moment disk.old).state.seen (λ seen. (taken : List ℕ) → used.old ≡ from_list taken
+        → IsFollowed seen taken link.holder link.page used.new piece.new result) }
     ensures fault { IsErrOf result OpenCause.Disk → Rose (D.moment disk.old).state.faults (D.moment disk.new).state.faults }
     ensures reads { OnlyReads (D.moment disk.old) (D.moment disk.new) }
 {
@@ -119,7 +120,8 @@ fn link_in(piece: &[u8]) -> u32
 pub fn write_chain<D: Disk>(disk: &mut D, pages: &[u32], bytes: &[u8]) -> Result<(), Failed>
     requires distinct { AreDistinct pages.now }
     requires pages { length pages.now ≡ pages_for (content_size page_size) (length bytes.now) }
-    ensures seen { Sees (D.moment disk.old).state (D.moment disk.new).state (λ seen now. KeepsPages pages.now seen now × OnOk result (HoldsChain page_size now pages.now bytes.now)) }
+    ensures seen { Sees (D.moment disk.old).state (D.moment disk.new).state
+        (λ seen now. KeepsPages pages.now seen now × OnOk result (HoldsChain page_size now pages.now bytes.now)) }
     ensures cause { FailsWithCause result (D.moment disk.old) (D.moment disk.new) }
     ensures writes { OnlyWrites pages.now (D.moment disk.old) (D.moment disk.new) }
 {

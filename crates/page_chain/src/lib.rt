@@ -11,6 +11,7 @@ mod taken;
 mod written;
 
 pub use blob::{blob_pages, read_blob, write_blob};
+pub use cell_values::{Bytes, List};
 pub use chain::{Link, chain_pages, read_chain, write_chain};
 pub use fault::{BlobFault, OpenCause};
 pub use run::writes_follow;

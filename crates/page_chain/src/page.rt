@@ -32,7 +32,8 @@ pub(crate) fn read_page<D: Disk>(disk: &mut D, page: u32, piece: &mut [u8]) -> R
 /// Writes a page.
 pub(crate) fn write_page<D: Disk>(disk: &mut D, page: u32, piece: &[u8]) -> Result<(), Failed>
     requires { length piece.now ≡ page_size }
-    ensures seen { Sees (D.moment disk.old).state (D.moment disk.new).state (λ seen now. KeepsPages (page ∷ []) seen now × OnOk result (page_at page_size now page ≡ piece.now)) }
+    ensures seen { Sees (D.moment disk.old).state (D.moment disk.new).state
+        (λ seen now. KeepsPages (page ∷ []) seen now × OnOk result (page_at page_size now page ≡ piece.now)) }
     ensures cause { FailsWithCause result (D.moment disk.old) (D.moment disk.new) }
     ensures writes { OnlyWrites (page ∷ []) (D.moment disk.old) (D.moment disk.new) }
 {

@@ -7,6 +7,7 @@ use afl_outside::Disk;
 
 /// Writes of some pages, and then of others, are writes of both.
 pub fn writes_follow<D: Disk>()
-    ensures { (first second : List ℕ) (old between new : D) → OnlyWrites first (D.moment old) (D.moment between) → OnlyWrites second (D.moment between) (D.moment new)
+    ensures { (first second : List ℕ) (old between new : D) → OnlyWrites first (D.moment old) (D.moment between)
+        → OnlyWrites second (D.moment between) (D.moment new)
         → OnlyWrites (first ++ second) (D.moment old) (D.moment new) }
 {}

@@ -8,12 +8,14 @@ ghost use Rattle.page_chain.specs.Links.{AreLinked, AreFree};
 
 /// Following the links of a chain gives just the pages that are linked.
 pub fn chain_is_its_links()
-    ensures { (file taken pages : List ℕ) (holder link count : ℕ) → (chain page_size file taken holder link count ≡ Ok pages) ↔ AreLinked file taken link count pages }
+    ensures { (file taken pages : List ℕ) (holder link count : ℕ)
+        → (chain page_size file taken holder link count ≡ Ok pages) ↔ AreLinked file taken link count pages }
 {}
 
 /// What is written as a chain is read again, from whatever page its first link stands in.
 pub fn written_chain_is_read()
-    ensures { (file taken pages bytes : List ℕ) (holder : ℕ) → HoldsChain page_size file pages bytes → AreFree taken pages → 0 < length bytes → length pages ≡ pages_for (content_size page_size) (length bytes)
+    ensures { (file taken pages bytes : List ℕ) (holder : ℕ) → HoldsChain page_size file pages bytes → AreFree taken pages
+        → 0 < length bytes → length pages ≡ pages_for (content_size page_size) (length bytes)
         → (chain page_size file taken holder (slice_index pages 0) (length bytes) ≡ Ok pages) × (chain_bytes page_size file pages (length bytes) ≡ bytes) }
 {}
 
@@ -25,7 +27,8 @@ pub fn written_blob_is_read()
 
 /// Writes to other pages leave a chain as it was.
 pub fn chain_stays()
-    ensures { (written old new taken pages : List ℕ) (holder link count : ℕ) → KeepsPages written old new → ((k : ℕ) → k < length pages → IsNone written (slice_index pages k))
+    ensures { (written old new taken pages : List ℕ) (holder link count : ℕ) → KeepsPages written old new
+        → ((k : ℕ) → k < length pages → IsNone written (slice_index pages k))
         → chain page_size old taken holder link count ≡ Ok pages
         → (chain page_size new taken holder link count ≡ Ok pages) × (chain_bytes page_size new pages count ≡ chain_bytes page_size old pages count) }
 {}

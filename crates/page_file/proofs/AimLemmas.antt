@@ -1,6 +1,6 @@
 -- Another target keeps the slots sound.
 use Rattle.std.proofs.Common.{◌≡◌, ℕ, List, false, None, IfSome}
-use Rattle.page_layout.specs.Places.{other, SameBut}
+use Rattle.page_slots.specs.Places.{other, SameBut}
 use Rattle.page_slots.specs.Standing.{ZeroHolds, IsAlone, IsSound, filled_gate, entry_gate}
 use Rattle.page_slots.specs.Steps.{aimed}
 use Rattle.page_slots.specs.declared.slots.Slots.{Slots}

@@ -1,9 +1,9 @@
 -- Nothing that was written for the target counts: what is known stays true.
 use Rattle.std.proofs.Common.{◌≡◌, ℕ, ◌+◌, ◌*◌, List, length, IfSome, refl}
-use Rattle.page_layout.specs.declared.sides.Side.{Side}
-use Rattle.page_layout.specs.declared.sides.Format.{Format}
-use Rattle.page_layout.specs.declared.sides.Format.TheVariants.{One, Two}
-use Rattle.page_layout.specs.declared.logs.RecordAt.{RecordAt}
+use Rattle.page_slots.specs.Side.{Side}
+use Rattle.page_slots.specs.Format.{Format}
+use Rattle.page_slots.specs.Format.TheVariants.{One, Two}
+use Rattle.page_slots.specs.RecordAt.{RecordAt}
 use Rattle.page_slots.specs.Standing.{OtherHolds, NextHolds, LogHolds, IsStillRoot, IsStillEntry, filled_root, filled_entry}
 use Rattle.page_slots.specs.Steps.{emptied_root, emptied_entry}
 use Rattle.page_slots.specs.declared.slots.RootSlot.{RootSlot}

@@ -7,14 +7,14 @@ use Rattle.std.proofs.lemmas.List.{get_or_append_left, get_or-append_right, get_
 use Rattle.std.proofs.lemmas.Grind.{same_number_lists}
 use Rattle.std.proofs.lemmas.Bool.{cases_lt}
 use Rattle.std.proofs.lemmas.Bool.Decides.{nat_tests}
-use Rattle.afl_outside.specs.Disk.{written}
-use Rattle.afl_outside.specs.Lemmas.TornLaws.{Torn-written}
-use Rattle.page_layout.specs.Places.{number_at, SameBut}
-use Rattle.page_layout.specs.Roots.{has_front, text_number, root_at, slot_in, current}
-use Rattle.page_layout.specs.declared.sides.Side.TheVariants.{A, B}
-use Rattle.page_layout.specs.declared.sides.Format.TheVariants.{Two}
-use Rattle.page_layout.specs.declared.roots.Root.{Root}
-use Rattle.page_layout.proofs.Kept.{number_kept, root_moved}
+use Rattle.page_slots.specs.Disk.{written}
+use Rattle.page_slots.specs.TornLaws.{Torn-written}
+use Rattle.page_slots.specs.Places.{number_at, SameBut}
+use Rattle.page_slots.specs.Roots.{has_front, text_number, root_at, slot_in, current}
+use Rattle.page_slots.specs.Side.TheVariants.{A, B}
+use Rattle.page_slots.specs.Format.TheVariants.{Two}
+use Rattle.page_slots.specs.Root.{Root}
+use Rattle.page_slots.proofs.Kept.{number_kept, root_moved}
 use Rattle.page_chain.specs.Pages.{page_at, has_page}
 use Rattle.page_chain.specs.Chains.{chain, chain_bytes, after, next_of}
 use Rattle.page_chain.proofs.Kept.{size_is}

@@ -1,11 +1,11 @@
 -- What was read is what is known.
 use Rattle.std.proofs.Common.{ℕ, List, length, Option, None, refl, sym, subst, arith}
-use Rattle.afl_outside.specs.Disk.{Only}
-use Rattle.page_layout.specs.Places.{other}
-use Rattle.page_layout.specs.Opens.{HasLog, OpensAs}
-use Rattle.page_layout.specs.declared.sides.Format.{Format}
-use Rattle.page_layout.specs.declared.sides.Format.TheVariants.{One, Two}
-use Rattle.page_layout.specs.declared.logs.RecordAt.{RecordAt}
+use Rattle.page_slots.specs.Disk.{Only}
+use Rattle.page_slots.specs.Places.{other}
+use Rattle.page_slots.specs.Opens.{HasLog, OpensAs}
+use Rattle.page_slots.specs.Format.{Format}
+use Rattle.page_slots.specs.Format.TheVariants.{One, Two}
+use Rattle.page_slots.specs.RecordAt.{RecordAt}
 use Rattle.page_slots.specs.Standing.{OtherHolds, LogHolds, Holds, ZeroHolds, IsAlone, IsStillRoot, IsStillEntry, IsSound, filled_gate}
 use Rattle.page_slots.specs.declared.slots.Slots.{Slots}
 use Rattle.page_slots.specs.declared.slots.RootSlot.{RootSlot}

@@ -1,12 +1,12 @@
 -- A page that was written stands there after the log entry was.
 use Rattle.std.proofs.Common.{◌≡◌, ◌≢◌, ◌<◌, ◌≤◌, ℕ, zero, suc, ◌+◌, Bool, List, [], ◌∷◌, length, slice_index, IsTrue, Option, Some, None, IfSome, sym, ◌∙◌, ap, subst, arith}
-use Rattle.afl_outside.proofs.Moments.{seeing, telling}
-use Rattle.afl_outside.specs.Disk.{DiskState, DiskGoesOn, Torn, Only}
-use Rattle.page_layout.specs.Places.{gate_of, body_of, IsNone, KeepsPages, IsPage}
-use Rattle.page_layout.specs.declared.sides.Side.{Side}
-use Rattle.page_layout.specs.declared.sides.Side.TheVariants.{A, B}
-use Rattle.page_layout.specs.declared.roots.Root.{Root}
-use Rattle.page_layout.specs.declared.sides.Format.TheVariants.{Two}
+use Rattle.page_slots.proofs.Moments.{seeing, telling}
+use Rattle.page_slots.specs.Disk.{DiskState, DiskGoesOn, Torn, Only}
+use Rattle.page_slots.specs.Places.{gate_of, body_of, IsNone, KeepsPages, IsPage}
+use Rattle.page_slots.specs.Side.{Side}
+use Rattle.page_slots.specs.Side.TheVariants.{A, B}
+use Rattle.page_slots.specs.Root.{Root}
+use Rattle.page_slots.specs.Format.TheVariants.{Two}
 use Rattle.page_chain.specs.Pages.{page_size}
 use Rattle.page_chain.specs.Chains.{HoldsChain}
 use Rattle.page_chain.specs.Inner.Runs.{Sees}

@@ -1,3 +1,8 @@
+pub use Rattle.page_chain.proofs.LinkLaws
+pub use Rattle.page_chain.proofs.PageLaws
+pub use Rattle.page_chain.proofs.TakenPages
+pub use Rattle.page_slots.proofs.Lies
+pub use Rattle.page_slots.proofs.Settling
 pub mod AimLemmas
 pub mod Emptied
 pub mod First

@@ -1,6 +1,6 @@
 -- A disk that was only read leaves the slots sound.
 use Rattle.std.proofs.Common.{ℕ, List, Option, Some, None, IfSome}
-use Rattle.page_layout.specs.Places.{SameBut}
+use Rattle.page_slots.specs.Places.{SameBut}
 use Rattle.page_slots.specs.Standing.{IsSound, filled_gate}
 use Rattle.page_slots.specs.declared.slots.Slots.{Slots}
 

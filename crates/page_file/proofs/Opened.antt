@@ -1,13 +1,13 @@
 -- A slot that was opened, or may be open.
 use Rattle.std.proofs.Common.{◌≡◌, ◌⊎◌, inl, inr, ⊎_elim, ℕ, true, false, List, [], ◌∷◌, ◌++◌, IsTrue, Option, Some, None, IfSome, ◌∙◌, ap, subst}
-use Rattle.afl_outside.proofs.Moments.{seeing}
-use Rattle.afl_outside.specs.Disk.{DiskState, Follows, Torn}
-use Rattle.page_layout.specs.Places.{other}
-use Rattle.page_layout.specs.Opens.{OpensAs}
-use Rattle.page_layout.specs.declared.sides.Format.TheVariants.{Two}
-use Rattle.page_layout.specs.declared.roots.Root.{Root}
-use Rattle.page_layout.specs.declared.roots.OpenRoot.{OpenRoot}
-use Rattle.page_layout.specs.declared.logs.RecordAt.{RecordAt}
+use Rattle.page_slots.proofs.Moments.{seeing}
+use Rattle.page_slots.specs.Disk.{DiskState, Follows, Torn}
+use Rattle.page_slots.specs.Places.{other}
+use Rattle.page_slots.specs.Opens.{OpensAs}
+use Rattle.page_slots.specs.Format.TheVariants.{Two}
+use Rattle.page_slots.specs.Root.{Root}
+use Rattle.page_slots.specs.OpenRoot.{OpenRoot}
+use Rattle.page_slots.specs.RecordAt.{RecordAt}
 use Rattle.page_chain.specs.Pages.{page_size}
 use Rattle.page_chain.specs.Chains.{HoldsChain}
 use Rattle.page_slots.specs.Standing.{root_in, Holds, IsSound, IsStillRoot, IsStillEntry, KeepsSound, MayOpen, OpensAsRoot}

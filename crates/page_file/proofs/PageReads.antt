@@ -3,8 +3,8 @@ use Rattle.std.proofs.Common.{◌≡◌, inr, ⊎_elim, ℕ, ◌+◌, ◌*◌, L
 use Rattle.std.proofs.lemmas.List.{get_or-take, get_or-drop}
 use Rattle.std.proofs.lemmas.Bool.{cases_eq}
 use Rattle.std.proofs.lemmas.Bool.Decides.{nat_tests}
-use Rattle.afl_outside.proofs.Moments.{moment_at}
-use Rattle.afl_outside.specs.Disk.{ReadsAt, DiskState}
+use Rattle.page_slots.proofs.Moments.{moment_at}
+use Rattle.page_slots.specs.Disk.{ReadsAt, DiskState}
 use Rattle.page_slots.specs.Puts.{OnlySyncs}
 use Rattle.page_slots.proofs.PutLemmas.{goes_twice, if_some}
 use Rattle.page_file.specs.OpeningOpened.{HasPage, CutsPage}

@@ -1,8 +1,8 @@
 -- A put within a page is a write of that page.
 use Rattle.std.proofs.Common.{◌≡◌, ◌≤◌, ℕ, ◌+◌, ◌*◌, List, [], ◌∷◌, length, Some, IfSome}
-use Rattle.afl_outside.proofs.Moments.{moment_at}
-use Rattle.afl_outside.specs.Disk.{DiskState, Torn}
-use Rattle.page_layout.specs.Places.{KeepsPages}
+use Rattle.page_slots.proofs.Moments.{moment_at}
+use Rattle.page_slots.specs.Disk.{DiskState, Torn}
+use Rattle.page_slots.specs.Places.{KeepsPages}
 use Rattle.page_chain.specs.Inner.Runs.{OnlyWrites, Sees}
 use Rattle.page_chain.specs.Inner.Runs as runs
 use Rattle.page_slots.specs.Puts.{OnlyPuts, SeesTorn}

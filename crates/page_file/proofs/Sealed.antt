@@ -1,7 +1,7 @@
 -- What was written is opened.
 use Rattle.std.proofs.Common.{◌≡◌, ℕ, Bool, List, IsTrue, Option, Some, None, IfSome, sym, subst}
-use Rattle.afl_outside.proofs.Moments.{seeing}
-use Rattle.afl_outside.specs.Disk.{DiskState, DiskGoesOn, Only}
+use Rattle.page_slots.proofs.Moments.{seeing}
+use Rattle.page_slots.specs.Disk.{DiskState, DiskGoesOn, Only}
 use Rattle.page_chain.specs.Pages.{page_size}
 use Rattle.page_chain.specs.Chains.{HoldsChain}
 use Rattle.page_slots.specs.Standing.{IsSound, KeepsSound}

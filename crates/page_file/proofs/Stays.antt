@@ -1,13 +1,13 @@
 -- Pages that aren't page 0 or the log page were written: the slots stay sound.
 use Rattle.std.proofs.Common.{◌≡◌, ◌<◌, ◌≤◌, ℕ, ◌+◌, ◌-◌, ◌*◌, true, false, List, length, slice_index, Option, Some, None, IfSome, sym, ◌∙◌, ap, subst, arith}
 use Rattle.std.proofs.lemmas.Bool.Decides.{nat_tests}
-use Rattle.afl_outside.proofs.Moments.{moment_at, seeing, stated}
-use Rattle.afl_outside.specs.Disk.{DiskState, Follows, LeavesOnly}
-use Rattle.page_layout.specs.Places.{other, IsNone, KeepsPages, SameBut}
-use Rattle.page_layout.specs.Roots.{has_front}
-use Rattle.page_layout.specs.declared.sides.Format.{Format}
-use Rattle.page_layout.specs.declared.sides.Format.TheVariants.{One, Two}
-use Rattle.page_layout.specs.declared.logs.RecordAt.{RecordAt}
+use Rattle.page_slots.proofs.Moments.{moment_at, seeing, stated}
+use Rattle.page_slots.specs.Disk.{DiskState, Follows, LeavesOnly}
+use Rattle.page_slots.specs.Places.{other, IsNone, KeepsPages, SameBut}
+use Rattle.page_slots.specs.Roots.{has_front}
+use Rattle.page_slots.specs.Format.{Format}
+use Rattle.page_slots.specs.Format.TheVariants.{One, Two}
+use Rattle.page_slots.specs.RecordAt.{RecordAt}
 use Rattle.page_chain.specs.Inner.Runs.{Over, OnlyWrites, Sees}
 use Rattle.page_slots.specs.Standing.{Holds, LogHolds, IsClosed, IsSound, IsAlone, IsStillRoot, ZeroHolds, filled_gate, entry_gate, KeepsSound, LeavesOpening, MayOpen}
 use Rattle.page_slots.specs.Steps.{emptied_root, emptied_entry, emptied}

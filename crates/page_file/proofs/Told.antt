@@ -1,17 +1,17 @@
 -- From a page that was read to the file.
 use Rattle.std.proofs.Common.{◌≡◌, ◌≢◌, ◌<◌, ◌≤◌, inl, inr, ℕ, ◌+◌, ◌*◌, List, length, slice_index, nat_le, ◌==◌, ◌&&◌, ◌||◌, if◌then◌else◌, Bool, true, false, MatchBool, Option, Some, None, IfSome, IfOk, Result, Ok, Err, refl, sym, ◌∙◌, ap, subst, arith}
 use Rattle.std.proofs.lemmas.Bool.Decides.{nat_tests}
-use Rattle.afl_outside.specs.Disk.{DiskState, Only}
-use Rattle.page_layout.specs.Places.{number_at, gate_of, body_of, other}
-use Rattle.page_layout.specs.Roots.{has_front, slot_in, newer, current, text_number}
-use Rattle.page_layout.specs.Logs.{HasStray}
-use Rattle.page_layout.specs.Opens.{OpensAs}
-use Rattle.page_layout.specs.declared.sides.Side.{Side}
-use Rattle.page_layout.specs.declared.sides.Side.TheVariants.{A, B}
-use Rattle.page_layout.specs.declared.roots.Root.{Root}
-use Rattle.page_layout.specs.declared.roots.OpenRoot.{OpenRoot}
-use Rattle.page_layout.specs.declared.logs.RecordAt.{RecordAt}
-use Rattle.page_layout.proofs.Kept.{number_kept, root_kept, log_moved}
+use Rattle.page_slots.specs.Disk.{DiskState, Only}
+use Rattle.page_slots.specs.Places.{number_at, gate_of, body_of, other}
+use Rattle.page_slots.specs.Roots.{has_front, slot_in, newer, current, text_number}
+use Rattle.page_slots.specs.Logs.{HasStray}
+use Rattle.page_slots.specs.Opens.{OpensAs}
+use Rattle.page_slots.specs.Side.{Side}
+use Rattle.page_slots.specs.Side.TheVariants.{A, B}
+use Rattle.page_slots.specs.Root.{Root}
+use Rattle.page_slots.specs.OpenRoot.{OpenRoot}
+use Rattle.page_slots.specs.RecordAt.{RecordAt}
+use Rattle.page_slots.proofs.Kept.{number_kept, root_kept, log_moved}
 use Rattle.page_slots.specs.Standing.{OtherHolds, IsSound}
 use Rattle.page_slots.specs.declared.slots.Slots.{Slots}
 use Rattle.page_slots.specs.declared.slots.RootSlot.{RootSlot}

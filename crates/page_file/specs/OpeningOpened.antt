@@ -1,14 +1,14 @@
 -- What opening a file answers.
 use Rattle.std.specs.Prelude.{◌≡◌, ℕ, ◌+◌, ◌*◌, ◌<◌, ◌≤◌, ◌⊎◌, List, length, slice_index, false, Some, None, Result, Ok, Err}
-use Rattle.afl_outside.specs.Counts.{Rose}
-use Rattle.afl_outside.specs.Disk.{DiskState}
-use Rattle.page_layout.specs.Places.{other, IsPage}
-use Rattle.page_layout.specs.Roots.{current}
-use Rattle.page_layout.specs.Logs.{IsLog, HasStray}
-use Rattle.page_layout.specs.Opens.{HasLog, OpensAs, WrongAt}
-use Rattle.page_layout.specs.declared.sides.Format.TheVariants.{Two}
-use Rattle.page_layout.specs.declared.roots.OpenRoot.{OpenRoot}
-use Rattle.page_layout.specs.declared.logs.RecordAt.{RecordAt}
+use Rattle.page_slots.specs.Counts.{Rose}
+use Rattle.page_slots.specs.Disk.{DiskState}
+use Rattle.page_slots.specs.Places.{other, IsPage}
+use Rattle.page_slots.specs.Roots.{current}
+use Rattle.page_slots.specs.Logs.{IsLog, HasStray}
+use Rattle.page_slots.specs.Opens.{HasLog, OpensAs, WrongAt}
+use Rattle.page_slots.specs.Format.TheVariants.{Two}
+use Rattle.page_slots.specs.OpenRoot.{OpenRoot}
+use Rattle.page_slots.specs.RecordAt.{RecordAt}
 use Rattle.page_slots.specs.Standing.{OtherHolds}
 use Rattle.page_slots.specs.declared.slots.RootSlot.{RootSlot}
 use Rattle.page_slots.specs.declared.slots.RootSlot.TheVariants as roots
@@ -55,7 +55,8 @@ FrontRead file (Err Memory) = Unit {0}
 abbrev pub LogRead : List ℕ → ℕ → Result (List RecordAt) OpenCause → Type 0
 LogRead file log (Ok records) = IsPage log (length file) × IsLog (4096 * log) records file
 LogRead file log (Err Disk) = Unit {0}
-LogRead file log (Err (NotDatabase page)) = ((page ≡ 0) × (¬ IsPage log (length file))) ⊎ (IsPage log (length file) × (page ≡ log) × HasStray (4096 * page) file)
+LogRead file log (Err (NotDatabase page)) = ((page ≡ 0) × (¬ IsPage log (length file)))
+    ⊎ (IsPage log (length file) × (page ≡ log) × HasStray (4096 * page) file)
 LogRead file log (Err Memory) = Unit {0}
 
 -- the records of a current slot were read, of which format 1 has none

@@ -1,11 +1,11 @@
 -- The file of an empty database.
 use Rattle.std.specs.Prelude.{◌≡◌, ◌≢◌, ℕ, ◌*◌, List, [], ◌∷◌, length, Result, Ok, Err}
-use Rattle.afl_outside.specs.Counts.{Rose}
-use Rattle.afl_outside.specs.Disk.{DiskState}
-use Rattle.page_layout.specs.Opens.{OpensAs}
-use Rattle.page_layout.specs.declared.sides.Side.TheVariants.{A}
-use Rattle.page_layout.specs.declared.sides.Format.TheVariants.{Two}
-use Rattle.page_layout.specs.declared.roots.OpenRoot.{OpenRoot}
+use Rattle.page_slots.specs.Counts.{Rose}
+use Rattle.page_slots.specs.Disk.{DiskState}
+use Rattle.page_slots.specs.Opens.{OpensAs}
+use Rattle.page_slots.specs.Side.TheVariants.{A}
+use Rattle.page_slots.specs.Format.TheVariants.{Two}
+use Rattle.page_slots.specs.OpenRoot.{OpenRoot}
 use Rattle.page_chain.specs.Pages.{page_size}
 use Rattle.page_chain.specs.Chains.{chain, chain_bytes}
 use Rattle.page_file.specs.declared.making.fault.InitFault.{InitFault}

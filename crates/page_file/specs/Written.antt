@@ -1,7 +1,7 @@
 -- What writes of pages make of the slots.
 use Rattle.std.specs.Prelude.{ℕ, nat_eq, if◌then◌else◌, List, [], ◌∷◌, Option, Some, None}
 use Rattle.std.specs.List.{list_all, list_any}
-use Rattle.page_layout.specs.Places.{IsNone}
+use Rattle.page_slots.specs.Places.{IsNone}
 use Rattle.page_chain.specs.Pages.{AreDistinct}
 use Rattle.page_slots.specs.Steps.{emptied_root, emptied_entry}
 use Rattle.page_slots.specs.declared.slots.Slots.{Slots}

@@ -1,12 +1,12 @@
 //! What a sealed commit leaves.
 
 ghost use Rattle.std.specs.Prelude.{◌≡◌, ◌≢◌, ◌<◌, ◌≤◌, ◌⊎◌, ◌+◌, ◌*◌, ◌∷◌, ◌++◌, [], ℕ, List, length, false, IsTrue, Some, IfSome, OnOk, OnErr};
-ghost use Rattle.page_layout.specs.Opens.{OpensAs};
-ghost use Rattle.page_layout.specs.Places.{other, IsNone, KeepsPages};
-ghost use Rattle.page_layout.specs.declared.sides.Format.TheVariants.{Two};
+ghost use Rattle.page_slots.specs.Opens.{OpensAs};
+ghost use Rattle.page_slots.specs.Places.{other, IsNone, KeepsPages};
+ghost use Rattle.page_slots.specs.Format.TheVariants.{Two};
 ghost use Rattle.page_slots.specs.declared.slots.RootSlot.TheVariants as roots;
 ghost use Rattle.page_slots.specs.declared.slots.NextEntry.TheVariants as entries;
-ghost use Rattle.afl_outside.specs.Disk.{DiskGoesOn, Only};
+ghost use Rattle.page_slots.specs.Disk.{DiskGoesOn, Only};
 ghost use Rattle.page_chain.specs.Pages.{page_size, pages_for};
 ghost use Rattle.page_chain.specs.Chains.{content_size, HoldsChain};
 ghost use Rattle.page_chain.specs.Inner.Runs.{OnlyWrites, Sees};
@@ -16,12 +16,12 @@ ghost use Rattle.page_slots.specs.Standing.{root_in, IsClosed, IsSound, IsTarget
 ghost use Rattle.page_slots.specs.declared.slots.Target.TheVariants as targets;
 
 use crate::files::PageFile;
-use afl_outside::{Disk, Failed};
-use page_layout::{RecordAt, Root};
+use page_slots::{Disk, Failed, RecordAt, Root};
 
 /// A write within a page that each image has, also one that was torn, is a write of that page.
 pub fn puts_are_writes<D: Disk>()
-    ensures { (page at n : ℕ) (old new : D) → 4096 * page ≤ at → at + n ≤ 4096 * (page + 1) → ((d : List ℕ) → (D.moment old).may_leave d → 4096 * (page + 1) ≤ length d) → OnlyPuts at n (D.moment old) (D.moment new)
+    ensures { (page at n : ℕ) (old new : D) → 4096 * page ≤ at → at + n ≤ 4096 * (page + 1)
+        → ((d : List ℕ) → (D.moment old).may_leave d → 4096 * (page + 1) ≤ length d) → OnlyPuts at n (D.moment old) (D.moment new)
         → OnlyWrites (page ∷ []) (D.moment old) (D.moment new) × Sees (D.moment old).state (D.moment new).state (KeepsPages (page ∷ [])) }
 {}
 
@@ -41,9 +41,12 @@ pub fn record_written<D: Disk>(
     ensures slots { OnOk result (file.new.slots ≡ record (pages_written (page ∷ []) file.old.slots) { next = entries.Written at }) }
     ensures same { DiskGoesOn (D.moment file.old.disk).state (D.moment file.new.disk).state }
     ensures sound { KeepsSound file.old.slots file.new.slots (D.moment file.old.disk) (D.moment file.new.disk) }
-    ensures holds { IsTrue (D.moment file.old.disk).state.honest → IfSome (D.moment file.old.disk).state.seen (λ seen. IsSound file.old.slots seen (D.moment file.old.disk).may_leave
-        → OnOk result ((now : List ℕ) × ((D.moment file.new.disk).state.seen ≡ Some now) × HoldsChain page_size now (page ∷ []) bytes.now × Only now (D.moment file.new.disk).may_leave)) }
-    ensures failed { IsTrue (D.moment file.old.disk).state.honest → IfSome (D.moment file.old.disk).state.seen (λ seen. IsSound file.old.slots seen (D.moment file.old.disk).may_leave
+    ensures holds { IsTrue (D.moment file.old.disk).state.honest
+        → IfSome (D.moment file.old.disk).state.seen (λ seen. IsSound file.old.slots seen (D.moment file.old.disk).may_leave
+        → OnOk result ((now : List ℕ) × ((D.moment file.new.disk).state.seen ≡ Some now)
+        × HoldsChain page_size now (page ∷ []) bytes.now × Only now (D.moment file.new.disk).may_leave)) }
+    ensures failed { IsTrue (D.moment file.old.disk).state.honest
+        → IfSome (D.moment file.old.disk).state.seen (λ seen. IsSound file.old.slots seen (D.moment file.old.disk).may_leave
         → OnErr result ((c : List ℕ) → (D.moment file.new.disk).may_leave c → OpensAs file.old.slots.current file.old.slots.records c)) }
 {
     match file.write_chain(&[page], bytes) {
@@ -63,13 +66,17 @@ pub fn record_opened<D: Disk>(file: &mut PageFile<D>, page: u32, at: RecordAt) -
     requires target { file.old.slots.target ≡ targets.Record }
     requires there { IsTarget file.old.slots }
     requires apart { file.old.slots.current.root.log ≢ page }
-    ensures done { IsTrue (D.moment file.old.disk).state.honest → IfSome (D.moment file.old.disk).state.seen (λ seen. IsSound file.old.slots seen (D.moment file.old.disk).may_leave
+    ensures done { IsTrue (D.moment file.old.disk).state.honest
+        → IfSome (D.moment file.old.disk).state.seen (λ seen. IsSound file.old.slots seen (D.moment file.old.disk).may_leave
         → (bytes : List ℕ) → ((d : List ℕ) → (D.moment file.old.disk).may_leave d → HoldsChain page_size d (page ∷ []) bytes)
-        → OnOk result ((c : List ℕ) → (D.moment file.new.disk).may_leave c → OpensAs file.old.slots.current (file.old.slots.records ++ at ∷ []) c × HoldsChain page_size c (page ∷ []) bytes)) }
-    ensures failed { IsTrue (D.moment file.old.disk).state.honest → IfSome (D.moment file.old.disk).state.seen (λ seen. IsSound file.old.slots seen (D.moment file.old.disk).may_leave
+        → OnOk result ((c : List ℕ) → (D.moment file.new.disk).may_leave c
+        → OpensAs file.old.slots.current (file.old.slots.records ++ at ∷ []) c × HoldsChain page_size c (page ∷ []) bytes)) }
+    ensures failed { IsTrue (D.moment file.old.disk).state.honest
+        → IfSome (D.moment file.old.disk).state.seen (λ seen. IsSound file.old.slots seen (D.moment file.old.disk).may_leave
         → (bytes : List ℕ) → ((d : List ℕ) → (D.moment file.old.disk).may_leave d → HoldsChain page_size d (page ∷ []) bytes)
         → OnErr result ((c : List ℕ) → (D.moment file.new.disk).may_leave c
-        → (OpensAs file.old.slots.current file.old.slots.records c ⊎ OpensAs file.old.slots.current (file.old.slots.records ++ at ∷ []) c) × HoldsChain page_size c (page ∷ []) bytes)) }
+        → (OpensAs file.old.slots.current file.old.slots.records c ⊎ OpensAs file.old.slots.current (file.old.slots.records ++ at ∷ []) c)
+        × HoldsChain page_size c (page ∷ []) bytes)) }
 {
     match file.open_slot() {
         Ok(()) => Ok(()),
@@ -90,10 +97,14 @@ pub fn record_sealed<D: Disk>(
     requires one { pages_for (content_size page_size) (length bytes.now) ≡ 1 }
     requires target { file.old.slots.target ≡ targets.Record }
     requires there { IsTarget file.old.slots }
-    ensures done { IsTrue (D.moment file.old.disk).state.honest → IfSome (D.moment file.old.disk).state.seen (λ seen. IsSound file.old.slots seen (D.moment file.old.disk).may_leave
-        → OnOk result ((c : List ℕ) → (D.moment file.new.disk).may_leave c → OpensAs file.old.slots.current (file.old.slots.records ++ at ∷ []) c × HoldsChain page_size c (page ∷ []) bytes.now)) }
-    ensures failed { IsTrue (D.moment file.old.disk).state.honest → IfSome (D.moment file.old.disk).state.seen (λ seen. IsSound file.old.slots seen (D.moment file.old.disk).may_leave
-        → OnErr result ((c : List ℕ) → (D.moment file.new.disk).may_leave c → OpensAs file.old.slots.current file.old.slots.records c ⊎ OpensAs file.old.slots.current (file.old.slots.records ++ at ∷ []) c)) }
+    ensures done { IsTrue (D.moment file.old.disk).state.honest
+        → IfSome (D.moment file.old.disk).state.seen (λ seen. IsSound file.old.slots seen (D.moment file.old.disk).may_leave
+        → OnOk result ((c : List ℕ) → (D.moment file.new.disk).may_leave c
+        → OpensAs file.old.slots.current (file.old.slots.records ++ at ∷ []) c × HoldsChain page_size c (page ∷ []) bytes.now)) }
+    ensures failed { IsTrue (D.moment file.old.disk).state.honest
+        → IfSome (D.moment file.old.disk).state.seen (λ seen. IsSound file.old.slots seen (D.moment file.old.disk).may_leave
+        → OnErr result ((c : List ℕ) → (D.moment file.new.disk).may_leave c → OpensAs file.old.slots.current file.old.slots.records c
+        ⊎ OpensAs file.old.slots.current (file.old.slots.records ++ at ∷ []) c)) }
 {
     match record_written(file, page, bytes, at) {
         Ok(()) => match record_opened(file, page, at) {
@@ -120,9 +131,12 @@ pub fn root_written<D: Disk>(
     ensures slots { OnOk result (file.new.slots ≡ record (pages_written pages.now file.old.slots) { other = roots.Written root }) }
     ensures same { DiskGoesOn (D.moment file.old.disk).state (D.moment file.new.disk).state }
     ensures sound { KeepsSound file.old.slots file.new.slots (D.moment file.old.disk) (D.moment file.new.disk) }
-    ensures holds { IsTrue (D.moment file.old.disk).state.honest → IfSome (D.moment file.old.disk).state.seen (λ seen. IsSound file.old.slots seen (D.moment file.old.disk).may_leave
-        → OnOk result ((now : List ℕ) × ((D.moment file.new.disk).state.seen ≡ Some now) × HoldsChain page_size now pages.now bytes.now × Only now (D.moment file.new.disk).may_leave)) }
-    ensures failed { IsTrue (D.moment file.old.disk).state.honest → IfSome (D.moment file.old.disk).state.seen (λ seen. IsSound file.old.slots seen (D.moment file.old.disk).may_leave
+    ensures holds { IsTrue (D.moment file.old.disk).state.honest
+        → IfSome (D.moment file.old.disk).state.seen (λ seen. IsSound file.old.slots seen (D.moment file.old.disk).may_leave
+        → OnOk result ((now : List ℕ) × ((D.moment file.new.disk).state.seen ≡ Some now)
+        × HoldsChain page_size now pages.now bytes.now × Only now (D.moment file.new.disk).may_leave)) }
+    ensures failed { IsTrue (D.moment file.old.disk).state.honest
+        → IfSome (D.moment file.old.disk).state.seen (λ seen. IsSound file.old.slots seen (D.moment file.old.disk).may_leave
         → OnErr result ((c : List ℕ) → (D.moment file.new.disk).may_leave c → OpensAs file.old.slots.current file.old.slots.records c)) }
 {
     match file.write_chain(pages, bytes) {
@@ -142,13 +156,17 @@ pub fn root_opened<D: Disk>(file: &mut PageFile<D>, pages: &[u32], root: Root) -
     requires sure { file.old.slots.doubtful ≡ false }
     requires target { file.old.slots.target ≡ targets.Root }
     requires apart { IsNone pages.now 0 }
-    ensures done { IsTrue (D.moment file.old.disk).state.honest → IfSome (D.moment file.old.disk).state.seen (λ seen. IsSound file.old.slots seen (D.moment file.old.disk).may_leave
+    ensures done { IsTrue (D.moment file.old.disk).state.honest
+        → IfSome (D.moment file.old.disk).state.seen (λ seen. IsSound file.old.slots seen (D.moment file.old.disk).may_leave
         → (bytes : List ℕ) → ((d : List ℕ) → (D.moment file.old.disk).may_leave d → HoldsChain page_size d pages.now bytes)
-        → OnOk result ((c : List ℕ) → (D.moment file.new.disk).may_leave c → OpensAs (root_in Two (other file.old.slots.current.side) root) [] c × HoldsChain page_size c pages.now bytes)) }
-    ensures failed { IsTrue (D.moment file.old.disk).state.honest → IfSome (D.moment file.old.disk).state.seen (λ seen. IsSound file.old.slots seen (D.moment file.old.disk).may_leave
+        → OnOk result ((c : List ℕ) → (D.moment file.new.disk).may_leave c
+        → OpensAs (root_in Two (other file.old.slots.current.side) root) [] c × HoldsChain page_size c pages.now bytes)) }
+    ensures failed { IsTrue (D.moment file.old.disk).state.honest
+        → IfSome (D.moment file.old.disk).state.seen (λ seen. IsSound file.old.slots seen (D.moment file.old.disk).may_leave
         → (bytes : List ℕ) → ((d : List ℕ) → (D.moment file.old.disk).may_leave d → HoldsChain page_size d pages.now bytes)
         → OnErr result ((c : List ℕ) → (D.moment file.new.disk).may_leave c
-        → (OpensAs file.old.slots.current file.old.slots.records c ⊎ OpensAsRoot (roots.Opening root) (other file.old.slots.current.side) c) × HoldsChain page_size c pages.now bytes)) }
+        → (OpensAs file.old.slots.current file.old.slots.records c ⊎ OpensAsRoot (roots.Opening root) (other file.old.slots.current.side) c)
+        × HoldsChain page_size c pages.now bytes)) }
 {
     match file.open_slot() {
         Ok(()) => Ok(()),
@@ -170,10 +188,14 @@ pub fn root_sealed<D: Disk>(
     requires target { file.old.slots.target ≡ targets.Root }
     requires newer { file.old.slots.current.root.sequence < root.sequence }
     requires zeroed { unwritten pages.now file.old.slots.zeroed ≡ Some root.log }
-    ensures done { IsTrue (D.moment file.old.disk).state.honest → IfSome (D.moment file.old.disk).state.seen (λ seen. IsSound file.old.slots seen (D.moment file.old.disk).may_leave
-        → OnOk result ((c : List ℕ) → (D.moment file.new.disk).may_leave c → OpensAs (root_in Two (other file.old.slots.current.side) root) [] c × HoldsChain page_size c pages.now bytes.now)) }
-    ensures failed { IsTrue (D.moment file.old.disk).state.honest → IfSome (D.moment file.old.disk).state.seen (λ seen. IsSound file.old.slots seen (D.moment file.old.disk).may_leave
-        → OnErr result ((c : List ℕ) → (D.moment file.new.disk).may_leave c → OpensAs file.old.slots.current file.old.slots.records c ⊎ OpensAsRoot (roots.Opening root) (other file.old.slots.current.side) c)) }
+    ensures done { IsTrue (D.moment file.old.disk).state.honest
+        → IfSome (D.moment file.old.disk).state.seen (λ seen. IsSound file.old.slots seen (D.moment file.old.disk).may_leave
+        → OnOk result ((c : List ℕ) → (D.moment file.new.disk).may_leave c
+        → OpensAs (root_in Two (other file.old.slots.current.side) root) [] c × HoldsChain page_size c pages.now bytes.now)) }
+    ensures failed { IsTrue (D.moment file.old.disk).state.honest
+        → IfSome (D.moment file.old.disk).state.seen (λ seen. IsSound file.old.slots seen (D.moment file.old.disk).may_leave
+        → OnErr result ((c : List ℕ) → (D.moment file.new.disk).may_leave c → OpensAs file.old.slots.current file.old.slots.records c
+        ⊎ OpensAsRoot (roots.Opening root) (other file.old.slots.current.side) c)) }
 {
     match root_written(file, pages, bytes, root) {
         Ok(()) => match root_opened(file, pages, root) {

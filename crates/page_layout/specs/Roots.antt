@@ -17,7 +17,12 @@ has_front file = nat_le 4096 (length file) && (number_at 8 0 file == text_number
 
 -- the root whose body begins at a place
 abbrev pub root_at : ℕ → List ℕ → Root
-root_at at file = record { sequence = number_at 8 at file; length = number_at 8 (at + 8) file; first = number_at 4 (at + 16) file; log = number_at 4 (at + 20) file }
+root_at at file = record {
+  sequence = number_at 8 at file;
+  length = number_at 8 (at + 8) file;
+  first = number_at 4 (at + 16) file;
+  log = number_at 4 (at + 20) file;
+}
 
 -- What a root slot with this gate and this body stands for: 1 is open in format 1, which has no log page, 2 is open in format 2, and
 -- any other byte is closed.

@@ -1,3 +1,5 @@
+pub use Rattle.afl_outside.proofs.Moments
+pub use Rattle.page_layout.proofs.Kept
 pub mod Bytes
 pub mod EntryCommits
 pub mod Lies

@@ -1,3 +1,16 @@
+pub use Rattle.afl_outside.specs.Counts
+pub use Rattle.afl_outside.specs.Disk
+pub use Rattle.afl_outside.specs.Lemmas.TornLaws
+pub use Rattle.page_layout.specs.Logs
+pub use Rattle.page_layout.specs.Opens
+pub use Rattle.page_layout.specs.Places
+pub use Rattle.page_layout.specs.Roots
+pub use Rattle.page_layout.specs.declared.logs.RecordAt
+pub use Rattle.page_layout.specs.declared.roots.OpenRoot
+pub use Rattle.page_layout.specs.declared.roots.Root
+pub use Rattle.page_layout.specs.declared.sides.Format
+pub use Rattle.page_layout.specs.declared.sides.Side
+pub use Rattle.page_layout.specs.declared.sides.Slot
 pub mod Puts
 pub mod Standing
 pub mod Steps

@@ -21,7 +21,8 @@ pub record OnlyPuts (at count : ℕ) (old new : Moment) : Type 0 where
 
 -- Where the call was done, an honest disk holds what was written, and a crash leaves nothing else. Else the range may be torn.
 abbrev pub Put : ℕ → List ℕ → Moment → Moment → Result (Unit {0}) Failed → Type 0
-Put at bytes old new (Ok u) = IsTrue old.state.honest → IfSome old.state.seen (λ seen. (new.state.seen ≡ Some (written at bytes seen)) × Only (written at bytes seen) new.may_leave)
+Put at bytes old new (Ok u) = IsTrue old.state.honest
+    → IfSome old.state.seen (λ seen. (new.state.seen ≡ Some (written at bytes seen)) × Only (written at bytes seen) new.may_leave)
 Put at bytes old new (Err e) = SeesTorn at (length bytes) old.state new.state
 
 -- Nothing was written.

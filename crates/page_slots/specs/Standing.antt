@@ -1,5 +1,6 @@
 -- What is known of the slots of a file, and of each image that a crash may leave of it.
-use Rattle.std.specs.Prelude.{◌≡◌, ◌≢◌, ℕ, ◌+◌, ◌*◌, ◌<◌, ◌≤◌, ◌⊎◌, List, [], ◌∷◌, ◌++◌, length, slice_index, slice_index_or, IsTrue, true, false, Option, Some, None, IfSome}
+use Rattle.std.specs.Prelude.{◌≡◌, ◌≢◌, ℕ, ◌+◌, ◌*◌, ◌<◌, ◌≤◌, ◌⊎◌, List, [], ◌∷◌, ◌++◌, length}
+use Rattle.std.specs.Prelude.{slice_index, slice_index_or, IsTrue, true, false, Option, Some, None, IfSome}
 use Rattle.afl_outside.specs.Disk.{LeavesOnly, Moment, Only}
 use Rattle.page_layout.specs.Places.{gate_of, body_of, other, IsPage, SameBut}
 use Rattle.page_layout.specs.Roots.{has_front, root_at, slot_in}

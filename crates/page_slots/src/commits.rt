@@ -3,7 +3,8 @@ ghost use Rattle.std.specs.Prelude.{◌≡◌, ◌<◌, ◌+◌, true, false, So
 ghost use Rattle.afl_outside.specs.Disk.{FailsWithCause};
 ghost use Rattle.page_layout.specs.Places.{body_of, other, gate_of};
 ghost use Rattle.page_slots.specs.Puts.{OnlyPuts, OnlySyncs};
-ghost use Rattle.page_slots.specs.Standing.{entry_gate, gate_place, IsTarget, IsShut, IsClosed, IsReady, IsShutRoot, IsShutEntry, KeepsSound, LeavesOpening, IsDurable};
+ghost use Rattle.page_slots.specs.Standing.{entry_gate, gate_place, IsTarget, IsShut, IsClosed, IsReady};
+ghost use Rattle.page_slots.specs.Standing.{IsShutRoot, IsShutEntry, KeepsSound, LeavesOpening, IsDurable};
 ghost use Rattle.page_slots.specs.Steps.{shut, doubted, with_root, with_record, with_target, ajar};
 ghost use Rattle.page_slots.specs.declared.slots.RootSlot.TheVariants as roots;
 ghost use Rattle.page_slots.specs.declared.slots.NextEntry.TheVariants as entries;
@@ -20,7 +21,8 @@ pub fn write_root<D: Disk>(slots: &mut Slots, disk: &mut D, root: Root) -> Resul
     requires sure { slots.old.doubtful ≡ false }
     requires target { slots.old.target ≡ targets.Root }
     requires newer { slots.old.current.root.sequence < root.sequence }
-    ensures slots { MatchResult result (λ _. slots.new ≡ record slots.old { other = roots.Written root }) (λ _. slots.new ≡ record slots.old { other = roots.Closed; doubtful = true }) }
+    ensures slots { MatchResult result (λ _. slots.new ≡ record slots.old { other = roots.Written root })
+        (λ _. slots.new ≡ record slots.old { other = roots.Closed; doubtful = true }) }
     ensures sound { KeepsSound slots.old slots.new (D.moment disk.old) (D.moment disk.new) }
     ensures opens { LeavesOpening slots.old (record slots.old { other = roots.Closed }) (D.moment disk.old) (D.moment disk.new) }
     ensures durable { OnOk result (IsDurable (D.moment disk.old) (D.moment disk.new)) }
@@ -47,7 +49,8 @@ pub fn write_record<D: Disk>(slots: &mut Slots, disk: &mut D, at: RecordAt) -> R
     requires sure { slots.old.doubtful ≡ false }
     requires target { slots.old.target ≡ targets.Record }
     requires there { IsTarget slots.old }
-    ensures slots { MatchResult result (λ _. slots.new ≡ record slots.old { next = entries.Written at }) (λ _. slots.new ≡ record slots.old { next = entries.Closed; doubtful = true }) }
+    ensures slots { MatchResult result (λ _. slots.new ≡ record slots.old { next = entries.Written at })
+        (λ _. slots.new ≡ record slots.old { next = entries.Closed; doubtful = true }) }
     ensures sound { KeepsSound slots.old slots.new (D.moment disk.old) (D.moment disk.new) }
     ensures opens { LeavesOpening slots.old (record slots.old { next = entries.Closed }) (D.moment disk.old) (D.moment disk.new) }
     ensures durable { OnOk result (IsDurable (D.moment disk.old) (D.moment disk.new)) }
@@ -140,7 +143,8 @@ fn open_root<D: Disk>(slots: &mut Slots, disk: &mut D, root: Root) -> Result<(),
     requires written { slots.old.other ≡ roots.Written root }
     requires zeroed { slots.old.zeroed ≡ Some root.log }
     requires target { slots.old.target ≡ targets.Root }
-    ensures slots { MatchResult result (λ _. slots.new ≡ with_root root slots.old) (λ _. slots.new ≡ record slots.old { other = roots.Opening root; doubtful = true }) }
+    ensures slots { MatchResult result (λ _. slots.new ≡ with_root root slots.old)
+        (λ _. slots.new ≡ record slots.old { other = roots.Opening root; doubtful = true }) }
     ensures sound { KeepsSound slots.old slots.new (D.moment disk.old) (D.moment disk.new) }
     ensures opens { LeavesOpening slots.old (record slots.old { other = roots.Opening root }) (D.moment disk.old) (D.moment disk.new) }
     ensures durable { OnOk result (IsDurable (D.moment disk.old) (D.moment disk.new)) }
@@ -166,7 +170,8 @@ fn open_entry<D: Disk>(slots: &mut Slots, disk: &mut D, at: RecordAt) -> Result<
     requires sure { slots.old.doubtful ≡ false }
     requires target { slots.old.target ≡ targets.Record }
     requires there { IsTarget slots.old }
-    ensures slots { MatchResult result (λ _. slots.new ≡ with_record at slots.old) (λ _. slots.new ≡ record slots.old { next = entries.Opening at; doubtful = true }) }
+    ensures slots { MatchResult result (λ _. slots.new ≡ with_record at slots.old)
+        (λ _. slots.new ≡ record slots.old { next = entries.Opening at; doubtful = true }) }
     ensures sound { KeepsSound slots.old slots.new (D.moment disk.old) (D.moment disk.new) }
     ensures opens { LeavesOpening slots.old (record slots.old { next = entries.Opening at }) (D.moment disk.old) (D.moment disk.new) }
     ensures durable { OnOk result (IsDurable (D.moment disk.old) (D.moment disk.new)) }

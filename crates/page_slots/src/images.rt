@@ -22,7 +22,8 @@ pub fn images_open<D: Disk>(slots: &Slots, disk: &D)
 /// Where no slot is doubtful, whatever a crash leaves now opens as the current root with the records of the log.
 pub fn images_open_as_current<D: Disk>(slots: &Slots, disk: &D)
     requires { slots.now.doubtful ≡ false }
-    ensures { (seen image : List ℕ) → IsSound slots.now seen (D.moment disk.now).may_leave → (D.moment disk.now).may_leave image → OpensAs slots.now.current slots.now.records image }
+    ensures { (seen image : List ℕ) → IsSound slots.now seen (D.moment disk.now).may_leave
+        → (D.moment disk.now).may_leave image → OpensAs slots.now.current slots.now.records image }
 {}
 
 /// The gate and the body of the target lie in page 0 or in the log page, which each image has.

@@ -6,5 +6,6 @@ ghost use Rattle.page_layout.specs.Places.{KeepsPages};
 
 /// A write within a page that the file has, also one that a crash cuts short, leaves the other pages.
 pub fn puts_keep_pages()
-    ensures { (page at n : ℕ) (old new : List ℕ) → 4096 * page ≤ at → at + n ≤ 4096 * (page + 1) → 4096 * (page + 1) ≤ length old → Torn at n old new → KeepsPages (page ∷ []) old new }
+    ensures { (page at n : ℕ) (old new : List ℕ) → 4096 * page ≤ at → at + n ≤ 4096 * (page + 1)
+        → 4096 * (page + 1) ≤ length old → Torn at n old new → KeepsPages (page ∷ []) old new }
 {}

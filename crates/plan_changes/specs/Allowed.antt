@@ -20,7 +20,8 @@ has_number name entry = not (is_named name entry) || nat_lt entry.next 65536
 -- inserted in one that stands. What stands is removed, or its versions below a number from 1 to the newest
 abbrev pub names_allow : Names → Change → Bool
 names_allow names (Create name schema) = is_valid schema && (has_room names.arrays && not (has_array names.arrays name))
-names_allow names (Store name schema plan) = is_valid schema && ((has_array names.arrays name || has_room names.arrays) && list_all (has_number name) names.arrays)
+names_allow names (Store name schema plan) = is_valid schema
+    && ((has_array names.arrays name || has_room names.arrays) && list_all (has_number name) names.arrays)
 names_allow names (Insert name schema plan) = has_array names.arrays name && list_all (has_number name) names.arrays
 names_allow names (Remove name) = has_array names.arrays name
 names_allow names (RemoveVersions name below) = has_array names.arrays name && (nat_le 1 below && nat_le below (newest_of names.arrays name))

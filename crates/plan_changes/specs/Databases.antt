@@ -106,7 +106,8 @@ has_stored db name = list_any (is_array name) db
 
 -- one more array without versions, in its place by name
 abbrev pub with_stored : List ℕ → Schema → Database → Database
-with_stored name schema db = insert db (prefix_len (λ a. is_lt (slice_cmp nat_cmp a.name name)) db) (record { name = name; schema = schema; next = 1; versions = [] })
+with_stored name schema db = insert db (prefix_len (λ a. is_lt (slice_cmp nat_cmp a.name name)) db)
+    (record { name = name; schema = schema; next = 1; versions = [] })
 
 abbrev pub with_absent_stored : List ℕ → Schema → Database → Database
 with_absent_stored name schema db = if has_stored db name then db else with_stored name schema db

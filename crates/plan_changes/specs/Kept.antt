@@ -24,4 +24,5 @@ StoresArray db (RemoveVersions name below) = Unit {0}
 
 -- a typed change without fault leaves a database
 abbrev pub ChangesKeepDatabases : Type 0
-ChangesKeepDatabases = (db : Database) (change : Change) → IsDatabase db → HasItsNames change → IsTypedFor (names_of db) change → StoresArray db change → fault_of_change db change ≡ None → IsDatabase (after db change)
+ChangesKeepDatabases = (db : Database) (change : Change) → IsDatabase db → HasItsNames change → IsTypedFor (names_of db) change
+    → StoresArray db change → fault_of_change db change ≡ None → IsDatabase (after db change)

@@ -1,5 +1,7 @@
+pub use Rattle.expr_nulls.specs.Expr
 pub use Rattle.logical_plan.specs.Lemmas.QueryCode
 pub use Rattle.logical_plan.specs.Query
+pub use Rattle.logical_plan.specs.Typing
 pub use Rattle.logical_plan.specs.declared.names.NameEntry
 pub use Rattle.logical_plan.specs.declared.names.Names
 pub mod Allowed

@@ -64,4 +64,5 @@ HasItsNames (RemoveVersions name below) = IsName name
 
 -- a change that they allow leaves such names
 abbrev pub ChangesKeepNames : Type 0
-ChangesKeepNames = (names : Names) (change : Change) → AreStored names → HasItsNames change → IsTrue (names_allow names change) → AreStored (names_after names change)
+ChangesKeepNames = (names : Names) (change : Change) → AreStored names → HasItsNames change
+    → IsTrue (names_allow names change) → AreStored (names_after names change)

@@ -29,7 +29,8 @@ are_alike a b = same_kinds a.attributes b.attributes && same_bounds a.dimensions
 -- a leaf is a version of the array, or none where the array has no version
 abbrev pub IsVersionOf : Leaf → Option NameEntry → Type 0
 IsVersionOf leaf None = ⊥
-IsVersionOf leaf (Some entry) = (leaf.schema ≡ entry.schema) × (IsTrue (list_any (λ v. nat_eq v leaf.version) entry.versions) ⊎ ((leaf.version ≡ 0) × (entry.versions ≡ [])))
+IsVersionOf leaf (Some entry) = (leaf.schema ≡ entry.schema)
+    × (IsTrue (list_any (λ v. nat_eq v leaf.version) entry.versions) ⊎ ((leaf.version ≡ 0) × (entry.versions ≡ [])))
 
 -- a typed plan that reads versions that stand
 pub record IsTypedOver (names : Names) (plan : Query) : Type 0 where

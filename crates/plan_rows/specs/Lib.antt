@@ -1,3 +1,4 @@
+pub use Rattle.chunk_exec.specs.Computed
 pub mod Found
 pub mod Held
 pub mod Least

@@ -2,7 +2,7 @@
 ghost use Rattle.std.specs.Prelude.{◌≡◌, ◌++◌, ◌∷◌, ◌==◌, [], ◌-ℤ◌, if◌then◌else◌, map, IfOk, OnOk};
 ghost use Rattle.std.specs.Int.{w64, saturate_signed, int_min, int_max};
 ghost use Rattle.std.specs.List.{list_any};
-ghost use Rattle.array_rows.specs.Boxes.{by_pairs};
+ghost use Rattle.logical_plan.specs.Boxes.{by_pairs};
 ghost use Rattle.logical_plan.specs.BoxOps.{items_but, fixed_places};
 ghost use Rattle.logical_plan.specs.Groups.{block};
 ghost use Rattle.logical_plan.specs.PlanSchema.{from_zero, subarray_dimensions, in_blocks, without_overlap, one_place, group_dimensions};

@@ -1,7 +1,8 @@
 //! The schema of a plan.
 ghost use Rattle.std.specs.Prelude.{◌≡◌, IfOk};
 ghost use Rattle.logical_plan.specs.Meaning.{Database, meaning};
-ghost use Rattle.logical_plan.specs.PlanSchema.{apply_schema, project_schema, subarray_schema, slice_schema, regrid_schema, window_schema, aggregate_schema, schema_of as query_schema};
+ghost use Rattle.logical_plan.specs.PlanSchema.{apply_schema, project_schema, subarray_schema, slice_schema};
+ghost use Rattle.logical_plan.specs.PlanSchema.{regrid_schema, window_schema, aggregate_schema, schema_of as query_schema};
 
 use crate::attributes::{attributes_of_aggregates, derived_attribute};
 use crate::dimensions::{dimensions_of_groups, free_dimensions, push_blocks, push_parts};

@@ -5,3 +5,4 @@ pub use Rattle.store_state.proofs.Finds
 pub use Rattle.store_state.proofs.KeptOn
 pub use Rattle.store_state.proofs.Lists
 pub use Rattle.store_state.proofs.Places
+pub use Rattle.store_state.proofs.Sights

@@ -9,7 +9,7 @@ use Rattle.plan_changes.specs.Changes.{name_of, newest_of}
 use Rattle.version_catalog.specs.declared.rules.catalog.Catalog.{Catalog}
 use Rattle.event_core.specs.Bases.{sequence_at}
 use Rattle.event_core.specs.History.{catalogue_at, names_at}
-use Rattle.store_ledger.specs.Ledger.{history}
+use Rattle.store_state.specs.Ledger.{history}
 use Rattle.store_versions.specs.Versions.{directory_of}
 use Rattle.store_state.specs.Laid.{Laid}
 use Rattle.store_state.specs.Written.{Written}

@@ -21,7 +21,7 @@ use Rattle.event_core.specs.Legal.{has_committed}
 use Rattle.event_core.specs.Pages.{free_at, fresh_at}
 use Rattle.event_core.specs.Ready.{IsReadyOver}
 use Rattle.event_core.specs.Replay.{core_at}
-use Rattle.store_ledger.specs.Ledger.{has_room, history, is_noted, is_tried}
+use Rattle.store_state.specs.Ledger.{has_room, history, is_noted, is_tried}
 use Rattle.store_versions.specs.Rows.{IsReadyFor}
 use Rattle.store_state.specs.Costs.{cost_from}
 use Rattle.commit_writes.specs.Commits.{IsBlobSized, IsChainSized}

@@ -6,4 +6,7 @@ mod prepared;
 
 pub use fault::PrepareFault;
 pub use prepared::{NewBase, Prepared};
-pub use store_state::{StoreParts, a_store_is_kept};
+pub use store_state::{
+    Laid, ReadFault, StoreParts, Written, a_store_is_kept, lay_base, lay_record, needed_for_base,
+    needed_for_record,
+};

@@ -2,7 +2,7 @@
 
 use cell_values::List;
 use commit_writes::Placed;
-use store_ledger::ReadyCommit;
+use store_state::ReadyCommit;
 use store_versions::ReadyVersion;
 use version_catalog::Catalog;
 

@@ -23,12 +23,12 @@ use Rattle.event_core.specs.Bases.{records_at}
 use Rattle.event_core.specs.Cells.{at}
 use Rattle.event_core.specs.History.{History, names_at}
 use Rattle.file_meaning.specs.declared.found.Found.{Found}
-use Rattle.next_files.specs.Premises.{StandsBy, row_of}
+use Rattle.found_rows.specs.Premises.{StandsBy, row_of}
 use Rattle.commit_costs.specs.Costs.{cost_from, has_log_room}
 use Rattle.commit_pages.specs.Changes.{ComesWith}
 use Rattle.commit_pages.specs.Versions.{draft_of}
 use Rattle.commit_pages.specs.Laws.{IsOver, RecordsCostTheirPages, BasesCostTheirPages}
-use Rattle.laid_commits.specs.Premises.{IsNewestIn, last_of_row, newest_in}
+use Rattle.found_costs.specs.Premises.{IsNewestIn, last_of_row, newest_in}
 use Rattle.found_costs.specs.Laws.{FoundFilesAreOver}
 use Rattle.found_rows.specs.Laws.{NewestAreLast, StandInOrder}
 use Rattle.found_rows.specs.Rows.{AreInOrder, directories_in}

@@ -1,2 +1,3 @@
+pub use Rattle.found_rows.proofs.Cores
 pub mod Costs
 pub mod Newest

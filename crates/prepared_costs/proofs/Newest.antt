@@ -22,9 +22,9 @@ use Rattle.event_core.specs.Agree.{can_name}
 use Rattle.event_core.specs.History.{is_pages_of}
 use Rattle.event_core.specs.Pages.{is_newest}
 use Rattle.event_core.proofs.Tests.{any_weaker}
-use Rattle.file_laws.proofs.Parts.{front_all, rest_all}
-use Rattle.next_files.specs.Premises.{row_of}
-use Rattle.laid_commits.specs.Premises.{last_of_row}
+use Rattle.found_costs.proofs.Parts.{front_all, rest_all}
+use Rattle.found_rows.specs.Premises.{row_of}
+use Rattle.found_costs.specs.Premises.{last_of_row}
 use Rattle.store_versions.specs.Versions.{HaveDirectories, MadeVersion, directory_of, is_numbered, is_of}
 use Rattle.found_rows.specs.Laws.{NewestAreLast, StandInOrder}
 use Rattle.found_rows.specs.Rows.{directories_in}

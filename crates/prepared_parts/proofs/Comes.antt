@@ -6,10 +6,10 @@ use Rattle.page_slots.specs.declared.slots.Target.{Target}
 use Rattle.page_slots.specs.declared.slots.Target.TheVariants.{Root, Record}
 use Rattle.plan_changes.specs.declared.change.Change.{Change}
 use Rattle.version_catalog.specs.declared.rules.catalog.Catalog.{Catalog}
-use Rattle.commit_pages.specs.declared.laid.Laid.{Laid}
-use Rattle.commit_pages.specs.declared.written.Written.{Written}
-use Rattle.commit_pages.specs.Commits.{record_laid, base_laid}
-use Rattle.commit_pages.specs.Versions.{version_in}
+use Rattle.prepared_commits.specs.Laid.{Laid}
+use Rattle.prepared_commits.specs.Written.{Written}
+use Rattle.prepared_commits.specs.Commits.{record_laid, base_laid}
+use Rattle.prepared_commits.specs.Versions.{version_in}
 use Rattle.prepared_parts.specs.declared.laying.Layout.{Layout}
 use Rattle.prepared_parts.specs.Layouts.{IsLayout, laid_by}
 

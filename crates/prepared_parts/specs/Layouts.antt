@@ -9,10 +9,10 @@ use Rattle.plan_changes.specs.declared.change.Change.{Change}
 use Rattle.version_catalog.specs.declared.rules.catalog.Catalog.{Catalog}
 use Rattle.catalog_changes.specs.Changed.{IsItsBlob}
 use Rattle.commit_writes.specs.Commits.{IsBlobSized, IsChainSized}
-use Rattle.commit_pages.specs.declared.laid.Laid.{Laid}
-use Rattle.commit_pages.specs.declared.written.Written.{Written}
-use Rattle.commit_pages.specs.Commits.{record_needs, base_needs, record_laid, base_laid}
-use Rattle.commit_pages.specs.Versions.{CanBeListed}
+use Rattle.prepared_commits.specs.Laid.{Laid}
+use Rattle.prepared_commits.specs.Written.{Written}
+use Rattle.prepared_commits.specs.Commits.{record_needs, base_needs, record_laid, base_laid}
+use Rattle.prepared_commits.specs.Versions.{CanBeListed}
 use Rattle.prepared_commits.specs.declared.prepared.NewBase.{NewBase}
 use Rattle.prepared_parts.specs.declared.laying.Layout.{Layout}
 
@@ -24,7 +24,8 @@ blobs_need Root catalog newest change written = base_needs catalog newest change
 -- they take the first free pages, and the log page of a new base is the next one
 abbrev pub base_by : Target → ℕ → Catalog → Directory → Change → Option Written → List ℕ → Option NewBase
 base_by Record sequence catalog newest change written free = None
-base_by Root sequence catalog newest change written free = Some (record { sequence = sequence; log = slice_index free (base_needs catalog newest change written) })
+base_by Root sequence catalog newest change written free = Some
+    (record { sequence = sequence; log = slice_index free (base_needs catalog newest change written) })
 
 abbrev pub laid_by : Target → Catalog → List ℕ → Directory → Change → Option Written → List ℕ → Laid
 laid_by Record catalog catalogue newest change written free =

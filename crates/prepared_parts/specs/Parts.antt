@@ -16,7 +16,7 @@ use Rattle.store_versions.specs.declared.row.VersionRow.{VersionRow}
 use Rattle.store_versions.specs.Rows.{IsReadyFor}
 use Rattle.store_versions.specs.Seen.{seen}
 use Rattle.store_versions.specs.Versions.{directory_of}
-use Rattle.commit_pages.specs.declared.written.Written.{Written}
+use Rattle.prepared_commits.specs.Written.{Written}
 use Rattle.prepared_commits.specs.declared.fault.PrepareFault.{PrepareFault}
 use Rattle.prepared_commits.specs.declared.fault.PrepareFault.TheVariants.{SequenceEnd, Full, Memory}
 use Rattle.prepared_commits.specs.declared.prepared.Prepared.{Prepared}

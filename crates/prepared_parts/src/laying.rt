@@ -6,17 +6,16 @@ ghost use Rattle.plan_changes.specs.Allowed.{names_allow};
 ghost use Rattle.version_catalog.specs.Catalogs.{names_in};
 ghost use Rattle.event_core.specs.Apart.{makes_version};
 ghost use Rattle.page_slots.specs.declared.slots.Target.TheVariants as targets;
-ghost use Rattle.commit_pages.specs.Commits.{record_needs, base_needs};
-ghost use Rattle.commit_pages.specs.Versions.{IsWritten};
+ghost use Rattle.prepared_commits.specs.Commits.{record_needs, base_needs};
+ghost use Rattle.prepared_commits.specs.Versions.{IsWritten};
 ghost use Rattle.prepared_commits.specs.Needs.{needs_by, or_empty};
 ghost use Rattle.prepared_parts.specs.Layouts.{IsLayout};
 
 use cell_values::{List, Memory};
 use chunk_map::Directory;
-use commit_pages::{Laid, Written, lay_base, lay_record};
 use page_slots::Target;
 use plan_changes::Change;
-use prepared_commits::NewBase;
+use prepared_commits::{Laid, NewBase, Written, lay_base, lay_record};
 use std::alloc::Global;
 use version_catalog::Catalog;
 

@@ -6,7 +6,7 @@ ghost use Rattle.plan_changes.specs.Allowed.{names_allow};
 ghost use Rattle.version_catalog.specs.Catalogs.{names_in};
 ghost use Rattle.event_core.specs.Apart.{makes_version};
 ghost use Rattle.event_core.specs.History.{catalogue_at, names_at};
-ghost use Rattle.commit_pages.specs.Versions.{IsWritten};
+ghost use Rattle.prepared_commits.specs.Versions.{IsWritten};
 ghost use Rattle.store_ledger.specs.Ledger.{MayReap, has_room, history};
 ghost use Rattle.prepared_commits.specs.Needs.{needs_by};
 ghost use Rattle.prepared_parts.specs.Layouts.{IsLayout};
@@ -19,12 +19,11 @@ use crate::ready::ready_both;
 use crate::room::make_room;
 use cell_values::{List, Memory};
 use chunk_map::Directory;
-use commit_pages::{Laid, Written};
 use commit_writes::Placed;
 use event_core::Used;
 use page_slots::Target;
 use plan_changes::Change;
-use prepared_commits::{NewBase, PrepareFault, Prepared};
+use prepared_commits::{Laid, NewBase, PrepareFault, Prepared, Written};
 use std::alloc::Global;
 use store_ledger::{Ledger, ReadyCommit};
 use store_versions::{ReadyVersion, VersionTable};
@@ -261,7 +260,8 @@ fn counted_over(
     requires comes { is_some written.now ≡ makes_version change.now }
     requires written { IfSome written.now IsWritten }
     requires newest { AreRising (newest_at (names_in catalog.now) table.now.rows place change.now).entries }
-    ensures { IfOk result (λ count. count ≡ needs_by target catalog.now (newest_at (names_in catalog.now) table.now.rows place change.now) change.now written.now) }
+    ensures { IfOk result (λ count. count ≡ needs_by target catalog.now
+        (newest_at (names_in catalog.now) table.now.rows place change.now) change.now written.now) }
 {
     let newest = newest_at(table, ledger.names(), place, change);
     needed_over(alloc, target, catalog, newest, change, written)

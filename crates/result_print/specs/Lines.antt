@@ -8,7 +8,7 @@ use Rattle.afl_trees.specs.declared.kind.ParseKind.TheVariants as stops
 use Rattle.schema_grammar.specs.declared.kinds.TypeKind.{TypeKind}
 use Rattle.schema_grammar.specs.declared.kinds.TypeKind.TheVariants as types
 use Rattle.result_print.specs.declared.refusal.Refusal.{Refusal}
-use Rattle.result_print.specs.declared.refusal.Refusal.TheVariants.{TooLong, Parse, HistoryFull, NotBuilt, Typing, Disk, Damaged}
+use Rattle.result_print.specs.declared.refusal.Refusal.TheVariants.{TooLong, Parse, HistoryFull, Typing, Disk, Damaged}
 use Rattle.result_print.specs.declared.refusal.Refusal.TheVariants.{Cell, SequenceEnd, Full, Memory}
 use Rattle.result_print.specs.Texts.{place_text}
 
@@ -65,8 +65,8 @@ abbrev pub line_of_refusal : Refusal → List ℕ
 line_of_refusal (TooLong bytes) = codes "error: too long: " ++ decimal bytes ++ codes " bytes\n"
 line_of_refusal (Parse at kind) = codes "error: parse at " ++ decimal at ++ codes ": " ++ stop_text kind ++ codes "\n"
 line_of_refusal HistoryFull = codes "error: history full\n"
-line_of_refusal NotBuilt = codes "error: not built\n"
-line_of_refusal (Typing span kind) = codes "error: type at " ++ decimal span.start ++ codes ".." ++ decimal span.end ++ codes ": " ++ type_text kind ++ codes "\n"
+line_of_refusal (Typing span kind) = codes "error: type at " ++ decimal span.start ++ codes ".." ++ decimal span.end
+    ++ codes ": " ++ type_text kind ++ codes "\n"
 line_of_refusal Disk = codes "error: disk\n"
 line_of_refusal (Damaged page) = codes "error: damaged page " ++ decimal page ++ codes "\n"
 line_of_refusal (Cell at kind) = codes "error: cell " ++ place_text at.items ++ codes ": " ++ fault_text kind ++ codes "\n"

@@ -33,7 +33,8 @@ fn parse_line(alloc: Global, at: u32, kind: ParseKind) -> Result<Bytes, Memory>
 }
 
 fn type_line(alloc: Global, span: Span, kind: TypeKind) -> Result<Bytes, Memory>
-    ensures { IfOk result (λ line. line ≡ codes "error: type at " ++ decimal span.start ++ codes ".." ++ decimal span.end ++ codes ": " ++ type_text kind ++ codes "\n") }
+    ensures { IfOk result (λ line. line ≡ codes "error: type at " ++ decimal span.start ++ codes ".." ++ decimal span.end
+        ++ codes ": " ++ type_text kind ++ codes "\n") }
 {
     let mut line = Bytes::from_slice(alloc, b"error: type at ")?;
     write_count(&mut line, u64::from(span.start))?;
@@ -84,7 +85,6 @@ pub fn refusal_line(alloc: Global, refusal: &Refusal) -> Result<Bytes, Memory>
         Refusal::TooLong { bytes } => length_line(alloc, *bytes),
         Refusal::Parse { at, kind } => parse_line(alloc, *at, *kind),
         Refusal::HistoryFull => Bytes::from_slice(alloc, b"error: history full\n"),
-        Refusal::NotBuilt => Bytes::from_slice(alloc, b"error: not built\n"),
         Refusal::Typing { span, kind } => type_line(alloc, *span, *kind),
         Refusal::Disk => Bytes::from_slice(alloc, b"error: disk\n"),
         Refusal::Damaged { page } => damaged_line(alloc, *page),

@@ -13,13 +13,11 @@ pub enum Refusal {
     Parse { at: u32, kind: ParseKind },
     /// The history holds all the entries that it may.
     HistoryFull,
-    /// It is a statement of a form that is not built.
-    NotBuilt,
     /// It is well formed and breaks a rule of types, at this part of it.
     Typing { span: Span, kind: TypeKind },
     /// The disk failed.
     Disk,
-    /// This page of the file is not as it was written.
+    /// A payload that begins at this page can't be read.
     Damaged { page: u32 },
     /// A cell of its array could not be computed: the first one.
     Cell { at: Coord, kind: FaultKind },

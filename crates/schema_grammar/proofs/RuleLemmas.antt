@@ -8,9 +8,9 @@ use Rattle.std.proofs.lemmas.List.{length-map, take_more, map-append}
 use Rattle.std.proofs.lemmas.List.Folds.{list_any-append}
 use Rattle.std.proofs.Math.Nat.{zero-mul, mul-zero, min-eq_left, min-eq_right, zero-min, le-mul_of_pos_right, mul_comm, mul_assoc}
 use Rattle.std.proofs.Math.Seq.{drop-cons}
-use Rattle.cell_values.specs.Schemas.{attribute_names, dimension_names, is_among, frame_length, frame_size}
-use Rattle.cell_values.specs.declared.schema.Attribute.{Attribute}
-use Rattle.cell_values.specs.declared.schema.Dimension.{Dimension}
+use Rattle.afl_lexer.specs.Schemas.{attribute_names, dimension_names, is_among, frame_length, frame_size}
+use Rattle.afl_lexer.specs.Attribute.{Attribute}
+use Rattle.afl_lexer.specs.Dimension.{Dimension}
 use Rattle.schema_grammar.specs.declared.shape_text.AttrText.{AttrText}
 use Rattle.schema_grammar.specs.declared.shape_text.DimText.{DimText}
 use Rattle.schema_grammar.specs.declared.rules.Rule.{Rule}

@@ -7,7 +7,7 @@ use Rattle.std.specs.Str.{bytes_eq}
 use Rattle.std.proofs.lemmas.Bool.{and_parts, or_parts, not-true, leb-true, lt-ltb}
 use Rattle.std.proofs.lemmas.List.{length-map, length-append, append-nil}
 use Rattle.std.proofs.lemmas.List.Folds.{list_any-append}
-use Rattle.cell_values.specs.Schemas.{attribute_names, dimension_names, names_of, is_among, are_distinct, has_attributes, has_dimensions, is_dimension, is_bound, bounds_in_range, bounds_in_order, has_chunk, overlap_fits, frame_fits, IsValid}
+use Rattle.afl_lexer.specs.Schemas.{attribute_names, dimension_names, names_of, is_among, are_distinct, has_attributes, has_dimensions, is_dimension, is_bound, bounds_in_range, bounds_in_order, has_chunk, overlap_fits, frame_fits, IsValid}
 use Rattle.schema_grammar.specs.declared.shape_text.SchemaText.{SchemaText}
 use Rattle.schema_grammar.specs.declared.shape_text.AttrText.{AttrText}
 use Rattle.schema_grammar.specs.declared.shape_text.DimText.{DimText}

@@ -7,9 +7,9 @@ use Rattle.std.proofs.lemmas.Bool.{ltb-true, le-leb}
 use Rattle.std.proofs.lemmas.List.{length-map, length-append, append-nil}
 use Rattle.std.proofs.lemmas.List.Folds.{list_any-append}
 use Rattle.std.proofs.lemmas.Slice.Eq.{bytes_eq-Decides}
-use Rattle.cell_values.specs.Schemas.{attribute_names, dimension_names, is_among, are_distinct, has_attributes, has_dimensions, names_of, is_dimension, is_bound, bounds_in_range, bounds_in_order, has_chunk, overlap_fits, frame_fits, IsValid}
-use Rattle.cell_values.specs.declared.schema.Attribute.{Attribute}
-use Rattle.cell_values.specs.declared.schema.Dimension.{Dimension}
+use Rattle.afl_lexer.specs.Schemas.{attribute_names, dimension_names, is_among, are_distinct, has_attributes, has_dimensions, names_of, is_dimension, is_bound, bounds_in_range, bounds_in_order, has_chunk, overlap_fits, frame_fits, IsValid}
+use Rattle.afl_lexer.specs.Attribute.{Attribute}
+use Rattle.afl_lexer.specs.Dimension.{Dimension}
 use Rattle.schema_grammar.specs.declared.shape_text.SchemaText.{SchemaText}
 use Rattle.schema_grammar.specs.declared.shape_text.AttrText.{AttrText}
 use Rattle.schema_grammar.specs.declared.shape_text.DimText.{DimText}

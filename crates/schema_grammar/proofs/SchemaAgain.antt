@@ -6,13 +6,13 @@ use Rattle.std.proofs.lemmas.Bool.{and_parts, leb-true}
 use Rattle.std.proofs.lemmas.List.{append-nil}
 use Rattle.std.proofs.Math.Seq.{drop-length}
 use Rattle.std.proofs.Math.Nat.{le-mul_of_pos_right}
-use Rattle.cell_values.specs.Naming.{IsName}
-use Rattle.cell_values.specs.Schemas.{is_dimension, is_bound, bounds_in_range, bounds_in_order, has_chunk, overlap_fits, has_attributes, has_dimensions, are_distinct, names_of, frame_length, frame_size, frame_fits, IsValid}
-use Rattle.cell_values.specs.declared.schema.Kind.{Kind}
-use Rattle.cell_values.specs.declared.schema.Kind.TheVariants.{Int64, Str, Bool as Truth}
-use Rattle.cell_values.specs.declared.schema.Attribute.{Attribute}
-use Rattle.cell_values.specs.declared.schema.Dimension.{Dimension}
-use Rattle.cell_values.specs.declared.schema.Schema.{Schema}
+use Rattle.afl_lexer.specs.Naming.{IsName}
+use Rattle.afl_lexer.specs.Schemas.{is_dimension, is_bound, bounds_in_range, bounds_in_order, has_chunk, overlap_fits, has_attributes, has_dimensions, are_distinct, names_of, frame_length, frame_size, frame_fits, IsValid}
+use Rattle.afl_lexer.specs.Kind.{Kind}
+use Rattle.afl_lexer.specs.Kind.TheVariants.{Int64, Str, Bool as Truth}
+use Rattle.afl_lexer.specs.Attribute.{Attribute}
+use Rattle.afl_lexer.specs.Dimension.{Dimension}
+use Rattle.afl_lexer.specs.Schema.{Schema}
 use Rattle.afl_lexer.specs.Lexemes.{Placed, lexeme_of}
 use Rattle.afl_lexer.specs.declared.token.Token.{Token}
 use Rattle.afl_lexer.specs.Tokens.{AreTokens}

@@ -4,8 +4,8 @@ use Rattle.std.specs.Prelude.{◌==◌, nat_le, if◌then◌else◌, unsigned_ab
 use Rattle.std.specs.List.{join_with_byte, list_all, AllByRecursion}
 use Rattle.std.specs.Fmt.{decimal, signed_decimal}
 use Rattle.std.proofs.lemmas.Bool.{and_parts, ne_eqb, eqb-true, leb-true, lt-leb, cases_lt}
-use Rattle.cell_values.specs.Naming.{IsName, is_first_byte, is_digit, is_word_byte, begins_well, is_reserved}
-use Rattle.cell_values.specs.declared.name.Span.{Span}
+use Rattle.afl_lexer.specs.Naming.{IsName, is_first_byte, is_digit, is_word_byte, begins_well, is_reserved}
+use Rattle.afl_lexer.specs.Span.{Span}
 use Rattle.afl_lexer.specs.declared.token.TokenKind.TheVariants.{Name, Int, Word, Symbol}
 use Rattle.afl_lexer.specs.declared.token.Word.TheVariants.{Not, Null}
 use Rattle.afl_lexer.specs.declared.token.Symbol.{Symbol as ASymbol}

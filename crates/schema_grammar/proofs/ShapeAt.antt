@@ -5,7 +5,7 @@ use Rattle.std.specs.List.{drop-map, take-map}
 use Rattle.std.proofs.lemmas.List.{take_more, length-map, length-drop, drop-drop, take-append-drop}
 use Rattle.std.proofs.Math.ListN.{get_or-map}
 use Rattle.std.proofs.Math.Seq.{take-length}
-use Rattle.cell_values.specs.declared.name.Span.{Span}
+use Rattle.afl_lexer.specs.Span.{Span}
 use Rattle.afl_lexer.specs.Lexemes.{Placed, lexeme_of}
 use Rattle.afl_lexer.specs.declared.token.Token.{Token}
 use Rattle.schema_grammar.specs.declared.shape_text.SchemaText.{SchemaText}

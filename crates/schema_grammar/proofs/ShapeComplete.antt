@@ -1,6 +1,6 @@
 -- What is spelled is read: over the tokens of a schema the reader comes to its syntax tree.
 use Rattle.std.proofs.Common.{◌≡◌, inl, inr, ℤ, Bool, true, false, List, [], ◌∷◌, ◌++◌, refl, sym, ap, ◌∙◌, append_assoc}
-use Rattle.cell_values.specs.declared.name.Span.{Span}
+use Rattle.afl_lexer.specs.Span.{Span}
 use Rattle.afl_lexer.specs.Lexemes.{Lexeme, a_symbol, Placed}
 use Rattle.afl_lexer.specs.declared.token.Symbol.TheVariants.{LeftBracket, RightBracket, More, Comma}
 use Rattle.schema_grammar.specs.declared.shape_text.SchemaText.{SchemaText}

@@ -1,6 +1,6 @@
 -- What is open can be ended: from each place in a schema there are tokens that end it, whatever stands behind them.
 use Rattle.std.proofs.Common.{◌≡◌, ℕ, pos, List, [], ◌∷◌, refl}
-use Rattle.cell_values.specs.declared.name.Span.{Span}
+use Rattle.afl_lexer.specs.Span.{Span}
 use Rattle.afl_lexer.specs.Lexemes.{Lexeme, a_name, a_number, a_word, a_symbol, Placed}
 use Rattle.afl_lexer.specs.declared.token.Word.TheVariants.{Null}
 use Rattle.afl_lexer.specs.declared.token.Symbol.TheVariants.{LeftBracket, RightBracket, Less, More, Equal, Comma, Colon}

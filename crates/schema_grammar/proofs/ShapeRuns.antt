@@ -2,7 +2,7 @@
 use Rattle.std.proofs.Common.{◌≡◌, ℕ, ◌+◌, ◌-◌, ◌≤◌, ◌<◌, List, [], ◌∷◌, ◌++◌, length, take, drop, slice_index_or, refl, sym, ap, subst, ◌∙◌, arith}
 use Rattle.std.proofs.lemmas.List.{take-append-drop, append-nil, take_more}
 use Rattle.std.proofs.Math.Seq.{take-length, take-add}
-use Rattle.cell_values.specs.declared.name.Span.{Span}
+use Rattle.afl_lexer.specs.Span.{Span}
 use Rattle.afl_lexer.specs.Lexemes.{Placed, a_symbol}
 use Rattle.afl_lexer.specs.declared.token.Symbol.TheVariants.{Comma}
 use Rattle.schema_grammar.specs.declared.shape_text.SchemaText.{SchemaText}

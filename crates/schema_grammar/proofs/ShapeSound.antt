@@ -1,6 +1,6 @@
 -- What is read is spelled: the reader holds the tokens that it went over.
 use Rattle.std.proofs.Common.{◌≡◌, inl, inr, pos, true, false, List, [], ◌∷◌, ◌++◌, refl, sym, subst}
-use Rattle.cell_values.specs.declared.name.Span.{Span}
+use Rattle.afl_lexer.specs.Span.{Span}
 use Rattle.afl_lexer.specs.Lexemes.{Lexeme, a_name, a_number, a_word, a_symbol, Placed}
 use Rattle.afl_lexer.specs.declared.token.Word.TheVariants.{Not, Null}
 use Rattle.afl_lexer.specs.declared.token.Symbol.TheVariants.{LeftBracket, RightBracket, Less, More, Equal, Comma, Colon, Star, Minus}

@@ -1,6 +1,6 @@
 -- Where tokens spell a schema, and where they stop to be the front of one.
 use Rattle.std.specs.Prelude.{◌≡◌, ℕ, ◌+◌, ◌≤◌, ◌<◌, Result, Ok, Err, List, [], ◌++◌, map, length, drop, slice_range}
-use Rattle.cell_values.specs.declared.name.Span.{Span}
+use Rattle.afl_lexer.specs.Span.{Span}
 use Rattle.afl_lexer.specs.Lexemes.{Placed, lexeme_of}
 use Rattle.afl_lexer.specs.declared.token.Token.{Token}
 use Rattle.schema_grammar.specs.declared.shape_text.SchemaText.{SchemaText}

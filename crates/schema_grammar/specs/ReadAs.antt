@@ -1,6 +1,6 @@
 -- What a text is read as.
 use Rattle.std.specs.Prelude.{◌≡◌, ℕ, None, List, length}
-use Rattle.cell_values.specs.declared.schema.Schema.{Schema}
+use Rattle.afl_lexer.specs.Schema.{Schema}
 use Rattle.afl_lexer.specs.Tokens.{AreTokens}
 use Rattle.afl_lexer.specs.declared.token.Token.{Token}
 use Rattle.schema_grammar.specs.declared.shape_text.SchemaText.{SchemaText}

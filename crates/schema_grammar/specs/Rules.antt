@@ -1,21 +1,24 @@
 -- The rules of schemas, as a list in the order in which they are tested. The first that is broken is the answer.
-use Rattle.std.specs.Prelude.{◌≡◌, ℕ, Bool, not, ◌&&◌, nat_le, nat_lt, int_le, Option, Some, None, is_some, unwrap_or, Result, Ok, Err, List, [], ◌∷◌, ◌++◌, map, length, codes, if◌then◌else◌}
+use Rattle.std.specs.Prelude.{◌≡◌, ℕ, Bool, not, ◌&&◌, nat_le, nat_lt, int_le, Option, Some, None, is_some}
+use Rattle.std.specs.Prelude.{unwrap_or, Result, Ok, Err, List, [], ◌∷◌, ◌++◌, map, length, codes, if◌then◌else◌}
 use Rattle.std.specs.List.{find}
 use Rattle.std.specs.Option.{option_map}
 use Rattle.std.specs.Str.{bytes_eq}
-use Rattle.cell_values.specs.Schemas.{attribute_names, is_among, is_bound, frame_fits}
-use Rattle.cell_values.specs.declared.name.Span.{Span}
-use Rattle.cell_values.specs.declared.schema.Kind.{Kind}
-use Rattle.cell_values.specs.declared.schema.Kind.TheVariants.{Int64, Str, Bool as Truth}
-use Rattle.cell_values.specs.declared.schema.Attribute.{Attribute}
-use Rattle.cell_values.specs.declared.schema.Dimension.{Dimension}
-use Rattle.cell_values.specs.declared.schema.Schema.{Schema}
+use Rattle.afl_lexer.specs.Schemas.{attribute_names, is_among, is_bound, frame_fits}
+use Rattle.afl_lexer.specs.Span.{Span}
+use Rattle.afl_lexer.specs.Kind.{Kind}
+use Rattle.afl_lexer.specs.Kind.TheVariants.{Int64, Str, Bool as Truth}
+use Rattle.afl_lexer.specs.Attribute.{Attribute}
+use Rattle.afl_lexer.specs.Dimension.{Dimension}
+use Rattle.afl_lexer.specs.Schema.{Schema}
 use Rattle.schema_grammar.specs.declared.shape_text.SchemaText.{SchemaText}
 use Rattle.schema_grammar.specs.declared.shape_text.AttrText.{AttrText}
 use Rattle.schema_grammar.specs.declared.shape_text.DimText.{DimText}
 use Rattle.schema_grammar.specs.declared.rules.Rule.{Rule}
 use Rattle.schema_grammar.specs.declared.kinds.TypeKind.{TypeKind}
-use Rattle.schema_grammar.specs.declared.kinds.TypeKind.TheVariants.{UnknownType, RepeatedName, BoundsOrder, BoundsRange, ZeroChunk, OverlapTooLarge, TooManyDimensions, TooManyAttributes, ChunkTooLarge, WrongCount}
+use Rattle.schema_grammar.specs.declared.kinds.TypeKind.TheVariants.{UnknownType, RepeatedName, BoundsOrder, BoundsRange}
+use Rattle.schema_grammar.specs.declared.kinds.TypeKind.TheVariants.{ZeroChunk, OverlapTooLarge, TooManyDimensions}
+use Rattle.schema_grammar.specs.declared.kinds.TypeKind.TheVariants.{TooManyAttributes, ChunkTooLarge, WrongCount}
 use Rattle.schema_grammar.specs.declared.kinds.SchemaFault.{SchemaFault}
 use Rattle.schema_grammar.specs.declared.kinds.SchemaFault.TheVariants as fault
 

@@ -3,11 +3,11 @@
 use Rattle.std.specs.Prelude.{ℕ, ℤ, pos, negsuc, Bool, true, false, ◌==◌, nat_lt, if◌then◌else◌, List, [], ◌++◌, map, codes}
 use Rattle.std.specs.List.{join_with_byte}
 use Rattle.std.specs.Fmt.{decimal, signed_decimal}
-use Rattle.cell_values.specs.declared.schema.Kind.{Kind}
-use Rattle.cell_values.specs.declared.schema.Kind.TheVariants.{Int64, Str, Bool as Truth}
-use Rattle.cell_values.specs.declared.schema.Attribute.{Attribute}
-use Rattle.cell_values.specs.declared.schema.Dimension.{Dimension}
-use Rattle.cell_values.specs.declared.schema.Schema.{Schema}
+use Rattle.afl_lexer.specs.Kind.{Kind}
+use Rattle.afl_lexer.specs.Kind.TheVariants.{Int64, Str, Bool as Truth}
+use Rattle.afl_lexer.specs.Attribute.{Attribute}
+use Rattle.afl_lexer.specs.Dimension.{Dimension}
+use Rattle.afl_lexer.specs.Schema.{Schema}
 use Rattle.schema_grammar.specs.declared.shape_text.SchemaText.{SchemaText}
 use Rattle.schema_grammar.specs.declared.shape_text.AttrText.{AttrText}
 use Rattle.schema_grammar.specs.declared.shape_text.DimText.{DimText}

@@ -1,7 +1,7 @@
 -- The grammar of schemas: which tokens a schema's syntax tree has.
 -- Each production relates the tokens `xs` to the tokens `zs` that are left behind what it spells.
 use Rattle.std.specs.Prelude.{◌≡◌, ◌⊎◌, ℕ, ℤ, pos, neg_ℤ, Bool, true, false, List, [], ◌∷◌}
-use Rattle.cell_values.specs.declared.name.Span.{Span}
+use Rattle.afl_lexer.specs.Span.{Span}
 use Rattle.afl_lexer.specs.Lexemes.{Lexeme, a_name, a_number, a_word, a_symbol, Placed}
 use Rattle.afl_lexer.specs.declared.token.Word.TheVariants.{Not, Null}
 use Rattle.afl_lexer.specs.declared.token.Symbol.TheVariants.{LeftBracket, RightBracket, Less, More, Equal, Comma, Colon, Star, Minus}
@@ -53,7 +53,8 @@ abbrev pub SpellsDim : DimText → List Placed → List Placed → Type 0
 SpellsDim d xs zs = (e : Span) × (c : Span) × (f : Span) × (g : Span) × (ys : List Placed) × (ws : List Placed)
     × (xs ≡ placed (a_name d.name) d.name_span ∷ placed (a_symbol Equal) e ∷ ys)
     × SpellsBound d.lo d.lo_span ys (placed (a_symbol Colon) c ∷ ws)
-    × SpellsHigh d.hi d.hi_span ws (placed (a_symbol Comma) f ∷ placed (a_number (pos d.chunk)) d.chunk_span ∷ placed (a_symbol Comma) g ∷ placed (a_number (pos d.overlap)) d.overlap_span ∷ zs)
+    × SpellsHigh d.hi d.hi_span ws (placed (a_symbol Comma) f ∷ placed (a_number (pos d.chunk)) d.chunk_span ∷ placed
+    (a_symbol Comma) g ∷ placed (a_number (pos d.overlap)) d.overlap_span ∷ zs)
 
 -- dim { , dim }
 abbrev pub SpellsDims : List DimText → List Placed → List Placed → Type 0

@@ -1,5 +1,5 @@
 //! Why a statement is refused before it is run.
-use cell_values::{Memory, Span};
+use afl_lexer::{Memory, Span};
 
 /// What is wrong with a statement that is well formed.
 #[derive(Clone, Copy, Debug)]

@@ -2,14 +2,15 @@
 ghost use Rattle.std.specs.Prelude.{◌≡◌, ℕ, ℤ, ◌++◌, [], ◌∷◌, List, map, IfOk, OnOk};
 ghost use Rattle.std.specs.Fmt.{decimal, signed_decimal};
 ghost use Rattle.std.specs.List.{All, join_with_byte};
-ghost use Rattle.cell_values.specs.Naming.{IsName};
-ghost use Rattle.cell_values.specs.Schemas.{IsValid};
+ghost use Rattle.afl_lexer.specs.Naming.{IsName};
+ghost use Rattle.afl_lexer.specs.Schemas.{IsValid};
 ghost use Rattle.schema_grammar.specs.ReadAs.{IsReadAs};
-ghost use Rattle.schema_grammar.specs.SchemaBytes.{attr_bytes, bounds_bytes, dim_bytes, high_bytes, kind_bytes, lengths_bytes, parts_bytes, schema_bytes, separator, shape_bytes};
+ghost use Rattle.schema_grammar.specs.SchemaBytes.{attr_bytes, bounds_bytes, dim_bytes, high_bytes, kind_bytes};
+ghost use Rattle.schema_grammar.specs.SchemaBytes.{lengths_bytes, parts_bytes, schema_bytes, separator, shape_bytes};
 
 use crate::shape_text::UNBOUNDED;
 use crate::{AttrText, DimText, SchemaText};
-use cell_values::{Attribute, Bytes, Dimension, Kind, List, Memory, Name, Schema};
+use afl_lexer::{Attribute, Bytes, Dimension, Kind, List, Memory, Name, Schema};
 use std::alloc::Global;
 
 /// An attribute or a dimension, which has a text.

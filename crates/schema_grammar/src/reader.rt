@@ -3,7 +3,9 @@ ghost use Rattle.std.specs.Prelude.{◌≡◌, ℕ, ◌≤ℤ◌, pos, neg_ℤ, 
 ghost use Rattle.afl_lexer.specs.Lexemes.{bytes_of, lexeme_of, what_of, a_symbol};
 ghost use Rattle.afl_lexer.specs.Tokens.{IsTokenOf};
 ghost use Rattle.schema_grammar.specs.Spelling.{across};
-ghost use Rattle.schema_grammar.specs.Inner.Reading.{attribute, between_turn, bound, count, label, start_turn, whole_schema, attr_end, attr_goes, attr_step, attr_word, bound_step, dim_goes, dim_step, dimension, number_step, shape_turn};
+ghost use Rattle.schema_grammar.specs.Inner.Reading.{attribute, between_turn, bound, count, label, start_turn};
+ghost use Rattle.schema_grammar.specs.Inner.Reading.{whole_schema, attr_end, attr_goes, attr_step, attr_word, bound_step};
+ghost use Rattle.schema_grammar.specs.Inner.Reading.{dim_goes, dim_step, dimension, number_step, shape_turn};
 ghost use Rattle.schema_grammar.specs.Inner.Unsigned.{IsUnsigned};
 
 use crate::shape_text::UNBOUNDED;
@@ -11,8 +13,7 @@ use crate::state::{
     AttrPlace, Bound, BoundPlace, Count, DimPlace, Head, Label, NumberPlace, PartStep,
 };
 use crate::{AttrText, DimText, SchemaText, ShapeState, ShapeStep};
-use afl_lexer::{Symbol, Token, TokenKind, Word, name_value};
-use cell_values::{List, Memory, Name, Span};
+use afl_lexer::{List, Memory, Name, Span, Symbol, Token, TokenKind, Word, name_value};
 use std::alloc::Global;
 
 /// Nothing goes on so, and what was read of the part is let go.

@@ -2,11 +2,12 @@
 ghost use Rattle.std.specs.Prelude.{◌≡◌, ◌^◌, ◌-◌, min, [], ◌++◌, map, length, IfOk};
 ghost use Rattle.std.specs.List.{list_any};
 ghost use Rattle.std.specs.Str.{bytes_eq};
-ghost use Rattle.cell_values.specs.Schemas.{attribute_names, dimension_names, frame_length, frame_size, is_among, is_bound, IsValid};
-ghost use Rattle.schema_grammar.specs.Rules.{attr_rules, attribute_of, attrs_rules, dim_rules, dimension_of, dims_rules, first_broken, kind_named, rule, rules, schema_of, whole_rules, Means};
+ghost use Rattle.afl_lexer.specs.Schemas.{attribute_names, dimension_names, frame_length, frame_size, is_among, is_bound, IsValid};
+ghost use Rattle.schema_grammar.specs.Rules.{attr_rules, attribute_of, attrs_rules, dim_rules, dimension_of, dims_rules};
+ghost use Rattle.schema_grammar.specs.Rules.{first_broken, kind_named, rule, rules, schema_of, whole_rules, Means};
 
 use crate::{AttrText, DimText, SchemaFault, SchemaText, TypeKind};
-use cell_values::{Attribute, Dimension, Kind, List, Name, Schema, Span};
+use afl_lexer::{Attribute, Dimension, Kind, List, Name, Schema, Span};
 use std::alloc::Global;
 
 /// How many attributes a schema may have.

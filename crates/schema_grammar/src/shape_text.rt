@@ -1,7 +1,7 @@
 //! Schemas as they are written.
 ghost use Rattle.std.specs.Prelude.{◌≡◌, IfOk};
 
-use cell_values::{Copies, List, Memory, Name, Span};
+use afl_lexer::{Copies, List, Memory, Name, Span};
 
 /// The high bound that is written `*`, 2^62 - 1.
 pub(crate) const UNBOUNDED: i64 = 4611686018427387903;

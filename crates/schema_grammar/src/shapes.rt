@@ -6,8 +6,7 @@ ghost use Rattle.schema_grammar.specs.declared.shape_text.SchemaText.{SchemaText
 ghost use Rattle.schema_grammar.specs.Outcome.{AnswersSchema, AnswersStop, IsSchemaAt, IsStop, StopsAt};
 
 use crate::{SchemaText, ShapeState, ShapeStep, read_shape};
-use afl_lexer::Token;
-use cell_values::Memory;
+use afl_lexer::{Memory, Token};
 use std::alloc::Global;
 
 /// Why tokens have no schema's syntax tree.

@@ -1,7 +1,7 @@
 //! Places in a schema, and what a token does there.
 
 use crate::{AttrText, DimText, SchemaText};
-use cell_values::{List, Name, Span};
+use afl_lexer::{List, Name, Span};
 
 /// A name and its place.
 #[derive(Drop)]

@@ -16,13 +16,14 @@ use result_print::Refusal;
 use session_turns::{Options, Reply, Seat, Shared, refusal_at, refusal_or_want, want};
 use std::alloc::Global;
 use std::sync::Wait;
+use std::thread::Threads;
 use store_ledger::PinFault;
 
 /// Answers a statement of a seat's session, which is its statement of this number.
 ///
 /// It is parsed, and checked and computed under a pin of its own, outside every turn. A change is then committed; where the arrays that it
 /// reads are no longer as they were, it is checked and computed again in the turn of its commit.
-pub fn answer<D: Disk, R: Wait, G: Gate>(
+pub fn answer<D: Disk, R: Threads + Wait + Sync, G: Gate>(
     rt: &R,
     alloc: Global,
     shared: &Shared<D>,
@@ -40,7 +41,7 @@ pub fn answer<D: Disk, R: Wait, G: Gate>(
     ensures session { session_of result.1 ≡ session_of seat }
     ensures none { HoldsNone D.moment shared.now result.1 }
     ensures last { last_place result.1 ≡ result.0.place }
-    ensures answered { IsAnswered D.moment (start D.moment shared.now) (session_of seat) (last_place seat)
+    ensures answered { IsAnswered options.now.style D.moment (start D.moment shared.now) (session_of seat) (last_place seat)
         (seen seat) (seen result.1) text.now result.0 }
     ensures reads { (tree : Term) → DerivesText text.now tree → result.0.refusal ≡ None
         → ReadsOnce (start D.moment shared.now) (session_of seat) (seen seat) (seen result.1) text.now tree
@@ -52,7 +53,7 @@ pub fn answer<D: Disk, R: Wait, G: Gate>(
 }
 
 /// Answers a statement of this text.
-fn answer_text<D: Disk, R: Wait, G: Gate>(
+fn answer_text<D: Disk, R: Threads + Wait + Sync, G: Gate>(
     rt: &R,
     alloc: Global,
     shared: &Shared<D>,
@@ -69,7 +70,7 @@ fn answer_text<D: Disk, R: Wait, G: Gate>(
     ensures seat { IsSeatOf shared.now result.1 × IsIdle result.1 }
     ensures same { IsSameSeat seat result.1 }
     ensures none { HoldsNone D.moment shared.now result.1 }
-    ensures answered { IsAnswered D.moment (start D.moment shared.now) (session_of seat) (last_place seat)
+    ensures answered { IsAnswered options.now.style D.moment (start D.moment shared.now) (session_of seat) (last_place seat)
         (seen seat) (seen result.1) text.now result.0 }
     ensures reads { (tree : Term) → DerivesText text.now tree → result.0.refusal ≡ None
         → ReadsOnce (start D.moment shared.now) (session_of seat) (seen seat) (seen result.1) text.now tree
@@ -91,7 +92,7 @@ fn answer_text<D: Disk, R: Wait, G: Gate>(
 }
 
 /// Answers a statement with this tree.
-fn answer_tree<D: Disk, R: Wait, G: Gate>(
+fn answer_tree<D: Disk, R: Threads + Wait + Sync, G: Gate>(
     rt: &R,
     alloc: Global,
     shared: &Shared<D>,
@@ -110,7 +111,7 @@ fn answer_tree<D: Disk, R: Wait, G: Gate>(
     ensures seat { IsSeatOf shared.now result.1 × IsIdle result.1 }
     ensures same { IsSameSeat seat result.1 }
     ensures none { HoldsNone D.moment shared.now result.1 }
-    ensures answered { IsAnsweredTree D.moment (start D.moment shared.now) (session_of seat)
+    ensures answered { IsAnsweredTree options.now.style D.moment (start D.moment shared.now) (session_of seat)
         (seen seat) (seen result.1) text.now tree.now result.0 }
     ensures reads { result.0.refusal ≡ None
         → ReadsOnce (start D.moment shared.now) (session_of seat) (seen seat) (seen result.1) text.now tree.now

@@ -2,7 +2,7 @@
 ghost use Rattle.std.specs.Prelude.{◌≡◌, ◌+◌, ◌≤◌, false, IsTrue, List, Some};
 ghost use Rattle.check_exprs.specs.Laws.{leaves_fit};
 ghost use Rattle.plan_changes.specs.Databases.{Database};
-ghost use Rattle.statement_answers.specs.Outcomes.{MayBeCommitted};
+ghost use Rattle.session_turns.specs.Outcomes.{MayBeCommitted};
 ghost use Rattle.store_ledger.specs.Ledger.{is_noted, is_tried};
 ghost use Rattle.store_state.specs.declared.event.Event.{Event};
 ghost use Rattle.store_state.specs.Calls.{database_with};
@@ -22,10 +22,11 @@ use session_turns::{Commit, Options, Reply, Seat, Shared, answer_held, at_place,
 use statement_replies::Reply as Words;
 use std::alloc::Global;
 use std::sync::Wait;
+use std::thread::Threads;
 use store_ledger::Pinned;
 
 /// Commits a change that a statement was under the pin, with these words where it is made, and answers as it goes.
-pub(crate) fn commit<D: Disk, R: Wait, G: Gate>(
+pub(crate) fn commit<D: Disk, R: Threads + Wait + Sync, G: Gate>(
     rt: &R,
     alloc: Global,
     shared: &Shared<D>,
@@ -47,9 +48,9 @@ pub(crate) fn commit<D: Disk, R: Wait, G: Gate>(
         → IsDatabaseOf (database_with db (store_seen D.moment shared.now seat) pinned.now.place) pinned.now.names }
     requires may { (db : Database) → BeganAs (D.moment (start D.moment shared.now).opened.disk).state db
         → MayBeMade (database_with db (store_seen D.moment shared.now seat) pinned.now.place) change changed }
-    requires said { Says D.moment (start D.moment shared.now) (seen seat) text.now tree.now (pinned.now.place + 1)
+    requires said { Says options.now.style D.moment (start D.moment shared.now) (seen seat) text.now tree.now (pinned.now.place + 1)
         (record { reply = words; change = Some change }) }
-    requires typed { SaysChange D.moment (start D.moment shared.now) (seen seat) text.now tree.now (pinned.now.place + 1) change }
+    requires typed { SaysChange options.now.style D.moment (start D.moment shared.now) (seen seat) text.now tree.now (pinned.now.place + 1) change }
     requires fit { IsTrue (leaves_fit tree.now) }
     requires workers { (1 ≤ options.now.workers) × (options.now.workers ≤ 64) }
     ensures seat { IsSeatOf shared.now result.1 × IsIdle result.1 }
@@ -57,7 +58,7 @@ pub(crate) fn commit<D: Disk, R: Wait, G: Gate>(
     ensures reads { read_count result.1 ≡ read_count seat }
     ensures pin { HoldsPin D.moment shared.now result.1 pinned.now }
     ensures answered { (first before : List Event) → AddsNoAct (start D.moment shared.now) pinned.now.session first before (seen seat)
-        → IsAnsweredUnder D.moment (start D.moment shared.now) pinned.now.session pinned.now.place
+        → IsAnsweredUnder options.now.style D.moment (start D.moment shared.now) pinned.now.session pinned.now.place
         first (seen result.1) text.now tree.now result.0 }
 {
     let mut seat = seat;

@@ -18,15 +18,16 @@ use afl_outside::{Disk, Gate, Point};
 use afl_trees::Tree;
 use chunk_source::ExecFault;
 use session_turns::{
-    Options, PinnedSource, Reply, Seat, Shared, at_place, sources_hold_their_versions, unread,
+    Options, Outcome, PinnedSource, Reply, Seat, Shared, at_place, outcome_of,
+    sources_hold_their_versions, unread,
 };
-use statement_answers::{Outcome, outcome_of};
 use std::alloc::Global;
 use std::sync::Wait;
+use std::thread::Threads;
 use store_ledger::Pinned;
 
 /// Answers a statement under the pin of its session.
-pub(crate) fn answer_pinned<D: Disk, R: Wait, G: Gate>(
+pub(crate) fn answer_pinned<D: Disk, R: Threads + Wait + Sync, G: Gate>(
     rt: &R,
     alloc: Global,
     shared: &Shared<D>,
@@ -49,7 +50,7 @@ pub(crate) fn answer_pinned<D: Disk, R: Wait, G: Gate>(
     ensures seat { IsSeatOf shared.now result.1 × IsIdle result.1 }
     ensures same { IsSameSeat seat result.1 }
     ensures pin { HoldsPin D.moment shared.now result.1 pinned.now }
-    ensures answered { IsAnsweredUnder D.moment (start D.moment shared.now) pinned.now.session pinned.now.place
+    ensures answered { IsAnsweredUnder options.now.style D.moment (start D.moment shared.now) pinned.now.session pinned.now.place
         (seen seat) (seen result.1) text.now tree.now result.0 }
     ensures reads { result.0.refusal ≡ None → read_count result.1
         ≡ counted (start D.moment shared.now) (seen seat) pinned.now.place pinned.now.names text.now tree.now (read_count seat) }
@@ -86,7 +87,7 @@ fn behind<D: Disk>(shared: &Shared<D>, seat: &Seat<D>, pinned: &Pinned) -> u64
 }
 
 /// What comes of a statement over what the pin sees.
-fn read_under<D: Disk, R: Wait, G: Gate>(
+fn read_under<D: Disk, R: Threads + Wait + Sync, G: Gate>(
     rt: &R,
     alloc: Global,
     shared: &Shared<D>,
@@ -102,16 +103,18 @@ fn read_under<D: Disk, R: Wait, G: Gate>(
     requires stored { AreStored pinned.now.names }
     requires fit { IsTrue (leaves_fit tree.now) }
     requires workers { (1 ≤ options.now.workers) × (options.now.workers ≤ 64) }
-    ensures read { WasRead D.moment shared.now pinned.now seat result.1 text.now tree.now result.0 }
+    ensures read { WasRead options.now.style D.moment shared.now pinned.now seat result.1 text.now tree.now result.0 }
 {
     sources_hold_their_versions::<D>();
     let mut source = PinnedSource::new(rt, alloc, shared, seat, pinned);
     let outcome = outcome_of(
+        rt,
         alloc,
         text,
         tree,
         &pinned.names,
         &mut source,
+        options.style,
         options.workers,
         pinned.session,
         gate,

@@ -14,3 +14,4 @@ pub use session_sources::{
     Commit, CommitFault, HeldSource, PinnedSource, Seat, Shared, StoreTurn, commit,
     sources_hold_their_versions,
 };
+pub use statement_answers::{Outcome, outcome_of};

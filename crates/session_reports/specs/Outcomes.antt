@@ -23,7 +23,7 @@ abbrev pub is_fault : Option Refusal → Bool
 is_fault (Some refusals.Disk) = true
 is_fault _ = false
 
--- the page that is not as it was written
+-- the page at which a payload begins that can't be read
 abbrev pub damaged_page : Option Refusal → Option ℕ
 damaged_page (Some (refusals.Damaged page)) = Some page
 damaged_page _ = None

@@ -172,7 +172,6 @@ fn is_refused(mark: &Mark) -> bool
             Refusal::TooLong { .. }
             | Refusal::Parse { .. }
             | Refusal::HistoryFull
-            | Refusal::NotBuilt
             | Refusal::Typing { .. }
             | Refusal::Cell { .. }
             | Refusal::SequenceEnd

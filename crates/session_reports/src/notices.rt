@@ -26,7 +26,7 @@ pub enum Notice {
     NotDatabase { page: u32 },
     /// The device that was to be made a database has this many bytes.
     NotEmpty { length: u64 },
-    /// This page of the file is not as it was written.
+    /// A payload that begins at this page can't be read.
     Damaged { page: u32 },
 }
 

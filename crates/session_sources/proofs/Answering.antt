@@ -7,8 +7,8 @@ use Rattle.logical_plan.specs.declared.parts.Leaf.{Leaf}
 use Rattle.logical_plan.specs.Meaning.{Database, version_rows}
 use Rattle.chunk_source.specs.declared.sources.fault.SourceFault.{SourceFault}
 use Rattle.chunk_source.specs.Source.{SourceState, asks, version_chunks, AreNumbersIn, AsksFor, Blames, HasArray}
-use Rattle.store_state.specs.declared.fault.ReadFault.{ReadFault}
-use Rattle.store_state.specs.declared.fault.ReadFault.TheVariants.{Disk, Damaged, Memory}
+use Rattle.snapshot_manager.specs.ReadFault.{ReadFault}
+use Rattle.snapshot_manager.specs.ReadFault.TheVariants.{Disk, Damaged, Memory}
 use Rattle.session_sources.specs.declared.marks.Marks.{Marks}
 use Rattle.session_sources.specs.Inner.Marking.{answer_of, marks_after}
 

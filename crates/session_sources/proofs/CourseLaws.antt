@@ -5,8 +5,8 @@ use Rattle.std.proofs.lemmas.Bool.{and_from, and_parts}
 use Rattle.std.proofs.lemmas.List.Elements.{filter-append}
 use Rattle.turn_lock.specs.Owners.{is_owned_by, none_of}
 use Rattle.store_ledger.specs.Ledger.{is_noted, IsOpenPin}
-use Rattle.store_state.specs.declared.event.Event.{Event}
-use Rattle.store_state.specs.Events.{owner_of}
+use Rattle.snapshot_manager.specs.Event.{Event}
+use Rattle.snapshot_manager.specs.Events.{owner_of}
 use Rattle.snapshot_manager.specs.Told.{ledger_of}
 use Rattle.snapshot_manager.specs.Turns.{leaves_notes_of, leaves_pin_of, own_events}
 use Rattle.snapshot_manager.proofs.Notes.{notes_outlast, others_leave_notes}

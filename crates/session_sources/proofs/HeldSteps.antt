@@ -20,15 +20,16 @@ use Rattle.store_ledger.specs.declared.note.Note.{Note}
 use Rattle.store_ledger.specs.declared.note.NoteKind.TheVariants.{Fault}
 use Rattle.store_ledger.specs.Ledger.{LedgerState, history, is_fault, is_noted, is_tried, note_now, with_notes}
 use Rattle.store_ledger.proofs.Pins.{notes_outlast}
-use Rattle.store_state.specs.declared.event.Event.{Event}
-use Rattle.store_state.specs.declared.event.Event.TheVariants.{Noted}
-use Rattle.store_state.specs.declared.fault.ReadFault.{ReadFault}
-use Rattle.store_state.specs.declared.fault.ReadFault.TheVariants.{Disk, Damaged, Memory}
-use Rattle.store_state.specs.declared.parts.StoreParts.{StoreParts}
-use Rattle.store_state.specs.At.{standing}
-use Rattle.store_state.specs.Calls.{chunks_at, payload_at, IsLeafOf, IsUnread, NotesFault}
-use Rattle.store_state.specs.Events.{events, owner_of}
-use Rattle.store_state.specs.Standings.{Standing, database_at, BeganAs}
+use Rattle.snapshot_manager.specs.Event.{Event}
+use Rattle.snapshot_manager.specs.Event.TheVariants.{Noted}
+use Rattle.snapshot_manager.specs.ReadFault.{ReadFault}
+use Rattle.snapshot_manager.specs.ReadFault.TheVariants.{Disk, Damaged, Memory}
+use Rattle.snapshot_manager.specs.StoreParts.{StoreParts}
+use Rattle.snapshot_manager.specs.At.{standing}
+use Rattle.snapshot_manager.specs.Calls.{chunks_at, payload_at, IsLeafOf, IsUnread, NotesFault}
+use Rattle.snapshot_manager.specs.Events.{events, owner_of}
+use Rattle.snapshot_manager.specs.Payloads.{HasTold, WasDamagedAt}
+use Rattle.snapshot_manager.specs.Standings.{Standing, database_at, BeganAs}
 use Rattle.snapshot_manager.specs.Growth.{AddsEvents, AddsFault}
 use Rattle.snapshot_manager.specs.Starts.{start_of}
 use Rattle.snapshot_manager.proofs.Ended.{fault_seen, rose_or_not}
@@ -39,7 +40,7 @@ use Rattle.session_sources.specs.declared.marks.Marks.{Marks}
 use Rattle.session_sources.specs.Courses.{IsFaultAtMost}
 use Rattle.session_sources.specs.Held.{held_state, holding_of, names_now, store_then, unheld, GrowsByFault, HasHeld}
 use Rattle.session_sources.specs.Inner.Marking.{marks_after, no_marks}
-use Rattle.session_sources.specs.Stored.{numbers_at, AreRowsAfter, BeginsPayload}
+use Rattle.session_sources.specs.Stored.{numbers_at, AreRowsAfter, BeginsDamage}
 use Rattle.session_sources.proofs.Answering.{with_asked}
 use Rattle.session_sources.proofs.NoteSteps.{at_most_later, no_try}
 use Rattle.session_sources.proofs.VersionLaws.{leaf_listed, leaf_unless}
@@ -228,7 +229,7 @@ module _ {D : Type 0} (moment : D → Moment) (lent : LentTurn D) (turn : Turn (
         (record { same = was.same; adds = was.adds; tried = was.tried }) others pinned_now adds notes
 
     keeps : (made : Marks) → (0 < made.faults → IsTrue (is_noted is_fault next.ledger lent.session)) →
-        IfSome made.damaged (BeginsPayload (names_now (store_of lent.turn).ledger) (standing moment (store_of lent.turn)) (length (store_of lent.turn).ledger.entries)) →
+        IfSome made.damaged (BeginsDamage moment (names_now (store_of lent.turn).ledger) (standing moment (store_of lent.turn)) (length (store_of lent.turn).ledger.entries)) →
         ((db : Database) → BeganAs (moment (store_of lent.turn).opened.value.disk).state db → made.damaged ≡ None) → HasHeld moment (holding lent (turn_with turn next) made)
     keeps made faults damaged whole = record {
       pinned = was.pinned;
@@ -252,25 +253,31 @@ module _ {D : Type 0} (moment : D → Moment) (lent : LentTurn D) (turn : Turn (
       abbrev IsWhole : Result A ReadFault → Type 0
       IsWhole answer = (db : Database) (page : ℕ) → BeganAs (moment parts.opened.value.disk).state db → answer ≢ Err (Damaged page)
 
+      abbrev WasDamaged : Result A ReadFault → Type 0
+      WasDamaged answer = (page : ℕ) (file : List ℕ) → answer ≡ Err (Damaged page) → HasTold (moment parts.opened.value.disk).state file →
+          WasDamagedAt page (standing moment parts).first file leaf.schema
+
       noted : (answer : Result A ReadFault) → IsCause answer → 0 < (marks_after answer (with_asked number k marks)).faults → IsTrue (is_noted is_fault next.ledger lent.session)
       noted (Ok value) cause some = step.noted (was.faults some)
       noted (Err Disk) cause some = fault_seen (moment parts.file.disk).state (moment next.file.disk).state lent.session parts.ledger next.ledger pinned_now notes cause
       noted (Err (Damaged page)) cause some = step.noted (was.faults some)
       noted (Err Memory) cause some = step.noted (was.faults some)
 
-      spoiled : (answer : Result A ReadFault) → IsCause answer → IfSome (marks_after answer (with_asked number k marks)).damaged
-          (BeginsPayload (names_now (store_of lent.turn).ledger) (standing moment (store_of lent.turn)) (length (store_of lent.turn).ledger.entries))
-      spoiled (Ok value) cause = was.damaged
-      spoiled (Err Disk) cause = was.damaged
-      spoiled (Err (Damaged page)) cause = record {
+      spoiled : (answer : Result A ReadFault) → IsCause answer → WasDamaged answer → IfSome (marks_after answer (with_asked number k marks)).damaged
+          (BeginsDamage moment (names_now (store_of lent.turn).ledger) (standing moment (store_of lent.turn)) (length (store_of lent.turn).ledger.entries))
+      spoiled (Ok value) cause old = was.damaged
+      spoiled (Err Disk) cause old = was.damaged
+      spoiled (Err (Damaged page)) cause old = record {
         leaf = leaf;
         number = k;
         of = of;
         listed = among;
         begins = subst (λ (o : Option DirEntry). IsSomeAnd o (λ entry. page ≡ slice_index entry.pages 0)) (payload_then leaf k)
             (first_page (moment parts.file.disk).state (moment next.file.disk).state leaf.schema page (payload_at (standing moment parts) (length parts.ledger.entries) leaf k) cause);
+        was = λ file tells. subst (λ (x : Standing D). WasDamagedAt page x.first file leaf.schema) was.same
+            (old page file refl (subst (λ (x : Standing D). HasTold (moment x.opened.disk).state file) (sym was.same) tells));
       }
-      spoiled (Err Memory) cause = was.damaged
+      spoiled (Err Memory) cause old = was.damaged
 
       none_spoiled : (answer : Result A ReadFault) → IsWhole answer → (db : Database) → BeganAs (moment (store_of lent.turn).opened.value.disk).state db →
           (marks_after answer (with_asked number k marks)).damaged ≡ None
@@ -281,11 +288,11 @@ module _ {D : Type 0} (moment : D → Moment) (lent : LentTurn D) (turn : Turn (
       none_spoiled (Err Memory) whole db began = was.whole db began
 
       -- A CHUNK WAS READ
-      pub read_keeps : (answer : Result A ReadFault) (made : Marks) → made ≡ marks_after answer (with_asked number k marks) → IsCause answer → IsWhole answer →
+      pub read_keeps : (answer : Result A ReadFault) (made : Marks) → made ≡ marks_after answer (with_asked number k marks) → IsCause answer → WasDamaged answer → IsWhole answer →
           HasHeld moment (holding lent (turn_with turn next) made)
-      read_keeps answer made e cause whole =
+      read_keeps answer made e cause old whole =
           subst (λ (m : Marks). HasHeld moment (holding lent (turn_with turn next) m)) (sym e)
-          (keeps (marks_after answer (with_asked number k marks)) (noted answer cause) (spoiled answer cause) (none_spoiled answer whole))
+          (keeps (marks_after answer (with_asked number k marks)) (noted answer cause) (spoiled answer cause old) (none_spoiled answer whole))
 
 -- ---- what is said of a call
 

@@ -14,9 +14,9 @@ use Rattle.store_ledger.specs.declared.note.NoteKind.TheVariants.{Fault}
 use Rattle.store_ledger.specs.declared.pinned.Pinned.{Pinned}
 use Rattle.store_ledger.specs.Ledger.{LedgerState, history, is_fault, is_noted, is_tried, note_now, with_fault, with_notes, IsOpenPin}
 use Rattle.store_ledger.proofs.Keeping.{pinned_of}
-use Rattle.store_state.specs.declared.event.Event.{Event}
-use Rattle.store_state.specs.declared.event.Event.TheVariants.{Noted}
-use Rattle.store_state.specs.Events.{owner_of}
+use Rattle.snapshot_manager.specs.Event.{Event}
+use Rattle.snapshot_manager.specs.Event.TheVariants.{Noted}
+use Rattle.snapshot_manager.specs.Events.{owner_of}
 use Rattle.snapshot_manager.proofs.Ended.{fault_seen}
 use Rattle.snapshot_manager.specs.Start.{Start}
 use Rattle.snapshot_manager.specs.Growth.{fault_events}

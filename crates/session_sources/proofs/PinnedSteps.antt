@@ -12,11 +12,12 @@ use Rattle.event_core.specs.Cells.{at}
 use Rattle.event_core.specs.History.{History}
 use Rattle.store_ledger.specs.declared.pinned.Pinned.{Pinned}
 use Rattle.store_ledger.specs.Ledger.{is_fault, is_noted}
-use Rattle.store_state.specs.declared.event.Event.{Event}
-use Rattle.store_state.specs.declared.fault.ReadFault.{ReadFault}
-use Rattle.store_state.specs.declared.fault.ReadFault.TheVariants.{Disk, Damaged, Memory}
-use Rattle.store_state.specs.Calls.{chunks_at, database_with, history_at, payload_at, IsLeafOf}
-use Rattle.store_state.specs.Standings.{BeganAs}
+use Rattle.snapshot_manager.specs.Event.{Event}
+use Rattle.snapshot_manager.specs.ReadFault.{ReadFault}
+use Rattle.snapshot_manager.specs.ReadFault.TheVariants.{Disk, Damaged, Memory}
+use Rattle.snapshot_manager.specs.Calls.{chunks_at, database_with, history_at, payload_at, IsLeafOf}
+use Rattle.snapshot_manager.specs.Payloads.{HasTold, WasDamagedAt}
+use Rattle.snapshot_manager.specs.Standings.{BeganAs}
 use Rattle.snapshot_manager.specs.Start.{Start}
 use Rattle.snapshot_manager.specs.declared.seat.Seat.{Seat}
 use Rattle.snapshot_manager.specs.declared.shared.Shared.{Shared}
@@ -31,7 +32,7 @@ use Rattle.session_sources.specs.declared.reading.Lent.{Lent}
 use Rattle.session_sources.specs.declared.reading.Reading.{Reading}
 use Rattle.session_sources.specs.Inner.Marking.{marks_after, no_marks}
 use Rattle.session_sources.specs.Pinned.{pinned_state, reading_of, store_lent, unread, HasRead}
-use Rattle.session_sources.specs.Stored.{numbers_at, AreRowsAfter, BeginsPayload}
+use Rattle.session_sources.specs.Stored.{numbers_at, AreRowsAfter, BeginsDamage}
 use Rattle.session_sources.proofs.Answering.{asked_count, one_counted, with_asked}
 use Rattle.session_sources.proofs.NoteSteps.{stepped, Stepped}
 use Rattle.session_sources.proofs.VersionLaws.{leaf_listed, leaf_unless}
@@ -119,7 +120,7 @@ module _ {D : Type 0} (moment : D → Moment) (lent : Lent D) (before : Seat D) 
 
     keeps : (next : Marks) → read_count after ≡ min (read_count lent.seat + length next.asked) (2 ^ 64 - 1) →
         (0 < next.faults → IsTrue (is_noted is_fault (ledger_seen moment lent.shared after) (session_of lent.seat))) →
-        IfSome next.damaged (BeginsPayload lent.pinned.names (store_lent moment lent) lent.pinned.place) →
+        IfSome next.damaged (BeginsDamage moment lent.pinned.names (store_lent moment lent) lent.pinned.place) →
         ((db : Database) → BeganAs (moment (start moment lent.shared).opened.disk).state db → next.damaged ≡ None) → HasRead moment (reading lent after next)
     keeps next reads faults damaged whole = record {
       lent = was.lent;
@@ -143,6 +144,10 @@ module _ {D : Type 0} (moment : D → Moment) (lent : Lent D) (before : Seat D) 
       abbrev IsCause : Result A ReadFault → Type 0
       IsCause answer = IfErr answer (IsUnreadUnder (ledger_seen moment lent.shared after) (session_of before) (payload_at (store_seen moment lent.shared before) lent.pinned.place leaf k))
 
+      abbrev WasDamaged : Result A ReadFault → Type 0
+      WasDamaged answer = (page : ℕ) (file : List ℕ) → answer ≡ Err (Damaged page) → HasTold (moment (start moment lent.shared).opened.disk).state file →
+          WasDamagedAt page (store_seen moment lent.shared before).first file leaf.schema
+
       noted : (answer : Result A ReadFault) → IsCause answer → 0 < (marks_after answer (with_asked number k marks)).faults →
           IsTrue (is_noted is_fault (ledger_seen moment lent.shared after) (session_of lent.seat))
       noted (Ok value) cause some = step.noted (was.faults some)
@@ -150,18 +155,19 @@ module _ {D : Type 0} (moment : D → Moment) (lent : Lent D) (before : Seat D) 
       noted (Err (Damaged page)) cause some = step.noted (was.faults some)
       noted (Err Memory) cause some = step.noted (was.faults some)
 
-      spoiled : (answer : Result A ReadFault) → IsCause answer →
-          IfSome (marks_after answer (with_asked number k marks)).damaged (BeginsPayload lent.pinned.names (store_lent moment lent) lent.pinned.place)
-      spoiled (Ok value) cause = was.damaged
-      spoiled (Err Disk) cause = was.damaged
-      spoiled (Err (Damaged page)) cause = record {
+      spoiled : (answer : Result A ReadFault) → IsCause answer → WasDamaged answer →
+          IfSome (marks_after answer (with_asked number k marks)).damaged (BeginsDamage moment lent.pinned.names (store_lent moment lent) lent.pinned.place)
+      spoiled (Ok value) cause old = was.damaged
+      spoiled (Err Disk) cause old = was.damaged
+      spoiled (Err (Damaged page)) cause old = record {
         leaf = leaf;
         number = k;
         of = of;
         listed = among;
         begins = subst (λ (o : Option DirEntry). IsSomeAnd o (λ entry. page ≡ slice_index entry.pages 0)) (sees.payloads leaf k) cause;
+        was = λ file tells. old page file refl tells;
       }
-      spoiled (Err Memory) cause = was.damaged
+      spoiled (Err Memory) cause old = was.damaged
 
       none_spoiled : (answer : Result A ReadFault) → ((db : Database) (page : ℕ) → BeganAs (moment (start moment lent.shared).opened.disk).state db → answer ≢ Err (Damaged page)) →
           (db : Database) → BeganAs (moment (start moment lent.shared).opened.disk).state db → (marks_after answer (with_asked number k marks)).damaged ≡ None
@@ -171,16 +177,16 @@ module _ {D : Type 0} (moment : D → Moment) (lent : Lent D) (before : Seat D) 
       none_spoiled (Err Memory) whole db began = was.whole db began
 
       -- A CHUNK WAS READ
-      pub read_keeps : (answer : Result A ReadFault) (next : Marks) → next ≡ marks_after answer (with_asked number k marks) → IsCause answer →
+      pub read_keeps : (answer : Result A ReadFault) (next : Marks) → next ≡ marks_after answer (with_asked number k marks) → IsCause answer → WasDamaged answer →
           ((db : Database) (page : ℕ) → BeganAs (moment (start moment lent.shared).opened.disk).state db → answer ≢ Err (Damaged page)) →
           read_count after ≡ risen (read_count before) → HasRead moment (reading lent after next)
-      read_keeps answer next e cause whole counted =
+      read_keeps answer next e cause old whole counted =
           let made : Marks = marks_after answer (with_asked number k marks) in
           let reads : read_count after ≡ min (read_count lent.seat + length made.asked) (2 ^ 64 - 1) =
           counted ∙ ap risen was.reads ∙ one_counted (read_count lent.seat) (length marks.asked)
           ∙ ap (λ (n : ℕ). min (read_count lent.seat + n) (2 ^ 64 - 1)) (sym (asked_count answer number k marks)) in
           subst (λ (m : Marks). HasRead moment (reading lent after m)) (sym e)
-          (keeps made reads (noted answer cause) (spoiled answer cause) (none_spoiled answer whole))
+          (keeps made reads (noted answer cause) (spoiled answer cause old) (none_spoiled answer whole))
 
 -- ---- what is said of a call
 

@@ -11,7 +11,7 @@ use Rattle.logical_plan.specs.declared.parts.Leaf.{Leaf}
 use Rattle.plan_changes.specs.Changes.{entry_named}
 use Rattle.plan_changes.specs.Typed.{IsVersionOf}
 use Rattle.event_core.proofs.Tests.{both_not}
-use Rattle.store_state.specs.Calls.{IsLeafOf}
+use Rattle.snapshot_manager.specs.Calls.{IsLeafOf}
 use Rattle.session_sources.specs.Laws.{HeldSourcesHoldVersions, PinnedSourcesHoldVersions}
 use Rattle.session_sources.specs.Held.{names_now, store_then}
 use Rattle.session_sources.specs.Stored.{schema_in, schema_of}

@@ -9,11 +9,11 @@ use Rattle.event_core.specs.History.{names_at}
 use Rattle.turn_lock.specs.Owners.{ExtendsByOwn}
 use Rattle.turn_lock.specs.declared.seat.Turn.{Turn}
 use Rattle.store_ledger.specs.Ledger.{LedgerState, history, is_fault, is_noted, is_tried}
-use Rattle.store_state.specs.declared.event.Event.{Event}
-use Rattle.store_state.specs.declared.parts.StoreParts.{StoreParts}
-use Rattle.store_state.specs.At.{standing}
-use Rattle.store_state.specs.Events.{events, owner_of}
-use Rattle.store_state.specs.Standings.{Standing, BeganAs}
+use Rattle.snapshot_manager.specs.Event.{Event}
+use Rattle.snapshot_manager.specs.StoreParts.{StoreParts}
+use Rattle.snapshot_manager.specs.At.{standing}
+use Rattle.snapshot_manager.specs.Events.{events, owner_of}
+use Rattle.snapshot_manager.specs.Standings.{Standing, BeganAs}
 use Rattle.snapshot_manager.specs.Starts.{start_of}
 use Rattle.snapshot_manager.specs.declared.seat.Seat.{Seat}
 use Rattle.snapshot_manager.specs.Seats.{store_of, HasTurn}
@@ -21,7 +21,7 @@ use Rattle.session_sources.specs.declared.holding.Holding.{Holding}
 use Rattle.session_sources.specs.declared.marks.Marks.{Marks}
 use Rattle.session_sources.specs.Courses.{IsFaultAtMost}
 use Rattle.session_sources.specs.Inner.Marking.{no_marks}
-use Rattle.session_sources.specs.Stored.{numbers_at, schema_of, AreRowsAfter, BeginsPayload}
+use Rattle.session_sources.specs.Stored.{numbers_at, schema_of, AreRowsAfter, BeginsDamage}
 
 abbrev pub holding_of : {D : Type 0} → ℕ → Turn (StoreParts D) → Turn (StoreParts D) → Marks → Holding D
 holding_of session before turn marks = record { lent = record { turn = before; session = session }; turn = turn; marks = marks }
@@ -76,6 +76,8 @@ pub record HasHeld {D : Type 0} (moment : D → Moment) (h : Holding D) : Type 0
   -- a failure comes only with such a note, and no commit was tried
   pub faults : 0 < h.marks.faults → IsTrue (is_noted is_fault (store_now moment h).ledger h.lent.session)
   pub tried : is_noted is_tried (store_now moment h).ledger h.lent.session ≡ is_noted is_tried (store_then moment h).ledger h.lent.session
-  -- a damaged page begins the payload of a chunk that the store has. There is none where the store began as a database
-  pub damaged : IfSome h.marks.damaged (BeginsPayload (names_now (store_then moment h).ledger) (store_then moment h) (length (store_then moment h).ledger.entries))
+  -- a damaged page begins the payload of a chunk that the store has, and it was damaged as the file was opened. There is none where the store
+  -- began as a database
+  pub damaged : IfSome h.marks.damaged
+      (BeginsDamage moment (names_now (store_then moment h).ledger) (store_then moment h) (length (store_then moment h).ledger.entries))
   pub whole : (db : Database) → BeganAs (moment (store_then moment h).opened.disk).state db → h.marks.damaged ≡ None

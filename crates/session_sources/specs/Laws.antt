@@ -7,8 +7,8 @@ use Rattle.logical_plan.specs.declared.parts.Leaf.{Leaf}
 use Rattle.store_ledger.specs.declared.note.NoteKind.{NoteKind}
 use Rattle.store_ledger.specs.declared.pinned.Pinned.{Pinned}
 use Rattle.store_ledger.specs.Ledger.{LedgerState, is_noted, IsOpenPin}
-use Rattle.store_state.specs.declared.event.Event.{Event}
-use Rattle.store_state.specs.Calls.{IsLeafOf}
+use Rattle.snapshot_manager.specs.Event.{Event}
+use Rattle.snapshot_manager.specs.Calls.{IsLeafOf}
 use Rattle.snapshot_manager.specs.Start.{Start}
 use Rattle.snapshot_manager.specs.Told.{ledger_of}
 use Rattle.snapshot_manager.specs.Turns.{leaves_notes_of, leaves_pin_of, own_events, Adds}

@@ -5,8 +5,8 @@ use Rattle.chunk_source.specs.Source.{SourceState}
 use Rattle.plan_changes.specs.Databases.{Database}
 use Rattle.store_ledger.specs.declared.pinned.Pinned.{Pinned}
 use Rattle.store_ledger.specs.Ledger.{is_fault, is_noted, is_tried}
-use Rattle.store_state.specs.Calls.{history_at}
-use Rattle.store_state.specs.Standings.{Standing, BeganAs}
+use Rattle.snapshot_manager.specs.Calls.{history_at}
+use Rattle.snapshot_manager.specs.Standings.{Standing, BeganAs}
 use Rattle.snapshot_manager.specs.declared.seat.Seat.{Seat}
 use Rattle.snapshot_manager.specs.declared.shared.Shared.{Shared}
 use Rattle.snapshot_manager.specs.Seats.{ledger_seen, read_count, seen, session_of, start, store_seen, HoldsPin, IsIdle, IsSameSeat, IsSeatOf}
@@ -15,7 +15,7 @@ use Rattle.session_sources.specs.declared.reading.Lent.{Lent}
 use Rattle.session_sources.specs.declared.reading.Reading.{Reading}
 use Rattle.session_sources.specs.Courses.{AddsAtMostFault}
 use Rattle.session_sources.specs.Inner.Marking.{no_marks}
-use Rattle.session_sources.specs.Stored.{numbers_at, schema_of, AreRowsAfter, BeginsPayload}
+use Rattle.session_sources.specs.Stored.{numbers_at, schema_of, AreRowsAfter, BeginsDamage}
 
 abbrev pub reading_of : {D : Type 0} → Shared D → Pinned → Seat D → Seat D → Marks → Reading D
 reading_of shared pinned before seat marks =
@@ -58,6 +58,7 @@ pub record HasRead {D : Type 0} (moment : D → Moment) (r : Reading D) : Type 0
   pub faults : 0 < r.marks.faults → IsTrue (is_noted is_fault (ledger_seen moment r.lent.shared r.seat) (session_of r.lent.seat))
   pub tried : is_noted is_tried (ledger_seen moment r.lent.shared r.seat) (session_of r.lent.seat)
       ≡ is_noted is_tried (ledger_seen moment r.lent.shared r.lent.seat) (session_of r.lent.seat)
-  -- a damaged page begins the payload of a chunk that the pin sees. There is none where the store began as a database
-  pub damaged : IfSome r.marks.damaged (BeginsPayload r.lent.pinned.names (store_lent moment r.lent) r.lent.pinned.place)
+  -- a damaged page begins the payload of a chunk that the pin sees, and it was damaged as the file was opened. There is none where the store
+  -- began as a database
+  pub damaged : IfSome r.marks.damaged (BeginsDamage moment r.lent.pinned.names (store_lent moment r.lent) r.lent.pinned.place)
   pub whole : (db : Database) → BeganAs (moment (start moment r.lent.shared).opened.disk).state db → r.marks.damaged ≡ None

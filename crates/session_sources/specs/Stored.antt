@@ -14,8 +14,9 @@ use Rattle.plan_changes.specs.Databases.{Database, rows_of}
 use Rattle.event_core.specs.Cells.{at}
 use Rattle.event_core.specs.History.{History}
 use Rattle.store_versions.specs.Versions.{directory_of}
-use Rattle.store_state.specs.Calls.{chunks_at, history_at, numbers_in, payload_at, IsLeafOf}
-use Rattle.store_state.specs.Standings.{Standing, versions_after, BeganAs}
+use Rattle.snapshot_manager.specs.Calls.{chunks_at, history_at, numbers_in, payload_at, IsLeafOf}
+use Rattle.snapshot_manager.specs.Payloads.{HasTold, WasDamagedAt}
+use Rattle.snapshot_manager.specs.Standings.{Standing, versions_after, BeganAs}
 
 -- an array's schema, for each version that it has
 abbrev pub schema_in : Option NameEntry → ℕ → Option Schema
@@ -36,10 +37,12 @@ pub record AreRowsAfter {D : Type 0} (moment : D → Moment) (s : Standing D) (h
   pub began : BeganAs (moment s.opened.disk).state db
   pub is : rows ≡ rows_of (at db h)
 
--- the payload of some chunk begins at this page, as a place sees it
-pub record BeginsPayload {D : Type 0} (names : Names) (s : Standing D) (place page : ℕ) : Type 0 where
+-- DAMAGE: the payload of some chunk begins at this page, as a place sees it. Where an honest disk told its bytes as it was opened, a payload
+-- was listed then that begins there, and by the schema of this chunk's array it wasn't whole
+pub record BeginsDamage {D : Type 0} (moment : D → Moment) (names : Names) (s : Standing D) (place page : ℕ) : Type 0 where
   pub leaf : Leaf
   pub number : ArrayVec ℕ
   pub of : IsLeafOf names leaf
   pub listed : IsTrue (is_among number (chunks_at s place leaf))
   pub begins : IsSomeAnd (payload_at s place leaf number) (λ entry. page ≡ slice_index entry.pages 0)
+  pub was : (file : List ℕ) → HasTold (moment s.opened.disk).state file → WasDamagedAt page s.first file leaf.schema

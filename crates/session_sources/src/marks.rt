@@ -5,8 +5,8 @@ ghost use Rattle.chunk_source.specs.Source.{asks};
 use array_geom::Chunk;
 use cell_values::{ChunkAt, List, Memory, copy_numbers};
 use chunk_source::{Asked, SourceFault};
+use snapshot_manager::ReadFault;
 use std::alloc::Global;
-use store_state::ReadFault;
 
 /// The chunks that were asked for, the first one first, the page that was found damaged, and how often the source has failed, up to the
 /// last value of a `u64`.

@@ -1,4 +1,5 @@
 pub use Rattle.afl_session.proofs.InHistories
+pub use Rattle.snapshot_manager.proofs.Telling
 pub mod Crossing
 pub mod Desks
 pub mod Reaps

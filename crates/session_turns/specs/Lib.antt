@@ -2,6 +2,8 @@ pub use Rattle.session_outcomes.specs.Acts
 pub use Rattle.session_outcomes.specs.BehindPins
 pub use Rattle.session_outcomes.specs.Changing
 pub use Rattle.session_outcomes.specs.Fresh
+pub use Rattle.session_outcomes.specs.Outcome
+pub use Rattle.session_outcomes.specs.Outcomes
 pub use Rattle.session_outcomes.specs.Refusals
 pub use Rattle.session_outcomes.specs.Replies
 pub use Rattle.session_outcomes.specs.Reply
@@ -27,5 +29,6 @@ pub use Rattle.session_sources.specs.Turns
 pub use Rattle.session_sources.specs.declared.marks.Marks
 pub use Rattle.session_sources.specs.declared.reading.Lent
 pub use Rattle.session_sources.specs.declared.reading.Reading
+pub use Rattle.statement_replies.specs.declared.style.Style
 pub mod AnsweredUnder
 pub mod Inner

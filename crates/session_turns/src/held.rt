@@ -26,17 +26,17 @@ use cell_values::Memory;
 use logical_plan::Names;
 use plan_changes::Change;
 use session_outcomes::{
-    CommitFault, HeldSource, Reply, Seat, Shared, StoreTurn, at_place, commit, uncommitted, unread,
-    want,
+    CommitFault, HeldSource, Outcome, Reply, Seat, Shared, StoreTurn, at_place, commit, outcome_of,
+    uncommitted, unread, want,
 };
-use statement_answers::{Outcome, outcome_of};
 use statement_replies::Reply as Words;
 use std::alloc::Global;
 use std::sync::Wait;
+use std::thread::Threads;
 use store_ledger::Pinned;
 
 /// Answers a statement over the store of a turn that its seat holds, and ends the turn. Under the pin the statement was a change.
-pub fn answer_held<D: Disk, R: Wait, G: Gate>(
+pub fn answer_held<D: Disk, R: Threads + Wait + Sync, G: Gate>(
     rt: &R,
     alloc: Global,
     shared: &Shared<D>,
@@ -61,20 +61,30 @@ pub fn answer_held<D: Disk, R: Wait, G: Gate>(
     ensures same { IsSameSeat seat result.1 }
     ensures reads { read_count result.1 ≡ read_count seat }
     ensures pin { HoldsPin D.moment shared.now result.1 pinned.now }
-    ensures answered { IsAnsweredInTurn D.moment (start D.moment shared.now) pinned.now.session pinned.now.place
+    ensures answered { IsAnsweredInTurn options.now.style D.moment (start D.moment shared.now) pinned.now.session pinned.now.place
         (seen seat) (seen result.1) text.now tree.now result.0 }
 {
     let mut seat = seat;
     let mut turn = turn;
     turn.value().is_at();
-    let (reply, mut turn) = answer_in_turn(alloc, turn, pinned.session, text, tree, options, gate);
+    let (reply, mut turn) = answer_in_turn(
+        rt,
+        alloc,
+        turn,
+        pinned.session,
+        text,
+        tree,
+        options,
+        gate,
+    );
     turn.value().is_at();
     shared.end_turn(rt, &mut seat, turn);
     (reply, seat)
 }
 
 /// Answers a statement of a session over the store of a turn.
-fn answer_in_turn<D: Disk, G: Gate>(
+fn answer_in_turn<D: Disk, R: Threads + Sync, G: Gate>(
+    rt: &R,
     alloc: Global,
     turn: StoreTurn<D>,
     session: u32,
@@ -89,19 +99,20 @@ fn answer_in_turn<D: Disk, G: Gate>(
     requires fit { IsTrue (leaves_fit tree.now) }
     requires workers { (1 ≤ options.now.workers) × (options.now.workers ≤ 64) }
     ensures keeps { KeepsTurn D.moment session turn result.1 }
-    ensures goes { Goes D.moment session turn result.1 text.now tree.now result.0 }
+    ensures goes { Goes options.now.style D.moment session turn result.1 text.now tree.now result.0 }
 {
     let mut turn = turn;
     let store = turn.value();
     let place = store.history().len() as u64;
     match store.names().copy() {
-        Ok(names) => answer_over(alloc, turn, session, text, tree, &names, options, gate),
+        Ok(names) => answer_over(rt, alloc, turn, session, text, tree, &names, options, gate),
         Err(Memory) => (want(alloc, place), turn),
     }
 }
 
 /// Answers a statement over the store of a turn, whose names these are.
-fn answer_over<D: Disk, G: Gate>(
+fn answer_over<D: Disk, R: Threads + Sync, G: Gate>(
+    rt: &R,
     alloc: Global,
     turn: StoreTurn<D>,
     session: u32,
@@ -119,15 +130,17 @@ fn answer_over<D: Disk, G: Gate>(
     requires fit { IsTrue (leaves_fit tree.now) }
     requires workers { (1 ≤ options.now.workers) × (options.now.workers ≤ 64) }
     ensures keeps { KeepsTurn D.moment session turn result.1 }
-    ensures goes { Goes D.moment session turn result.1 text.now tree.now result.0 }
+    ensures goes { Goes options.now.style D.moment session turn result.1 text.now tree.now result.0 }
 {
     let mut source = HeldSource::new(alloc, turn, session);
     let outcome = outcome_of(
+        rt,
         alloc,
         text,
         tree,
         names,
         &mut source,
+        options.style,
         options.workers,
         session,
         gate,

@@ -5,7 +5,7 @@ mod silent_disk;
 mod starts;
 mod tally;
 
-pub use array_store::Store;
 pub use silent_disk::SilentDisk;
 pub use starts::{opened_over, with_change};
 pub use tally::push_tally;
+pub use test_stores::Store;

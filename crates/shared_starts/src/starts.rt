@@ -3,14 +3,14 @@ ghost use Rattle.std.specs.Prelude.{◌≡◌, [], IfOk};
 ghost use Rattle.test_stores.specs.Holds.{HasNoPins};
 
 use crate::silent_disk::SilentDisk;
-use array_store::Store;
 use cell_values::{Bytes, Memory};
 use page_file::OpenCause;
 use std::alloc::Global;
+use std::thread::Threads;
 use store_opening::Limits;
 use test_disks::QuietDisk;
 use test_files::disk_of;
-use test_stores::{once, opened};
+use test_stores::{Store, once, opened};
 
 /// How much the store may use that makes a database.
 const LIMITS: Limits = Limits {
@@ -19,11 +19,16 @@ const LIMITS: Limits = Limits {
 };
 
 /// The database with a change.
-pub fn with_change(alloc: Global, file: Bytes, change: &str) -> Result<Bytes, Memory> {
+pub fn with_change<R: Threads + Sync>(
+    rt: &R,
+    alloc: Global,
+    file: Bytes,
+    change: &str,
+) -> Result<Bytes, Memory> {
     let (disk, watch) = QuietDisk::watched(alloc, disk_of(alloc, file, None)?)?;
     match opened(alloc, disk, LIMITS) {
         Ok(mut store) => {
-            let answer = once(alloc, &mut store, 0, change.as_bytes());
+            let answer = once(rt, alloc, &mut store, 0, change.as_bytes());
             drop(answer);
             drop(store);
             watch.bytes()

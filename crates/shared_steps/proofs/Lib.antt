@@ -1,1 +1,2 @@
+pub use Rattle.snapshot_manager.proofs.Sights
 pub mod Seeing

@@ -7,4 +7,5 @@ mod visits;
 
 pub use answers::Answer;
 pub use seats::{taken, with_seat};
+pub use snapshot_manager::{Seat, Shared};
 pub use visits::{Hold, change, once, pin, unpin};

@@ -18,6 +18,7 @@ use plan_changes::{Change, changed_name, has_its_names, newest_of};
 use snapshot_manager::{Commit, Seat, Shared, Store, StoreTurn};
 use std::alloc::Global;
 use std::sync::Wait;
+use std::thread::Threads;
 use store_ledger::{PinFault, Pinned};
 use test_stores::{Answer as StoreAnswer, Offer, offer_over};
 
@@ -169,7 +170,7 @@ fn committed_offer<D: Disk, R: Wait>(
 }
 
 /// The change that a text is under a session's pin, committed under it.
-pub fn change<D: Disk, R: Wait>(
+pub fn change<D: Disk, R: Threads + Wait + Sync>(
     rt: &R,
     alloc: Global,
     shared: &Shared<D>,
@@ -186,7 +187,7 @@ pub fn change<D: Disk, R: Wait>(
     match held {
         Hold::Free => (Hold::Free, Answer::Told(StoreAnswer::HasNoPin)),
         Hold::Used(pinned) => (Hold::Used(pinned), Answer::HasUsed),
-        Hold::Pinned(pinned) => match offer_over(alloc, &pinned.names, text) {
+        Hold::Pinned(pinned) => match offer_over(rt, alloc, &pinned.names, text) {
             Ok(offer) => {
                 let answer = committed_offer(rt, alloc, shared, seat, &pinned, offer);
                 (Hold::Used(pinned), answer)
@@ -197,7 +198,7 @@ pub fn change<D: Disk, R: Wait>(
 }
 
 /// A pin of a session that has none, the change that a text is, committed under it, and the unpin.
-pub fn once<D: Disk, R: Wait>(
+pub fn once<D: Disk, R: Threads + Wait + Sync>(
     rt: &R,
     alloc: Global,
     shared: &Shared<D>,

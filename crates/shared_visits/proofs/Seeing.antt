@@ -5,12 +5,12 @@ use Rattle.logical_plan.specs.declared.parts.Leaf.{Leaf}
 use Rattle.store_ledger.specs.declared.pinned.Pinned.{Pinned}
 use Rattle.store_state.specs.declared.event.Event.{Event}
 use Rattle.store_state.specs.Calls.{chunks_at}
-use Rattle.snapshot_manager.specs.Told.{told}
-use Rattle.snapshot_manager.specs.Turns.{Adds}
-use Rattle.snapshot_manager.proofs.Sights.{pins_see_the_same}
-use Rattle.snapshot_manager.specs.declared.seat.Seat.{Seat}
-use Rattle.snapshot_manager.specs.declared.shared.Shared.{Shared}
-use Rattle.snapshot_manager.specs.Seats.{HoldsPin, IsSeatOf, seen, session_of, start, store_seen}
+use Rattle.shared_steps.specs.Told.{told}
+use Rattle.shared_steps.specs.Turns.{Adds}
+use Rattle.shared_steps.proofs.Sights.{pins_see_the_same}
+use Rattle.shared_steps.specs.Seat.{Seat}
+use Rattle.shared_steps.specs.Shared.{Shared}
+use Rattle.shared_steps.specs.Seats.{HoldsPin, IsSeatOf, seen, session_of, start, store_seen}
 
 module _ {D : Type 0} (moment : D → Moment) (shared : Shared D) where
   -- a look at the chunks under a pin leaves them as they are

@@ -1,7 +1,7 @@
 -- A session that keeps its seat.
 use Rattle.afl_outside.specs.Disk.{Moment}
-use Rattle.snapshot_manager.specs.declared.shared.Shared.{Shared}
-use Rattle.snapshot_manager.specs.Seats.{IsIdle, IsSeatOf}
+use Rattle.shared_steps.specs.Shared.{Shared}
+use Rattle.shared_steps.specs.Seats.{IsIdle, IsSeatOf}
 use Rattle.shared_steps.specs.Visits.{IsHeld}
 use Rattle.shared_visits.specs.declared.visitors.Visitor.{Visitor}
 

@@ -3,7 +3,7 @@ ghost use Rattle.std.specs.Prelude.{IfOk, IfSome};
 ghost use Rattle.cell_values.specs.Schemas.{IsValid};
 ghost use Rattle.plan_changes.specs.Stored.{AreStored};
 ghost use Rattle.store_state.specs.Calls.{IsLeafOf};
-ghost use Rattle.snapshot_manager.specs.Seats.{HoldsPin, IsIdle, IsSeatOf};
+ghost use Rattle.shared_steps.specs.Seats.{HoldsPin, IsIdle, IsSeatOf};
 ghost use Rattle.test_readings.specs.Cells.{IsRead};
 ghost use Rattle.shared_steps.specs.Visits.{IsHeld, IsPinOf};
 
@@ -12,8 +12,7 @@ use array_geom::Chunk;
 use cell_values::{Bytes, List, Memory, Name, Row};
 use logical_plan::{Leaf, Names};
 use result_print::dcsv;
-use shared_steps::{Answer, Hold};
-use snapshot_manager::{Seat, Shared};
+use shared_steps::{Answer, Hold, Seat, Shared};
 use std::alloc::Global;
 use std::sync::Wait;
 use store_ledger::Pinned;

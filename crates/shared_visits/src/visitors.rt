@@ -1,15 +1,15 @@
 //! Steps of a session that keeps its seat.
-ghost use Rattle.snapshot_manager.specs.Seats.{IsIdle, IsSeatOf};
+ghost use Rattle.shared_steps.specs.Seats.{IsIdle, IsSeatOf};
 ghost use Rattle.shared_steps.specs.Visits.{IsFree, IsHeld, IsUntold};
 ghost use Rattle.shared_visits.specs.Visitors.{IsVisitor};
 
 use crate::reading::told_cells;
 use afl_outside::Disk;
-use shared_steps::{Answer, Hold, change, once, pin, unpin};
-use snapshot_manager::{Seat, Shared};
+use shared_steps::{Answer, Hold, Seat, Shared, change, once, pin, unpin};
 use std::alloc::Global;
 use std::mem::replace;
 use std::sync::Wait;
+use std::thread::Threads;
 use test_stores::Answer as StoreAnswer;
 
 /// A session's seat, and what it has of the store.
@@ -36,7 +36,7 @@ fn is_made(answer: Answer) -> bool {
 }
 
 /// How many commits are made of a store and a removal of all versions before it.
-fn renew_once<D: Disk, R: Wait>(
+fn renew_once<D: Disk, R: Threads + Wait + Sync>(
     rt: &R,
     alloc: Global,
     shared: &Shared<D>,
@@ -58,7 +58,7 @@ fn renew_once<D: Disk, R: Wait>(
     u64::from(stored) + u64::from(removed)
 }
 
-fn renewed<D: Disk, R: Wait>(
+fn renewed<D: Disk, R: Threads + Wait + Sync>(
     rt: &R,
     alloc: Global,
     shared: &Shared<D>,
@@ -76,7 +76,7 @@ fn renewed<D: Disk, R: Wait>(
     made
 }
 
-fn renew<D: Disk, R: Wait>(
+fn renew<D: Disk, R: Threads + Wait + Sync>(
     rt: &R,
     alloc: Global,
     shared: &Shared<D>,
@@ -100,7 +100,7 @@ fn renew<D: Disk, R: Wait>(
     }
 }
 
-fn take_step<D: Disk, R: Wait>(
+fn take_step<D: Disk, R: Threads + Wait + Sync>(
     rt: &R,
     alloc: Global,
     shared: &Shared<D>,
@@ -128,7 +128,7 @@ fn take_step<D: Disk, R: Wait>(
 
 impl<D: Disk> Visitor<D> {
     /// What a step of the session is answered.
-    pub fn answer<R: Wait>(
+    pub fn answer<R: Threads + Wait + Sync>(
         &mut self,
         rt: &R,
         alloc: Global,

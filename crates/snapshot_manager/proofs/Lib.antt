@@ -6,4 +6,5 @@ pub use Rattle.told_stores.proofs.Sights
 pub use Rattle.told_stores.proofs.Telling
 pub use Rattle.told_stores.proofs.TriedTurns
 pub use Rattle.told_stores.proofs.Turning
+pub mod Damages
 pub mod Seating

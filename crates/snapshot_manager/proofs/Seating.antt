@@ -6,8 +6,8 @@ use Rattle.turn_lock.specs.Seats.{AreNewSeats as AreNewTurnSeats, IsNewSeat as I
 use Rattle.turn_lock.specs.declared.view.Claim.{Claim}
 use Rattle.turn_lock.specs.declared.seat.LockSeat.{LockSeat}
 use Rattle.turn_lock.proofs.Gathering.{places_more}
-use Rattle.store_state.specs.declared.event.Event.{Event}
-use Rattle.store_state.specs.declared.parts.StoreParts.{StoreParts}
+use Rattle.told_stores.specs.Event.{Event}
+use Rattle.told_stores.specs.StoreParts.{StoreParts}
 use Rattle.snapshot_manager.specs.declared.seat.Seat.{Seat}
 use Rattle.snapshot_manager.specs.declared.shared.Shared.{Shared}
 use Rattle.snapshot_manager.specs.Seats.{AreNewSeats, IsNewSeat}

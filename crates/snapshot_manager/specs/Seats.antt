@@ -9,11 +9,11 @@ use Rattle.turn_lock.specs.declared.seat.Turn.{Turn}
 use Rattle.event_core.specs.Allowed.{is_pinned}
 use Rattle.store_ledger.specs.declared.pinned.Pinned.{Pinned}
 use Rattle.store_ledger.specs.Ledger.{LedgerState, history, IsOpenPin}
-use Rattle.store_state.specs.declared.event.Event.{Event}
-use Rattle.store_state.specs.declared.parts.StoreParts.{StoreParts}
-use Rattle.store_state.specs.At.{standing}
-use Rattle.store_state.specs.Events.{owner_of}
-use Rattle.store_state.specs.Standings.{Standing}
+use Rattle.told_stores.specs.Event.{Event}
+use Rattle.told_stores.specs.StoreParts.{StoreParts}
+use Rattle.told_stores.specs.At.{standing}
+use Rattle.told_stores.specs.Events.{owner_of}
+use Rattle.told_stores.specs.Standings.{Standing}
 use Rattle.told_stores.specs.Start.{Start}
 use Rattle.told_stores.specs.Starts.{start_of}
 use Rattle.snapshot_manager.specs.declared.shared.Shared.{Shared}

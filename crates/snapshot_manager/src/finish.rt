@@ -1,8 +1,8 @@
 //! How a store is taken back from its sessions.
 ghost use Rattle.std.specs.Prelude.{◌≡◌, length};
 ghost use Rattle.turn_lock.specs.Owners.{AreOwnedBelow};
-ghost use Rattle.store_state.specs.At.{standing};
-ghost use Rattle.store_state.specs.Events.{events, owner_of};
+ghost use Rattle.told_stores.specs.At.{standing};
+ghost use Rattle.told_stores.specs.Events.{events, owner_of};
 ghost use Rattle.told_stores.specs.Starts.{start_of};
 ghost use Rattle.snapshot_manager.specs.Seats.{seats_in_all, start, AreIdleSeats, ExtendEach};
 

@@ -13,4 +13,4 @@ mod turns;
 pub use committing::Commit;
 pub use seat::Seat;
 pub use shared::{Shared, StoreTurn};
-pub use told_stores::{CommitFault, Store, commit};
+pub use told_stores::{CommitFault, ReadFault, Store, commit};

@@ -1,12 +1,13 @@
 //! What a pin sees.
-ghost use Rattle.std.specs.Prelude.{◌≡◌, ◌≢◌, ℕ, [], Err, IfOk, IfErr, IsTrue};
+ghost use Rattle.std.specs.Prelude.{◌≡◌, ◌≢◌, ℕ, List, [], Err, IfOk, IfErr, IsTrue};
 ghost use Rattle.afl_outside.specs.Counts.{risen};
 ghost use Rattle.array_geom.specs.Link.{NumbersRise};
 ghost use Rattle.chunk_source.specs.Source.{numbers_of, is_among, AreNumbersIn, IsChunkIn, IsStored};
 ghost use Rattle.plan_changes.specs.Databases.{Database, rows_of};
-ghost use Rattle.store_state.specs.Calls.{chunks_at, database_with, payload_at, IsLeafOf};
-ghost use Rattle.store_state.specs.Standings.{BeganAs};
-ghost use Rattle.store_state.specs.declared.fault.ReadFault.TheVariants.{Damaged};
+ghost use Rattle.told_stores.specs.Calls.{chunks_at, database_with, payload_at, IsLeafOf};
+ghost use Rattle.store_state.specs.Payloads.{HasTold, WasDamagedAt};
+ghost use Rattle.told_stores.specs.Standings.{BeganAs};
+ghost use Rattle.told_stores.specs.ReadFault.TheVariants.{Damaged};
 ghost use Rattle.told_stores.specs.Faults.{IsUnreadUnder};
 ghost use Rattle.snapshot_manager.specs.Seats.{ledger_seen, read_count, seen, session_of, start, store_seen, HoldsPin, IsIdle, IsSameSeat, IsSeatOf};
 ghost use Rattle.told_stores.specs.Turns.{Adds, AddsAtMostNote};
@@ -20,7 +21,7 @@ use logical_plan::Leaf;
 use std::alloc::Global;
 use std::sync::Wait;
 use store_ledger::Pinned;
-use store_state::ReadFault;
+use told_stores::ReadFault;
 
 impl<D: Disk> Shared<D> {
     /// The numbers of a leaf's chunks under the session's pin, rising.
@@ -74,6 +75,8 @@ impl<D: Disk> Shared<D> {
         ensures told { IfOk result (λ chunk. (db : Database) → BeganAs (D.moment (start D.moment self.now).opened.disk).state db
             → IsChunkIn (rows_of (database_with db (store_seen D.moment self.now seat.old) pinned.now.place)) leaf.now chunk) }
         ensures whole { (db : Database) (page : ℕ) → BeganAs (D.moment (start D.moment self.now).opened.disk).state db → result ≢ Err (Damaged page) }
+        ensures damaged { (page : ℕ) (file : List ℕ) → result ≡ Err (Damaged page) → HasTold (D.moment (start D.moment self.now).opened.disk).state file
+            → WasDamagedAt page (store_seen D.moment self.now seat.old).first file leaf.now.schema }
         ensures cause { IfErr result (IsUnreadUnder (ledger_seen D.moment self.now seat.new) (session_of seat.old)
             (payload_at (store_seen D.moment self.now seat.old) pinned.now.place leaf.now at.now)) }
     {

@@ -10,6 +10,7 @@ ghost use Rattle.afl_types.specs.declared.statements.checking.Typed.TheVariants.
 ghost use Rattle.statement_replies.specs.Reading.{HoldsVersions};
 ghost use Rattle.statement_replies.specs.Reply.{cell_reply};
 ghost use Rattle.statement_replies.specs.Statements.{change_reply, reply_to_typed};
+ghost use Rattle.statement_replies.specs.declared.style.Style.{Style};
 ghost use Rattle.statement_answers.specs.Inner.Made.{HasChunks, IsMadeIn, IsPutUnder, leaves_made, outcome_with};
 ghost use Rattle.statement_answers.specs.Outcomes.{HasOutcomeKind, IsOutcomeOf, IsToldBy, asked_for, change_leaves, newest_leaf};
 
@@ -24,6 +25,7 @@ use plan_changes::{Change, has_its_names, let_go_change, newest_of};
 use result_print::Refusal;
 use statement_replies::{Reply, accepted_line, refuse};
 use std::alloc::Global;
+use std::thread::Threads;
 
 /// The newest version of an array, version 0 where there is none.
 fn newest_leaf(names: &Names, name: &Name, schema: &Schema) -> Result<Leaf, Memory>
@@ -37,7 +39,8 @@ fn newest_leaf(names: &Names, name: &Name, schema: &Schema) -> Result<Leaf, Memo
 }
 
 /// The chunks of a change that puts a version under this name, with this schema, or its fault.
-fn chunks_put<S: ChunkSource, G: Gate>(
+fn chunks_put<S: ChunkSource, R: Threads + Sync, G: Gate>(
+    rt: &R,
     alloc: Global,
     change: &Change,
     name: &Name,
@@ -65,14 +68,15 @@ fn chunks_put<S: ChunkSource, G: Gate>(
     ensures start { S.start source.new ≡ S.start source.old }
 {
     let target = newest_leaf(names, name, schema)?;
-    match changed(alloc, change, &target, source, workers, session, gate)? {
+    match changed(rt, alloc, change, &target, source, workers, session, gate)? {
         Ok(changed) => Ok(Ok(Some(changed))),
         Err(broken) => Ok(Err(broken)),
     }
 }
 
 /// The chunks that come with a change, or its fault.
-fn chunks_of<S: ChunkSource, G: Gate>(
+fn chunks_of<S: ChunkSource, R: Threads + Sync, G: Gate>(
+    rt: &R,
     alloc: Global,
     change: &Change,
     names: &Names,
@@ -98,10 +102,10 @@ fn chunks_of<S: ChunkSource, G: Gate>(
 {
     match change {
         Change::Store { name, schema, .. } => chunks_put(
-            alloc, change, name, schema, names, source, workers, session, gate,
+            rt, alloc, change, name, schema, names, source, workers, session, gate,
         ),
         Change::Insert { name, schema, .. } => chunks_put(
-            alloc, change, name, schema, names, source, workers, session, gate,
+            rt, alloc, change, name, schema, names, source, workers, session, gate,
         ),
         Change::Create { .. } => Ok(Ok(None)),
         Change::Remove { .. } => Ok(Ok(None)),
@@ -131,8 +135,9 @@ fn faulty(alloc: Global, broken: Broken) -> Result<Reply, Memory>
     refuse(alloc, Refusal::Cell { at, kind })
 }
 
-/// What a change is answered: it is offered for a commit, or refused.
-fn offer_of<S: ChunkSource, G: Gate>(
+/// What a change is answered, in each style: it is offered for a commit, or refused.
+fn offer_of<S: ChunkSource, R: Threads + Sync, G: Gate>(
+    rt: &R,
     alloc: Global,
     change: &Change,
     names: &Names,
@@ -146,9 +151,9 @@ fn offer_of<S: ChunkSource, G: Gate>(
     requires typed { IsTypedFor names.now change.now }
     requires holds { HoldsVersions names.now (S.state source.old) }
     requires workers { (1 ≤ workers) × (workers ≤ 64) }
-    ensures kind { IfOk result (λ offer. HasOutcomeKind names.now (Good (AChange change.now)) (outcome_with change.now offer)) }
-    ensures told { IfOk result (λ offer. (db : Database) → IsToldBy names.now (S.state source.old) db
-        → IsOutcomeOf db (reply_to_typed db (AChange change.now)) (outcome_with change.now offer)) }
+    ensures kind { IfOk result (λ offer. (style : Style) → HasOutcomeKind style names.now (Good (AChange change.now)) (outcome_with change.now offer)) }
+    ensures told { IfOk result (λ offer. (style : Style) (db : Database) → IsToldBy names.now (S.state source.old) db
+        → IsOutcomeOf db (reply_to_typed style db (AChange change.now)) (outcome_with change.now offer)) }
     ensures asked { let old = S.state source.old in
         IfOk result (λ offer. (S.state source.new).asked ≡ old.asked ++ asked_for old names.now (Good (AChange change.now)) (outcome_with change.now offer)) }
     ensures front { let old = S.state source.old in
@@ -158,14 +163,15 @@ fn offer_of<S: ChunkSource, G: Gate>(
     ensures start { S.start source.new ≡ S.start source.old }
 {
     has_its_names(change);
-    match chunks_of(alloc, change, names, source, workers, session, gate)? {
+    match chunks_of(rt, alloc, change, names, source, workers, session, gate)? {
         Ok(changed) => Ok(Ok(offered(alloc, change, names, changed)?)),
         Err(broken) => Ok(Err(faulty(alloc, broken)?)),
     }
 }
 
-/// What comes of a change.
-pub(crate) fn outcome_of_change<S: ChunkSource, G: Gate>(
+/// What comes of a change, in each style.
+pub(crate) fn outcome_of_change<S: ChunkSource, R: Threads + Sync, G: Gate>(
+    rt: &R,
     alloc: Global,
     change: Change,
     names: &Names,
@@ -179,9 +185,9 @@ pub(crate) fn outcome_of_change<S: ChunkSource, G: Gate>(
     requires typed { IsTypedFor names.now change }
     requires holds { HoldsVersions names.now (S.state source.old) }
     requires workers { (1 ≤ workers) × (workers ≤ 64) }
-    ensures kind { IfOk result (HasOutcomeKind names.now (Good (AChange change))) }
-    ensures told { IfOk result (λ outcome. (db : Database) → IsToldBy names.now (S.state source.old) db
-        → IsOutcomeOf db (reply_to_typed db (AChange change)) outcome) }
+    ensures kind { IfOk result (λ outcome. (style : Style) → HasOutcomeKind style names.now (Good (AChange change)) outcome) }
+    ensures told { IfOk result (λ outcome. (style : Style) (db : Database) → IsToldBy names.now (S.state source.old) db
+        → IsOutcomeOf db (reply_to_typed style db (AChange change)) outcome) }
     ensures asked { let old = S.state source.old in
         IfOk result (λ outcome. (S.state source.new).asked ≡ old.asked ++ asked_for old names.now (Good (AChange change)) outcome) }
     ensures front { let old = S.state source.old in
@@ -190,7 +196,7 @@ pub(crate) fn outcome_of_change<S: ChunkSource, G: Gate>(
     ensures cause { Answers (S.state source.old) (S.state source.new) result }
     ensures start { S.start source.new ≡ S.start source.old }
 {
-    match offer_of(alloc, &change, names, source, workers, session, gate) {
+    match offer_of(rt, alloc, &change, names, source, workers, session, gate) {
         Ok(offer) => Ok(outcome_with(change, offer)),
         Err(fault) => {
             let_go_change(change);

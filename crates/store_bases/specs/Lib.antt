@@ -1,2 +1,3 @@
+pub use Rattle.file_reading.specs.Reading
 pub mod Bases
 pub mod Laws

@@ -5,4 +5,5 @@ mod base;
 mod laws;
 
 pub use base::base_of;
+pub use file_reading::read_found;
 pub use laws::{bases_begin, bases_lie_apart, directories_are_counted};

@@ -27,10 +27,10 @@ use Rattle.file_meaning.specs.Opening.{found_in, pages_of, sequence_of}
 use Rattle.file_meaning.specs.Standing.{HoldsDatabase}
 use Rattle.next_files.specs.Premises.{StandsBy, row_of}
 use Rattle.commit_costs.specs.Costs.{cost_from}
-use Rattle.commit_pages.specs.declared.laid.Laid.{Laid}
-use Rattle.commit_pages.specs.Changes.{ComesWith}
-use Rattle.commit_pages.specs.Commits.{base_laid, base_needs, record_laid, record_needs}
-use Rattle.commit_pages.specs.Versions.{draft_of}
+use Rattle.laid_commits.specs.Laid.{Laid}
+use Rattle.laid_commits.specs.Changes.{ComesWith}
+use Rattle.laid_commits.specs.Commits.{base_laid, base_needs, record_laid, record_needs}
+use Rattle.laid_commits.specs.Versions.{draft_of}
 use Rattle.laid_commits.specs.Premises.{IsCommit, IsNewestIn, last_of_row, newest_in}
 use Rattle.found_rows.specs.Laws.{StandInOrder}
 use Rattle.found_rows.specs.Rows.{AreInOrder, IsPagesOf, directories_in}

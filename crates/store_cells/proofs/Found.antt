@@ -21,7 +21,7 @@ use Rattle.event_core.specs.History.{History, names_at, pages_after, pages_at}
 use Rattle.file_meaning.specs.Opening.{all_of}
 use Rattle.file_meaning.specs.declared.found.Found.{Found}
 use Rattle.next_files.specs.Next.{Made, Rows, blob_of, rows_after}
-use Rattle.commit_pages.specs.Changes.{ComesWith}
+use Rattle.laid_commits.specs.Changes.{ComesWith}
 use Rattle.laid_commits.specs.Premises.{made_by as placed_by, pages_made}
 use Rattle.found_rows.specs.Laws.{StandInOrder}
 use Rattle.found_rows.specs.Rows.{IsMadeWith, IsPagesOf, directories_in, pages_in, pages_of_rows}

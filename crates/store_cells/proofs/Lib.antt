@@ -1,3 +1,5 @@
+pub use Rattle.laid_commits.proofs.Chains
+pub use Rattle.laid_commits.proofs.Records
 mod Asked
 mod Commit
 mod Found

@@ -24,7 +24,7 @@ use Rattle.commit_writes.specs.declared.stopped.Stopped.{Stopped}
 use Rattle.commit_writes.specs.declared.stopped.Stopped.TheVariants as stages
 use Rattle.commit_writes.specs.Commits.{HoldsAll, record_of, root_of}
 use Rattle.commit_writes.specs.Moments.{HasBase, HasRecord, IsOpened, IsUnopened, IsUntouched, MayBe}
-use Rattle.commit_pages.specs.declared.laid.Laid.{Laid}
+use Rattle.laid_commits.specs.Laid.{Laid}
 use Rattle.event_core.specs.declared.entry.Entry.TheVariants.{Commit}
 use Rattle.event_core.specs.declared.entry.Used.{Used}
 use Rattle.event_core.specs.Bases.{Base}

@@ -18,8 +18,8 @@ use Rattle.event_core.specs.Pages.{free_at, is_live}
 use Rattle.event_laws.proofs.Legal.{ordered_is_allowed}
 use Rattle.file_laws.proofs.Parts.{front_all}
 use Rattle.next_files.proofs.Free.{weaker}
-use Rattle.commit_pages.specs.declared.laid.Laid.{Laid}
-use Rattle.commit_pages.specs.Changes.{ComesWith}
+use Rattle.laid_commits.specs.Laid.{Laid}
+use Rattle.laid_commits.specs.Changes.{ComesWith}
 use Rattle.store_ledger.specs.Ledger.{history}
 use Rattle.prepared_commits.specs.Standings.{Standing}
 use Rattle.prepared_commits.specs.Keeping.{Keeping}

@@ -16,11 +16,11 @@ use Rattle.event_core.specs.Pages.{free_at, has_page, is_live, pin_names}
 use Rattle.event_laws.proofs.Free.{free_pages_are_within, no_free_page_is_live}
 use Rattle.next_files.proofs.Free.{weaker}
 use Rattle.commit_writes.specs.Commits.{commit_pages}
-use Rattle.commit_pages.specs.declared.laid.Laid.{Laid}
-use Rattle.commit_pages.specs.Changes.{AreValid, ComesWith}
-use Rattle.commit_pages.specs.Commits.{base_laid, base_needs, record_laid, record_needs}
-use Rattle.commit_pages.specs.Versions.{draft_of, new_version}
-use Rattle.commit_pages.proofs.Chains.{base_lies, record_lies}
+use Rattle.laid_commits.specs.Laid.{Laid}
+use Rattle.laid_commits.specs.Changes.{AreValid, ComesWith}
+use Rattle.laid_commits.specs.Commits.{base_laid, base_needs, record_laid, record_needs}
+use Rattle.laid_commits.specs.Versions.{draft_of, new_version}
+use Rattle.laid_commits.proofs.Chains.{base_lies, record_lies}
 use Rattle.laid_commits.proofs.Records.{draft_comes, draft_written}
 use Rattle.store_images.proofs.Live.{none_by}
 

@@ -18,7 +18,7 @@ use Rattle.event_core.specs.Pages.{free_at}
 use Rattle.file_laws.proofs.Parts.{rest_all}
 use Rattle.version_reaper.specs.PageSets.{holds}
 use Rattle.commit_writes.specs.Moments.{IsKnown, IsOpened}
-use Rattle.commit_pages.specs.declared.laid.Laid.{Laid}
+use Rattle.laid_commits.specs.Laid.{Laid}
 use Rattle.laid_commits.specs.Premises.{made_of}
 use Rattle.laid_commits.proofs.Used.{bases_have, records_have}
 use Rattle.found_rows.specs.Rows.{IsMadeWith}

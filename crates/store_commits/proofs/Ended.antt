@@ -17,10 +17,10 @@ use Rattle.store_ledger.specs.declared.note.Note.{Note}
 use Rattle.store_ledger.specs.declared.note.NoteKind.TheVariants.{Fault}
 use Rattle.store_ledger.specs.Ledger.{LedgerState, has_under, history, is_fault, is_noted, is_under, note_now, with_fault, with_notes}
 use Rattle.store_ledger.proofs.Keeping.{begun_of}
-use Rattle.store_state.specs.declared.event.Event.{Event}
-use Rattle.store_state.specs.declared.event.Event.TheVariants.{Acknowledged, Noted}
-use Rattle.store_state.specs.Calls.{NotesFault}
-use Rattle.store_state.specs.Standings.{Standing}
+use Rattle.prepared_commits.specs.Event.{Event}
+use Rattle.prepared_commits.specs.Event.TheVariants.{Acknowledged, Noted}
+use Rattle.prepared_commits.specs.Calls.{NotesFault}
+use Rattle.prepared_commits.specs.Standings.{Standing}
 use Rattle.prepared_commits.specs.declared.prepared.Prepared.{Prepared}
 use Rattle.array_store.specs.Steps.{entry_of, made_by, sealed_ledger}
 use Rattle.array_store.specs.Growth.{AddsEvents, AddsFault, fault_events}

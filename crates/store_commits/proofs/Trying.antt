@@ -18,10 +18,10 @@ use Rattle.event_core.specs.History.{History, names_at, up_to}
 use Rattle.event_laws.proofs.Pins.{beginnings_are_kept}
 use Rattle.commit_costs.specs.Costs.{cost_from}
 use Rattle.store_ledger.specs.Ledger.{history, unused_pages}
-use Rattle.store_state.specs.declared.event.Event.{Event}
-use Rattle.store_state.specs.declared.event.Event.TheVariants.{Acknowledged}
-use Rattle.store_state.specs.Calls.{NotesFault, database_with, history_at}
-use Rattle.store_state.specs.Standings.{Standing, BeganAs, base_of, current_slots, records_in}
+use Rattle.prepared_commits.specs.Event.{Event}
+use Rattle.prepared_commits.specs.Event.TheVariants.{Acknowledged}
+use Rattle.prepared_commits.specs.Calls.{NotesFault, database_with, history_at}
+use Rattle.prepared_commits.specs.Standings.{Standing, BeganAs, base_of, current_slots, records_in}
 use Rattle.prepared_commits.specs.declared.fault.PrepareFault.{PrepareFault}
 use Rattle.prepared_commits.specs.declared.fault.PrepareFault.TheVariants as refusals
 use Rattle.prepared_commits.specs.declared.prepared.Prepared.{Prepared}

@@ -13,7 +13,7 @@ use Rattle.event_core.specs.History.{History}
 use Rattle.event_core.specs.Pages.{is_live}
 use Rattle.commit_costs.specs.Costs.{cost_from}
 use Rattle.store_ledger.specs.Ledger.{history, is_fault, is_noted}
-use Rattle.store_state.specs.Standings.{Standing, BeganAs, base_of}
+use Rattle.prepared_commits.specs.Standings.{Standing, BeganAs, base_of}
 use Rattle.prepared_commits.specs.declared.fault.PrepareFault.{PrepareFault}
 use Rattle.prepared_commits.specs.declared.fault.PrepareFault.TheVariants as refusals
 use Rattle.array_store.specs.Parts.{IsFull}

@@ -1,3 +1,4 @@
+pub use Rattle.array_store.specs.Fresh
 pub use Rattle.array_store.specs.Growth
 pub use Rattle.array_store.specs.Parts
 pub use Rattle.array_store.specs.Starts

@@ -6,9 +6,9 @@ use Rattle.event_core.specs.declared.entry.Entry.TheVariants.{Commit}
 use Rattle.event_core.specs.declared.entry.Used.{Used}
 use Rattle.store_ledger.specs.declared.note.NoteKind.TheVariants.{Fault}
 use Rattle.store_ledger.specs.Ledger.{LedgerState, note_now}
-use Rattle.store_state.specs.declared.event.Event.{Event}
-use Rattle.store_state.specs.declared.event.Event.TheVariants.{Acknowledged, Noted}
-use Rattle.store_state.specs.Standings.{Standing}
+use Rattle.prepared_commits.specs.Event.{Event}
+use Rattle.prepared_commits.specs.Event.TheVariants.{Acknowledged, Noted}
+use Rattle.prepared_commits.specs.Standings.{Standing}
 use Rattle.array_store.specs.Growth.{AddsEvents, tried_events}
 
 -- no event, or the note of a fault by a session, behind all entries of a ledger

@@ -25,7 +25,7 @@ use Rattle.file_laws.proofs.Elsewhere.{FoundSteps, found_steps}
 use Rattle.event_core.specs.Cells.{at}
 use Rattle.next_files.proofs.Free.{weaker}
 use Rattle.next_files.proofs.Taken.{ArePaged, rows_paged}
-use Rattle.found_rows.specs.Rows.{AreInOrder, directories_in}
+use Rattle.store_state.specs.Rows.{AreInOrder, directories_in}
 use Rattle.store_versions.specs.Versions.{MadeVersion, is_of, versions_at}
 use Rattle.store_state.specs.Inner.Keeping.{LieIn, LiesIn}
 use Rattle.store_state.specs.Standings.{current_slots}

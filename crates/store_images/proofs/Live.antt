@@ -18,7 +18,7 @@ use Rattle.event_core.specs.History.{History, catalogue_at, is_pages_of, open_pi
 use Rattle.event_core.specs.Pages.{has_page, is_live, pin_names}
 use Rattle.event_core.proofs.Tests.{both_not}
 use Rattle.next_files.proofs.Free.{none_cons, weaker}
-use Rattle.found_rows.specs.Rows.{pages_in, pages_of_rows}
+use Rattle.store_state.specs.Rows.{pages_in, pages_of_rows}
 use Rattle.store_versions.specs.Versions.{Directories}
 use Rattle.store_state.specs.Cells.{IsFound}
 use Rattle.store_state.specs.Inner.Keeping.{log_pages}

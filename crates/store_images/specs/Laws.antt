@@ -27,7 +27,7 @@ use Rattle.next_files.specs.Next.{with_base, with_record}
 use Rattle.next_files.specs.Premises.{StandsBy, slots_of, slots_with}
 use Rattle.commit_writes.specs.Commits.{HoldsAll, base_pages, commit_pages, record_of, root_of}
 use Rattle.commit_writes.specs.Moments.{HasRecord, MayBe, MayHaveBase, cleared}
-use Rattle.commit_pages.specs.declared.laid.Laid.{Laid}
+use Rattle.laid_commits.specs.Laid.{Laid}
 use Rattle.laid_commits.specs.Premises.{IsCommit, IsLaidBase, IsLaidRecord, made_of}
 use Rattle.store_ledger.specs.declared.note.Note.{Note}
 use Rattle.store_versions.specs.Versions.{Directories, versions_at}

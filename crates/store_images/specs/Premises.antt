@@ -13,7 +13,7 @@ use Rattle.event_core.specs.Bases.{Base}
 use Rattle.event_core.specs.Cells.{at}
 use Rattle.event_core.specs.History.{History, names_at}
 use Rattle.event_core.specs.Pages.{is_live}
-use Rattle.found_rows.specs.Rows.{AreInOrder}
+use Rattle.store_state.specs.Rows.{AreInOrder}
 use Rattle.store_versions.specs.declared.row.VersionRow.{VersionRow}
 use Rattle.store_versions.specs.Versions.{Directories, versions_at}
 use Rattle.store_state.specs.Cells.{IsFound}

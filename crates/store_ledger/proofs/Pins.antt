@@ -6,10 +6,10 @@ use Rattle.std.proofs.lemmas.Bool.Decides.{nat_tests}
 use Rattle.std.proofs.lemmas.List.{reverse-append, length-reverse}
 use Rattle.std.proofs.lemmas.List.Folds.{list_any-append}
 use Rattle.std.proofs.lemmas.List.Sums.{sum_by-cons, sum_by_push}
-use Rattle.event_core.specs.declared.entry.Entry.{Entry}
-use Rattle.event_core.specs.declared.entry.Entry.TheVariants.{Pin, Unpin}
-use Rattle.event_core.specs.History.{History, OpenPin, open_pins, pin_before}
-use Rattle.event_core.proofs.Tests.{both_not}
+use Rattle.lean_core.specs.Entry.{Entry}
+use Rattle.lean_core.specs.Entry.TheVariants.{Pin, Unpin}
+use Rattle.lean_core.specs.History.{History, OpenPin, open_pins, pin_before}
+use Rattle.lean_core.proofs.Tests.{both_not}
 use Rattle.event_laws.proofs.Pins.{open_pins_stay, open_pins_are_these}
 use Rattle.event_laws.specs.Pins.{pins_of}
 use Rattle.store_ledger.specs.declared.note.Note.{Note}

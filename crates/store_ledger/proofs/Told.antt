@@ -4,16 +4,16 @@ use Rattle.std.specs.List.{filter, list_any, list_all}
 use Rattle.std.proofs.lemmas.Bool.Decides.{nat_tests}
 use Rattle.std.proofs.lemmas.List.{reverse-append, length-reverse}
 use Rattle.std.proofs.lemmas.List.Folds.{list_all-append}
-use Rattle.event_core.specs.declared.state.Core.{Core}
-use Rattle.event_core.specs.declared.state.CorePin.{CorePin}
-use Rattle.event_core.specs.Allowed.{is_pinned}
-use Rattle.event_core.specs.History.{History, OpenPin, open_pins, pin_before}
-use Rattle.event_core.specs.Replay.{pin_at}
-use Rattle.event_core.proofs.Tests.{any_map}
+use Rattle.lean_core.specs.Core.{Core}
+use Rattle.lean_core.specs.CorePin.{CorePin}
+use Rattle.lean_core.specs.Allowed.{is_pinned}
+use Rattle.lean_core.specs.History.{History, OpenPin, open_pins, pin_before}
+use Rattle.lean_core.specs.Replay.{pin_at}
+use Rattle.lean_core.proofs.Tests.{any_map}
 use Rattle.event_laws.specs.Pins.{pins_of}
 use Rattle.event_laws.proofs.Pins.{open_pins_are_these}
 use Rattle.store_ledger.specs.declared.note.Note.{Note}
-use Rattle.plan_changes.specs.declared.change.Change.{Change}
+use Rattle.event_laws.specs.Change.{Change}
 use Rattle.store_ledger.specs.Ledger.{LedgerState, AreFew, IsLedger, MayReap, attempt, note_now, has_note, has_room, has_under, history, is_noted, reserved, with_notes, is_tried, is_fault}
 use Rattle.store_ledger.specs.Laws.{NotesAreWithin}
 use Rattle.store_ledger.specs.Inner.Kept.{IsKept}

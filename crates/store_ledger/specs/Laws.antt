@@ -1,15 +1,16 @@
 -- What holds of ledgers.
 use Rattle.std.specs.Prelude.{◌≡◌, ◌+◌, ℕ, List, [], ◌∷◌, ◌++◌, length, reverse, Bool, not, ◌&&◌, nat_eq, false, Some, IsTrue}
 use Rattle.std.specs.List.{list_all}
-use Rattle.plan_changes.specs.declared.change.Change.{Change}
-use Rattle.event_core.specs.declared.entry.Entry.{Entry}
-use Rattle.event_core.specs.declared.entry.Entry.TheVariants.{Pin, Unpin}
-use Rattle.event_core.specs.Allowed.{is_allowed}
-use Rattle.event_core.specs.History.{History, leaves_pin, pin_before}
+use Rattle.event_laws.specs.Change.{Change}
+use Rattle.lean_core.specs.Entry.{Entry}
+use Rattle.lean_core.specs.Entry.TheVariants.{Pin, Unpin}
+use Rattle.lean_core.specs.Allowed.{is_allowed}
+use Rattle.lean_core.specs.History.{History, leaves_pin, pin_before}
 use Rattle.store_ledger.specs.declared.note.Note.{Note}
 use Rattle.store_ledger.specs.declared.note.NoteKind.{NoteKind}
 use Rattle.store_ledger.specs.declared.pinned.Pinned.{Pinned}
-use Rattle.store_ledger.specs.Ledger.{LedgerState, with_entries, with_notes, AreWithin, has_note, history, IsLedger, reserved, reserved_by, IsOpenPin, entered, noted, events, attempt, is_noted, is_tried, note_now}
+use Rattle.store_ledger.specs.Ledger.{LedgerState, with_entries, with_notes, AreWithin, has_note, history, IsLedger, reserved}
+use Rattle.store_ledger.specs.Ledger.{reserved_by, IsOpenPin, entered, noted, events, attempt, is_noted, is_tried, note_now}
 
 -- a pin reserves three entries more than were reserved
 abbrev pub PinsReserveThree : Type 0

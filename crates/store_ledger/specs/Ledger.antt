@@ -1,15 +1,16 @@
 -- The ledger of a store: a history, notes, and the entries that open pins reserve.
-use Rattle.std.specs.Prelude.{◌≡◌, ◌≤◌, ◌<◌, ◌+◌, ℕ, Bool, true, false, not, ◌&&◌, if◌then◌else◌, nat_eq, nat_le, nat_lt, List, [], ◌∷◌, ◌++◌, length, map, reverse, Option, None, Some, IfSome, IsTrue}
+use Rattle.std.specs.Prelude.{◌≡◌, ◌≤◌, ◌<◌, ◌+◌, ℕ, Bool, true, false, not, ◌&&◌, if◌then◌else◌, nat_eq, nat_le}
+use Rattle.std.specs.Prelude.{nat_lt, List, [], ◌∷◌, ◌++◌, length, map, reverse, Option, None, Some, IfSome, IsTrue}
 use Rattle.std.specs.List.{filter, list_all, list_any, sum_by}
-use Rattle.plan_changes.specs.declared.change.Change.{Change}
-use Rattle.event_core.specs.declared.entry.Entry.{Entry}
-use Rattle.event_core.specs.declared.entry.Entry.TheVariants.{Pin, Unpin, Commit, Reap}
-use Rattle.event_core.specs.declared.state.Core.{Core}
+use Rattle.event_laws.specs.Change.{Change}
+use Rattle.lean_core.specs.Entry.{Entry}
+use Rattle.lean_core.specs.Entry.TheVariants.{Pin, Unpin, Commit, Reap}
+use Rattle.lean_core.specs.Core.{Core}
 use Rattle.version_reaper.specs.PageSets.{pages_below}
-use Rattle.event_core.specs.Allowed.{IsBase, is_allowed, is_pinned}
-use Rattle.event_core.specs.Bases.{commits}
-use Rattle.event_core.specs.Pages.{is_live, is_awaiting}
-use Rattle.event_core.specs.History.{History, OpenPin, names_at, open_pins, pin_before, up_to}
+use Rattle.lean_core.specs.Allowed.{IsBase, is_allowed, is_pinned}
+use Rattle.lean_core.specs.Bases.{commits}
+use Rattle.lean_core.specs.Pages.{is_live, is_awaiting}
+use Rattle.lean_core.specs.History.{History, OpenPin, names_at, open_pins, pin_before, up_to}
 use Rattle.store_ledger.specs.declared.note.Note.{Note}
 use Rattle.store_ledger.specs.declared.note.NoteKind.{NoteKind}
 use Rattle.store_ledger.specs.declared.note.NoteKind.TheVariants.{Fault, Tried}
@@ -65,7 +66,8 @@ pub record IsNote (h : History) (others : List Note) (note : Note) : Type 0 wher
   pub within : note.after ≤ length h
   pub rising : IsTrue (list_all (λ other. nat_le other.after note.after) others)
   pub pinned : IsTrue (is_pinned note.session (up_to note.after h))
-  pub once : IfSome (pin_before note.session (up_to note.after h)) (λ before. has_note (is_kind note.kind) others (record { session = note.session; before = before }) ≡ false)
+  pub once : IfSome (pin_before note.session (up_to note.after h))
+      (λ before. has_note (is_kind note.kind) others (record { session = note.session; before = before }) ≡ false)
 
 -- whether a note of some kinds was made under the open pin of a session, if it has one
 abbrev pub has_under : (NoteKind → Bool) → List Note → ℕ → Option History → Bool

@@ -1,19 +1,18 @@
 //! Commits in two halves: the first takes all memory, the second none.
 ghost use Rattle.std.specs.Prelude.{◌≡◌, false, [], ◌∷◌, IfOk, IsTrue};
-ghost use Rattle.plan_changes.specs.Allowed.{names_allow};
-ghost use Rattle.event_core.specs.declared.entry.Entry.TheVariants.{Commit};
-ghost use Rattle.event_core.specs.Allowed.{allows};
-ghost use Rattle.event_core.specs.History.{names_at};
-ghost use Rattle.event_core.specs.Legal.{has_committed};
-ghost use Rattle.event_core.specs.Ready.{IsReadyOver};
-ghost use Rattle.event_core.specs.Replay.{core_at};
+ghost use Rattle.event_laws.specs.Allowed.{names_allow};
+ghost use Rattle.lean_core.specs.Entry.TheVariants.{Commit};
+ghost use Rattle.lean_core.specs.Allowed.{allows};
+ghost use Rattle.lean_core.specs.History.{names_at};
+ghost use Rattle.lean_core.specs.Legal.{has_committed};
+ghost use Rattle.lean_core.specs.Ready.{IsReadyOver};
+ghost use Rattle.lean_core.specs.Replay.{core_at};
 ghost use Rattle.store_ledger.specs.Ledger.{has_room, history, with_entries};
 
 use crate::Ledger;
 use cell_values::Memory;
-use event_core::{Entry, Used};
-use lean_core::LeanReady;
-use plan_changes::Change;
+use event_laws::Change;
+use lean_core::{Entry, LeanReady, Used};
 use std::marker::Model;
 
 /// A commit that was made ready, with its change and its pages. Contracts see the core, the change and the pages that it was made for.
@@ -26,7 +25,7 @@ pub struct ReadyCommit {
 
 impl Model for ReadyCommit {
     ghost use Rattle.std.specs.Prelude.{◌≡◌};
-    ghost use Rattle.event_core.specs.Ready.{ReadyFor};
+    ghost use Rattle.lean_core.specs.Ready.{ReadyFor};
 
     ghost Value = { ReadyFor };
 

@@ -1,5 +1,6 @@
 //! What holds of ledgers.
-ghost use Rattle.store_ledger.specs.Laws.{EventsGrowByEntries, EventsGrowByNotes, NotesAreWithin, NotesOutlast, OpenPinsOutlast, PinsReserveThree, TriedGivesTwoBack, UnpinsGiveBack};
+ghost use Rattle.store_ledger.specs.Laws.{EventsGrowByEntries, EventsGrowByNotes, NotesAreWithin, NotesOutlast};
+ghost use Rattle.store_ledger.specs.Laws.{OpenPinsOutlast, PinsReserveThree, TriedGivesTwoBack, UnpinsGiveBack};
 
 /// One more entry, or one more note, comes behind all events before.
 pub fn events_only_grow()

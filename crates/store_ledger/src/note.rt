@@ -3,7 +3,7 @@
 ghost use Rattle.std.specs.Prelude.{◌≡◌};
 ghost use Rattle.store_ledger.specs.Ledger.{is_fault, is_tried};
 
-use plan_changes::Change;
+use event_laws::Change;
 use std::snapshot::Snapshot;
 
 /// What a note says of its session.

@@ -2,13 +2,13 @@
 ghost use Rattle.std.specs.Prelude.{false, [], ◌∷◌, length, IfSome, IsTrue, ◌≡◌, ◌&&◌, if◌then◌else◌, nat_eq, nat_lt};
 ghost use Rattle.std.specs.List.{list_any};
 ghost use Rattle.store_ledger.specs.declared.note.NoteKind.TheVariants.{Fault};
-ghost use Rattle.event_core.specs.Allowed.{is_pinned};
-ghost use Rattle.event_core.specs.History.{pin_before};
+ghost use Rattle.lean_core.specs.Allowed.{is_pinned};
+ghost use Rattle.lean_core.specs.History.{pin_before};
 ghost use Rattle.store_ledger.specs.Ledger.{MayReap, attempt, has_note, has_room, history, is_fault, is_noted, is_tried, note_now, with_fault, with_notes};
 
 use crate::{Ledger, Note, NoteKind};
+use event_laws::Change;
 use lean_core::LeanPin;
-use plan_changes::Change;
 use std::snapshot::Snapshot;
 
 /// Whether a fault was noted under the pin of a session and a place.
@@ -44,7 +44,8 @@ impl Ledger {
     /// The first note that the device failed under a session's pin. This takes no memory.
     pub fn note_fault(&mut self, session: u32)
         requires pinned { IsTrue (is_pinned session (history self.old)) }
-        requires first { IfSome (pin_before session (history self.old)) (λ before. has_note is_fault self.old.notes (record { session = session; before = before }) ≡ false) }
+        requires first { IfSome (pin_before session (history self.old))
+            (λ before. has_note is_fault self.old.notes (record { session = session; before = before }) ≡ false) }
         ensures { self.new ≡ with_notes (record { session = session; kind = Fault; after = length self.old.entries } ∷ []) self.old }
     {
         let after = self.entries.len() as u64;
@@ -75,7 +76,8 @@ impl Ledger {
     /// The note that a commit of a change is tried under a session's pin, which gives back two of the entries that the pin reserved. This takes no memory.
     pub fn note_tried(&mut self, session: u32, change: &Change)
         requires pinned { IsTrue (is_pinned session (history self.old)) }
-        requires first { IfSome (pin_before session (history self.old)) (λ before. has_note is_tried self.old.notes (record { session = session; before = before }) ≡ false) }
+        requires first { IfSome (pin_before session (history self.old))
+            (λ before. has_note is_tried self.old.notes (record { session = session; before = before }) ≡ false) }
         ensures noted { self.new ≡ with_notes (note_now (attempt change.now) self.old session ∷ []) self.old }
         ensures room { IsTrue (has_room self.new 2) }
         ensures cause { MayReap self.new }

@@ -1,17 +1,16 @@
 //! Pins and unpins.
 ghost use Rattle.std.specs.Prelude.{◌≡◌, ◌≤◌, ◌<◌, ◌+◌, ◌-◌, ◌^◌, Bool, false, not, [], ◌∷◌, ◌++◌, length, vec_capacity, IfOk, IfErr, OnOk, OnErr, IsTrue};
-ghost use Rattle.event_core.specs.declared.entry.Entry.TheVariants.{Pin, Unpin};
-ghost use Rattle.event_core.specs.Allowed.{is_pinned};
-ghost use Rattle.event_core.specs.History.{names_at};
-ghost use Rattle.event_core.specs.Replay.{core_after};
+ghost use Rattle.lean_core.specs.Entry.TheVariants.{Pin, Unpin};
+ghost use Rattle.lean_core.specs.Allowed.{is_pinned};
+ghost use Rattle.lean_core.specs.History.{names_at};
+ghost use Rattle.lean_core.specs.Replay.{core_after};
 ghost use Rattle.store_ledger.specs.Ledger.{IsOpenPin, IsRefused, has_room, history, is_noted, with_entries};
 ghost use Rattle.store_ledger.specs.declared.note.NoteKind.{NoteKind};
 
 use crate::noting::reserved_under;
 use crate::{Ledger, Note, PinFault, Pinned};
 use cell_values::Memory;
-use event_core::Entry;
-use lean_core::LeanCore;
+use lean_core::{Entry, LeanCore};
 
 /// Room for so many entries and notes more.
 fn make_room(entries: &mut Vec<Entry>, notes: &mut Vec<Note>, count: usize) -> Result<(), Memory>
@@ -62,7 +61,8 @@ impl Ledger {
         requires { IsTrue (not (is_pinned session (history self.old))) }
         ensures ok { OnOk result (self.new ≡ with_entries (Pin session ∷ []) self.old) }
         ensures room { OnOk result (IsTrue (has_room self.old 4)) }
-        ensures pinned { IfOk result (λ pinned. pinned ≡ record { session = session; place = length self.old.entries; names = names_at self.old.base (history self.old) }) }
+        ensures pinned { IfOk result (λ pinned. pinned
+            ≡ record { session = session; place = length self.old.entries; names = names_at self.old.base (history self.old) }) }
         ensures open { IfOk result (λ pinned. IsOpenPin self.new pinned) }
         ensures untried { OnOk result ((kinds : NoteKind → Bool) → is_noted kinds self.new session ≡ false) }
         ensures err { OnErr result (self.new ≡ self.old) }

@@ -18,8 +18,8 @@ use Rattle.commit_writes.specs.Moments.{IsKnown}
 use Rattle.file_meaning.specs.Opening.{found_in, opened}
 use Rattle.file_meaning.specs.Standing.{HoldsDatabase, HoldsFound, Stands}
 use Rattle.file_meaning.specs.declared.found.Found.{Found}
-use Rattle.file_reading.specs.Reading.{IsFound, LieApart, slots_of}
-use Rattle.file_reading.proofs.Steps.{at_some}
+use Rattle.store_bases.specs.Reading.{IsFound, LieApart, slots_of}
+use Rattle.store_bases.proofs.Steps.{at_some}
 use Rattle.event_core.specs.declared.state.Core.{Core}
 use Rattle.event_core.specs.Legal.{BeginsWithNames}
 use Rattle.found_rows.specs.Laws.{AreFirst}

@@ -15,7 +15,7 @@ use Rattle.event_core.specs.History.{is_pages_of}
 use Rattle.event_laws.proofs.Agree.{name_refl}
 use Rattle.file_meaning.specs.Opening.{all_of, version_pages}
 use Rattle.file_meaning.specs.declared.found.Found.{Found}
-use Rattle.file_reading.specs.Reading.{AreDirectories, IsFound}
+use Rattle.store_bases.specs.Reading.{AreDirectories, IsFound}
 use Rattle.found_rows.specs.Rows.{pages_in, pages_of_rows}
 use Rattle.store_bases.specs.Bases.{array_pages, pages_named, versions_pages}
 use Rattle.store_bases.proofs.NamedLaws.{pairs_length}

@@ -12,7 +12,7 @@ use Rattle.page_slots.specs.Standing.{IsSound}
 use Rattle.page_slots.specs.declared.slots.Slots.{Slots}
 use Rattle.page_file.specs.FilesOpened.{OpenFile}
 use Rattle.file_meaning.specs.Opening.{found_in}
-use Rattle.file_reading.specs.Reading.{slots_of}
+use Rattle.store_bases.specs.Reading.{slots_of}
 use Rattle.store_versions.specs.Seen.{version_of}
 use Rattle.store_state.specs.declared.parts.StoreParts.{StoreParts}
 use Rattle.store_state.specs.Standings.{Standing}

@@ -36,7 +36,7 @@ use Rattle.prepared_costs.specs.Written.{Written}
 use Rattle.prepared_costs.specs.Changes.{AreValid, ComesWith}
 use Rattle.prepared_costs.specs.Commits.{record_laid, base_laid}
 use Rattle.prepared_costs.specs.Versions.{CanBeListed, IsWritten, directory_of as directory_by, draft, draft_of, settled, version_in}
-use Rattle.laid_commits.proofs.Cores.{have_cores}
+use Rattle.prepared_costs.proofs.Cores.{have_cores}
 use Rattle.store_ledger.specs.Ledger.{LedgerState, has_room, history, is_noted, is_tried}
 use Rattle.store_versions.specs.Rows.{IsReadyFor}
 use Rattle.prepared_commits.specs.At.{IsAt}

@@ -26,12 +26,12 @@ use Rattle.event_laws.proofs.Free.{no_free_page_is_live}
 use Rattle.event_laws.proofs.Legal.{ordered_is_allowed}
 use Rattle.commit_writes.specs.declared.placed.Placed.{Placed}
 use Rattle.commit_writes.specs.Commits.{base_pages, commit_pages, IsBlobSized, IsChainSized}
-use Rattle.commit_pages.specs.declared.written.Written.{Written}
-use Rattle.commit_pages.specs.declared.laid.Laid.{Laid}
-use Rattle.commit_pages.specs.Commits.{record_needs, base_needs, record_laid, base_laid}
-use Rattle.commit_pages.specs.Versions.{IsWritten, new_version}
-use Rattle.commit_pages.proofs.Chains.{record_lies, base_lies}
-use Rattle.laid_commits.proofs.Records.{draft_comes, draft_written}
+use Rattle.store_cells.specs.Written.{Written}
+use Rattle.store_cells.specs.Laid.{Laid}
+use Rattle.store_cells.specs.Commits.{record_needs, base_needs, record_laid, base_laid}
+use Rattle.store_cells.specs.Versions.{IsWritten, new_version}
+use Rattle.store_cells.proofs.Chains.{record_lies, base_lies}
+use Rattle.store_cells.proofs.Records.{draft_comes, draft_written}
 use Rattle.next_files.proofs.Free.{none_cons}
 use Rattle.store_ledger.specs.Ledger.{history}
 use Rattle.prepared_commits.specs.Standings.{Standing}

@@ -10,14 +10,14 @@ use Rattle.afl_outside.specs.Disk.{LeavesOnly, Moment}
 use Rattle.page_chain.specs.Inner.Runs.{OnlyReads}
 use Rattle.page_slots.specs.Standing.{IsSound as AreSound}
 use Rattle.plan_changes.specs.Databases.{Database}
-use Rattle.commit_writes.specs.Moments.{IsKnown}
+use Rattle.found_rows.specs.Moments.{IsKnown}
 use Rattle.event_core.specs.declared.entry.Entry.{Entry}
 use Rattle.event_core.specs.declared.entry.Entry.TheVariants.{Pin, Unpin, Commit, Reap}
 use Rattle.event_core.specs.declared.state.Core.{Core}
 use Rattle.event_core.specs.Allowed.{is_pinned}
 use Rattle.event_core.specs.History.{History, open_pins}
 use Rattle.event_core.specs.Legal.{has_committed}
-use Rattle.event_laws.specs.Cores.{is_no_commit}
+use Rattle.store_versions.specs.Cores.{is_no_commit}
 use Rattle.store_ledger.specs.declared.note.Note.{Note}
 use Rattle.store_ledger.specs.declared.note.NoteKind.TheVariants.{Fault}
 use Rattle.store_ledger.specs.Ledger.{LedgerState, has_note, history, is_noted, is_under, note_now, with_fault, is_tried, is_fault}

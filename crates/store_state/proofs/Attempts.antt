@@ -7,7 +7,7 @@ use Rattle.plan_changes.specs.Databases.{Database}
 use Rattle.event_core.specs.declared.entry.Entry.{Entry}
 use Rattle.event_core.specs.declared.entry.Entry.TheVariants.{Pin, Unpin, Commit, Reap}
 use Rattle.event_core.specs.History.{History}
-use Rattle.event_laws.specs.Cores.{is_no_commit}
+use Rattle.store_versions.specs.Cores.{is_no_commit}
 use Rattle.store_ledger.specs.declared.note.Note.{Note}
 use Rattle.store_ledger.specs.Ledger.{attempt}
 use Rattle.store_state.specs.Standings.{HaveStood, IsAttempt, StoodFor, WasTriedBy}

@@ -2,8 +2,8 @@
 use Rattle.std.proofs.Common.{◌≡◌, ◌∙◌, ℕ, List, length, map, ap, sym}
 use Rattle.std.proofs.lemmas.Simd.{map-map}
 use Rattle.event_core.specs.History.{OpenPin}
-use Rattle.lean_core.specs.declared.pin.LeanPin.{LeanPin}
-use Rattle.lean_core.specs.States.{place_of}
+use Rattle.store_ledger.specs.LeanPin.{LeanPin}
+use Rattle.store_ledger.specs.States.{place_of}
 use Rattle.store_ledger.specs.Ledger.{open_place}
 
 pub places_are : (pins : List LeanPin) (before : List OpenPin) → map place_of pins ≡ map open_place before

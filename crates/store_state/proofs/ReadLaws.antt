@@ -19,13 +19,13 @@ use Rattle.chunk_map.specs.declared.directory.Directory.{Directory}
 use Rattle.chunk_map.specs.Entries.{numbers}
 use Rattle.chunk_map.specs.Spelling.{IsEntry}
 use Rattle.chunk_rle.specs.Stored.{IsStored as IsSpelled}
-use Rattle.chunk_source.specs.Source.{is_among, numbers_of, version_chunks, IsChunkIn, IsStored}
+use Rattle.file_laws.specs.Source.{is_among, numbers_of, version_chunks, IsChunkIn, IsStored}
 use Rattle.file_laws.proofs.Counts.{counts_agree}
 use Rattle.file_laws.proofs.Parts.{pages_there}
 use Rattle.file_laws.proofs.Payloads.{stored_part}
 use Rattle.file_laws.proofs.StoredLaws.{stored_are_given}
-use Rattle.file_meaning.specs.Opening.{are_pages}
-use Rattle.file_meaning.specs.Standing.{HoldsPart, stored_chunk}
+use Rattle.file_laws.specs.Opening.{are_pages}
+use Rattle.file_laws.specs.Standing.{HoldsPart, stored_chunk}
 use Rattle.logical_plan.specs.declared.names.NameEntry.{NameEntry}
 use Rattle.logical_plan.specs.declared.names.Names.{Names}
 use Rattle.logical_plan.specs.declared.parts.Leaf.{Leaf}

@@ -16,9 +16,9 @@ use Rattle.event_core.specs.History.{History, OpenPin, open_pins, pin_before, up
 use Rattle.event_core.specs.Legal.{IsOrdered, has_committed}
 use Rattle.event_core.proofs.Runs.{allowed_before, allowed_now}
 use Rattle.event_core.proofs.Tests.{eq_sym}
-use Rattle.event_laws.specs.Pins.{PlaceTells, pins_of}
-use Rattle.event_laws.proofs.Legal.{ordered_is_allowed}
-use Rattle.event_laws.proofs.Pins.{all_entries_are_the_history, open_pins_are_these, places_tell_pins}
+use Rattle.store_versions.specs.Pins.{PlaceTells, pins_of}
+use Rattle.store_versions.proofs.Legal.{ordered_is_allowed}
+use Rattle.store_versions.proofs.Pins.{all_entries_are_the_history, open_pins_are_these, places_tell_pins}
 use Rattle.store_ledger.specs.declared.note.Note.{Note}
 use Rattle.store_ledger.specs.declared.note.NoteKind.{NoteKind}
 use Rattle.store_ledger.specs.declared.note.NoteKind.TheVariants.{Fault, Tried}

@@ -15,10 +15,10 @@ use Rattle.event_core.specs.Allowed.{is_allowed}
 use Rattle.event_core.specs.Cells.{at}
 use Rattle.event_core.specs.History.{History, OpenPin, names_at, open_pins, pin_before, up_to}
 use Rattle.event_core.specs.Legal.{BeginsAt, Cost, IsLegal, IsOrdered}
-use Rattle.event_laws.specs.Pins.{PlaceTells, pins_of}
-use Rattle.event_laws.proofs.Cells.{names_are_of_the_database}
-use Rattle.event_laws.proofs.Legal.{ordered_is_allowed, ordered_names_are_stored}
-use Rattle.event_laws.proofs.Pins.{all_entries_are_the_history, open_pins_are_these, places_tell_pins}
+use Rattle.store_versions.specs.Pins.{PlaceTells, pins_of}
+use Rattle.store_versions.proofs.Cells.{names_are_of_the_database}
+use Rattle.store_versions.proofs.Legal.{ordered_is_allowed, ordered_names_are_stored}
+use Rattle.store_versions.proofs.Pins.{all_entries_are_the_history, open_pins_are_these, places_tell_pins}
 use Rattle.store_ledger.specs.declared.pinned.Pinned.{Pinned}
 use Rattle.store_ledger.specs.Ledger.{IsOpenPin, history}
 use Rattle.store_versions.specs.Seen.{seen}

@@ -13,11 +13,11 @@ use Rattle.page_layout.specs.declared.sides.Side.TheVariants.{A, B}
 use Rattle.page_chain.specs.Pages.{page_size}
 use Rattle.page_slots.specs.Standing.{Holds}
 use Rattle.plan_changes.specs.Databases.{Database, rows_of}
-use Rattle.commit_writes.specs.Moments.{IsKnown}
-use Rattle.file_meaning.specs.Slots.{slots_in}
-use Rattle.file_meaning.specs.Opening.{are_pages, found_in, opened}
-use Rattle.file_meaning.specs.Standing.{HoldsDatabase, HoldsFound, Stands}
-use Rattle.file_meaning.specs.declared.found.Found.{Found}
+use Rattle.found_rows.specs.Moments.{IsKnown}
+use Rattle.file_laws.specs.Slots.{slots_in}
+use Rattle.file_laws.specs.Opening.{are_pages, found_in, opened}
+use Rattle.file_laws.specs.Standing.{HoldsDatabase, HoldsFound, Stands}
+use Rattle.file_laws.specs.Found.{Found}
 use Rattle.file_laws.proofs.One.{one_database}
 use Rattle.file_laws.proofs.SlotsBack.{slots_open}
 use Rattle.file_laws.proofs.Steps.{then_is}

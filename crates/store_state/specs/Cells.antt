@@ -14,11 +14,11 @@ use Rattle.plan_changes.specs.Databases.{Database, after}
 use Rattle.plan_changes.specs.Stored.{IsDatabase}
 use Rattle.version_catalog.specs.declared.rules.catalog.Catalog.{Catalog}
 use Rattle.found_rows.specs.Costs.{cost_from}
-use Rattle.commit_writes.specs.Moments.{IsKnown}
-use Rattle.file_meaning.specs.Opening.{found_in}
-use Rattle.file_meaning.specs.Slots.{Slots as FoundSlots}
-use Rattle.file_meaning.specs.Standing.{HoldsDatabase}
-use Rattle.file_meaning.specs.declared.found.Found.{Found}
+use Rattle.found_rows.specs.Moments.{IsKnown}
+use Rattle.file_laws.specs.Opening.{found_in}
+use Rattle.file_laws.specs.Slots.{Slots as FoundSlots}
+use Rattle.file_laws.specs.Standing.{HoldsDatabase}
+use Rattle.file_laws.specs.Found.{Found}
 use Rattle.event_core.specs.declared.state.Core.{Core}
 use Rattle.event_core.specs.Cells.{at}
 use Rattle.event_core.specs.History.{History, catalogue_at, open_pins, pages_at}

@@ -7,7 +7,7 @@ use Rattle.page_slots.specs.Steps.{first_target}
 use Rattle.page_slots.specs.declared.slots.Slots.{Slots}
 use Rattle.version_catalog.specs.Catalogs.{IsCatalog, names_in}
 use Rattle.version_reaper.specs.PageSets.{holds}
-use Rattle.file_meaning.specs.Opening.{sequence_of}
+use Rattle.file_laws.specs.Opening.{sequence_of}
 use Rattle.event_core.specs.declared.state.Core.{Core}
 use Rattle.event_core.specs.Apart.{AllShareOwn, AreApart}
 use Rattle.event_core.specs.Bases.{Base, commits, sequence_at, records_at}

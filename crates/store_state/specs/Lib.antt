@@ -2,8 +2,10 @@ pub use Rattle.found_rows.specs.Changes
 pub use Rattle.found_rows.specs.Commits
 pub use Rattle.found_rows.specs.Costs
 pub use Rattle.found_rows.specs.Laid
+pub use Rattle.found_rows.specs.Rows
 pub use Rattle.found_rows.specs.Versions
 pub use Rattle.found_rows.specs.Written
+pub use Rattle.store_ledger.specs.Ledger
 pub mod At
 pub mod Calls
 pub mod Cells

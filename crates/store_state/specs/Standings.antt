@@ -8,9 +8,9 @@ use Rattle.page_file.specs.FilesOpened.{OpenFile}
 use Rattle.plan_changes.specs.declared.change.Change.{Change}
 use Rattle.plan_changes.specs.Databases.{Database, after, fault_of_change, names_of}
 use Rattle.plan_changes.specs.Typed.{IsTypedFor}
-use Rattle.file_meaning.specs.Opening.{sequence_of}
-use Rattle.file_meaning.specs.Slots.{Slots as FoundSlots}
-use Rattle.file_meaning.specs.Standing.{Stands}
+use Rattle.file_laws.specs.Opening.{sequence_of}
+use Rattle.file_laws.specs.Slots.{Slots as FoundSlots}
+use Rattle.file_laws.specs.Standing.{Stands}
 use Rattle.chunk_map.specs.declared.directory.Directory.{Directory}
 use Rattle.event_core.specs.declared.entry.Entry.{Entry}
 use Rattle.event_core.specs.declared.entry.Entry.TheVariants.{Pin, Unpin, Commit, Reap}

@@ -12,12 +12,12 @@ use Rattle.version_catalog.specs.declared.rules.catalog.Catalog.{Catalog}
 use Rattle.catalog_changes.specs.Changed.{after_change, has_its_directory}
 use Rattle.file_meaning.specs.Opening.{version_pages}
 use Rattle.commit_writes.specs.Commits.{pages_of}
-use Rattle.commit_pages.specs.declared.laid.Laid.{Laid}
-use Rattle.commit_pages.specs.declared.version.NewVersion.{NewVersion}
-use Rattle.commit_pages.specs.declared.written.Written.{Written}
-use Rattle.commit_pages.specs.Changes.{ComesWith}
-use Rattle.commit_pages.specs.Commits.{record_laid, base_laid}
-use Rattle.commit_pages.specs.Versions.{draft, draft_of, settled, placed, blob_at, directory_of, directory_bytes, version_in, new_version}
+use Rattle.found_rows.specs.Laid.{Laid}
+use Rattle.found_rows.specs.NewVersion.{NewVersion}
+use Rattle.found_rows.specs.Written.{Written}
+use Rattle.found_rows.specs.Changes.{ComesWith}
+use Rattle.found_rows.specs.Commits.{record_laid, base_laid}
+use Rattle.found_rows.specs.Versions.{draft, draft_of, settled, placed, blob_at, directory_of, directory_bytes, version_in, new_version}
 use Rattle.store_versions.specs.declared.ready.ReadyVersion.{ReadyVersion}
 use Rattle.store_versions.specs.Rows.{directory_in}
 use Rattle.prepared_commits.specs.Keeping.{IsDirectoryOf}

@@ -17,7 +17,7 @@ use Rattle.event_core.specs.History.{History, catalogue_at, names_at}
 use Rattle.event_laws.proofs.Legal.{ordered_is_allowed}
 use Rattle.commit_writes.specs.declared.placed.Placed.{Placed}
 use Rattle.found_rows.specs.Laws.{OrdersFollow}
-use Rattle.commit_pages.specs.declared.laid.Laid.{Laid}
+use Rattle.found_rows.specs.Laid.{Laid}
 use Rattle.store_ledger.specs.Ledger.{history}
 use Rattle.store_ledger.proofs.Pins.{one_more}
 use Rattle.store_versions.specs.Laws.{with_made}

@@ -1,3 +1,9 @@
+pub use Rattle.event_laws.proofs.Agree
+pub use Rattle.event_laws.proofs.Cells
+pub use Rattle.event_laws.proofs.Conserved
+pub use Rattle.event_laws.proofs.Legal
+pub use Rattle.event_laws.proofs.Pins
+pub use Rattle.event_laws.proofs.Tests
 pub mod Ends
 pub mod Found
 pub mod Given

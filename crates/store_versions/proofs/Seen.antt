@@ -3,14 +3,14 @@ use Rattle.std.proofs.Common.{◌≡◌, ◌∙◌, ℕ, suc, ◌<◌, ◌≤◌
 use Rattle.std.specs.Prelude.{nat_lt}
 use Rattle.std.specs.List.{filter, list_any, list_all, AllByRecursion}
 use Rattle.std.proofs.lemmas.Bool.{or_left, or_right}
-use Rattle.plan_changes.specs.declared.change.Change.{Change}
-use Rattle.plan_changes.specs.declared.change.Change.TheVariants.{Create, Store, Insert, Remove, RemoveVersions}
-use Rattle.plan_changes.specs.Changes.{next_of}
-use Rattle.event_core.specs.declared.entry.Used.{Used}
-use Rattle.event_core.specs.declared.entry.Entry.TheVariants.{Pin, Unpin, Commit, Reap}
-use Rattle.event_core.specs.declared.state.Core.{Core}
-use Rattle.event_core.specs.History.{History, OpenPin, names_at, open_pins}
-use Rattle.event_core.proofs.Tests.{any_map}
+use Rattle.event_laws.specs.Change.{Change}
+use Rattle.event_laws.specs.Change.TheVariants.{Create, Store, Insert, Remove, RemoveVersions}
+use Rattle.event_laws.specs.Changes.{next_of}
+use Rattle.lean_core.specs.Used.{Used}
+use Rattle.lean_core.specs.Entry.TheVariants.{Pin, Unpin, Commit, Reap}
+use Rattle.lean_core.specs.Core.{Core}
+use Rattle.lean_core.specs.History.{History, OpenPin, names_at, open_pins}
+use Rattle.lean_core.proofs.Tests.{any_map}
 use Rattle.event_laws.proofs.Conserved.{filter_filter}
 use Rattle.event_laws.proofs.Pins.{open_pins_are_these}
 use Rattle.event_laws.specs.Pins.{pins_of}

@@ -1,3 +1,8 @@
+pub use Rattle.event_laws.specs.Cores
+pub use Rattle.event_laws.specs.History
+pub use Rattle.event_laws.specs.Pages
+pub use Rattle.event_laws.specs.Pins
+pub use Rattle.event_laws.specs.VersionPages
 pub mod Laws
 pub mod Rows
 pub mod Seen

@@ -1,14 +1,15 @@
 -- What entries make of a table of versions.
-use Rattle.std.specs.Prelude.{◌≡◌, ◌<◌, ℕ, ◌+◌, Bool, true, false, ◌&&◌, ◌||◌, nat_le, nat_lt, if◌then◌else◌, List, [], ◌∷◌, ◌++◌, length, map, Option, None, Some}
+use Rattle.std.specs.Prelude.{◌≡◌, ◌<◌, ℕ, ◌+◌, Bool, true, false, ◌&&◌, ◌||◌, nat_le, nat_lt}
+use Rattle.std.specs.Prelude.{if◌then◌else◌, List, [], ◌∷◌, ◌++◌, length, map, Option, None, Some}
 use Rattle.std.specs.List.{filter, list_any}
 use Rattle.std.specs.Str.{bytes_eq}
-use Rattle.logical_plan.specs.declared.names.Names.{Names}
-use Rattle.logical_plan.specs.declared.names.NameEntry.{NameEntry}
-use Rattle.plan_changes.specs.declared.change.Change.{Change}
-use Rattle.plan_changes.specs.declared.change.Change.TheVariants.{Create, Store, Insert, Remove, RemoveVersions}
-use Rattle.plan_changes.specs.Changes.{next_of}
+use Rattle.event_laws.specs.Names.{Names}
+use Rattle.event_laws.specs.NameEntry.{NameEntry}
+use Rattle.event_laws.specs.Change.{Change}
+use Rattle.event_laws.specs.Change.TheVariants.{Create, Store, Insert, Remove, RemoveVersions}
+use Rattle.event_laws.specs.Changes.{next_of}
 use Rattle.chunk_map.specs.declared.directory.Directory.{Directory}
-use Rattle.event_core.specs.History.{History, open_pins}
+use Rattle.lean_core.specs.History.{History, open_pins}
 use Rattle.store_versions.specs.declared.ready.ReadyVersion.{ReadyVersion}
 use Rattle.store_versions.specs.declared.row.VersionRow.{VersionRow}
 

@@ -2,7 +2,8 @@
 ghost use Rattle.std.specs.Prelude.{◌≡◌, ℕ, List as Items, ◌<◌, ◌-◌, ◌^◌, ◌&&◌, [], ◌∷◌, ◌++◌, length, map, nat_eq, IfOk};
 ghost use Rattle.std.specs.List.{filter, find};
 ghost use Rattle.std.specs.Option.{option_copied};
-ghost use Rattle.store_versions.specs.Rows.{is_seen, is_needed, needed_rows, is_row_of, is_row_below, ended, new_row, rows_after, HasNext, IsReadyFor, directory_in, first_rows};
+ghost use Rattle.store_versions.specs.Rows.{is_seen, is_needed, needed_rows, is_row_of, is_row_below, ended};
+ghost use Rattle.store_versions.specs.Rows.{new_row, rows_after, HasNext, IsReadyFor, directory_in, first_rows};
 ghost use Rattle.store_versions.specs.Seen.{seen};
 ghost use Rattle.store_versions.specs.Versions.{directory_of};
 
@@ -10,9 +11,8 @@ use crate::first::first_rows;
 use crate::{ReadyVersion, Room, VersionRow};
 use cell_values::{List, Memory, Name};
 use chunk_map::Directory;
+use event_laws::{Change, Names};
 use lean_core::LeanPin;
-use logical_plan::Names;
-use plan_changes::Change;
 
 /// The versions that the present or an open pin may see, in the order in which they came.
 #[derive(Drop)]
@@ -150,7 +150,8 @@ impl VersionTable {
     fn made_next(&mut self, ready: Option<ReadyVersion>, place: u64)
         requires place { place < 2 ^ 64 - 1 }
         requires ready { (name : Items ℕ) × (number : ℕ) × HasNext name number (length self.old.rows) ready }
-        ensures { (name : Items ℕ) (number : ℕ) → HasNext name number (length self.old.rows) ready → self.new.rows ≡ self.old.rows ++ new_row name number place (directory_in ready) ∷ [] }
+        ensures { (name : Items ℕ) (number : ℕ) → HasNext name number (length self.old.rows) ready
+            → self.new.rows ≡ self.old.rows ++ new_row name number place (directory_in ready) ∷ [] }
     {
         match ready {
             Some(ready) => self.made(ready, place),

@@ -7,9 +7,10 @@ use crate::sessions::{Run, Step, answer_to, create_all};
 use anyhow::Result;
 use cell_values::Memory;
 use std::alloc::{AllocError, Global};
+use std::thread::Threads;
 use test_disks::QuietDisk;
 use test_kit::begin_answer;
-use test_stores::{Answer, opened, reaped};
+use test_readings::{Answer, opened, reaped};
 
 /// Adds how many pages nobody can name, and how many entries and notes there are.
 fn push_counts(out: &mut String, run: &mut Run) -> Result<(), AllocError>
@@ -23,16 +24,16 @@ fn push_counts(out: &mut String, run: &mut Run) -> Result<(), AllocError>
 }
 
 /// The answer to the words of a line that is a step of a session.
-fn answer_step(alloc: Global, run: &mut Run, words: &[&str]) -> Answer
+fn answer_step<R: Threads + Sync>(rt: &R, alloc: Global, run: &mut Run, words: &[&str]) -> Answer
     requires { IsRun run.old }
     ensures { IsRun run.new }
 {
     match words {
-        ["pin", session] => answer_to(alloc, run, session, Step::Pin),
-        ["unpin", session] => answer_to(alloc, run, session, Step::Unpin),
-        ["cells", session, word] => answer_to(alloc, run, session, Step::Cells(word)),
-        ["versions", session, word] => answer_to(alloc, run, session, Step::Versions(word)),
-        ["create", from, to] => create_all(alloc, run, from, to),
+        ["pin", session] => answer_to(rt, alloc, run, session, Step::Pin),
+        ["unpin", session] => answer_to(rt, alloc, run, session, Step::Unpin),
+        ["cells", session, word] => answer_to(rt, alloc, run, session, Step::Cells(word)),
+        ["versions", session, word] => answer_to(rt, alloc, run, session, Step::Versions(word)),
+        ["create", from, to] => create_all(rt, alloc, run, from, to),
         ["reap"] => reaped(&mut run.store),
         _ => Answer::Unknown,
     }
@@ -50,7 +51,8 @@ fn text_behind(line: &str) -> &str {
 }
 
 /// Adds the answer to the words of a line.
-fn push_answer(
+fn push_answer<R: Threads + Sync>(
+    rt: &R,
     out: &mut String,
     bench: &mut Bench,
     run: &mut Run,
@@ -65,9 +67,9 @@ fn push_answer(
         ["counts"] => Ok(push_counts(out, run)?),
         ["change", session, ..] => {
             let text = text_behind(line);
-            answer_to(*out.allocator(), run, session, Step::Change(text)).push(out)
+            answer_to(rt, *out.allocator(), run, session, Step::Change(text)).push(out)
         }
-        words => answer_step(*out.allocator(), run, words).push(out),
+        words => answer_step(rt, *out.allocator(), run, words).push(out),
     }
 }
 
@@ -77,14 +79,19 @@ fn opens(line: &str) -> bool {
 }
 
 /// Prints a line with its answer.
-fn tell(rt: &(impl Print + AllocGlobal), bench: &mut Bench, run: &mut Run, line: &str) -> Result<()>
+fn tell(
+    rt: &(impl Print + AllocGlobal + Threads + Sync),
+    bench: &mut Bench,
+    run: &mut Run,
+    line: &str,
+) -> Result<()>
     requires { IsRun run.old }
     ensures { IsRun run.new }
 {
     let mut out = String::new(rt.alloc());
     if begin_answer(&mut out, line)? {
         let words: Vec<&str> = line.split_whitespace().collect(rt.alloc())?;
-        push_answer(&mut out, bench, run, line, words.as_slice())?;
+        push_answer(rt, &mut out, bench, run, line, words.as_slice())?;
     }
     print!(rt; "{out}")?;
     Ok(())
@@ -92,7 +99,7 @@ fn tell(rt: &(impl Print + AllocGlobal), bench: &mut Bench, run: &mut Run, line:
 
 /// Prints the lines from one on with their answers, up to one that opens a store. Its place is the answer.
 fn tell_steps(
-    rt: &(impl Print + AllocGlobal),
+    rt: &(impl Print + AllocGlobal + Threads + Sync),
     bench: &mut Bench,
     run: &mut Run,
     lines: &[&str],
@@ -132,7 +139,7 @@ fn run_over(alloc: Global, bench: &Bench) -> Result<Run, Answer>
 
 /// Prints the line that opened a store, and the lines behind it with their answers, up to the next one that opens a store.
 fn tell_run(
-    rt: &(impl Print + AllocGlobal),
+    rt: &(impl Print + AllocGlobal + Threads + Sync),
     bench: &mut Bench,
     run: &mut Run,
     lines: &[&str],
@@ -147,7 +154,7 @@ fn tell_run(
 
 /// Opens the store for a line, and prints the lines behind it with their answers, up to the next one that opens a store.
 pub(crate) fn tell_store(
-    rt: &(impl Print + AllocGlobal),
+    rt: &(impl Print + AllocGlobal + Threads + Sync),
     bench: &mut Bench,
     lines: &[&str],
     from: usize,

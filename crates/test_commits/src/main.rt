@@ -15,6 +15,7 @@ mod sessions;
 use anyhow::Result;
 use bench::Bench;
 use lines::tell_store;
+use std::thread::Threads;
 use test_kit::input;
 
 /// Prints a line that isn't about a store that is open.
@@ -25,7 +26,7 @@ fn tell_line(rt: &impl Print, line: &str) -> Result<()> {
 
 /// Prints the lines from one on with their answers, as long as they are over one disk. The place of the next one is the answer.
 fn tell_disk(
-    rt: &(impl Print + AllocGlobal),
+    rt: &(impl Print + AllocGlobal + Threads + Sync),
     bench: &mut Bench,
     lines: &[&str],
     from: usize,

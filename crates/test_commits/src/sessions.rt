@@ -4,19 +4,18 @@ ghost use Rattle.cell_values.specs.Schemas.{IsValid};
 ghost use Rattle.plan_changes.specs.Stored.{AreStored};
 ghost use Rattle.store_ledger.specs.Ledger.{IsOpenPin};
 ghost use Rattle.store_state.specs.Calls.{IsLeafOf};
-ghost use Rattle.test_stores.specs.Holds.{HasNoPins, IsHold, LeavesAll, LeavesOthers};
+ghost use Rattle.test_readings.specs.Holds.{HasNoPins, IsHold, LeavesAll, LeavesOthers};
 ghost use Rattle.test_commits.specs.Runs.{IsRun};
 
-use array_store::Store;
 use cell_values::{Bytes, List, Memory, Name};
 use logical_plan::{Leaf, Names};
 use plan_changes::entry_named;
 use std::alloc::Global;
 use std::mem::replace;
+use std::thread::Threads;
 use store_ledger::Pinned;
 use test_disks::QuietDisk;
-use test_readings::{cells, leaf_of};
-use test_stores::{Answer, Hold, changed, once, pinned, unpinned};
+use test_readings::{Answer, Hold, Store, cells, changed, leaf_of, once, pinned, unpinned};
 
 /// A store, and what two sessions have of it.
 #[derive(Drop)]
@@ -128,7 +127,8 @@ fn told_versions(alloc: Global, held: &Hold, word: &str) -> Answer {
     }
 }
 
-fn take_step(
+fn take_step<R: Threads + Sync>(
+    rt: &R,
     alloc: Global,
     store: &mut Store<QuietDisk>,
     session: u32,
@@ -145,7 +145,7 @@ fn take_step(
             let answer = unpinned(store, session, held);
             (Hold::Free, answer)
         }
-        Step::Change(text) => changed(alloc, store, session, held, text.as_bytes()),
+        Step::Change(text) => changed(rt, alloc, store, session, held, text.as_bytes()),
         Step::Cells(word) => {
             let answer = told_cells(alloc, store, session, &held, word);
             (held, answer)
@@ -158,20 +158,26 @@ fn take_step(
 }
 
 /// What a step of a session is answered.
-pub(crate) fn answer_to(alloc: Global, run: &mut Run, session: &str, step: Step<'_>) -> Answer
+pub(crate) fn answer_to<R: Threads + Sync>(
+    rt: &R,
+    alloc: Global,
+    run: &mut Run,
+    session: &str,
+    step: Step<'_>,
+) -> Answer
     requires { IsRun run.old }
     ensures { IsRun run.new }
 {
     match session {
         "0" => {
             let held = replace(&mut run.first, Hold::Free);
-            let (held, answer) = take_step(alloc, &mut run.store, 0, held, step);
+            let (held, answer) = take_step(rt, alloc, &mut run.store, 0, held, step);
             run.first = held;
             answer
         }
         "1" => {
             let held = replace(&mut run.second, Hold::Free);
-            let (held, answer) = take_step(alloc, &mut run.store, 1, held, step);
+            let (held, answer) = take_step(rt, alloc, &mut run.store, 1, held, step);
             run.second = held;
             answer
         }
@@ -179,7 +185,7 @@ pub(crate) fn answer_to(alloc: Global, run: &mut Run, session: &str, step: Step<
     }
 }
 
-fn create_one(alloc: Global, run: &mut Run, number: u32) -> Answer
+fn create_one<R: Threads + Sync>(rt: &R, alloc: Global, run: &mut Run, number: u32) -> Answer
     requires { IsRun run.old }
     ensures { IsRun run.new }
 {
@@ -187,19 +193,25 @@ fn create_one(alloc: Global, run: &mut Run, number: u32) -> Answer
         return Answer::Memory;
     };
     match &run.first {
-        Hold::Free => once(alloc, &mut run.store, 0, text.as_bytes()),
+        Hold::Free => once(rt, alloc, &mut run.store, 0, text.as_bytes()),
         Hold::Pinned(_) => Answer::HasPin,
         Hold::Tried(_) => Answer::HasPin,
     }
 }
 
 /// Creates an array for each number from one up to another, each in a commit of its own, as long as that is done.
-pub(crate) fn create_all(alloc: Global, run: &mut Run, from: &str, to: &str) -> Answer
+pub(crate) fn create_all<R: Threads + Sync>(
+    rt: &R,
+    alloc: Global,
+    run: &mut Run,
+    from: &str,
+    to: &str,
+) -> Answer
     requires { IsRun run.old }
     ensures { IsRun run.new }
 {
     for number in from.parse::<u32>().unwrap_or(0)..to.parse::<u32>().unwrap_or(0) {
-        match create_one(alloc, run, number) {
+        match create_one(rt, alloc, run, number) {
             Answer::Done => {}
             answer => return answer,
         }

@@ -1,22 +1,18 @@
-//! Tells for each line of standard input what aggregates and chunks of a few cells give.
+//! Tells for each line of standard input what aggregates of a few cells give.
 //!
-//! `aggregate sum 1:5 | 0:null` takes two sets of places into two states, merges them and tells the aggregate, and
-//! `join 0:1 2:2 | 2:5` joins two chunks.
+//! `aggregate sum 1:5 | 0:null` takes two sets of places into two states, merges them and tells the aggregate.
 #![tactic(auto)]
 
 mod aggregates;
-mod joins;
 
 use aggregates::push_aggregate;
 use anyhow::Result;
 use cell_values::Memory;
-use joins::push_join;
 
 /// Adds the answer to the words of a line.
 fn push_answer(out: &mut String, words: &[&str]) -> Result<(), Memory> {
     match words {
         ["aggregate", function, places @ ..] => push_aggregate(out, function, places),
-        ["join", places @ ..] => push_join(out, places),
         _ => Ok(()),
     }
 }

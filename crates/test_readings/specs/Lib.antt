@@ -1,1 +1,2 @@
+pub use Rattle.test_stores.specs.Holds
 pub mod Cells

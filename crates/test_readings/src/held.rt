@@ -4,15 +4,22 @@ ghost use Rattle.test_stores.specs.Holds.{HasNoPins};
 use crate::versions::whole;
 use cell_values::{Bytes, Memory};
 use std::alloc::Global;
+use std::thread::Threads;
 use store_opening::Limits;
 use store_state::ReadFault;
 use test_disks::QuietDisk;
 use test_stores::{Answer, Store, once, opened};
 
-fn answered(alloc: Global, disk: QuietDisk, limits: Limits, change: &[u8]) -> Answer {
+fn answered<R: Threads + Sync>(
+    rt: &R,
+    alloc: Global,
+    disk: QuietDisk,
+    limits: Limits,
+    change: &[u8],
+) -> Answer {
     match opened(alloc, disk, limits) {
         Ok(mut store) => {
-            let answer = once(alloc, &mut store, 0, change);
+            let answer = once(rt, alloc, &mut store, 0, change);
             drop(store);
             answer
         }
@@ -21,13 +28,14 @@ fn answered(alloc: Global, disk: QuietDisk, limits: Limits, change: &[u8]) -> An
 }
 
 /// Adds what a change is answered over the store of a disk.
-pub fn push_answered(
+pub fn push_answered<R: Threads + Sync>(
+    rt: &R,
     out: &mut String,
     disk: QuietDisk,
     limits: Limits,
     change: &[u8],
 ) -> Result<(), Memory> {
-    let answer = answered(*out.allocator(), disk, limits, change);
+    let answer = answered(rt, *out.allocator(), disk, limits, change);
     let told = answer.push(out);
     drop(answer);
     told

@@ -7,4 +7,5 @@ mod versions;
 
 pub use held::{held_in, push_answered};
 pub use reading::{add_rows, cells, leaf_of};
+pub use test_stores::{Answer, Hold, Store, changed, once, opened, pinned, reaped, unpinned};
 pub use versions::whole;

@@ -1,7 +1,7 @@
 //! Two sessions on threads, beside one that reaps.
 ghost use Rattle.std.specs.Prelude.{◌≡◌, ◌≤◌, [], false, length, vec_capacity, vec_len, All};
 ghost use Rattle.snapshot_manager.specs.Seats.{seats_in_all, IsIdle, IsSeatOf};
-ghost use Rattle.test_stores.specs.Holds.{HasNoPins};
+ghost use Rattle.test_readings.specs.Holds.{HasNoPins};
 ghost use Rattle.shared_steps.specs.Visits.{IsFree, IsUntold};
 
 use afl_outside::Disk;
@@ -18,8 +18,7 @@ use std::thread;
 use std::thread::{Promise, Threads};
 use store_opening::Limits;
 use test_files::made;
-use test_readings::whole;
-use test_stores::Answer;
+use test_readings::{Answer, whole};
 
 /// The name of the array that a session stores.
 fn array_of(session: u32) -> &'static str {
@@ -52,7 +51,7 @@ fn statement_behind(alloc: Global, name: &str, commits: u32) -> Result<String, A
 }
 
 /// Makes so many commits of the session's array.
-fn commit_often<D: Disk, R: Wait>(
+fn commit_often<D: Disk, R: Threads + Wait + Sync>(
     rt: &R,
     alloc: Global,
     shared: &Shared<D>,
@@ -278,7 +277,12 @@ pub(crate) fn push_threads<R: Threads + Wait + Sync>(
     count: u32,
 ) -> Result<()> {
     let alloc = *out.allocator();
-    let file = with_change(alloc, made(alloc)?, "create array A <v:int64>[i=0:0,1,0]")?;
-    let file = with_change(alloc, file, "create array B <v:int64>[i=0:0,1,0]")?;
+    let file = with_change(
+        rt,
+        alloc,
+        made(alloc)?,
+        "create array A <v:int64>[i=0:0,1,0]",
+    )?;
+    let file = with_change(rt, alloc, file, "create array B <v:int64>[i=0:0,1,0]")?;
     Ok(push_run(rt, out, file, limits, count)?)
 }

@@ -1,6 +1,6 @@
 -- A store that three sessions share, and what each has of it.
 use Rattle.std.specs.Prelude.{◌≡◌, ◌≤◌, [], vec_capacity}
-use Rattle.snapshot_manager.specs.Seats.{IsIdle, IsSeatOf, seats_in_all}
+use Rattle.shared_steps.specs.Seats.{IsIdle, IsSeatOf, seats_in_all}
 use Rattle.test_shared.specs.declared.runs.Run.{Run}
 use Rattle.shared_starts.specs.Silent.{silent_moment}
 use Rattle.shared_steps.specs.Visits.{IsUntold}

@@ -10,6 +10,7 @@ use shared_steps::Answer;
 use shared_visits::Step;
 use std::alloc::Global;
 use std::sync::Wait;
+use std::thread::Threads;
 use store_opening::Limits;
 use test_files::made;
 use test_kit::begin_answer;
@@ -41,7 +42,13 @@ fn text_behind(line: &str) -> &str {
 }
 
 /// The answer to the words of a line that is a step.
-fn answer_step<R: Wait>(rt: &R, alloc: Global, run: &mut Run, line: &str, words: &[&str]) -> Answer
+fn answer_step<R: Threads + Wait + Sync>(
+    rt: &R,
+    alloc: Global,
+    run: &mut Run,
+    line: &str,
+    words: &[&str],
+) -> Answer
     requires { IsRun run.old }
     ensures { IsRun run.new }
 {
@@ -61,7 +68,11 @@ fn answer_step<R: Wait>(rt: &R, alloc: Global, run: &mut Run, line: &str, words:
 }
 
 /// Prints a line that is a step, with its answer.
-fn tell<R: Print + AllocGlobal + Wait>(rt: &R, run: &mut Run, line: &str) -> Result<()>
+fn tell<R: Print + AllocGlobal + Threads + Wait + Sync>(
+    rt: &R,
+    run: &mut Run,
+    line: &str,
+) -> Result<()>
     requires { IsRun run.old }
     ensures { IsRun run.new }
 {
@@ -75,7 +86,7 @@ fn tell<R: Print + AllocGlobal + Wait>(rt: &R, run: &mut Run, line: &str) -> Res
 }
 
 /// Prints the lines from one on with their answers, up to `finish`. Its place is the answer.
-fn tell_steps<R: Print + AllocGlobal + Wait>(
+fn tell_steps<R: Print + AllocGlobal + Threads + Wait + Sync>(
     rt: &R,
     run: &mut Run,
     lines: &[&str],
@@ -104,7 +115,7 @@ fn tell_end(rt: &(impl Print + AllocGlobal), store: Store<SilentDisk>) -> Result
 }
 
 /// Prints the lines from one on with their answers, and what the store tells once it is taken back. The place behind it is the answer.
-fn tell_run<R: Print + AllocGlobal + Wait>(
+fn tell_run<R: Print + AllocGlobal + Threads + Wait + Sync>(
     rt: &R,
     mut run: Run,
     lines: &[&str],
@@ -141,14 +152,14 @@ fn tell_answer(rt: &(impl Print + AllocGlobal), line: &str, answer: &StoreAnswer
 }
 
 /// Shares a store anew, and prints the lines from one on, up to the one that finishes it. The place behind it is the answer.
-fn tell_share<R: Print + AllocGlobal + Wait>(
+fn tell_share<R: Print + AllocGlobal + Threads + Wait + Sync>(
     rt: &R,
     lines: &[&str],
     from: usize,
     line: &str,
     limits: Limits,
 ) -> Result<usize> {
-    let file = with_change(rt.alloc(), made(rt.alloc())?, FIRST)?;
+    let file = with_change(rt, rt.alloc(), made(rt.alloc())?, FIRST)?;
     println!(rt; "> {line}")?;
     match shared_over(rt.alloc(), file, limits) {
         Ok(run) => tell_run(rt, run, lines, from),
@@ -162,7 +173,7 @@ fn tell_share<R: Print + AllocGlobal + Wait>(
 }
 
 /// Prints a line with its answer, and the lines behind it up to `finish` where it shares a store. The place of the next one is the answer.
-pub(crate) fn tell_line<R: Print + AllocGlobal + Wait>(
+pub(crate) fn tell_line<R: Print + AllocGlobal + Threads + Wait + Sync>(
     rt: &R,
     lines: &[&str],
     at: usize,

@@ -1,17 +1,17 @@
 //! A store that three sessions share, on one thread.
 ghost use Rattle.std.specs.Prelude.{◌≡◌, ◌≤◌, [], length, vec_capacity, All, IfOk};
-ghost use Rattle.snapshot_manager.specs.Seats.{seats_in_all};
+ghost use Rattle.shared_steps.specs.Seats.{seats_in_all};
 ghost use Rattle.shared_starts.specs.Silent.{silent_moment};
 ghost use Rattle.shared_steps.specs.Visits.{IsFree, IsUntold};
 ghost use Rattle.test_shared.specs.Runs.{IsRun};
 
 use cell_values::{List, Memory};
 use shared_starts::{SilentDisk, Store};
-use shared_steps::{Answer, taken, with_seat};
+use shared_steps::{Answer, Seat, Shared, taken, with_seat};
 use shared_visits::{Step, Visitor, arrived};
-use snapshot_manager::{Seat, Shared};
 use std::alloc::Global;
 use std::sync::Wait;
+use std::thread::Threads;
 use test_stores::Answer as StoreAnswer;
 
 /// A store that three sessions share.
@@ -27,7 +27,7 @@ pub(crate) struct Run {
 }
 
 /// What a step of a session is answered.
-pub(crate) fn answer_to<R: Wait>(
+pub(crate) fn answer_to<R: Threads + Wait + Sync>(
     rt: &R,
     alloc: Global,
     run: &mut Run,

@@ -20,6 +20,7 @@ use expr_nulls::{ArithOp, TypedExpr};
 use logical_plan::{Leaf, Plan};
 use plan_changes::{Change, let_go_change};
 use std::alloc::Global;
+use std::thread::Threads;
 
 /// What is made of the array of a plan.
 #[derive(Clone, Copy)]
@@ -137,7 +138,8 @@ fn push_written(out: &mut String, made: &Changed) -> Result<(), Memory> {
 }
 
 /// Adds the chunks that a change writes, its fault, or why there are none, and how often the source has failed.
-fn push_made<S: ChunkSource>(
+fn push_made<S: ChunkSource, R: Threads + Sync>(
+    rt: &R,
     out: &mut String,
     source: &mut S,
     change: &Change,
@@ -146,7 +148,16 @@ fn push_made<S: ChunkSource>(
     requires undamaged { (S.state source.old).damaged ≡ None }
     requires can { CanChange (S.state source.old) change.now target.now }
 {
-    match changed(*out.allocator(), change, target, source, 1, 0, &OpenGate) {
+    match changed(
+        rt,
+        *out.allocator(),
+        change,
+        target,
+        source,
+        1,
+        0,
+        &OpenGate,
+    ) {
         Ok(Ok(made)) => push_written(out, &made)?,
         Ok(Err(broken)) => push_broken(out, &broken)?,
         Err(cause) => push_cause(out, cause)?,
@@ -156,7 +167,8 @@ fn push_made<S: ChunkSource>(
 
 /// Makes a change over a source that has the array.
 #[tactic(auto, using(crate::proofs::Made::can_change))]
-fn push_case<S: ChunkSource>(
+fn push_case<S: ChunkSource, R: Threads + Sync>(
+    rt: &R,
     out: &mut String,
     source: &mut S,
     case: Case,
@@ -167,19 +179,20 @@ fn push_case<S: ChunkSource>(
 {
     let target = target_of(*out.allocator(), case, layout)?;
     let change = change_of(*out.allocator(), case, layout)?;
-    let told = push_made(out, source, &change, &target);
+    let told = push_made(rt, out, source, &change, &target);
     let_go_change(change);
     told
 }
 
 /// A change over a source, some of whose calls fail.
-pub(crate) fn push_change(
+pub(crate) fn push_change<R: Threads + Sync>(
+    rt: &R,
     out: &mut String,
     case: Case,
     layout: Layout,
     fails: &[u64],
 ) -> Result<(), Memory> {
     let mut source = failing_source(*out.allocator(), layout, fails)?;
-    push_case(out, &mut source, case, layout)?;
+    push_case(rt, out, &mut source, case, layout)?;
     push_asked(out, source.asked())
 }

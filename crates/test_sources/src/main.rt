@@ -19,6 +19,7 @@ use changes::{case_of, push_change};
 use layout::layout_of;
 use leaves::{push_failing, push_sure};
 use plans::{push_failing_filter, push_sure_filter};
+use std::thread::Threads;
 
 /// The numbers of the calls that are to fail.
 fn numbers_in(out: &String, words: &[&str]) -> Result<Vec<u64>, Memory> {
@@ -30,31 +31,31 @@ fn numbers_in(out: &String, words: &[&str]) -> Result<Vec<u64>, Memory> {
 }
 
 /// Adds the answer to the words of a line.
-fn push_answer(out: &mut String, words: &[&str]) -> Result<(), Memory> {
+fn push_answer<R: Threads + Sync>(rt: &R, out: &mut String, words: &[&str]) -> Result<(), Memory> {
     match words {
         ["leaf", fails @ ..] => push_failing(out, &numbers_in(out, fails)?),
         ["sure", "leaf"] => push_sure(out),
         ["filter", layout, fails @ ..] => {
-            push_failing_filter(out, layout_of(layout), &numbers_in(out, fails)?)
+            push_failing_filter(rt, out, layout_of(layout), &numbers_in(out, fails)?)
         }
-        ["sure", "filter", layout] => push_sure_filter(out, layout_of(layout)),
+        ["sure", "filter", layout] => push_sure_filter(rt, out, layout_of(layout)),
         [case, layout, fails @ ..] => {
             let numbers = numbers_in(out, fails)?;
-            push_change(out, case_of(case), layout_of(layout), &numbers)
+            push_change(rt, out, case_of(case), layout_of(layout), &numbers)
         }
         _ => Ok(()),
     }
 }
 
 /// Prints a title, or a line and its answer.
-fn tell(rt: &(impl Print + AllocGlobal), line: &str) -> Result<()> {
+fn tell(rt: &(impl Print + AllocGlobal + Threads + Sync), line: &str) -> Result<()> {
     if line.starts_with("##") {
         println!(rt; "{line}")?;
         return Ok(());
     }
     let words: Vec<&str> = line.split_whitespace().collect(rt.alloc())?;
     let mut answer = String::new(rt.alloc());
-    push_answer(&mut answer, words.as_slice())?;
+    push_answer(rt, &mut answer, words.as_slice())?;
     print!(rt; "> {line}\n{answer}")?;
     Ok(())
 }

@@ -14,6 +14,7 @@ use chunk_source::ChunkSource;
 use expr_nulls::TypedExpr;
 use logical_plan::{Plan, let_go};
 use std::alloc::Global;
+use std::thread::Threads;
 
 /// `filter(a, v>5)`
 pub(crate) fn above_five(alloc: Global, layout: Layout) -> Result<Plan, Memory>
@@ -26,11 +27,16 @@ pub(crate) fn above_five(alloc: Global, layout: Layout) -> Result<Plan, Memory>
 }
 
 /// Executes a plan, and adds its chunks or why there are none, and how often the source has failed.
-fn push_plan<S: ChunkSource>(out: &mut String, source: &mut S, plan: &Plan) -> Result<(), Memory>
+fn push_plan<S: ChunkSource, R: Threads + Sync>(
+    rt: &R,
+    out: &mut String,
+    source: &mut S,
+    plan: &Plan,
+) -> Result<(), Memory>
     requires undamaged { (S.state source.old).damaged ≡ None }
     requires can { CanCompute (S.state source.old) plan.now }
 {
-    match execute(*out.allocator(), plan, source, 1, 0, &OpenGate) {
+    match execute(rt, *out.allocator(), plan, source, 1, 0, &OpenGate) {
         Ok(array) => {
             push_array(out, &array)?;
             push_cells(out, &array)?;
@@ -42,7 +48,8 @@ fn push_plan<S: ChunkSource>(out: &mut String, source: &mut S, plan: &Plan) -> R
 
 /// Executes the filter over a source that has the array.
 #[tactic(auto, using(crate::proofs::Executed::can_compute))]
-fn push_filter<S: ChunkSource>(
+fn push_filter<S: ChunkSource, R: Threads + Sync>(
+    rt: &R,
     out: &mut String,
     source: &mut S,
     layout: Layout,
@@ -51,25 +58,30 @@ fn push_filter<S: ChunkSource>(
     requires reads { Reads (S.state source.old) (leaf layout) }
 {
     let plan = above_five(*out.allocator(), layout)?;
-    let told = push_plan(out, source, &plan);
+    let told = push_plan(rt, out, source, &plan);
     let_go(plan);
     told
 }
 
 /// The filter over a source, some of whose calls fail.
-pub(crate) fn push_failing_filter(
+pub(crate) fn push_failing_filter<R: Threads + Sync>(
+    rt: &R,
     out: &mut String,
     layout: Layout,
     fails: &[u64],
 ) -> Result<(), Memory> {
     let mut source = failing_source(*out.allocator(), layout, fails)?;
-    push_filter(out, &mut source, layout)?;
+    push_filter(rt, out, &mut source, layout)?;
     push_asked(out, source.asked())
 }
 
 /// The filter over a source that never fails.
-pub(crate) fn push_sure_filter(out: &mut String, layout: Layout) -> Result<(), Memory> {
+pub(crate) fn push_sure_filter<R: Threads + Sync>(
+    rt: &R,
+    out: &mut String,
+    layout: Layout,
+) -> Result<(), Memory> {
     let mut source = sure_source(*out.allocator(), layout)?;
-    push_filter(out, &mut source, layout)?;
+    push_filter(rt, out, &mut source, layout)?;
     push_asked(out, source.asked())
 }

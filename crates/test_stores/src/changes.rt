@@ -18,6 +18,7 @@ use array_store::Store;
 use logical_plan::Names;
 use plan_changes::{Change, let_go_change};
 use std::alloc::Global;
+use std::thread::Threads;
 use store_ledger::Pinned;
 
 /// The change that a statement is, if it is one.
@@ -85,12 +86,17 @@ pub struct Offer {
 }
 
 /// The change with the chunks that come with it.
-fn with_chunks(alloc: Global, names: &Names, change: Change) -> Result<Offer, Answer>
+fn with_chunks<R: Threads + Sync>(
+    rt: &R,
+    alloc: Global,
+    names: &Names,
+    change: Change,
+) -> Result<Offer, Answer>
     requires stored { AreStored names.now }
     requires typed { IsTypedFor names.now change }
     ensures { IfOk result (IsOffer names.now) }
 {
-    match chunks_of(alloc, &change, names) {
+    match chunks_of(rt, alloc, &change, names) {
         Ok(changed) => Ok(Offer { change, changed }),
         Err(answer) => {
             let_go_change(change);
@@ -100,18 +106,24 @@ fn with_chunks(alloc: Global, names: &Names, change: Change) -> Result<Offer, An
 }
 
 /// The change that a text is over some names, with the chunks that come with it.
-pub fn offer_over(alloc: Global, names: &Names, text: &[u8]) -> Result<Offer, Answer>
+pub fn offer_over<R: Threads + Sync>(
+    rt: &R,
+    alloc: Global,
+    names: &Names,
+    text: &[u8],
+) -> Result<Offer, Answer>
     requires { AreStored names.now }
     ensures { IfOk result (IsOffer names.now) }
 {
     match change_over(alloc, text, names) {
-        Ok(change) => with_chunks(alloc, names, change),
+        Ok(change) => with_chunks(rt, alloc, names, change),
         Err(answer) => Err(answer),
     }
 }
 
 /// The change that a text is under a pin, if nothing of it was changed since, with the chunks that come with it.
-pub(crate) fn offer_under<D: Disk>(
+pub(crate) fn offer_under<D: Disk, R: Threads + Sync>(
+    rt: &R,
     alloc: Global,
     store: &Store<D>,
     pinned: &Pinned,
@@ -122,7 +134,7 @@ pub(crate) fn offer_under<D: Disk>(
     ensures { IfOk result (IsOffer (names_at store.now.ledger.base (history store.now.ledger))) }
 {
     match change_under(alloc, store, pinned, text) {
-        Ok(change) => with_chunks(alloc, store.names(), change),
+        Ok(change) => with_chunks(rt, alloc, store.names(), change),
         Err(answer) => Err(answer),
     }
 }

@@ -16,6 +16,7 @@ use logical_plan::{Leaf, Names, Plan, reads};
 use plan_changes::Change;
 use result_print::Refusal;
 use std::alloc::Global;
+use std::thread::Threads;
 
 /// Whether a plan reads no stored array.
 fn reads_nothing(alloc: Global, plan: &Plan) -> bool
@@ -44,7 +45,8 @@ fn refused(broken: Broken) -> Answer {
 }
 
 /// The chunks of a change over no arrays.
-fn chunks_over_none(
+fn chunks_over_none<R: Threads + Sync>(
+    rt: &R,
     alloc: Global,
     change: &Change,
     target: &Leaf,
@@ -54,7 +56,7 @@ fn chunks_over_none(
     ensures valid { IfOk result (λ some. IfSome some AreValid) }
 {
     let mut source = SureChunks::new(List::new(alloc));
-    match changed(alloc, change, target, &mut source, 1, 0, &OpenGate) {
+    match changed(rt, alloc, change, target, &mut source, 1, 0, &OpenGate) {
         Ok(Ok(changed)) => Ok(Some(changed)),
         Ok(Err(broken)) => Err(refused(broken)),
         Err(ExecFault::Memory) => Err(Answer::Memory),
@@ -63,7 +65,8 @@ fn chunks_over_none(
 }
 
 /// The chunks of a change that reads nothing.
-fn chunks_made(
+fn chunks_made<R: Threads + Sync>(
+    rt: &R,
     alloc: Global,
     change: &Change,
     name: &Name,
@@ -74,14 +77,15 @@ fn chunks_made(
     ensures valid { IfOk result (λ some. IfSome some AreValid) }
 {
     match no_version(name, schema) {
-        Ok(target) => chunks_over_none(alloc, change, &target),
+        Ok(target) => chunks_over_none(rt, alloc, change, &target),
         Err(Memory) => Err(Answer::Memory),
     }
 }
 
 /// The chunks that come with a change. A plan that reads stored arrays is refused: no test needs one. Those of an insert are as if its
 /// array had no version, so it fills each chunk that it touches, or touches those alone that hold no cell.
-pub(crate) fn chunks_of(
+pub(crate) fn chunks_of<R: Threads + Sync>(
+    rt: &R,
     alloc: Global,
     change: &Change,
     names: &Names,
@@ -94,14 +98,14 @@ pub(crate) fn chunks_of(
     match change {
         Change::Store { name, schema, plan } => {
             if reads_nothing(alloc, plan) {
-                chunks_made(alloc, change, name, schema)
+                chunks_made(rt, alloc, change, name, schema)
             } else {
                 Err(Answer::Reads)
             }
         }
         Change::Insert { name, schema, plan } => {
             if reads_nothing(alloc, plan) {
-                chunks_made(alloc, change, name, schema)
+                chunks_made(rt, alloc, change, name, schema)
             } else {
                 Err(Answer::Reads)
             }

@@ -22,6 +22,7 @@ use cell_values::Name;
 use plan_changes::{Change, changed_name, has_its_names, newest_of};
 use prepared_commits::{PrepareFault, Prepared};
 use std::alloc::Global;
+use std::thread::Threads;
 use test_disks::QuietDisk;
 
 /// What was committed: the newest version, where the change made one.
@@ -111,7 +112,8 @@ fn committed_offer(
 }
 
 /// The change that a text is, committed under a session's pin, if nothing of it was changed since.
-pub fn changed(
+pub fn changed<R: Threads + Sync>(
+    rt: &R,
     alloc: Global,
     store: &mut Store<QuietDisk>,
     session: u32,
@@ -125,7 +127,7 @@ pub fn changed(
     match held {
         Hold::Free => (Hold::Free, Answer::HasNoPin),
         Hold::Tried(pinned) => (Hold::Tried(pinned), Answer::HasTried),
-        Hold::Pinned(pinned) => match offer_under(alloc, store, &pinned, text) {
+        Hold::Pinned(pinned) => match offer_under(rt, alloc, store, &pinned, text) {
             Ok(offer) => {
                 let answer = committed_offer(alloc, store, session, offer);
                 (Hold::Tried(pinned), answer)
@@ -136,13 +138,19 @@ pub fn changed(
 }
 
 /// A pin of a session that has none, the change that a text is, committed under it, and the unpin.
-pub fn once(alloc: Global, store: &mut Store<QuietDisk>, session: u32, text: &[u8]) -> Answer
+pub fn once<R: Threads + Sync>(
+    rt: &R,
+    alloc: Global,
+    store: &mut Store<QuietDisk>,
+    session: u32,
+    text: &[u8],
+) -> Answer
     requires { IsHold store.old.ledger session Hold.Free }
     ensures own { IsHold store.new.ledger session Hold.Free }
     ensures others { LeavesOthers session store.old.ledger store.new.ledger }
 {
     let (held, begun) = pinned(store, session, Hold::Free);
-    let (held, answer) = changed(alloc, store, session, held, text);
+    let (held, answer) = changed(rt, alloc, store, session, held, text);
     unpinned(store, session, held);
     match begun {
         Answer::Done => answer,

@@ -2,10 +2,9 @@
 ghost use Rattle.std.specs.Prelude.{IfOk};
 ghost use Rattle.test_stores.specs.Holds.{HasNoPins};
 
-use array_store::Store;
+use array_store::{Limits, Store};
 use page_file::OpenCause;
 use std::alloc::Global;
-use store_opening::Limits;
 use test_disks::QuietDisk;
 
 /// Opens a store. Where that fails, the disk is let go.

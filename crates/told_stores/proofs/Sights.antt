@@ -18,11 +18,11 @@ use Rattle.event_laws.proofs.Pins.{places_tell_pins}
 use Rattle.store_ledger.specs.Ledger.{IsOpenPin, with_entries, with_notes}
 use Rattle.store_ledger.proofs.Pins.{open_pins_outlast}
 use Rattle.store_versions.specs.Versions.{Directories, MadeVersion, directory_of, versions_after as versions_behind, versions_at}
-use Rattle.store_state.specs.declared.event.Event.{Event}
-use Rattle.store_state.specs.declared.event.Event.TheVariants.{Entered, Acknowledged, Noted}
-use Rattle.store_state.specs.Calls.{entry_in, history_at, numbers_in}
-use Rattle.store_state.specs.Events.{owner_of}
-use Rattle.store_state.specs.Standings.{Standing, commit_places, given_of, made_at, versions_after}
+use Rattle.fresh_commits.specs.Event.{Event}
+use Rattle.fresh_commits.specs.Event.TheVariants.{Entered, Acknowledged, Noted}
+use Rattle.fresh_commits.specs.Calls.{entry_in, history_at, numbers_in}
+use Rattle.fresh_commits.specs.Events.{owner_of}
+use Rattle.fresh_commits.specs.Standings.{Standing, commit_places, given_of, made_at, versions_after}
 use Rattle.store_commits.specs.Start.{Start}
 use Rattle.store_ledger.specs.declared.pinned.Pinned.{Pinned}
 use Rattle.told_stores.specs.Told.{entries_in, directories_in, is_sealed, ledger_of, told}

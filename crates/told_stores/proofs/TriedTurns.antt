@@ -24,19 +24,19 @@ use Rattle.event_core.specs.History.{History, names_at, pin_before, up_to}
 use Rattle.event_core.proofs.Tests.{both_not}
 use Rattle.event_laws.specs.Pins.{PlaceTells}
 use Rattle.event_laws.proofs.Pins.{places_tell_pins}
-use Rattle.fresh_changes.specs.Fresh.{IsFresh}
-use Rattle.fresh_laws.specs.Fresh.{FreshChangesAreTyped}
+use Rattle.store_commits.specs.Fresh.{IsFresh}
+use Rattle.fresh_commits.specs.Fresh.{FreshChangesAreTyped}
 use Rattle.fresh_commits.specs.Laws.{FreshChangesMayBeMade}
 use Rattle.store_ledger.specs.declared.pinned.Pinned.{Pinned}
 use Rattle.store_ledger.specs.Ledger.{LedgerState, IsOpenPin, history, is_fault, is_noted, is_tried}
-use Rattle.store_state.specs.declared.event.Event.{Event}
-use Rattle.store_state.specs.declared.event.Event.TheVariants.{Acknowledged, Entered}
-use Rattle.store_state.specs.declared.parts.StoreParts.{StoreParts}
-use Rattle.store_state.specs.At.{standing}
-use Rattle.store_state.specs.Calls.{database_with, history_at}
-use Rattle.store_state.specs.Events.{events, owner_of}
-use Rattle.store_state.specs.Standings.{BeganAs, Standing, base_of}
-use Rattle.prepared_commits.specs.Prepared.{IsAsked, MayBeMade}
+use Rattle.fresh_commits.specs.Event.{Event}
+use Rattle.fresh_commits.specs.Event.TheVariants.{Acknowledged, Entered}
+use Rattle.fresh_commits.specs.StoreParts.{StoreParts}
+use Rattle.fresh_commits.specs.At.{standing}
+use Rattle.fresh_commits.specs.Calls.{database_with, history_at}
+use Rattle.fresh_commits.specs.Events.{events, owner_of}
+use Rattle.fresh_commits.specs.Standings.{BeganAs, Standing, base_of}
+use Rattle.fresh_commits.specs.Prepared.{IsAsked, MayBeMade}
 use Rattle.store_commits.specs.Parts.{IsFull}
 use Rattle.store_commits.specs.Start.{Start}
 use Rattle.store_commits.specs.Growth.{tried_events}

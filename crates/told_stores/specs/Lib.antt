@@ -1,4 +1,12 @@
 pub use Rattle.commit_pages.specs.Changes
+pub use Rattle.fresh_commits.specs.At
+pub use Rattle.fresh_commits.specs.Calls
+pub use Rattle.fresh_commits.specs.Event
+pub use Rattle.fresh_commits.specs.Events
+pub use Rattle.fresh_commits.specs.Prepared
+pub use Rattle.fresh_commits.specs.ReadFault
+pub use Rattle.fresh_commits.specs.Standings
+pub use Rattle.fresh_commits.specs.StoreParts
 pub use Rattle.store_commits.specs.Causes
 pub use Rattle.store_commits.specs.Growth
 pub use Rattle.store_commits.specs.Start

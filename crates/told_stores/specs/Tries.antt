@@ -5,11 +5,11 @@ use Rattle.plan_changes.specs.declared.change.Change.{Change}
 use Rattle.event_core.specs.declared.entry.Entry.TheVariants.{Commit}
 use Rattle.event_core.specs.declared.entry.Used.{Used}
 use Rattle.event_core.specs.History.{names_at}
-use Rattle.fresh_changes.specs.Fresh.{is_fresh}
+use Rattle.store_commits.specs.Fresh.{is_fresh}
 use Rattle.store_ledger.specs.declared.pinned.Pinned.{Pinned}
 use Rattle.store_ledger.specs.Ledger.{LedgerState, history}
-use Rattle.store_state.specs.declared.event.Event.{Event}
-use Rattle.store_state.specs.declared.event.Event.TheVariants.{Acknowledged}
+use Rattle.fresh_commits.specs.Event.{Event}
+use Rattle.fresh_commits.specs.Event.TheVariants.{Acknowledged}
 use Rattle.store_commits.specs.Start.{Start}
 use Rattle.store_commits.specs.Growth.{tried_events}
 use Rattle.store_commits.specs.Tried.{IsFaultOrNone}

@@ -8,10 +8,10 @@ use Rattle.event_core.specs.declared.entry.Entry.TheVariants.{Pin, Unpin, Commit
 use Rattle.event_core.specs.Allowed.{is_pinned}
 use Rattle.store_ledger.specs.declared.pinned.Pinned.{Pinned}
 use Rattle.store_ledger.specs.Ledger.{IsOpenPin, attempt, history, is_noted, is_tried}
-use Rattle.store_state.specs.declared.event.Event.{Event}
-use Rattle.store_state.specs.declared.event.Event.TheVariants.{Entered, Acknowledged, Noted}
-use Rattle.store_state.specs.Calls.{chunks_at}
-use Rattle.store_state.specs.Worked.{worked_base, worked_directory, worked_slots, worked_store}
+use Rattle.fresh_commits.specs.Event.{Event}
+use Rattle.fresh_commits.specs.Event.TheVariants.{Entered, Acknowledged, Noted}
+use Rattle.fresh_commits.specs.Calls.{chunks_at}
+use Rattle.fresh_commits.specs.Worked.{worked_base, worked_directory, worked_slots, worked_store}
 use Rattle.store_commits.specs.Start.{Start}
 use Rattle.store_commits.specs.Starts.{start_of}
 use Rattle.told_stores.specs.Told.{is_sealed, ledger_of, told, IsTold}

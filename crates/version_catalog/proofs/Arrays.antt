@@ -1,6 +1,6 @@
 -- An array is read where its parts are.
 use Rattle.std.proofs.Common.{◌≡◌, ℕ, true, List, length, Option, Result, Ok, ap}
-use Rattle.cell_values.specs.declared.schema.Schema.{Schema}
+use Rattle.file_items.specs.Schema.{Schema}
 use Rattle.file_items.specs.Table.{name_at, schema_at}
 use Rattle.version_catalog.specs.declared.rules.catalog.BlobAt.{BlobAt}
 use Rattle.version_catalog.specs.declared.rules.catalog.CatalogArray.{CatalogArray}

@@ -1,6 +1,6 @@
 -- Versions and their directories, as two lists and as one.
 use Rattle.std.proofs.Common.{◌≡◌, ℕ, zero, suc, ◌<◌, min, List, [], ◌∷◌, ◌++◌, map, length, take, slice_index_or, refl, ap, ◌∙◌, arith}
-use Rattle.cell_values.specs.declared.schema.Schema.{Schema}
+use Rattle.file_items.specs.Schema.{Schema}
 use Rattle.version_catalog.specs.declared.rules.catalog.BlobAt.{BlobAt}
 use Rattle.version_catalog.specs.Spelling.{VersionAt, versions_at}
 use Rattle.version_catalog.specs.Table.{array_of}

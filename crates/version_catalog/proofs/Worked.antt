@@ -1,8 +1,8 @@
 -- A worked catalogue: array A with the schema `<v:int64>[i=0:3,2,0]`, whose version 2 stands, with a directory of 44 bytes in page 7.
 use Rattle.std.proofs.Common.{◌≡◌, ℕ, pos, true, List, [], ◌∷◌, ◌++◌, length, take, Option, Some, Ok, refl}
 use Rattle.file_items.specs.Items.{wrong_at, repeat}
-use Rattle.cell_values.specs.declared.schema.Kind.TheVariants.{Int64}
-use Rattle.cell_values.specs.declared.schema.Schema.{Schema}
+use Rattle.file_items.specs.Kind.TheVariants.{Int64}
+use Rattle.file_items.specs.Schema.{Schema}
 use Rattle.file_items.specs.Pages.{pages_at}
 use Rattle.file_items.specs.Spelling.{spell_name, spell_attribute, spell_signed, spell_dimension, spell_schema}
 use Rattle.file_items.specs.Table.{name_fields, name_at, kind_at, flag_at, typed_at, attribute_at, attributes_at, signed_at, range_at, cut_at, extent_at, dimension_at, dimensions_at, schema_at}

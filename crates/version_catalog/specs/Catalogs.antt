@@ -1,7 +1,7 @@
 -- Catalogues and records that have a spelling.
 use Rattle.std.specs.Prelude.{◌≡◌, ◌<◌, ◌^◌, map, length}
 use Rattle.std.specs.List.{AllByRecursion}
-use Rattle.cell_values.specs.Naming.{IsName}
+use Rattle.file_items.specs.Naming.{IsName}
 use Rattle.plan_changes.specs.Names.{Names}
 use Rattle.file_items.specs.Pages.{LieIn}
 use Rattle.plan_changes.specs.Stored.{AreStored}

@@ -30,7 +30,9 @@ spell_version version = to_le_bytes w32 version.number ++ spell_blob version.dir
 
 -- the name, the schema, the number of the next version, and the versions with their count before them
 unfoldable pub spell_array : CatalogArray → List ℕ
-spell_array array = spell_name array.entry.name ++ (spell_schema array.entry.schema ++ (to_le_bytes w32 array.entry.next ++ spell_counted w32 spell_version (versions_at array.entry.versions array.directories)))
+spell_array array = spell_name array.entry.name
+    ++ (spell_schema array.entry.schema ++ (to_le_bytes w32 array.entry.next ++ spell_counted w32 spell_version
+    (versions_at array.entry.versions array.directories)))
 
 -- the arrays with their count before them
 unfoldable pub spelling : Catalog → List ℕ

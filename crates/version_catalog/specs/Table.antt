@@ -2,7 +2,7 @@
 use Rattle.std.specs.Prelude.{ℕ, zero, suc, Bool, true, ◌&&◌, nat_lt, nat_le, List, [], ◌∷◌, map, length, Option, Some, None, Result, Ok, Err}
 use Rattle.std.specs.Int.{w32}
 use Rattle.file_items.specs.Items.{◌>>=◌, Reading, number_at, item, counted, whole}
-use Rattle.cell_values.specs.declared.schema.Schema.{Schema}
+use Rattle.file_items.specs.Schema.{Schema}
 use Rattle.file_items.specs.Pages.{positive_at, pages_at}
 use Rattle.plan_changes.specs.Stored.{is_before}
 use Rattle.file_items.specs.Table.{name_at, schema_at}
@@ -77,7 +77,12 @@ items_at before bytes = do
 
 abbrev pub array_of : Items → CatalogArray
 array_of items = record {
-  entry = record { name = items.name; schema = items.content.schema; next = items.content.numbered.next; versions = map (λ version. version.number) items.content.numbered.versions };
+  entry = record {
+    name = items.name;
+    schema = items.content.schema;
+    next = items.content.numbered.next;
+    versions = map (λ version. version.number) items.content.numbered.versions;
+  };
   directories = map (λ version. version.directory) items.content.numbered.versions;
 }
 

@@ -3,4 +3,5 @@
 
 mod page_set;
 
+pub use cell_values::{Copies, List, Memory, Name};
 pub use page_set::{PageSet, free_of, is_in, live};

@@ -1,5 +1,4 @@
 pub mod ArraysWindowLaws
-pub mod ChunkLaws
 pub mod ChunksWindowLaws
 pub mod FollowLaws
 pub mod PartLaws

@@ -1,9 +1,7 @@
--- The windows of a chunk's core lie in its frame.
-use Rattle.std.proofs.Common.{◌≡◌, ℕ, ◌≤◌, ℤ, pos, ◌+ℤ◌, ◌-ℤ◌, ◌≤ℤ◌, int_le, ◌&&◌, Bool, true, false, cond, IsTrue, List, [], ◌∷◌, map, length, Option, Some, None, Result, Ok, Err, refl, sym, ap, ◌∙◌, arith}
-use Rattle.std.specs.Prelude.{IfOk}
-use Rattle.std.specs.Int.{int_min}
+-- Windows of the cells of a box, from all rows and from some of them.
+use Rattle.std.proofs.Common.{◌≡◌, ℤ, ◌≤ℤ◌, int_le, ◌&&◌, Bool, true, false, cond, IsTrue, List, [], ◌∷◌, map, Option, Some, None, refl, sym, ap, ◌∙◌, arith}
 use Rattle.std.specs.List.{AllByRecursion}
-use Rattle.std.proofs.lemmas.Int.{ints, clamps}
+use Rattle.std.proofs.lemmas.Int.{ints}
 use Rattle.cell_values.specs.declared.datum.Cell.{Cell}
 use Rattle.cell_values.specs.declared.datum.Cell.TheVariants.{Full, Doubt}
 use Rattle.cell_values.specs.declared.datum.Row.{Row}
@@ -13,18 +11,13 @@ use Rattle.array_rows.specs.Boxes.{is_between, is_inside, within, bounds_of}
 use Rattle.array_rows.specs.Cellwise.{put_first, cell_wise}
 use Rattle.array_rows.specs.Rows.{Coordinate}
 use Rattle.array_rows.proofs.RowsLemmas.{within-cell_wise}
-use Rattle.array_geom.specs.declared.chunk.Chunk.{Chunk}
-use Rattle.array_geom.specs.Link.{chunk_rows, IsPart}
-use Rattle.array_geom.specs.Geometry.{ChunkNumber, first_in, last_in, core, frame}
-use Rattle.array_geom.specs.Inner.Ranges.{IsNear, AreNear, IsLow, AreLow, AreMargins}
-use Rattle.array_geom.proofs.CoreLaws.{core_in_frame}
+use Rattle.array_geom.specs.Inner.Ranges.{IsNear, AreNear, IsLow, AreLow}
 use Rattle.array_geom.proofs.TestLaws.{and_parts, and_both, le_test, le_from_test}
-use Rattle.array_parts.specs.Made.{IsMadeBy}
 use Rattle.logical_plan.specs.declared.parts.Aggregate.{Aggregate}
 use Rattle.logical_plan.specs.declared.parts.Reach.{Reach}
 use Rattle.logical_plan.specs.Groups.{aggregates_of, window, window_cell, window_rows}
-use Rattle.window_overlap.specs.Cores.{window_within, core_windows}
-use Rattle.window_overlap.specs.Reaches.{AreShort, AreWithinMargins, HaveLowPlaces}
+use Rattle.window_overlap.specs.Cores.{window_within}
+use Rattle.window_overlap.specs.Reaches.{HaveLowPlaces}
 
 -- ---- windows of the cells of a box
 
@@ -71,34 +64,6 @@ on_side l h x rest e =
 pub side : (l h x : ℤ) (rest : Bool) → l ≤ℤ x → x ≤ℤ h → rest ≡ true → (int_le l x && int_le x h && rest) ≡ true
 side l h x rest low high r = and_both (int_le l x && int_le x h) rest (and_both (int_le l x) (int_le x h) (le_test l x low) (le_test x h high)) r
 
-reached_low : (first x y : ℤ) (before m : ℕ) → first ≤ℤ x → (x -ℤ pos before) ≤ℤ y → before ≤ m → (first -ℤ pos m) ≤ℤ y
-reached_low first x y before m a b l = omega (arith, ints, a, b, l)
-
-reached_high : (hi last x y : ℤ) (after m : ℕ) → x ≤ℤ int_min hi last → y ≤ℤ (x +ℤ pos after) → after ≤ m → y ≤ℤ (last +ℤ pos m)
-reached_high hi last x y after m a b l = omega (arith, ints, clamps, a, b, l)
-
-window_in_frame : (dims : List Dimension) (margins : List ℕ) (k : ChunkNumber) (reach : List Reach) (c at : Coordinate) → length margins ≡ length dims → AreWithinMargins reach margins → is_inside (core dims k) c ≡ true → is_inside (window reach c) at ≡ true
-    → is_inside (frame dims margins k) at ≡ true
-window_in_frame [] [] k [] [] [] n w e f = refl
-window_in_frame [] [] k [] [] (y ∷ at) n w e f = absurd cc
-window_in_frame [] [] k [] (x ∷ c) at n w e f = absurd cc
-window_in_frame [] [] k (r ∷ reach) c at n w e f = absurd w
-window_in_frame [] (m ∷ margins) k reach c at n w e f = absurd (omega (arith, n))
-window_in_frame (d ∷ dims) [] k reach c at n w e f = absurd (omega (arith, n))
-window_in_frame (d ∷ dims) (m ∷ margins) k [] c at n w e f = absurd w
-window_in_frame (d ∷ dims) (m ∷ margins) [] (r ∷ reach) [] [] n w e f = refl
-window_in_frame (d ∷ dims) (m ∷ margins) [] (r ∷ reach) [] (y ∷ at) n w e f = absurd cc
-window_in_frame (d ∷ dims) (m ∷ margins) [] (r ∷ reach) (x ∷ c) at n w e f = absurd cc
-window_in_frame (d ∷ dims) (m ∷ margins) (q ∷ k) (r ∷ reach) [] at n w e f = absurd cc
-window_in_frame (d ∷ dims) (m ∷ margins) (q ∷ k) (r ∷ reach) (x ∷ c) [] n w e f = absurd cc
-window_in_frame (d ∷ dims) (m ∷ margins) (q ∷ k) (r ∷ reach) (x ∷ c) (y ∷ at) n w e f =
-    let s = on_side (first_in d q) (int_min d.hi (last_in d q)) x (is_inside (core dims k) c) e in
-    let t = on_side (x -ℤ pos r.before) (x +ℤ pos r.after) y (is_inside (window reach c) at) f in
-    side (first_in d q -ℤ pos m) (last_in d q +ℤ pos m) y (is_inside (frame dims margins k) at)
-    (reached_low (first_in d q) x y r.before m s.low t.low w.0.0)
-    (reached_high d.hi (last_in d q) x y r.after m s.high t.high w.0.1)
-    (window_in_frame dims margins k reach c at (omega (arith, n)) w.1 s.others t.others)
-
 pub same_windows : (area : Bounds) (reach : List Reach) (gs : List Aggregate) (some all rows : List Row) → ((c : Coordinate) → is_inside area c ≡ true → within (window reach c) some ≡ within (window reach c) all)
     → cell_wise (window_cell reach gs some) (within area rows) ≡ cell_wise (window_cell reach gs all) (within area rows)
 same_windows area reach gs some all [] h = refl
@@ -111,17 +76,6 @@ same_windows area reach gs some all (row ∷ rows) h = cases (is_inside area row
     cases : (b : Bool) → is_inside area row.at.items ≡ b → cell_wise (window_cell reach gs some) (within area rows) ≡ cell_wise (window_cell reach gs all) (within area rows) → cell_wise (window_cell reach gs some) (cond b (row ∷ within area rows) (within area rows)) ≡ cell_wise (window_cell reach gs all) (cond b (row ∷ within area rows) (within area rows))
     cases true e r = λ i. put_first row.at.items (same_cell row.cell (h row.at.items e) i) (r i)
     cases false e r = r
-
--- the windows of a core are those of all rows, where they lie in the frame
-pub windows_of_part : (dims : List Dimension) (margins : List ℕ) (k : ChunkNumber) (reach : List Reach) (gs : List Aggregate) (rows : List Row) → length margins ≡ length dims → AreWithinMargins reach margins
-    → core_windows dims k reach gs (within (frame dims margins k) rows) ≡ core_windows dims k reach gs rows
-windows_of_part dims margins k reach gs rows n w =
-    let some = within (frame dims margins k) rows in
-    let inner = same_part (core dims k) (frame dims margins k) rows (λ c e. core_in_frame dims margins k c n e) in
-    within-cell_wise (core dims k) (window_cell reach gs some) some
-    ∙ ap (cell_wise (window_cell reach gs some)) inner
-    ∙ same_windows (core dims k) reach gs some rows rows (λ c e. same_part (window reach c) (frame dims margins k) rows (λ at f. window_in_frame dims margins k reach c at n w e f))
-    ∙ sym (within-cell_wise (core dims k) (window_cell reach gs rows) rows)
 
 -- ---- numbers that stay in 64 bits
 
@@ -139,32 +93,3 @@ low_place (d ∷ dims) (x ∷ c) n b =
 pub low_places : (dims : List Dimension) (rows : List Row) → AreNear dims → AllByRecursion (λ row. IsTrue (is_inside (bounds_of dims) row.at.items)) rows → HaveLowPlaces rows
 low_places dims [] n b = tt
 low_places dims (row ∷ rows) n b = (low_place dims row.at.items n b.0, low_places dims rows n b.1)
-
-pub short_reach : (dims : List Dimension) (margins : List ℕ) (reach : List Reach) → AreMargins dims margins → AreWithinMargins reach margins → AreShort reach
-short_reach dims margins [] m w = tt
-short_reach [] [] (r ∷ reach) m w = absurd w
-short_reach [] (n ∷ margins) (r ∷ reach) m w = absurd m
-short_reach (d ∷ dims) [] (r ∷ reach) m w = absurd w
-short_reach (d ∷ dims) (n ∷ margins) (r ∷ reach) m w = ((omega (arith, m.0, w.0.0), omega (arith, m.0, w.0.1)), short_reach dims margins reach m.1 w.1)
-
--- ---- the chunk that is made
-
-pub core_made : (area : Bounds) (reach : List Reach) (gs : List Aggregate) (rows : List Row) (dims : List Dimension) (margins : List ℕ) (old made : Chunk) → area ≡ core dims old.at.items → rows ≡ chunk_rows dims margins old
-    → IsMadeBy (cell_wise (window_within area reach gs rows)) dims margins old made → IsMadeBy (core_windows dims old.at.items reach gs) dims margins old made
-core_made area reach gs rows dims margins old made e same h =
-    let all = chunk_rows dims margins old in
-    record {
-      number = h.number;
-      placed = h.placed;
-      rising = h.rising;
-      rows = h.rows ∙ (λ i. cell_wise (window_within (e i) reach gs (same i)) all) ∙ windows_kept (core dims old.at.items) reach gs all;
-    }
-
-pub array_made : (reach : List Reach) (gs : List Aggregate) (dims : List Dimension) (margins : List ℕ) (rows : List Row) (old made : Chunk) → length margins ≡ length dims → AreWithinMargins reach margins → IsPart dims margins rows old
-    → IsMadeBy (core_windows dims old.at.items reach gs) dims margins old made → chunk_rows dims margins made ≡ core_windows dims old.at.items reach gs rows
-array_made reach gs dims margins rows old made n w part h =
-    h.rows ∙ ap (core_windows dims old.at.items reach gs) part.cells ∙ windows_of_part dims margins old.at.items reach gs rows n w
-
-pub if_ok : {X E : Type 0} {P Q : X → Type 0} (r : Result X E) → IfOk r P → ((x : X) → P x → Q x) → IfOk r Q
-if_ok (Ok x) p f = f x p
-if_ok (Err e) p f = p

@@ -1,5 +1,5 @@
 -- Windows chunk by chunk.
-use Rattle.std.proofs.Common.{◌≡◌, ℕ, suc, ◌+◌, ◌*◌, ◌-◌, ◌<◌, ◌≤◌, ◌^◌, ℤ, pos, ◌+ℤ◌, ◌-ℤ◌, ◌≤ℤ◌, negsuc, int_le, min, ◌&&◌, Bool, true, false, cond, IsTrue, List, [], ◌∷◌, ◌++◌, length, get_or, take, Option, Some, None, refl, sym, ap, ◌∙◌, subst, arith}
+use Rattle.std.proofs.Common.{◌≡◌, ℕ, suc, ◌+◌, ◌*◌, ◌-◌, ◌<◌, ◌≤◌, ◌^◌, ℤ, pos, ◌+ℤ◌, ◌-ℤ◌, ◌≤ℤ◌, negsuc, int_le, min, ◌&&◌, Bool, true, false, cond, IsTrue, List, [], ◌∷◌, ◌++◌, length, get_or, map, take, Option, None, refl, sym, ap, ◌∙◌, subst, arith}
 use Rattle.std.specs.Prelude.{◌==◌, nat_le}
 use Rattle.std.specs.Int.{w64, saturate_signed}
 use Rattle.std.specs.List.{AllByRecursion}
@@ -15,7 +15,9 @@ use Rattle.array_rows.specs.Boxes.{corners, is_between, is_inside, within}
 use Rattle.array_rows.specs.Cellwise.{cell_wise, put_first}
 use Rattle.array_rows.specs.Rows.{Coordinate}
 use Rattle.array_rows.proofs.RowsLemmas.{within-cell_wise}
+use Rattle.arrayvec.specs.ArrayVec.{ArrayVec}
 use Rattle.array_geom.specs.declared.chunk.Chunk.{Chunk}
+use Rattle.array_geom.specs.declared.chunk.ChunkedArray.{ChunkedArray}
 use Rattle.array_geom.specs.Geometry.{ChunkNumber, HasFrame, first_in, frame, frame_low, has_core, last_in}
 use Rattle.array_geom.specs.Inner.Ranges.{AreLow, AreMargins, AreNear, IsLow, IsNear}
 use Rattle.array_geom.specs.Link.{IsPart, NumbersRise, core_rows, numbers}
@@ -26,13 +28,12 @@ use Rattle.array_parts.specs.Cores.{HaveCells}
 use Rattle.array_parts.specs.Parts.{AreParts}
 use Rattle.array_parts.specs.Placed.{HasPlaces}
 use Rattle.chunk_cells.specs.Frames.{HasFrames}
-use Rattle.area_cells.proofs.CutLaws.{at_index}
 use Rattle.area_cells.proofs.ListedLaws.{core_listed}
-use Rattle.area_cells.proofs.PieceLaws.{changed_parts}
+use Rattle.area_cells.proofs.PieceLaws.{changed_parts, each_number}
 use Rattle.logical_plan.specs.declared.parts.Aggregate.{Aggregate}
 use Rattle.logical_plan.specs.declared.parts.Reach.{Reach}
 use Rattle.logical_plan.specs.Groups.{window, window_cell, window_rows}
-use Rattle.logical_plan.specs.Typing.{are_windows_of, reached_size, window_size}
+use Rattle.logical_plan.specs.Typing.{are_aggregates_of, are_windows_of, reached_size, window_size}
 use Rattle.window_overlap.specs.Cores.{window_within}
 use Rattle.window_overlap.specs.Inner.Reached.{reached}
 use Rattle.window_overlap.specs.Reaches.{AreShort, HaveLowPlaces}
@@ -40,12 +41,6 @@ use Rattle.window_overlap.proofs.ChunksWindowLaws.{cell_wise-more}
 use Rattle.window_overlap.proofs.PartLaws.{on_side, same_part, same_windows, side, windows_kept}
 
 -- ---- one row after the other
-
-pub kept_window : (area : Bounds) (reach : List Reach) (gs : List Aggregate) (rows : List Row) (row new : Row) (made made' : List Row) → is_inside area row.at.items ≡ true → new.at ≡ row.at → Some new.cell ≡ window_cell reach gs rows row.at.items row.cell
-    → made' ≡ made ++ new ∷ [] → made' ≡ made ++ cell_wise (window_within area reach gs rows) (row ∷ [])
-kept_window area reach gs rows row new made made' inside at cell e =
-    let own : new ∷ [] ≡ put_first row.at.items (window_cell reach gs rows row.at.items row.cell) [] = (λ i. record { at = at i; cell = new.cell } ∷ []) ∙ ap (λ (o : Option Cell). put_first row.at.items o []) cell in
-    e ∙ ap (λ (z : List Row). made ++ z) (own ∙ sym (ap (λ (b : Bool). put_first row.at.items (cond b (window_cell reach gs rows row.at.items row.cell) None) []) inside))
 
 pub no_window : (area : Bounds) (reach : List Reach) (gs : List Aggregate) (rows : List Row) (row : Row) (made : List Row) → is_inside area row.at.items ≡ false → made ≡ made ++ cell_wise (window_within area reach gs rows) (row ∷ [])
 no_window area reach gs rows row made outside =
@@ -189,8 +184,15 @@ whole_parts source target old margins reach gs chunks parts same cells e rise si
     (changed_parts source.dimensions margins (window_cell reach gs rows) rows chunks parts e rise sized (λ k l h. core_listed source.dimensions old chunks k (valid_placed source cells.placed.valid).near sized l h)
     (subst (λ (ds : List Dimension). AllByRecursion (IsPart ds margins (window_rows reach gs rows)) parts) same each))
 
-pub frame_at : (source target : Schema) (old margins : List ℕ) (chunks items : List Chunk) (i : ℕ) (chunk : Chunk) → target.dimensions ≡ source.dimensions → HasFrames target margins → HaveCells source old chunks → items ≡ chunks → i < length items → chunk ≡ get_or items i chunk
-    → HasFrame target margins chunk.at.items
-frame_at source target old margins chunks items i chunk same frames cells e l is =
-    let placed = at_index (HasPlaces source old) items i chunk (subst (AllByRecursion (HasPlaces source old)) (sym e) cells.placed.all) l is in
+pub same_frame : (source target : Schema) (old margins : List ℕ) (chunk : Chunk) → target.dimensions ≡ source.dimensions → HasFrames target margins → HasPlaces source old chunk → HasFrame target margins chunk.at.items
+same_frame source target old margins chunk same frames placed =
     record { valid = frames.valid; core = ap (λ (ds : List Dimension). has_core ds chunk.at.items) same ∙ placed.framed.core; each = frames.each; places = frames.places }
+
+-- each number is that of a chunk whose windows can be made
+pub can_have_windows : (array : ChunkedArray) (reach : List Reach) (gs : List Aggregate) (target : Schema) (margins : List ℕ) (ks : List (ArrayVec ℕ)) → ks ≡ map (λ chunk. chunk.at) array.chunks → HasFrames target margins
+    → HaveCells array.schema array.margins.items array.chunks → NumbersRise (numbers array.chunks) → IsTrue (are_windows_of array.schema reach) → IsTrue (are_aggregates_of array.schema.attributes gs) → target.dimensions ≡ array.schema.dimensions
+    → AllByRecursion (λ number. HaveCells array.schema array.margins.items array.chunks × NumbersRise (numbers array.chunks) × IsTrue (are_windows_of array.schema reach) × IsTrue (are_aggregates_of array.schema.attributes gs) × (target.dimensions ≡ array.schema.dimensions) × HasFrame target margins number.items) ks
+can_have_windows array reach gs target margins ks e frames cells rises reached typed same =
+    let can : ArrayVec ℕ → Type 0 = λ number. HaveCells array.schema array.margins.items array.chunks × NumbersRise (numbers array.chunks) × IsTrue (are_windows_of array.schema reach) × IsTrue (are_aggregates_of array.schema.attributes gs) × (target.dimensions ≡ array.schema.dimensions) × HasFrame target margins number.items in
+    subst (λ (z : List (ArrayVec ℕ)). AllByRecursion can z) (sym e)
+    (each_number can (HasPlaces array.schema array.margins.items) (λ chunk placed. (cells, rises, reached, typed, same, same_frame array.schema target array.margins.items margins chunk same frames placed)) array.chunks cells.placed.all)

@@ -1,6 +1,6 @@
 -- What windows may reach, and what can be aggregated.
-use Rattle.std.specs.Prelude.{ℕ, ◌≤◌, ◌^◌, List, IsTrue}
-use Rattle.std.specs.List.{AllByRecursion, AllZip}
+use Rattle.std.specs.Prelude.{◌≤◌, ◌^◌, List, IsTrue}
+use Rattle.std.specs.List.{AllByRecursion}
 use Rattle.cell_values.specs.declared.datum.Row.{Row}
 use Rattle.cell_values.specs.declared.schema.Attribute.{Attribute}
 use Rattle.cell_values.specs.Cells.{IsCellOf}
@@ -12,10 +12,6 @@ use Rattle.logical_plan.specs.Typing.{are_aggregates_of}
 -- a window that stays near its centre
 abbrev pub AreShort : List Reach → Type 0
 AreShort = AllByRecursion (λ r. (r.before ≤ 2 ^ 48) × (r.after ≤ 2 ^ 48))
-
--- a reach for each margin, and none beyond it
-abbrev pub AreWithinMargins : List Reach → List ℕ → Type 0
-AreWithinMargins = AllZip (λ r m. (r.before ≤ m) × (r.after ≤ m))
 
 -- coordinates from which windows stay in 64 bits
 abbrev pub HaveLowPlaces : List Row → Type 0

@@ -1,8 +1,8 @@
-//! `window`: the windows of a chunk's core cells, and of a whole array.
+//! `window`: the windows of rows, and of a whole array.
 #![tactic(auto)]
 
 mod arrays;
 mod chunks;
 
 pub use arrays::window;
-pub use chunks::{window_chunk, windows_of_rows};
+pub use chunks::windows_of_rows;

@@ -69,7 +69,15 @@ SureCalls call old new (Err e) = new ≡ record old { wants = risen old.wants }
 
 -- what a disk with this record tells
 abbrev pub told_disk : List ℕ → Recorded → ℕ → ℕ → DiskState
-told_disk name r faults wants = record { name = Some name; first = Some r.first; seen = Some (content_of r); honest = true; moment = length r.calls; faults = faults; wants = wants }
+told_disk name r faults wants = record {
+  name = Some name;
+  first = Some r.first;
+  seen = Some (content_of r);
+  honest = true;
+  moment = length r.calls;
+  faults = faults;
+  wants = wants;
+}
 
 abbrev pub memory_disk_state : MemoryDisk → DiskState
 memory_disk_state d = told_disk d.name d.bytes d.faults d.wants

@@ -7,7 +7,8 @@ use Rattle.afl_in_memory.specs.Images.{next_content, NextImages, content_after, 
 use Rattle.afl_in_memory.specs.declared.device_call.DeviceCall.{DeviceCall}
 use Rattle.afl_in_memory.specs.declared.device_call.DeviceCall.TheVariants.{Length, Read, Write, Sync}
 
-pub content_after_push : (seen : List ℕ) (calls : List DeviceCall) (call : DeviceCall) → content_after seen (calls ++ call ∷ []) ≡ next_content (content_after seen calls) call
+pub content_after_push : (seen : List ℕ) (calls : List DeviceCall) (call : DeviceCall)
+    → content_after seen (calls ++ call ∷ []) ≡ next_content (content_after seen calls) call
 content_after_push seen [] call = refl
 content_after_push seen (x ∷ calls) call = content_after_push (next_content seen x) calls call
 
@@ -30,16 +31,25 @@ elapses_push first calls call = record {
     le_or_more : (a b : ℕ) → (a ≤ b) ⊎ (b < a)
     le_or_more a b = grind arith
 
-    split : (t : ℕ) (c : List ℕ) (left : LeftSince first (calls ++ call ∷ []) t c) → (left.0 ≤ length calls) ⊎ (length calls < left.0) → LeftSince first calls t c ⊎ Leaves first (calls ++ call ∷ []) c
+    split : (t : ℕ) (c : List ℕ) (left : LeftSince first (calls ++ call ∷ []) t c)
+        → (left.0 ≤ length calls) ⊎ (length calls < left.0) → LeftSince first calls t c ⊎ Leaves first (calls ++ call ∷ []) c
     split t c left (inl before) = inl (left.0, left.1, before, subst (λ (l : List DeviceCall). Leaves first l c) (take-push left.0 calls call before) left.3)
-    split t c left (inr now) = inr (subst (λ (l : List DeviceCall). Leaves first l c) (take_all left.0 (calls ++ call ∷ []) (omega (arith, now, length-append calls (call ∷ [])))) left.3)
+    split t c left (inr now) = inr (subst (λ (l : List DeviceCall). Leaves first l c)
+        (take_all left.0 (calls ++ call ∷ []) (omega (arith, now, length-append calls (call ∷ [])))) left.3)
 
-pub elapses_same : (first : List ℕ) (calls : List DeviceCall) → Elapses (length calls) (length calls) (LeftSince first calls) (LeftSince first calls) (Leaves first calls)
+pub elapses_same : (first : List ℕ) (calls : List DeviceCall)
+    → Elapses (length calls) (length calls) (LeftSince first calls) (LeftSince first calls) (Leaves first calls)
 elapses_same first calls = record { later = omega arith; nothing_else = λ t c le left. inl left }
 
 -- the images since this moment are those of now
 pub now_counts : (first : List ℕ) (calls : List DeviceCall) (t : ℕ) (c : List ℕ) → t ≤ length calls → Leaves first calls c → LeftSince first calls t c
-now_counts first calls t c le left = (length calls, le, omega arith, subst (λ (l : List DeviceCall). Leaves first l c) (sym (take_all (length calls) calls (omega arith))) left)
+now_counts first calls t c le left = (
+  length calls,
+  le,
+  omega arith,
+  subst
+      (λ (l : List DeviceCall). Leaves first l c) (sym (take_all (length calls) calls (omega arith))) left,
+)
 
 pub only_images_now : (first : List ℕ) (calls : List DeviceCall) (c : List ℕ) → LeftSince first calls (length calls) c → Leaves first calls c
 only_images_now first calls c left = subst (λ (l : List DeviceCall). Leaves first l c) (take_all left.0 calls left.1) left.3
@@ -49,7 +59,8 @@ content_left : (seen : List ℕ) (images : List ℕ → Type 0) (calls : List De
 content_left seen images [] here = here
 content_left seen images (Length ∷ calls) here = content_left seen images calls here
 content_left seen images (Read at length ∷ calls) here = content_left seen images calls here
-content_left seen images (Write at bytes ∷ calls) here = content_left (written at bytes seen) (NextImages seen images (Write at bytes)) calls (seen, here, Torn-written at bytes seen)
+content_left seen images (Write at bytes ∷ calls) here = content_left (written at bytes seen)
+    (NextImages seen images (Write at bytes)) calls (seen, here, Torn-written at bytes seen)
 content_left seen images (Sync false ∷ calls) here = content_left seen images calls here
 content_left seen images (Sync true ∷ calls) here = content_left seen (λ c. c ≡ seen) calls refl
 

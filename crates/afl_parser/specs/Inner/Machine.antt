@@ -9,7 +9,8 @@ use Rattle.schema_grammar.specs.declared.state.ShapeStep.{ShapeStep}
 use Rattle.schema_grammar.specs.declared.state.ShapeStep.TheVariants.{On, Whole, Unexpected as NoShape}
 use Rattle.schema_grammar.specs.Spelling.{placed, across}
 use Rattle.schema_grammar.specs.Inner.Reading.{shape_turn}
-use Rattle.afl_trees.specs.Term.{Term, create, number, text, truth, null, missing, reference, version, call, schema, star, renamed, opposite, negative, binary, group, no_terms, to_terms}
+use Rattle.afl_trees.specs.Term.{Term, create, number, text, truth, null, missing, reference, version, call}
+use Rattle.afl_trees.specs.Term.{schema, star, renamed, opposite, negative, binary, group, no_terms, to_terms}
 use Rattle.afl_trees.specs.Grammar.{line_of, left_line, right_line, op_of, line, height, heights, span_of}
 use Rattle.afl_trees.specs.declared.tree.BinaryOp.{BinaryOp}
 use Rattle.afl_trees.specs.declared.kind.StopKind.{StopKind}
@@ -92,7 +93,8 @@ abbrev pub opening : ℕ → List Frame → Span → Lexeme → Turn
 opening limit k s (a_word NotWord) = expected (nat_le (want k) 3) (shallow (nat_lt (length k + 1) limit) (Go (Not s ∷ k) Want))
 opening limit k s (a_symbol MinusSign) = shallow (nat_lt (length k + 1) limit) (Go (Minus s ∷ k) Want)
 opening limit k s (a_symbol Star) = expected (nat_le (want k) 0) (shallow (nat_lt (length k) limit) (Go k (Have (star s))))
-opening limit k s (a_symbol Less) = expected (nat_le (want k) 0) (shallow (nat_lt (length k) limit) (shaped k (shape_turn ShapeStart (placed (a_symbol Less) s))))
+opening limit k s (a_symbol Less) = expected (nat_le (want k) 0)
+    (shallow (nat_lt (length k) limit) (shaped k (shape_turn ShapeStart (placed (a_symbol Less) s))))
 opening limit k s (a_symbol LeftParen) = shallow (nat_lt (length k + 1) limit) (Go (Group s ∷ k) Want)
 opening limit k s _ = Stop Unexpected
 

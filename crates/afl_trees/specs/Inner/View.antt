@@ -1,8 +1,10 @@
 -- What a tree reads as.
 use Rattle.cell_values.specs.declared.name.Span.{Span}
-use Rattle.afl_trees.specs.Term.{Term, create, number, text, truth, null, missing, reference, version, call, schema, star, renamed, opposite, negative, binary, group, to_terms}
+use Rattle.afl_trees.specs.Term.{Term, create, number, text, truth, null, missing, reference, version}
+use Rattle.afl_trees.specs.Term.{call, schema, star, renamed, opposite, negative, binary, group, to_terms}
 use Rattle.afl_trees.specs.declared.tree.Node.{Node}
-use Rattle.afl_trees.specs.declared.tree.Node.TheVariants.{Create, Number, Text, Truth, Null, Missing, Ref, Version, Call, Schema, Star, As, Not, Minus, Binary, Group}
+use Rattle.afl_trees.specs.declared.tree.Node.TheVariants.{Create, Number, Text, Truth, Null, Missing, Ref, Version}
+use Rattle.afl_trees.specs.declared.tree.Node.TheVariants.{Call, Schema, Star, As, Not, Minus, Binary, Group}
 
 abbrev pub term_of : Span → Node → Term
 term_of s (Create n m) = create s n m

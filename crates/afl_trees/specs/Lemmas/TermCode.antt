@@ -8,7 +8,8 @@ use Rattle.schema_grammar.specs.declared.shape_text.SchemaText.{SchemaText}
 use Rattle.schema_grammar.specs.contracts.shape_text.SchemaText as schema_text
 use Rattle.afl_trees.specs.declared.tree.BinaryOp.{BinaryOp}
 use Rattle.afl_trees.specs.contracts.tree.BinaryOp as binary_op
-use Rattle.afl_trees.specs.Term.{Term, create, number, text, truth, null, missing, reference, version, call, schema, star, renamed, opposite, negative, binary, group, Terms, no_terms, and_term}
+use Rattle.afl_trees.specs.Term.{Term, create, number, text, truth, null, missing, reference, version, call, schema}
+use Rattle.afl_trees.specs.Term.{star, renamed, opposite, negative, binary, group, Terms, no_terms, and_term}
 
 same_span : (s t : Span) → s.start ≡ t.start → s.end ≡ t.end → s ≡ t
 same_span s t p q = ap (λ n. record { start = n; end = s.end }) p ∙ ap (λ n. record { start = t.start; end = n }) q

@@ -2,7 +2,8 @@
 ghost use Rattle.logical_plan.specs.PlanSchema.{schema_of};
 ghost use Rattle.plan_changes.specs.Changes.{entry_named};
 ghost use Rattle.check_rules.specs.Checked.{Answers};
-ghost use Rattle.afl_types.specs.Changes.{fitting, stored_schema, inserted_schema, stored_in, inserted_in, store_target, insert_target, store_call, insert_call};
+ghost use Rattle.afl_types.specs.Changes.{fitting, stored_schema, inserted_schema, stored_in, inserted_in};
+ghost use Rattle.afl_types.specs.Changes.{store_target, insert_target, store_call, insert_call};
 
 use afl_trees::{Node, Tree};
 use cell_values::{List, Name, Schema, Span};

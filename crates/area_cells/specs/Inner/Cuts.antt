@@ -12,6 +12,7 @@ use Rattle.chunk_cells.specs.Whole.{CoresRise}
 
 -- the cores have what they had, and what those of the chunks have in the box
 pub record TakesCuts (schema : Schema) (margins : List ℕ) (area : Bounds) (chunks old new : List Chunk) : Type 0 where
-  pub rows : core_rows schema.dimensions margins new ≡ put_all (core_rows schema.dimensions margins old) (within area (core_rows schema.dimensions margins chunks))
+  pub rows : core_rows schema.dimensions margins new ≡ put_all (core_rows schema.dimensions margins old)
+      (within area (core_rows schema.dimensions margins chunks))
   pub places : AllByRecursion (HasPlaces schema margins) old → AllByRecursion (HasPlaces schema margins) new
   pub rise : CoresRise schema.dimensions margins old → CoresRise schema.dimensions margins new

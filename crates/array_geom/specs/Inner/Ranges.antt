@@ -1,5 +1,6 @@
 -- Numbers that stay in 64 bits: what a valid schema gives, dimension by dimension, and what a box with places asks for.
-use Rattle.std.specs.Prelude.{◌≡◌, ℕ, ◌+◌, ◌-◌, ◌*◌, ◌<◌, ◌≤◌, ◌^◌, ℤ, pos, negsuc, ◌≤ℤ◌, ◌+ℤ◌, int_le, int_lt, Bool, true, false, ◌&&◌, List, [], ◌∷◌, length, ⊤}
+use Rattle.std.specs.Prelude.{◌≡◌, ℕ, ◌+◌, ◌-◌, ◌*◌, ◌<◌, ◌≤◌, ◌^◌, ℤ, pos, negsuc, ◌≤ℤ◌, ◌+ℤ◌}
+use Rattle.std.specs.Prelude.{int_le, int_lt, Bool, true, false, ◌&&◌, List, [], ◌∷◌, length, ⊤}
 use Rattle.std.specs.List.{AllByRecursion}
 use Rattle.array_rows.specs.Dimension.{Dimension}
 use Rattle.array_geom.specs.declared.grid.Grid.{Grid}

@@ -2,10 +2,10 @@
 ghost use Rattle.std.specs.Prelude.{◌≡◌, ◌<◌, [], length, slice_index_or, Option as Perhaps, IfOk};
 ghost use Rattle.cell_values.specs.declared.datum.Cell.{Cell as OneCell};
 ghost use Rattle.cell_values.specs.declared.datum.Cell.TheVariants.{Full};
-ghost use Rattle.array_rows.specs.Rows.{Coordinate};
+ghost use Rattle.array_geom.specs.Rows.{Coordinate};
 ghost use Rattle.array_parts.specs.Inner.Quickly.{IsQuickly};
 
-use cell_columns::Rows;
+use array_geom::Rows;
 use cell_values::{Cell, Coord, Memory};
 
 /// What is known of a cell's change without its coordinate and without a list of its values.

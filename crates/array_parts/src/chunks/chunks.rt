@@ -1,17 +1,18 @@
 //! The cells of a chunk, changed one after the other.
-ghost use Rattle.std.specs.Prelude.{◌≡◌, ◌<◌, [], List as Items, Some, length, slice_index_or, OnOk, IfOk};
+ghost use Rattle.std.specs.Prelude.{◌≡◌, ◌<◌, [], List as Items, Some, length, slice_index_or, IsTrue, OnOk, IfOk};
+ghost use Rattle.std.specs.List.{AllByRecursion};
 ghost use Rattle.cell_values.specs.declared.datum.Cell.TheVariants.{Full};
 ghost use Rattle.cell_values.specs.declared.datum.Row.{Row};
-ghost use Rattle.cell_columns.specs.Inner.CellsIn.{cells_in};
-ghost use Rattle.array_rows.specs.Cellwise.{cell_wise};
+ghost use Rattle.array_geom.specs.CellsIn.{cells_in};
+ghost use Rattle.array_geom.specs.Cellwise.{cell_wise};
 ghost use Rattle.array_geom.specs.Geometry.{HasFrame, coordinate_in, volume};
 ghost use Rattle.array_geom.specs.Link.{IsPart};
 ghost use Rattle.array_geom.specs.Inner.Ranges.{IsGrid};
 ghost use Rattle.array_parts.specs.Made.{IsPlaced, IsMadeBy, with_cell};
+ghost use Rattle.array_parts.specs.Inner.Quickly.{StaysAnywhere};
 
 use crate::chunks::{CellChange, Quick};
-use array_geom::{Chunk, Grid, grid_of};
-use cell_columns::{Form, Rows};
+use array_geom::{Chunk, Form, Grid, Rows, grid_of};
 use cell_values::{Cell, Coord, Margins, Memory, Schema};
 
 /// Adds what becomes of a cell.
@@ -50,7 +51,8 @@ fn push_slowly<C: CellChange>(
 ) -> Result<(), Memory>
     requires grid { IsGrid grid.now }
     requires inside { position < volume grid.now.lengths.items }
-    ensures { OnOk result (made.new ≡ with_cell made.old position (C.changed change.now (coordinate_in grid.now.low.items grid.now.lengths.items position) cell)) }
+    ensures { OnOk result (made.new ≡ with_cell made.old position
+        (C.changed change.now (coordinate_in grid.now.low.items grid.now.lengths.items position) cell)) }
 {
     let at = grid.place(position);
     push_changed(made, position, &at, cell, change)
@@ -67,7 +69,8 @@ fn push_row_changed<C: CellChange>(
     requires place { k < length rows.now }
     requires grid { IsGrid grid.now }
     requires inside { position < volume grid.now.lengths.items }
-    ensures { OnOk result (made.new ≡ with_cell made.old position (C.changed change.now (coordinate_in grid.now.low.items grid.now.lengths.items position) (Full (slice_index_or rows.now k [])))) }
+    ensures { OnOk result (made.new ≡ with_cell made.old position
+        (C.changed change.now (coordinate_in grid.now.low.items grid.now.lengths.items position) (Full (slice_index_or rows.now k [])))) }
 {
     match change.quick(rows, k) {
         Quick::Stays => push_same(made, position, rows, k),
@@ -88,7 +91,8 @@ fn push_next<C: CellChange>(
     requires place { k < length (cells_in form.now) }
     requires grid { IsGrid grid.now }
     requires inside { position < volume grid.now.lengths.items }
-    ensures { OnOk result (made.new ≡ with_cell made.old position (C.changed change.now (coordinate_in grid.now.low.items grid.now.lengths.items position) (slice_index_or (cells_in form.now) k (Full [])))) }
+    ensures { OnOk result (made.new ≡ with_cell made.old position
+        (C.changed change.now (coordinate_in grid.now.low.items grid.now.lengths.items position) (slice_index_or (cells_in form.now) k (Full [])))) }
 {
     match form {
         Form::Even(rows) => push_row_changed(made, grid, position, rows, k, change),
@@ -96,8 +100,8 @@ fn push_next<C: CellChange>(
     }
 }
 
-/// The chunk with each cell changed, those of its margins too.
-pub fn change_chunk<C: CellChange>(
+/// The chunk with one cell after the other changed.
+fn change_each<C: CellChange>(
     schema: &Schema,
     margins: &Margins,
     chunk: Chunk,
@@ -106,7 +110,8 @@ pub fn change_chunk<C: CellChange>(
     requires framed { HasFrame schema.now margins.now.items chunk.at.items }
     requires placed { IsPlaced schema.now.dimensions margins.now.items chunk }
     ensures made { IfOk result (IsMadeBy (cell_wise (C.changed change.now)) schema.now.dimensions margins.now.items chunk) }
-    ensures part { (rows : Items Row) → IsPart schema.now.dimensions margins.now.items rows chunk → IfOk result (IsPart schema.now.dimensions margins.now.items (cell_wise (C.changed change.now) rows)) }
+    ensures part { (rows : Items Row) → IsPart schema.now.dimensions margins.now.items rows chunk
+        → IfOk result (IsPart schema.now.dimensions margins.now.items (cell_wise (C.changed change.now) rows)) }
 {
     let grid = grid_of(schema, margins, &chunk.at);
     let Chunk {
@@ -125,4 +130,56 @@ pub fn change_chunk<C: CellChange>(
         push_next(&mut made, &grid, places[k], form, k, change)?;
     }
     Ok(made)
+}
+
+/// Whether a cell is known to stay as it is.
+fn stays<C: CellChange>(rows: &Rows, k: usize, change: &C) -> bool
+    requires { k < length rows.now }
+    ensures { IsTrue result → StaysAnywhere (C.changed change.now) (Full (slice_index_or rows.now k [])) }
+{
+    match change.quick(rows, k) {
+        Quick::Stays => true,
+        Quick::Goes => false,
+        Quick::Unknown => false,
+    }
+}
+
+fn all_rows_stay<C: CellChange>(rows: &Rows, change: &C) -> bool
+    ensures { IsTrue result → AllByRecursion (λ row. StaysAnywhere (C.changed change.now) (Full row)) rows.now }
+{
+    for k in 0..rows.len() {
+        if !stays(rows, k, change) {
+            return false;
+        }
+    }
+    true
+}
+
+/// Whether all cells are known to stay as they are.
+fn all_stay<C: CellChange>(form: &Form, change: &C) -> bool
+    ensures { IsTrue result → AllByRecursion (StaysAnywhere (C.changed change.now)) (cells_in form.now) }
+{
+    match form {
+        Form::Even(rows) => all_rows_stay(rows, change),
+        Form::Mixed(_) => false,
+    }
+}
+
+/// The chunk with each cell changed, those of its margins too. Where all are known to stay, none is moved.
+pub fn change_chunk<C: CellChange>(
+    schema: &Schema,
+    margins: &Margins,
+    chunk: Chunk,
+    change: &C,
+) -> Result<Chunk, Memory>
+    requires framed { HasFrame schema.now margins.now.items chunk.at.items }
+    requires placed { IsPlaced schema.now.dimensions margins.now.items chunk }
+    ensures made { IfOk result (IsMadeBy (cell_wise (C.changed change.now)) schema.now.dimensions margins.now.items chunk) }
+    ensures part { (rows : Items Row) → IsPart schema.now.dimensions margins.now.items rows chunk → IfOk result (IsPart schema.now.dimensions margins.now.items (cell_wise (C.changed change.now) rows)) }
+{
+    if all_stay(chunk.cells.form(), change) {
+        Ok(chunk)
+    } else {
+        change_each(schema, margins, chunk, change)
+    }
 }

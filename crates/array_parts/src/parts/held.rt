@@ -1,7 +1,7 @@
 //! Chunks whose core holds a cell.
 ghost use Rattle.std.specs.Prelude.{◌≡◌, ◌<◌, List as Items, length, filter, IfOk};
 ghost use Rattle.std.specs.List.{AllByRecursion, list_any};
-ghost use Rattle.array_rows.specs.Boxes.{is_inside};
+ghost use Rattle.array_geom.specs.Boxes.{is_inside};
 ghost use Rattle.array_geom.specs.Geometry.{coordinate_in, volume};
 ghost use Rattle.array_geom.specs.Link.{AreChunksOf};
 ghost use Rattle.array_geom.specs.Inner.Ranges.{IsGrid};
@@ -63,7 +63,8 @@ pub fn with_cells(
     requires { HavePlaces schema.now margins.now.items chunks }
     ensures exact { IfOk result (λ kept. kept ≡ filter (holds_cell schema.now.dimensions margins.now.items) chunks) }
     ensures placed { IfOk result (HavePlaces schema.now margins.now.items) }
-    ensures chunks { (rows : Items Row) → AreParts schema.now.dimensions margins.now.items rows chunks → IfOk result (AreChunksOf schema.now.dimensions margins.now.items rows) }
+    ensures chunks { (rows : Items Row) → AreParts schema.now.dimensions margins.now.items rows chunks
+        → IfOk result (AreChunksOf schema.now.dimensions margins.now.items rows) }
 {
     kept_chunks(schema, margins, chunks)
 }

@@ -6,7 +6,8 @@ ghost use Rattle.check_rules.specs.Checked.{Answers, then};
 ghost use Rattle.check_exprs.specs.Expressions.{typed};
 ghost use Rattle.check_rules.specs.InTurn.{pairs_in_turn};
 ghost use Rattle.check_rules.specs.NewSchema.{of_new_schema};
-ghost use Rattle.check_cellwise.specs.Apply.{applied_named, applied_one, apply_call, is_applied_name, is_attribute_name, is_dimension_name, is_given, named_value};
+ghost use Rattle.check_cellwise.specs.Apply.{applied_named, applied_one, apply_call, is_applied_name};
+ghost use Rattle.check_cellwise.specs.Apply.{is_attribute_name, is_dimension_name, is_given, named_value};
 
 use crate::cells::source::typed_over;
 use afl_trees::{Node, Tree};

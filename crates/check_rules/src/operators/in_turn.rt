@@ -5,8 +5,8 @@ ghost use Rattle.check_rules.specs.Checked.{Answers};
 ghost use Rattle.check_rules.specs.InTurn.{new_place};
 
 use crate::rules::{TypeFault, broken};
+use afl_trees::TypeKind;
 use cell_values::Span;
-use schema_grammar::TypeKind;
 
 /// Whether a place is among those before.
 fn is_among(done: &[u32], place: u32) -> bool

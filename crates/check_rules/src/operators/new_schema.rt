@@ -6,9 +6,9 @@ ghost use Rattle.check_rules.specs.Checked.{Answers};
 ghost use Rattle.check_rules.specs.NewSchema.{by_new_schema, of_new_schema};
 
 use crate::rules::{TypeFault, broken};
+use afl_trees::TypeKind;
 use cell_values::{Attribute, Dimension, Memory, Schema, Span};
 use plan_schemas::{Plan, let_go, schema_of};
-use schema_grammar::TypeKind;
 use std::alloc::Global;
 
 const MAX_DIMENSIONS: usize = 6;

@@ -1,14 +1,13 @@
 //! Sorts of arguments.
 ghost use Rattle.std.specs.Prelude.{◌≡◌};
-ghost use Rattle.schema_grammar.specs.declared.kinds.TypeKind.{TypeKind};
+ghost use Rattle.afl_trees.specs.TypeKind.{TypeKind};
 ghost use Rattle.afl_trees.specs.Grammar.{span_of};
 ghost use Rattle.check_rules.specs.declared.rules.fault.TypeFault.{TypeFault};
 ghost use Rattle.check_rules.specs.Sorts.{is_expression, is_name, opposite_number, number_in, is_number, is_bound, first_but, first_but_pairs};
 
 use crate::rules::{TypeFault, broken};
-use afl_trees::{Node, Tree};
+use afl_trees::{Node, Tree, TypeKind};
 use cell_values::Span;
-use schema_grammar::TypeKind;
 
 /// That a tree is of the wrong sort or kind.
 pub fn wrong_type(tree: &Tree) -> TypeFault

@@ -2,8 +2,8 @@
 ghost use Rattle.std.specs.Prelude.{◌≡◌};
 ghost use Rattle.check_rules.specs.declared.rules.fault.TypeFault.{TypeFault};
 
+use afl_trees::{SchemaFault, TypeKind};
 use cell_values::{Memory, Span};
-use schema_grammar::{SchemaFault, TypeKind};
 
 /// Why a statement is not typed.
 #[derive(Clone, Copy)]

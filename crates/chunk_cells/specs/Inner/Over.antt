@@ -33,6 +33,9 @@ rows_from low lengths chunk start = rows_in low lengths (drop start chunk.positi
 pub record Goes (new old made : Chunk) (at_new at_old : ℕ) (made' : Chunk) (at_new' at_old' : ℕ) : Type 0 where
   pub number : made'.at ≡ made.at
   pub as_many : length made.cells ≡ length made.positions → length made'.cells ≡ length made'.positions
-  pub in_box : (n : ℕ) → AllByRecursion (λ p. p < n) new.positions → AllByRecursion (λ p. p < n) old.positions → AllByRecursion (λ p. p < n) made.positions → AllByRecursion (λ p. p < n) made'.positions
-  pub rows : (low : List ℤ) (lengths : List ℕ) → ArePlaces low lengths new.positions → ArePlaces low lengths old.positions → length made.cells ≡ length made.positions
-      → IsMergedOn (rows_in low lengths made.positions made.cells) (rows_from low lengths new at_new) (rows_from low lengths old at_old) (rows_in low lengths made'.positions made'.cells) (rows_from low lengths new at_new') (rows_from low lengths old at_old')
+  pub in_box : (n : ℕ) → AllByRecursion (λ p. p < n) new.positions → AllByRecursion (λ p. p < n) old.positions
+      → AllByRecursion (λ p. p < n) made.positions → AllByRecursion (λ p. p < n) made'.positions
+  pub rows : (low : List ℤ) (lengths : List ℕ) → ArePlaces low lengths new.positions
+      → ArePlaces low lengths old.positions → length made.cells ≡ length made.positions
+      → IsMergedOn (rows_in low lengths made.positions made.cells) (rows_from low lengths new at_new) (rows_from low lengths old at_old)
+      (rows_in low lengths made'.positions made'.cells) (rows_from low lengths new at_new') (rows_from low lengths old at_old')

@@ -51,7 +51,8 @@ fn stands_at(listed: &[ChunkAt], at: usize, number: &ChunkAt) -> bool
 fn push_other(found: &mut List<ChunkAt>, number: ChunkAt) -> Result<(), Memory>
     ensures sized { OnOk result ((n : ℕ) → length number.items ≡ n → AllByRecursion (λ k. length k ≡ n) (numbers_in found.old)
         → AllByRecursion (λ k. length k ≡ n) (numbers_in found.new)) }
-    ensures listed { OnOk result ((k : ChunkNumber) → is_listed k (numbers_in found.new) ≡ (is_eq (number_order number.items k) || is_listed k (numbers_in found.old))) }
+    ensures listed { OnOk result ((k : ChunkNumber)
+        → is_listed k (numbers_in found.new) ≡ (is_eq (number_order number.items k) || is_listed k (numbers_in found.old))) }
 {
     let last = found.len().saturating_sub(1);
     if stands_at(found.as_slice(), last, &number) {

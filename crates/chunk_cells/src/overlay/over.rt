@@ -72,7 +72,8 @@ pub fn put_over(old: &Chunk, new: &Chunk) -> Result<Chunk, Memory>
     requires new_each { length new.now.cells ≡ length new.now.positions }
     requires old_each { length old.now.cells ≡ length old.now.positions }
     ensures number { IfOk result (λ made. made.at ≡ old.now.at) }
-    ensures part { (schema : Schema) (margins : Items ℕ) (old_rows new_rows : Items Row) → HasFrame schema margins old.now.at.items → IsRising old_rows → IsRising new_rows
+    ensures part { (schema : Schema) (margins : Items ℕ) (old_rows new_rows : Items Row)
+        → HasFrame schema margins old.now.at.items → IsRising old_rows → IsRising new_rows
         → IsPart schema.dimensions margins old_rows old.now → IsPart schema.dimensions margins new_rows new.now
         → IfOk result (IsPart schema.dimensions margins (put_all new_rows old_rows)) }
 {

@@ -22,7 +22,8 @@ fn push_core(
 ) -> Result<(), Memory>
     requires grid { IsGrid grid.now }
     requires inside { position < volume grid.now.lengths.items }
-    ensures rows { OnOk result (rows.new ≡ rows.old ++ within core.now (rows_in grid.now.low.items grid.now.lengths.items (position ∷ []) (into_iter_items cells.old))) }
+    ensures rows { OnOk result (rows.new ≡ rows.old ++ within core.now
+        (rows_in grid.now.low.items grid.now.lengths.items (position ∷ []) (into_iter_items cells.old))) }
     ensures left { into_iter_items cells.new ≡ drop 1 (into_iter_items cells.old) }
 {
     if let Some(cell) = cells.next() {

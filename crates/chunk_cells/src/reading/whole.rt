@@ -22,7 +22,8 @@ fn next_rows(
     requires some { 1 ≤ length (into_iter_items chunks.old) }
     requires places { AllByRecursion (HasPlaces schema.now margins.now.items) (into_iter_items chunks.old) }
     ensures left { into_iter_items chunks.new ≡ drop 1 (into_iter_items chunks.old) }
-    ensures rows { CoresRise schema.now.dimensions margins.now.items (into_iter_items chunks.old) → IfOk result (λ rows. rows ≡ core_rows schema.now.dimensions margins.now.items (take 1 (into_iter_items chunks.old))) }
+    ensures rows { CoresRise schema.now.dimensions margins.now.items (into_iter_items chunks.old)
+        → IfOk result (λ rows. rows ≡ core_rows schema.now.dimensions margins.now.items (take 1 (into_iter_items chunks.old))) }
 {
     match chunks.next() {
         Some(chunk) => core_cells(schema, margins, chunk),
@@ -76,7 +77,8 @@ fn gather(
     requires some { length first.now ≤ length (into_iter_items chunks.old) }
     requires places { AllByRecursion (HasPlaces schema.now margins.now.items) (into_iter_items chunks.old) }
     ensures left { OnOk result (into_iter_items chunks.new ≡ drop (length first.now) (into_iter_items chunks.old)) }
-    ensures rows { CoresRise schema.now.dimensions margins.now.items (into_iter_items chunks.old) → IfOk result (λ rows. rows ≡ core_rows schema.now.dimensions margins.now.items (take (length first.now) (into_iter_items chunks.old))) }
+    ensures rows { CoresRise schema.now.dimensions margins.now.items (into_iter_items chunks.old)
+        → IfOk result (λ rows. rows ≡ core_rows schema.now.dimensions margins.now.items (take (length first.now) (into_iter_items chunks.old))) }
 {
     if first.is_empty() {
         return Ok(schema.dimensions.another());
@@ -94,7 +96,8 @@ fn gather(
 /// The rows of all cores.
 fn gathered(array: ChunkedArray) -> Result<List<Row>, Memory>
     requires { HavePlaces array.schema array.margins.items array.chunks }
-    ensures { CoresRise array.schema.dimensions array.margins.items array.chunks → IfOk result (λ rows. rows ≡ core_rows array.schema.dimensions array.margins.items array.chunks) }
+    ensures { CoresRise array.schema.dimensions array.margins.items array.chunks
+        → IfOk result (λ rows. rows ≡ core_rows array.schema.dimensions array.margins.items array.chunks) }
 {
     let ChunkedArray {
         schema,

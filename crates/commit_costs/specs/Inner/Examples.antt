@@ -6,10 +6,10 @@ use Rattle.cell_values.specs.declared.datum.Datum.TheVariants.{Int, Text}
 use Rattle.cell_values.specs.declared.schema.Kind.TheVariants.{Int64, Str}
 use Rattle.cell_values.specs.declared.schema.Schema.{Schema}
 use Rattle.array_rows.specs.Rows.{placed}
-use Rattle.logical_plan.specs.Query.{Query, listed}
-use Rattle.plan_changes.specs.declared.change.Change.{Change}
-use Rattle.plan_changes.specs.declared.change.Change.TheVariants.{Create, Store, Insert, Remove, RemoveVersions}
-use Rattle.plan_changes.specs.Databases.{Database, after}
+use Rattle.event_core.specs.Query.{Query, listed}
+use Rattle.event_core.specs.Change.{Change}
+use Rattle.event_core.specs.Change.TheVariants.{Create, Store, Insert, Remove, RemoveVersions}
+use Rattle.event_core.specs.Databases.{Database, after}
 use Rattle.event_core.specs.Bases.{records_at, commits}
 use Rattle.event_core.specs.declared.entry.Entry.TheVariants.{Commit}
 use Rattle.event_core.specs.History.{History}

@@ -1,7 +1,7 @@
 -- A worked list of entries at the costs of the file, whose versions share a page: over a base of no arrays with 16 pages, page 1 as
 -- the chain of its catalogue and page 2 as its log, which keeps the record of each commit.
 use Rattle.std.specs.Prelude.{◌≡◌, [], ◌∷◌, codes, Some}
-use Rattle.plan_changes.specs.declared.change.Change.TheVariants.{RemoveVersions}
+use Rattle.event_core.specs.Change.TheVariants.{RemoveVersions}
 use Rattle.event_core.specs.declared.entry.Entry.TheVariants.{Pin, Unpin, Commit, Reap}
 use Rattle.event_core.specs.declared.state.Core.{Core}
 use Rattle.event_core.specs.Apart.{AllShareOwn, AreApart}
@@ -35,7 +35,8 @@ stored_twice =
 
 -- under a pin of session 1 version 1 is removed, and a reap frees none of its pages
 abbrev pub removed_pinned : History
-removed_pinned = Reap ∷ Unpin 0 ∷ Commit 0 (RemoveVersions (codes "A") 2) (record { version = []; catalogue = 1 ∷ 2 ∷ 6 ∷ 9 ∷ 10 ∷ [] }) ∷ Pin 0 ∷ Pin 1 ∷ Unpin 0 ∷ stored_twice
+removed_pinned = Reap ∷ Unpin 0 ∷ Commit 0 (RemoveVersions (codes "A") 2)
+    (record { version = []; catalogue = 1 ∷ 2 ∷ 6 ∷ 9 ∷ 10 ∷ [] }) ∷ Pin 0 ∷ Pin 1 ∷ Unpin 0 ∷ stored_twice
 
 -- once session 1 has unpinned a second reap frees those that version 2 does not share
 abbrev pub reaped_again : History

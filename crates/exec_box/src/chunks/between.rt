@@ -36,7 +36,7 @@ impl CellChange for Cut<'_> {
 }
 
 /// The cells of a chunk, and of its margins, that lie in a box. No cell is copied.
-pub fn between_owned(
+pub fn between_chunk(
     schema: &Schema,
     margins: &Margins,
     chunk: Chunk,
@@ -45,22 +45,8 @@ pub fn between_owned(
     requires framed { HasFrame schema.now margins.now.items chunk.at.items }
     requires placed { IsPlaced schema.now.dimensions margins.now.items chunk }
     ensures made { IfOk result (IsMadeBy (within area.now) schema.now.dimensions margins.now.items chunk) }
-    ensures part { (rows : Items Row) → IsPart schema.now.dimensions margins.now.items rows chunk → IfOk result (IsPart schema.now.dimensions margins.now.items (within area.now rows)) }
+    ensures part { (rows : Items Row) → IsPart schema.now.dimensions margins.now.items rows chunk
+        → IfOk result (IsPart schema.now.dimensions margins.now.items (within area.now rows)) }
 {
     change_chunk(schema, margins, chunk, &Cut { area })
-}
-
-/// The same of a chunk that stays.
-pub fn between_chunk(
-    schema: &Schema,
-    margins: &Margins,
-    chunk: &Chunk,
-    area: &Bounds,
-) -> Result<Chunk, Memory>
-    requires framed { HasFrame schema.now margins.now.items chunk.now.at.items }
-    requires placed { IsPlaced schema.now.dimensions margins.now.items chunk.now }
-    ensures made { IfOk result (IsMadeBy (within area.now) schema.now.dimensions margins.now.items chunk.now) }
-    ensures part { (rows : Items Row) → IsPart schema.now.dimensions margins.now.items rows chunk.now → IfOk result (IsPart schema.now.dimensions margins.now.items (within area.now rows)) }
-{
-    between_owned(schema, margins, chunk.copy()?, area)
 }

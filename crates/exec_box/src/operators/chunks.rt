@@ -1,33 +1,37 @@
 //! The chunks of an array through an operator.
 ghost use Rattle.std.specs.Prelude.{IfOk};
-ghost use Rattle.std.specs.List.{AllZip};
 ghost use Rattle.array_parts.specs.Made.{IsMadeBy};
-ghost use Rattle.array_parts.specs.Placed.{HavePlaces};
+ghost use Rattle.array_parts.specs.Placed.{HasPlaces, HavePlaces};
 ghost use Rattle.exec_box.specs.Made.{AreMadeOf};
 
+use afl_outside::Gate;
 use array_geom::Chunk;
 use array_parts::{ChunkOperator, with_cells};
 use cell_values::{List, Margins, Memory, Schema};
+use chunk_workers::{Crew, Work, over_pieces};
+use std::thread::Threads;
 
-/// What becomes of each chunk.
-fn over_each<O: ChunkOperator>(
-    schema: &Schema,
-    margins: &Margins,
-    chunks: List<Chunk>,
-    operator: &O,
-) -> Result<List<Chunk>, Memory>
-    requires { HavePlaces schema.now margins.now.items chunks }
-    ensures { IfOk result (AllZip (IsMadeBy (O.operator operator.now) schema.now.dimensions margins.now.items) chunks) }
-{
-    let mut made = chunks.another();
-    for chunk in chunks.into_vec() {
-        made.push(operator.apply(schema, margins, chunk)?)?;
+/// An operator, and the schema and the margins of the array on whose chunks it is to work.
+#[derive(Drop)]
+struct OnChunk<'a, O> {
+    schema: &'a Schema,
+    margins: &'a Margins,
+    operator: &'a O,
+}
+
+impl<O: ChunkOperator + Sync> Work<Chunk, Chunk> for OnChunk<'_, O> {
+    ghost accepts = { λ on chunk. HasPlaces on.schema.now on.margins.now.items chunk };
+
+    ghost gives = { λ on chunk made. IsMadeBy (O.operator on.operator.now) on.schema.now.dimensions on.margins.now.items chunk made };
+
+    fn work(&self, chunk: Chunk) -> Result<Chunk, Memory> {
+        self.operator.apply(self.schema, self.margins, chunk)
     }
-    Ok(made)
 }
 
 /// What an operator makes of chunks: a chunk again where its core holds a cell afterwards.
-pub(crate) fn over_chunks<O: ChunkOperator>(
+pub(crate) fn over_chunks<R: Threads + Sync, O: ChunkOperator + Sync, G: Gate>(
+    crew: &mut Crew<'_, R, G>,
     schema: &Schema,
     margins: &Margins,
     chunks: List<Chunk>,
@@ -36,6 +40,11 @@ pub(crate) fn over_chunks<O: ChunkOperator>(
     requires { HavePlaces schema.now margins.now.items chunks }
     ensures { IfOk result (AreMadeOf (O.operator operator.now) schema.now.dimensions margins.now.items chunks) }
 {
-    let made = over_each(schema, margins, chunks, operator)?;
+    let on = OnChunk {
+        schema,
+        margins,
+        operator,
+    };
+    let made = over_pieces(crew, chunks, &on)?;
     with_cells(schema, margins, made)
 }

@@ -6,12 +6,17 @@ ghost use Rattle.array_parts.specs.Parts.{IsLocal};
 ghost use Rattle.exec_box.specs.Made.{IsMadeOf};
 
 use crate::operators::chunks::over_chunks;
+use afl_outside::Gate;
 use array_geom::ChunkedArray;
 use array_parts::ChunkOperator;
 use cell_values::{Memory, Schema};
+use chunk_workers::Crew;
+use std::thread::Threads;
 
-/// What an operator makes of an array: an array of this schema, which has the same dimensions. A broken array stays broken.
-pub fn over_array<O: ChunkOperator>(
+/// What an operator makes of an array, chunk by chunk: an array of this schema, which has the same dimensions. A broken array stays
+/// broken.
+pub fn over_array<R: Threads + Sync, O: ChunkOperator + Sync, G: Gate>(
+    crew: &mut Crew<'_, R, G>,
     array: ChunkedArray,
     schema: Schema,
     operator: &O,
@@ -36,7 +41,7 @@ pub fn over_array<O: ChunkOperator>(
             broken: Some(broken),
         }),
         None => {
-            let chunks = over_chunks(&old, &margins, chunks, operator)?;
+            let chunks = over_chunks(crew, &old, &margins, chunks, operator)?;
             Ok(ChunkedArray {
                 schema,
                 margins,

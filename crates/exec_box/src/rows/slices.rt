@@ -15,7 +15,7 @@ fn has_fixed(at: &Coord, fixed: &[Fixed]) -> bool
         .all(|f| number_at(at, f.dimension as usize) == f.at)
 }
 
-fn is_fixed(fixed: &[Fixed], place: usize) -> bool
+pub(crate) fn is_fixed(fixed: &[Fixed], place: usize) -> bool
     ensures { result ≡ list_any (λ f. f.dimension == place) fixed.now }
 {
     fixed.iter().any(|f| f.dimension as usize == place)
@@ -59,7 +59,8 @@ fn free_row(row: &Row, fixed: &[Fixed]) -> Result<Row, Memory>
 
 /// Adds a row, if it has the fixed numbers.
 fn push_slice(rows: &mut List<Row>, row: &Row, fixed: &[Fixed]) -> Result<(), Memory>
-    ensures { OnOk result (rows.new ≡ rows.old ++ (if has_fixed fixed.now row.now.at.items then moved (items_but (fixed_places fixed.now) 0) row.now ∷ [] else [])) }
+    ensures { OnOk result (rows.new ≡ rows.old
+        ++ (if has_fixed fixed.now row.now.at.items then moved (items_but (fixed_places fixed.now) 0) row.now ∷ [] else [])) }
 {
     if has_fixed(&row.at, fixed) {
         rows.push(free_row(row, fixed)?)

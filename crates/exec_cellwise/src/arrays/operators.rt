@@ -3,7 +3,7 @@ ghost use Rattle.std.specs.Prelude.{◌≡◌, IfOk};
 ghost use Rattle.array_parts.specs.Made.{IsMadeBy};
 ghost use Rattle.logical_plan.specs.CellOps.{filter_rows, apply_rows, project_rows};
 
-use crate::chunks::{apply_owned, filter_owned, project_chunk};
+use crate::chunks::{apply_chunk, filter_chunk, project_chunk};
 use array_geom::Chunk;
 use array_parts::ChunkOperator;
 use cell_values::{Margins, Memory, Schema};
@@ -32,7 +32,7 @@ impl ChunkOperator for Filter<'_> {
     ghost operator = { λ filter. filter_rows filter.test.now };
 
     fn apply(&self, schema: &Schema, margins: &Margins, chunk: Chunk) -> Result<Chunk, Memory> {
-        filter_owned(schema, margins, chunk, self.test)
+        filter_chunk(schema, margins, chunk, self.test)
     }
 }
 
@@ -40,7 +40,7 @@ impl ChunkOperator for Apply<'_> {
     ghost operator = { λ apply. apply_rows apply.values.now };
 
     fn apply(&self, schema: &Schema, margins: &Margins, chunk: Chunk) -> Result<Chunk, Memory> {
-        apply_owned(schema, margins, chunk, self.values)
+        apply_chunk(schema, margins, chunk, self.values)
     }
 }
 

@@ -6,7 +6,6 @@ ghost use Rattle.array_geom.specs.Link.{IsPart};
 ghost use Rattle.expr_nulls.specs.ExprValue.{value_of};
 ghost use Rattle.logical_plan.specs.CellOps.{apply_cell, apply_rows};
 ghost use Rattle.array_parts.specs.Made.{IsPlaced, IsMadeBy};
-ghost use Rattle.exec_cellwise.specs.Appended.{append_cell, append_rows};
 
 use array_geom::Chunk;
 use array_parts::{CellChange, Quick, change_chunk};
@@ -15,13 +14,7 @@ use cell_values::{Cell, Coord, Datum, List, Margins, Memory, Schema};
 use expr_nulls::{TypedExpr, eval};
 use logical_plan::Applied;
 
-/// Expressions whose values come after those of the cell.
-#[derive(Drop)]
-struct Append<'a> {
-    values: &'a [TypedExpr],
-}
-
-/// The same, with the names of their attributes.
+/// Expressions whose values come after those of the cell, with the names of their attributes.
 #[derive(Drop)]
 struct Apply<'a> {
     values: &'a [Applied],
@@ -40,17 +33,6 @@ fn value_over(
     eval(values.allocator(), expr, at, &values.as_slice()[..count])
 }
 
-fn push_values(values: &mut List<Datum>, at: &Coord, more: &[TypedExpr]) -> Result<(), Memory>
-    ensures { OnOk result (values.new ≡ values.old ++ map (λ expr. value_of expr at.now.items values.old) more.now) }
-{
-    let count = values.len();
-    for expr in more {
-        let value = value_over(expr, at, values, count)?;
-        values.push(value)?;
-    }
-    Ok(())
-}
-
 fn push_applied(values: &mut List<Datum>, at: &Coord, more: &[Applied]) -> Result<(), Memory>
     ensures { OnOk result (values.new ≡ values.old ++ map (λ applied. value_of applied.value at.now.items values.old) more.now) }
 {
@@ -60,24 +42,6 @@ fn push_applied(values: &mut List<Datum>, at: &Coord, more: &[Applied]) -> Resul
         values.push(value)?;
     }
     Ok(())
-}
-
-impl CellChange for Append<'_> {
-    ghost changed = { λ append. append_cell append.values.now };
-
-    fn change(&self, at: &Coord, cell: Cell) -> Result<Option<Cell>, Memory> {
-        match cell {
-            Cell::Full(mut values) => {
-                push_values(&mut values, at, self.values)?;
-                Ok(Some(Cell::Full(values)))
-            }
-            Cell::Doubt(kind) => Ok(Some(Cell::Doubt(kind))),
-        }
-    }
-
-    fn quick(&self, _rows: &Rows, _k: usize) -> Quick {
-        Quick::Unknown
-    }
 }
 
 impl CellChange for Apply<'_> {
@@ -99,7 +63,7 @@ impl CellChange for Apply<'_> {
 }
 
 /// Each cell of a chunk with the applied values after its own. No cell is copied.
-pub fn apply_owned(
+pub fn apply_chunk(
     schema: &Schema,
     margins: &Margins,
     chunk: Chunk,
@@ -108,22 +72,8 @@ pub fn apply_owned(
     requires framed { HasFrame schema.now margins.now.items chunk.at.items }
     requires placed { IsPlaced schema.now.dimensions margins.now.items chunk }
     ensures made { IfOk result (IsMadeBy (apply_rows values.now) schema.now.dimensions margins.now.items chunk) }
-    ensures part { (rows : Items Row) → IsPart schema.now.dimensions margins.now.items rows chunk → IfOk result (IsPart schema.now.dimensions margins.now.items (apply_rows values.now rows)) }
+    ensures part { (rows : Items Row) → IsPart schema.now.dimensions margins.now.items rows chunk
+        → IfOk result (IsPart schema.now.dimensions margins.now.items (apply_rows values.now rows)) }
 {
     change_chunk(schema, margins, chunk, &Apply { values })
-}
-
-/// Each cell of a chunk with the values of these expressions after its own.
-pub fn apply_chunk(
-    schema: &Schema,
-    margins: &Margins,
-    chunk: &Chunk,
-    values: &[TypedExpr],
-) -> Result<Chunk, Memory>
-    requires framed { HasFrame schema.now margins.now.items chunk.now.at.items }
-    requires placed { IsPlaced schema.now.dimensions margins.now.items chunk.now }
-    ensures made { IfOk result (IsMadeBy (append_rows values.now) schema.now.dimensions margins.now.items chunk.now) }
-    ensures part { (rows : Items Row) → IsPart schema.now.dimensions margins.now.items rows chunk.now → IfOk result (IsPart schema.now.dimensions margins.now.items (append_rows values.now rows)) }
-{
-    change_chunk(schema, margins, chunk.copy()?, &Append { values })
 }

@@ -53,7 +53,7 @@ impl CellChange for Filter<'_> {
 }
 
 /// The cells of a chunk where the test is true, and those that it leaves in doubt. No cell is copied.
-pub fn filter_owned(
+pub fn filter_chunk(
     schema: &Schema,
     margins: &Margins,
     chunk: Chunk,
@@ -62,22 +62,8 @@ pub fn filter_owned(
     requires framed { HasFrame schema.now margins.now.items chunk.at.items }
     requires placed { IsPlaced schema.now.dimensions margins.now.items chunk }
     ensures made { IfOk result (IsMadeBy (filter_rows test.now) schema.now.dimensions margins.now.items chunk) }
-    ensures part { (rows : Items Row) → IsPart schema.now.dimensions margins.now.items rows chunk → IfOk result (IsPart schema.now.dimensions margins.now.items (filter_rows test.now rows)) }
+    ensures part { (rows : Items Row) → IsPart schema.now.dimensions margins.now.items rows chunk
+        → IfOk result (IsPart schema.now.dimensions margins.now.items (filter_rows test.now rows)) }
 {
     change_chunk(schema, margins, chunk, &Filter { test })
-}
-
-/// The same of a chunk that stays.
-pub fn filter_chunk(
-    schema: &Schema,
-    margins: &Margins,
-    chunk: &Chunk,
-    test: &TypedExpr,
-) -> Result<Chunk, Memory>
-    requires framed { HasFrame schema.now margins.now.items chunk.now.at.items }
-    requires placed { IsPlaced schema.now.dimensions margins.now.items chunk.now }
-    ensures made { IfOk result (IsMadeBy (filter_rows test.now) schema.now.dimensions margins.now.items chunk.now) }
-    ensures part { (rows : Items Row) → IsPart schema.now.dimensions margins.now.items rows chunk.now → IfOk result (IsPart schema.now.dimensions margins.now.items (filter_rows test.now rows)) }
-{
-    filter_owned(schema, margins, chunk.copy()?, test)
 }

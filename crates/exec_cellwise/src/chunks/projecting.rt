@@ -52,8 +52,10 @@ fn project_cells(cells: &Cells, kept: &[u32]) -> Result<Cells, Memory>
 
 /// Each cell of a chunk with the values at these places alone, in this order.
 pub fn project_chunk(chunk: &Chunk, kept: &[u32]) -> Result<Chunk, Memory>
-    ensures made { (dims : Items Dimension) (margins : Items ℕ) → IsPlaced dims margins chunk.now → IfOk result (IsMadeBy (project_rows kept.now) dims margins chunk.now) }
-    ensures part { (dims : Items Dimension) (margins : Items ℕ) (rows : Items Row) → IsPart dims margins rows chunk.now → IfOk result (IsPart dims margins (project_rows kept.now rows)) }
+    ensures made { (dims : Items Dimension) (margins : Items ℕ) → IsPlaced dims margins chunk.now
+        → IfOk result (IsMadeBy (project_rows kept.now) dims margins chunk.now) }
+    ensures part { (dims : Items Dimension) (margins : Items ℕ) (rows : Items Row) → IsPart dims margins rows chunk.now
+        → IfOk result (IsPart dims margins (project_rows kept.now rows)) }
 {
     Ok(Chunk {
         at: copy_numbers(&chunk.at),

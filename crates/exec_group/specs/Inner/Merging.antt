@@ -1,4 +1,4 @@
--- When parts can be put together as an array, and which array it is.
+-- When groups can be told as an array, and which array it is.
 use Rattle.std.specs.Prelude.{◌≡◌, List, map, Option, Some, None, Ok, IsTrue, ⊤}
 use Rattle.std.specs.List.{AllByRecursion}
 use Rattle.cell_values.specs.declared.datum.Row.{Row}
@@ -13,9 +13,8 @@ use Rattle.logical_plan.specs.declared.parts.Aggregate.{Aggregate}
 use Rattle.logical_plan.specs.PlanSchema.{aggregate_kind}
 use Rattle.logical_plan.specs.Typing.{are_aggregates_of, kinds_of}
 use Rattle.exec_group.specs.declared.rows.groups.Group.{Group}
-use Rattle.exec_group.specs.declared.rows.groups.Groups.{Groups}
-use Rattle.exec_group.specs.Grouped.{AreGroupsOf, ArePartsOf}
-use Rattle.exec_group.specs.Sets.{Sets, all_sets, AreAllApart}
+use Rattle.exec_group.specs.Grouped.{AreGroupsOf}
+use Rattle.exec_group.specs.Sets.{Sets}
 use Rattle.exec_group.specs.Told.{AreRowsOfSets}
 
 -- cells of these attributes, in a group that lies within the bounds of the target
@@ -31,17 +30,6 @@ pub record CanBeTold (target : Schema) (groups : List Group) : Type 0 where
   pub groups_of : AreGroupsOf gs sets groups
   pub typed : IsTrue (are_aggregates_of attributes gs)
   pub cells : (c : Coordinate) → IsSetFor attributes target c (sets c)
-  pub kinds : kinds_of target.attributes ≡ map (aggregate_kind attributes) gs
-
--- the same of parts of which no two have a cell in common
-pub record CanBeMerged (target : Schema) (parts : List Groups) : Type 0 where
-  pub gs : List Aggregate
-  pub attributes : List Attribute
-  pub sets : List Sets
-  pub parts_of : ArePartsOf gs sets parts
-  pub apart : AreAllApart sets
-  pub typed : IsTrue (are_aggregates_of attributes gs)
-  pub cells : (c : Coordinate) → IsSetFor attributes target c (all_sets sets c)
   pub kinds : kinds_of target.attributes ≡ map (aggregate_kind attributes) gs
 
 -- the array of the target that has the aggregates of these sets of cells

@@ -6,9 +6,9 @@ ghost use Rattle.array_rows.specs.Rows.{IsRising};
 ghost use Rattle.array_parts.specs.Cores.{HaveCells, cores_of};
 ghost use Rattle.exec_group.specs.Inner.Keys.{core_of};
 
+use area_cells::into_core_rows;
 use array_geom::{Chunk, ChunkedArray};
 use cell_values::{List, Margins, Memory, Row, Schema, copy_numbers};
-use chunk_cells::into_core_rows;
 
 /// More rows than can be counted are as good as no memory.
 fn counted(rows: List<Row>) -> Result<List<Row>, Memory>
@@ -32,14 +32,14 @@ pub fn rows_of_cores(array: ChunkedArray) -> Result<List<Row>, Memory>
     counted(rows)
 }
 
-/// The array of one chunk.
-fn alone(schema: &Schema, margins: &Margins, chunk: &Chunk) -> Result<ChunkedArray, Memory>
+/// The array of one chunk, whose cells are moved.
+fn alone(schema: &Schema, margins: &Margins, chunk: Chunk) -> Result<ChunkedArray, Memory>
     ensures schema { IfOk result (λ array. array.schema ≡ schema.now) }
     ensures margins { IfOk result (λ array. array.margins ≡ margins.now) }
-    ensures chunks { IfOk result (λ array. array.chunks ≡ chunk.now ∷ []) }
+    ensures chunks { IfOk result (λ array. array.chunks ≡ chunk ∷ []) }
 {
     let mut chunks = chunk.positions.another();
-    chunks.push(chunk.copy()?)?;
+    chunks.push(chunk)?;
     Ok(ChunkedArray {
         schema: schema.copy()?,
         margins: copy_numbers(margins),
@@ -48,14 +48,14 @@ fn alone(schema: &Schema, margins: &Margins, chunk: &Chunk) -> Result<ChunkedArr
     })
 }
 
-/// The rows of a chunk's core, without those of its margins.
+/// The rows of a chunk's core, without those of its margins. The cells are moved.
 pub(crate) fn rows_of_core(
     schema: &Schema,
     margins: &Margins,
-    chunk: &Chunk,
+    chunk: Chunk,
 ) -> Result<List<Row>, Memory>
-    requires { HaveCells schema.now margins.now.items (chunk.now ∷ []) }
-    ensures rows { IfOk result (λ rows. rows ≡ core_of schema.now.dimensions margins.now.items chunk.now) }
+    requires { HaveCells schema.now margins.now.items (chunk ∷ []) }
+    ensures rows { IfOk result (λ rows. rows ≡ core_of schema.now.dimensions margins.now.items chunk) }
     ensures few { IfOk result (λ rows. length rows < 2 ^ 63) }
     ensures rising { IfOk result IsRising }
     ensures inside { IfOk result (All (λ row. IsTrue (is_inside (bounds_of schema.now.dimensions) row.at.items))) }

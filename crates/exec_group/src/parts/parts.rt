@@ -67,14 +67,14 @@ pub fn regrid_groups(
 pub fn aggregate_part(
     schema: &Schema,
     margins: &Margins,
-    chunk: &Chunk,
+    chunk: Chunk,
     aggs: &[Aggregate],
     dims: &[u32],
 ) -> Result<Groups, Memory>
-    requires cells { HaveCells schema.now margins.now.items (chunk.now ∷ []) }
+    requires cells { HaveCells schema.now margins.now.items (chunk ∷ []) }
     requires names { length dims.now ≤ 6 }
-    ensures groups { IfOk result (λ part. AreGroupsOf aggs.now (aggregate_sets dims.now (core_of schema.now.dimensions margins.now.items chunk.now)) part.groups) }
-    ensures cells { IfOk result (λ part. cells_in part.groups ≤ length (core_of schema.now.dimensions margins.now.items chunk.now)) }
+    ensures groups { IfOk result (λ part. AreGroupsOf aggs.now (aggregate_sets dims.now (core_of schema.now.dimensions margins.now.items chunk)) part.groups) }
+    ensures cells { IfOk result (λ part. cells_in part.groups ≤ length (core_of schema.now.dimensions margins.now.items chunk)) }
 {
     let rows = rows_of_core(schema, margins, chunk)?;
     aggregate_groups(&rows, aggs, dims)
@@ -84,13 +84,13 @@ pub fn aggregate_part(
 pub fn regrid_part(
     schema: &Schema,
     margins: &Margins,
-    chunk: &Chunk,
+    chunk: Chunk,
     blocks: &[u64],
     aggs: &[Aggregate],
 ) -> Result<Groups, Memory>
-    requires cells { HaveCells schema.now margins.now.items (chunk.now ∷ []) }
-    ensures groups { IfOk result (λ part. AreGroupsOf aggs.now (regrid_sets schema.now.dimensions blocks.now (core_of schema.now.dimensions margins.now.items chunk.now)) part.groups) }
-    ensures cells { IfOk result (λ part. cells_in part.groups ≤ length (core_of schema.now.dimensions margins.now.items chunk.now)) }
+    requires cells { HaveCells schema.now margins.now.items (chunk ∷ []) }
+    ensures groups { IfOk result (λ part. AreGroupsOf aggs.now (regrid_sets schema.now.dimensions blocks.now (core_of schema.now.dimensions margins.now.items chunk)) part.groups) }
+    ensures cells { IfOk result (λ part. cells_in part.groups ≤ length (core_of schema.now.dimensions margins.now.items chunk)) }
 {
     let rows = rows_of_core(schema, margins, chunk)?;
     regrid_groups(schema, &rows, blocks, aggs)

@@ -12,13 +12,17 @@ ghost use Rattle.exec_group.specs.Inner.Parts.{has_parts};
 
 use crate::parts::told_array;
 use crate::pieces::parts::groups_by_parts;
-use crate::pieces::rising::are_rising;
+use afl_outside::Gate;
+use area_cells::are_rising;
 use array_geom::{Chunk, ChunkedArray};
 use cell_values::{Memory, Schema};
+use chunk_workers::Crew;
 use logical_plan::Aggregate;
+use std::thread::Threads;
 
 /// The aggregates of an array that is not broken, found chunk by chunk.
-fn by_parts(
+fn by_parts<R: Threads + Sync, G: Gate>(
+    crew: &mut Crew<'_, R, G>,
     array: ChunkedArray,
     aggs: &[Aggregate],
     dims: &[u32],
@@ -42,7 +46,7 @@ fn by_parts(
         chunks,
         broken: _,
     } = array;
-    let groups = groups_by_parts(&schema, &margins, chunks, aggs, dims)?;
+    let groups = groups_by_parts(crew, &schema, &margins, chunks, aggs, dims)?;
     told_array(groups, target)
 }
 
@@ -61,7 +65,8 @@ fn has_parts(dims: &[u32], chunks: &[Chunk]) -> bool
 
 /// The aggregates of the cells that agree in the named dimensions, of all cells without names: chunk by chunk where the numbers
 /// of the chunks rise, as those of an array do.
-pub fn aggregate(
+pub fn aggregate<R: Threads + Sync, G: Gate>(
+    crew: &mut Crew<'_, R, G>,
     array: ChunkedArray,
     aggs: &[Aggregate],
     dims: &[u32],
@@ -79,7 +84,7 @@ pub fn aggregate(
         && has_parts(dims, array.chunks.as_slice())
         && are_rising(array.chunks.as_slice(), array.schema.dimensions.len());
     if parts {
-        by_parts(array, aggs, dims, target)
+        by_parts(crew, array, aggs, dims, target)
     } else {
         crate::arrays::aggregate(array, aggs, dims, target)
     }

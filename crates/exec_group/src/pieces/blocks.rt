@@ -13,32 +13,39 @@ ghost use Rattle.logical_plan.specs.PlanSchema.{regrid_schema};
 ghost use Rattle.logical_plan.specs.Typing.{are_aggregates_of};
 ghost use Rattle.exec_group.specs.Inner.Parts.{IsBlockPartOf};
 
-use crate::parts::{regrid_groups, told_array};
-use crate::pieces::parts::{are_few, rows_of_core};
-use crate::pieces::rising::are_rising;
+use crate::parts::{regrid_part, told_array};
+use crate::pieces::parts::are_few;
 use crate::rows::{Groups, merge_all};
+use afl_outside::Gate;
+use area_cells::are_rising;
 use array_geom::{Chunk, ChunkedArray};
 use cell_values::{List, Margins, Memory, Schema};
+use chunk_workers::{Crew, Work, over_pieces};
 use logical_plan::Aggregate;
+use std::thread::Threads;
 
-/// The groups of a chunk's core by blocks.
-fn block_part(
-    schema: &Schema,
-    margins: &Margins,
-    chunk: Chunk,
-    blocks: &[u64],
-    aggs: &[Aggregate],
-) -> Result<Groups, Memory>
-    requires valid { IsValid schema.now }
-    requires cells { HaveCells schema.now margins.now.items (chunk ∷ []) }
-    ensures { IfOk result (IsBlockPartOf aggs.now blocks.now schema.now.dimensions margins.now.items chunk) }
-{
-    let rows = rows_of_core(schema, margins, chunk)?;
-    regrid_groups(schema, &rows, blocks, aggs)
+/// Aggregates by blocks, and the schema and the margins of the array of whose chunks they are to be.
+#[derive(Drop)]
+struct ByBlocks<'a> {
+    schema: &'a Schema,
+    margins: &'a Margins,
+    blocks: &'a [u64],
+    aggs: &'a [Aggregate],
+}
+
+impl Work<Chunk, Groups> for ByBlocks<'_> {
+    ghost accepts = { λ by chunk. HaveCells by.schema.now by.margins.now.items (chunk ∷ []) };
+
+    ghost gives = { λ by chunk part. IsBlockPartOf by.aggs.now by.blocks.now by.schema.now.dimensions by.margins.now.items chunk part };
+
+    fn work(&self, chunk: Chunk) -> Result<Groups, Memory> {
+        regrid_part(self.schema, self.margins, chunk, self.blocks, self.aggs)
+    }
 }
 
 /// The groups of each chunk's core by blocks.
-fn each_block_part(
+fn each_block_part<R: Threads + Sync, G: Gate>(
+    crew: &mut Crew<'_, R, G>,
     schema: &Schema,
     margins: &Margins,
     chunks: List<Chunk>,
@@ -48,15 +55,18 @@ fn each_block_part(
     requires cells { HaveCells schema.now margins.now.items chunks }
     ensures { IfOk result (AllZip (IsBlockPartOf aggs.now blocks.now schema.now.dimensions margins.now.items) chunks) }
 {
-    let mut parts = chunks.another();
-    for chunk in chunks.into_vec() {
-        parts.push(block_part(schema, margins, chunk, blocks, aggs)?)?;
-    }
-    Ok(parts)
+    let by = ByBlocks {
+        schema,
+        margins,
+        blocks,
+        aggs,
+    };
+    over_pieces(crew, chunks, &by)
 }
 
 /// The groups of all chunks' cores by blocks.
-fn blocks_by_parts(
+fn blocks_by_parts<R: Threads + Sync, G: Gate>(
+    crew: &mut Crew<'_, R, G>,
     schema: &Schema,
     margins: &Margins,
     chunks: List<Chunk>,
@@ -65,18 +75,20 @@ fn blocks_by_parts(
 ) -> Result<Groups, Memory>
     requires cells { HaveCells schema.now margins.now.items chunks }
     ensures whole { NumbersRise (numbers chunks) → AllByRecursion (λ k. length k ≡ length schema.now.dimensions) (numbers chunks)
-        → IfOk result (λ all. AreGroupsOf aggs.now (regrid_sets schema.now.dimensions blocks.now (core_rows schema.now.dimensions margins.now.items chunks)) all.groups) }
+        → IfOk result (λ all. AreGroupsOf aggs.now
+        (regrid_sets schema.now.dimensions blocks.now (core_rows schema.now.dimensions margins.now.items chunks)) all.groups) }
     ensures cells { IfOk result (λ all. cells_in all.groups < 2 ^ 63) }
 {
     if !are_few(chunks.as_slice()) {
         return Err(Memory);
     }
-    let parts = each_block_part(schema, margins, chunks, blocks, aggs)?;
+    let parts = each_block_part(crew, schema, margins, chunks, blocks, aggs)?;
     merge_all(parts)
 }
 
 /// The aggregates by blocks of an array that is not broken, found chunk by chunk.
-fn by_blocks(
+fn by_blocks<R: Threads + Sync, G: Gate>(
+    crew: &mut Crew<'_, R, G>,
     array: ChunkedArray,
     blocks: &[u64],
     aggs: &[Aggregate],
@@ -98,12 +110,13 @@ fn by_blocks(
         chunks,
         broken: _,
     } = array;
-    let groups = blocks_by_parts(&schema, &margins, chunks, blocks, aggs)?;
+    let groups = blocks_by_parts(crew, &schema, &margins, chunks, blocks, aggs)?;
     told_array(groups, target)
 }
 
 /// The aggregates of the cells of each block: chunk by chunk where the numbers of the chunks rise, as those of an array do.
-pub fn regrid(
+pub fn regrid<R: Threads + Sync, G: Gate>(
+    crew: &mut Crew<'_, R, G>,
     array: ChunkedArray,
     blocks: &[u64],
     aggs: &[Aggregate],
@@ -119,7 +132,7 @@ pub fn regrid(
     let parts = array.broken.is_none()
         && are_rising(array.chunks.as_slice(), array.schema.dimensions.len());
     if parts {
-        by_blocks(array, blocks, aggs, target)
+        by_blocks(crew, array, blocks, aggs, target)
     } else {
         crate::arrays::regrid(array, blocks, aggs, target)
     }

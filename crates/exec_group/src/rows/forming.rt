@@ -52,7 +52,8 @@ pub fn groups_of(
     requires few { length rows.now < 2 ^ 63 }
     requires each { length keys.now ≡ length rows.now }
     requires rising { IsRising rows.now }
-    ensures groups { (group : Coordinate → Coordinate) → AreKeys group keys.now rows.now → IfOk result (λ groups. AreGroupsOf aggregates.now (sets_by group rows.now) groups.groups) }
+    ensures groups { (group : Coordinate → Coordinate) → AreKeys group keys.now rows.now
+        → IfOk result (λ groups. AreGroupsOf aggregates.now (sets_by group rows.now) groups.groups) }
     ensures cells { IfOk result (λ groups. cells_in groups.groups ≤ length rows.now) }
 {
     if keys.is_empty() {

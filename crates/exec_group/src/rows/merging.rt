@@ -69,7 +69,8 @@ fn move_both(
     requires same { IsSamePlace left.old.items right.old.items }
     ensures moved { OnOk result (IsMove merged.old left.old.items right.old.items merged.new left.new.items right.new.items) }
     ensures fewer { OnOk result (length left.new.items + length right.new.items < length left.old.items + length right.old.items) }
-    ensures cells { OnOk result (cells_in merged.new + (cells_in left.new.items + cells_in right.new.items) ≤ cells_in merged.old + (cells_in left.old.items + cells_in right.old.items)) }
+    ensures cells { OnOk result (cells_in merged.new + (cells_in left.new.items + cells_in right.new.items)
+        ≤ cells_in merged.old + (cells_in left.old.items + cells_in right.old.items)) }
 {
     if let Some(group) = left.pop_front() {
         if let Some(other) = right.pop_front() {
@@ -90,7 +91,8 @@ fn move_next(
     requires right { 0 < length right.old.items }
     ensures moved { OnOk result (IsMove merged.old left.old.items right.old.items merged.new left.new.items right.new.items) }
     ensures fewer { OnOk result (length left.new.items + length right.new.items < length left.old.items + length right.old.items) }
-    ensures cells { OnOk result (cells_in merged.new + (cells_in left.new.items + cells_in right.new.items) ≤ cells_in merged.old + (cells_in left.old.items + cells_in right.old.items)) }
+    ensures cells { OnOk result (cells_in merged.new + (cells_in left.new.items + cells_in right.new.items)
+        ≤ cells_in merged.old + (cells_in left.old.items + cells_in right.old.items)) }
 {
     match row_major(&left[0].at, &right[0].at) {
         Ordering::Less => move_first(merged, left),

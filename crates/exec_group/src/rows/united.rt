@@ -56,7 +56,8 @@ fn gather(alloc: Global, parts: &mut IntoIter<Groups>, count: usize) -> Result<G
 /// The groups of all parts, of which no two stand for the same cell.
 pub fn merge_all(parts: List<Groups>) -> Result<Groups, Memory>
     requires room { cells_in_all parts < 2 ^ 63 }
-    ensures groups { (gs : Items Aggregate) (sets : Items Sets) → ArePartsOf gs sets parts → AreAllApart sets → IfOk result (λ all. AreGroupsOf gs (all_sets sets) all.groups) }
+    ensures groups { (gs : Items Aggregate) (sets : Items Sets) → ArePartsOf gs sets parts
+        → AreAllApart sets → IfOk result (λ all. AreGroupsOf gs (all_sets sets) all.groups) }
     ensures cells { IfOk result (λ all. cells_in all.groups ≤ cells_in_all parts) }
 {
     let alloc = parts.allocator();

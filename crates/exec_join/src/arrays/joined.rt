@@ -10,10 +10,13 @@ ghost use Rattle.exec_join.specs.Meant.{join_meant};
 use crate::arrays::building::rows_of;
 use crate::arrays::pieces::by_parts;
 use crate::rows::join_of_rows;
+use afl_outside::Gate;
 use area_cells::are_rising;
 use array_geom::{ChunkedArray, margins_of};
 use cell_values::{Memory, Schema};
 use chunk_cells::{assemble, broken_array};
+use chunk_workers::Crew;
+use std::thread::Threads;
 
 /// The join of two arrays of which none is broken.
 #[tactic(auto, using(array_geom::proofs::MarginLaws::overlap_each, array_geom::proofs::MarginLaws::overlap_places))]
@@ -38,7 +41,12 @@ fn of_whole(
 }
 
 /// The join of two arrays of which none is broken, chunk by chunk where the numbers of their chunks rise, as those of an array do.
-fn of_both(left: ChunkedArray, right: ChunkedArray, schema: &Schema) -> Result<ChunkedArray, Memory>
+fn of_both<R: Threads + Sync, G: Gate>(
+    crew: &mut Crew<'_, R, G>,
+    left: ChunkedArray,
+    right: ChunkedArray,
+    schema: &Schema,
+) -> Result<ChunkedArray, Memory>
     requires left_whole { left.broken ≡ None }
     requires right_whole { right.broken ≡ None }
     requires left_cells { HaveCells left.schema left.margins.items left.chunks }
@@ -51,7 +59,7 @@ fn of_both(left: ChunkedArray, right: ChunkedArray, schema: &Schema) -> Result<C
     let rise = are_rising(left.chunks.as_slice(), left.schema.dimensions.len())
         && are_rising(right.chunks.as_slice(), right.schema.dimensions.len());
     if rise {
-        by_parts(left, right, schema)
+        by_parts(crew, left, right, schema)
     } else {
         of_whole(left, right, schema)
     }
@@ -59,7 +67,8 @@ fn of_both(left: ChunkedArray, right: ChunkedArray, schema: &Schema) -> Result<C
 
 /// The join of two arrays of which the left one is not broken.
 #[tactic(auto, using(array_geom::proofs::MarginLaws::overlap_each))]
-fn with_right(
+fn with_right<R: Threads + Sync, G: Gate>(
+    crew: &mut Crew<'_, R, G>,
     left: ChunkedArray,
     right: ChunkedArray,
     schema: &Schema,
@@ -74,14 +83,15 @@ fn with_right(
 {
     match &right.broken {
         Some(broken) => broken_array(schema, &margins_of(schema), broken),
-        None => of_both(left, right, schema),
+        None => of_both(crew, left, right, schema),
     }
 }
 
 /// The cells of two arrays side by side at each coordinate where both have one, in chunks of this schema, which is that of their
 /// join. What the margins of the two hold doesn't matter.
 #[tactic(auto, using(array_geom::proofs::MarginLaws::overlap_each))]
-pub fn join(
+pub fn join<R: Threads + Sync, G: Gate>(
+    crew: &mut Crew<'_, R, G>,
     left: ChunkedArray,
     right: ChunkedArray,
     schema: &Schema,
@@ -95,6 +105,6 @@ pub fn join(
 {
     match &left.broken {
         Some(broken) => broken_array(schema, &margins_of(schema), broken),
-        None => with_right(left, right, schema),
+        None => with_right(crew, left, right, schema),
     }
 }

@@ -1,5 +1,5 @@
 //! Joins chunk by chunk: each chunk from the rows that both arrays have in its frame.
-ghost use Rattle.std.specs.Prelude.{◌≡◌, None, length, IsTrue, IfOk};
+ghost use Rattle.std.specs.Prelude.{◌≡◌, None, length, IfOk};
 ghost use Rattle.std.specs.List.{AllByRecursion};
 ghost use Rattle.cell_values.specs.Schemas.{IsValid};
 ghost use Rattle.array_rows.specs.Boxes.{within};
@@ -8,14 +8,18 @@ ghost use Rattle.array_geom.specs.Link.{Is, IsPart, NumbersRise, numbers};
 ghost use Rattle.array_parts.specs.Cores.{HaveCells, cores_of, meant_by_cores};
 ghost use Rattle.array_parts.specs.Placed.{HasPlaces};
 ghost use Rattle.chunk_cells.specs.Frames.{HasFrames};
+ghost use Rattle.area_cells.specs.Pieces.{IsPartAt};
 ghost use Rattle.logical_plan.specs.Joins.{join_rows};
 ghost use Rattle.logical_plan.specs.PlanSchema.{join_schema};
 ghost use Rattle.exec_join.specs.Meant.{join_meant};
 
 use crate::rows::join_of_rows;
-use area_cells::{array_of_parts, chunk_of_rows, rows_in_area};
+use afl_outside::Gate;
+use area_cells::{array_of_parts, chunk_of_rows, numbers_of, rows_in_area};
 use array_geom::{Chunk, ChunkedArray, frame, margins_of};
 use cell_values::{Bounds, ChunkAt, List, Margins, Memory, Row, Schema};
+use chunk_workers::{Crew, Work, over_pieces};
+use std::thread::Threads;
 
 /// The joined rows in a box.
 fn joined_in(left: &ChunkedArray, right: &ChunkedArray, area: &Bounds) -> Result<List<Row>, Memory>
@@ -53,7 +57,30 @@ fn join_part(
     Ok(made)
 }
 
-fn join_parts(
+/// Two arrays, and the schema and the margins of the array whose chunks are to be joined of them.
+#[derive(Drop)]
+struct OfBoth<'a> {
+    left: &'a ChunkedArray,
+    right: &'a ChunkedArray,
+    schema: &'a Schema,
+    margins: &'a Margins,
+}
+
+impl Work<ChunkAt, Chunk> for OfBoth<'_> {
+    ghost accepts = { λ of number. HaveCells of.left.now.schema of.left.now.margins.items of.left.now.chunks
+        × HaveCells of.right.now.schema of.right.now.margins.items of.right.now.chunks
+        × NumbersRise (numbers of.left.now.chunks) × NumbersRise (numbers of.right.now.chunks)
+        × HasFrame of.schema.now of.margins.now.items number.items };
+
+    ghost gives = { λ of number made. IsPartAt of.schema.now of.margins.now.items (join_rows (cores_of of.left.now) (cores_of of.right.now)) number made };
+
+    fn work(&self, number: ChunkAt) -> Result<Chunk, Memory> {
+        join_part(self.left, self.right, self.schema, self.margins, &number)
+    }
+}
+
+fn join_parts<R: Threads + Sync, G: Gate>(
+    crew: &mut Crew<'_, R, G>,
     left: &ChunkedArray,
     right: &ChunkedArray,
     schema: &Schema,
@@ -69,16 +96,20 @@ fn join_parts(
     ensures places { IfOk result (AllByRecursion (HasPlaces schema.now margins.now.items)) }
     ensures parts { IfOk result (AllByRecursion (IsPart schema.now.dimensions margins.now.items (join_rows (cores_of left.now) (cores_of right.now)))) }
 {
-    let mut parts = left.chunks.another();
-    for chunk in left.chunks.as_slice() {
-        parts.push(join_part(left, right, schema, margins, &chunk.at)?)?;
-    }
-    Ok(parts)
+    let pieces = numbers_of(&left.chunks)?;
+    let of = OfBoth {
+        left,
+        right,
+        schema,
+        margins,
+    };
+    over_pieces(crew, pieces, &of)
 }
 
 /// The join of two arrays of which none is broken, chunk by chunk.
 #[tactic(auto, using(array_geom::proofs::MarginLaws::overlap_each, array_geom::proofs::MarginLaws::overlap_places))]
-pub(crate) fn by_parts(
+pub(crate) fn by_parts<R: Threads + Sync, G: Gate>(
+    crew: &mut Crew<'_, R, G>,
     left: ChunkedArray,
     right: ChunkedArray,
     schema: &Schema,
@@ -96,6 +127,6 @@ pub(crate) fn by_parts(
     ensures margins { IfOk result (λ made. made.margins.items ≡ overlaps schema.now.dimensions) }
 {
     let margins = margins_of(schema);
-    let parts = join_parts(&left, &right, schema, &margins)?;
+    let parts = join_parts(crew, &left, &right, schema, &margins)?;
     array_of_parts(schema, &margins, parts)
 }

@@ -1,5 +1,6 @@
 -- What an expression reads as.
-use Rattle.expr_nulls.specs.Expr.{Expr, literal, attribute_value, dimension_value, minus, denial, calculation, relation, conjunction, disjunction, conditional, null_test, byte_length, decimal_text, coded_null, null_code}
+use Rattle.expr_nulls.specs.Expr.{Expr, literal, attribute_value, dimension_value, minus, denial, calculation, relation, conjunction}
+use Rattle.expr_nulls.specs.Expr.{disjunction, conditional, null_test, byte_length, decimal_text, coded_null, null_code}
 use Rattle.expr_nulls.specs.declared.expr.ExprNode.{ExprNode}
 use Rattle.expr_nulls.specs.declared.expr.ExprNode.TheVariants.{Lit, Attr, Dim, Neg, Not, Arith, Compare, And, Or, Iif, IsNull, StrLen, ToText, Missing, Reason}
 

@@ -1,7 +1,9 @@
 -- What a plan reads as.
-use Rattle.logical_plan.specs.Query.{Query, built, listed, scanned, filtered, applied, projected, between, subarray, sliced, joined, crossed, redimensioned, regridded, windowed, aggregated}
+use Rattle.logical_plan.specs.Query.{Query, built, listed, scanned, filtered, applied, projected, between, subarray}
+use Rattle.logical_plan.specs.Query.{sliced, joined, crossed, redimensioned, regridded, windowed, aggregated}
 use Rattle.logical_plan.specs.declared.plan.PlanNode.{PlanNode}
-use Rattle.logical_plan.specs.declared.plan.PlanNode.TheVariants.{Build, Literal, Scan, Filter, Apply, Project, Between, Subarray, Slice, Join, CrossJoin, Redimension, Regrid, Window, Aggregate}
+use Rattle.logical_plan.specs.declared.plan.PlanNode.TheVariants.{Build, Literal, Scan, Filter, Apply, Project, Between, Subarray}
+use Rattle.logical_plan.specs.declared.plan.PlanNode.TheVariants.{Slice, Join, CrossJoin, Redimension, Regrid, Window, Aggregate}
 
 abbrev pub query_of : PlanNode → Query
 query_of (Build schema e) = built schema e

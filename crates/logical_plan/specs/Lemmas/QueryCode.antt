@@ -22,7 +22,8 @@ use Rattle.logical_plan.specs.declared.parts.Pair.{Pair}
 use Rattle.logical_plan.specs.contracts.parts.Pair as pair_type
 use Rattle.logical_plan.specs.declared.parts.Reach.{Reach}
 use Rattle.logical_plan.specs.contracts.parts.Reach as reach_type
-use Rattle.logical_plan.specs.Query.{Query, built, listed, scanned, filtered, applied, projected, between, subarray, sliced, joined, crossed, redimensioned, regridded, windowed, aggregated}
+use Rattle.logical_plan.specs.Query.{Query, built, listed, scanned, filtered, applied, projected, between, subarray}
+use Rattle.logical_plan.specs.Query.{sliced, joined, crossed, redimensioned, regridded, windowed, aggregated}
 
 abbrev schema_code : Coded Schema
 schema_code = schema_type.the_row.coded

@@ -1,15 +1,15 @@
 -- An array that is stored again: the file before, the file after, and what the commit of its record has done.
 use Rattle.std.specs.Prelude.{ℕ, List, [], ◌∷◌, ◌++◌, codes, Some}
-use Rattle.logical_plan.specs.Query.{scanned}
+use Rattle.plan_changes.specs.Query.{scanned}
 use Rattle.page_layout.specs.declared.sides.Side.TheVariants.{A}
 use Rattle.page_layout.specs.declared.sides.Format.TheVariants.{Two}
 use Rattle.chunk_map.specs.declared.directory.DirEntry.{DirEntry}
 use Rattle.plan_changes.specs.declared.change.Change.{Change}
 use Rattle.plan_changes.specs.declared.change.Change.TheVariants.{Store}
 use Rattle.plan_changes.specs.Databases.{after}
-use Rattle.version_catalog.specs.declared.rules.catalog.CatalogArray.{CatalogArray}
-use Rattle.version_catalog.specs.declared.rules.catalog_record.CatalogRecord.{CatalogRecord}
-use Rattle.version_catalog.specs.declared.rules.catalog_record.CatalogRecord.TheVariants.{Next}
+use Rattle.file_laws.specs.CatalogArray.{CatalogArray}
+use Rattle.file_laws.specs.CatalogRecord.{CatalogRecord}
+use Rattle.file_laws.specs.CatalogRecord.TheVariants.{Next}
 use Rattle.file_laws.specs.Slots.{Slots}
 use Rattle.file_laws.specs.Standing.{Stands}
 use Rattle.file_laws.specs.Found.{Found}

@@ -1,8 +1,8 @@
 -- Which slot is aimed at.
 use Rattle.std.specs.Prelude.{◌≡◌, ◌<◌, ◌⊎◌, length}
-use Rattle.page_layout.specs.declared.sides.Slot.{Slot}
-use Rattle.page_layout.specs.declared.sides.Slot.TheVariants.{A, B, Log}
-use Rattle.page_layout.specs.declared.sides.Format.TheVariants.{Two}
+use Rattle.page_slots.specs.Slot.{Slot}
+use Rattle.page_slots.specs.Slot.TheVariants.{A, B, Log}
+use Rattle.page_slots.specs.Format.TheVariants.{Two}
 use Rattle.page_slots.specs.Steps.{target_slot}
 use Rattle.page_slots.specs.declared.slots.Slots.{Slots}
 use Rattle.page_slots.specs.declared.slots.Target.{Target}

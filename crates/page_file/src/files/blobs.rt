@@ -1,9 +1,9 @@
 //! Blobs and chains in a database's file.
 ghost use Rattle.std.specs.Prelude.{◌≡◌, ℕ, List, [], ◌∷◌, ◌<◌, ◌/◌, length, slice_index_or, IfSome, IfOk, IfErr, OnOk, IsErrOf, MatchResult};
-ghost use Rattle.afl_outside.specs.Disk.{FailsWithCause};
-ghost use Rattle.afl_outside.specs.Counts.{Rose};
-ghost use Rattle.page_layout.specs.Places.{KeepsPages};
-ghost use Rattle.page_layout.specs.declared.logs.RecordAt.{RecordAt};
+ghost use Rattle.page_slots.specs.Disk.{FailsWithCause};
+ghost use Rattle.page_slots.specs.Counts.{Rose};
+ghost use Rattle.page_slots.specs.Places.{KeepsPages};
+ghost use Rattle.page_slots.specs.RecordAt.{RecordAt};
 ghost use Rattle.page_chain.specs.Pages.{page_size, pages_for, IsBlobRead, HoldsBlob};
 ghost use Rattle.page_chain.specs.Chains.{content_size, IsChainRead, HoldsChain};
 ghost use Rattle.page_chain.specs.Inner.Runs.{OnlyReads, OnlyWrites, Sees};
@@ -13,10 +13,8 @@ ghost use Rattle.page_file.specs.OpeningOpened.{IsDeviceFault};
 ghost use Rattle.page_file.specs.Written.{MayWrite, pages_written, blob_written};
 
 use crate::files::PageFile;
-use afl_outside::{Disk, Failed, has_risen};
-use cell_values::{Bytes, List};
-use page_chain::{BlobFault, Link, OpenCause};
-use page_layout::Root;
+use page_chain::{BlobFault, Bytes, Link, List, OpenCause};
+use page_slots::{Disk, Failed, Root, has_risen};
 use std::alloc::Global;
 
 impl<D: Disk> PageFile<D> {
@@ -26,7 +24,8 @@ impl<D: Disk> PageFile<D> {
         ensures cause { IfErr result (λ fault. IsDeviceFault fault (D.moment self.old.disk).state (D.moment self.new.disk).state) }
         ensures slots { self.new.slots ≡ self.old.slots }
         ensures reads { OnlyReads (D.moment self.old.disk) (D.moment self.new.disk) }
-        ensures sound { (seen : List ℕ) → IsSound self.old.slots seen (D.moment self.old.disk).may_leave → IsSound self.new.slots seen (D.moment self.new.disk).may_leave }
+        ensures sound { (seen : List ℕ) → IsSound self.old.slots seen (D.moment self.old.disk).may_leave
+            → IsSound self.new.slots seen (D.moment self.new.disk).may_leave }
     {
         let before = self.disk.faults();
         match self.disk.len() {
@@ -49,7 +48,8 @@ impl<D: Disk> PageFile<D> {
         ensures fault { IsErrOf result BlobFault.Disk → Rose (D.moment self.old.disk).state.faults (D.moment self.new.disk).state.faults }
         ensures slots { self.new.slots ≡ self.old.slots }
         ensures reads { OnlyReads (D.moment self.old.disk) (D.moment self.new.disk) }
-        ensures sound { (seen : List ℕ) → IsSound self.old.slots seen (D.moment self.old.disk).may_leave → IsSound self.new.slots seen (D.moment self.new.disk).may_leave }
+        ensures sound { (seen : List ℕ) → IsSound self.old.slots seen (D.moment self.old.disk).may_leave
+            → IsSound self.new.slots seen (D.moment self.new.disk).may_leave }
     {
         page_chain::read_blob(alloc, &mut self.disk, pages, count)
     }
@@ -63,7 +63,8 @@ impl<D: Disk> PageFile<D> {
         ensures fault { IsErrOf result OpenCause.Disk → Rose (D.moment self.old.disk).state.faults (D.moment self.new.disk).state.faults }
         ensures slots { self.new.slots ≡ self.old.slots }
         ensures reads { OnlyReads (D.moment self.old.disk) (D.moment self.new.disk) }
-        ensures sound { (seen : List ℕ) → IsSound self.old.slots seen (D.moment self.old.disk).may_leave → IsSound self.new.slots seen (D.moment self.new.disk).may_leave }
+        ensures sound { (seen : List ℕ) → IsSound self.old.slots seen (D.moment self.old.disk).may_leave
+            → IsSound self.new.slots seen (D.moment self.new.disk).may_leave }
     {
         let first = Link {
             holder: 0,
@@ -83,13 +84,16 @@ impl<D: Disk> PageFile<D> {
     ) -> Result<(Bytes, List<u32>), OpenCause>
         requires { number < length self.old.slots.records }
         ensures exact { IfSome (D.moment self.old.disk).state.seen (λ seen. (d : RecordAt)
-            → IsChainRead seen taken.now self.old.slots.current.root.log (slice_index_or self.old.slots.records number d).first (slice_index_or self.old.slots.records number d).length result) }
+            → IsChainRead seen taken.now self.old.slots.current.root.log (slice_index_or self.old.slots.records number d).first
+            (slice_index_or self.old.slots.records number d).length result) }
         ensures size { (d : RecordAt) → IfOk result (λ x. length x.0 ≡ (slice_index_or self.old.slots.records number d).length) }
-        ensures pages { (d : RecordAt) → IfOk result (λ x. length x.1 ≡ pages_for (content_size page_size) (slice_index_or self.old.slots.records number d).length) }
+        ensures pages { (d : RecordAt) → IfOk result
+            (λ x. length x.1 ≡ pages_for (content_size page_size) (slice_index_or self.old.slots.records number d).length) }
         ensures fault { IsErrOf result OpenCause.Disk → Rose (D.moment self.old.disk).state.faults (D.moment self.new.disk).state.faults }
         ensures slots { self.new.slots ≡ self.old.slots }
         ensures reads { OnlyReads (D.moment self.old.disk) (D.moment self.new.disk) }
-        ensures sound { (seen : List ℕ) → IsSound self.old.slots seen (D.moment self.old.disk).may_leave → IsSound self.new.slots seen (D.moment self.new.disk).may_leave }
+        ensures sound { (seen : List ℕ) → IsSound self.old.slots seen (D.moment self.old.disk).may_leave
+            → IsSound self.new.slots seen (D.moment self.new.disk).may_leave }
     {
         let at = self.slots.records.as_slice()[number as usize];
         let log = self.slots.current.root.log;
@@ -105,10 +109,12 @@ impl<D: Disk> PageFile<D> {
         requires closed { IsClosed self.old.slots }
         requires free { MayWrite pages.now self.old.slots }
         requires pages { length pages.now ≡ pages_for page_size (length bytes.now) }
-        ensures slots { MatchResult result (λ _. self.new.slots ≡ blob_written pages.now bytes.now self.old.slots) (λ _. self.new.slots ≡ pages_written pages.now self.old.slots) }
+        ensures slots { MatchResult result (λ _. self.new.slots ≡ blob_written pages.now bytes.now self.old.slots)
+            (λ _. self.new.slots ≡ pages_written pages.now self.old.slots) }
         ensures sound { KeepsSound self.old.slots self.new.slots (D.moment self.old.disk) (D.moment self.new.disk) }
         ensures opens { LeavesOpening self.old.slots (emptied self.old.slots) (D.moment self.old.disk) (D.moment self.new.disk) }
-        ensures seen { Sees (D.moment self.old.disk).state (D.moment self.new.disk).state (λ seen now. KeepsPages pages.now seen now × OnOk result (HoldsBlob page_size now pages.now bytes.now)) }
+        ensures seen { Sees (D.moment self.old.disk).state (D.moment self.new.disk).state
+            (λ seen now. KeepsPages pages.now seen now × OnOk result (HoldsBlob page_size now pages.now bytes.now)) }
         ensures writes { OnlyWrites pages.now (D.moment self.old.disk) (D.moment self.new.disk) }
         ensures cause { FailsWithCause result (D.moment self.old.disk) (D.moment self.new.disk) }
     {
@@ -123,7 +129,8 @@ impl<D: Disk> PageFile<D> {
         ensures slots { self.new.slots ≡ pages_written pages.now self.old.slots }
         ensures sound { KeepsSound self.old.slots self.new.slots (D.moment self.old.disk) (D.moment self.new.disk) }
         ensures opens { LeavesOpening self.old.slots (emptied self.old.slots) (D.moment self.old.disk) (D.moment self.new.disk) }
-        ensures seen { Sees (D.moment self.old.disk).state (D.moment self.new.disk).state (λ seen now. KeepsPages pages.now seen now × OnOk result (HoldsChain page_size now pages.now bytes.now)) }
+        ensures seen { Sees (D.moment self.old.disk).state (D.moment self.new.disk).state
+            (λ seen now. KeepsPages pages.now seen now × OnOk result (HoldsChain page_size now pages.now bytes.now)) }
         ensures writes { OnlyWrites pages.now (D.moment self.old.disk) (D.moment self.new.disk) }
         ensures cause { FailsWithCause result (D.moment self.old.disk) (D.moment self.new.disk) }
     {

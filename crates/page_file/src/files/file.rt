@@ -1,9 +1,10 @@
 //! A database's file.
 ghost use Rattle.std.specs.Prelude.{◌≡◌, ℕ, List, ◌<◌, ◌+◌, true, false, IsTrue, IfSome, IfOk, IfErr, OnOk, Ok, Err, MatchResult};
-ghost use Rattle.afl_outside.specs.Disk.{FailsWithCause, Only};
-ghost use Rattle.page_layout.specs.Places.{body_of, other};
+ghost use Rattle.page_slots.specs.Disk.{FailsWithCause, Only};
+ghost use Rattle.page_slots.specs.Places.{body_of, other};
 ghost use Rattle.page_slots.specs.Puts.{OnlyPuts, OnlySyncs};
-ghost use Rattle.page_slots.specs.Standing.{entry_gate, gate_place, IsTarget, IsShut, IsReady, IsShutRoot, IsShutEntry, IsSound, KeepsSound, LeavesOpening, IsDurable};
+ghost use Rattle.page_slots.specs.Standing.{entry_gate, gate_place, IsTarget, IsShut, IsReady, IsShutRoot};
+ghost use Rattle.page_slots.specs.Standing.{IsShutEntry, IsSound, KeepsSound, LeavesOpening, IsDurable};
 ghost use Rattle.page_slots.specs.Steps.{target_slot, aimed, shut, doubted, with_target, ajar};
 ghost use Rattle.page_slots.specs.declared.slots.RootSlot.TheVariants as roots;
 ghost use Rattle.page_slots.specs.declared.slots.NextEntry.TheVariants as entries;
@@ -12,10 +13,8 @@ ghost use Rattle.page_file.specs.Inner.Aims.{target_of, IsAim};
 ghost use Rattle.page_file.specs.OpeningOpened.{IsOpened, AreFresh, HasCause};
 
 use crate::opening::open_slots;
-use afl_outside::{Disk, Failed};
 use page_chain::OpenCause;
-use page_layout::{RecordAt, Root, Side, Slot};
-use page_slots::{Slots, Target};
+use page_slots::{Disk, Failed, RecordAt, Root, Side, Slot, Slots, Target};
 use std::marker::Model;
 
 fn target_of(slot: Slot) -> Target
@@ -47,8 +46,10 @@ impl<D: Disk> PageFile<D> {
     /// Opens a file. A disk that isn't opened is handed back.
     pub fn open(mut disk: D) -> Result<PageFile<D>, (OpenCause, D)>
         ensures opened { IfSome (D.moment disk).state.seen (λ seen. MatchResult result (λ file. IsOpened seen (Ok file.slots)) (λ x. IsOpened seen (Err x.0))) }
-        ensures durable { IfOk result (λ file. IsTrue (D.moment disk).state.honest → IfSome (D.moment disk).state.seen (λ seen. Only seen (D.moment file.disk).may_leave)) }
-        ensures sound { IsTrue (D.moment disk).state.honest → IfSome (D.moment disk).state.seen (λ seen. IfOk result (λ file. IsSound file.slots seen (D.moment file.disk).may_leave)) }
+        ensures durable { IfOk result (λ file. IsTrue (D.moment disk).state.honest
+            → IfSome (D.moment disk).state.seen (λ seen. Only seen (D.moment file.disk).may_leave)) }
+        ensures sound { IsTrue (D.moment disk).state.honest
+            → IfSome (D.moment disk).state.seen (λ seen. IfOk result (λ file. IsSound file.slots seen (D.moment file.disk).may_leave)) }
         ensures fresh { IfOk result (λ file. AreFresh file.slots) }
         ensures reads { MatchResult result
             (λ file. OnlySyncs (D.moment disk) (D.moment file.disk))
@@ -120,7 +121,8 @@ impl<D: Disk> PageFile<D> {
         requires slot { IsAim slot self.old.slots }
         ensures slots { self.new.slots ≡ aimed (target_of slot) self.old.slots }
         ensures disk { self.new.disk ≡ self.old.disk }
-        ensures sound { (seen : List ℕ) → IsSound self.old.slots seen (D.moment self.old.disk).may_leave → IsSound self.new.slots seen (D.moment self.new.disk).may_leave }
+        ensures sound { (seen : List ℕ) → IsSound self.old.slots seen (D.moment self.old.disk).may_leave
+            → IsSound self.new.slots seen (D.moment self.new.disk).may_leave }
     {
         let target = target_of(slot);
         self.slots.aim(target);
@@ -146,7 +148,8 @@ impl<D: Disk> PageFile<D> {
         requires sure { self.old.slots.doubtful ≡ false }
         requires target { self.old.slots.target ≡ targets.Root }
         requires newer { self.old.slots.current.root.sequence < root.sequence }
-        ensures slots { MatchResult result (λ _. self.new.slots ≡ record (self.old.slots) { other = roots.Written root }) (λ _. self.new.slots ≡ record (self.old.slots) { other = roots.Closed; doubtful = true }) }
+        ensures slots { MatchResult result (λ _. self.new.slots ≡ record (self.old.slots) { other = roots.Written root })
+            (λ _. self.new.slots ≡ record (self.old.slots) { other = roots.Closed; doubtful = true }) }
         ensures sound { KeepsSound self.old.slots self.new.slots (D.moment self.old.disk) (D.moment self.new.disk) }
         ensures opens { LeavesOpening self.old.slots (record (self.old.slots) { other = roots.Closed }) (D.moment self.old.disk) (D.moment self.new.disk) }
         ensures durable { OnOk result (IsDurable (D.moment self.old.disk) (D.moment self.new.disk)) }
@@ -162,7 +165,8 @@ impl<D: Disk> PageFile<D> {
         requires sure { self.old.slots.doubtful ≡ false }
         requires target { self.old.slots.target ≡ targets.Record }
         requires there { IsTarget self.old.slots }
-        ensures slots { MatchResult result (λ _. self.new.slots ≡ record (self.old.slots) { next = entries.Written at }) (λ _. self.new.slots ≡ record (self.old.slots) { next = entries.Closed; doubtful = true }) }
+        ensures slots { MatchResult result (λ _. self.new.slots ≡ record (self.old.slots) { next = entries.Written at })
+            (λ _. self.new.slots ≡ record (self.old.slots) { next = entries.Closed; doubtful = true }) }
         ensures sound { KeepsSound self.old.slots self.new.slots (D.moment self.old.disk) (D.moment self.new.disk) }
         ensures opens { LeavesOpening self.old.slots (record (self.old.slots) { next = entries.Closed }) (D.moment self.old.disk) (D.moment self.new.disk) }
         ensures durable { OnOk result (IsDurable (D.moment self.old.disk) (D.moment self.new.disk)) }
@@ -177,7 +181,8 @@ impl<D: Disk> PageFile<D> {
         requires ready { IsReady self.old.slots.target self.old.slots }
         requires sure { self.old.slots.doubtful ≡ false }
         requires there { IsTarget self.old.slots }
-        ensures slots { MatchResult result (λ _. self.new.slots ≡ with_target self.old.slots.target self.old.slots) (λ _. self.new.slots ≡ doubted (ajar self.old.slots.target self.old.slots)) }
+        ensures slots { MatchResult result (λ _. self.new.slots ≡ with_target self.old.slots.target self.old.slots)
+            (λ _. self.new.slots ≡ doubted (ajar self.old.slots.target self.old.slots)) }
         ensures sound { KeepsSound self.old.slots self.new.slots (D.moment self.old.disk) (D.moment self.new.disk) }
         ensures opens { LeavesOpening self.old.slots (ajar self.old.slots.target self.old.slots) (D.moment self.old.disk) (D.moment self.new.disk) }
         ensures durable { OnOk result (IsDurable (D.moment self.old.disk) (D.moment self.new.disk)) }

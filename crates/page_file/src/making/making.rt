@@ -1,13 +1,12 @@
 //! The first pages of a file.
 ghost use Rattle.std.specs.Prelude.{◌≡◌, ◌≢◌, ℕ, List, length, Some, IfSome, IfErr, IsTrue, OnOk};
-ghost use Rattle.afl_outside.specs.Disk.{DiskGoesOn, FailsWithCause, Only};
+ghost use Rattle.page_slots.specs.Disk.{DiskGoesOn, FailsWithCause, Only};
 ghost use Rattle.page_slots.specs.Puts.{OnlySyncs};
 ghost use Rattle.page_file.specs.Start.{IsEmptyDatabase, IsInit, HasCause, IsDeviceFault, WhereNotEmpty};
 ghost use Rattle.page_file.specs.Inner.Laid.{Lays, laid, made};
 
 use crate::making::InitFault;
-use afl_outside::{Disk, Failed, has_risen};
-use page_layout::{PAGE, Root, Side, root_body};
+use page_slots::{Disk, Failed, PAGE, Root, Side, has_risen, root_body};
 
 /// `AFLSTORE`, and the format 2.
 const HEAD: [u8; 12] = [65, 70, 76, 83, 84, 79, 82, 69, 2, 0, 0, 0];
@@ -42,7 +41,9 @@ fn lay<D: Disk>(disk: &mut D, body: &[u8]) -> Result<(), Failed>
 
 /// Writes page 0 with closed slots, and then opens slot A. Each of the two is synced.
 fn make<D: Disk>(disk: &mut D, body: &[u8]) -> Result<(), Failed>
-    ensures made { OnOk result (IsTrue (D.moment disk.old).state.honest → IfSome (D.moment disk.old).state.seen (λ seen. ((D.moment disk.new).state.seen ≡ Some (made body.now seen)) × Only (made body.now seen) (D.moment disk.new).may_leave)) }
+    ensures made { OnOk result (IsTrue (D.moment disk.old).state.honest
+        → IfSome (D.moment disk.old).state.seen (λ seen. ((D.moment disk.new).state.seen ≡ Some (made body.now seen))
+        × Only (made body.now seen) (D.moment disk.new).may_leave)) }
     ensures same { DiskGoesOn (D.moment disk.old).state (D.moment disk.new).state }
     ensures cause { FailsWithCause result (D.moment disk.old) (D.moment disk.new) }
 {
@@ -85,7 +86,9 @@ fn measure<D: Disk>(disk: &mut D) -> Result<(), InitFault>
 }
 
 fn make_first<D: Disk>(disk: &mut D) -> Result<(), InitFault>
-    ensures made { OnOk result (IsTrue (D.moment disk.old).state.honest → IfSome (D.moment disk.old).state.seen (λ seen. length seen ≡ 0 → (file : List ℕ) × ((D.moment disk.new).state.seen ≡ Some file) × IsEmptyDatabase file × Only file (D.moment disk.new).may_leave)) }
+    ensures made { OnOk result (IsTrue (D.moment disk.old).state.honest
+        → IfSome (D.moment disk.old).state.seen (λ seen. length seen ≡ 0
+        → (file : List ℕ) × ((D.moment disk.new).state.seen ≡ Some file) × IsEmptyDatabase file × Only file (D.moment disk.new).may_leave)) }
     ensures same { DiskGoesOn (D.moment disk.old).state (D.moment disk.new).state }
     ensures cause { IfErr result (λ fault. IsDeviceFault fault (D.moment disk.old).state (D.moment disk.new).state) }
 {
@@ -101,7 +104,9 @@ fn make_first<D: Disk>(disk: &mut D) -> Result<(), InitFault>
 /// as it is, also where the disk fails.
 pub fn init<D: Disk>(disk: &mut D) -> Result<(), InitFault>
     ensures init { IfSome (D.moment disk.old).state.seen (λ seen. IsInit seen result) }
-    ensures made { OnOk result (IsTrue (D.moment disk.old).state.honest → IfSome (D.moment disk.old).state.seen (λ _. (file : List ℕ) × ((D.moment disk.new).state.seen ≡ Some file) × IsEmptyDatabase file × Only file (D.moment disk.new).may_leave)) }
+    ensures made { OnOk result (IsTrue (D.moment disk.old).state.honest
+        → IfSome (D.moment disk.old).state.seen (λ _. (file : List ℕ) × ((D.moment disk.new).state.seen ≡ Some file)
+        × IsEmptyDatabase file × Only file (D.moment disk.new).may_leave)) }
     ensures kept { IfErr result (λ fault. WhereNotEmpty fault (OnlySyncs (D.moment disk.old) (D.moment disk.new))) }
     ensures not_written { IfSome (D.moment disk.old).state.seen (λ seen. length seen ≢ 0 → OnlySyncs (D.moment disk.old) (D.moment disk.new)) }
     ensures same { DiskGoesOn (D.moment disk.old).state (D.moment disk.new).state }

@@ -2,17 +2,18 @@
 ghost use Rattle.std.specs.Prelude.{◌≡◌, ◌≤◌, length, slice_index, false, IsTrue, Some, None, IfSome, OnOk, IfOk, IfErr};
 ghost use Rattle.page_slots.specs.Puts.{OnlySyncs};
 ghost use Rattle.page_slots.specs.Standing.{IsSound, OtherHolds};
-ghost use Rattle.afl_outside.specs.Disk.{IsSettled};
-ghost use Rattle.page_layout.specs.Places.{gate_of, other};
-ghost use Rattle.page_layout.specs.Roots.{current};
+ghost use Rattle.page_slots.specs.Disk.{IsSettled};
+ghost use Rattle.page_slots.specs.Places.{gate_of, other};
+ghost use Rattle.page_slots.specs.Roots.{current};
 ghost use Rattle.page_slots.specs.Steps.{first_target};
 ghost use Rattle.page_file.specs.OpeningOpened.{FrontRead, PageLog, LogRead, RecordsRead, IsRead, IsOpened, AreFresh, HasCause};
 
 use crate::opening::reads::{read_page, settle};
-use afl_outside::Disk;
 use page_chain::OpenCause;
-use page_layout::{Format, LOG_ENTRIES, OpenRoot, PAGE, Records, Side, current_in, log_in};
-use page_slots::{NextEntry, RootSlot, Slots, Target};
+use page_slots::{
+    Disk, Format, LOG_ENTRIES, NextEntry, OpenRoot, PAGE, Records, RootSlot, Side, Slots, Target,
+    current_in, log_in,
+};
 
 fn front_of(page: &[u8]) -> Result<(OpenRoot, RootSlot), OpenCause>
     requires { length page.now ≡ 4096 }
@@ -129,7 +130,8 @@ fn target_of(format: Format, records: &Records) -> Target
 
 fn open_parts<D: Disk>(disk: &mut D) -> Result<Slots, OpenCause>
     ensures opened { IfSome (D.moment disk.old).state.seen (λ seen. IsOpened seen result) }
-    ensures other { IfSome (D.moment disk.old).state.seen (λ seen. IfOk result (λ slots. OtherHolds slots.other (other slots.current.side) slots.current.root.sequence seen)) }
+    ensures other { IfSome (D.moment disk.old).state.seen
+        (λ seen. IfOk result (λ slots. OtherHolds slots.other (other slots.current.side) slots.current.root.sequence seen)) }
     ensures durable { OnOk result (IsSettled (D.moment disk.old) (D.moment disk.new)) }
     ensures fresh { IfOk result (λ slots. AreFresh slots) }
     ensures reads { OnlySyncs (D.moment disk.old) (D.moment disk.new) }
@@ -157,7 +159,8 @@ fn open_parts<D: Disk>(disk: &mut D) -> Result<Slots, OpenCause>
 pub fn open_slots<D: Disk>(disk: &mut D) -> Result<Slots, OpenCause>
     ensures opened { IfSome (D.moment disk.old).state.seen (λ seen. IsOpened seen result) }
     ensures durable { OnOk result (IsSettled (D.moment disk.old) (D.moment disk.new)) }
-    ensures sound { IsTrue (D.moment disk.old).state.honest → IfSome (D.moment disk.old).state.seen (λ seen. IfOk result (λ slots. IsSound slots seen (D.moment disk.new).may_leave)) }
+    ensures sound { IsTrue (D.moment disk.old).state.honest
+        → IfSome (D.moment disk.old).state.seen (λ seen. IfOk result (λ slots. IsSound slots seen (D.moment disk.new).may_leave)) }
     ensures fresh { IfOk result (λ slots. AreFresh slots) }
     ensures reads { OnlySyncs (D.moment disk.old) (D.moment disk.new) }
     ensures cause { IfErr result (λ fault. HasCause fault (D.moment disk.old).state (D.moment disk.new).state) }

@@ -1,12 +1,11 @@
 //! Pages that are read whole.
 ghost use Rattle.std.specs.Prelude.{◌≡◌, length, IfSome, IfOk, IfErr, OnOk, MatchBool};
-ghost use Rattle.afl_outside.specs.Disk.{IsSettled};
+ghost use Rattle.page_slots.specs.Disk.{IsSettled};
 ghost use Rattle.page_slots.specs.Puts.{OnlySyncs};
 ghost use Rattle.page_file.specs.OpeningOpened.{HasPage, CutsPage, IsDeviceFault};
 
-use afl_outside::{Disk, Failed, has_risen};
 use page_chain::OpenCause;
-use page_layout::PAGE;
+use page_slots::{Disk, Failed, PAGE, has_risen};
 
 /// Reads a page, and says whether the disk has all of it.
 pub(crate) fn read_page<D: Disk>(
@@ -16,7 +15,8 @@ pub(crate) fn read_page<D: Disk>(
 ) -> Result<bool, OpenCause>
     requires { length page.old ≡ 4096 }
     ensures size { length page.new ≡ 4096 }
-    ensures bytes { IfSome (D.moment disk.old).state.seen (λ seen. IfOk result (λ whole. MatchBool whole (HasPage number page.new seen) (CutsPage number seen))) }
+    ensures bytes { IfSome (D.moment disk.old).state.seen
+        (λ seen. IfOk result (λ whole. MatchBool whole (HasPage number page.new seen) (CutsPage number seen))) }
     ensures reads { OnlySyncs (D.moment disk.old) (D.moment disk.new) }
     ensures cause { IfErr result (λ fault. IsDeviceFault fault (D.moment disk.old).state (D.moment disk.new).state) }
 {

@@ -1,8 +1,8 @@
 //! Blobs and chains, written beside the slots.
 ghost use Rattle.std.specs.Prelude.{◌≡◌, nat_eq, length, OnOk, MatchResult};
-ghost use Rattle.afl_outside.specs.Disk.{FailsWithCause};
+ghost use Rattle.page_slots.specs.Disk.{FailsWithCause};
 ghost use Rattle.std.specs.List.{list_all, list_any};
-ghost use Rattle.page_layout.specs.Places.{KeepsPages};
+ghost use Rattle.page_slots.specs.Places.{KeepsPages};
 ghost use Rattle.page_chain.specs.Pages.{page_size, pages_for, HoldsBlob};
 ghost use Rattle.page_chain.specs.Chains.{content_size, HoldsChain};
 ghost use Rattle.page_chain.specs.Inner.Runs.{OnlyWrites, Sees};
@@ -10,8 +10,7 @@ ghost use Rattle.page_slots.specs.Standing.{IsClosed, KeepsSound, LeavesOpening}
 ghost use Rattle.page_slots.specs.Steps.{emptied};
 ghost use Rattle.page_file.specs.Written.{MayWrite, unwritten, zeroed_by, pages_written, blob_written};
 
-use afl_outside::{Disk, Failed};
-use page_slots::Slots;
+use page_slots::{Disk, Failed, Slots};
 
 fn is_among(pages: &[u32], page: u32) -> bool
     ensures { result ≡ list_any (λ other. nat_eq other page) pages.now }
@@ -68,7 +67,8 @@ pub fn write_blob<D: Disk>(
     ensures slots { MatchResult result (λ _. slots.new ≡ blob_written pages.now bytes.now slots.old) (λ _. slots.new ≡ pages_written pages.now slots.old) }
     ensures sound { KeepsSound slots.old slots.new (D.moment disk.old) (D.moment disk.new) }
     ensures opens { LeavesOpening slots.old (emptied slots.old) (D.moment disk.old) (D.moment disk.new) }
-    ensures seen { Sees (D.moment disk.old).state (D.moment disk.new).state (λ seen now. KeepsPages pages.now seen now × OnOk result (HoldsBlob page_size now pages.now bytes.now)) }
+    ensures seen { Sees (D.moment disk.old).state (D.moment disk.new).state
+        (λ seen now. KeepsPages pages.now seen now × OnOk result (HoldsBlob page_size now pages.now bytes.now)) }
     ensures cause { FailsWithCause result (D.moment disk.old) (D.moment disk.new) }
     ensures writes { OnlyWrites pages.now (D.moment disk.old) (D.moment disk.new) }
 {
@@ -98,7 +98,8 @@ pub fn write_chain<D: Disk>(
     ensures slots { slots.new ≡ pages_written pages.now slots.old }
     ensures sound { KeepsSound slots.old slots.new (D.moment disk.old) (D.moment disk.new) }
     ensures opens { LeavesOpening slots.old (emptied slots.old) (D.moment disk.old) (D.moment disk.new) }
-    ensures seen { Sees (D.moment disk.old).state (D.moment disk.new).state (λ seen now. KeepsPages pages.now seen now × OnOk result (HoldsChain page_size now pages.now bytes.now)) }
+    ensures seen { Sees (D.moment disk.old).state (D.moment disk.new).state
+        (λ seen now. KeepsPages pages.now seen now × OnOk result (HoldsChain page_size now pages.now bytes.now)) }
     ensures cause { FailsWithCause result (D.moment disk.old) (D.moment disk.new) }
     ensures writes { OnlyWrites pages.now (D.moment disk.old) (D.moment disk.new) }
 {

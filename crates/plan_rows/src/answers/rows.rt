@@ -23,6 +23,7 @@ use chunk_exec::{ExecFault, execute};
 use chunk_source::ChunkSource;
 use logical_plan::Plan;
 use std::alloc::Global;
+use std::thread::Threads;
 
 /// What a plan gives: its array's first fault, or else its schema and its rows.
 #[derive(Drop)]
@@ -39,7 +40,8 @@ pub enum PlanArray {
 }
 
 /// What a plan gives over the arrays of a source, in chunks.
-pub fn array_of<S: ChunkSource, G: Gate>(
+pub fn array_of<S: ChunkSource, R: Threads + Sync, G: Gate>(
+    rt: &R,
     alloc: Global,
     plan: &Plan,
     source: &mut S,
@@ -59,7 +61,7 @@ pub fn array_of<S: ChunkSource, G: Gate>(
     ensures cause { Answers (S.state source.old) (S.state source.new) result }
     ensures start { S.start source.new ≡ S.start source.old }
 {
-    match execute(alloc, plan, source, workers, session, gate) {
+    match execute(rt, alloc, plan, source, workers, session, gate) {
         Ok(array) => Ok(array_in(array)),
         Err(fault) => Err(fault),
     }
@@ -80,7 +82,8 @@ fn array_in(array: ChunkedArray) -> PlanArray
 }
 
 /// What a plan gives over the arrays of a source.
-pub fn rows_of<S: ChunkSource, G: Gate>(
+pub fn rows_of<S: ChunkSource, R: Threads + Sync, G: Gate>(
+    rt: &R,
     alloc: Global,
     plan: &Plan,
     source: &mut S,
@@ -99,7 +102,7 @@ pub fn rows_of<S: ChunkSource, G: Gate>(
     ensures cause { Answers (S.state source.old) (S.state source.new) result }
     ensures start { S.start source.new ≡ S.start source.old }
 {
-    match execute(alloc, plan, source, workers, session, gate) {
+    match execute(rt, alloc, plan, source, workers, session, gate) {
         Ok(array) => match rows_in(array) {
             Ok(found) => Ok(found),
             Err(Memory) => Err(ExecFault::Memory),

@@ -42,7 +42,8 @@ fn with_cell(
     requires grid { IsGrid grid.now }
     requires inside { position < volume grid.now.lengths.items }
     requires place { place < length cells.now }
-    ensures { result ≡ sooner least (fault_at (placed (coordinate_in grid.now.low.items grid.now.lengths.items position) (slice_index_or cells.now place (Full [])))) }
+    ensures { result ≡ sooner least (fault_at
+        (placed (coordinate_in grid.now.low.items grid.now.lengths.items position) (slice_index_or cells.now place (Full [])))) }
 {
     match cells.fault(place) {
         None => least,

@@ -42,7 +42,8 @@ landed_with origins taken key = length (filter (λ t. is_eq (row_major (uncounte
 abbrev pub AreNumbered : List Origin → List Coordinate → Type 0
 AreNumbered origins [] = ⊤
 AreNumbered origins (t ∷ taken) =
-    ((first : Coordinate) × (length first ≡ length origins) × HasLows origins first × (t ≡ counted_up origins (landed_with origins taken (uncounted origins first)) first))
+    ((first : Coordinate) × (length first ≡ length origins) × HasLows origins first
+    × (t ≡ counted_up origins (landed_with origins taken (uncounted origins first)) first))
     × AreNumbered origins taken
 
 -- the counts are those of the targets so far

@@ -9,7 +9,8 @@ use Rattle.cell_values.specs.declared.datum.Row.{Row}
 use Rattle.cell_values.specs.declared.schema.Bounds.{Bounds}
 use Rattle.array_rows.specs.Rows.{Coordinate}
 use Rattle.logical_plan.specs.Faults.{if_whole}
-use Rattle.logical_plan.specs.Redimension.{Origin, Landed, lands, drops, breaks, counted_places, alike_so_far, counted_up, landing_at, landing_of, landed, carried}
+use Rattle.logical_plan.specs.Redimension.{Origin, Landed, lands, drops, breaks, counted_places}
+use Rattle.logical_plan.specs.Redimension.{alike_so_far, counted_up, landing_at, landing_of, landed, carried}
 use Rattle.redimension_exec.specs.Inner.Counting.{AreCountsOf}
 
 -- of a cell with these first numbers: the fault that breaks the array, or the target, which is then counted
@@ -40,5 +41,6 @@ abbrev pub IsStep : List Origin → Bounds → List Origin → List Row → Row 
 IsStep origins bounds values made row (Some kind) made' counts =
     (rows : List Row) → landed origins bounds true (row ∷ rows) (targets_of made) ≡ Err (record { at = row.at; kind = kind })
 IsStep origins bounds values made row None made' counts =
-    ((rows : List Row) → continued values made (landed origins bounds true (row ∷ rows) (targets_of made)) ≡ continued values made' (landed origins bounds true rows (targets_of made')))
+    ((rows : List Row) → continued values made (landed origins bounds true (row ∷ rows) (targets_of made))
+    ≡ continued values made' (landed origins bounds true rows (targets_of made')))
     × AreCountsOf origins (targets_of made') counts

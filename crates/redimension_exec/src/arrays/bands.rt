@@ -26,7 +26,8 @@ fn groups_in_band(
     requires few { length target.now.dimensions ≤ 6 }
     requires plain { has_counted (map (origin_of source.now) target.now.dimensions) ≡ false }
     requires bands { AreBands source.now margins.now.items chunks.now }
-    ensures groups { IfOk result (AreGroupsLanded aggregates.now (map (origin_of source.now) target.now.dimensions) (bounds_of target.now.dimensions) (core_rows source.now.dimensions margins.now.items chunks.now)) }
+    ensures groups { IfOk result (AreGroupsLanded aggregates.now (map (origin_of source.now) target.now.dimensions)
+        (bounds_of target.now.dimensions) (core_rows source.now.dimensions margins.now.items chunks.now)) }
     ensures cells { IfOk result (λ made. IfOk made (λ groups. cells_in groups.groups ≤ length (core_rows source.now.dimensions margins.now.items chunks.now))) }
 {
     let rows = rows_of_chunks(source, margins, chunks)?;
@@ -45,7 +46,8 @@ pub(crate) fn groups_in_bands(
     requires few { length target.now.dimensions ≤ 6 }
     requires plain { has_counted (map (origin_of source.now) target.now.dimensions) ≡ false }
     requires bands { AreBands source.now margins.now.items chunks.now }
-    ensures groups { IfOk result (AreGroupsLanded aggregates.now (map (origin_of source.now) target.now.dimensions) (bounds_of target.now.dimensions) (core_rows source.now.dimensions margins.now.items chunks.now)) }
+    ensures groups { IfOk result (AreGroupsLanded aggregates.now (map (origin_of source.now) target.now.dimensions)
+        (bounds_of target.now.dimensions) (core_rows source.now.dimensions margins.now.items chunks.now)) }
     ensures cells { IfOk result (λ made. IfOk made (λ groups. cells_in groups.groups ≤ length (core_rows source.now.dimensions margins.now.items chunks.now))) }
 {
     let half = half_of_bands(source, chunks);

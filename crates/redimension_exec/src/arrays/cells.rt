@@ -20,7 +20,8 @@ use exec_group::rows_of_cores;
 fn carried_from(array: ChunkedArray, target: &Schema) -> Result<Result<List<Row>, Broken>, Memory>
     requires cells { HaveCells array.schema array.margins.items array.chunks }
     requires valid { IsValid target.now }
-    ensures { IfOk result (λ made. made ≡ carried_rows (map (origin_of array.schema) target.now.dimensions) (bounds_of target.now.dimensions) (map (value_origin array.schema) target.now.attributes) (cores_of array)) }
+    ensures { IfOk result (λ made. made ≡ carried_rows (map (origin_of array.schema) target.now.dimensions)
+        (bounds_of target.now.dimensions) (map (value_origin array.schema) target.now.attributes) (cores_of array)) }
 {
     let source = array.schema.copy()?;
     let rows = rows_of_cores(array)?;

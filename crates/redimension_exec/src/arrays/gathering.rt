@@ -30,7 +30,8 @@ pub(crate) fn gathered_rows(
     requires valid { IsValid target.now }
     requires typed { IsTrue (redimensions source.now target.now aggregates.now) }
     requires some { 1 ≤ length aggregates.now }
-    ensures values { IfOk result (λ made. made ≡ gathered_rows (map (origin_of source.now) target.now.dimensions) (bounds_of target.now.dimensions) target.now.attributes aggregates.now rows) }
+    ensures values { IfOk result (λ made. made ≡ gathered_rows (map (origin_of source.now) target.now.dimensions)
+        (bounds_of target.now.dimensions) target.now.attributes aggregates.now rows) }
     ensures rows { IfOk result (λ made. IfOk made (AreRowsOf target.now)) }
 {
     let ordered = aggregates_named(&target.attributes, aggregates)?;
@@ -57,7 +58,8 @@ pub(crate) fn gathered_in_bands(
     requires valid { IsValid target.now }
     requires typed { IsTrue (redimensions array.now.schema target.now aggregates.now) }
     requires some { 1 ≤ length aggregates.now }
-    ensures values { IfOk result (λ made. made ≡ gathered_rows (map (origin_of array.now.schema) target.now.dimensions) (bounds_of target.now.dimensions) target.now.attributes aggregates.now (cores_of array.now)) }
+    ensures values { IfOk result (λ made. made ≡ gathered_rows (map (origin_of array.now.schema) target.now.dimensions)
+        (bounds_of target.now.dimensions) target.now.attributes aggregates.now (cores_of array.now)) }
     ensures rows { IfOk result (λ made. IfOk made (AreRowsOf target.now)) }
 {
     let ordered = aggregates_named(&target.attributes, aggregates)?;

@@ -47,7 +47,8 @@ pub fn carried_rows(
     rows: &List<Row>,
 ) -> Result<Result<List<Row>, Broken>, Memory>
     requires { length target.now.dimensions ≤ 6 }
-    ensures { IfOk result (λ made. made ≡ carried_rows (map (origin_of source.now) target.now.dimensions) (bounds_of target.now.dimensions) (map (value_origin source.now) target.now.attributes) rows.now) }
+    ensures { IfOk result (λ made. made ≡ carried_rows (map (origin_of source.now) target.now.dimensions)
+        (bounds_of target.now.dimensions) (map (value_origin source.now) target.now.attributes) rows.now) }
 {
     let dimensions = target.dimensions.as_slice();
     let places = places_of_dimensions(source, dimensions)?;

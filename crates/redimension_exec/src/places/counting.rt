@@ -1,5 +1,6 @@
 //! How many cells landed before with the same numbers.
-ghost use Rattle.std.specs.Prelude.{◌≡◌, ◌+◌, ◌≤◌, ◌++◌, ◌<◌, ◌∷◌, ◌+ℤ◌, ◌&&◌, not, [], pos, int_le, nat_lt, Some, None, length, map, false, IsTrue, OnOk, IfSome};
+ghost use Rattle.std.specs.Prelude.{◌≡◌, ◌+◌, ◌≤◌, ◌++◌, ◌<◌, ◌∷◌, ◌+ℤ◌, ◌&&◌, not, [], pos, int_le};
+ghost use Rattle.std.specs.Prelude.{nat_lt, Some, None, length, map, false, IsTrue, OnOk, IfSome};
 ghost use Rattle.std.specs.BTreeMap as tree;
 ghost use Rattle.std.specs.BTreeMap.{Updates};
 ghost use Rattle.std.specs.Option.{unwrap_or};

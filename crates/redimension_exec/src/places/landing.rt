@@ -21,7 +21,8 @@ fn place(
 ) -> Result<Result<Coord, FaultKind>, Memory>
     requires each { length first.now.items ≡ length places.now }
     requires lows { HasLows (map origin places.now) first.now.items }
-    ensures { (taken : Items Coordinate) → AreCountsOf (map origin places.now) taken counts.old → IfOk result (λ placed. IsPlaced (map origin places.now) bounds.now taken first.now.items placed counts.new) }
+    ensures { (taken : Items Coordinate) → AreCountsOf (map origin places.now) taken counts.old
+        → IfOk result (λ placed. IsPlaced (map origin places.now) bounds.now taken first.now.items placed counts.new) }
 {
     let key = uncounted(places, first);
     let count = count_of(counts, &key);
@@ -44,7 +45,8 @@ fn land(
     row: &Row,
 ) -> Result<Result<Option<Coord>, FaultKind>, Memory>
     requires { length places.now ≤ 6 }
-    ensures { (taken : Items Coordinate) → AreCountsOf (map origin places.now) taken counts.old → IfOk result (λ landed. IsLanded (map origin places.now) bounds.now taken row.now.at.items row.now.cell landed counts.new) }
+    ensures { (taken : Items Coordinate) → AreCountsOf (map origin places.now) taken counts.old
+        → IfOk result (λ landed. IsLanded (map origin places.now) bounds.now taken row.now.at.items row.now.cell landed counts.new) }
 {
     match first_numbers(places, row) {
         Err(kind) => Ok(Err(kind)),

@@ -1,8 +1,8 @@
 -- The tokens of a schema's text.
 use Rattle.std.specs.Prelude.{◌≢◌, ℕ, suc, ◌^◌, ◌<◌, ℤ, pos, negsuc, unsigned_abs, Bool, true, false, ◌==◌, if◌then◌else◌, List, [], ◌∷◌, map}
 use Rattle.std.specs.List.{AllByRecursion}
-use Rattle.cell_values.specs.Naming.{IsName}
-use Rattle.cell_values.specs.declared.name.Span.{Span}
+use Rattle.afl_lexer.specs.Naming.{IsName}
+use Rattle.afl_lexer.specs.Span.{Span}
 use Rattle.afl_lexer.specs.Lexemes.{a_name, a_number, a_word, a_symbol}
 use Rattle.afl_lexer.specs.Spelling.{Mark, a_space, says}
 use Rattle.afl_lexer.specs.declared.token.Word.TheVariants.{Not, Null}
@@ -56,7 +56,8 @@ abbrev pub lengths_marks : ℕ → ℕ → List Mark → List Mark
 lengths_marks chunk overlap rest = says (a_symbol Comma) ∷ says (a_number (pos chunk)) ∷ says (a_symbol Comma) ∷ says (a_number (pos overlap)) ∷ rest
 
 abbrev pub dim_marks : DimText → List Mark → List Mark
-dim_marks d rest = says (a_name d.name) ∷ says (a_symbol Equal) ∷ bound_marks d.lo (says (a_symbol Colon) ∷ high_marks d.hi (lengths_marks d.chunk d.overlap rest))
+dim_marks d rest = says (a_name d.name) ∷ says (a_symbol Equal) ∷ bound_marks d.lo
+    (says (a_symbol Colon) ∷ high_marks d.hi (lengths_marks d.chunk d.overlap rest))
 
 abbrev pub attrs_marks : List AttrText → List Mark → List Mark
 attrs_marks [] rest = rest
@@ -69,7 +70,8 @@ dims_marks (d ∷ []) rest = dim_marks d rest
 dims_marks (d ∷ e ∷ es) rest = dim_marks d (says (a_symbol Comma) ∷ dims_marks (e ∷ es) rest)
 
 abbrev pub shape_marks : SchemaText → List Mark → List Mark
-shape_marks t rest = says (a_symbol Less) ∷ attrs_marks t.attributes (says (a_symbol More) ∷ says (a_symbol LeftBracket) ∷ dims_marks t.dimensions (says (a_symbol RightBracket) ∷ rest))
+shape_marks t rest = says (a_symbol Less) ∷ attrs_marks t.attributes
+    (says (a_symbol More) ∷ says (a_symbol LeftBracket) ∷ dims_marks t.dimensions (says (a_symbol RightBracket) ∷ rest))
 
 -- Names are names, and numbers are those of tokens.
 

@@ -3,8 +3,8 @@ use Rattle.std.specs.Prelude.{[], None, Some, Result, Ok, Err}
 use Rattle.afl_outside.specs.Counts.{risen}
 use Rattle.chunk_source.specs.declared.sources.fault.SourceFault.{SourceFault}
 use Rattle.chunk_source.specs.declared.sources.fault.SourceFault.TheVariants.{Failed, Damaged as Spoiled, Memory as Wanting}
-use Rattle.store_state.specs.declared.fault.ReadFault.{ReadFault}
-use Rattle.store_state.specs.declared.fault.ReadFault.TheVariants.{Disk, Damaged, Memory}
+use Rattle.snapshot_manager.specs.ReadFault.{ReadFault}
+use Rattle.snapshot_manager.specs.ReadFault.TheVariants.{Disk, Damaged, Memory}
 use Rattle.session_sources.specs.declared.marks.Marks.{Marks}
 
 -- before the first call

@@ -11,7 +11,7 @@ use Rattle.page_file.specs.OpeningOpened.{AreFresh}
 use Rattle.version_catalog.specs.Catalogs.{names_in}
 use Rattle.file_meaning.specs.Opening.{found_in}
 use Rattle.file_meaning.specs.declared.found.Found.{Found}
-use Rattle.file_reading.specs.Reading.{IsFound, LieApart, slots_of}
+use Rattle.store_bases.specs.Reading.{IsFound, LieApart, slots_of}
 use Rattle.store_bases.specs.Bases.{base_core}
 use Rattle.store_ledger.specs.Ledger.{LedgerState}
 use Rattle.store_versions.specs.Rows.{first_rows}

@@ -17,8 +17,8 @@ use Rattle.version_reaper.specs.PageSets.{holds}
 use Rattle.logical_plan.specs.declared.names.Names.{Names}
 use Rattle.plan_changes.specs.Changes.{entry_named}
 use Rattle.plan_changes.specs.Databases.{Database, names_of, rows_of}
-use Rattle.file_meaning.specs.Opening.{all_of, are_pages}
-use Rattle.file_meaning.specs.Standing.{HoldsVersion}
+use Rattle.file_laws.specs.Opening.{all_of, are_pages}
+use Rattle.file_laws.specs.Standing.{HoldsVersion}
 use Rattle.event_core.specs.declared.state.VersionPages.{VersionPages}
 use Rattle.event_core.specs.History.{History, OpenPin}
 use Rattle.event_core.specs.Legal.{has_committed}

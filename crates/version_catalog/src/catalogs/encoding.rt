@@ -6,8 +6,9 @@ ghost use Rattle.file_items.specs.Spelling.{spell_name, spell_schema};
 ghost use Rattle.version_catalog.specs.Spelling.{spell_blob, versions_at, spell_version, spell_array, spelling, spell_record};
 
 use crate::rules::{BlobAt, Catalog, CatalogArray, CatalogRecord};
-use cell_values::{Bytes, Memory, Name, Schema};
-use file_items::{put_count, put_name, put_pages, put_schema, put_u32, put_u64};
+use file_items::{
+    Bytes, Memory, Name, Schema, put_count, put_name, put_pages, put_schema, put_u32, put_u64,
+};
 use std::alloc::Global;
 
 #[tactic(auto, unfolding(crate::specs::Spelling::spell_blob))]

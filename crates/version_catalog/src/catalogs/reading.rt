@@ -4,11 +4,11 @@ ghost use Rattle.std.specs.Option.{option_copied};
 ghost use Rattle.file_items.specs.Items.{IsRead, repeat};
 ghost use Rattle.plan_changes.specs.Stored.{is_before};
 ghost use Rattle.version_catalog.specs.Spelling.{versions_at};
-ghost use Rattle.version_catalog.specs.Table.{blob_at, is_version, version_at, next_version, number_in, numbered_at, content_at, items_at, is_next_name, array_at, next_array, name_in, last_name, catalog_in};
+ghost use Rattle.version_catalog.specs.Table.{blob_at, is_version, version_at, next_version, number_in, numbered_at, content_at};
+ghost use Rattle.version_catalog.specs.Table.{items_at, is_next_name, array_at, next_array, name_in, last_name, catalog_in};
 
 use crate::rules::{BlobAt, Catalog, CatalogArray};
-use cell_values::{List, Name};
-use file_items::{Stop, name, pages, positive, schema, u32_at};
+use file_items::{List, Name, Stop, name, pages, positive, schema, u32_at};
 use plan_changes::NameEntry;
 use std::alloc::Global;
 

@@ -5,8 +5,7 @@ ghost use Rattle.version_catalog.specs.Table.{named_schema_at, first_version_at,
 
 use crate::catalogs::reading::blob;
 use crate::rules::{BlobAt, CatalogRecord};
-use cell_values::{Name, Schema};
-use file_items::{Stop, name, schema, u32_at};
+use file_items::{Name, Schema, Stop, name, schema, u32_at};
 use std::alloc::Global;
 
 #[tactic(auto, unfolding(crate::specs::Table::named_schema_at))]

@@ -1,7 +1,7 @@
 //! Catalogues of stored arrays.
 ghost use Rattle.std.specs.Prelude.{◌≡◌, IfOk};
 
-use cell_values::{Copies, List, Memory};
+use file_items::{Copies, List, Memory};
 use plan_changes::NameEntry;
 
 /// Some bytes of the file.

@@ -2,7 +2,7 @@
 ghost use Rattle.std.specs.Prelude.{◌≡◌, IfOk};
 
 use crate::rules::BlobAt;
-use cell_values::{Copies, Memory, Name, Schema};
+use file_items::{Copies, Memory, Name, Schema};
 
 /// What a commit changes in the catalogue.
 #[derive(Drop)]

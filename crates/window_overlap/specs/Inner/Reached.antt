@@ -6,4 +6,5 @@ use Rattle.array_rows.specs.Boxes.{by_pairs, corners}
 use Rattle.logical_plan.specs.declared.parts.Reach.{Reach}
 
 abbrev pub reached : List Reach → Bounds → Bounds
-reached reach area = corners (by_pairs (λ x r. saturate_signed w64 (x -ℤ pos r.before)) area.lo.items reach) (by_pairs (λ x r. saturate_signed w64 (x +ℤ pos r.after)) area.hi.items reach)
+reached reach area = corners (by_pairs (λ x r. saturate_signed w64 (x -ℤ pos r.before)) area.lo.items reach)
+    (by_pairs (λ x r. saturate_signed w64 (x +ℤ pos r.after)) area.hi.items reach)

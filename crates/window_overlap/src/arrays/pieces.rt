@@ -9,16 +9,20 @@ ghost use Rattle.array_geom.specs.Link.{Is, IsPart, NumbersRise, core_rows, numb
 ghost use Rattle.array_parts.specs.Cores.{HaveCells, cores_of, meant_by_cores};
 ghost use Rattle.array_parts.specs.Placed.{HasPlaces};
 ghost use Rattle.chunk_cells.specs.Frames.{HasFrames};
+ghost use Rattle.area_cells.specs.Pieces.{IsPartAt};
 ghost use Rattle.logical_plan.specs.Groups.{window_rows};
 ghost use Rattle.logical_plan.specs.PlanSchema.{window_schema};
 ghost use Rattle.logical_plan.specs.Typing.{are_aggregates_of, are_windows_of};
 ghost use Rattle.window_overlap.specs.Meant.{window_meant};
 
 use crate::chunks::{reach_of, windows_inside};
-use area_cells::{array_of_parts, chunk_of_rows, rows_in_area};
+use afl_outside::Gate;
+use area_cells::{array_of_parts, chunk_of_rows, numbers_of, rows_in_area};
 use array_geom::{Chunk, ChunkedArray, frame, margins_of};
 use cell_values::{Bounds, ChunkAt, List, Margins, Memory, Row, Schema};
+use chunk_workers::{Crew, Work, over_pieces};
 use logical_plan::{Aggregate, Reach};
+use std::thread::Threads;
 
 /// The windows in a box, from the rows that they reach. More rows than can be counted are as good as no memory.
 fn windows_in(
@@ -77,7 +81,40 @@ fn window_part(
     Ok(made)
 }
 
-fn window_parts(
+/// An array and its windows, and the schema and the margins of the array whose chunks are to hold them.
+#[derive(Drop)]
+struct OfArray<'a> {
+    array: &'a ChunkedArray,
+    reach: &'a [Reach],
+    aggs: &'a [Aggregate],
+    target: &'a Schema,
+    margins: &'a Margins,
+}
+
+impl Work<ChunkAt, Chunk> for OfArray<'_> {
+    ghost accepts = { λ of number. HaveCells of.array.now.schema of.array.now.margins.items of.array.now.chunks
+        × NumbersRise (numbers of.array.now.chunks)
+        × IsTrue (are_windows_of of.array.now.schema of.reach.now)
+        × IsTrue (are_aggregates_of of.array.now.schema.attributes of.aggs.now)
+        × (of.target.now.dimensions ≡ of.array.now.schema.dimensions)
+        × HasFrame of.target.now of.margins.now.items number.items };
+
+    ghost gives = { λ of number made. IsPartAt of.target.now of.margins.now.items (window_rows of.reach.now of.aggs.now (cores_of of.array.now)) number made };
+
+    fn work(&self, number: ChunkAt) -> Result<Chunk, Memory> {
+        window_part(
+            self.array,
+            self.reach,
+            self.aggs,
+            self.target,
+            self.margins,
+            &number,
+        )
+    }
+}
+
+fn window_parts<R: Threads + Sync, G: Gate>(
+    crew: &mut Crew<'_, R, G>,
     array: &ChunkedArray,
     reach: &[Reach],
     aggs: &[Aggregate],
@@ -94,16 +131,21 @@ fn window_parts(
     ensures places { IfOk result (AllByRecursion (HasPlaces target.now margins.now.items)) }
     ensures parts { IfOk result (AllByRecursion (IsPart target.now.dimensions margins.now.items (window_rows reach.now aggs.now (cores_of array.now)))) }
 {
-    let mut parts = array.chunks.another();
-    for chunk in array.chunks.as_slice() {
-        parts.push(window_part(array, reach, aggs, target, margins, &chunk.at)?)?;
-    }
-    Ok(parts)
+    let pieces = numbers_of(&array.chunks)?;
+    let of = OfArray {
+        array,
+        reach,
+        aggs,
+        target,
+        margins,
+    };
+    over_pieces(crew, pieces, &of)
 }
 
 /// The windows of an array that is not broken, chunk by chunk.
 #[tactic(auto, using(array_geom::proofs::MarginLaws::overlap_each, array_geom::proofs::MarginLaws::overlap_places))]
-pub(crate) fn by_parts(
+pub(crate) fn by_parts<R: Threads + Sync, G: Gate>(
+    crew: &mut Crew<'_, R, G>,
     array: ChunkedArray,
     reach: &[Reach],
     aggs: &[Aggregate],
@@ -122,6 +164,6 @@ pub(crate) fn by_parts(
     ensures margins { IfOk result (λ made. made.margins.items ≡ overlaps target.now.dimensions) }
 {
     let margins = margins_of(target);
-    let parts = window_parts(&array, reach, aggs, target, &margins)?;
+    let parts = window_parts(crew, &array, reach, aggs, target, &margins)?;
     array_of_parts(target, &margins, parts)
 }

@@ -10,12 +10,15 @@ ghost use Rattle.window_overlap.specs.Meant.{window_meant};
 
 use crate::arrays::pieces::by_parts;
 use crate::chunks::windows_of_rows;
+use afl_outside::Gate;
 use area_cells::{are_few, are_rising};
 use array_geom::{ChunkedArray, margins_of};
 use cell_values::{Memory, Schema};
 use chunk_cells::{assemble, broken_array};
+use chunk_workers::Crew;
 use exec_group::rows_of_cores;
 use logical_plan::{Aggregate, Reach};
+use std::thread::Threads;
 
 /// The windows of an array that is not broken.
 #[tactic(auto, using(array_geom::proofs::MarginLaws::overlap_each, array_geom::proofs::MarginLaws::overlap_places))]
@@ -64,7 +67,8 @@ fn at_once(
 
 /// The aggregates of the cells in the window around each cell: an array of the target, chunk by chunk where the numbers of the chunks
 /// rise, as those of an array do. A cell in doubt stays one. What the array's margins hold doesn't matter.
-pub fn window(
+pub fn window<R: Threads + Sync, G: Gate>(
+    crew: &mut Crew<'_, R, G>,
     array: ChunkedArray,
     reach: &[Reach],
     aggs: &[Aggregate],
@@ -82,7 +86,7 @@ pub fn window(
         && are_few(array.chunks.as_slice())
         && are_rising(array.chunks.as_slice(), array.schema.dimensions.len());
     if parts {
-        by_parts(array, reach, aggs, target)
+        by_parts(crew, array, reach, aggs, target)
     } else {
         at_once(array, reach, aggs, target)
     }

@@ -16,7 +16,8 @@ use logical_plan::Aggregate;
 /// A state that has taken further rows.
 fn with_rows(state: AggState, attribute: u32, rows: &[Row]) -> Result<AggState, Memory>
     requires room { state.cells + length rows.now < 2 ^ 63 }
-    ensures stands { IfOk result (λ made. (g : Wanted) (before : Items Placed) → StandsFor g before state → g.attribute ≡ attribute → IsRising (before ++ rows.now) → StandsFor g (before ++ rows.now) made) }
+    ensures stands { IfOk result (λ made. (g : Wanted) (before : Items Placed) → StandsFor g before state
+        → g.attribute ≡ attribute → IsRising (before ++ rows.now) → StandsFor g (before ++ rows.now) made) }
     ensures cells { IfOk result (λ made. made.cells ≡ state.cells + length rows.now) }
 {
     let mut state = state;

@@ -27,7 +27,8 @@ pub(crate) fn window_cell(
     requires numbers { length area.now.lo.items ≤ 6 }
     requires rising { IsRising rows.now }
     requires typed { CanAggregate aggs.now rows.now }
-    ensures { (reach : Items Reached) (c : Coordinate) → area.now ≡ window reach c → IfOk result (λ made. Some made ≡ window_cell reach aggs.now rows.now c cell.now) }
+    ensures { (reach : Items Reached) (c : Coordinate) → area.now ≡ window reach c
+        → IfOk result (λ made. Some made ≡ window_cell reach aggs.now rows.now c cell.now) }
 {
     match cell {
         Cell::Full(_) => {

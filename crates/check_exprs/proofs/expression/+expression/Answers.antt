@@ -1,5 +1,5 @@
 use Rattle.std.proofs.Common.{◌≡◌, length, List, None, Some, Err, sym, subst, arith}
-use Rattle.afl_trees.specs.Term.{Term, to_terms}
+use Rattle.check_rules.specs.Term.{Term, to_terms}
 use Rattle.check_rules.specs.Checked.{Answers, Checked, refused}
 use Rattle.check_exprs.specs.Expressions.{typed_call}
 use Rattle.check_rules.specs.declared.rules.operator.Form.TheVariants.{Iif, One}

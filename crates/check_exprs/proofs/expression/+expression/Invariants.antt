@@ -1,5 +1,5 @@
 use Rattle.std.proofs.Common.{◌+◌, ◌*◌}
-use Rattle.afl_trees.specs.Term.{to_terms, term_size, terms_size}
+use Rattle.check_rules.specs.Term.{to_terms, term_size, terms_size}
 use Rattle.check_exprs.proofs.expression.+expression.Given as goal
 
 abbrev pub decreases-typed : goal.decreases-typed

@@ -1,7 +1,7 @@
 use Rattle.std.proofs.Common.{subst}
 use Rattle.cell_values.specs.declared.schema.Schema.{Schema}
 use Rattle.check_rules.specs.Checked.{Answers}
-use Rattle.check_groups.specs.Windows.{window_parts}
+use Rattle.check_joins.specs.Windows.{window_parts}
 use Rattle.check_queries.proofs.group_calls.window_over.Goals as goal
 
 pub returns : goal.returns

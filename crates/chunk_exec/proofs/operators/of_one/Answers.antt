@@ -20,7 +20,7 @@ use Rattle.logical_plan.proofs.SchemaLaws.{typed_valid}
 use Rattle.chunk_exec.proofs.operators.of_one.Goals as goal
 
 pub returns-in-Filter : goal.returns-in-Filter
-returns-in-Filter c =
+returns-in-Filter g c =
     let array = c.args.array in
     let source = c.in-Filter.field-0.value in
     let test = c.in-Filter.test in
@@ -32,7 +32,7 @@ returns-in-Filter c =
     (subst (λ (z : Query). IfOk c.filter.result (IsMadeOf (filter_rows test) (schema_of z) array)) is c.filter.ensures))
 
 pub returns-in-Apply : goal.returns-in-Apply
-returns-in-Apply c =
+returns-in-Apply g c =
     let array = c.args.array in
     let source = c.in-Apply.field-0.value in
     let values = c.in-Apply.values in
@@ -44,7 +44,7 @@ returns-in-Apply c =
     (subst (λ (z : Query). IfOk c.apply.result (IsMadeOf (apply_rows values) (schema_of z) array)) is c.apply.ensures))
 
 pub returns-in-Project : goal.returns-in-Project
-returns-in-Project c =
+returns-in-Project g c =
     let array = c.args.array in
     let source = c.in-Project.field-0.value in
     let places = c.in-Project.places in
@@ -56,7 +56,7 @@ returns-in-Project c =
     (subst (λ (z : Query). IfOk c.project.result (IsMadeOf (project_rows places) (schema_of z) array)) is c.project.ensures))
 
 pub returns-in-Between : goal.returns-in-Between
-returns-in-Between c =
+returns-in-Between g c =
     let array = c.args.array in
     let source = c.in-Between.field-0.value in
     let area = c.in-Between.area in
@@ -68,7 +68,7 @@ returns-in-Between c =
     (subst (λ (z : Query). IfOk c.between.result (IsMadeOf (within area) (schema_of z) array)) is c.between.ensures))
 
 pub returns-in-Subarray : goal.returns-in-Subarray
-returns-in-Subarray c =
+returns-in-Subarray g c =
     let array = c.args.array in
     let source = c.in-Subarray.field-0.value in
     let area = c.in-Subarray.area in
@@ -79,7 +79,7 @@ returns-in-Subarray c =
     (if_ok (λ made. Is made (part_meant area (meant_by_cores array))) (IsResultOf query (array ∷ [])) c.subarray_owned.result (λ made h. subarray_result source area array made can h) c.subarray_owned.ensures.array)
 
 pub returns-in-Slice : goal.returns-in-Slice
-returns-in-Slice c =
+returns-in-Slice g c =
     let array = c.args.array in
     let source = c.in-Slice.field-0.value in
     let fixed = c.in-Slice.fixed in
@@ -91,7 +91,7 @@ returns-in-Slice c =
     (subst (λ (z : List Fixed). IfOk c.slice_owned.result (λ made. Is made (slice_meant z (meant_by_cores array)))) c.as_slice.ensures c.slice_owned.ensures.array))
 
 pub returns-in-Redimension : goal.returns-in-Redimension
-returns-in-Redimension c =
+returns-in-Redimension g c =
     let array = c.args.array in
     let source = c.in-Redimension.field-0.value in
     let schema = c.in-Redimension.schema in
@@ -103,7 +103,7 @@ returns-in-Redimension c =
     (subst (λ (z : List Aggregate). IfOk c.redimension.result (λ made. Is made (redimensioned_from schema z (meant_by_cores array)))) c.as_slice-in-Redimension.ensures c.redimension.ensures.array))
 
 pub returns-in-Regrid : goal.returns-in-Regrid
-returns-in-Regrid c =
+returns-in-Regrid g c =
     let array = c.args.array in
     let source = c.in-Regrid.field-0.value in
     let blocks = c.in-Regrid.blocks in
@@ -115,7 +115,7 @@ returns-in-Regrid c =
     (if_ok (λ made. Is made (regrid_meant blocks aggs (meant_by_cores array))) (IsResultOf query (array ∷ [])) c.regrid.result (λ made h. regrid_result source blocks aggs array made can h) c.regrid.ensures)
 
 pub returns-in-Window : goal.returns-in-Window
-returns-in-Window c =
+returns-in-Window g c =
     let array = c.args.array in
     let source = c.in-Window.field-0.value in
     let reach = c.in-Window.reach in
@@ -127,7 +127,7 @@ returns-in-Window c =
     (if_ok (λ made. Is made (window_meant reach aggs (meant_by_cores array))) (IsResultOf query (array ∷ [])) c.window.result (λ made h. window_result source reach aggs array made can h) c.window.ensures)
 
 pub returns-in-Aggregate : goal.returns-in-Aggregate
-returns-in-Aggregate c =
+returns-in-Aggregate g c =
     let array = c.args.array in
     let source = c.in-Aggregate.field-0.value in
     let aggs = c.in-Aggregate.aggs in
@@ -139,7 +139,7 @@ returns-in-Aggregate c =
     (if_ok (λ made. Is made (aggregate_meant aggs places (meant_by_cores array))) (IsResultOf query (array ∷ [])) c.aggregate.result (λ made h. aggregate_result source aggs places array made can h) c.aggregate.ensures)
 
 pub filter-requires-clause-valid : goal.filter-requires-clause-valid
-filter-requires-clause-valid c = typed_valid c.args.plan.now c.requires.typed
+filter-requires-clause-valid g c κs lives = typed_valid c.args.plan.now c.requires.typed
 
 pub between-requires-clause-valid : goal.between-requires-clause-valid
-between-requires-clause-valid c = typed_valid c.args.plan.now c.requires.typed
+between-requires-clause-valid g c κs lives = typed_valid c.args.plan.now c.requires.typed

@@ -11,7 +11,7 @@ use Rattle.chunk_exec.proofs.OperatorLaws.{if_ok, join_result, cross_result}
 use Rattle.chunk_exec.proofs.operators.of_two.Goals as goal
 
 pub returns-in-Join : goal.returns-in-Join
-returns-in-Join c =
+returns-in-Join g c =
     let a = c.args.left in
     let b = c.args.right in
     let left = c.in-Join.field-0.value in
@@ -23,7 +23,7 @@ returns-in-Join c =
     (if_ok (λ made. Is made (join_meant schema (meant_by_cores a) (meant_by_cores b))) (IsResultOf query (a ∷ b ∷ [])) c.join.result (join_result left right schema a b) c.join.ensures.array)
 
 pub returns-in-CrossJoin : goal.returns-in-CrossJoin
-returns-in-CrossJoin c =
+returns-in-CrossJoin g c =
     let a = c.args.left in
     let b = c.args.right in
     let left = c.in-CrossJoin.field-0.value in

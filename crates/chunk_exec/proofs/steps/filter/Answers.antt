@@ -6,4 +6,4 @@ use Rattle.logical_plan.specs.CellOps.{filter_rows}
 use Rattle.chunk_exec.proofs.steps.filter.Goals as goal
 
 pub returns : goal.returns
-returns c = subst (λ (z : Schema). IfOk c.filter.result (IsMadeOf (filter_rows c.args.test.now) z c.args.array)) c.in_ok-schema_of.ensures.value c.filter.ensures
+returns g c = subst (λ (z : Schema). IfOk c.filter.result (IsMadeOf (filter_rows c.args.test.now) z c.args.array)) c.in_ok-schema_of.ensures.value c.filter.ensures

@@ -1,6 +1,6 @@
 use Rattle.std.proofs.Common.{◌≡◌, ◌<◌, ◌^◌, length, map, take}
 use Rattle.std.specs.List.{AllByRecursion}
-use Rattle.chunk_rle.specs.Chunks.{spelling}
+use Rattle.commit_costs.specs.Chunks.{spelling}
 use Rattle.commit_pages.specs.Versions.{drafted}
 use Rattle.commit_pages.proofs.written.drafted_payloads.Given as goal
 

@@ -2,11 +2,11 @@ use Rattle.std.proofs.Common.{◌≡◌, ◌<◌, ◌⊎◌, inl, inr, ⊎_elim,
 use Rattle.afl_outside.specs.Disk.{Only}
 use Rattle.page_layout.specs.Opens.{OpensAs}
 use Rattle.page_chain.proofs.RunLemmas.{goes}
-use Rattle.page_slots.specs.Standing.{target_page, MayOpen}
-use Rattle.page_slots.specs.Steps.{emptied, with_root}
-use Rattle.page_slots.specs.declared.slots.Slots.{Slots}
-use Rattle.page_slots.specs.declared.slots.Target.{Target}
-use Rattle.page_slots.specs.declared.slots.RootSlot.TheVariants as roots
+use Rattle.page_file.specs.Standing.{target_page, MayOpen}
+use Rattle.page_file.specs.Steps.{emptied, with_root}
+use Rattle.page_file.specs.Slots.{Slots}
+use Rattle.page_file.specs.Target.{Target}
+use Rattle.page_file.specs.RootSlot.TheVariants as roots
 use Rattle.page_file.proofs.Kept.{at_some, root_there}
 use Rattle.commit_writes.specs.Commits.{base_pages, commit_pages, root_of}
 use Rattle.commit_writes.specs.Moments.{HasBase, MayHaveBase, cleared}

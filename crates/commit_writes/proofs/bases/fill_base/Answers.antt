@@ -1,7 +1,7 @@
 use Rattle.std.proofs.Common.{◌≡◌, ℕ, List, [], ◌∷◌, Some, true, ◌∙◌, ap}
 use Rattle.page_chain.proofs.RunLemmas.{goes}
-use Rattle.page_slots.specs.declared.slots.Slots.{Slots}
-use Rattle.page_slots.specs.declared.slots.RootSlot.TheVariants as roots
+use Rattle.page_file.specs.Slots.{Slots}
+use Rattle.page_file.specs.RootSlot.TheVariants as roots
 use Rattle.page_file.proofs.Kept.{at_some, sound_on}
 use Rattle.commit_writes.specs.Commits.{base_pages, commit_pages, root_of, HoldsAll}
 use Rattle.page_chain.proofs.Kept.{keeps_more}

@@ -1,8 +1,8 @@
 use Rattle.page_file.proofs.Kept.{root_ready, root_there}
 use Rattle.page_file.proofs.Opened.{root_open}
 use Rattle.commit_writes.specs.Commits.{root_of}
-use Rattle.page_slots.specs.Standing.{gate_place, target_page}
-use Rattle.page_slots.specs.declared.slots.Target.{Target}
+use Rattle.page_file.specs.Standing.{gate_place, target_page}
+use Rattle.page_file.specs.Target.{Target}
 use Rattle.std.proofs.Common.{[], ◌∷◌, sym, ap, arith}
 use Rattle.commit_writes.proofs.BlobLemmas.{all_on}
 use Rattle.commit_writes.proofs.GoingLemmas.{stays_known, put_keeps, reread_of}

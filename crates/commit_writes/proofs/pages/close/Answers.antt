@@ -1,5 +1,5 @@
 use Rattle.std.proofs.Common.{refl, arith, [], ◌∷◌}
-use Rattle.page_slots.specs.Standing.{gate_place, target_page}
+use Rattle.page_file.specs.Standing.{gate_place, target_page}
 use Rattle.commit_writes.proofs.GoingLemmas.{stays_known, put_goes, put_keeps, reread_of}
 use Rattle.commit_writes.proofs.SlotLemmas.{closed_now}
 use Rattle.commit_writes.proofs.pages.close.Goals as goal

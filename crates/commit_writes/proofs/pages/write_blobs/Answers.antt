@@ -2,7 +2,7 @@ use Rattle.std.proofs.Common.{◌+◌, take, refl, ap}
 use Rattle.page_layout.specs.Places.{KeepsPages}
 use Rattle.page_chain.specs.Pages.{page_size, HoldsBlob}
 use Rattle.page_chain.proofs.RunLemmas.{writes_none, writes_on, writes_more, sees_self, sees_more, sees_on}
-use Rattle.page_slots.specs.declared.slots.Slots.{Slots}
+use Rattle.page_file.specs.Slots.{Slots}
 use Rattle.page_file.proofs.Kept.{sound_on}
 use Rattle.commit_writes.specs.Commits.{pages_of, HoldsBlobs}
 use Rattle.page_chain.proofs.Kept.{keeps_self, keeps_on, keeps_more}

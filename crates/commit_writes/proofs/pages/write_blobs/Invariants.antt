@@ -1,8 +1,8 @@
 use Rattle.std.proofs.Common.{◌≡◌, take}
 use Rattle.page_layout.specs.Places.{KeepsPages}
 use Rattle.page_chain.specs.Inner.Runs.{OnlyWrites, Sees}
-use Rattle.page_slots.specs.Standing.{KeepsSound}
-use Rattle.page_slots.specs.Steps.{emptied}
+use Rattle.page_file.specs.Standing.{KeepsSound}
+use Rattle.page_file.specs.Steps.{emptied}
 use Rattle.commit_writes.specs.Commits.{pages_of, HoldsBlobs}
 use Rattle.commit_writes.proofs.pages.write_blobs.Given as goal
 

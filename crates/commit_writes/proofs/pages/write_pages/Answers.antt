@@ -3,7 +3,7 @@ use Rattle.page_layout.specs.Places.{KeepsPages}
 use Rattle.page_chain.specs.Pages.{page_size}
 use Rattle.page_chain.specs.Chains.{HoldsChain}
 use Rattle.page_chain.proofs.RunLemmas.{writes_follow, writes_more, sees_on, sees_more}
-use Rattle.page_slots.specs.declared.slots.Slots.{Slots}
+use Rattle.page_file.specs.Slots.{Slots}
 use Rattle.page_file.proofs.Kept.{sound_on}
 use Rattle.commit_writes.specs.Commits.{pages_of, HoldsBlobs, HoldsAll}
 use Rattle.page_chain.proofs.Kept.{keeps_on, keeps_more}

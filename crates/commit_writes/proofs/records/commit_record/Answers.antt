@@ -3,11 +3,11 @@ use Rattle.afl_outside.specs.Disk.{Only}
 use Rattle.page_layout.specs.Opens.{OpensAs}
 use Rattle.page_layout.specs.Places.{IsNone, KeepsPages}
 use Rattle.page_chain.proofs.RunLemmas.{goes}
-use Rattle.page_slots.specs.Standing.{target_page, IsTarget, MayOpen}
-use Rattle.page_slots.specs.Steps.{emptied, with_record}
-use Rattle.page_slots.specs.declared.slots.Slots.{Slots}
-use Rattle.page_slots.specs.declared.slots.Target.{Target}
-use Rattle.page_slots.specs.declared.slots.NextEntry.TheVariants as entries
+use Rattle.page_file.specs.Standing.{target_page, IsTarget, MayOpen}
+use Rattle.page_file.specs.Steps.{emptied, with_record}
+use Rattle.page_file.specs.Slots.{Slots}
+use Rattle.page_file.specs.Target.{Target}
+use Rattle.page_file.specs.NextEntry.TheVariants as entries
 use Rattle.page_file.proofs.Kept.{at_some}
 use Rattle.page_chain.proofs.Kept.{keeps_more}
 use Rattle.commit_writes.proofs.BlobLemmas.{all_on, may_second, first_of}

@@ -1,8 +1,8 @@
 use Rattle.std.proofs.Common.{◌≡◌, ℕ, List, Some, true, sym, ◌∙◌, ap, subst, [], ◌∷◌}
 use Rattle.page_chain.proofs.RunLemmas.{goes}
-use Rattle.page_slots.specs.Standing.{IsTarget}
-use Rattle.page_slots.specs.declared.slots.Slots.{Slots}
-use Rattle.page_slots.specs.declared.slots.NextEntry.TheVariants as entries
+use Rattle.page_file.specs.Standing.{IsTarget}
+use Rattle.page_file.specs.Slots.{Slots}
+use Rattle.page_file.specs.NextEntry.TheVariants as entries
 use Rattle.page_file.proofs.Kept.{at_some, sound_on}
 use Rattle.commit_writes.specs.Commits.{commit_pages, HoldsAll}
 use Rattle.page_chain.proofs.Kept.{keeps_more}

@@ -1,7 +1,7 @@
 use Rattle.page_file.proofs.Opened.{record_open}
 use Rattle.commit_writes.specs.Commits.{record_of}
-use Rattle.page_slots.specs.Standing.{gate_place, target_page}
-use Rattle.page_slots.specs.declared.slots.Target.{Target}
+use Rattle.page_file.specs.Standing.{gate_place, target_page}
+use Rattle.page_file.specs.Target.{Target}
 use Rattle.std.proofs.Common.{[], ◌∷◌, sym, ap, arith}
 use Rattle.commit_writes.proofs.BlobLemmas.{all_on}
 use Rattle.commit_writes.proofs.GoingLemmas.{stays_known, put_keeps, reread_of}

@@ -1,6 +1,6 @@
 use Rattle.std.proofs.Common.{◌⊎◌, [], ◌∷◌, ◌++◌, subst, arith}
-use Rattle.afl_outside.specs.Disk.{Torn}
-use Rattle.page_layout.specs.Opens.{OpensAs}
+use Rattle.page_slots.specs.Disk.{Torn}
+use Rattle.page_slots.specs.Opens.{OpensAs}
 use Rattle.page_slots.specs.Standing.{gate_place, entry_gate}
 use Rattle.page_slots.specs.declared.slots.Target.{Target}
 use Rattle.page_file.proofs.Kept.{chain_stays_put}

@@ -1,5 +1,5 @@
 use Rattle.std.proofs.Common.{◌<◌, ◌+◌, arith, List, [], ◌∷◌, length, sym, ◌∙◌, ap, subst}
-use Rattle.page_layout.specs.declared.logs.RecordAt.{RecordAt}
+use Rattle.page_slots.specs.RecordAt.{RecordAt}
 use Rattle.page_slots.specs.Standing.{entry_gate, IsAlone, IsStillRoot, IsStillEntry}
 use Rattle.page_slots.specs.declared.slots.Slots.{Slots}
 use Rattle.page_slots.specs.declared.slots.Target.{Target}

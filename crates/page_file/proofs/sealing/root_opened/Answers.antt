@@ -1,8 +1,8 @@
 use Rattle.std.proofs.Common.{◌⊎◌, [], subst}
-use Rattle.afl_outside.specs.Disk.{Torn}
-use Rattle.page_layout.specs.Places.{other, gate_of}
-use Rattle.page_layout.specs.Opens.{OpensAs}
-use Rattle.page_layout.specs.declared.sides.Format.TheVariants.{Two}
+use Rattle.page_slots.specs.Disk.{Torn}
+use Rattle.page_slots.specs.Places.{other, gate_of}
+use Rattle.page_slots.specs.Opens.{OpensAs}
+use Rattle.page_slots.specs.Format.TheVariants.{Two}
 use Rattle.page_slots.specs.Standing.{gate_place, root_in, OpensAsRoot}
 use Rattle.page_slots.specs.declared.slots.RootSlot.TheVariants as roots
 use Rattle.page_slots.specs.declared.slots.Target.{Target}

@@ -1,7 +1,7 @@
 use Rattle.std.proofs.Common.{◌⊎◌, inl, ℕ, List, [], subst}
-use Rattle.page_layout.specs.Places.{other}
-use Rattle.page_layout.specs.Opens.{OpensAs}
-use Rattle.page_layout.specs.declared.sides.Format.TheVariants.{Two}
+use Rattle.page_slots.specs.Places.{other}
+use Rattle.page_slots.specs.Opens.{OpensAs}
+use Rattle.page_slots.specs.Format.TheVariants.{Two}
 use Rattle.page_chain.specs.Pages.{page_size}
 use Rattle.page_chain.specs.Chains.{HoldsChain}
 use Rattle.page_slots.specs.Standing.{root_in, IsSound, OpensAsRoot}

@@ -1,5 +1,5 @@
 use Rattle.std.proofs.Common.{sym, ◌∙◌, ap, subst}
-use Rattle.page_layout.specs.Places.{other, body_of}
+use Rattle.page_slots.specs.Places.{other, body_of}
 use Rattle.page_slots.specs.Standing.{IsAlone, IsStillRoot, IsStillEntry}
 use Rattle.page_slots.specs.declared.slots.Slots.{Slots}
 use Rattle.page_slots.specs.declared.slots.Target.{Target}

@@ -1,4 +1,4 @@
-use Rattle.cell_values.specs.Naming.{IsName}
+use Rattle.afl_lexer.specs.Naming.{IsName}
 use Rattle.schema_grammar.proofs.Joined.{joined_after, all_after}
 use Rattle.schema_grammar.proofs.printer.write_all.Goals as goal
 

@@ -1,6 +1,6 @@
 use Rattle.std.proofs.Common.{◌≡◌, ◌++◌, map, take}
 use Rattle.std.specs.List.{All, join_with_byte}
-use Rattle.cell_values.specs.Naming.{IsName}
+use Rattle.afl_lexer.specs.Naming.{IsName}
 use Rattle.schema_grammar.proofs.printer.write_all.Given as goal
 
 abbrev pub invariant-loop-at : goal.invariant-loop-at

@@ -1,6 +1,6 @@
 use Rattle.std.proofs.Common.{◌≡◌, not, is_some, [], ◌∷◌, length, sym, ap, ◌∙◌}
 use Rattle.std.specs.Prelude.{nat_lt}
-use Rattle.cell_values.specs.Schemas.{attribute_names, is_among}
+use Rattle.afl_lexer.specs.Schemas.{attribute_names, is_among}
 use Rattle.schema_grammar.specs.Rules.{rule, kind_named}
 use Rattle.schema_grammar.specs.declared.kinds.TypeKind.TheVariants.{TooManyAttributes, UnknownType, RepeatedName}
 use Rattle.schema_grammar.proofs.RuleLemmas.{among_attributes, count_attributes}

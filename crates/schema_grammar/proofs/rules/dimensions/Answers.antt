@@ -1,5 +1,5 @@
 use Rattle.std.proofs.Common.{Ok, subst}
-use Rattle.cell_values.specs.Schemas.{attribute_names, dimension_names}
+use Rattle.afl_lexer.specs.Schemas.{attribute_names, dimension_names}
 use Rattle.schema_grammar.specs.Rules.{dim_rules, dimension_of, Means}
 use Rattle.schema_grammar.proofs.RuleLemmas.{dims_step}
 use Rattle.schema_grammar.proofs.rules.dimensions.Goals as goal

@@ -1,5 +1,5 @@
 use Rattle.std.proofs.Common.{◌≡◌, map, take}
-use Rattle.cell_values.specs.Schemas.{attribute_names}
+use Rattle.afl_lexer.specs.Schemas.{attribute_names}
 use Rattle.schema_grammar.specs.Rules.{dimension_of}
 use Rattle.schema_grammar.proofs.RuleLemmas.{DimsSo}
 use Rattle.schema_grammar.proofs.rules.dimensions.Given as goal

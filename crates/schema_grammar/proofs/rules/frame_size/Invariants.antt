@@ -1,5 +1,5 @@
 use Rattle.std.proofs.Common.{◌≡◌, ◌^◌, ◌-◌, min, take}
-use Rattle.cell_values.specs.Schemas.{frame_size}
+use Rattle.afl_lexer.specs.Schemas.{frame_size}
 use Rattle.schema_grammar.proofs.rules.frame_size.Given as goal
 
 abbrev pub invariant-loop-dimension : goal.invariant-loop-dimension

@@ -29,7 +29,7 @@ next_number = omega arith
 
 pub returns : goal.returns
 unfolding query_named change_named
-returns c = record {
+returns c style = record {
   removed = (
     (record { version = []; catalogue = 5 ∷ 6 ∷ [] }, record { is = refl; later = one_of_two }),
     record { kind = refl; told = λ db began. absurd (unknown db began) },
@@ -41,7 +41,7 @@ returns c = record {
   );
   damaged = (
     inl refl,
-    record { leaf = worked_leaf; at = record { items = 0 ∷ [] }; named = (refl, inl refl); begins = refl },
+    record { leaf = worked_leaf; at = record { items = 0 ∷ [] }; named = (refl, inl refl); begins = refl; was = λ file tells. absurd (true≢false (sym tells.honest)) },
     unknown,
     (AChange (Remove (codes "A")), refl),
   );

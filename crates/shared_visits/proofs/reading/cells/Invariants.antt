@@ -1,4 +1,4 @@
-use Rattle.snapshot_manager.specs.Seats.{HoldsPin, IsIdle, IsSeatOf}
+use Rattle.shared_steps.specs.Seats.{HoldsPin, IsIdle, IsSeatOf}
 use Rattle.shared_visits.proofs.reading.cells.Given as goal
 
 abbrev pub invariant-loop-place : goal.invariant-loop-place

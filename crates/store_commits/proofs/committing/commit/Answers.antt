@@ -1,5 +1,5 @@
 use Rattle.std.proofs.Common.{sym, subst}
-use Rattle.store_state.specs.At.{keeping, standing}
+use Rattle.prepared_commits.specs.At.{keeping, standing}
 use Rattle.prepared_commits.specs.declared.prepared.Prepared.{Prepared}
 use Rattle.prepared_commits.specs.Needs.{needs}
 use Rattle.array_store.proofs.Added.{if_ok}

@@ -1,6 +1,6 @@
 use Rattle.std.proofs.Common.{◌≡◌, ◌<◌, drop}
 use Rattle.std.specs.List.{AllByRecursion, list_any}
-use Rattle.array_rows.specs.Boxes.{is_inside}
+use Rattle.array_geom.specs.Boxes.{is_inside}
 use Rattle.array_geom.specs.Geometry.{coordinate_in, volume}
 use Rattle.array_parts.proofs.parts.held.holds_one.Given as goal
 

@@ -7,6 +7,7 @@ use Rattle.logical_plan.specs.Meaning.{count_from, how_many}
 use Rattle.exec_build.specs.Inner.Rows.{built_row}
 use Rattle.exec_build.specs.Inner.Walks.{TakesRows, rows_between}
 use Rattle.exec_build.proofs.RowLaws.{along_more, first_again, inside_here, takes_both}
+use Rattle.exec_build.proofs.RunLaws.{last_between, last_rows}
 use Rattle.exec_build.proofs.chunks.cells.+add_cells.Goals as goal
 
 pub add_along-loop-offset-preserved : goal.add_along-loop-offset-preserved
@@ -42,6 +43,18 @@ add_cells-returns-in-len1-up-hi t c =
     let at = c.args.at.now.items in
     let lo = first_again c.args.lo.now _ c.in-len1-up.len_at_least refl in
     let hi = first_again c.args.hi.now _ c.in-len1-up-hi.len_at_least refl in
-    subst (λ (l : List ℤ). OnOk c.add_along.result (TakesRows c.args.grid.now.low.items c.args.grid.now.lengths.items (rows_between row at l c.args.hi.now) c.args.chunk.now c.add_along.new.chunk)) lo
-    (subst (λ (h : List ℤ). OnOk c.add_along.result (TakesRows c.args.grid.now.low.items c.args.grid.now.lengths.items (rows_between row at (slice_index_or c.args.lo.now 0 (pos 0) ∷ take (length c.args.lo.now - 1) (drop 1 c.args.lo.now)) h) c.args.chunk.now c.add_along.new.chunk)) hi
-    c.add_along.ensures)
+    subst (λ (l : List ℤ). OnOk c.add_first.result (TakesRows c.args.grid.now.low.items c.args.grid.now.lengths.items (rows_between row at l c.args.hi.now) c.args.chunk.now c.add_first.new.chunk)) lo
+    (subst (λ (h : List ℤ). OnOk c.add_first.result (TakesRows c.args.grid.now.low.items c.args.grid.now.lengths.items (rows_between row at (slice_index_or c.args.lo.now 0 (pos 0) ∷ take (length c.args.lo.now - 1) (drop 1 c.args.lo.now)) h) c.args.chunk.now c.add_first.new.chunk)) hi
+    c.add_first.ensures)
+
+pub add_first-add_run-requires-clause-inside : goal.add_first-add_run-requires-clause-inside
+add_first-add_run-requires-clause-inside t c = λ at inside.
+    let last = c.are_last.ensures c.if-are_last.true in
+    c.requires.inside at (last_between c.args.low.now c.args.high.now c.args.lo.now c.args.hi.now at last.0 last.1 inside)
+
+pub add_first-returns-then-are_last : goal.add_first-returns-then-are_last
+add_first-returns-then-are_last t c =
+    let last = c.are_last.ensures c.if-are_last.true in
+    let row = built_row c.args.attributes.now c.args.value.now in
+    subst (λ (rows : List Row). OnOk c.add_run.result (TakesRows c.args.grid.now.low.items c.args.grid.now.lengths.items rows c.args.chunk.now c.add_run.new.chunk))
+    (last_rows row c.args.at.now.items c.args.low.now c.args.high.now c.args.lo.now c.args.hi.now last.0 last.1) c.add_run.ensures

@@ -6,10 +6,13 @@ use Rattle.exec_build.specs.Inner.Walks.{TakesRows, rows_between}
 use Rattle.exec_build.proofs.chunks.cells.+add_cells.Given as goal
 
 abbrev pub decreases-add_cells : goal.decreases-add_cells
-decreases-add_cells l = length l.lo.now + length l.lo.now
+decreases-add_cells l = length l.lo.now + length l.lo.now + length l.lo.now
+
+abbrev pub decreases-add_first : goal.decreases-add_first
+decreases-add_first l = length l.lo.now + length l.lo.now + length l.lo.now + 2
 
 abbrev pub decreases-add_along : goal.decreases-add_along
-decreases-add_along l = length l.lo.now + length l.lo.now + 1
+decreases-add_along l = length l.lo.now + length l.lo.now + length l.lo.now + 1
 
 abbrev pub invariant-add_along-loop-offset : goal.invariant-add_along-loop-offset
 invariant-add_along-loop-offset l =

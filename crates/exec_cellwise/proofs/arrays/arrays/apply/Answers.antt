@@ -3,4 +3,4 @@ use Rattle.array_parts.proofs.PartLemmas.{changes_are_local}
 use Rattle.exec_cellwise.proofs.arrays.arrays.apply.Goals as goal
 
 pub over_array-requires-clause-local : goal.over_array-requires-clause-local
-over_array-requires-clause-local c = changes_are_local (apply_cell c.args.values.now)
+over_array-requires-clause-local g c κs lives = changes_are_local (apply_cell c.args.values.now)

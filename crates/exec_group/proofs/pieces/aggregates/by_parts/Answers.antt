@@ -10,17 +10,17 @@ use Rattle.exec_group.proofs.WholeLaws.{of_cores, few_names, can_tell, told_whol
 use Rattle.exec_group.proofs.pieces.aggregates.by_parts.Goals as goal
 
 pub groups_by_parts-requires-clause-names : goal.groups_by_parts-requires-clause-names
-groups_by_parts-requires-clause-names c = few_names c.args.aggs.now c.args.dims.now c.args.array.schema c.args.target.now c.requires.target c.requires.valid c.requires.names
+groups_by_parts-requires-clause-names g c κs lives = few_names c.args.aggs.now c.args.dims.now c.args.array.schema c.args.target.now c.requires.target c.requires.valid c.requires.names
 
 pub told_array-requires-clause-sets : goal.told_array-requires-clause-sets
-told_array-requires-clause-sets c =
+told_array-requires-clause-sets g c =
     let rows = cores_of c.args.array in
     let rows_of = of_cores c.args.array rows refl c.requires.cells in
     can_tell c.args.array.schema c.args.target.now c.args.aggs.now (aggregate_sets c.args.dims.now rows) c.in_ok-groups.groups.groups (ap (λ (s : Schema). s.attributes) c.requires.target) c.requires.typed
     (aggregate_fits c.args.array.schema c.args.target.now c.args.aggs.now c.args.dims.now rows rows_of c.requires.target c.requires.names) (c.in_ok-groups.ensures.whole c.requires.some c.requires.rise c.requires.sized)
 
 pub returns-clause-array : goal.returns-clause-array
-returns-clause-array c =
+returns-clause-array g c =
     let rows = cores_of c.args.array in
     let rows_of = of_cores c.args.array rows refl c.requires.cells in
     let can = can_tell c.args.array.schema c.args.target.now c.args.aggs.now (aggregate_sets c.args.dims.now rows) c.in_ok-groups.groups.groups (ap (λ (s : Schema). s.attributes) c.requires.target) c.requires.typed

@@ -11,14 +11,14 @@ use Rattle.exec_group.proofs.WholeLaws.{of_cores, can_tell, told_whole, if_ok}
 use Rattle.exec_group.proofs.pieces.blocks.by_blocks.Goals as goal
 
 pub told_array-requires-clause-sets : goal.told_array-requires-clause-sets
-told_array-requires-clause-sets c =
+told_array-requires-clause-sets g c =
     let rows = cores_of c.args.array in
     let rows_of = of_cores c.args.array rows refl c.requires.cells in
     can_tell c.args.array.schema c.args.target.now c.args.aggs.now (regrid_sets c.args.array.schema.dimensions c.args.blocks.now rows) c.in_ok-groups.groups.groups (ap (λ (s : Schema). s.attributes) c.requires.target) c.requires.typed
     (regrid_fits c.args.array.schema c.args.target.now c.args.aggs.now c.args.blocks.now rows rows_of c.requires.target) (c.in_ok-groups.ensures.whole c.requires.rise c.requires.sized)
 
 pub returns-clause-array : goal.returns-clause-array
-returns-clause-array c =
+returns-clause-array g c =
     let rows = cores_of c.args.array in
     let rows_of = of_cores c.args.array rows refl c.requires.cells in
     let can = can_tell c.args.array.schema c.args.target.now c.args.aggs.now (regrid_sets c.args.array.schema.dimensions c.args.blocks.now rows) c.in_ok-groups.groups.groups (ap (λ (s : Schema). s.attributes) c.requires.target) c.requires.typed

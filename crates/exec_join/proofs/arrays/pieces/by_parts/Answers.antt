@@ -1,4 +1,5 @@
 use Rattle.std.proofs.Common.{refl}
+use Rattle.array_geom.proofs.MarginLaws.{overlap_each, overlap_places}
 use Rattle.array_parts.specs.Cores.{cores_of}
 use Rattle.logical_plan.specs.Joins.{join_rows}
 use Rattle.exec_join.proofs.MadeLaws.{means_whole, of_cores, stands_for}
@@ -6,8 +7,14 @@ use Rattle.exec_join.proofs.PieceLaws.{joined_parts}
 use Rattle.exec_join.proofs.SideLaws.{join_are_rows}
 use Rattle.exec_join.proofs.arrays.pieces.by_parts.Goals as goal
 
+pub join_parts-requires-clause-frames : goal.join_parts-requires-clause-frames
+join_parts-requires-clause-frames g c κs lives =
+    let schema = c.args.schema.now in
+    let margins = c.margins_of-margins in
+    record { valid = c.requires.valid; each = overlap_each schema margins.result.items margins.ensures; places = overlap_places schema margins.result.items margins.ensures c.requires.valid }
+
 pub returns-clause-array : goal.returns-clause-array
-returns-clause-array c =
+returns-clause-array g c =
     let left = c.args.left in
     let right = c.args.right in
     let rows = join_rows (cores_of left) (cores_of right) in

@@ -1,22 +1,34 @@
-use Rattle.array_geom.specs.Link.{IsPart}
+use Rattle.std.proofs.Common.{ℕ, List, subst}
+use Rattle.std.specs.List.{AllZip}
+use Rattle.std.proofs.lemmas.Result.{IfOk-weaker}
+use Rattle.arrayvec.specs.ArrayVec.{ArrayVec}
 use Rattle.array_parts.specs.Cores.{cores_of}
-use Rattle.array_parts.specs.Placed.{HasPlaces}
 use Rattle.logical_plan.specs.Joins.{join_rows}
-use Rattle.area_cells.proofs.PieceLaws.{all_more, all_numbers, next_numbers}
-use Rattle.exec_join.proofs.PieceLaws.{frame_at}
+use Rattle.area_cells.specs.Pieces.{IsPartAt}
+use Rattle.area_cells.proofs.PieceLaws.{parts_each, parts_numbers, parts_places}
+use Rattle.exec_join.proofs.PieceLaws.{can_join}
 use Rattle.exec_join.proofs.arrays.pieces.join_parts.Goals as goal
 
-pub join_part-requires-clause-framed : goal.join_part-requires-clause-framed
-join_part-requires-clause-framed c =
-    frame_at c.args.left.now.schema c.args.right.now.schema c.args.schema.now c.args.left.now.margins.items c.args.margins.now.items c.args.left.now.chunks c.as_slice-chunk-items.result.now c.loop-chunk.chunk-index c.chunk-item.result c.requires.schema c.requires.frames c.requires.left_cells c.as_slice-chunk-items.ensures
-    c.loop-chunk-test.true c.chunk-item.is
-
-pub loop-chunk-preserved : goal.loop-chunk-preserved
-loop-chunk-preserved c = record {
-  numbers_are = next_numbers c.as_slice-chunk-items.result.now c.loop-chunk.chunk-index c.chunk-item.result c.in_ok-join_part.field-0 c.loop-chunk.parts c.push.new.self c.loop-chunk-test.true c.chunk-item.is c.in_ok-join_part.ensures.number c.in_ok-push.ensures.ok c.loop-chunk.invariant.numbers_are;
-  places = all_more (HasPlaces c.args.schema.now c.args.margins.now.items) c.in_ok-join_part.field-0 c.loop-chunk.parts c.push.new.self c.in_ok-push.ensures.ok c.loop-chunk.invariant.places c.in_ok-join_part.ensures.places;
-  parts = all_more (IsPart c.args.schema.now.dimensions c.args.margins.now.items (join_rows (cores_of c.args.left.now) (cores_of c.args.right.now))) c.in_ok-join_part.field-0 c.loop-chunk.parts c.push.new.self c.in_ok-push.ensures.ok c.loop-chunk.invariant.parts c.in_ok-join_part.ensures.part;
-}
+pub over_pieces-requires-after_bounds : goal.over_pieces-requires-after_bounds
+over_pieces-requires-after_bounds g c κs within =
+    can_join c.args.left.now c.args.right.now c.args.schema.now c.args.margins.now.items c.in_ok-pieces.pieces c.in_ok-pieces.ensures c.requires.schema c.requires.frames c.requires.left_cells c.requires.right_cells c.requires.left_rise c.requires.right_rise
 
 pub returns-clause-numbers : goal.returns-clause-numbers
-returns-clause-numbers c = all_numbers c.as_slice-chunk-items.result.now c.args.left.now.chunks c.loop-chunk.parts c.loop-chunk.chunk-index c.as_slice-chunk-items.ensures c.loop-chunk-test.false c.loop-chunk.invariant.numbers_are
+returns-clause-numbers g c =
+    let rows = join_rows (cores_of c.args.left.now) (cores_of c.args.right.now) in
+    IfOk-weaker c.over_pieces.result _ _
+    (λ parts h. parts_numbers c.args.schema.now c.args.margins.now.items rows c.args.left.now.chunks parts
+    (subst (λ (ks : List (ArrayVec ℕ)). AllZip (IsPartAt c.args.schema.now c.args.margins.now.items rows) ks parts) c.in_ok-pieces.ensures h))
+    c.over_pieces.ensures.each
+
+pub returns-clause-places : goal.returns-clause-places
+returns-clause-places g c =
+    IfOk-weaker c.over_pieces.result _ _
+    (λ parts h. parts_places c.args.schema.now c.args.margins.now.items (join_rows (cores_of c.args.left.now) (cores_of c.args.right.now)) c.in_ok-pieces.pieces parts h)
+    c.over_pieces.ensures.each
+
+pub returns-clause-parts : goal.returns-clause-parts
+returns-clause-parts g c =
+    IfOk-weaker c.over_pieces.result _ _
+    (λ parts h. parts_each c.args.schema.now c.args.margins.now.items (join_rows (cores_of c.args.left.now) (cores_of c.args.right.now)) c.in_ok-pieces.pieces parts h)
+    c.over_pieces.ensures.each

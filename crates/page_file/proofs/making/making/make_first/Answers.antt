@@ -1,5 +1,5 @@
 use Rattle.std.proofs.Common.{◌≡◌, ℕ, List, length, Some}
-use Rattle.afl_outside.specs.Disk.{Only}
+use Rattle.page_slots.specs.Disk.{Only}
 use Rattle.page_slots.proofs.PutLemmas.{if_some}
 use Rattle.page_file.specs.Inner.Laid.{made}
 use Rattle.page_file.specs.Start.{IsEmptyDatabase}

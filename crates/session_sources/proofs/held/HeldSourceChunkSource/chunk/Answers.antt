@@ -1,7 +1,7 @@
 use Rattle.std.proofs.Common.{IfOk, IsTrue, subst, sym, ap, refl}
 use Rattle.chunk_source.specs.Source.{is_among, listed, AsksFor, Blames, IsChunkIn, IsStored, Keeps}
 use Rattle.logical_plan.specs.Meaning.{Database as Rows}
-use Rattle.store_state.specs.Calls.{IsLeafOf}
+use Rattle.snapshot_manager.specs.Calls.{IsLeafOf}
 use Rattle.turn_lock.specs.Inner.Lent.{turn_with}
 use Rattle.session_sources.specs.declared.marks.Marks.{Marks}
 use Rattle.session_sources.specs.Held.{held_state, names_now, store_then}
@@ -47,7 +47,7 @@ invariant_of-self-2 g c =
     (subst (λ h. IsLeafOf (names_now (store_then moment h).ledger) c.args.leaf.now) (sym c.self.view_is)
     (chunk_leaf moment c.args.self.now c.args.leaf.now c.args.at.now c.requires.listed c.requires.reads))
     (subst (λ h. IsTrue (is_among c.args.at.now (listed (held_state moment h) c.args.leaf.now))) (sym c.self.view_is) c.requires.listed)
-    c.read_now-answer.result c.answer.new.self m.is e.cause e.whole
+    c.read_now-answer.result c.answer.new.self m.is e.cause e.damaged e.whole
 
 pub returns-clause-stored : goal.returns-clause-stored
 returns-clause-stored g c = ok_answer c.read_now-answer.result c.answer.result (IsStored c.args.leaf.now.schema c.args.at.now) c.answer.ensures.answer c.read_now-answer.ensures.stored

@@ -1,7 +1,7 @@
 use Rattle.std.proofs.Common.{◌≡◌, ◌∙◌, subst, sym}
 use Rattle.chunk_source.specs.Source.{listed, AreNumbersIn}
 use Rattle.logical_plan.specs.Meaning.{Database as Rows}
-use Rattle.store_state.specs.Calls.{IsLeafOf}
+use Rattle.snapshot_manager.specs.Calls.{IsLeafOf}
 use Rattle.session_sources.specs.Held.{held_state, names_now, store_then}
 use Rattle.session_sources.proofs.HeldSteps.{chunks_then, in_hand, leaf_now, lent_of, listed_leaf, rows_then}
 use Rattle.session_sources.proofs.held.HeldSourceChunkSource.listed.Goals as goal

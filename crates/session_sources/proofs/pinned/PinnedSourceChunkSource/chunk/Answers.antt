@@ -1,7 +1,7 @@
 use Rattle.std.proofs.Common.{IfOk, IsTrue, subst, sym, ap, refl}
 use Rattle.chunk_source.specs.Source.{is_among, listed, AsksFor, Blames, IsChunkIn, IsStored, Keeps}
 use Rattle.logical_plan.specs.Meaning.{Database as Rows}
-use Rattle.store_state.specs.Calls.{IsLeafOf}
+use Rattle.snapshot_manager.specs.Calls.{IsLeafOf}
 use Rattle.session_sources.specs.declared.marks.Marks.{Marks}
 use Rattle.session_sources.specs.Pinned.{pinned_state}
 use Rattle.session_sources.proofs.Answering.{asks_by, blames, marked, ok_answer, with_asked}
@@ -31,7 +31,7 @@ invariant_of-self-2 g c =
     (subst (λ r. IsLeafOf r.lent.pinned.names c.args.leaf.now) (sym c.self.view_is)
     (chunk_leaf moment c.args.self.now c.args.leaf.now c.args.at.now c.requires.listed c.requires.reads))
     (subst (λ r. IsTrue (is_among c.args.at.now (listed (pinned_state moment r) c.args.leaf.now))) (sym c.self.view_is) c.requires.listed)
-    c.read_chunk-answer.result c.answer.new.self m.is e.cause e.whole e.reads
+    c.read_chunk-answer.result c.answer.new.self m.is e.cause e.damaged e.whole e.reads
 
 pub returns-clause-stored : goal.returns-clause-stored
 returns-clause-stored g c = ok_answer c.read_chunk-answer.result c.answer.result (IsStored c.args.leaf.now.schema c.args.at.now) c.answer.ensures.answer c.read_chunk-answer.ensures.stored

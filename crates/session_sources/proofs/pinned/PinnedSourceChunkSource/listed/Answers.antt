@@ -2,7 +2,7 @@ use Rattle.std.proofs.Common.{◌≡◌, ◌∙◌, subst, sym}
 use Rattle.chunk_source.specs.Source.{listed, AreNumbersIn}
 use Rattle.logical_plan.specs.Meaning.{Database as Rows}
 use Rattle.snapshot_manager.specs.Seats.{seen, session_of, start}
-use Rattle.store_state.specs.Calls.{IsLeafOf}
+use Rattle.snapshot_manager.specs.Calls.{IsLeafOf}
 use Rattle.session_sources.specs.Pinned.{pinned_state}
 use Rattle.session_sources.proofs.PinnedSteps.{adds_nothing, chunks_lent, lent_of, list_keeps, listed_leaf, rows_lent}
 use Rattle.session_sources.proofs.pinned.PinnedSourceChunkSource.listed.Goals as goal

@@ -1,6 +1,6 @@
 use Rattle.std.proofs.Common.{◌∙◌, ap, sym}
-use Rattle.store_state.specs.At.{standing}
-use Rattle.store_state.specs.Events.{events}
+use Rattle.told_stores.specs.At.{standing}
+use Rattle.told_stores.specs.Events.{events}
 use Rattle.told_stores.specs.Starts.{start_of}
 use Rattle.told_stores.specs.Tries.{is_fresh_since}
 use Rattle.told_stores.proofs.InTurn.{is_now, ledger_is, open_left, open_pin_now, pinned_now}

@@ -1,7 +1,7 @@
 use Rattle.std.proofs.Common.{◌≡◌, ◌∙◌, [], ap, sym, subst}
 use Rattle.turn_lock.specs.Owners.{ExtendsByOwn}
-use Rattle.store_state.specs.At.{standing}
-use Rattle.store_state.specs.Events.{events, owner_of}
+use Rattle.told_stores.specs.At.{standing}
+use Rattle.told_stores.specs.Events.{events, owner_of}
 use Rattle.told_stores.specs.Starts.{start_of}
 use Rattle.told_stores.proofs.Added.{if_ok, on_ok}
 use Rattle.told_stores.specs.Told.{IsTold}

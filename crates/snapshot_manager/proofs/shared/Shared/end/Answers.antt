@@ -1,6 +1,6 @@
 use Rattle.std.proofs.Common.{◌≡◌, ◌∙◌, ap, length, refl, subst, sym}
-use Rattle.store_state.specs.At.{AreParts, standing}
-use Rattle.store_state.specs.Events.{events, owner_of}
+use Rattle.told_stores.specs.At.{AreParts, standing}
+use Rattle.told_stores.specs.Events.{events, owner_of}
 use Rattle.told_stores.specs.Starts.{start_of}
 use Rattle.turn_lock.specs.Owners.{ExtendsByOwn}
 use Rattle.turn_lock.specs.Seats.{seen_by}

@@ -5,9 +5,9 @@ use Rattle.turn_lock.specs.Owners.{AreOwnedBelow, ExtendsByOthers}
 use Rattle.turn_lock.specs.Seats.{claim_of, seat_count, IsSeatOf as IsLockSeatOf, IsIdle as HasNoTurn}
 use Rattle.turn_lock.specs.declared.view.Claim.{Claim}
 use Rattle.turn_lock.proofs.Gathering.{all_left, all_last, all_unmapped, gathered}
-use Rattle.store_state.specs.declared.event.Event.{Event}
-use Rattle.store_state.specs.At.{standing}
-use Rattle.store_state.specs.Events.{events, owner_of}
+use Rattle.told_stores.specs.Event.{Event}
+use Rattle.told_stores.specs.At.{standing}
+use Rattle.told_stores.specs.Events.{events, owner_of}
 use Rattle.snapshot_manager.specs.Seats.{AreIdleSeats, IsIdle, IsSeatOf}
 use Rattle.snapshot_manager.proofs.Seating.{seat_claim}
 use Rattle.snapshot_manager.proofs.shared.Shared.finish.Goals as goal

@@ -2,8 +2,8 @@ use Rattle.std.proofs.Common.{◌≡◌, ◌∙◌, [], ◌∷◌, ap, length, s
 use Rattle.event_core.specs.declared.entry.Entry.TheVariants.{Pin}
 use Rattle.event_core.specs.History.{names_at}
 use Rattle.store_ledger.specs.Ledger.{IsOpenPin, history}
-use Rattle.store_state.specs.declared.event.Event.TheVariants.{Entered}
-use Rattle.store_state.specs.At.{standing}
+use Rattle.told_stores.specs.Event.TheVariants.{Entered}
+use Rattle.told_stores.specs.At.{standing}
 use Rattle.told_stores.specs.Starts.{start_of}
 use Rattle.told_stores.proofs.Databases.{pin_database, pin_stored}
 use Rattle.told_stores.proofs.InTurn.{extends_now, pin_cause, pin_done, pin_err, pin_is, pin_none, pin_ok, pin_only, pin_open, pin_room, pin_untried, unpinned_now}

@@ -3,6 +3,7 @@ use Rattle.chunk_source.specs.Source.{IsChunkIn, is_among}
 use Rattle.plan_changes.specs.Databases.{rows_of}
 use Rattle.told_stores.proofs.InTurn.{began_in_turn, chunks_in_turn, open_pin_now, over_ok, read_adds, read_causes, read_extends, read_open}
 use Rattle.snapshot_manager.specs.Seats.{seen, session_of, start}
+use Rattle.snapshot_manager.proofs.Damages.{damaged_was}
 use Rattle.snapshot_manager.proofs.shared.Shared.read_chunk.Goals as goal
 
 pub read_chunk-answer-requires-clause-open : goal.read_chunk-answer-requires-clause-open
@@ -51,6 +52,8 @@ returns g c =
           (λ chunk db. IsChunkIn (rows_of db) c.args.leaf.now chunk) c.read_chunk-answer.result c.read_chunk-answer.ensures.told;
       whole = λ db page began. c.read_chunk-answer.ensures.whole db page (began_in_turn g.D.Disk.moment (start g.D.Disk.moment c.args.self.now) (session_of c.args.seat.now) (seen c.args.seat.now) (seen c.begin-turn.new.seat)
           c.value.result.now c.begin-turn.result.value b.found c.value.ensures.value b.told c.args.pinned.now p.own p.open_pin db began);
+      damaged = λ page file e. damaged_was g.D.Disk.moment (start g.D.Disk.moment c.args.self.now) (seen c.args.seat.now) (seen c.begin-turn.new.seat)
+          c.value.result.now c.begin-turn.result.value c.value.ensures.value b.told page file c.args.leaf.now.schema (c.read_chunk-answer.ensures.damaged page file e);
       cause = read_causes g.D.Disk.moment (start g.D.Disk.moment c.args.self.now) (session_of c.args.seat.now) (seen c.args.seat.now) (seen c.begin-turn.new.seat)
           c.value.result.now c.begin-turn.result.value b.found c.value.ensures.value b.told c.args.pinned.now p.own p.open_pin b.events
           c.read_chunk-answer.new.self c.read_chunk-answer.ensures.adds (seen c.end.new.seat) c.args.leaf.now.schema c.args.leaf.now c.args.at.now c.read_chunk-answer.result

@@ -1,5 +1,5 @@
 use Rattle.std.proofs.Common.{◌∙◌, ap}
-use Rattle.store_state.specs.At.{standing}
+use Rattle.told_stores.specs.At.{standing}
 use Rattle.told_stores.specs.Starts.{start_of}
 use Rattle.told_stores.proofs.InTurn.{adds_now, extends_now, reap_is}
 use Rattle.told_stores.proofs.Turning.{reap_adds, reap_err, reap_ok, reap_only, reaped}

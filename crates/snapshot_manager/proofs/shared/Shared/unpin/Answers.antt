@@ -1,7 +1,7 @@
 use Rattle.std.proofs.Common.{◌∙◌, [], ◌∷◌, ap, sym}
 use Rattle.event_core.specs.declared.entry.Entry.TheVariants.{Unpin}
-use Rattle.store_state.specs.declared.event.Event.TheVariants.{Entered}
-use Rattle.store_state.specs.At.{standing}
+use Rattle.told_stores.specs.Event.TheVariants.{Entered}
+use Rattle.told_stores.specs.At.{standing}
 use Rattle.told_stores.specs.Starts.{start_of}
 use Rattle.told_stores.proofs.InTurn.{extends_now, open_pin_now, unpin_adds, unpin_none, unpin_only}
 use Rattle.snapshot_manager.specs.Seats.{seen, session_of, start}

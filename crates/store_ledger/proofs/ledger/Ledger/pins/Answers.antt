@@ -1,6 +1,6 @@
 use Rattle.std.proofs.Common.{◌∙◌, ap, map, reverse}
-use Rattle.event_core.specs.declared.state.Core.{Core}
-use Rattle.event_core.specs.History.{open_pins}
+use Rattle.lean_core.specs.Core.{Core}
+use Rattle.lean_core.specs.History.{open_pins}
 use Rattle.lean_core.specs.States.{core_place}
 use Rattle.store_ledger.specs.Ledger.{LedgerState, history, open_place}
 use Rattle.store_ledger.proofs.Told.{is_ledger}

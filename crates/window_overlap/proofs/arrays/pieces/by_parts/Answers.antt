@@ -1,5 +1,6 @@
 use Rattle.std.proofs.Common.{◌≡◌, refl, ap}
 use Rattle.cell_values.specs.declared.schema.Schema.{Schema}
+use Rattle.array_geom.proofs.MarginLaws.{overlap_each, overlap_places}
 use Rattle.array_parts.specs.Cores.{cores_of}
 use Rattle.logical_plan.specs.Groups.{window_rows}
 use Rattle.logical_plan.specs.PlanSchema.{window_schema}
@@ -8,8 +9,14 @@ use Rattle.window_overlap.proofs.ArraysWindowLaws.{windows_are_rows}
 use Rattle.window_overlap.proofs.PieceLaws.{whole_parts}
 use Rattle.window_overlap.proofs.arrays.pieces.by_parts.Goals as goal
 
+pub window_parts-requires-clause-frames : goal.window_parts-requires-clause-frames
+window_parts-requires-clause-frames g c κs lives =
+    let target = c.args.target.now in
+    let margins = c.margins_of-margins in
+    record { valid = c.requires.valid; each = overlap_each target margins.result.items margins.ensures; places = overlap_places target margins.result.items margins.ensures c.requires.valid }
+
 pub returns-clause-array : goal.returns-clause-array
-returns-clause-array c =
+returns-clause-array g c =
     let array = c.args.array in
     let target = c.args.target.now in
     let all = cores_of array in

@@ -1,0 +1,13 @@
+//! Work on many pieces, shared by several threads.
+#![tactic(auto)]
+
+mod crew;
+mod share;
+#[cfg(test)]
+mod tests;
+mod work;
+mod workers;
+
+pub use crew::Crew;
+pub use work::Work;
+pub use workers::over_pieces;

@@ -1,0 +1,99 @@
+//! Work on many pieces, some of them at a time.
+ghost use Rattle.std.specs.Prelude.{◌≡◌, ◌<◌, ◌≤◌, ◌+◌, ◌-◌, ◌^◌, length, map, min, IfOk};
+ghost use Rattle.std.specs.List.{AllByRecursion, AllZip};
+ghost use denote.Param.Send.{IsSend, IsSync};
+
+use crate::crew::Crew;
+use crate::share::{share, worth};
+use crate::work::Work;
+use afl_outside::{Gate, Point};
+use cell_values::{List, Memory};
+use std::thread::{Threads, join};
+
+/// What becomes of each piece, one after the other. The gate is passed before each; the first one's number is `first`.
+fn in_turn<P: Drop, M: Drop, W: Work<P, M>, G: Gate>(
+    pieces: List<P>,
+    work: &W,
+    first: u64,
+    session: u32,
+    gate: &G,
+) -> Result<List<M>, Memory>
+    requires { AllByRecursion (W.accepts work.now) pieces }
+    ensures { IfOk result (AllZip (W.gives work.now) pieces) }
+{
+    let mut made = List::with_capacity(pieces.allocator(), pieces.len())?;
+    let mut number = first;
+    for piece in pieces.into_vec() {
+        gate.pass(session, Point::Chunk(number));
+        made.push(work.work(piece)?)?;
+        number = number.wrapping_add(1);
+    }
+    Ok(made)
+}
+
+/// What becomes of each piece, where each thread has a run of the pieces.
+#[cycle(workers)]
+fn in_parts<R: Threads + Sync, P: Send + Drop, M: Send + Drop, W: Work<P, M>, G: Gate>(
+    rt: &R,
+    pieces: List<P>,
+    workers: u32,
+    work: &W,
+    first: u64,
+    session: u32,
+    gate: &G,
+) -> Result<List<M>, Memory>
+    requires { AllByRecursion (W.accepts work.now) pieces }
+    ensures { IfOk result (AllZip (W.gives work.now) pieces) }
+{
+    if workers < 2 || pieces.len() < 2 {
+        return in_turn(pieces, work, first, session, gate);
+    }
+    let few = workers / 2;
+    let many = workers - few;
+    let at = share(pieces.len(), few, workers);
+    let second = first.wrapping_add(at as u64);
+    let mut low = pieces.into_vec();
+    let high = low.split_off(at)?;
+    let low = List::from_vec(low);
+    let high = List::from_vec(high);
+    let front = move || -> Result<List<M>, Memory>
+        requires { IsSync R.row × IsSync W.row × IsSync G.row × IsSend P.row × IsSend M.row × AllByRecursion (W.accepts work.now) low }
+        ensures { IfOk result (AllZip (W.gives work.entry.now) low) }
+    { in_parts(rt, low, few, work, first, session, gate) };
+    let back = move || -> Result<List<M>, Memory>
+        requires { IsSync R.row × IsSync W.row × IsSync G.row × IsSend P.row × IsSend M.row × AllByRecursion (W.accepts work.now) high }
+        ensures { IfOk result (AllZip (W.gives work.entry.now) high) }
+    { in_parts(rt, high, many, work, second, session, gate) };
+    let (a, b) = join(rt, front, back);
+    let mut made = a?;
+    made.append(b?)?;
+    Ok(made)
+}
+
+/// What becomes of each piece, in the order of the pieces. At most as many threads as the crew has workers are at work, the caller's
+/// among them, each on one piece after the other; where no thread can be made the caller's does it all. The gate is passed before
+/// each piece, with the pieces' numbers. Want of memory at one piece is the answer.
+pub fn over_pieces<R: Threads + Sync, P: Send + Drop, M: Send + Drop, W: Work<P, M>, G: Gate>(
+    crew: &mut Crew<'_, R, G>,
+    pieces: List<P>,
+    work: &W,
+) -> Result<List<M>, Memory>
+    requires { AllByRecursion (W.accepts work.now) pieces }
+    ensures each { IfOk result (AllZip (W.gives work.now) pieces) }
+    ensures known { (f : P → M) → ((piece : P) (made : M) → W.gives work.now piece made → made ≡ f piece) → IfOk result (λ made. made ≡ map f pieces) }
+    ensures counted { crew.new.pieces ≡ min (crew.old.pieces + length pieces) (2 ^ 64 - 1) }
+    ensures same { (crew.new.workers ≡ crew.old.workers) × (crew.new.session ≡ crew.old.session) }
+{
+    let first = crew.pieces;
+    crew.pieces = first.saturating_add(pieces.len() as u64);
+    let workers = worth(pieces.len(), crew.workers);
+    in_parts(
+        crew.rt,
+        pieces,
+        workers,
+        work,
+        first,
+        crew.session,
+        crew.gate,
+    )
+}

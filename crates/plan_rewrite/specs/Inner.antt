@@ -1,0 +1,4 @@
+pub mod Pending
+pub mod Settling
+pub mod Trimmed
+pub mod Wide

@@ -1,0 +1,47 @@
+-- A plan with a box and a project that are to be put on it, operator by operator.
+use Rattle.std.specs.Prelude.{ℕ, if◌then◌else◌, List, length, Option, Some, None}
+use Rattle.cell_values.specs.declared.schema.Bounds.{Bounds}
+use Rattle.logical_plan.specs.declared.parts.Applied.{Applied}
+use Rattle.logical_plan.specs.PlanSchema.{schema_of}
+use Rattle.logical_plan.specs.Query.{Query, built, listed, scanned, filtered, applied, projected, between, subarray}
+use Rattle.logical_plan.specs.Query.{sliced, joined, crossed, redimensioned, regridded, windowed, aggregated}
+use Rattle.plan_rewrite.specs.Inner.Pending.{shown, pending}
+use Rattle.plan_rewrite.specs.Inner.Trimmed.{met, picked, kept_for, places_for, names_none}
+
+-- an apply, the first of whose attributes has place n, with what a project on it leaves of it
+abbrev pub applied_for : ℕ → List Applied → Option (List ℕ) → Query → Query
+applied_for n values places source = shown (places_for n values places) (applied source (kept_for n values places))
+
+-- the last operator of a plan over another source, or over two others
+abbrev pub over_one : Query → Query → Query
+over_one (subarray source own) new = subarray new own
+over_one (sliced source fixed) new = sliced new fixed
+over_one (redimensioned source schema gs) new = redimensioned new schema gs
+over_one (regridded source sizes gs) new = regridded new sizes gs
+over_one (windowed source reach gs) new = windowed new reach gs
+over_one (aggregated source gs groups) new = aggregated new gs groups
+over_one query new = query
+
+abbrev pub over_two : Query → Query → Query → Query
+over_two (joined left right schema) a b = joined a b schema
+over_two (crossed left right pairs schema) a b = crossed a b pairs schema
+over_two query a b = query
+
+abbrev pub settle : Option Bounds → Option (List ℕ) → Query → Query
+settle area places (built schema e) = pending area places (built schema e)
+settle area places (listed schema rows) = pending area places (listed schema rows)
+settle area places (scanned leaf) = pending area places (scanned leaf)
+settle area places (filtered source test) = shown places (filtered (settle area None source) test)
+settle area places (applied source values) =
+    if names_none (length (schema_of source).attributes) places then settle area places source
+    else applied_for (length (schema_of source).attributes) values places (settle area None source)
+settle area places (projected source own) = settle area (Some (picked places own)) source
+settle area places (between source own) = settle (Some (met area own)) places source
+settle area places (subarray source own) = pending area places (subarray (settle None None source) own)
+settle area places (sliced source fixed) = pending area places (sliced (settle None None source) fixed)
+settle area places (joined left right schema) = pending area places (joined (settle None None left) (settle None None right) schema)
+settle area places (crossed left right pairs schema) = pending area places (crossed (settle None None left) (settle None None right) pairs schema)
+settle area places (redimensioned source schema gs) = pending area places (redimensioned (settle None None source) schema gs)
+settle area places (regridded source sizes gs) = pending area places (regridded (settle None None source) sizes gs)
+settle area places (windowed source reach gs) = pending area places (windowed (settle None None source) reach gs)
+settle area places (aggregated source gs groups) = pending area places (aggregated (settle None None source) gs groups)
