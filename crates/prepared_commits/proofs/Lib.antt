@@ -1,6 +1,5 @@
 pub use Rattle.store_state.proofs.AtOn
 pub use Rattle.store_state.proofs.Attempts
-pub use Rattle.store_state.proofs.Causes
 pub use Rattle.store_state.proofs.Decodes
 pub use Rattle.store_state.proofs.Finds
 pub use Rattle.store_state.proofs.KeptOn

@@ -18,7 +18,6 @@ holds moment parts at db began =
     record {
       legal = cells.legal;
       doubt = cells.doubt;
-      failed = at.kept.cause.failed;
       now = λ image left. (cells.images image left).stands;
       past = cells.past;
       acked = cells.acked;

@@ -148,7 +148,6 @@ module _ {D : Type 0} (moment : D → Moment) (file : OpenFile D) (disk : D) (fo
     versions = versions;
     slots = slots;
     doubt = no_opening file.slots given.file.fresh.other given.file.fresh.next;
-    cause = record { faults = given.reads.same.later; wants = given.reads.same.wants_later; failed = λ some. absurd (cc (some)) };
     acked = refl;
     made = refl;
     tried = refl;

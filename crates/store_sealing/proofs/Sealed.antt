@@ -26,7 +26,7 @@ use Rattle.prepared_commits.specs.StoreParts.{StoreParts}
 use Rattle.prepared_commits.specs.At.{AreParts, IsAt, keeping, standing}
 use Rattle.prepared_commits.specs.Calls.{NotesFault}
 use Rattle.prepared_commits.specs.Payloads.{HasTold}
-use Rattle.prepared_commits.specs.Standings.{Standing, BeganAs, HasFailed}
+use Rattle.prepared_commits.specs.Standings.{Standing, BeganAs}
 use Rattle.prepared_commits.specs.Keeping.{Keeping}
 use Rattle.prepared_commits.specs.declared.prepared.NewBase.{NewBase}
 use Rattle.prepared_commits.specs.declared.prepared.Prepared.{Prepared}
@@ -161,14 +161,13 @@ module _ {D : Type 0} (moment : D → Moment) (old : StoreParts D) (p : Prepared
 
   pub at_stopped : StoppedStoresAreKept moment → StoppedPayloadsAreHeld moment → StoppedCellsAreHeld moment → (later : Slots) (stage : Stopped) (disk : D) (ledger : LedgerState) → Writes k.slots later p (moment s.disk) (moment disk)
       → StopsAt p.base stage k.slots later p.blobs p.chain (moment s.disk) (moment disk)
-      → HasFailed (moment s.disk).state (moment disk).state → NotesFault (moment s.disk).state (moment disk).state p.session s.ledger ledger
-      → (new : Standing D) (kept : Keeping) → new ≡ stopped stage s p ledger disk → kept ≡ stopped_keeping stage k p later
+      → NotesFault (moment s.disk).state (moment disk).state p.session s.ledger ledger → (new : Standing D) (kept : Keeping) → new ≡ stopped stage s p ledger disk → kept ≡ stopped_keeping stage k p later
       → IsAt moment new kept
-  at_stopped stores payloads cells later stage disk ledger writes stop failed noted new kept e f =
+  at_stopped stores payloads cells later stage disk ledger writes stop noted new kept e f =
       subst (λ (t : Standing D). IsAt moment t kept) (sym e)
       (subst (λ (l : Keeping). IsAt moment (stopped stage s p ledger disk) l) (sym f)
       (record {
-        kept = stores s k p stage later ledger disk is_ready writes.same failed noted;
+        kept = stores s k p stage later ledger disk is_ready writes.same noted;
         payloads = λ file told. payloads s k p file later stage ledger disk (is_written_over file told later disk writes) stop noted;
         cells = λ db began. cells s k p db later stage ledger disk (is_written db began later disk writes) stop noted;
       }))
@@ -221,7 +220,7 @@ module _ {D : Type 0} (moment : D → Moment) (old : StoreParts D) (p : Prepared
       λ i. record { disk = disk; opened = same.opened i; first = map version_of (same.first i); ledger = new.ledger; doubt = (ends i).doubt; acked = acked i; made = (ends i).made } in
       let f : keeping new ≡ stopped_keeping stage k p later = λ i. record { slots = slots i; catalog = (ends i).catalog; rows = (ends i).rows } in
       record {
-        parts = at_stopped laws.stopped_kept laws.stopped_had laws.stopped_held later stage disk new.ledger writes came.stopped came.cause noted (standing moment new) (keeping new) e f;
+        parts = at_stopped laws.stopped_kept laws.stopped_had laws.stopped_held later stage disk new.ledger writes came.stopped noted (standing moment new) (keeping new) e f;
         ok = tt;
         err = (stage, e);
         kept = λ i. record { slots = later; catalog = (ends i).catalog; rows = (ends i).rows };

@@ -32,7 +32,6 @@ use Rattle.store_state.specs.Cells.{HoldsCells}
 use Rattle.store_state.specs.At.{IsAt}
 use Rattle.store_state.specs.Inner.Keeping.{Keeping, tried_if_committed, AreCounted}
 use Rattle.store_state.proofs.Attempts.{attempt_noted, have_stood_noted, some_map}
-use Rattle.store_state.proofs.Causes.{cause_on}
 use Rattle.store_state.proofs.Lists.{all_more, zip_map}
 use Rattle.store_state.proofs.KeptOn.{kept_pin, kept_unpin, kept_reap}
 use Rattle.store_state.proofs.CellsOn.{cells_pin, cells_unpin, cells_reap}
@@ -58,7 +57,6 @@ module _ {D : Type 0} (moment : D → Moment) (s : Standing D) (k : Keeping) (h 
     versions = x.versions;
     slots = x.slots;
     doubt = x.doubt;
-    cause = x.cause;
     acked = x.acked;
     made = x.made;
     tried = x.tried;
@@ -182,7 +180,6 @@ module _ {D : Type 0} (moment : D → Moment) (s : Standing D) (k : Keeping) (x 
       versions = x.kept.versions;
       slots = x.kept.slots;
       doubt = x.kept.doubt;
-      cause = x.kept.cause;
       acked = x.kept.acked;
       made = x.kept.made;
       tried = tried_on (history s.ledger) s.ledger.notes note x.kept.tried;
@@ -285,7 +282,6 @@ module _ {D : Type 0} (moment : D → Moment) (s : Standing D) (k : Keeping) (di
       versions = x.kept.versions;
       slots = x.kept.slots;
       doubt = x.kept.doubt;
-      cause = cause_on (moment s.opened.disk).state (moment s.disk).state (moment disk).state s.doubt reads.same x.kept.cause;
       acked = x.kept.acked;
       made = x.kept.made;
       tried = x.kept.tried;

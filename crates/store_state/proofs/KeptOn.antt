@@ -52,7 +52,6 @@ module _ {D : Type 0} (moment : D → Moment) (s : Standing D) (k : Keeping) (h 
     };
     slots = record { sequence = x.slots.sequence; records = x.slots.records; fits = x.slots.fits; log = x.slots.log; target = x.slots.target; alone = x.slots.alone };
     doubt = x.doubt;
-    cause = x.cause;
     acked = x.acked;
     made = x.made;
     tried = tried_pin session h s.ledger.notes x.tried;
@@ -79,7 +78,6 @@ module _ {D : Type 0} (moment : D → Moment) (s : Standing D) (k : Keeping) (h 
     };
     slots = record { sequence = x.slots.sequence; records = x.slots.records; fits = x.slots.fits; log = x.slots.log; target = x.slots.target; alone = x.slots.alone };
     doubt = x.doubt;
-    cause = x.cause;
     acked = x.acked;
     made = x.made;
     tried = passes_filter (tried_if_committed h s.ledger.notes) (λ pin. not (nat_eq pin.session session)) (open_pins h) x.tried;
@@ -102,7 +100,6 @@ module _ {D : Type 0} (moment : D → Moment) (s : Standing D) (k : Keeping) (h 
     };
     slots = record { sequence = x.slots.sequence; records = x.slots.records; fits = x.slots.fits; log = x.slots.log; target = x.slots.target; alone = x.slots.alone };
     doubt = x.doubt;
-    cause = x.cause;
     acked = x.acked;
     made = x.made;
     tried = x.tried;

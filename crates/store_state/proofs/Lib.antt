@@ -1,7 +1,6 @@
 mod Again
 pub mod AtOn
 pub mod Attempts
-pub mod Causes
 pub mod CellsOn
 pub mod Decodes
 pub mod Finds

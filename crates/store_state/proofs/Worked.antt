@@ -84,7 +84,6 @@ store_is_kept = record {
   versions = versions_are;
   slots = record { sequence = refl; records = refl; fits = omega arith; log = refl; target = refl; alone = tt };
   doubt = refl;
-  cause = record { faults = omega arith; wants = omega arith; failed = λ some. absurd (cc (some)) };
   acked = refl;
   made = refl;
   tried = refl;

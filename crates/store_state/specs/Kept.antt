@@ -18,7 +18,7 @@ use Rattle.store_versions.specs.declared.row.VersionRow.{VersionRow}
 use Rattle.store_versions.specs.Seen.{AreSeen}
 use Rattle.store_versions.specs.Versions.{Directories, HaveDirectories, versions_at}
 use Rattle.store_state.specs.Standings.{Standing, base_of, current_slots, records_in}
-use Rattle.store_state.specs.Inner.Keeping.{Keeping, AreDirectoriesOf, HasCause, HasItsPages, is_opening, tried_if_committed, AreCounted}
+use Rattle.store_state.specs.Inner.Keeping.{Keeping, AreDirectoriesOf, HasItsPages, is_opening, tried_if_committed, AreCounted}
 
 -- the history is an ordered one, whose commits share no pages but their own, over a base whose catalogue is apart
 pub record IsInOrder (base : Core) (h : History) : Type 0 where
@@ -56,7 +56,6 @@ pub record IsKept {D : Type 0} (moment : D → Moment) (s : Standing D) (k : Kee
   pub slots : AreSlots (base_of s) h k.slots
   -- a slot may stand open just where a change is in doubt
   pub doubt : is_opening k.slots ≡ is_some s.doubt
-  pub cause : HasCause (moment s.opened.disk).state (moment s.disk).state s.doubt
   pub acked : length s.acked ≡ commits h
   pub made : length s.made ≡ commits h
   -- what was committed under an open pin was tried under it

@@ -1,6 +1,5 @@
 -- A store as contracts see it, and the databases that an image of its disk may stand for.
 use Rattle.std.specs.Prelude.{◌≡◌, ℕ, ◌+◌, ◌≤◌, ◌⊎◌, nat_eq, if◌then◌else◌, List, [], ◌∷◌, ◌++◌, length, Contains, Option, Some, None, IfSome, IsTrue}
-use Rattle.afl_outside.specs.Counts.{Rose}
 use Rattle.afl_outside.specs.Disk.{DiskState, Moment}
 use Rattle.page_layout.specs.declared.sides.Format.{Format}
 use Rattle.page_layout.specs.declared.sides.Format.TheVariants.{One, Two}
@@ -122,10 +121,6 @@ WasTried notes before change = (session : ℕ) × WasTriedBy session notes befor
 pub record IsAttempt (db : Database) (notes : List Note) (before : History) (change : Change) : Type 0 where
   pub sound : IsSound (at db before) change
   pub tried : WasTried notes before change
-
--- in between a call of a disk failed, or found no memory
-abbrev pub HasFailed : DiskState → DiskState → Type 0
-HasFailed old new = Rose old.faults new.faults ⊎ Rose old.wants new.wants
 
 -- AN IMAGE OF ANY MOMENT stands for the database after some beginning of the history, which has so many entries at least, or for that
 -- after one more change, which a session tried to commit there

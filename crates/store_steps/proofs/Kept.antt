@@ -28,7 +28,6 @@ use Rattle.prepared_commits.specs.Keeping.{Keeping}
 use Rattle.prepared_commits.specs.declared.prepared.NewBase.{NewBase}
 use Rattle.prepared_commits.specs.declared.prepared.Prepared.{Prepared}
 use Rattle.prepared_commits.specs.Needs.{IsLaidBy, newest_now, next_sequence}
-use Rattle.prepared_commits.proofs.Causes.{cause_on}
 use Rattle.store_steps.specs.Laws.{IsReady, SealedStoresAreKept}
 use Rattle.store_steps.specs.Steps.{entry_of, made_by, sealed_keeping, sealed_ledger, sealed_slots}
 use Rattle.store_steps.proofs.Catalogs.{IsLaidOf, IsMadeOf, record_is, record_tells, base_is, base_tells, has_its, new_of}
@@ -130,7 +129,6 @@ module _ {D : Type 0} (moment : D → Moment) (s : Standing D) (k : Keeping) (p 
               (length s.ledger.entries) (sym (length-reverse s.ledger.entries)) ready.asked.typed new;
           slots = slots_kept;
           doubt = sealed_shut p.base p.chain k.slots (λ none. its_target ∙ ap target_of none) x.slots.alone;
-          cause = record { faults = x.cause.faults; wants = x.cause.wants; failed = λ some. absurd (cc (some)) };
           acked = length-append s.acked (since ∷ []) ∙ ap (λ (n : ℕ). n + 1) acked;
           made = length-append s.made (made_by p ∷ []) ∙ ap (λ (n : ℕ). n + 1) made;
           tried = tried_commit s.ledger.base h s.ledger.notes p.session p.commit.change p.commit.used (ordered_is_allowed s.ledger.base h x.in_order.ordered).1 ready.may_come.noted x.tried;
@@ -148,8 +146,13 @@ module _ {D : Type 0} (moment : D → Moment) (s : Standing D) (k : Keeping) (p 
 
 pub sealed_stores : {D : Type 0} (moment : D → Moment) → OrdersFollow → SealedStoresAreKept moment
 sealed_stores moment follow s k p ledger disk ready on notes =
+<<<<<<< ours
     let x : IsKept moment (next moment s k p ready follow (moment disk).state.moment) (sealed_keeping s k p) (history (sealed_ledger s p))
     (given_of (next moment s k p ready follow (moment disk).state.moment)) = kept_sealed moment s k p ready follow (moment disk).state.moment in
     kept_on moment (next moment s k p ready follow (moment disk).state.moment) (sealed_keeping s k p) disk p.session on x
     (sealed_keeping s k p).slots None x.slots x.doubt
     (cause_on (moment s.opened.disk).state (moment s.disk).state (moment disk).state None on x.cause) ledger notes
+=======
+    kept_on moment (next moment s k p ready follow (moment disk).state.moment) (sealed_keeping s k p) disk p.session on
+    (kept_sealed moment s k p ready follow (moment disk).state.moment) ledger notes
+>>>>>>> theirs

@@ -1,36 +1,31 @@
 -- What a store keeps on every disk goes on while the disk does, with the note of a fault where its count rose.
-use Rattle.std.proofs.Common.{◌≡◌, ℕ, ◌<◌, ◌≤◌, ◌⊎◌, inl, inr, Bool, true, false, if◌then◌else◌, List, [], ◌∷◌, ◌++◌, Option, IsTrue, is_some, refl, sym, subst, arith}
+use Rattle.std.proofs.Common.{ℕ, ◌<◌, ◌≤◌, ◌⊎◌, inl, inr, Bool, true, false, if◌then◌else◌, List, [], ◌∷◌, ◌++◌, IsTrue, refl, sym, subst, arith}
 use Rattle.std.specs.List.{list_all}
 use Rattle.std.proofs.lemmas.Bool.{cases_lt}
 use Rattle.afl_outside.specs.Counts.{Rose, risen}
 use Rattle.afl_outside.specs.Disk.{DiskGoesOn, Moment}
-use Rattle.page_slots.specs.declared.slots.Slots.{Slots}
-use Rattle.plan_changes.specs.declared.change.Change.{Change}
 use Rattle.event_core.specs.History.{History, open_pins}
 use Rattle.store_ledger.specs.declared.note.Note.{Note}
 use Rattle.store_ledger.specs.declared.note.NoteKind.TheVariants.{Fault}
 use Rattle.store_ledger.specs.Ledger.{LedgerState, history, is_noted, note_now, with_notes, is_fault}
 use Rattle.store_versions.specs.Versions.{Directories}
 use Rattle.prepared_commits.specs.Calls.{NotesFault}
-use Rattle.prepared_commits.specs.Standings.{Standing, base_of, given_of}
-use Rattle.prepared_commits.specs.Kept.{AreSlots, IsKept}
-use Rattle.prepared_commits.specs.Keeping.{Keeping, HasCause, is_opening, tried_if_committed, AreCounted}
+use Rattle.prepared_commits.specs.Standings.{Standing, given_of}
+use Rattle.prepared_commits.specs.Kept.{IsKept}
+use Rattle.prepared_commits.specs.Keeping.{Keeping, tried_if_committed, AreCounted}
 use Rattle.prepared_commits.proofs.AtOn.{counted_later, counted_more, tried_on}
 
--- with another disk, other slots, of which one may stand open, and other notes
-kept_with : {D : Type 0} (moment : D → Moment) (s : Standing D) (k : Keeping) (h : History) (given : Directories) (disk : D) (slots : Slots) (doubt : Option Change)
-    (notes : List Note) → IsKept moment s k h given → AreSlots (base_of s) h slots → is_opening slots ≡ is_some doubt →
-    HasCause (moment s.opened.disk).state (moment disk).state doubt → IsTrue (list_all (tried_if_committed h notes) (open_pins h)) →
-    AreCounted (moment s.opened.disk).state.faults (moment disk).state.faults notes →
-    IsKept moment (record s { disk = disk; ledger = record (s.ledger) { notes = notes }; doubt = doubt }) (record k { slots = slots }) h given
-kept_with moment s k h given disk slots doubt notes x are same cause tried counted = record {
+-- with another disk, and other notes
+kept_with : {D : Type 0} (moment : D → Moment) (s : Standing D) (k : Keeping) (h : History) (given : Directories) (disk : D) (notes : List Note) → IsKept moment s k h given →
+    IsTrue (list_all (tried_if_committed h notes) (open_pins h)) → AreCounted (moment s.opened.disk).state.faults (moment disk).state.faults notes →
+    IsKept moment (record s { disk = disk; ledger = record (s.ledger) { notes = notes } }) k h given
+kept_with moment s k h given disk notes x tried counted = record {
   in_order = x.in_order;
   catalog = x.catalog;
   names = x.names;
   versions = x.versions;
-  slots = are;
-  doubt = same;
-  cause = cause;
+  slots = x.slots;
+  doubt = x.doubt;
   acked = x.acked;
   made = x.made;
   tried = tried;
@@ -38,18 +33,16 @@ kept_with moment s k h given disk slots doubt notes x are same cause tried count
 }
 
 module _ {D : Type 0} (moment : D → Moment) (s : Standing D) (k : Keeping) (disk : D) (session : ℕ) (on : DiskGoesOn (moment s.disk).state (moment disk).state)
-    (x : IsKept moment s k (history s.ledger) (given_of s)) (slots : Slots) (doubt : Option Change) (are : AreSlots (base_of s) (history s.ledger) slots)
-    (same : is_opening slots ≡ is_some doubt) (cause : HasCause (moment s.opened.disk).state (moment disk).state doubt) where
+    (x : IsKept moment s k (history s.ledger) (given_of s)) where
   abbrev Keeps : LedgerState → Type 0
-  Keeps ledger = IsKept moment (record s { disk = disk; ledger = ledger; doubt = doubt }) (record k { slots = slots }) (history ledger)
-      (given_of (record s { disk = disk; ledger = ledger; doubt = doubt }))
+  Keeps ledger = IsKept moment (record s { disk = disk; ledger = ledger }) k (history ledger) (given_of (record s { disk = disk; ledger = ledger }))
 
   still : Keeps s.ledger
-  still = kept_with moment s k (history s.ledger) (given_of s) disk slots doubt s.ledger.notes x are same cause x.tried
+  still = kept_with moment s k (history s.ledger) (given_of s) disk s.ledger.notes x x.tried
       (counted_later (moment s.opened.disk).state.faults (moment s.disk).state.faults (moment disk).state.faults s.ledger.notes on.later x.noted)
 
   one_more : Rose (moment s.disk).state.faults (moment disk).state.faults → Keeps (with_notes (note_now Fault s.ledger session ∷ []) s.ledger)
-  one_more rose = kept_with moment s k (history s.ledger) (given_of s) disk slots doubt (s.ledger.notes ++ note_now Fault s.ledger session ∷ []) x are same cause
+  one_more rose = kept_with moment s k (history s.ledger) (given_of s) disk (s.ledger.notes ++ note_now Fault s.ledger session ∷ []) x
       (tried_on (history s.ledger) s.ledger.notes (note_now Fault s.ledger session) x.tried)
       (counted_more (moment s.opened.disk).state.faults (moment s.disk).state.faults (moment disk).state.faults s.ledger.notes (note_now Fault s.ledger session) refl rose x.noted)
 

@@ -28,7 +28,6 @@ pinned_kept before =
       versions = x.versions;
       slots = x.slots;
       doubt = refl;
-      cause = x.cause;
       acked = refl;
       made = refl;
       tried = refl;

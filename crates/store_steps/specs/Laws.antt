@@ -7,7 +7,7 @@ use Rattle.commit_writes.specs.declared.stopped.Stopped.{Stopped}
 use Rattle.found_rows.specs.Laid.{Laid}
 use Rattle.store_ledger.specs.Ledger.{LedgerState, history}
 use Rattle.prepared_commits.specs.Calls.{NotesFault}
-use Rattle.prepared_commits.specs.Standings.{HasFailed, Standing, given_of}
+use Rattle.prepared_commits.specs.Standings.{Standing, given_of}
 use Rattle.prepared_commits.specs.Kept.{IsKept}
 use Rattle.prepared_commits.specs.Keeping.{Keeping}
 use Rattle.prepared_commits.specs.declared.prepared.Prepared.{Prepared}
@@ -31,10 +31,10 @@ SealedStoresAreKept {D} moment = (s : Standing D) (k : Keeping) (p : Prepared) (
     → NotesFault (moment s.disk).state (moment disk).state p.session (sealed_ledger s p) ledger
     → IsKept moment (sealed moment s p ledger disk) (sealed_keeping s k p) (history ledger) (given_of (sealed moment s p ledger disk))
 
--- where it stopped, since a call failed or found no memory
+-- where it stopped
 abbrev pub StoppedStoresAreKept : {D : Type 0} → (D → Moment) → Type 0
 StoppedStoresAreKept {D} moment = (s : Standing D) (k : Keeping) (p : Prepared) (stage : Stopped) (later : Slots)
     (ledger : LedgerState) (disk : D)
-    → IsReady moment s k p → DiskGoesOn (moment s.disk).state (moment disk).state → HasFailed (moment s.disk).state (moment disk).state
+    → IsReady moment s k p → DiskGoesOn (moment s.disk).state (moment disk).state
     → NotesFault (moment s.disk).state (moment disk).state p.session s.ledger ledger
     → IsKept moment (stopped stage s p ledger disk) (stopped_keeping stage k p later) (history ledger) (given_of (stopped stage s p ledger disk))

@@ -1,8 +1,7 @@
 -- What a store keeps besides what contracts see of it, and words for it.
 use Rattle.std.specs.Prelude.{◌≡◌, ℕ, ◌+◌, ◌-◌, ◌^◌, ◌≤◌, ◌⊎◌, Bool, true, false, not, ◌||◌, nat_eq, if◌then◌else◌}
-use Rattle.std.specs.Prelude.{List, [], ◌∷◌, ◌++◌, length, Option, IfSome, IsTrue, is_some}
+use Rattle.std.specs.Prelude.{List, [], ◌∷◌, ◌++◌, length, IfSome, IsTrue}
 use Rattle.std.specs.List.{AllByRecursion, filter, flat_map}
-use Rattle.afl_outside.specs.Disk.{DiskState}
 use Rattle.cell_values.specs.declared.datum.Row.{Row}
 use Rattle.cell_values.specs.declared.schema.Schema.{Schema}
 use Rattle.array_geom.specs.Geometry.{has_core}
@@ -17,7 +16,6 @@ use Rattle.version_catalog.specs.declared.rules.catalog.Catalog.{Catalog}
 use Rattle.version_reaper.specs.PageSets.{holds}
 use Rattle.logical_plan.specs.declared.names.Names.{Names}
 use Rattle.plan_changes.specs.Changes.{entry_named}
-use Rattle.plan_changes.specs.declared.change.Change.{Change}
 use Rattle.plan_changes.specs.Databases.{Database, names_of, rows_of}
 use Rattle.file_laws.specs.Opening.{all_of, are_pages}
 use Rattle.file_laws.specs.Standing.{HoldsVersion}
@@ -28,7 +26,6 @@ use Rattle.store_ledger.specs.declared.note.Note.{Note}
 use Rattle.store_ledger.specs.Ledger.{has_note, is_tried, is_fault}
 use Rattle.store_versions.specs.declared.row.VersionRow.{VersionRow}
 use Rattle.store_versions.specs.Versions.{MadeVersion}
-use Rattle.store_state.specs.Standings.{HasFailed}
 
 -- what is known of the slots, the catalogue, and the table of versions
 pub record Keeping : Type 0 where
@@ -99,11 +96,3 @@ tried_if_committed h notes pin = not (has_committed pin.session h) || has_note i
 -- so many notes of faults are no more than a count has risen by, or it stands at its last value
 abbrev pub AreCounted : ℕ → ℕ → List Note → Type 0
 AreCounted opened now notes = (opened + length (filter (λ note. is_fault note.kind) notes) ≤ now) ⊎ (2 ^ 64 - 1 ≤ now)
-
--- ---- doubt
-
--- the counts of a disk have not fallen since the file was opened, and where a change is in doubt a call failed since, or found no memory
-pub record HasCause (opened now : DiskState) (doubt : Option Change) : Type 0 where
-  pub faults : opened.faults ≤ now.faults
-  pub wants : opened.wants ≤ now.wants
-  pub failed : IsTrue (is_some doubt) → HasFailed opened now
