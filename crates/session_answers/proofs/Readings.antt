@@ -1,5 +1,5 @@
 -- What was read under a pin, and how it is answered.
-use Rattle.std.proofs.Common.{◌≡◌, ◌∙◌, ◌+◌, ◌<◌, ◌≤◌, ℕ, Bool, false, List, [], ◌∷◌, ◌++◌, length, Option, Result, Ok, Err, IfOk, IfErr, OnErr, refl, ap, sym, subst, arith}
+use Rattle.std.proofs.Common.{◌≡◌, ◌∙◌, ◌+◌, ◌<◌, ◌≤◌, ℕ, Bool, false, List, [], ◌∷◌, ◌++◌, length, Option, Result, Ok, Err, IfOk, IfErr, ap, sym, subst, arith}
 use Rattle.afl_outside.specs.Counts.{Rose}
 use Rattle.afl_outside.specs.Disk.{Moment}
 use Rattle.afl_trees.specs.Term.{Term}
@@ -8,8 +8,7 @@ use Rattle.array_geom.specs.declared.chunk.Changed.{Changed}
 use Rattle.chunk_source.specs.declared.reading.fault.ExecFault.{ExecFault}
 use Rattle.chunk_source.specs.declared.reading.fault.ExecFault.TheVariants.{Source, Damaged, Memory}
 use Rattle.chunk_source.specs.Faults.{Answers}
-use Rattle.chunk_source.specs.Reading.{asked_of}
-use Rattle.chunk_source.specs.Source.{AsksFront, Reads}
+use Rattle.chunk_source.specs.Source.{Reads}
 use Rattle.event_core.specs.Cells.{at}
 use Rattle.event_core.specs.History.{History}
 use Rattle.logical_plan.specs.declared.parts.Leaf.{Leaf}
@@ -17,7 +16,7 @@ use Rattle.plan_changes.specs.declared.change.Change.{Change}
 use Rattle.plan_changes.specs.Databases.{Database, names_of}
 use Rattle.statement_answers.specs.declared.outcome.Outcome.{Outcome}
 use Rattle.statement_answers.specs.declared.outcome.Outcome.TheVariants.{Replied, Changes}
-use Rattle.statement_answers.specs.Outcomes.{asked_for, leaves_for, HasOutcomeKind, IsOutcomeOf, IsToldBy, MayFail}
+use Rattle.statement_answers.specs.Outcomes.{asked_for, HasOutcomeKind, IsOutcomeOf, IsToldBy, MayFail}
 use Rattle.statement_replies.specs.declared.replies.Reply.{Reply as Told}
 use Rattle.statement_replies.specs.Statements.{reply_to}
 use Rattle.store_ledger.specs.declared.note.NoteKind.{NoteKind}
@@ -40,7 +39,6 @@ use Rattle.session_turns.specs.Databases.{IsDatabaseOf}
 use Rattle.session_turns.specs.Laws.{PinnedSourcesHoldVersions}
 use Rattle.session_turns.specs.Pinned.{pinned_state, reading_of, unread, HasRead}
 use Rattle.session_turns.specs.Seats.{ledger_seen, seen, session_of, start}
-use Rattle.session_turns.specs.Reads.{MayLack}
 use Rattle.session_turns.specs.Start.{Start}
 use Rattle.session_turns.specs.Told.{entries_in, ledger_of}
 use Rattle.session_turns.specs.BehindPins.{ComesOver, HasDatabaseAt}
@@ -49,7 +47,6 @@ use Rattle.session_turns.specs.ToldReplies.{IsLookedReply}
 use Rattle.session_turns.specs.Under.{SaysWhy, WasPinned}
 use Rattle.session_turns.proofs.Behind.{names_behind, open_pin_behind}
 use Rattle.session_turns.proofs.Changing.{read_changes_may_be_committed}
-use Rattle.session_turns.proofs.Reads.{may_lack}
 use Rattle.session_turns.proofs.Under.{failed_replies_are_told, pin_within, read_replies_are_told}
 use Rattle.session_turns.specs.AnsweredUnder.{IsAnsweredUnder}
 use Rattle.session_answers.specs.Inner.Steps.{AddsNoAct, WasRead}
@@ -108,31 +105,16 @@ module _ {D : Type 0} (moment : D → Moment) (shared : Shared D) (pinned : Pinn
     asked_by (Ok outcome) asks = subst (λ (r : Reading D). AsksBy r outcome) made asks
     asked_by (Err fault) asks = tt
 
-    lack_by : (result : Result Outcome ExecFault) → HasRead moment last → IfErr result (λ fault. MayFail fault (check_of tree text pinned.names)) →
-        OnErr result (AsksFront (asked_of (pinned_state moment first) 0 (leaves_for pinned.names (check_of tree text pinned.names)))
-        (pinned_state moment first) (pinned_state moment last)) → IfErr result (SaysWhy moment (reading_of shared pinned old new last.marks)) →
-        IfErr result (MayLack pinned.names (check_of tree text pinned.names))
-    lack_by (Ok outcome) read may front why = tt
-    lack_by (Err Source) read may front why =
-        may_lack pinned.names (check_of tree text pinned.names) (pinned_state moment first) (pinned_state moment last) last.marks front
-        (ap (λ (r : Reading D). r.marks.asked) made) refl read.unasked Source may why
-    lack_by (Err (Damaged page)) read may front why =
-        may_lack pinned.names (check_of tree text pinned.names) (pinned_state moment first) (pinned_state moment last) last.marks front
-        (ap (λ (r : Reading D). r.marks.asked) made) refl read.unasked (Damaged page) may why
-    lack_by (Err Memory) read may front why = tt
-
     pub was_read : (result : Result Outcome ExecFault) → HasRead moment last → IfOk result (HasOutcomeKind pinned.names (check_of tree text pinned.names)) →
         IfOk result (TellsBy first) → IfOk result (AsksBy first) → Answers (pinned_state moment first) (pinned_state moment last) result →
-        IfErr result (λ fault. MayFail fault (check_of tree text pinned.names)) →
-        OnErr result (AsksFront (asked_of (pinned_state moment first) 0 (leaves_for pinned.names (check_of tree text pinned.names)))
-        (pinned_state moment first) (pinned_state moment last)) → WasRead moment shared pinned old new text tree result
-    was_read result read kind tells asks answers allowed front = record {
+        IfErr result (λ fault. MayFail fault (check_of tree text pinned.names)) → WasRead moment shared pinned old new text tree result
+    was_read result read kind tells asks answers allowed = record {
       marks = last.marks;
       read = subst (HasRead moment) last_is read;
       comes = comes_by result kind tells;
       asked = asked_by result asks;
       why = why_by result answers;
-      reads = lack_by result read allowed front (why_by result answers);
+      allowed = allowed;
     }
 
 -- ---- its answers
@@ -197,7 +179,7 @@ module _ {D : Type 0} (moment : D → Moment) (shared : Shared D) (pinned : Pinn
       reply.place ≡ pinned.place + 1 → IsAnsweredUnder moment began pinned.session pinned.place (seen old) (seen new) text tree reply
   unread_is_answered fault reply w u at =
       looked (Err fault) w reply at
-      (failed_replies_are_told moment (reading_of shared pinned old new w.marks) text tree reply fault w.read (was (Err fault) w) w.why w.reads u at w.read.adds)
+      (failed_replies_are_told moment (reading_of shared pinned old new w.marks) text tree reply fault w.read (was (Err fault) w) w.why w.allowed u at w.read.adds)
 
   pub change_is_read : (change : Change) (changed : Option Changed) (words : Told) (w : WasRead moment shared pinned old new text tree (Ok (Changes change changed words))) →
       IsReadChange moment (reading_of shared pinned old new w.marks) text tree change changed words

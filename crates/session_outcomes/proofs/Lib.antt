@@ -16,6 +16,5 @@ pub mod Changing
 pub mod Freshly
 pub mod Noted
 pub mod Outcomes
-pub mod Reads
 pub mod Told
 pub mod Under

@@ -101,12 +101,12 @@ module _ {D : Type 0} (moment : D → Moment) (start : Start D) (session pin : �
   want_is_told w = looked (Some Memory) w.1 w.0 tt
 
   disk_is_told : IsCausedSincePin moment start session pin events own text tree reply Source → Refuses Disk reply → Looked
-  disk_is_told c (inl e) = looked (Some Disk) (refusal_is (refused Disk) e) (text_is (refused Disk) e) (c.holds, c.cause, record { allowed = c.reads.allowed; reads = c.reads.reads })
+  disk_is_told c (inl e) = looked (Some Disk) (refusal_is (refused Disk) e) (text_is (refused Disk) e) (c.holds, c.cause, c.allowed)
   disk_is_told c (inr w) = want_is_told w
 
   page_is_told : (page : ℕ) → IsCausedSincePin moment start session pin events own text tree reply (Spoiled page) → Refuses (Damaged page) reply → Looked
   page_is_told page c (inl e) = looked (Some (Damaged page)) (refusal_is (refused (Damaged page)) e) (text_is (refused (Damaged page)) e)
-      (c.holds, c.cause.0, c.cause.1, record { allowed = c.reads.allowed; reads = c.reads.reads })
+      (c.holds, c.cause.0, c.cause.1, c.allowed)
   page_is_told page c (inr w) = want_is_told w
 
   unread_is_told : (fault : ExecFault) → IsCausedSincePin moment start session pin events own text tree reply fault → Looked

@@ -11,6 +11,7 @@ use Rattle.chunk_source.specs.declared.reading.fault.ExecFault.TheVariants.{Sour
 use Rattle.event_core.specs.declared.entry.Entry.TheVariants.{Pin}
 use Rattle.afl_types.specs.Checking.{check_of}
 use Rattle.statement_answers.specs.declared.outcome.Outcome.TheVariants.{Replied}
+use Rattle.statement_answers.specs.Outcomes.{MayFail}
 use Rattle.store_ledger.specs.declared.pinned.Pinned.{Pinned}
 use Rattle.store_ledger.specs.Ledger.{IsOpenPin}
 use Rattle.store_state.specs.declared.event.Event.{Event}
@@ -28,7 +29,6 @@ use Rattle.session_sources.specs.declared.reading.Reading.{Reading}
 use Rattle.session_sources.specs.Courses.{AddsAtMostFault, AddsOwn}
 use Rattle.session_sources.specs.Pinned.{unread, HasRead}
 use Rattle.session_sources.specs.Stored.{BeginsDamage}
-use Rattle.session_outcomes.specs.Reads.{MayLack}
 use Rattle.session_outcomes.specs.Said.{IsSaid}
 use Rattle.session_outcomes.specs.ToldReplies.{IsCause, IsLookedReply}
 use Rattle.session_outcomes.specs.Under.{FailedRepliesAreTold, HasOutcomesWords, ReadRepliesAreTold, SaysWhy, WasPinned}
@@ -109,12 +109,12 @@ module _ {D : Type 0} (moment : D → Moment) (r : Reading D) (text : List ℕ) 
   names_there : names_before began (seen r.seat) reply.place ≡ r.lent.pinned.names
   names_there = ap (names_before began (seen r.seat)) at ∙ names_behind began (seen r.seat) r.lent.pinned read.pin.open_pin
 
-  fault_told : (fault : ExecFault) → SaysWhy moment r fault → MayLack r.lent.pinned.names (check_of tree text r.lent.pinned.names) fault → IsUnreadReply fault reply →
+  fault_told : (fault : ExecFault) → SaysWhy moment r fault → MayFail fault (check_of tree text r.lent.pinned.names) → IsUnreadReply fault reply →
       IsLookedReply moment began r.lent.pinned.session r.lent.pinned.place (seen r.seat) adds.own text tree reply
   fault_told fault why may u = unread_replies_are_told moment began r.lent.pinned.session r.lent.pinned.place (seen r.seat) adds.own text tree reply fault (record {
     holds = inl at;
     cause = cause fault why;
-    reads = subst (λ (names : Names). MayLack names (check_of tree text names) fault) (sym names_there) may;
+    allowed = subst (λ (names : Names). MayFail fault (check_of tree text names)) (sym names_there) may;
     unread = u;
   })
 

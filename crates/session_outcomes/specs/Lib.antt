@@ -31,7 +31,6 @@ pub use Rattle.statement_answers.specs.declared.outcome.Outcome
 pub mod BehindPins
 pub mod Changing
 pub mod Freshly
-pub mod Reads
 pub mod Said
 pub mod ToldReplies
 pub mod Under

@@ -6,6 +6,7 @@ use Rattle.chunk_source.specs.declared.reading.fault.ExecFault.{ExecFault}
 use Rattle.chunk_source.specs.declared.reading.fault.ExecFault.TheVariants.{Source, Damaged, Memory}
 use Rattle.afl_types.specs.Checking.{check_of}
 use Rattle.statement_answers.specs.declared.outcome.Outcome.TheVariants.{Replied}
+use Rattle.statement_answers.specs.Outcomes.{MayFail}
 use Rattle.store_ledger.specs.declared.note.NoteKind.{NoteKind}
 use Rattle.store_ledger.specs.Ledger.{is_noted}
 use Rattle.store_state.specs.declared.event.Event.{Event}
@@ -18,7 +19,6 @@ use Rattle.session_replies.specs.declared.reply.Reply.{Reply}
 use Rattle.session_sources.specs.declared.reading.Reading.{Reading}
 use Rattle.session_sources.specs.Courses.{AddsAtMostFault}
 use Rattle.session_sources.specs.Pinned.{HasRead}
-use Rattle.session_outcomes.specs.Reads.{MayLack}
 use Rattle.session_outcomes.specs.Said.{IsSaid}
 
 module _ {D : Type 0} (moment : D → Moment) (start : Start D) (session pin : ℕ) (events own : List Event) (text : List ℕ) (tree : Term) (reply : Reply) where
@@ -41,7 +41,7 @@ module _ {D : Type 0} (moment : D → Moment) (start : Start D) (session pin : �
   pub record IsCausedSincePin (fault : ExecFault) : Type 0 where
     pub holds : HoldsWhereRefused moment start session pin events own text tree reply
     pub cause : IsCause fault
-    pub reads : MayLack (names_before start events reply.place) (check_of tree text (names_before start events reply.place)) fault
+    pub allowed : MayFail fault (check_of tree text (names_before start events reply.place))
     pub unread : IsUnreadReply fault reply
 
 -- WHAT IS SAID BEHIND A PIN IS TOLD by the reply of these words, and why a source gave no answer by the reply that refuses for it

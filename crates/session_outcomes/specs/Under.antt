@@ -6,6 +6,7 @@ use Rattle.chunk_source.specs.declared.reading.fault.ExecFault.{ExecFault}
 use Rattle.chunk_source.specs.declared.reading.fault.ExecFault.TheVariants.{Source, Damaged, Memory}
 use Rattle.afl_types.specs.Checking.{check_of}
 use Rattle.statement_answers.specs.declared.outcome.Outcome.TheVariants.{Replied}
+use Rattle.statement_answers.specs.Outcomes.{MayFail}
 use Rattle.store_ledger.specs.declared.note.NoteKind.{NoteKind}
 use Rattle.store_ledger.specs.Ledger.{is_noted}
 use Rattle.session_sources.specs.Seats.{ledger_seen, seen, session_of, start}
@@ -16,7 +17,6 @@ use Rattle.session_sources.specs.declared.reading.Reading.{Reading}
 use Rattle.session_sources.specs.Courses.{AddsAtMostFault}
 use Rattle.session_sources.specs.Pinned.{pinned_state, unread, HasRead}
 use Rattle.session_outcomes.specs.BehindPins.{ComesOver, HasDatabaseAt}
-use Rattle.session_outcomes.specs.Reads.{MayLack}
 use Rattle.session_outcomes.specs.ToldReplies.{IsLookedReply}
 
 module _ {D : Type 0} (moment : D → Moment) (r : Reading D) where
@@ -49,5 +49,5 @@ ReadRepliesAreTold {D} moment = (r : Reading D) (text : List ℕ) (tree : Term) 
 
 abbrev pub FailedRepliesAreTold : {D : Type 0} → (D → Moment) → Type 0
 FailedRepliesAreTold {D} moment = (r : Reading D) (text : List ℕ) (tree : Term) (reply : Reply) (fault : ExecFault) → HasRead moment r
-    → WasPinned moment r → SaysWhy moment r fault → MayLack r.lent.pinned.names (check_of tree text r.lent.pinned.names) fault → IsUnreadReply fault reply
+    → WasPinned moment r → SaysWhy moment r fault → MayFail fault (check_of tree text r.lent.pinned.names) → IsUnreadReply fault reply
     → IsToldUnder moment r text tree reply

@@ -1,5 +1,5 @@
 -- What a reply tells, as more events come.
-use Rattle.std.proofs.Common.{◌≡◌, ◌≢◌, ◌∙◌, inl, inr, ℕ, zero, suc, ◌+◌, ◌-◌, ◌^◌, ◌<◌, ◌≤◌, true, List, [], ◌∷◌, ◌++◌, length, Option, None, Some, IsSomeAnd, slice_get, slice_index, ap, sym, subst, arith, append_assoc}
+use Rattle.std.proofs.Common.{◌≡◌, ◌∙◌, inl, inr, ℕ, zero, suc, ◌+◌, ◌-◌, ◌^◌, ◌<◌, ◌≤◌, true, List, [], ◌∷◌, ◌++◌, length, Option, None, Some, IsSomeAnd, slice_get, slice_index, ap, sym, subst, arith, append_assoc}
 use Rattle.std.specs.List.{list_all}
 use Rattle.std.proofs.lemmas.Option.{none-some}
 use Rattle.std.proofs.lemmas.List.Elements.{Contains-append_left}
@@ -17,7 +17,6 @@ use Rattle.event_core.specs.Bases.{sequence_at}
 use Rattle.event_core.specs.History.{History, names_at}
 use Rattle.result_print.specs.declared.refusal.Refusal.{Refusal}
 use Rattle.result_print.specs.declared.refusal.Refusal.TheVariants.{TooLong, Parse, HistoryFull, Typing, Cell, Disk, Damaged, SequenceEnd, Full, Memory}
-use Rattle.statement_answers.specs.Outcomes.{leaves_for}
 use Rattle.statement_replies.specs.Statements.{Accepted, reply_to}
 use Rattle.statement_replies.specs.StatementKinds.{HasStatementKind}
 use Rattle.store_ledger.specs.declared.note.NoteKind.TheVariants.{Fault}
@@ -33,7 +32,7 @@ use Rattle.told_stores.specs.Told.{entries_in, is_sealed, told}
 use Rattle.told_stores.proofs.Telling.{entries_in-append}
 use Rattle.session_replies.specs.Acts.{Course, nothing, looking, trying, making}
 use Rattle.session_replies.specs.Laws.{RepliesStay}
-use Rattle.session_replies.specs.Replies.{names_before, EnteredAt, HadNoRoom, HadRoomFor, HasFault, HoldsSincePin, HoldsWhereRefused, IsAllowedAt, IsChangeAt, IsDamagedPage, IsToldFor, ReadsAt, Says, SaysChange, WasAt, WasUncommitted}
+use Rattle.session_replies.specs.Replies.{names_before, EnteredAt, HadNoRoom, HadRoomFor, HasFault, HoldsSincePin, HoldsWhereRefused, IsAllowedAt, IsChangeAt, IsDamagedPage, IsToldFor, Says, SaysChange, WasAt, WasUncommitted}
 use Rattle.session_replies.specs.declared.reply.Reply.{Reply}
 use Rattle.session_replies.proofs.Beginnings.{history_stays, places_see_the_same, reached}
 
@@ -93,12 +92,6 @@ module _ {D : Type 0} (moment : D → Moment) (start : Start D) (old more : List
 
   allowed_later : IsAllowedAt start old text tree place → IsAllowedAt start (old ++ more) text tree place
   allowed_later a = (a.0, ap (λ (names : Names). check_of tree text names) names_stay ∙ a.1)
-
-  reads_later : ReadsAt start old text tree place → ReadsAt start (old ++ more) text tree place
-  reads_later r = record {
-    allowed = allowed_later r.allowed;
-    reads = subst (λ (names : Names). leaves_for names (check_of tree text names) ≢ []) (sym names_stay) r.reads;
-  }
 
   -- what is needed at a history is needed there whatever comes later
   fits_later : (h : History) (change : Change) → FitsAfter moment (told start old) h change → FitsAfter moment (told start (old ++ more)) h change
@@ -163,7 +156,7 @@ module _ {D : Type 0} (moment : D → Moment) (start : Start D) (session pin : �
   told_stays (Some (Typing span kind)) (trying change) t = absurd t
   told_stays (Some (Typing span kind)) (making change) t = absurd t
   told_stays (Some Disk) nothing t = absurd t
-  told_stays (Some Disk) looking t = (where_stays t.0, fault_stays t.1, reads_later moment start old more text tree reply.place within t.2)
+  told_stays (Some Disk) looking t = (where_stays t.0, fault_stays t.1, allowed_later moment start old more text tree reply.place within t.2)
   told_stays (Some Disk) (trying change) t = (since_stays t.0, fault_stays t.1, uncommitted_stays change (faults.Disk reply.place) t.2)
   told_stays (Some Disk) (making change) t = absurd t
   told_stays (Some (Damaged page)) nothing t = absurd t
@@ -171,7 +164,7 @@ module _ {D : Type 0} (moment : D → Moment) (start : Start D) (session pin : �
     where_stays t.0,
     page_later moment start old more text tree reply.place within page sealed t.1,
     t.2,
-    reads_later moment start old more text tree reply.place within t.3,
+    allowed_later moment start old more text tree reply.place within t.3,
   )
   told_stays (Some (Damaged page)) (trying change) t = absurd t
   told_stays (Some (Damaged page)) (making change) t = absurd t

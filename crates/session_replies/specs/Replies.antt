@@ -3,7 +3,7 @@
 -- What holds at a place holds of the database after the commits before it. The reply to a query, and to a statement that lists something,
 -- holds behind the statement's own pin. That of an accepted change holds before the change's own commit. A refusal for a rule or a cell
 -- holds behind the pin, or, of a change, in the turn of the commit.
-use Rattle.std.specs.Prelude.{◌≡◌, ◌≢◌, ◌≤◌, ◌<◌, ◌+◌, ◌-◌, ◌^◌, ◌⊎◌, ◌++◌, ℕ}
+use Rattle.std.specs.Prelude.{◌≡◌, ◌≤◌, ◌<◌, ◌+◌, ◌-◌, ◌^◌, ◌⊎◌, ◌++◌, ℕ}
 use Rattle.std.specs.Prelude.{false, List, [], Contains, length, slice_get, slice_index, Option, None, Some, IsSomeAnd, Ok}
 use Rattle.arrayvec.specs.ArrayVec.{ArrayVec}
 use Rattle.afl_outside.specs.Disk.{Moment}
@@ -23,7 +23,6 @@ use Rattle.event_core.specs.History.{names_at}
 use Rattle.result_print.specs.declared.refusal.Refusal.{Refusal}
 use Rattle.result_print.specs.declared.refusal.Refusal.TheVariants.{HistoryFull, Typing, Cell, Disk, Damaged, SequenceEnd, Full, Memory}
 use Rattle.result_print.specs.Lines.{line_of_refusal}
-use Rattle.statement_answers.specs.Outcomes.{leaves_for}
 use Rattle.statement_replies.specs.declared.replies.Reply.{Reply as Told}
 use Rattle.statement_replies.specs.Statements.{Accepted, reply_to}
 use Rattle.statement_replies.specs.StatementKinds.{HasStatementKind}
@@ -71,11 +70,6 @@ IsChangeAt start events text tree place = (change : Change) × (check_of tree te
 -- by the names at a place it breaks no rule
 abbrev pub IsAllowedAt : {D : Type 0} → Start D → List Event → List ℕ → Term → ℕ → Type 0
 IsAllowedAt start events text tree place = (typed : Typed) × (check_of tree text (names_before start events place) ≡ Ok typed)
-
--- and there is an array that it reads, of a version or of none
-pub record ReadsAt {D : Type 0} (start : Start D) (events : List Event) (text : List ℕ) (tree : Term) (place : ℕ) : Type 0 where
-  pub allowed : IsAllowedAt start events text tree place
-  pub reads : leaves_for (names_before start events place) (check_of tree text (names_before start events place)) ≢ []
 
 -- an entry came at a place, behind so many entries
 pub record EnteredAt (least : ℕ) (entry : Entry) (place : ℕ) (events : List Event) : Type 0 where
@@ -158,10 +152,10 @@ module _ {D : Type 0} (moment : D → Moment) (start : Start D) (session pin : �
   IsToldFor (Some (Typing span kind)) looking = HoldsWhereRefused × SaysReply
   IsToldFor (Some (Cell at kind)) looking = HoldsWhereRefused × SaysReply
   IsToldFor (Some HistoryFull) nothing = (then : List Event) × WasAt reply.place then new × (has_room (ledger_of start then) 4 ≡ false)
-  IsToldFor (Some Disk) looking = HoldsWhereRefused × HasFault session own × ReadsAt start new text tree reply.place
+  IsToldFor (Some Disk) looking = HoldsWhereRefused × HasFault session own × IsAllowedAt start new text tree reply.place
   IsToldFor (Some Disk) (trying change) = HoldsSincePin × HasFault session own × WasUncommitted change (faults.Disk reply.place)
   IsToldFor (Some (Damaged page)) looking = HoldsWhereRefused × IsDamagedPage moment start new reply.place page × BeganAsNone moment start
-      × ReadsAt start new text tree reply.place
+      × IsAllowedAt start new text tree reply.place
   IsToldFor (Some SequenceEnd) (trying change) = HoldsSincePin × WasUncommitted change (faults.SequenceEnd reply.place)
   IsToldFor (Some (Full needed free)) (trying change) = HoldsSincePin × WasUncommitted change (faults.Full needed free reply.place)
   IsToldFor (Some Memory) nothing = Unit {0}

@@ -29,10 +29,6 @@ array_name = record { start = 7; end = 8 }
 abbrev pub removal : Term
 removal = call (record { start = 0; end = 9 }) (codes "remove") (and_term (reference array_name (codes "A")) no_terms)
 
--- scan(A)
-abbrev pub scanning : Term
-scanning = call (record { start = 0; end = 7 }) (codes "scan") (and_term (reference (record { start = 5; end = 6 }) (codes "A")) no_terms)
-
 abbrev pub refusal_told : Refusal → ℕ → Reply
 refusal_told refusal place = record { text = line_of_refusal refusal; refusal = Some refusal; place = place }
 
@@ -52,7 +48,7 @@ pub record AreWorked : Type 0 where
   pub removed : IsToldFor unknown_moment worked_start 1 1 all_events [] [] removal made None (making (Remove (codes "A")))
   -- session 0 is told in the turn of its commit that there is no A any more: right behind its pin the statement was a change
   pub refused : IsToldFor unknown_moment worked_start 0 0 all_events [] [] removal (refusal_told no_such_array 4) (Some no_such_array) looking
-  -- that page 4 is damaged it is told of a query right behind its pin
-  pub damaged : IsToldFor unknown_moment worked_start 0 0 worked_seen worked_own [] scanning (refusal_told (Damaged 4) 1) (Some (Damaged 4)) looking
+  -- that page 4 is damaged it is told right behind its pin
+  pub damaged : IsToldFor unknown_moment worked_start 0 0 worked_seen worked_own [] removal (refusal_told (Damaged 4) 1) (Some (Damaged 4)) looking
   -- where three entries are the limit nobody pins
   pub full : HadNoRoom (record worked_start { limit = 3 }) [] [] 0

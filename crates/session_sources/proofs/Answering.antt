@@ -49,13 +49,6 @@ module _ {A : Type 0} where
   asked_count answer number at marks =
       ap length (same_asked answer (with_asked number at marks)) ∙ length-append marks.asked (asks number at ∷ [])
 
-  -- once a chunk was asked for, something was
-  pub some_asked : (answer : Result A ReadFault) (number : ℕ) (at : ArrayVec ℕ) (marks : Marks) → ¬ ((marks_after answer (with_asked number at marks)).asked ≡ [])
-  some_asked answer number at marks none =
-      let count : length (marks_after answer (with_asked number at marks)).asked ≡ length marks.asked + 1 = asked_count answer number at marks in
-      let zero : length (marks_after answer (with_asked number at marks)).asked ≡ 0 = ap length none in
-      absurd (omega (arith, count, zero))
-
   pub ok_answer : (answer : Result A ReadFault) (result : Result A SourceFault) (P : A → Type 0) → result ≡ answer_of answer → IfOk answer P → IfOk result P
   ok_answer (Ok value) result P e p = subst (λ (x : Result A SourceFault). IfOk x P) (sym e) p
   ok_answer (Err Disk) result P e p = subst (λ (x : Result A SourceFault). IfOk x P) (sym e) tt

@@ -41,7 +41,7 @@ use Rattle.session_sources.specs.Courses.{IsFaultAtMost}
 use Rattle.session_sources.specs.Held.{held_state, holding_of, names_now, store_then, unheld, GrowsByFault, HasHeld}
 use Rattle.session_sources.specs.Inner.Marking.{marks_after, no_marks}
 use Rattle.session_sources.specs.Stored.{numbers_at, AreRowsAfter, BeginsDamage}
-use Rattle.session_sources.proofs.Answering.{some_asked, with_asked}
+use Rattle.session_sources.proofs.Answering.{with_asked}
 use Rattle.session_sources.proofs.NoteSteps.{at_most_later, no_try}
 use Rattle.session_sources.proofs.VersionLaws.{leaf_listed, leaf_unless}
 
@@ -165,7 +165,6 @@ begins moment lent pinned =
       tried = refl;
       damaged = tt;
       whole = λ db began. refl;
-      unasked = λ none. (refl, refl);
     }
 
 pub begins_at : {D : Type 0} (moment : D → Moment) (session : ℕ) (before turn : Turn (StoreParts D)) (marks : Marks) → before ≡ turn → marks ≡ no_marks →
@@ -231,9 +230,8 @@ module _ {D : Type 0} (moment : D → Moment) (lent : LentTurn D) (turn : Turn (
 
     keeps : (made : Marks) → (0 < made.faults → IsTrue (is_noted is_fault next.ledger lent.session)) →
         IfSome made.damaged (BeginsDamage moment (names_now (store_of lent.turn).ledger) (standing moment (store_of lent.turn)) (length (store_of lent.turn).ledger.entries)) →
-        ((db : Database) → BeganAs (moment (store_of lent.turn).opened.value.disk).state db → made.damaged ≡ None) →
-        (made.asked ≡ [] → (made.damaged ≡ None) × (made.faults ≡ 0)) → HasHeld moment (holding lent (turn_with turn next) made)
-    keeps made faults damaged whole unasked = record {
+        ((db : Database) → BeganAs (moment (store_of lent.turn).opened.value.disk).state db → made.damaged ≡ None) → HasHeld moment (holding lent (turn_with turn next) made)
+    keeps made faults damaged whole = record {
       pinned = was.pinned;
       turn = λ seat has. was.turn seat has;
       same = step.holds.same;
@@ -244,7 +242,6 @@ module _ {D : Type 0} (moment : D → Moment) (lent : LentTurn D) (turn : Turn (
       tried = step.holds.tried;
       damaged = damaged;
       whole = whole;
-      unasked = unasked;
     }
 
     module _ {A : Type 0} (number : ℕ) (leaf : Leaf) (k : ArrayVec ℕ) (of : IsLeafOf (names_now (store_of lent.turn).ledger) leaf)
@@ -295,8 +292,7 @@ module _ {D : Type 0} (moment : D → Moment) (lent : LentTurn D) (turn : Turn (
           HasHeld moment (holding lent (turn_with turn next) made)
       read_keeps answer made e cause old whole =
           subst (λ (m : Marks). HasHeld moment (holding lent (turn_with turn next) m)) (sym e)
-          (keeps (marks_after answer (with_asked number k marks)) (noted answer cause) (spoiled answer cause old) (none_spoiled answer whole)
-          (λ none. absurd (some_asked answer number k marks none)))
+          (keeps (marks_after answer (with_asked number k marks)) (noted answer cause) (spoiled answer cause old) (none_spoiled answer whole))
 
 -- ---- what is said of a call
 

@@ -33,7 +33,7 @@ use Rattle.session_sources.specs.declared.reading.Reading.{Reading}
 use Rattle.session_sources.specs.Inner.Marking.{marks_after, no_marks}
 use Rattle.session_sources.specs.Pinned.{pinned_state, reading_of, store_lent, unread, HasRead}
 use Rattle.session_sources.specs.Stored.{numbers_at, AreRowsAfter, BeginsDamage}
-use Rattle.session_sources.proofs.Answering.{asked_count, one_counted, some_asked, with_asked}
+use Rattle.session_sources.proofs.Answering.{asked_count, one_counted, with_asked}
 use Rattle.session_sources.proofs.NoteSteps.{stepped, Stepped}
 use Rattle.session_sources.proofs.VersionLaws.{leaf_listed, leaf_unless}
 
@@ -68,7 +68,6 @@ begins moment lent seat pin reads = record {
   tried = refl;
   damaged = tt;
   whole = λ db began. refl;
-  unasked = λ none. (refl, refl);
 }
 
 pub begins_at : {D : Type 0} (moment : D → Moment) (shared : Shared D) (pinned : Pinned) (before seat : Seat D) (marks : Marks) → before ≡ seat → marks ≡ no_marks →
@@ -122,9 +121,8 @@ module _ {D : Type 0} (moment : D → Moment) (lent : Lent D) (before : Seat D) 
     keeps : (next : Marks) → read_count after ≡ min (read_count lent.seat + length next.asked) (2 ^ 64 - 1) →
         (0 < next.faults → IsTrue (is_noted is_fault (ledger_seen moment lent.shared after) (session_of lent.seat))) →
         IfSome next.damaged (BeginsDamage moment lent.pinned.names (store_lent moment lent) lent.pinned.place) →
-        ((db : Database) → BeganAs (moment (start moment lent.shared).opened.disk).state db → next.damaged ≡ None) →
-        (next.asked ≡ [] → (next.damaged ≡ None) × (next.faults ≡ 0)) → HasRead moment (reading lent after next)
-    keeps next reads faults damaged whole unasked = record {
+        ((db : Database) → BeganAs (moment (start moment lent.shared).opened.disk).state db → next.damaged ≡ None) → HasRead moment (reading lent after next)
+    keeps next reads faults damaged whole = record {
       lent = was.lent;
       lent_pin = was.lent_pin;
       seat = seat;
@@ -136,11 +134,10 @@ module _ {D : Type 0} (moment : D → Moment) (lent : Lent D) (before : Seat D) 
       tried = step.tried ∙ was.tried;
       damaged = damaged;
       whole = whole;
-      unasked = unasked;
     }
 
     pub list_keeps : read_count after ≡ read_count before → HasRead moment (reading lent after marks)
-    list_keeps e = keeps marks (e ∙ was.reads) (λ some. step.noted (was.faults some)) was.damaged was.whole was.unasked
+    list_keeps e = keeps marks (e ∙ was.reads) (λ some. step.noted (was.faults some)) was.damaged was.whole
 
     module _ {A : Type 0} (number : ℕ) (leaf : Leaf) (k : ArrayVec ℕ) (of : IsLeafOf lent.pinned.names leaf)
         (among : IsTrue (is_among k (chunks_at (store_lent moment lent) lent.pinned.place leaf))) where
@@ -189,8 +186,7 @@ module _ {D : Type 0} (moment : D → Moment) (lent : Lent D) (before : Seat D) 
           counted ∙ ap risen was.reads ∙ one_counted (read_count lent.seat) (length marks.asked)
           ∙ ap (λ (n : ℕ). min (read_count lent.seat + n) (2 ^ 64 - 1)) (sym (asked_count answer number k marks)) in
           subst (λ (m : Marks). HasRead moment (reading lent after m)) (sym e)
-          (keeps made reads (noted answer cause) (spoiled answer cause old) (none_spoiled answer whole)
-          (λ none. absurd (some_asked answer number k marks none)))
+          (keeps made reads (noted answer cause) (spoiled answer cause old) (none_spoiled answer whole))
 
 -- ---- what is said of a call
 

@@ -1,5 +1,5 @@
 -- The source of what a store has in a turn that is held: from when the turn is lent to when it is handed back.
-use Rattle.std.specs.Prelude.{◌≡◌, ℕ, ◌<◌, ◌++◌, List, [], length, None, IfSome, IsTrue}
+use Rattle.std.specs.Prelude.{◌≡◌, ℕ, ◌<◌, ◌++◌, List, length, None, IfSome, IsTrue}
 use Rattle.afl_outside.specs.Disk.{Moment}
 use Rattle.chunk_source.specs.Source.{SourceState}
 use Rattle.logical_plan.specs.declared.names.Names.{Names}
@@ -81,5 +81,3 @@ pub record HasHeld {D : Type 0} (moment : D → Moment) (h : Holding D) : Type 0
   pub damaged : IfSome h.marks.damaged
       (BeginsDamage moment (names_now (store_then moment h).ledger) (store_then moment h) (length (store_then moment h).ledger.entries))
   pub whole : (db : Database) → BeganAs (moment (store_then moment h).opened.disk).state db → h.marks.damaged ≡ None
-  -- it found no damage and didn't fail before a chunk was asked for
-  pub unasked : h.marks.asked ≡ [] → (h.marks.damaged ≡ None) × (h.marks.faults ≡ 0)

@@ -1,5 +1,5 @@
 -- The source of what a pin sees: from when its seat is lent to when it is handed back.
-use Rattle.std.specs.Prelude.{◌≡◌, ◌+◌, ◌-◌, ◌^◌, ◌<◌, [], length, min, None, IfSome, IsTrue}
+use Rattle.std.specs.Prelude.{◌≡◌, ◌+◌, ◌-◌, ◌^◌, ◌<◌, length, min, None, IfSome, IsTrue}
 use Rattle.afl_outside.specs.Disk.{Moment}
 use Rattle.chunk_source.specs.Source.{SourceState}
 use Rattle.plan_changes.specs.Databases.{Database}
@@ -62,5 +62,3 @@ pub record HasRead {D : Type 0} (moment : D → Moment) (r : Reading D) : Type 0
   -- began as a database
   pub damaged : IfSome r.marks.damaged (BeginsDamage moment r.lent.pinned.names (store_lent moment r.lent) r.lent.pinned.place)
   pub whole : (db : Database) → BeganAs (moment (start moment r.lent.shared).opened.disk).state db → r.marks.damaged ≡ None
-  -- it found no damage and didn't fail before a chunk was asked for
-  pub unasked : r.marks.asked ≡ [] → (r.marks.damaged ≡ None) × (r.marks.faults ≡ 0)

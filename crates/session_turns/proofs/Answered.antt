@@ -1,5 +1,5 @@
 -- How a statement was answered in a turn, by how it went.
-use Rattle.std.proofs.Common.{◌≡◌, ◌≢◌, ◌∙◌, ℕ, ◌+◌, ◌-◌, ◌^◌, ◌<◌, ◌≤◌, Bool, true, false, if◌then◌else◌, List, [], ◌∷◌, ◌++◌, length, reverse, slice_get, slice_index, Option, None, Some, IfSome, IsSomeAnd, Result, Ok, Err, IfOk, IfErr, OnOk, OnErr, refl, ap, sym, subst, arith, append-nil, append_assoc, length-append}
+use Rattle.std.proofs.Common.{◌≡◌, ◌∙◌, ℕ, ◌+◌, ◌-◌, ◌^◌, ◌<◌, ◌≤◌, Bool, true, false, if◌then◌else◌, List, [], ◌∷◌, ◌++◌, length, reverse, slice_get, slice_index, Option, None, Some, IfSome, IsSomeAnd, Result, Ok, Err, IfOk, IfErr, OnOk, OnErr, refl, ap, sym, subst, arith, append-nil, append_assoc, length-append}
 use Rattle.std.specs.List.{list_all}
 use Rattle.std.proofs.lemmas.List.{append_cancel_left}
 use Rattle.std.proofs.lemmas.Option.{none-some}
@@ -19,7 +19,7 @@ use Rattle.result_print.specs.declared.refusal.Refusal.TheVariants.{Disk, Damage
 use Rattle.statement_answers.specs.declared.outcome.Outcome.{Outcome}
 use Rattle.statement_answers.specs.declared.outcome.Outcome.TheVariants.{Replied, Changes}
 use Rattle.statement_answers.specs.Forms.{a_change, form_said}
-use Rattle.statement_answers.specs.Outcomes.{leaves_for}
+use Rattle.statement_answers.specs.Outcomes.{IsAllowed, MayFail}
 use Rattle.statement_answers.proofs.Saying.{changes_refused}
 use Rattle.statement_replies.specs.declared.replies.Reply.{Reply as Told}
 use Rattle.statement_replies.specs.Reply.{refused}
@@ -52,8 +52,7 @@ use Rattle.session_outcomes.specs.Told.{entries_in, ledger_of, told, IsTold}
 use Rattle.session_outcomes.specs.Refusals.{IsUncommittedReply, IsUnreadReply, IsWant, Refuses}
 use Rattle.session_outcomes.proofs.Staying.{says_later}
 use Rattle.session_outcomes.specs.Acts.{acts_in, looking, making, makes, tries, trying}
-use Rattle.session_outcomes.specs.Reads.{MayLack, ReadsSome}
-use Rattle.session_outcomes.specs.Replies.{names_before, words_of, BeganAsNone, EnteredAt, HadRoomFor, HasLine, HoldsWhereRefused, IsChangeAt, IsDamagedPage, IsToldFor, ReadsAt, Says, SaysChange, WasUncommitted}
+use Rattle.session_outcomes.specs.Replies.{names_before, words_of, BeganAsNone, EnteredAt, HadRoomFor, HasLine, HoldsWhereRefused, IsAllowedAt, IsChangeAt, IsDamagedPage, IsToldFor, Says, SaysChange, WasUncommitted}
 use Rattle.session_outcomes.specs.Reply.{Reply}
 use Rattle.session_outcomes.specs.Said.{IsSaid}
 use Rattle.session_outcomes.specs.ToldReplies.{IsLookedReply}
@@ -149,12 +148,8 @@ module _ {D : Type 0} (moment : D → Moment) (session : ℕ) (old new : Turn (S
     names_told : reply.place ≡ length n.ledger.entries → names_before began (events n) reply.place ≡ names_now s.ledger
     names_told at = ap (names_before began (events n)) (at_end few_more at) ∙ names_there moment session old has (events n) false read_history
 
-    reads_told : reply.place ≡ length n.ledger.entries → ReadsSome (names_now s.ledger) (check_of tree text (names_now s.ledger)) →
-        ReadsAt began (events n) text tree reply.place
-    reads_told at r = record {
-      allowed = (r.allowed.0, ap (λ (names : Names). check_of tree text names) (names_told at) ∙ r.allowed.1);
-      reads = subst (λ (names : Names). leaves_for names (check_of tree text names) ≢ []) (sym (names_told at)) r.reads;
-    }
+    allowed_told : reply.place ≡ length n.ledger.entries → IsAllowed (check_of tree text (names_now s.ledger)) → IsAllowedAt began (events n) text tree reply.place
+    allowed_told at a = (a.0, ap (λ (names : Names). check_of tree text names) (names_told at) ∙ a.1)
 
     -- a damaged page is told of an array that can be named
     page_told : (page : ℕ) → reply.place ≡ length n.ledger.entries → read.marks.damaged ≡ Some page → IsDamagedPage moment began (events n) reply.place page
@@ -232,17 +227,17 @@ module _ {D : Type 0} (moment : D → Moment) (session : ℕ) (old new : Turn (S
         refuses moment began session pin (events s) (events n) text tree reply keeps.extends before_unread within_unread
         looking [] (read_acts (Err fault) read) refl refusal line r says (λ own noted. tt)
 
-    unread_by : (why : ExecFault) → IsWhy read.marks why → MayLack (names_now s.ledger) (check_of tree text (names_now s.ledger)) why → IsUnreadReply why reply → Answer
+    unread_by : (why : ExecFault) → IsWhy read.marks why → MayFail why (check_of tree text (names_now s.ledger)) → IsUnreadReply why reply → Answer
     unread_by Source why may r = refuses_unread Disk (λ e. e) r
-        (λ own noted. (refused_later own, noted (noted_after (read.held.faults why)), reads_told (Err fault) read at may))
+        (λ own noted. (refused_later own, noted (noted_after (read.held.faults why)), allowed_told (Err fault) read at may))
     unread_by (Spoiled page) why may r = refuses_unread (Damaged page) (λ e. e) r
-        (λ own noted. (refused_later own, page_told (Err fault) read page at why, none_began (Err fault) read page why, reads_told (Err fault) read at may))
+        (λ own noted. (refused_later own, page_told (Err fault) read page at why, none_began (Err fault) read page why, allowed_told (Err fault) read at may))
     unread_by Wanting why may w =
         answered moment began session pin (events s) (events n) text tree reply keeps.extends before_unread within_unread
         looking [] (read_acts (Err fault) read) refl (Some Memory) w.1 w.0 (λ own noted. tt)
 
     unread_answer : IsUnreadReply fault reply → Answer
-    unread_answer r = unread_by fault read.why read.reads r
+    unread_answer r = unread_by fault read.why read.allowed r
 
   -- ---- its change was tried
 

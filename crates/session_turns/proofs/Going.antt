@@ -1,12 +1,11 @@
 -- What each call in a turn leaves.
-use Rattle.std.proofs.Common.{◌≡◌, ◌∙◌, ℕ, ◌<◌, false, List, [], ◌++◌, length, Option, None, Result, Ok, Err, IfOk, IfErr, OnErr, IsTrue, refl, ap, sym, subst, arith, append-nil, append_assoc}
+use Rattle.std.proofs.Common.{◌≡◌, ◌∙◌, ℕ, ◌<◌, false, List, [], ◌++◌, length, Option, None, Result, Ok, Err, IfOk, IfErr, IsTrue, refl, ap, sym, subst, arith, append-nil, append_assoc}
 use Rattle.afl_outside.specs.Counts.{Rose}
 use Rattle.afl_outside.specs.Disk.{Moment}
 use Rattle.afl_trees.specs.Term.{Term}
 use Rattle.array_geom.specs.declared.chunk.Changed.{Changed}
 use Rattle.chunk_source.specs.Faults.{Answers}
-use Rattle.chunk_source.specs.Reading.{asked_of}
-use Rattle.chunk_source.specs.Source.{SourceState, AsksFront}
+use Rattle.chunk_source.specs.Source.{SourceState}
 use Rattle.chunk_source.specs.declared.reading.fault.ExecFault.{ExecFault}
 use Rattle.chunk_source.specs.declared.reading.fault.ExecFault.TheVariants.{Source, Damaged, Memory}
 use Rattle.logical_plan.specs.declared.names.Names.{Names}
@@ -17,7 +16,7 @@ use Rattle.event_core.specs.Allowed.{is_pinned}
 use Rattle.event_core.specs.Cells.{at}
 use Rattle.statement_answers.specs.declared.outcome.Outcome.{Outcome}
 use Rattle.statement_answers.specs.declared.outcome.Outcome.TheVariants.{Changes}
-use Rattle.statement_answers.specs.Outcomes.{HasOutcomeKind, IsMadeOf, IsOutcomeOf, IsToldBy, MayFail, leaves_for}
+use Rattle.statement_answers.specs.Outcomes.{HasOutcomeKind, IsMadeOf, IsOutcomeOf, IsToldBy, MayFail}
 use Rattle.statement_replies.specs.declared.replies.Reply.{Reply as Told}
 use Rattle.statement_replies.specs.Reading.{HoldsVersions}
 use Rattle.statement_replies.specs.Statements.{reply_to}
@@ -38,8 +37,6 @@ use Rattle.session_outcomes.specs.LentTurn.{LentTurn}
 use Rattle.session_outcomes.specs.Marks.{Marks}
 use Rattle.session_outcomes.proofs.VersionLaws.{held_sources_hold_versions}
 use Rattle.session_outcomes.specs.BehindPins.{ComesOver}
-use Rattle.session_outcomes.specs.Reads.{MayLack}
-use Rattle.session_outcomes.proofs.Reads.{may_lack}
 use Rattle.session_turns.specs.Inner.Turns.{store_in, IsRead, IsWhy, KeepsTurn}
 use Rattle.session_turns.proofs.Adding.{all_append}
 use Rattle.session_turns.proofs.Present.{source_tells}
@@ -83,17 +80,6 @@ why_by (Err Source) before now marks none faults damaged cause = subst (λ (n : 
 why_by (Err (Damaged page)) before now marks none faults damaged cause = sym damaged ∙ cause
 why_by (Err Memory) before now marks none faults damaged cause = tt
 
-lack_by : (names : Names) (text : List ℕ) (tree : Term) (result : Result Outcome ExecFault) (before now : SourceState) (marks : Marks) → before.asked ≡ [] →
-    now.asked ≡ marks.asked → (marks.asked ≡ [] → (marks.damaged ≡ None) × (marks.faults ≡ 0)) →
-    OnErr result (AsksFront (asked_of before 0 (leaves_for names (check_of tree text names))) before now) →
-    IfErr result (λ fault. MayFail fault (check_of tree text names)) → IfErr result (IsWhy marks) → IfErr result (MayLack names (check_of tree text names))
-lack_by names text tree (Ok outcome) before now marks first same unasked front may why = tt
-lack_by names text tree (Err Source) before now marks first same unasked front may why =
-    may_lack names (check_of tree text names) before now marks front first same unasked Source may why
-lack_by names text tree (Err (Damaged page)) before now marks first same unasked front may why =
-    may_lack names (check_of tree text names) before now marks front first same unasked (Damaged page) may why
-lack_by names text tree (Err Memory) before now marks first same unasked front may why = tt
-
 module _ {D : Type 0} (moment : D → Moment) (session : ℕ) (old : Turn (StoreParts D)) (start : Holding D) (made : start ≡ unheld session old)
     (names : Names) (named : names ≡ names_now (store_of old).ledger) where
   pub start_whole : (held_state moment start).damaged ≡ None
@@ -109,23 +95,18 @@ module _ {D : Type 0} (moment : D → Moment) (session : ℕ) (old : Turn (Store
       (text : List ℕ) (tree : Term) (result : Result Outcome ExecFault) →
       IfOk result (HasOutcomeKind names (check_of tree text names)) →
       IfOk result (λ outcome. (db : Database) → IsToldBy names (held_state moment start) db → IsOutcomeOf db (reply_to db text tree) outcome) →
-      OnErr result (AsksFront (asked_of (held_state moment start) 0 (leaves_for names (check_of tree text names))) (held_state moment start) (held_state moment h)) →
       Answers (held_state moment start) (held_state moment h) result → IfErr result (λ fault. MayFail fault (check_of tree text names)) →
       IsRead moment session old new text tree result
-  read_by new h lent turn held text tree result kind told front cause allowed =
-      let why : IfErr result (IsWhy h.marks) =
-      why_by result (held_state moment start) (held_state moment h) h.marks (ap (λ (x : Holding D). x.marks.faults) made) refl refl cause in record {
-        marks = h.marks;
-        held = subst (λ (t : Turn (StoreParts D)). HasHeld moment (holding_of session old t h.marks)) (sym turn)
-            (subst (λ (l : LentTurn D). HasHeld moment (record { lent = l; turn = h.turn; marks = h.marks })) (lent ∙ ap (λ (x : Holding D). x.lent) made) held);
-        comes = subst (λ (ns : Names). IfOk result (ComesOver ns (held_state moment (unheld session old)) text tree)) named
-            (subst (λ (x : Holding D). IfOk result (ComesOver names (held_state moment x) text tree)) made
-            (comes_by names (held_state moment start) text tree result kind told));
-        why = why;
-        reads = subst (λ (ns : Names). IfErr result (MayLack ns (check_of tree text ns))) named
-            (lack_by names text tree result (held_state moment start) (held_state moment h) h.marks (ap (λ (x : Holding D). x.marks.asked) made) refl
-            held.unasked front allowed why);
-      }
+  read_by new h lent turn held text tree result kind told cause allowed = record {
+    marks = h.marks;
+    held = subst (λ (t : Turn (StoreParts D)). HasHeld moment (holding_of session old t h.marks)) (sym turn)
+        (subst (λ (l : LentTurn D). HasHeld moment (record { lent = l; turn = h.turn; marks = h.marks })) (lent ∙ ap (λ (x : Holding D). x.lent) made) held);
+    comes = subst (λ (ns : Names). IfOk result (ComesOver ns (held_state moment (unheld session old)) text tree)) named
+        (subst (λ (x : Holding D). IfOk result (ComesOver names (held_state moment x) text tree)) made
+        (comes_by names (held_state moment start) text tree result kind told));
+    why = why_by result (held_state moment start) (held_state moment h) h.marks (ap (λ (x : Holding D). x.marks.faults) made) refl refl cause;
+    allowed = subst (λ (ns : Names). IfErr result (λ fault. MayFail fault (check_of tree text ns))) named allowed;
+  }
 
 -- ---- a change that was read may be committed in the turn
 

@@ -6,7 +6,6 @@ pub use Rattle.session_outcomes.proofs.CourseLaws
 pub use Rattle.session_outcomes.proofs.FreshReplies
 pub use Rattle.session_outcomes.proofs.Freshly
 pub use Rattle.session_outcomes.proofs.PinPlaces
-pub use Rattle.session_outcomes.proofs.Reads
 pub use Rattle.session_outcomes.proofs.Sights
 pub use Rattle.session_outcomes.proofs.Staying
 pub use Rattle.session_outcomes.proofs.Telling

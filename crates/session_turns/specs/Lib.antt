@@ -4,7 +4,6 @@ pub use Rattle.session_outcomes.specs.Changing
 pub use Rattle.session_outcomes.specs.Fresh
 pub use Rattle.session_outcomes.specs.Outcome
 pub use Rattle.session_outcomes.specs.Outcomes
-pub use Rattle.session_outcomes.specs.Reads
 pub use Rattle.session_outcomes.specs.Refusals
 pub use Rattle.session_outcomes.specs.Replies
 pub use Rattle.session_outcomes.specs.Reply

@@ -146,13 +146,5 @@ module _ {D : Type 0} (moment : D → Moment) (s : Standing D) (k : Keeping) (p 
 
 pub sealed_stores : {D : Type 0} (moment : D → Moment) → OrdersFollow → SealedStoresAreKept moment
 sealed_stores moment follow s k p ledger disk ready on notes =
-<<<<<<< ours
-    let x : IsKept moment (next moment s k p ready follow (moment disk).state.moment) (sealed_keeping s k p) (history (sealed_ledger s p))
-    (given_of (next moment s k p ready follow (moment disk).state.moment)) = kept_sealed moment s k p ready follow (moment disk).state.moment in
-    kept_on moment (next moment s k p ready follow (moment disk).state.moment) (sealed_keeping s k p) disk p.session on x
-    (sealed_keeping s k p).slots None x.slots x.doubt
-    (cause_on (moment s.opened.disk).state (moment s.disk).state (moment disk).state None on x.cause) ledger notes
-=======
     kept_on moment (next moment s k p ready follow (moment disk).state.moment) (sealed_keeping s k p) disk p.session on
     (kept_sealed moment s k p ready follow (moment disk).state.moment) ledger notes
->>>>>>> theirs

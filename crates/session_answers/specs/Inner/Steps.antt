@@ -5,13 +5,12 @@ use Rattle.afl_trees.specs.Term.{Term}
 use Rattle.afl_types.specs.Checking.{check_of}
 use Rattle.chunk_source.specs.declared.reading.fault.ExecFault.{ExecFault}
 use Rattle.statement_answers.specs.declared.outcome.Outcome.{Outcome}
-use Rattle.statement_answers.specs.Outcomes.{asked_for}
+use Rattle.statement_answers.specs.Outcomes.{asked_for, MayFail}
 use Rattle.store_ledger.specs.declared.pinned.Pinned.{Pinned}
 use Rattle.store_ledger.specs.Ledger.{is_fault, is_noted}
 use Rattle.store_state.specs.declared.event.Event.{Event}
 use Rattle.session_turns.specs.Acts.{acts_in}
 use Rattle.session_turns.specs.BehindPins.{ComesOver}
-use Rattle.session_turns.specs.Reads.{MayLack}
 use Rattle.session_turns.specs.Start.{Start}
 use Rattle.session_turns.specs.Under.{SaysWhy}
 use Rattle.session_turns.specs.Marks.{Marks}
@@ -31,7 +30,7 @@ pub record WasRead {D : Type 0} (moment : D → Moment) (shared : Shared D) (pin
   pub asked : IfOk result (λ outcome. marks.asked
       ≡ asked_for (pinned_state moment (unread shared pinned old)) pinned.names (check_of tree text pinned.names) outcome)
   pub why : IfErr result (SaysWhy moment (reading_of shared pinned old new marks))
-  pub reads : IfErr result (MayLack pinned.names (check_of tree text pinned.names))
+  pub allowed : IfErr result (λ fault. MayFail fault (check_of tree text pinned.names))
 
 -- since its first events a session added these of its own, none of which is an act, and the disk had not failed for its pin before
 pub record AddsNoAct {D : Type 0} (start : Start D) (session : ℕ) (first own old : List Event) : Type 0 where

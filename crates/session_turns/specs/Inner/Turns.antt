@@ -9,6 +9,7 @@ use Rattle.plan_changes.specs.declared.change.Change.{Change}
 use Rattle.session_outcomes.specs.Outcome.{Outcome}
 use Rattle.afl_types.specs.Checking.{check_of}
 use Rattle.statement_answers.specs.declared.outcome.Outcome.TheVariants.{Replied, Changes}
+use Rattle.statement_answers.specs.Outcomes.{MayFail}
 use Rattle.statement_replies.specs.declared.replies.Reply.{Reply as Told}
 use Rattle.session_sources.specs.Owners.{ExtendsByOwn}
 use Rattle.session_sources.specs.Turn.{Turn}
@@ -26,7 +27,6 @@ use Rattle.session_sources.specs.Seat.{Seat}
 use Rattle.session_sources.specs.Seats.{store_of, HasTurn}
 use Rattle.session_sources.specs.Held.{held_state, holding_of, names_now, unheld, HasHeld}
 use Rattle.session_sources.specs.declared.marks.Marks.{Marks}
-use Rattle.session_outcomes.specs.Reads.{MayLack}
 use Rattle.session_outcomes.specs.Refusals.{IsUncommittedReply, IsUnreadReply, IsWant}
 use Rattle.session_outcomes.specs.BehindPins.{ComesOver}
 use Rattle.session_outcomes.specs.Replies.{words_of}
@@ -55,7 +55,7 @@ pub record IsRead {D : Type 0} (moment : D → Moment) (session : ℕ) (old new 
   pub held : HasHeld moment (holding_of session old new marks)
   pub comes : IfOk outcome (ComesOver (names_now (store_of old).ledger) (held_state moment (unheld session old)) text tree)
   pub why : IfErr outcome (IsWhy marks)
-  pub reads : IfErr outcome (MayLack (names_now (store_of old).ledger) (check_of tree text (names_now (store_of old).ledger)))
+  pub allowed : IfErr outcome (λ fault. MayFail fault (check_of tree text (names_now (store_of old).ledger)))
 
 -- the reply to a commit that was tried, when so many entries were seen then
 abbrev pub TellsCommit : ℕ → Told → Result ℕ CommitFault → Reply → Type 0

@@ -1,8 +1,7 @@
-use Rattle.std.proofs.Common.{◌≡◌, ◌<◌, ◌≤◌, ◌-◌, ◌^◌, refl, inl, inr, [], ◌∷◌, sym, arith}
+use Rattle.std.proofs.Common.{◌<◌, ◌≤◌, ◌-◌, ◌^◌, refl, inl, inr, [], ◌∷◌, sym, arith}
 use Rattle.std.specs.Prelude.{codes}
 use Rattle.std.proofs.lemmas.Bool.{true≢false}
-use Rattle.afl_types.specs.declared.statements.checking.Typed.TheVariants.{Query as AQuery}
-use Rattle.logical_plan.specs.Query.{scanned}
+use Rattle.afl_types.specs.declared.statements.checking.Typed.TheVariants.{Change as AChange}
 use Rattle.check_rules.specs.Operators.{query_named, change_named}
 use Rattle.plan_changes.specs.declared.change.Change.TheVariants.{Remove}
 use Rattle.plan_changes.specs.Databases.{Database}
@@ -44,7 +43,7 @@ returns c = record {
     inl refl,
     record { leaf = worked_leaf; at = record { items = 0 ∷ [] }; named = (refl, inl refl); begins = refl; was = λ file tells. absurd (true≢false (sym tells.honest)) },
     unknown,
-    record { allowed = (AQuery (scanned worked_leaf), refl); reads = λ none. let nothing : worked_leaf ∷ [] ≡ [] = none in absurd (cc (nothing)) },
+    (AChange (Remove (codes "A")), refl),
   );
   full = record { then = []; others = []; behind = refl; at = record { later = []; grown = refl; count = refl }; full = refl };
 }

@@ -22,7 +22,7 @@ commit_in_turn-requires g c =
     let read : IsRead moment c.args.session c.args.turn new c.args.text.now c.args.tree.now o.result =
     read_by moment c.args.session c.args.turn c.new-source.result c.new-source.ensures c.args.names.now c.requires.names new o.new.source o.ensures.start
     (ap (turn_with c.into_turn-turn.result) c.value.ensures.value ∙ c.into_turn-turn.ensures.turn) c.into_turn-turn.ensures.held
-    c.args.text.now c.args.tree.now o.result o.ensures.kind o.ensures.told o.ensures.front o.ensures.cause o.ensures.allowed in record {
+    c.args.text.now c.args.tree.now o.result o.ensures.kind o.ensures.told o.ensures.cause o.ensures.allowed in record {
       pinned = pinned_read moment c.args.session c.args.turn new c.requires.database c.args.text.now c.args.tree.now o.result read;
       tried = tried_read moment c.args.session c.args.turn new c.requires.database c.args.text.now c.args.tree.now o.result read c.requires.tried;
       asked = asked_read moment c.args.session c.args.turn new c.requires.database c.args.text.now c.args.tree.now o.result read
@@ -38,7 +38,7 @@ returns-in-Ok-Replied g c =
     let read : IsRead moment c.args.session c.args.turn new c.args.text.now c.args.tree.now o.result =
     read_by moment c.args.session c.args.turn c.new-source.result c.new-source.ensures c.args.names.now c.requires.names new o.new.source o.ensures.start
     (ap (turn_with c.into_turn-turn.result) c.value.ensures.value ∙ c.into_turn-turn.ensures.turn) c.into_turn-turn.ensures.held
-    c.args.text.now c.args.tree.now o.result o.ensures.kind o.ensures.told o.ensures.front o.ensures.cause o.ensures.allowed in record {
+    c.args.text.now c.args.tree.now o.result o.ensures.kind o.ensures.told o.ensures.cause o.ensures.allowed in record {
       keeps = keeps_read moment c.args.session c.args.turn new read.marks read.held;
       goes = goes_told
           (subst (λ x. IsRead moment c.args.session c.args.turn new c.args.text.now c.args.tree.now x)
@@ -55,7 +55,7 @@ returns-in-Ok-Changes g c =
     let read : IsRead moment c.args.session c.args.turn new c.args.text.now c.args.tree.now o.result =
     read_by moment c.args.session c.args.turn c.new-source.result c.new-source.ensures c.args.names.now c.requires.names new o.new.source o.ensures.start
     (ap (turn_with c.into_turn-turn.result) c.value.ensures.value ∙ c.into_turn-turn.ensures.turn) c.into_turn-turn.ensures.held
-    c.args.text.now c.args.tree.now o.result o.ensures.kind o.ensures.told o.ensures.front o.ensures.cause o.ensures.allowed in record {
+    c.args.text.now c.args.tree.now o.result o.ensures.kind o.ensures.told o.ensures.cause o.ensures.allowed in record {
       keeps = keeps_both moment c.args.session c.args.turn new c.commit_in_turn.result.1
           (keeps_read moment c.args.session c.args.turn new read.marks read.held) c.commit_in_turn.ensures.keeps;
       goes = goes_tried new arm.change arm.changed arm.reply
@@ -72,7 +72,7 @@ returns-in-Err g c =
     let read : IsRead moment c.args.session c.args.turn new c.args.text.now c.args.tree.now o.result =
     read_by moment c.args.session c.args.turn c.new-source.result c.new-source.ensures c.args.names.now c.requires.names new o.new.source o.ensures.start
     (ap (turn_with c.into_turn-turn.result) c.value.ensures.value ∙ c.into_turn-turn.ensures.turn) c.into_turn-turn.ensures.held
-    c.args.text.now c.args.tree.now o.result o.ensures.kind o.ensures.told o.ensures.front o.ensures.cause o.ensures.allowed in record {
+    c.args.text.now c.args.tree.now o.result o.ensures.kind o.ensures.told o.ensures.cause o.ensures.allowed in record {
       keeps = keeps_read moment c.args.session c.args.turn new read.marks read.held;
       goes = goes_unread arm.fault
           (subst (λ x. IsRead moment c.args.session c.args.turn new c.args.text.now c.args.tree.now x) arm.is read)
