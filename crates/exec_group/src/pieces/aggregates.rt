@@ -12,8 +12,8 @@ ghost use Rattle.exec_group.specs.Inner.Parts.{has_parts};
 
 use crate::parts::told_array;
 use crate::pieces::parts::groups_by_parts;
-use crate::pieces::rising::are_rising;
 use afl_outside::Gate;
+use area_cells::are_rising;
 use array_geom::{Chunk, ChunkedArray};
 use cell_values::{Memory, Schema};
 use chunk_workers::Crew;

@@ -15,9 +15,9 @@ ghost use Rattle.exec_group.specs.Inner.Parts.{IsBlockPartOf};
 
 use crate::parts::{regrid_part, told_array};
 use crate::pieces::parts::are_few;
-use crate::pieces::rising::are_rising;
 use crate::rows::{Groups, merge_all};
 use afl_outside::Gate;
+use area_cells::are_rising;
 use array_geom::{Chunk, ChunkedArray};
 use cell_values::{List, Margins, Memory, Schema};
 use chunk_workers::{Crew, Work, over_pieces};
