@@ -1,0 +1,25 @@
+-- Records that are written by a writer of records of any lengths.
+use Rattle.std.proofs.Common.{◌≡◌, ◌∙◌, ℕ, List, [], ◌∷◌, ◌++◌, refl, ap, length}
+use Rattle.std.specs.Prelude.{◌==◌, if◌then◌else◌}
+use Rattle.csv.specs.Writing.{default_writer, end_text, escaped, field_text, fields_text, is_blank, needs_quotes, row_body, row_text}
+use Rattle.result_print.specs.Inner.Writers.{any_lengths}
+
+escaped_alike : (field : List ℕ) → escaped any_lengths field ≡ escaped default_writer field
+unfolding escaped
+escaped_alike [] = refl
+escaped_alike (b ∷ field) = ap (λ (t : List ℕ). if b == 34 then 34 ∷ b ∷ t else b ∷ t) (escaped_alike field)
+
+field_alike : (field : List ℕ) → field_text any_lengths field ≡ field_text default_writer field
+field_alike field = ap (λ (t : List ℕ). if needs_quotes default_writer field then 34 ∷ (t ++ (34 ∷ [])) else field) (escaped_alike field)
+
+fields_alike : (fields : List (List ℕ)) → fields_text any_lengths fields ≡ fields_text default_writer fields
+unfolding fields_text
+fields_alike [] = refl
+fields_alike (field ∷ rest) = λ i. 44 ∷ (field_alike field i ++ fields_alike rest i)
+
+-- lengths have no influence on a record's text
+pub record_alike : (fields : List (List ℕ)) → row_text any_lengths fields ≡ row_text default_writer fields
+unfolding is_blank
+record_alike [] = refl
+record_alike (field ∷ []) = λ i. (field_alike field i ++ fields_alike [] i) ++ ((if length (field_alike field i) == 0 then 34 ∷ 34 ∷ [] else []) ++ (10 ∷ []))
+record_alike (field ∷ next ∷ rest) = λ i. (field_alike field i ++ fields_alike (next ∷ rest) i) ++ (10 ∷ [])
