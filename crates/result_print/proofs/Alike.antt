@@ -1,8 +1,11 @@
 -- Records that are written by a writer of records of any lengths.
-use Rattle.std.proofs.Common.{◌≡◌, ◌∙◌, ℕ, List, [], ◌∷◌, ◌++◌, refl, ap, length}
+use Rattle.std.proofs.Common.{◌≡◌, ◌≢◌, ◌∙◌, ℕ, List, [], ◌∷◌, ◌++◌, refl, sym, ap, subst, length}
 use Rattle.std.specs.Prelude.{◌==◌, if◌then◌else◌}
-use Rattle.csv.specs.Writing.{default_writer, end_text, escaped, field_text, fields_text, is_blank, needs_quotes, row_body, row_text}
+use Rattle.csv.specs.Writing.{default_writer, escaped, field_text, fields_text, is_blank, needs_quotes, row_text}
+use Rattle.csv.specs.declared.writer.QuoteStyle.TheVariants as style
+use Rattle.csv.specs.declared.writer.WriterBuilder.{WriterBuilder}
 use Rattle.result_print.specs.Inner.Writers.{any_lengths}
+use Rattle.result_print.specs.Records.{record_text}
 
 escaped_alike : (field : List ℕ) → escaped any_lengths field ≡ escaped default_writer field
 unfolding escaped
@@ -23,3 +26,9 @@ unfolding is_blank
 record_alike [] = refl
 record_alike (field ∷ []) = λ i. (field_alike field i ++ fields_alike [] i) ++ ((if length (field_alike field i) == 0 then 34 ∷ 34 ∷ [] else []) ++ (10 ∷ []))
 record_alike (field ∷ next ∷ rest) = λ i. (field_alike field i ++ fields_alike (next ∷ rest) i) ++ (10 ∷ [])
+
+pub no_numbers : (cfg : WriterBuilder) → cfg ≡ any_lengths → cfg.style ≢ style.NonNumeric
+no_numbers cfg e = subst (λ (w : WriterBuilder). w.style ≢ style.NonNumeric) (sym e) (λ same. cc same)
+
+pub written_more : (cfg : WriterBuilder) (before after : List ℕ) (fields : List (List ℕ)) → cfg ≡ any_lengths → after ≡ before ++ row_text cfg fields → after ≡ before ++ record_text fields
+written_more cfg before after fields e h = h ∙ ap (λ (t : List ℕ). before ++ t) (ap (λ (w : WriterBuilder). row_text w fields) e ∙ record_alike fields)

@@ -1,3 +1,4 @@
 pub mod Alike
 mod Joined
 mod Numbered
+mod Worked

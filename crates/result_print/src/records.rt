@@ -1,8 +1,8 @@
 //! The text of an array as CSV.
-ghost use Rattle.std.specs.Prelude.{◌≡◌, [], ◌++◌, List, ℕ, map, IfOk, OnOk};
+ghost use Rattle.std.specs.Prelude.{◌≡◌, [], ◌++◌, map, IfOk, OnOk};
 ghost use Rattle.std.specs.List.{flat_map};
-ghost use Rattle.csv.specs.Records.{fields_of};
-ghost use Rattle.result_print.specs.Inner.Writers.{HasFields, IsReady, written};
+ghost use Rattle.csv.specs.Records.{fields_of, partial_of};
+ghost use Rattle.result_print.specs.Inner.Writers.{IsReady, written};
 ghost use Rattle.result_print.specs.Records.{csv_text, name_fields, name_record, record_text, row_fields, row_record, value_fields};
 
 use crate::spelling::Spelled;
@@ -16,7 +16,9 @@ fn push_fields<T: Spelled>(
     field: &mut Bytes,
     parts: &[T],
 ) -> Result<(), Memory>
-    ensures { (before : List (List ℕ)) → HasFields fields.old before → OnOk result (HasFields fields.new (before ++ map T.bytes parts.now)) }
+    requires { partial_of fields.old ≡ [] }
+    ensures fields { OnOk result (fields_of fields.new ≡ fields_of fields.old ++ map T.bytes parts.now) }
+    ensures whole { OnOk result (partial_of fields.new ≡ []) }
 {
     for part in parts {
         field.clear();
@@ -28,7 +30,8 @@ fn push_fields<T: Spelled>(
 
 /// Adds a field for each value.
 fn push_values(fields: &mut ByteRecord, field: &mut Bytes, cell: &Cell) -> Result<(), Memory>
-    ensures { (before : List (List ℕ)) → HasFields fields.old before → OnOk result (HasFields fields.new (before ++ value_fields cell.now)) }
+    requires { partial_of fields.old ≡ [] }
+    ensures { OnOk result (fields_of fields.new ≡ fields_of fields.old ++ value_fields cell.now) }
 {
     match cell {
         Cell::Full(values) => push_fields(fields, field, values.as_slice()),
@@ -36,11 +39,7 @@ fn push_values(fields: &mut ByteRecord, field: &mut Bytes, cell: &Cell) -> Resul
     }
 }
 
-fn fill_names(
-    fields: &mut ByteRecord,
-    field: &mut Bytes,
-    schema: &Schema,
-) -> Result<(), Memory>
+fn fill_names(fields: &mut ByteRecord, field: &mut Bytes, schema: &Schema) -> Result<(), Memory>
     ensures { OnOk result (fields_of fields.new ≡ name_fields schema.now) }
 {
     fields.clear();
@@ -74,7 +73,10 @@ fn write_record(writer: &mut Writer<Vec<u8>>, fields: &ByteRecord) -> Result<(),
 {
     match writer.write_byte_record(fields) {
         Ok(()) => Ok(()),
-        Err(_) => Err(Memory),
+        Err(error) => {
+            drop(error);
+            Err(Memory)
+        }
     }
 }
 

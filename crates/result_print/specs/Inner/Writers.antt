@@ -1,7 +1,6 @@
 -- What a writer of records has written.
-use Rattle.std.specs.Prelude.{◌≡◌, ℕ, true, false, List, [], ◌++◌, Vec}
+use Rattle.std.specs.Prelude.{◌≡◌, ℕ, true, false, List, ◌++◌, Vec}
 use Rattle.std.specs.declared.alloc.Global.{Global}
-use Rattle.csv.specs.Records.{Row, fields_of, partial_of}
 use Rattle.csv.specs.Writing.{default_writer, fields_written, has_written, with_flexible, writer_pending, writer_setup, writer_under}
 use Rattle.csv.specs.declared.writer.Writer.{Writer}
 use Rattle.csv.specs.declared.writer.WriterBuilder.{WriterBuilder}
@@ -19,8 +18,3 @@ pub record IsReady (w : Writer (Vec ℕ Global)) : Type 0 where
   pub settings : writer_setup w ≡ any_lengths
   pub fields : fields_written w ≡ 0
   pub clean : has_written w ≡ false
-
--- a record of these fields, and of no bytes behind them
-pub record HasFields (record' : Row) (fields : List (List ℕ)) : Type 0 where
-  pub fields : fields_of record' ≡ fields
-  pub whole : partial_of record' ≡ []
