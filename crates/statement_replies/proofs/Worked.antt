@@ -18,6 +18,7 @@ use Rattle.plan_changes.specs.Databases.{Database}
 use Rattle.plan_changes.specs.declared.change.Change.TheVariants.{Store, Remove}
 use Rattle.check_rules.specs.Operators.{query_named, change_named}
 use Rattle.result_print.specs.Listings.{list_text, show_text, stored_line, versions_text}
+use Rattle.result_print.specs.Records.{csv_text}
 use Rattle.result_print.specs.declared.refusal.Refusal.TheVariants.{Cell, Typing}
 use Rattle.statement_replies.specs.Reply.{refused, text_reply}
 use Rattle.statement_replies.specs.Statements.{reply_to, text_alone, without_change}
@@ -68,7 +69,7 @@ unfolding query_named change_named
 queried = refl
 
 -- A, as CSV
-queried_as_csv : reply_to (record { csv = true }) db [] (name 0 1 (codes "A")) ≡ without_change (text_alone (codes "i,v\n1,7\n3,null\n"))
+queried_as_csv : reply_to (record { csv = true }) db [] (name 0 1 (codes "A")) ≡ without_change (text_alone (csv_text (line true) rows))
 unfolding query_named change_named
 queried_as_csv = refl
 

@@ -1,6 +1,5 @@
 -- The text of an array in each style of replies.
-use Rattle.std.specs.Prelude.{ℕ, Bool, true, false, List, ◌++◌}
-use Rattle.std.specs.List.{flat_map}
+use Rattle.std.specs.Prelude.{ℕ, Bool, true, false, List}
 use Rattle.cell_values.specs.declared.datum.Row.{Row}
 use Rattle.cell_values.specs.declared.schema.Schema.{Schema}
 use Rattle.result_print.specs.Records.{csv_text}
