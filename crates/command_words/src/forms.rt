@@ -20,11 +20,14 @@ pub enum Form {
     /// `run DB OPTION.. SCRIPT..`, with the places of DB and of the first SCRIPT. All words from there on are scripts.
     Run {
         device: usize,
+        workers: u32,
         pages: u32,
         history: u32,
         scripts: usize,
     },
 }
+
+const DEFAULT_WORKERS: u32 = 4;
 
 const DEFAULT_PAGES: u32 = 65_536;
 
@@ -97,7 +100,7 @@ fn read_settings(device: &str, words: &[Arg], settings: Settings) -> Result<Form
             None => read_scripts(device, settings, words),
             Some(option) => match rest {
                 [] => Err(settings.place() + 1),
-                [number, rest @ ..] => match number_of(number.as_str()) {
+                [number, rest @ ..] => match number_of(option, number.as_str()) {
                     None => Err(settings.place() + 1),
                     Some(number) => read_settings(device, rest, settings.with(option, number)),
                 },
@@ -120,6 +123,7 @@ fn run_of(settings: Settings) -> Form
 {
     Form::Run {
         device: 1,
+        workers: settings.workers.unwrap_or(DEFAULT_WORKERS),
         pages: settings.pages.unwrap_or(DEFAULT_PAGES),
         history: settings.history.unwrap_or(DEFAULT_HISTORY),
         scripts: settings.place() as usize,
