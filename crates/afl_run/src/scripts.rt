@@ -23,9 +23,11 @@ pub(crate) fn run_scripts<F: Shelf, R: Threads + Wait + Sync, G: Gate>(
     device: &Arg,
     scripts: &[Arg],
     limits: Limits,
+    workers: u32,
     shelf: F,
     gate: &G,
 ) -> Report<F>
+    requires workers { (1 ≤ workers) × (workers ≤ 64) }
     requires count { (1 ≤ length scripts.now) × (length scripts.now ≤ 16) }
     requires names { HaveOwnNames scripts.now }
     requires apart { All (λ name. device.now ≢ name) (stream_names scripts.now) }
@@ -35,7 +37,7 @@ pub(crate) fn run_scripts<F: Shelf, R: Threads + Wait + Sync, G: Gate>(
 {
     let mut shelf = shelf;
     match open_device(&mut shelf, device.as_str()) {
-        Ok(disk) => run_on(rt, alloc, disk, scripts, limits, shelf, gate),
+        Ok(disk) => run_on(rt, alloc, disk, scripts, limits, workers, shelf, gate),
         Err(notice) => unrun(alloc, notice, None, shelf),
     }
 }
@@ -47,9 +49,11 @@ fn run_on<F: Shelf, R: Threads + Wait + Sync, G: Gate>(
     disk: F::Device,
     scripts: &[Arg],
     limits: Limits,
+    workers: u32,
     shelf: F,
     gate: &G,
 ) -> Report<F>
+    requires workers { (1 ≤ workers) × (workers ≤ 64) }
     requires count { (1 ≤ length scripts.now) × (length scripts.now ≤ 16) }
     requires names { HaveOwnNames scripts.now }
     requires begun { IsAsBegun (F.Device.moment disk).state }
@@ -60,7 +64,7 @@ fn run_on<F: Shelf, R: Threads + Wait + Sync, G: Gate>(
     let mut shelf = shelf;
     match open_streams(alloc, scripts, &mut shelf) {
         Ok(streams) => {
-            let run = run_over(rt, alloc, disk, limits, streams, gate);
+            let run = run_over(rt, alloc, disk, limits, workers, streams, gate);
             report_of(run, shelf)
         }
         Err(notice) => unrun(alloc, notice, Some(disk), shelf),

@@ -20,6 +20,9 @@ use std::alloc::Global;
 use std::sync::Wait;
 use std::thread::Threads;
 
+/// How many threads compute a statement.
+const WORKERS: u32 = 4;
+
 const LIMITS: Limits = Limits {
     pages: 65_536,
     history: 1_048_576,
@@ -83,7 +86,7 @@ fn run_standard<F: Shelf, R: Threads + Wait + Sync, G: Gate>(
     let mut shelf = shelf;
     match open_streams(alloc, names, &mut shelf) {
         Ok(streams) => {
-            let run = run_over(rt, alloc, disk, LIMITS, streams, gate);
+            let run = run_over(rt, alloc, disk, LIMITS, WORKERS, streams, gate);
             report_of(run, shelf)
         }
         Err(notice) => unrun(alloc, notice, None, shelf),

@@ -35,7 +35,7 @@ pub fn run<F: Shelf, R: Threads + Wait + Sync, G: Gate>(
     ensures nothing { (word : ℕ) → result.notice ≡ Notice.Usage word
         → (result.sessions ≡ []) × (result.history ≡ []) × (result.free_pages ≡ 0) × (result.disk ≡ None) }
 
-    ensures runs { (pages history first : ℕ) (run : IsRun words.now pages history first)
+    ensures runs { (workers pages history first : ℕ) (run : IsRun words.now workers pages history first)
         → RunsScripts F.Device.moment F.S.state F.K.state (F.state shelf) (F.state result.shelf) result.notice result.history result.sessions
         result.free_pages run.device run.scripts pages history result.disk }
     ensures tries { words.now ≡ codes "try" ∷ []
@@ -56,6 +56,7 @@ pub fn run<F: Shelf, R: Threads + Wait + Sync, G: Gate>(
         Ok(
             Form::Run {
                 device,
+                workers,
                 pages,
                 history,
                 scripts,
@@ -64,7 +65,7 @@ pub fn run<F: Shelf, R: Threads + Wait + Sync, G: Gate>(
             let limits = Limits { pages, history };
             let target = word_at(words, device);
             let listed = words_from(words, scripts);
-            run_scripts(rt, alloc, target, listed, limits, shelf, gate)
+            run_scripts(rt, alloc, target, listed, limits, workers, shelf, gate)
         }
         Err(word) => unrun(alloc, Notice::Usage { word }, None, shelf),
     }

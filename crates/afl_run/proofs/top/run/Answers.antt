@@ -6,7 +6,7 @@ use Rattle.command_words.proofs.Answering.{one_place}
 use Rattle.run_opening.specs.Names.{HaveOwnNames, Word, stream_names}
 use Rattle.session_reports.specs.declared.notices.Notice.TheVariants.{Usage}
 use Rattle.afl_run.specs.Run.{MakesDatabase, RunsScripts}
-use Rattle.afl_run.proofs.FormLemmas.{apart_from_device, device_within, init_or_run, init_or_try, init_tells, init_within, names_apart, run_or_init, run_or_try, runs_as, same_init, scripts_tell, scripts_within, some_scripts, try_or_init, try_or_run, try_tells, usage_place}
+use Rattle.afl_run.proofs.FormLemmas.{apart_from_device, device_within, init_or_run, init_or_try, init_tells, init_within, names_apart, run_or_init, run_or_try, runs_as, same_init, scripts_tell, scripts_within, some_scripts, try_or_init, try_or_run, try_tells, usage_place, workers_within}
 use Rattle.afl_run.proofs.top.run.Goals as goal
 
 pub word_at-name-requires : goal.word_at-name-requires
@@ -15,38 +15,44 @@ word_at-name-requires g c = init_within c.args.words.now c.in-Ok-Init.device ((c
 pub word_at-target-requires : goal.word_at-target-requires
 word_at-target-requires g c =
     let form = c.in-Ok-Run in
-    device_within c.args.words.now form.device form.pages form.history form.scripts ((c.form_of.ensures.form (Run form.device form.pages form.history form.scripts)).0 (form.is ∙ ap Ok form.field-0-is))
+    device_within c.args.words.now form.device form.workers form.pages form.history form.scripts ((c.form_of.ensures.form (Run form.device form.workers form.pages form.history form.scripts)).0 (form.is ∙ ap Ok form.field-0-is))
 
 pub words_from-listed-requires : goal.words_from-listed-requires
 words_from-listed-requires g c =
     let form = c.in-Ok-Run in
-    scripts_within c.args.words.now form.device form.pages form.history form.scripts ((c.form_of.ensures.form (Run form.device form.pages form.history form.scripts)).0 (form.is ∙ ap Ok form.field-0-is))
+    scripts_within c.args.words.now form.device form.workers form.pages form.history form.scripts ((c.form_of.ensures.form (Run form.device form.workers form.pages form.history form.scripts)).0 (form.is ∙ ap Ok form.field-0-is))
+
+pub run_scripts-requires-clause-workers : goal.run_scripts-requires-clause-workers
+run_scripts-requires-clause-workers g c κs within =
+    let form = c.in-Ok-Run in
+    workers_within c.args.words.now form.device form.workers form.pages form.history form.scripts
+    ((c.form_of.ensures.form (Run form.device form.workers form.pages form.history form.scripts)).0 (form.is ∙ ap Ok form.field-0-is))
 
 pub run_scripts-requires-clause-count : goal.run_scripts-requires-clause-count
 run_scripts-requires-clause-count g c κs within =
     let words = c.args.words.now in
     let form = c.in-Ok-Run in
-    let one : IsForm words (Run form.device form.pages form.history form.scripts) =
-    (c.form_of.ensures.form (Run form.device form.pages form.history form.scripts)).0 (form.is ∙ ap Ok form.field-0-is) in
+    let one : IsForm words (Run form.device form.workers form.pages form.history form.scripts) =
+    (c.form_of.ensures.form (Run form.device form.workers form.pages form.history form.scripts)).0 (form.is ∙ ap Ok form.field-0-is) in
     subst (λ (scripts : List Word). (1 ≤ length scripts) × (length scripts ≤ 16)) (sym c.words_from-listed.ensures)
-    (some_scripts words form.device form.pages form.history form.scripts one)
+    (some_scripts words form.device form.workers form.pages form.history form.scripts one)
 
 pub run_scripts-requires-clause-names : goal.run_scripts-requires-clause-names
 run_scripts-requires-clause-names g c κs within =
     let words = c.args.words.now in
     let form = c.in-Ok-Run in
-    let one : IsForm words (Run form.device form.pages form.history form.scripts) =
-    (c.form_of.ensures.form (Run form.device form.pages form.history form.scripts)).0 (form.is ∙ ap Ok form.field-0-is) in
-    subst (λ (scripts : List Word). HaveOwnNames scripts) (sym c.words_from-listed.ensures) (names_apart words form.device form.pages form.history form.scripts one)
+    let one : IsForm words (Run form.device form.workers form.pages form.history form.scripts) =
+    (c.form_of.ensures.form (Run form.device form.workers form.pages form.history form.scripts)).0 (form.is ∙ ap Ok form.field-0-is) in
+    subst (λ (scripts : List Word). HaveOwnNames scripts) (sym c.words_from-listed.ensures) (names_apart words form.device form.workers form.pages form.history form.scripts one)
 
 pub run_scripts-requires-clause-apart : goal.run_scripts-requires-clause-apart
 run_scripts-requires-clause-apart g c κs within =
     let words = c.args.words.now in
     let form = c.in-Ok-Run in
-    let one : IsForm words (Run form.device form.pages form.history form.scripts) =
-    (c.form_of.ensures.form (Run form.device form.pages form.history form.scripts)).0 (form.is ∙ ap Ok form.field-0-is) in
+    let one : IsForm words (Run form.device form.workers form.pages form.history form.scripts) =
+    (c.form_of.ensures.form (Run form.device form.workers form.pages form.history form.scripts)).0 (form.is ∙ ap Ok form.field-0-is) in
     subst (λ (scripts : List Word). All (λ name. c.word_at-target.result.now ≢ name) (stream_names scripts)) (sym c.words_from-listed.ensures)
-    (apart_from_device words form.device form.pages form.history form.scripts one c.word_at-target.result.now c.word_at-target.ensures)
+    (apart_from_device words form.device form.workers form.pages form.history form.scripts one c.word_at-target.result.now c.word_at-target.ensures)
 
 pub returns-in-Ok-Try : goal.returns-in-Ok-Try
 returns-in-Ok-Try g c =
@@ -61,7 +67,7 @@ returns-in-Ok-Try g c =
       usage = λ word. (λ is. absurd (tells word is), λ is. absurd (is.no_form Try one));
       untouched = λ word is. absurd (tells word is);
       nothing = λ word is. absurd (tells word is);
-      runs = λ pages history first run. absurd (try_or_run words pages history first one run);
+      runs = λ workers pages history first run. absurd (try_or_run words workers pages history first one run);
       tries = λ is. e.runs;
       makes = λ init. absurd (try_or_init words one init);
       no_session = λ init. absurd (try_or_init words one init);
@@ -85,7 +91,7 @@ returns-in-Ok-Init g c =
       usage = λ word. (λ is. absurd (tells word is), λ is. absurd (is.no_form (Init device) one));
       untouched = λ word is. absurd (tells word is);
       nothing = λ word is. absurd (tells word is);
-      runs = λ pages history first run. absurd (init_or_run words device pages history first one run);
+      runs = λ workers pages history first run. absurd (init_or_run words device workers pages history first one run);
       tries = λ is. absurd (init_or_try words device one is);
       makes = λ init. subst (λ (asked : Word). MakesDatabase moment old (state r.shelf) r.notice asked r.disk) (same_init words device one init _ named) e.makes;
       no_session = λ init. (e.sessions, e.history, e.free_pages);
@@ -100,7 +106,7 @@ returns-in-Ok-Run g c =
     let state = g.F.Shelf.state in
     let words = c.args.words.now in
     let form = c.in-Ok-Run in
-    let one : IsForm words (Run form.device form.pages form.history form.scripts) = (c.form_of.ensures.form (Run form.device form.pages form.history form.scripts)).0 (form.is ∙ ap Ok form.field-0-is) in
+    let one : IsForm words (Run form.device form.workers form.pages form.history form.scripts) = (c.form_of.ensures.form (Run form.device form.workers form.pages form.history form.scripts)).0 (form.is ∙ ap Ok form.field-0-is) in
     let old = state c.args.shelf in
     let r = c.run_scripts.result in
     let e = c.run_scripts.ensures in
@@ -109,15 +115,15 @@ returns-in-Ok-Run g c =
     let tells = scripts_tell moment source sink old (state r.shelf) r.notice r.history r.free_pages r.sessions _ _ _ _ r.disk runs in
     record {
       status = e.status;
-      usage = λ word. (λ is. absurd (tells word is), λ is. absurd (is.no_form (Run form.device form.pages form.history form.scripts) one));
+      usage = λ word. (λ is. absurd (tells word is), λ is. absurd (is.no_form (Run form.device form.workers form.pages form.history form.scripts) one));
       untouched = λ word is. absurd (tells word is);
       nothing = λ word is. absurd (tells word is);
-      runs = λ pages history first run. runs_as words form.device form.pages form.history form.scripts one pages history first run moment source sink old (state r.shelf)
+      runs = λ workers pages history first run. runs_as words form.device form.workers form.pages form.history form.scripts one workers pages history first run moment source sink old (state r.shelf)
           r.notice r.history r.sessions r.free_pages r.disk c.word_at-target.result.now c.word_at-target.ensures runs;
-      tries = λ is. absurd (run_or_try words form.device form.pages form.history form.scripts one is);
-      makes = λ init. absurd (run_or_init words form.device form.pages form.history form.scripts one init);
-      no_session = λ init. absurd (run_or_init words form.device form.pages form.history form.scripts one init);
-      no_device = λ is. absurd (run_or_try words form.device form.pages form.history form.scripts one is);
+      tries = λ is. absurd (run_or_try words form.device form.workers form.pages form.history form.scripts one is);
+      makes = λ init. absurd (run_or_init words form.device form.workers form.pages form.history form.scripts one init);
+      no_session = λ init. absurd (run_or_init words form.device form.workers form.pages form.history form.scripts one init);
+      no_device = λ is. absurd (run_or_try words form.device form.workers form.pages form.history form.scripts one is);
     }
 
 pub returns-in-Err : goal.returns-in-Err
@@ -135,7 +141,7 @@ returns-in-Err g c =
       );
       untouched = λ word is. e.shelf;
       nothing = λ word is. (e.sessions, e.history, e.free_pages, e.disk);
-      runs = λ pages history first run. absurd (fault.no_form (Run 1 pages history first) (refl, run));
+      runs = λ workers pages history first run. absurd (fault.no_form (Run 1 workers pages history first) (refl, run));
       tries = λ is. absurd (fault.no_form Try is);
       makes = λ init. absurd (fault.no_form (Init 1) (refl, init));
       no_session = λ init. absurd (fault.no_form (Init 1) (refl, init));
