@@ -1,16 +1,16 @@
 -- The number of an option, as it is parsed.
-use Rattle.std.proofs.Common.{◌≡◌, ℕ, ◌<◌, ◌≤◌, ◌^◌, Bool, true, false, ◌&&◌, None, Some, Result, Ok, Err, [], ◌∷◌, length, refl, sym, ap, ◌∙◌, arith, lit≤, nat_le, ◌==◌, ◌≢◌}
+use Rattle.std.proofs.Common.{◌≡◌, ℕ, ◌<◌, ◌≤◌, ◌^◌, Bool, true, false, ◌&&◌, cond, None, Some, Result, Ok, Err, [], ◌∷◌, length, refl, sym, ap, ◌∙◌, arith, lit≤, nat_le, ◌==◌, ◌≢◌}
 use Rattle.std.specs.List.{list_all}
 use Rattle.std.specs.Char.{is_ascii_digit}
 use Rattle.std.specs.Str.{all_ascii_digits}
 use Rattle.std.specs.Str.Parse.{digits_value, ParsesUnsigned}
-use Rattle.std.specs.Result.{OkIff}
-use Rattle.std.proofs.lemmas.Bool.{and_parts, and_left, and_right, leb-true, le-leb, eqb-false, cond-false}
+use Rattle.std.specs.Result.{OkIff, result_ok}
+use Rattle.std.proofs.lemmas.Bool.{and_parts, and_from, and_left, and_right, leb-true, le-leb, eqb-false, cond-false}
 use Rattle.std.proofs.lemmas.Str.Parse.{IsNumeralModel, numerals_by_value, tells_all_ascii_digits, parse_digits}
 use Rattle.command_words.specs.declared.settings.RunOption.{RunOption}
 use Rattle.command_words.specs.declared.settings.RunOption.TheVariants.{Pages, History, Workers}
-use Rattle.command_words.specs.Forms.{Word, is_number, least, most, is_setting_number}
-use Rattle.command_words.specs.Inner.Reading.{number_of}
+use Rattle.command_words.specs.Forms.{Word, is_number, is_script_number, least, most, is_setting_number}
+use Rattle.command_words.specs.Inner.Reading.{number_of, script_number}
 
 own : IsNumeralModel (λ ds. all_ascii_digits ds ≡ true) (digits_value 10)
 own = numerals_by_value (λ ds. all_ascii_digits ds ≡ true) tells_all_ascii_digits
@@ -61,3 +61,20 @@ module _ (w : Word) where
       let filled : length w ≢ 0 = eqb-false (length w) 0 some in
       let one : 1 ≤ length w = omega arith in
       sym (ap (λ b. (b && nat_le (length w) 10) && list_all is_ascii_digit w) (le-leb 1 (length w) one) ∙ ap (λ b. b && list_all is_ascii_digit w) (le-leb (length w) 10 few))
+
+  pub script_number_read : is_number w ≡ true → {E : Type 0} → (r : Result ℕ E) → ParsesUnsigned 32 10 w r → result_ok r ≡ script_number w
+  script_number_read e {E = E} (Ok m) h =
+      let (inside, is) = parsed e {E = E} (Ok m) h in
+      let below : digits_value 10 w < 2 ^ 32 = inside.1 in
+      let near : digits_value 10 w ≤ 4294967295 = omega arith in
+      let fits : is_script_number w ≡ true = and_from (is_number w) (nat_le (digits_value 10 w) 4294967295) e (le-leb (digits_value 10 w) 4294967295 near) in
+      ap Some is ∙ sym (ap (λ b. cond b (Some (digits_value 10 w)) None) fits)
+  script_number_read e {E = E} (Err y) h = by (nat_le (digits_value 10 w) 4294967295) refl where
+    below : digits_value 10 w ≤ 4294967295 → digits_value 10 w < 2 ^ 32
+    below near = omega arith
+
+    by : (x : Bool) → nat_le (digits_value 10 w) 4294967295 ≡ x → None ≡ script_number w
+    by false out = sym (cond-false (is_script_number w) (Some (digits_value 10 w)) None (and_right (is_number w) (nat_le (digits_value 10 w) 4294967295) out))
+    by true inside =
+        let near : digits_value 10 w ≤ 4294967295 = leb-true (digits_value 10 w) 4294967295 inside in
+        absurd (parsed e {E = E} (Err y) h ((parts e).0, below near))

@@ -14,11 +14,11 @@ use Rattle.command_words.proofs.Heads.{same_head, same_tail}
 use Rattle.command_words.proofs.ScriptLemmas.{AreScripts, scripts_judged}
 use Rattle.command_words.proofs.Options.{IsTail, Names, option_names, place_step, Follows, tail_first, first_tail, tail_scripts, scripts_tail}
 
-abbrev NumberTells : RunOption → Word → Option ℕ → Type 0
+abbrev pub NumberTells : RunOption → Word → Option ℕ → Type 0
 NumberTells option number None = is_setting_number option number ≡ false
 NumberTells option number (Some value) = (is_setting_number option number ≡ true) × (value ≡ digits_value 10 number)
 
-number_tells : (option : RunOption) (number : Word) → NumberTells option number (number_of option number)
+pub number_tells : (option : RunOption) (number : Word) → NumberTells option number (number_of option number)
 number_tells option number = by (is_setting_number option number) refl where
   by : (b : Bool) → is_setting_number option number ≡ b → NumberTells option number (cond b (Some (digits_value 10 number)) None)
   by true e = (e, refl)

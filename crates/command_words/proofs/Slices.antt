@@ -1,5 +1,5 @@
 -- The words of a slice, one after the other.
-use Rattle.std.proofs.Common.{◌≡◌, ℕ, ◌-◌, ◌≤◌, false, cond, Option, Some, Err, List, [], ◌∷◌, length, get_or, take, drop, sym, ap, ap₂, ◌∙◌, arith, take_all}
+use Rattle.std.proofs.Common.{◌≡◌, ℕ, ◌-◌, ◌≤◌, false, cond, Option, Some, Err, List, [], ◌∷◌, length, get_or, take, drop, sym, ap, ◌∙◌, arith, take_all}
 use Rattle.command_words.specs.declared.settings.RunOption.{RunOption}
 use Rattle.command_words.specs.declared.settings.Settings.{Settings}
 use Rattle.command_words.specs.Forms.{Word, is_dashed}

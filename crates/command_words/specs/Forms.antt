@@ -1,12 +1,12 @@
 -- The forms of the words of a command line. A word is the list of its bytes.
 use Rattle.std.specs.Prelude.{◌≡◌, ℕ, ◌+◌, ◌*◌, ◌≤◌, Bool, true, false, ◌&&◌, not, nat_le, if◌then◌else◌}
-use Rattle.std.specs.Prelude.{List, [], ◌∷◌, ◌++◌, length, take, count_by, codes, flat_map}
+use Rattle.std.specs.Prelude.{List, [], ◌∷◌, ◌++◌, length, take, count_by, codes, flat_map, Option, None, Some, IfSome}
 use Rattle.std.specs.List.{list_any, list_all}
 use Rattle.std.specs.Char.{is_ascii_digit}
 use Rattle.std.specs.Str.{bytes_eq}
 use Rattle.std.specs.Str.Parse.{digits_value}
 use Rattle.command_words.specs.declared.forms.Form.{Form}
-use Rattle.command_words.specs.declared.forms.Form.TheVariants.{Try, Init, Run}
+use Rattle.command_words.specs.declared.forms.Form.TheVariants.{Try, Init, Run, Generate}
 use Rattle.command_words.specs.declared.settings.RunOption.{RunOption}
 use Rattle.command_words.specs.declared.settings.RunOption.TheVariants.{Pages, History, Workers}
 
@@ -103,8 +103,32 @@ pub record IsInit (words : List Word) : Type 0 where
   pub spelled : words ≡ codes "init" ∷ device ∷ []
   pub named : is_dashed device ≡ false
 
+-- the number of a script: at most 4,294,967,295
+abbrev pub is_script_number : Word → Bool
+is_script_number number = is_number number && nat_le (digits_value 10 number) 4294967295
+
+-- the words of `--workers`, where it is given, and what it says
+abbrev pub workers_words : Option Word → List Word
+workers_words None = []
+workers_words (Some number) = option_word Workers ∷ number ∷ []
+
+abbrev pub workers_said : Option Word → ℕ
+workers_said None = 4
+workers_said (Some number) = digits_value 10 number
+
+-- `generate N`, with `--workers` behind it or not
+pub record IsGenerate (words : List Word) (number workers : ℕ) : Type 0 where
+  pub digits : Word
+  pub given : Option Word
+  pub spelled : words ≡ codes "generate" ∷ digits ∷ workers_words given
+  pub fits : is_script_number digits ≡ true
+  pub in_range : IfSome given (λ said. is_setting_number Workers said ≡ true)
+  pub number_given : number ≡ digits_value 10 digits
+  pub workers_given : workers ≡ workers_said given
+
 -- the words have the form; a device stands at place 1
 abbrev pub IsForm : List Word → Form → Type 0
 IsForm words Try = words ≡ codes "try" ∷ []
 IsForm words (Init device) = (device ≡ 1) × IsInit words
 IsForm words (Run device workers pages history scripts) = (device ≡ 1) × IsRun words workers pages history scripts
+IsForm words (Generate number workers) = IsGenerate words number workers

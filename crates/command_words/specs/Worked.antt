@@ -2,7 +2,7 @@
 use Rattle.std.specs.Prelude.{ℕ, List, [], ◌∷◌, ◌++◌, codes}
 use Rattle.command_words.specs.Forms.{Word, IsForm}
 use Rattle.command_words.specs.declared.forms.Form.{Form}
-use Rattle.command_words.specs.declared.forms.Form.TheVariants.{Try, Init, Run}
+use Rattle.command_words.specs.declared.forms.Form.TheVariants.{Try, Init, Run, Generate}
 use Rattle.command_words.specs.Faults.{IsFault}
 
 pub record Wrong : Type 0 where
@@ -69,6 +69,12 @@ wrong_words =
     ∷ wrong (codes "run" ∷ codes "-" ∷ codes "-" ∷ []) 2
     ∷ wrong (run_with (codes "-" ∷ codes "-" ∷ [])) 3
     ∷ wrong (run_with (sixteen ++ codes "p" ∷ [])) 18
+    ∷ wrong (codes "generate" ∷ []) 1
+    ∷ wrong (codes "generate" ∷ codes "4294967296" ∷ []) 1
+    ∷ wrong (codes "generate" ∷ codes "7" ∷ codes "a" ∷ []) 2
+    ∷ wrong (codes "generate" ∷ codes "7" ∷ codes "--workers" ∷ []) 3
+    ∷ wrong (codes "generate" ∷ codes "7" ∷ codes "--workers" ∷ codes "0" ∷ []) 3
+    ∷ wrong (codes "generate" ∷ codes "7" ∷ codes "--workers" ∷ codes "8" ∷ codes "--workers" ∷ codes "8" ∷ []) 4
     ∷ []
 
 abbrev pub right_words : List Right
@@ -83,6 +89,9 @@ right_words =
     ∷ right (run_with (codes "--pages" ∷ codes "0000000016" ∷ codes "a" ∷ [])) (Run 1 4 16 1048576 4)
     ∷ right (run_with (codes "--history" ∷ codes "1048576" ∷ codes "--pages" ∷ codes "4096" ∷ codes "a" ∷ codes "b" ∷ [])) (Run 1 4 4096 1048576 6)
     ∷ right (run_with (codes "--workers" ∷ codes "64" ∷ codes "--pages" ∷ codes "16" ∷ codes "a" ∷ [])) (Run 1 64 16 1048576 6)
+    ∷ right (codes "generate" ∷ codes "7" ∷ []) (Generate 7 4)
+    ∷ right (codes "generate" ∷ codes "7" ∷ codes "--workers" ∷ codes "8" ∷ []) (Generate 7 8)
+    ∷ right (codes "generate" ∷ codes "4294967295" ∷ []) (Generate 4294967295 4)
     ∷ []
 
 -- each of these is a witness that forms and faults are there

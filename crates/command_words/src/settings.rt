@@ -3,7 +3,7 @@ ghost use Rattle.std.specs.Prelude.{◌≡◌, ◌≤◌};
 ghost use Rattle.std.specs.Char.{is_ascii_digit};
 ghost use Rattle.std.specs.List.{list_all};
 ghost use Rattle.command_words.specs.Forms.{is_number, least, most};
-ghost use Rattle.command_words.specs.Inner.Reading.{next_option, no_settings, number_of, option_of, place_of, with_number, words_of};
+ghost use Rattle.command_words.specs.Inner.Reading.{next_option, no_settings, number_of, option_of, place_of, script_number, with_number, words_of};
 
 /// An option of `run`.
 #[derive(Clone, Copy)]
@@ -144,5 +144,16 @@ pub(crate) fn number_of(option: RunOption, word: &str) -> Option<u32>
     match word.parse::<u32>() {
         Ok(number) if option.least() <= number && number <= option.most() => Some(number),
         _ => None,
+    }
+}
+
+/// The number of a script: 1 to 10 digits, and at most 4,294,967,295.
+pub(crate) fn script_number(word: &str) -> Option<u32>
+    ensures { result ≡ script_number word.now }
+{
+    if is_number(word) {
+        word.parse::<u32>().ok()
+    } else {
+        None
     }
 }

@@ -5,11 +5,11 @@ use Rattle.std.specs.List.{list_any}
 use Rattle.std.specs.Str.{bytes_eq}
 use Rattle.std.specs.Str.Parse.{digits_value}
 use Rattle.command_words.specs.declared.forms.Form.{Form}
-use Rattle.command_words.specs.declared.forms.Form.TheVariants.{Try, Init, Run}
+use Rattle.command_words.specs.declared.forms.Form.TheVariants.{Try, Init, Run, Generate}
 use Rattle.command_words.specs.declared.settings.RunOption.{RunOption}
 use Rattle.command_words.specs.declared.settings.RunOption.TheVariants.{Pages, History, Workers}
 use Rattle.command_words.specs.declared.settings.Settings.{Settings}
-use Rattle.command_words.specs.Forms.{Word, is_dashed, is_setting_number}
+use Rattle.command_words.specs.Forms.{Word, is_dashed, is_script_number, is_setting_number}
 
 abbrev pub given : Settings → RunOption → Option ℕ
 given settings Pages = settings.pages
@@ -109,11 +109,34 @@ abbrev pub read_try : List Word → Result Form ℕ
 read_try [] = Ok Try
 read_try (word ∷ words) = Err 1
 
+abbrev pub script_number : Word → Option ℕ
+script_number word = if is_script_number word then Some (digits_value 10 word) else None
+
+abbrev pub by_workers : ℕ → Option ℕ → List Word → Result Form ℕ
+by_workers number None words = Err 3
+by_workers number (Some workers) [] = Ok (Generate number workers)
+by_workers number (Some workers) (word ∷ words) = Err 4
+
+-- the words behind the number of a script
+abbrev pub read_workers : ℕ → List Word → Result Form ℕ
+read_workers number [] = Ok (Generate number 4)
+read_workers number (name ∷ []) = if bytes_eq name (codes "--workers") then Err 3 else Err 2
+read_workers number (name ∷ said ∷ words) = if bytes_eq name (codes "--workers") then by_workers number (number_of Workers said) words else Err 2
+
+abbrev pub by_script_number : Option ℕ → List Word → Result Form ℕ
+by_script_number None words = Err 1
+by_script_number (Some number) words = read_workers number words
+
+abbrev pub read_generate : List Word → Result Form ℕ
+read_generate [] = Err 1
+read_generate (digits ∷ words) = by_script_number (script_number digits) words
+
 abbrev pub read_verb : Word → List Word → Result Form ℕ
 read_verb verb words =
     if bytes_eq verb (codes "try") then read_try words
     else if bytes_eq verb (codes "init") then read_init words
     else if bytes_eq verb (codes "run") then read_run words
+    else if bytes_eq verb (codes "generate") then read_generate words
     else Err 0
 
 abbrev pub read_words : List Word → Result Form ℕ
