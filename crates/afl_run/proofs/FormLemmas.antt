@@ -6,8 +6,8 @@ use Rattle.afl_outside.specs.Sink.{SinkState}
 use Rattle.afl_outside.specs.Shelf.{ShelfState}
 use Rattle.event_core.specs.declared.entry.Entry.{Entry}
 use Rattle.command_words.specs.declared.forms.Form.{Form}
-use Rattle.command_words.specs.declared.forms.Form.TheVariants.{Try, Init, Run}
-use Rattle.command_words.specs.Forms.{IsForm, IsInit, IsRun}
+use Rattle.command_words.specs.declared.forms.Form.TheVariants.{Try, Init, Run, Generate}
+use Rattle.command_words.specs.Forms.{IsForm, IsGenerate, IsInit, IsRun}
 use Rattle.command_words.proofs.Answering.{one_form}
 use Rattle.command_words.proofs.PlaceLaws.{keep_places}
 use Rattle.command_words.proofs.RangeLaws.{keep_ranges}
@@ -17,6 +17,7 @@ use Rattle.session_reports.specs.Outcomes.{notice_by as told_by, notice_of}
 use Rattle.session_reports.specs.declared.reports.SessionReport.{SessionReport}
 use Rattle.session_reports.specs.declared.notices.Notice.{Notice}
 use Rattle.session_reports.specs.declared.notices.Notice.TheVariants as notices
+use Rattle.afl_run.specs.Generate.{RunsGenerate}
 use Rattle.afl_run.specs.Init.{TellsDevice}
 use Rattle.afl_run.specs.Run.{MakesDatabase, RunsScripts, RunsTry, TellsUnrun, state_in}
 
@@ -40,6 +41,27 @@ module _ (words : List Word) where
 
   pub init_or_try : (device : ℕ) → IsForm words (Init device) → IsForm words Try → ⊥
   init_or_try device one other = let is = one_form words (Init device) Try one other in absurd (cc (is))
+
+module _ (words : List Word) (number workers : ℕ) where
+  pub try_or_generate : IsForm words Try → IsGenerate words number workers → ⊥
+  try_or_generate one other = let is = one_form words Try (Generate number workers) one other in absurd (cc (is))
+
+  pub init_or_generate : (device : ℕ) → IsForm words (Init device) → IsGenerate words number workers → ⊥
+  init_or_generate device one other = let is = one_form words (Init device) (Generate number workers) one other in absurd (cc (is))
+
+  pub run_or_generate : (device some pages history first : ℕ) → IsForm words (Run device some pages history first) → IsGenerate words number workers → ⊥
+  run_or_generate device some pages history first one other = let is = one_form words (Run device some pages history first) (Generate number workers) one other in absurd (cc (is))
+
+  pub generate_or_init : IsGenerate words number workers → IsInit words → ⊥
+  generate_or_init one other = let is = one_form words (Generate number workers) (Init 1) one (refl, other) in absurd (cc (is))
+
+abbrev number_in : Form → ℕ
+number_in (Generate number workers) = number
+number_in _ = 0
+
+-- any reading of the words as `generate` has the same number
+pub same_number : (words : List Word) (number workers other some : ℕ) → IsGenerate words number workers → IsGenerate words other some → number ≡ other
+same_number words number workers other some one generate = ap number_in (one_form words (Generate number workers) (Generate other some) one generate)
 
 abbrev pages_in : Form → ℕ
 pages_in (Run device workers pages history first) = pages
@@ -116,6 +138,19 @@ module _ {D S K : Type 0} (moment : D → Moment) (source_state : S → SourceSt
     ]
   ]
   try_tells (report ∷ sessions) runs word is = sessions_tell notice (report ∷ sessions) word (runs.told (λ none. absurd (cc (none)))) is
+
+pub generated_tells : {D S K : Type 0} (moment : D → Moment) (source_state : S → SourceState) (sink_state : K → SinkState) (old new : ShelfState)
+    (notice : Notice) (history : List Entry) (free : ℕ) (generated : Option (SessionReport S K)) (script : List ℕ)
+    → RunsGenerate moment source_state sink_state old new notice history generated free script → (word : ℕ) → notice ≡ notices.Usage word → ⊥
+generated_tells moment source_state sink_state old new notice history free None script runs word is = elim (runs.none refl).2 [
+  | inl memory ↦ absurd (cc (memory, is))
+  | inr fails ↦ elim fails [
+    | inl want ↦ let memory = want.0 in absurd (cc (memory, is))
+    | inr stream ↦ let told = stream.0 in absurd (cc (told, is))
+  ]
+]
+generated_tells moment source_state sink_state old new notice history free (Some report) script runs word is =
+    sessions_tell notice (report ∷ []) word (runs.told (λ none. absurd (cc (none)))) is
 
 pub init_tells : {D : Type 0} (moment : D → Moment) (old new : ShelfState) (notice : Notice) (asked : Word) (device : Option D)
     → MakesDatabase moment old new notice asked device → (word : ℕ) → notice ≡ notices.Usage word → ⊥

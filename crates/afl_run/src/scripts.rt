@@ -32,6 +32,7 @@ pub(crate) fn run_scripts<F: Shelf, R: Threads + Wait + Sync, G: Gate>(
     requires names { HaveOwnNames scripts.now }
     requires apart { All (λ name. device.now ≢ name) (stream_names scripts.now) }
     ensures status { result.status ≡ status_of result.notice }
+    ensures generated { result.generated ≡ None }
     ensures runs { RunsScripts F.Device.moment F.S.state F.K.state (F.state shelf) (F.state result.shelf) result.notice result.history result.sessions
         result.free_pages device.now scripts.now limits.pages limits.history result.disk }
 {
@@ -58,6 +59,7 @@ fn run_on<F: Shelf, R: Threads + Wait + Sync, G: Gate>(
     requires names { HaveOwnNames scripts.now }
     requires begun { IsAsBegun (F.Device.moment disk).state }
     ensures status { result.status ≡ status_of result.notice }
+    ensures generated { result.generated ≡ None }
     ensures runs { RunsOn F.Device.moment F.S.state F.K.state (F.state shelf) (F.state result.shelf) result.notice result.history result.sessions
         result.free_pages disk scripts.now limits.pages limits.history result.disk }
 {
@@ -73,6 +75,7 @@ fn run_on<F: Shelf, R: Threads + Wait + Sync, G: Gate>(
 
 fn report_of<F: Shelf>(run: StoreRun<F::Device, F::S, F::K>, shelf: F) -> Report<F>
     ensures status { result.status ≡ status_of result.notice }
+    ensures generated { result.generated ≡ None }
     ensures notice { result.notice ≡ run.notice }
     ensures history { result.history ≡ run.history }
     ensures sessions { result.sessions ≡ run.sessions }
@@ -92,6 +95,7 @@ fn report_of<F: Shelf>(run: StoreRun<F::Device, F::S, F::K>, shelf: F) -> Report
         notice,
         history,
         sessions,
+        generated: None,
         free_pages,
         disk: Some(disk),
         shelf,
