@@ -6,7 +6,6 @@ use Rattle.std.proofs.lemmas.Int.{ints, clamps}
 use Rattle.std.proofs.lemmas.List.{append-nil, take_rest}
 use Rattle.std.proofs.Math.Nat.{div-mul-le_self, lt-div-mul-add}
 use Rattle.std.specs.Int.{int_max, int_min}
-use Rattle.std.specs.List.{AllByRecursion}
 use Rattle.std.specs.Ordering.{is_eq}
 use Rattle.std.specs.Prelude.{◌==◌, int_le, slice_index_or, unsigned_abs}
 use Rattle.arrayvec.specs.ArrayVec.{ArrayVec}

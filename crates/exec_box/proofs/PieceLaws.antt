@@ -1,5 +1,5 @@
 -- Parts and slices of arrays, chunk by chunk.
-use Rattle.std.proofs.Common.{◌≡◌, ℕ, ◌≤◌, ◌^◌, Bool, true, false, List, [], ◌∷◌, length, map, None, refl, sym, ap, ◌∙◌, subst}
+use Rattle.std.proofs.Common.{◌≡◌, ℕ, true, List, [], length, refl, sym, ap, ◌∙◌}
 use Rattle.std.proofs.lemmas.List.{append-nil}
 use Rattle.std.specs.List.{AllByRecursion, AllZip}
 use Rattle.arrayvec.specs.ArrayVec.{ArrayVec}
@@ -8,12 +8,12 @@ use Rattle.cell_values.specs.declared.schema.Bounds.{Bounds}
 use Rattle.cell_values.specs.declared.schema.Dimension.{Dimension}
 use Rattle.cell_values.specs.declared.schema.Schema.{Schema}
 use Rattle.cell_values.specs.Schemas.{IsValid}
-use Rattle.array_rows.specs.Boxes.{bounds_of, corners, is_inside, meet, moved, within}
-use Rattle.array_rows.specs.Rows.{Coordinate, rows_where}
+use Rattle.array_rows.specs.Boxes.{bounds_of, corners, is_inside, meet, within}
+use Rattle.array_rows.specs.Rows.{Coordinate}
 use Rattle.array_geom.specs.declared.chunk.Chunk.{Chunk}
 use Rattle.array_geom.specs.declared.chunk.ChunkedArray.{ChunkedArray}
 use Rattle.array_geom.specs.Geometry.{ChunkNumber, HasFrame, chunk_of, core, frame, has_core}
-use Rattle.array_geom.specs.Link.{IsPart, NumbersRise, chunk_rows, core_rows, has_cell, is_listed, numbers}
+use Rattle.array_geom.specs.Link.{NumbersRise, chunk_rows, is_listed}
 use Rattle.array_geom.proofs.CoreLaws.{core_of}
 use Rattle.array_geom.proofs.NearLemmas.{valid_placed}
 use Rattle.array_parts.specs.Cores.{HaveCells, cores_of}
@@ -25,7 +25,7 @@ use Rattle.area_cells.specs.Pieces.{IsPartAt}
 use Rattle.area_cells.proofs.PieceLaws.{has_places, is_part}
 use Rattle.logical_plan.specs.declared.parts.Fixed.{Fixed}
 use Rattle.logical_plan.specs.BoxOps.{fixed_places, has_fixed, items_but, slice_rows, subarray_rows}
-use Rattle.logical_plan.specs.PlanSchema.{slice_schema, subarray_dimensions, subarray_schema}
+use Rattle.logical_plan.specs.PlanSchema.{slice_schema, subarray_schema}
 use Rattle.exec_box.specs.Inner.Reached.{AddsPicks, AddsReached, AreReached, chunks_from}
 use Rattle.exec_box.specs.Inner.Spread.{raised, spread}
 use Rattle.exec_box.proofs.PartLaws.{less}

@@ -20,7 +20,7 @@ use Rattle.array_rows.specs.Rows.{Coordinate, put_all, put_by, put_row, row_majo
 use Rattle.array_geom.specs.declared.chunk.Chunk.{Chunk}
 use Rattle.array_geom.specs.Geometry.{ChunkNumber, HasFrame, chunk_of, core, first_in, frame_lengths, has_core, last_in, volume}
 use Rattle.array_geom.specs.Inner.Ranges.{AreNear}
-use Rattle.array_geom.specs.Link.{IsPart, NumbersRise, chunk_rows, core_rows, has_cell, is_listed, is_not_empty, number_order, numbers}
+use Rattle.array_geom.specs.Link.{NumbersRise, chunk_rows, core_rows, has_cell, is_listed, is_not_empty, number_order, numbers}
 use Rattle.array_geom.proofs.CoreLaws.{core_of}
 use Rattle.array_geom.proofs.NumberLaws.{is_equal, same_number}
 use Rattle.array_geom.proofs.TestLaws.{and_both, and_parts, le_from_test, le_test}

@@ -1,19 +1,18 @@
 -- Boxes of parts and slices where they lie in the array.
-use Rattle.std.proofs.Common.{◌≡◌, ℕ, suc, ◌+◌, ◌-◌, ◌/◌, ◌≤◌, ◌<◌, ◌^◌, ℤ, pos, negsuc, ◌+ℤ◌, ◌-ℤ◌, ◌≤ℤ◌, Bool, true, false, cond, ◌&&◌, ◌||◌, List, [], ◌∷◌, length, Option, Some, None, min, refl, sym, ap, ◌∙◌, subst, arith}
+use Rattle.std.proofs.Common.{◌≡◌, ℕ, suc, ◌+◌, ◌-◌, ◌/◌, ◌^◌, ℤ, pos, negsuc, ◌+ℤ◌, ◌-ℤ◌, ◌≤ℤ◌, Bool, true, false, cond, ◌&&◌, ◌||◌, List, [], ◌∷◌, length, Option, Some, None, min, refl, sym, ap, ◌∙◌, subst, arith}
 use Rattle.std.proofs.lemmas.Bool.{eqb-true}
 use Rattle.std.proofs.lemmas.Int.{ints, clamps}
 use Rattle.std.specs.Cmp.{signed_Decides}
 use Rattle.std.specs.Int.{int_max, int_min, saturate_signed, w64}
 use Rattle.std.specs.Ordering.{int_eq}
 use Rattle.std.specs.Prelude.{◌==◌, int_le, slice_index_or, unsigned_abs}
-use Rattle.cell_values.specs.declared.datum.Row.{Row}
 use Rattle.cell_values.specs.declared.schema.Bounds.{Bounds}
 use Rattle.cell_values.specs.declared.schema.Dimension.{Dimension}
 use Rattle.cell_values.specs.declared.schema.Schema.{Schema}
 use Rattle.cell_values.specs.Schemas.{IsValid}
-use Rattle.array_rows.specs.Boxes.{bounds_of, by_pairs, corners, is_between, is_inside, meet, within}
+use Rattle.array_rows.specs.Boxes.{bounds_of, corners, is_between, is_inside, meet}
 use Rattle.array_rows.specs.Rows.{Coordinate}
-use Rattle.array_geom.specs.Geometry.{ChunkNumber, HasFrame, chunk_of, first_in, frame, has_core, last_in}
+use Rattle.array_geom.specs.Geometry.{ChunkNumber, HasFrame, chunk_of, first_in, frame, has_core}
 use Rattle.array_geom.specs.Inner.Ranges.{AreNear}
 use Rattle.array_geom.proofs.NearLemmas.{valid_placed}
 use Rattle.array_geom.proofs.TestLaws.{and_parts, le_from_test, le_test}

@@ -119,7 +119,13 @@ pub(crate) fn push_corners(
     }
     let low = chunks_from(source, &area.lo, &shared.lo);
     let high = chunks_from(source, &area.lo, &shared.hi);
-    push_picks(found, target, &ChunkAt::new(), low.as_slice(), high.as_slice())
+    push_picks(
+        found,
+        target,
+        &ChunkAt::new(),
+        low.as_slice(),
+        high.as_slice(),
+    )
 }
 
 /// The same numbers in rising order, each of them once.

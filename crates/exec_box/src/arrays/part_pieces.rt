@@ -63,7 +63,12 @@ fn part_in(array: &ChunkedArray, area: &Bounds, target: &Bounds) -> Result<List<
 {
     let area = bounds(&array.schema).meet(area);
     let from = raised_box(target, &area.lo);
-    let rows = rows_in_area(&array.schema, &array.margins, array.chunks.as_slice(), &from)?;
+    let rows = rows_in_area(
+        &array.schema,
+        &array.margins,
+        array.chunks.as_slice(),
+        &from,
+    )?;
     part_of_rows(&rows, &area)
 }
 
@@ -109,7 +114,11 @@ fn chunk_of_part(
 }
 
 /// The numbers of the chunks into which the cells of a box come, in any order.
-fn reached_by_part(array: &ChunkedArray, area: &Bounds, schema: &Schema) -> Result<List<ChunkAt>, Memory>
+fn reached_by_part(
+    array: &ChunkedArray,
+    area: &Bounds,
+    schema: &Schema,
+) -> Result<List<ChunkAt>, Memory>
     requires { HaveCells array.now.schema array.now.margins.items array.now.chunks }
     ensures { IfOk result (AreReached array.now.schema.dimensions schema.now.dimensions (is_inside area.now)
         (chunks_from array.now.schema.dimensions area.now.lo.items) array.now.chunks) }
@@ -123,7 +132,11 @@ fn reached_by_part(array: &ChunkedArray, area: &Bounds, schema: &Schema) -> Resu
 }
 
 /// The numbers of the chunks into which the cells of a box come.
-fn numbers_of_part(array: &ChunkedArray, area: &Bounds, schema: &Schema) -> Result<List<ChunkAt>, Memory>
+fn numbers_of_part(
+    array: &ChunkedArray,
+    area: &Bounds,
+    schema: &Schema,
+) -> Result<List<ChunkAt>, Memory>
     requires { HaveCells array.now.schema array.now.margins.items array.now.chunks }
     ensures in_order { IfOk result (λ found. NumbersRise (numbers_in found)) }
     ensures reached { IfOk result (AreReached array.now.schema.dimensions schema.now.dimensions

@@ -84,7 +84,12 @@ fn slice_in(array: &ChunkedArray, fixed: &[Fixed], target: &Bounds) -> Result<Li
     ensures { IfOk result (λ rows. rows ≡ within target.now (slice_rows fixed.now (cores_of array.now))) }
 {
     let from = spread_box(&array.schema, fixed, target);
-    let rows = rows_in_area(&array.schema, &array.margins, array.chunks.as_slice(), &from)?;
+    let rows = rows_in_area(
+        &array.schema,
+        &array.margins,
+        array.chunks.as_slice(),
+        &from,
+    )?;
     slice_of_rows(&rows, fixed)
 }
 

@@ -48,11 +48,7 @@ fn part_of_whole(
 }
 
 /// The part of an array that is not broken, chunk by chunk where the numbers of its chunks rise, as those of an array do.
-fn part_of_any(
-    schema: &Schema,
-    array: ChunkedArray,
-    area: &Bounds,
-) -> Result<ChunkedArray, Memory>
+fn part_of_any(schema: &Schema, array: ChunkedArray, area: &Bounds) -> Result<ChunkedArray, Memory>
     requires whole { array.broken ≡ None }
     requires cells { HaveCells array.schema array.margins.items array.chunks }
     requires valid { IsValid schema.now }
