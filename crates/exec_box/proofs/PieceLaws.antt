@@ -8,7 +8,7 @@ use Rattle.cell_values.specs.declared.schema.Bounds.{Bounds}
 use Rattle.cell_values.specs.declared.schema.Dimension.{Dimension}
 use Rattle.cell_values.specs.declared.schema.Schema.{Schema}
 use Rattle.cell_values.specs.Schemas.{IsValid}
-use Rattle.array_rows.specs.Boxes.{bounds_of, corners, is_inside, meet, within}
+use Rattle.array_rows.specs.Boxes.{bounds_of, corners, is_inside, meet, moved, within}
 use Rattle.array_rows.specs.Rows.{Coordinate}
 use Rattle.array_geom.specs.declared.chunk.Chunk.{Chunk}
 use Rattle.array_geom.specs.declared.chunk.ChunkedArray.{ChunkedArray}
@@ -29,7 +29,7 @@ use Rattle.logical_plan.specs.PlanSchema.{slice_schema, subarray_schema}
 use Rattle.exec_box.specs.Inner.Reached.{AddsPicks, AddsReached, AreReached, chunks_from}
 use Rattle.exec_box.specs.Inner.Spread.{raised, spread}
 use Rattle.exec_box.proofs.PartLaws.{less}
-use Rattle.exec_box.proofs.ReachLaws.{all_cores, core_long, moved_listed, parts_of_numbers, within_moved}
+use Rattle.exec_box.proofs.ReachLaws.{all_cores, core_long, made_listed, parts_of_numbers, within_made}
 use Rattle.exec_box.proofs.SliceLaws.{long}
 use Rattle.exec_box.proofs.SpreadLaws.{part_comes, raised_box_holds, slice_comes, spread_box_holds}
 
@@ -57,8 +57,8 @@ part_there array area box target raised_one from made cells b r f m =
     let whole = box_of array.schema area in
     let same : raised_one ≡ corners (raised target.lo.items whole.lo.items) (raised target.hi.items whole.lo.items) = r ∙ ap (λ (z : Bounds). corners (raised target.lo.items z.lo.items) (raised target.hi.items z.lo.items)) b in
     m ∙ (λ i. subarray_rows (b i) (f i)) ∙ ap (λ (z : Bounds). subarray_rows whole (within z (cores_of array))) same
-    ∙ sym (within_moved target (is_inside whole) (is_inside (corners (raised target.lo.items whole.lo.items) (raised target.hi.items whole.lo.items))) (less whole.lo.items) (λ c. is_inside (bounds_of array.schema.dimensions) c ≡ true)
-    (λ c p t. raised_box_holds array.schema area target c cells.placed.valid t) (cores_of array) (in_bounds array cells))
+    ∙ sym (within_made target (is_inside whole) (is_inside (corners (raised target.lo.items whole.lo.items) (raised target.hi.items whole.lo.items))) (moved (less whole.lo.items)) (λ c. is_inside (bounds_of array.schema.dimensions) c ≡ true)
+    (λ row p t. raised_box_holds array.schema area target row.at.items cells.placed.valid t) (cores_of array) (in_bounds array cells))
 
 pub part_parts : (schema : Schema) (array : ChunkedArray) (area : Bounds) (margins : List ℕ) (listed : List (ArrayVec ℕ)) (parts : List Chunk) → IsValid schema → HaveCells array.schema array.margins.items array.chunks → schema ≡ subarray_schema area array.schema
     → NumbersRise (numbers_in listed) → AreReached array.schema.dimensions schema.dimensions (is_inside (box_of array.schema area)) (chunks_from array.schema.dimensions (box_of array.schema area).lo.items) array.chunks listed
@@ -66,8 +66,8 @@ pub part_parts : (schema : Schema) (array : ChunkedArray) (area : Bounds) (margi
 part_parts schema array area margins listed parts valid cells e rise reached zip =
     let whole = box_of array.schema area in
     parts_of_numbers schema margins (subarray_rows whole (cores_of array)) listed parts zip rise reached.cores
-    (λ k l h. moved_listed schema.dimensions (is_inside whole) (less whole.lo.items) (chunks_from array.schema.dimensions whole.lo.items) (λ c. is_inside (bounds_of array.schema.dimensions) c ≡ true) listed (cores_of array) k (valid_placed schema valid).near
-    (λ c p t. ap (λ (s : Schema). chunk_of s.dimensions (less whole.lo.items c)) e ∙ part_comes array.schema.dimensions area c t)
+    (λ k l h. made_listed schema.dimensions (is_inside whole) (moved (less whole.lo.items)) (chunks_from array.schema.dimensions whole.lo.items) (λ c. is_inside (bounds_of array.schema.dimensions) c ≡ true) listed (cores_of array) k (valid_placed schema valid).near
+    (λ row p t. ap (λ (s : Schema). chunk_of s.dimensions (less whole.lo.items row.at.items)) e ∙ part_comes array.schema.dimensions area row.at.items t)
     (in_bounds array cells)
     (all_cores (λ c. is_inside whole c ≡ true → has_core schema.dimensions (chunks_from array.schema.dimensions whole.lo.items c) ≡ true → is_listed (chunks_from array.schema.dimensions whole.lo.items c) (numbers_in listed) ≡ true) array.schema.dimensions array.margins.items array.chunks reached.reached)
     l h)
@@ -81,8 +81,8 @@ pub slice_there : (array : ChunkedArray) (fixed : List Fixed) (target spread_one
 slice_there array fixed target spread_one from made cells low high s f m =
     let dims = array.schema.dimensions in
     m ∙ ap (slice_rows fixed) (f ∙ ap (λ (z : Bounds). within z (cores_of array)) s)
-    ∙ sym (within_moved target (has_fixed fixed) (is_inside (corners (spread fixed 0 dims target.lo.items) (spread fixed 0 dims target.hi.items))) (items_but (fixed_places fixed) 0) (λ c. is_inside (bounds_of dims) c ≡ true)
-    (λ c p t. spread_box_holds fixed dims target c (long dims c p) low high t) (cores_of array) (in_bounds array cells))
+    ∙ sym (within_made target (has_fixed fixed) (is_inside (corners (spread fixed 0 dims target.lo.items) (spread fixed 0 dims target.hi.items))) (moved (items_but (fixed_places fixed) 0)) (λ c. is_inside (bounds_of dims) c ≡ true)
+    (λ row p t. spread_box_holds fixed dims target row.at.items (long dims row.at.items p) low high t) (cores_of array) (in_bounds array cells))
 
 pub slice_parts : (schema : Schema) (array : ChunkedArray) (fixed : List Fixed) (margins : List ℕ) (listed : List (ArrayVec ℕ)) (parts : List Chunk) → IsValid schema → HaveCells array.schema array.margins.items array.chunks → schema ≡ slice_schema fixed array.schema
     → NumbersRise (numbers_in listed) → AreReached array.schema.dimensions schema.dimensions (has_fixed fixed) (λ c. items_but (fixed_places fixed) 0 (chunk_of array.schema.dimensions c)) array.chunks listed
@@ -90,8 +90,8 @@ pub slice_parts : (schema : Schema) (array : ChunkedArray) (fixed : List Fixed) 
 slice_parts schema array fixed margins listed parts valid cells e rise reached zip =
     let dims = array.schema.dimensions in
     parts_of_numbers schema margins (slice_rows fixed (cores_of array)) listed parts zip rise reached.cores
-    (λ k l h. moved_listed schema.dimensions (has_fixed fixed) (items_but (fixed_places fixed) 0) (λ c. items_but (fixed_places fixed) 0 (chunk_of dims c)) (λ c. is_inside (bounds_of dims) c ≡ true) listed (cores_of array) k (valid_placed schema valid).near
-    (λ c p t. ap (λ (s : Schema). chunk_of s.dimensions (items_but (fixed_places fixed) 0 c)) e ∙ slice_comes (fixed_places fixed) 0 dims c (long dims c p))
+    (λ k l h. made_listed schema.dimensions (has_fixed fixed) (moved (items_but (fixed_places fixed) 0)) (λ c. items_but (fixed_places fixed) 0 (chunk_of dims c)) (λ c. is_inside (bounds_of dims) c ≡ true) listed (cores_of array) k (valid_placed schema valid).near
+    (λ row p t. ap (λ (s : Schema). chunk_of s.dimensions (items_but (fixed_places fixed) 0 row.at.items)) e ∙ slice_comes (fixed_places fixed) 0 dims row.at.items (long dims row.at.items p))
     (in_bounds array cells)
     (all_cores (λ c. has_fixed fixed c ≡ true → has_core schema.dimensions (items_but (fixed_places fixed) 0 (chunk_of dims c)) ≡ true → is_listed (items_but (fixed_places fixed) 0 (chunk_of dims c)) (numbers_in listed) ≡ true) dims array.margins.items array.chunks reached.reached)
     l h)

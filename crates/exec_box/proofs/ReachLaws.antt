@@ -15,7 +15,7 @@ use Rattle.cell_values.specs.declared.schema.Bounds.{Bounds}
 use Rattle.cell_values.specs.declared.schema.Dimension.{Dimension}
 use Rattle.cell_values.specs.declared.schema.Schema.{Schema}
 use Rattle.cell_values.specs.Schemas.{IsValid}
-use Rattle.array_rows.specs.Boxes.{is_inside, moved, within}
+use Rattle.array_rows.specs.Boxes.{is_inside, within}
 use Rattle.array_rows.specs.Rows.{Coordinate, put_all, put_by, put_row, row_major, rows_where}
 use Rattle.array_geom.specs.declared.chunk.Chunk.{Chunk}
 use Rattle.array_geom.specs.Geometry.{ChunkNumber, HasFrame, chunk_of, core, first_in, frame_lengths, has_core, last_in, volume}
@@ -35,14 +35,23 @@ use Rattle.exec_box.specs.Inner.Reached.{AddsReached, AreReached, HaveCores, Rea
 
 -- ---- chunk after chunk
 
-all_take_more : {A : Type 0} (P : A → Type 0) (xs : List A) (k : ℕ) (x : A) → k < length xs → x ≡ slice_index_or xs k x → AllByRecursion P (take k xs) → P x → AllByRecursion P (take (suc k) xs)
+pub all_take_more : {A : Type 0} (P : A → Type 0) (xs : List A) (k : ℕ) (x : A) → k < length xs → x ≡ slice_index_or xs k x → AllByRecursion P (take k xs) → P x → AllByRecursion P (take (suc k) xs)
 all_take_more P [] k x l e a p = absurd (omega (arith, l))
 all_take_more P (y ∷ xs) zero x l e a p = (subst P e p, tt)
 all_take_more P (y ∷ xs) (suc k) x l e a p = (a.0, all_take_more P xs k x (omega (arith, l)) e a.1 p)
 
-all_follow : {A : Type 0} (P Q : A → Type 0) → ((x : A) → P x → Q x) → (xs : List A) → AllByRecursion P xs → AllByRecursion Q xs
+pub all_follow : {A : Type 0} (P Q : A → Type 0) → ((x : A) → P x → Q x) → (xs : List A) → AllByRecursion P xs → AllByRecursion Q xs
 all_follow P Q f [] a = tt
 all_follow P Q f (x ∷ xs) a = (f x a.0, all_follow P Q f xs a.1)
+
+-- what holds of each number holds of one that is listed
+pub listed_holds : (P : ChunkNumber → Type 0) (ks : List ChunkNumber) (k : ChunkNumber) → AllByRecursion P ks → is_listed k ks ≡ true → P k
+listed_holds P [] k a e = absurd cc
+listed_holds P (n ∷ ks) k a e = cases (is_eq (number_order n k)) refl e (listed_holds P ks k a.1)
+  where
+    cases : (t : Bool) → is_eq (number_order n k) ≡ t → (t || is_listed k ks) ≡ true → (is_listed k ks ≡ true → P k) → P k
+    cases true f e more = subst P (same_number n k (is_equal (number_order n k) f)) a.0
+    cases false f e more = more e
 
 module _ (old dims : List Dimension) (test : Coordinate → Bool) (number : Coordinate → ChunkNumber) where
   pub none_reached : (chunks : List Chunk) (found : List (ArrayVec ℕ)) → found ≡ [] → AreReached old dims test number (take 0 chunks) found
@@ -68,14 +77,6 @@ module _ (old dims : List Dimension) (test : Coordinate → Bool) (number : Coor
     cores = all_listed (λ (k : ChunkNumber). has_core dims k ≡ true) (numbers_in listed) (λ k e. listed_holds (λ (n : ChunkNumber). has_core dims n ≡ true) (numbers_in found) k is.cores (sym (same k) ∙ e));
     reached = all_follow (λ (c : Chunk). Reaches dims test number (core old c.at.items) found) (λ (c : Chunk). Reaches dims test number (core old c.at.items) listed) (λ c r. λ at inside passes has. same (number at) ∙ r at inside passes has) chunks is.reached;
   }
-    where
-      listed_holds : (P : ChunkNumber → Type 0) (ks : List ChunkNumber) (k : ChunkNumber) → AllByRecursion P ks → is_listed k ks ≡ true → P k
-      listed_holds P [] k a e = absurd cc
-      listed_holds P (n ∷ ks) k a e = cases (is_eq (number_order n k)) refl e (listed_holds P ks k a.1)
-        where
-          cases : (t : Bool) → is_eq (number_order n k) ≡ t → (t || is_listed k ks) ≡ true → (is_listed k ks ≡ true → P k) → P k
-          cases true f e more = subst P (same_number n k (is_equal (number_order n k) f)) a.0
-          cases false f e more = more e
 
   pub sorted_reached : (chunks : List Chunk) (found : List (ArrayVec ℕ)) (r : Result (List (ArrayVec ℕ)) Memory) → AreReached old dims test number chunks found
       → IfOk r (λ listed. (k : ChunkNumber) → is_listed k (numbers_in listed) ≡ is_listed k (numbers_in found)) → IfOk r (AreReached old dims test number chunks)
@@ -135,30 +136,33 @@ core_with (d ∷ dims) (n ∷ k) (x ∷ c) l e =
     let high = le_from_test x (least d n) u.1 in
     and_both _ _ (le_test (first_in d n) d.hi (up_to (first_in d n) x d.hi (last_in d n) low high)) (core_with dims k c (omega (arith, l)) t.1)
 
--- a moved row in a core is in a listed chunk
-pub moved_listed : (dims : List Dimension) (test : Coordinate → Bool) (to : Coordinate → Coordinate) (number : Coordinate → ChunkNumber) (P : Coordinate → Type 0) (found : List (ArrayVec ℕ)) (rows : List Row) (k : ChunkNumber) → AreNear dims
-    → ((c : Coordinate) → P c → test c ≡ true → chunk_of dims (to c) ≡ number c) → AllByRecursion (λ row. P row.at.items) rows
+-- a row made of another one lies in a core that is listed
+pub made_listed : (dims : List Dimension) (test : Coordinate → Bool) (made : Row → Row) (number : Coordinate → ChunkNumber) (P : Coordinate → Type 0) (found : List (ArrayVec ℕ)) (rows : List Row) (k : ChunkNumber) → AreNear dims
+    → ((row : Row) → P row.at.items → test row.at.items ≡ true → chunk_of dims (made row).at.items ≡ number row.at.items) → AllByRecursion (λ row. P row.at.items) rows
     → AllByRecursion (λ row. test row.at.items ≡ true → has_core dims (number row.at.items) ≡ true → is_listed (number row.at.items) (numbers_in found) ≡ true) rows
-    → length k ≡ length dims → has_cell dims (map (moved to) (rows_where test rows)) k ≡ true → is_listed k (numbers_in found) ≡ true
-moved_listed dims test to number P found [] k near same ps ls l e = absurd cc
-moved_listed dims test to number P found (row ∷ rows) k near same ps ls l e = cases (test row.at.items) refl e (moved_listed dims test to number P found rows k near same ps.1 ls.1 l)
+    → length k ≡ length dims → has_cell dims (map made (rows_where test rows)) k ≡ true → is_listed k (numbers_in found) ≡ true
+made_listed dims test made number P found [] k near same ps ls l e = absurd cc
+made_listed dims test made number P found (row ∷ rows) k near same ps ls l e = cases (test row.at.items) refl e (made_listed dims test made number P found rows k near same ps.1 ls.1 l)
   where
     rest : List Row
-    rest = map (moved to) (rows_where test rows)
+    rest = map made (rows_where test rows)
 
-    here : test row.at.items ≡ true → is_inside (core dims k) (to row.at.items) ≡ true → is_listed k (numbers_in found) ≡ true
+    at : Coordinate
+    at = (made row).at.items
+
+    here : test row.at.items ≡ true → is_inside (core dims k) at ≡ true → is_listed k (numbers_in found) ≡ true
     here t inside =
-        let at : k ≡ number row.at.items = core_of dims k (to row.at.items) near l inside ∙ same row.at.items ps.0 t in
-        ap (λ (n : ChunkNumber). is_listed n (numbers_in found)) at ∙ ls.0 t (ap (has_core dims) (sym at) ∙ core_with dims k (to row.at.items) l inside)
+        let same_one : k ≡ number row.at.items = core_of dims k at near l inside ∙ same row ps.0 t in
+        ap (λ (n : ChunkNumber). is_listed n (numbers_in found)) same_one ∙ ls.0 t (ap (has_core dims) (sym same_one) ∙ core_with dims k at l inside)
 
-    other : (s : Bool) → test row.at.items ≡ true → is_inside (core dims k) (to row.at.items) ≡ s → is_not_empty (cond s (moved to row ∷ within (core dims k) rest) (within (core dims k) rest)) ≡ true
+    other : (s : Bool) → test row.at.items ≡ true → is_inside (core dims k) at ≡ s → is_not_empty (cond s (made row ∷ within (core dims k) rest) (within (core dims k) rest)) ≡ true
         → (is_not_empty (within (core dims k) rest) ≡ true → is_listed k (numbers_in found) ≡ true) → is_listed k (numbers_in found) ≡ true
     other true t inside f more = here t inside
     other false t inside f more = more f
 
-    cases : (t : Bool) → test row.at.items ≡ t → has_cell dims (map (moved to) (cond t (row ∷ rows_where test rows) (rows_where test rows))) k ≡ true
+    cases : (t : Bool) → test row.at.items ≡ t → has_cell dims (map made (cond t (row ∷ rows_where test rows) (rows_where test rows))) k ≡ true
         → (has_cell dims rest k ≡ true → is_listed k (numbers_in found) ≡ true) → is_listed k (numbers_in found) ≡ true
-    cases true t f more = other (is_inside (core dims k) (to row.at.items)) t refl f more
+    cases true t f more = other (is_inside (core dims k) at) t refl f more
     cases false t f more = more f
 
 -- ---- parts by their numbers
@@ -205,24 +209,24 @@ each_accepted schema margins A [] valid each places f cores = tt
 each_accepted schema margins A (n ∷ listed) valid each places f cores =
     (f n (record { valid = valid; core = cores.0; each = each; places = places }), each_accepted schema margins A listed valid each places f cores.1)
 
--- rows that were moved, in a box
-pub within_moved : (F : Bounds) (test near : Coordinate → Bool) (to : Coordinate → Coordinate) (P : Coordinate → Type 0) → ((c : Coordinate) → P c → test c ≡ true → near c ≡ is_inside F (to c)) → (rows : List Row) → AllByRecursion (λ row. P row.at.items) rows
-    → within F (map (moved to) (rows_where test rows)) ≡ map (moved to) (rows_where test (rows_where near rows))
-within_moved F test near to P same [] ps = refl
-within_moved F test near to P same (row ∷ rows) ps = cases (test row.at.items) (near row.at.items) refl refl (within_moved F test near to P same rows ps.1)
+-- rows made of others, in a box
+pub within_made : (F : Bounds) (test near : Coordinate → Bool) (made : Row → Row) (P : Coordinate → Type 0) → ((row : Row) → P row.at.items → test row.at.items ≡ true → near row.at.items ≡ is_inside F (made row).at.items) → (rows : List Row) → AllByRecursion (λ row. P row.at.items) rows
+    → within F (map made (rows_where test rows)) ≡ map made (rows_where test (rows_where near rows))
+within_made F test near made P same [] ps = refl
+within_made F test near made P same (row ∷ rows) ps = cases (test row.at.items) (near row.at.items) refl refl (within_made F test near made P same rows ps.1)
   where
     left : List Row
-    left = map (moved to) (rows_where test rows)
+    left = map made (rows_where test rows)
 
     right : List Row
     right = rows_where test (rows_where near rows)
 
-    cases : (t n : Bool) → test row.at.items ≡ t → near row.at.items ≡ n → within F left ≡ map (moved to) right
-        → within F (map (moved to) (cond t (row ∷ rows_where test rows) (rows_where test rows))) ≡ map (moved to) (rows_where test (cond n (row ∷ rows_where near rows) (rows_where near rows)))
+    cases : (t n : Bool) → test row.at.items ≡ t → near row.at.items ≡ n → within F left ≡ map made right
+        → within F (map made (cond t (row ∷ rows_where test rows) (rows_where test rows))) ≡ map made (rows_where test (cond n (row ∷ rows_where near rows) (rows_where near rows)))
     cases false false t n r = r
-    cases false true t n r = r ∙ ap (λ (s : Bool). map (moved to) (cond s (row ∷ right) right)) (sym t)
-    cases true false t n r = ap (λ (s : Bool). cond s (moved to row ∷ within F left) (within F left)) (sym (same row.at.items ps.0 t) ∙ n) ∙ r
+    cases false true t n r = r ∙ ap (λ (s : Bool). map made (cond s (row ∷ right) right)) (sym t)
+    cases true false t n r = ap (λ (s : Bool). cond s (made row ∷ within F left) (within F left)) (sym (same row ps.0 t) ∙ n) ∙ r
     cases true true t n r =
-        ap (λ (s : Bool). cond s (moved to row ∷ within F left) (within F left)) (sym (same row.at.items ps.0 t) ∙ n)
-        ∙ ap (λ (rs : List Row). moved to row ∷ rs) r
-        ∙ ap (λ (s : Bool). map (moved to) (cond s (row ∷ right) right)) (sym t)
+        ap (λ (s : Bool). cond s (made row ∷ within F left) (within F left)) (sym (same row ps.0 t) ∙ n)
+        ∙ ap (λ (rs : List Row). made row ∷ rs) r
+        ∙ ap (λ (s : Bool). map made (cond s (row ∷ right) right)) (sym t)

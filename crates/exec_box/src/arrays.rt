@@ -9,5 +9,7 @@ mod slices;
 mod subarrays;
 mod turns;
 
+pub use numbers::{in_order, push_core};
 pub use slices::{slice, slice_owned};
 pub use subarrays::{subarray, subarray_owned};
+pub use turns::in_turn;

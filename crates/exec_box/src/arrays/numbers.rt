@@ -51,11 +51,7 @@ fn chunks_from(schema: &Schema, low: &Coord, at: &Coord) -> ChunkAt
 }
 
 /// Adds a number, if its chunk has a core.
-pub(crate) fn push_core(
-    found: &mut List<ChunkAt>,
-    schema: &Schema,
-    number: &ChunkAt,
-) -> Result<(), Memory>
+pub fn push_core(found: &mut List<ChunkAt>, schema: &Schema, number: &ChunkAt) -> Result<(), Memory>
     ensures { OnOk result (AddsPicks schema.now.dimensions number.now.items [] [] found.old found.new) }
 {
     if !has_core(schema, number) {
@@ -129,7 +125,7 @@ pub(crate) fn push_corners(
 }
 
 /// The same numbers in rising order, each of them once.
-pub(crate) fn in_order(found: List<ChunkAt>) -> Result<List<ChunkAt>, Memory>
+pub fn in_order(found: List<ChunkAt>) -> Result<List<ChunkAt>, Memory>
     ensures in_order { IfOk result (λ listed. NumbersRise (numbers_in listed)) }
     ensures listed { IfOk result (λ listed. (k : ChunkNumber) → is_listed k (numbers_in listed) ≡ is_listed k (numbers_in found)) }
 {

@@ -7,7 +7,7 @@ use cell_values::{ChunkAt, List, Memory};
 use chunk_workers::Work;
 
 /// What becomes of each number, one after the other.
-pub(crate) fn in_turn<W: Work<ChunkAt, Chunk>>(
+pub fn in_turn<W: Work<ChunkAt, Chunk>>(
     numbers: List<ChunkAt>,
     work: &W,
 ) -> Result<List<Chunk>, Memory>
