@@ -20,16 +20,16 @@ use Rattle.store_ledger.specs.declared.note.Note.{Note}
 use Rattle.store_ledger.specs.declared.note.NoteKind.TheVariants.{Fault}
 use Rattle.store_ledger.specs.Ledger.{LedgerState, history, is_fault, is_noted, is_tried, note_now, with_notes}
 use Rattle.store_ledger.proofs.Pins.{notes_outlast}
-use Rattle.store_state.specs.declared.event.Event.{Event}
-use Rattle.store_state.specs.declared.event.Event.TheVariants.{Noted}
-use Rattle.store_state.specs.declared.fault.ReadFault.{ReadFault}
-use Rattle.store_state.specs.declared.fault.ReadFault.TheVariants.{Disk, Damaged, Memory}
-use Rattle.store_state.specs.declared.parts.StoreParts.{StoreParts}
-use Rattle.store_state.specs.At.{standing}
-use Rattle.store_state.specs.Calls.{chunks_at, payload_at, IsLeafOf, IsUnread, NotesFault}
-use Rattle.store_state.specs.Events.{events, owner_of}
-use Rattle.store_state.specs.Payloads.{HasTold, WasDamagedAt}
-use Rattle.store_state.specs.Standings.{Standing, database_at, BeganAs}
+use Rattle.snapshot_manager.specs.Event.{Event}
+use Rattle.snapshot_manager.specs.Event.TheVariants.{Noted}
+use Rattle.snapshot_manager.specs.ReadFault.{ReadFault}
+use Rattle.snapshot_manager.specs.ReadFault.TheVariants.{Disk, Damaged, Memory}
+use Rattle.snapshot_manager.specs.StoreParts.{StoreParts}
+use Rattle.snapshot_manager.specs.At.{standing}
+use Rattle.snapshot_manager.specs.Calls.{chunks_at, payload_at, IsLeafOf, IsUnread, NotesFault}
+use Rattle.snapshot_manager.specs.Events.{events, owner_of}
+use Rattle.snapshot_manager.specs.Payloads.{HasTold, WasDamagedAt}
+use Rattle.snapshot_manager.specs.Standings.{Standing, database_at, BeganAs}
 use Rattle.snapshot_manager.specs.Growth.{AddsEvents, AddsFault}
 use Rattle.snapshot_manager.specs.Starts.{start_of}
 use Rattle.snapshot_manager.proofs.Ended.{fault_seen, rose_or_not}

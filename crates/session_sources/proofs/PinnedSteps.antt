@@ -12,12 +12,12 @@ use Rattle.event_core.specs.Cells.{at}
 use Rattle.event_core.specs.History.{History}
 use Rattle.store_ledger.specs.declared.pinned.Pinned.{Pinned}
 use Rattle.store_ledger.specs.Ledger.{is_fault, is_noted}
-use Rattle.store_state.specs.declared.event.Event.{Event}
-use Rattle.store_state.specs.declared.fault.ReadFault.{ReadFault}
-use Rattle.store_state.specs.declared.fault.ReadFault.TheVariants.{Disk, Damaged, Memory}
-use Rattle.store_state.specs.Calls.{chunks_at, database_with, history_at, payload_at, IsLeafOf}
-use Rattle.store_state.specs.Payloads.{HasTold, WasDamagedAt}
-use Rattle.store_state.specs.Standings.{BeganAs}
+use Rattle.snapshot_manager.specs.Event.{Event}
+use Rattle.snapshot_manager.specs.ReadFault.{ReadFault}
+use Rattle.snapshot_manager.specs.ReadFault.TheVariants.{Disk, Damaged, Memory}
+use Rattle.snapshot_manager.specs.Calls.{chunks_at, database_with, history_at, payload_at, IsLeafOf}
+use Rattle.snapshot_manager.specs.Payloads.{HasTold, WasDamagedAt}
+use Rattle.snapshot_manager.specs.Standings.{BeganAs}
 use Rattle.snapshot_manager.specs.Start.{Start}
 use Rattle.snapshot_manager.specs.declared.seat.Seat.{Seat}
 use Rattle.snapshot_manager.specs.declared.shared.Shared.{Shared}

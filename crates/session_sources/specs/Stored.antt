@@ -14,9 +14,9 @@ use Rattle.plan_changes.specs.Databases.{Database, rows_of}
 use Rattle.event_core.specs.Cells.{at}
 use Rattle.event_core.specs.History.{History}
 use Rattle.store_versions.specs.Versions.{directory_of}
-use Rattle.store_state.specs.Calls.{chunks_at, history_at, numbers_in, payload_at, IsLeafOf}
-use Rattle.store_state.specs.Payloads.{HasTold, WasDamagedAt}
-use Rattle.store_state.specs.Standings.{Standing, versions_after, BeganAs}
+use Rattle.snapshot_manager.specs.Calls.{chunks_at, history_at, numbers_in, payload_at, IsLeafOf}
+use Rattle.snapshot_manager.specs.Payloads.{HasTold, WasDamagedAt}
+use Rattle.snapshot_manager.specs.Standings.{Standing, versions_after, BeganAs}
 
 -- an array's schema, for each version that it has
 abbrev pub schema_in : Option NameEntry → ℕ → Option Schema

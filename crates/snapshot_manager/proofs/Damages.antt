@@ -2,11 +2,11 @@
 use Rattle.std.proofs.Common.{◌≡◌, ◌∙◌, ℕ, List, ap, subst, sym}
 use Rattle.afl_outside.specs.Disk.{Moment}
 use Rattle.cell_values.specs.declared.schema.Schema.{Schema}
-use Rattle.store_state.specs.declared.event.Event.{Event}
-use Rattle.store_state.specs.declared.parts.StoreParts.{StoreParts}
-use Rattle.store_state.specs.At.{standing}
+use Rattle.told_stores.specs.Event.{Event}
+use Rattle.told_stores.specs.StoreParts.{StoreParts}
+use Rattle.told_stores.specs.At.{standing}
 use Rattle.store_state.specs.Payloads.{HasTold, WasDamagedAt}
-use Rattle.store_state.specs.Standings.{Standing}
+use Rattle.told_stores.specs.Standings.{Standing}
 use Rattle.told_stores.specs.Start.{Start}
 use Rattle.told_stores.specs.Told.{IsTold, told}
 

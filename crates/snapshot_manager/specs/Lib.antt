@@ -1,3 +1,4 @@
+pub use Rattle.store_state.specs.Payloads
 pub use Rattle.told_stores.specs.At
 pub use Rattle.told_stores.specs.Calls
 pub use Rattle.told_stores.specs.Causes
