@@ -1,9 +1,7 @@
 -- Windows of the cells of a box, from all rows and from some of them.
-use Rattle.std.proofs.Common.{◌≡◌, ℕ, ◌≤◌, ℤ, pos, ◌+ℤ◌, ◌-ℤ◌, ◌≤ℤ◌, int_le, ◌&&◌, Bool, true, false, cond, IsTrue, List, [], ◌∷◌, map, length, Option, Some, None, Result, Ok, Err, refl, sym, ap, ◌∙◌, arith}
-use Rattle.std.specs.Prelude.{IfOk}
-use Rattle.std.specs.Int.{int_min}
+use Rattle.std.proofs.Common.{◌≡◌, ℤ, ◌≤ℤ◌, int_le, ◌&&◌, Bool, true, false, cond, IsTrue, List, [], ◌∷◌, map, Option, Some, None, refl, sym, ap, ◌∙◌, arith}
 use Rattle.std.specs.List.{AllByRecursion}
-use Rattle.std.proofs.lemmas.Int.{ints, clamps}
+use Rattle.std.proofs.lemmas.Int.{ints}
 use Rattle.cell_values.specs.declared.datum.Cell.{Cell}
 use Rattle.cell_values.specs.declared.datum.Cell.TheVariants.{Full, Doubt}
 use Rattle.cell_values.specs.declared.datum.Row.{Row}
@@ -13,13 +11,8 @@ use Rattle.array_rows.specs.Boxes.{is_between, is_inside, within, bounds_of}
 use Rattle.array_rows.specs.Cellwise.{put_first, cell_wise}
 use Rattle.array_rows.specs.Rows.{Coordinate}
 use Rattle.array_rows.proofs.RowsLemmas.{within-cell_wise}
-use Rattle.array_geom.specs.declared.chunk.Chunk.{Chunk}
-use Rattle.array_geom.specs.Link.{chunk_rows, IsPart}
-use Rattle.array_geom.specs.Geometry.{ChunkNumber, first_in, last_in, core, frame}
-use Rattle.array_geom.specs.Inner.Ranges.{IsNear, AreNear, IsLow, AreLow, AreMargins}
-use Rattle.array_geom.proofs.CoreLaws.{core_in_frame}
+use Rattle.array_geom.specs.Inner.Ranges.{IsNear, AreNear, IsLow, AreLow}
 use Rattle.array_geom.proofs.TestLaws.{and_parts, and_both, le_test, le_from_test}
-use Rattle.array_parts.specs.Made.{IsMadeBy}
 use Rattle.logical_plan.specs.declared.parts.Aggregate.{Aggregate}
 use Rattle.logical_plan.specs.declared.parts.Reach.{Reach}
 use Rattle.logical_plan.specs.Groups.{aggregates_of, window, window_cell, window_rows}

@@ -1,5 +1,5 @@
 -- Windows chunk by chunk.
-use Rattle.std.proofs.Common.{◌≡◌, ℕ, suc, ◌+◌, ◌*◌, ◌-◌, ◌<◌, ◌≤◌, ◌^◌, ℤ, pos, ◌+ℤ◌, ◌-ℤ◌, ◌≤ℤ◌, negsuc, int_le, min, ◌&&◌, Bool, true, false, cond, IsTrue, List, [], ◌∷◌, ◌++◌, length, get_or, map, take, Option, Some, None, refl, sym, ap, ◌∙◌, subst, arith}
+use Rattle.std.proofs.Common.{◌≡◌, ℕ, suc, ◌+◌, ◌*◌, ◌-◌, ◌<◌, ◌≤◌, ◌^◌, ℤ, pos, ◌+ℤ◌, ◌-ℤ◌, ◌≤ℤ◌, negsuc, int_le, min, ◌&&◌, Bool, true, false, cond, IsTrue, List, [], ◌∷◌, ◌++◌, length, get_or, map, take, Option, None, refl, sym, ap, ◌∙◌, subst, arith}
 use Rattle.std.specs.Prelude.{◌==◌, nat_le}
 use Rattle.std.specs.Int.{w64, saturate_signed}
 use Rattle.std.specs.List.{AllByRecursion}
@@ -41,12 +41,6 @@ use Rattle.window_overlap.proofs.ChunksWindowLaws.{cell_wise-more}
 use Rattle.window_overlap.proofs.PartLaws.{on_side, same_part, same_windows, side, windows_kept}
 
 -- ---- one row after the other
-
-pub kept_window : (area : Bounds) (reach : List Reach) (gs : List Aggregate) (rows : List Row) (row new : Row) (made made' : List Row) → is_inside area row.at.items ≡ true → new.at ≡ row.at → Some new.cell ≡ window_cell reach gs rows row.at.items row.cell
-    → made' ≡ made ++ new ∷ [] → made' ≡ made ++ cell_wise (window_within area reach gs rows) (row ∷ [])
-kept_window area reach gs rows row new made made' inside at cell e =
-    let own : new ∷ [] ≡ put_first row.at.items (window_cell reach gs rows row.at.items row.cell) [] = (λ i. record { at = at i; cell = new.cell } ∷ []) ∙ ap (λ (o : Option Cell). put_first row.at.items o []) cell in
-    e ∙ ap (λ (z : List Row). made ++ z) (own ∙ sym (ap (λ (b : Bool). put_first row.at.items (cond b (window_cell reach gs rows row.at.items row.cell) None) []) inside))
 
 pub no_window : (area : Bounds) (reach : List Reach) (gs : List Aggregate) (rows : List Row) (row : Row) (made : List Row) → is_inside area row.at.items ≡ false → made ≡ made ++ cell_wise (window_within area reach gs rows) (row ∷ [])
 no_window area reach gs rows row made outside =
