@@ -4,8 +4,8 @@ use Rattle.std.specs.List.{AllZip}
 use Rattle.afl_lexer.specs.Inner.Standing.{StandsAfter}
 use Rattle.afl_outside.specs.Counts.{Rose, risen}
 use Rattle.afl_outside.specs.Disk.{DiskGoesOn, DiskState, IsNewDisk, Moment}
-use Rattle.afl_outside.specs.Source.{SourceState}
-use Rattle.afl_outside.specs.Sink.{SinkState}
+use Rattle.afl_outside.specs.Source.{IsNewSource, SourceState}
+use Rattle.afl_outside.specs.Sink.{IsNewSink, SinkState}
 use Rattle.afl_outside.specs.Shelf.{LeavesOthers, ShelfState}
 use Rattle.run_stores.specs.Start.{Start}
 use Rattle.run_stores.specs.Starts.{start_of}
@@ -83,8 +83,23 @@ begun source_state sink_state shelf (script ∷ scripts) (own ∷ streams) all (
 
 -- ---- sessions that ran
 
+-- streams of which nothing is read or written yet
+pub record IsFresh {S K : Type 0} (source_state : S → SourceState) (sink_state : K → SinkState) (own : Streams S K) : Type 0 where
+  pub script : Word
+  pub reply : Word
+  pub source : IsNewSource script (source_state own.source)
+  pub sink : IsNewSink reply (sink_state own.sink)
+
+abbrev pub AreFresh : {S K : Type 0} → (S → SourceState) → (K → SinkState) → List (Streams S K) → Type 0
+AreFresh {S = S} {K = K} source_state sink_state streams = (k : ℕ) (other : Streams S K) → k < length streams → IsFresh source_state sink_state (get_or streams k other)
+
 module _ {D S K : Type 0} (moment : D → Moment) (source_state : S → SourceState) (sink_state : K → SinkState) (shelf : ShelfState) (scripts : List Word)
     (streams : List (Streams S K)) (opened : AreOpenedFor source_state sink_state shelf scripts streams) where
+  pub opened_fresh : AreFresh source_state sink_state streams
+  opened_fresh k other within =
+      let is = zip_at (IsOpenedFor source_state sink_state shelf) scripts streams k [] other opened within in
+      record { script = get_or scripts k []; reply = reply_name (get_or scripts k []); source = is.source.new; sink = is.sink.new }
+
   module _ (start : Start D) (reports : List (SessionReport S K)) (end : Standing D) (count : length reports ≡ length streams)
       (each : AreSessionsOf moment source_state sink_state start streams reports (events end)) where
     pub reports_opened : AllZip (λ script report. IsOpenedAs shelf script (source_state report.source) (sink_state report.sink)) scripts reports
@@ -93,22 +108,26 @@ module _ {D S K : Type 0} (moment : D → Moment) (source_state : S → SourceSt
         (λ script own report is session. opened_as _ _ _ _ _ _ _ _ _ _ shelf script is.source is.sink session.1.serves)
         count opened (λ k own report within. (k, each k own report within))
 
+module _ {D S K : Type 0} (moment : D → Moment) (source_state : S → SourceState) (sink_state : K → SinkState) (streams : List (Streams S K))
+    (fresh : AreFresh source_state sink_state streams) where
+  module _ (start : Start D) (reports : List (SessionReport S K)) (end : Standing D) (count : length reports ≡ length streams)
+      (each : AreSessionsOf moment source_state sink_state start streams reports (events end)) where
     pub report_prints : (k : ℕ) (other : SessionReport S K) → k < length reports → IsReportOf moment source_state sink_state start k (get_or reports k other) (events end)
     report_prints k other within =
         let inside : k < length streams = omega (arith, within, count) in
         let own = get_or streams k (first streams inside) in
         let h = each k (first streams inside) other inside in
-        let is = zip_at (IsOpenedFor source_state sink_state shelf) scripts streams k [] (first streams inside) opened inside in
+        let is = fresh k (first streams inside) inside in
         record {
           seen = h.seen;
           later = h.later;
           sealed = h.sealed;
-          prints = prints _ _ _ _ _ _ _ _ _ _ _ _ is.source.new is.sink.new h.serves;
+          prints = prints _ _ _ _ _ _ _ _ _ _ _ _ is.source is.sink h.serves;
           in_history = subst
               (λ (whole : List Event). Prints (IsMarkedIn moment start k whole) [] 0 h.seen (source_state (get_or reports k other).source) (sink_state (get_or reports k other).sink)
               (get_or reports k other).marks (get_or reports k other).end)
               (sym h.later.1)
-              (prints _ _ _ _ _ _ _ _ _ _ _ _ is.source.new is.sink.new
+              (prints _ _ _ _ _ _ _ _ _ _ _ _ is.source is.sink
               (sessions_stay moment start k [] h.seen h.later.0 0 _ _ _ _ _ _ h.sealed h.serves));
         }
       where
@@ -278,7 +297,7 @@ module _ {D S K : Type 0} (moment : D → Moment) (source_state : S → SourceSt
         unwritten = λ is. absurd (some_ran is);
         none = λ is. absurd (some_ran is);
         told = λ ran. over.runs.told;
-        one = λ ran. (end, one_history moment source_state sink_state old scripts streams opened disk limits run end over, began_from);
+        one = λ ran. (end, one_history moment source_state sink_state streams (opened_fresh moment source_state sink_state old scripts streams opened) disk limits run end over, began_from);
       }
 
     pub on_ran : IsUnrun moment disk run ⊎ ((end : Standing D) × RunsOver moment source_state sink_state disk limits streams end run)

@@ -4,24 +4,31 @@ use Rattle.std.specs.Prelude.{codes, flat_map}
 use Rattle.std.specs.Str.Parse.{digits_value}
 use Rattle.command_words.specs.declared.forms.Form.{Form}
 use Rattle.command_words.specs.declared.settings.RunOption.{RunOption}
+use Rattle.command_words.specs.declared.settings.RunOption.TheVariants.{Pages, History, Workers}
 use Rattle.command_words.specs.declared.settings.Settings.{Settings}
 use Rattle.command_words.specs.Forms.{Word, Setting, setting_words, is_setting_number, option_word}
-use Rattle.command_words.specs.Inner.Reading.{with_number, place_of, next_option, number_of, run_of, by_option, read_scripts, read_settings}
+use Rattle.command_words.specs.Inner.Reading.{with_number, place_of, next_option, number_of, run_of, by_number, by_option, read_scripts, read_settings}
 use Rattle.command_words.proofs.Names.{no_scripts, fresh, good_fresh}
 use Rattle.command_words.proofs.Places.{Judged, judged_first, judged_same, judged_step, missing, refused}
 use Rattle.command_words.proofs.Heads.{same_head, same_tail}
 use Rattle.command_words.proofs.ScriptLemmas.{AreScripts, scripts_judged}
 use Rattle.command_words.proofs.Options.{IsTail, Names, option_names, place_step, Follows, tail_first, first_tail, tail_scripts, scripts_tail}
 
-abbrev NumberTells : Word → Option ℕ → Type 0
-NumberTells number None = is_setting_number number ≡ false
-NumberTells number (Some value) = (is_setting_number number ≡ true) × (value ≡ digits_value 10 number)
+abbrev pub NumberTells : RunOption → Word → Option ℕ → Type 0
+NumberTells option number None = is_setting_number option number ≡ false
+NumberTells option number (Some value) = (is_setting_number option number ≡ true) × (value ≡ digits_value 10 number)
 
-number_tells : (number : Word) → NumberTells number (number_of number)
-number_tells number = by (is_setting_number number) refl where
-  by : (b : Bool) → is_setting_number number ≡ b → NumberTells number (cond b (Some (digits_value 10 number)) None)
+pub number_tells : (option : RunOption) (number : Word) → NumberTells option number (number_of option number)
+number_tells option number = by (is_setting_number option number) refl where
+  by : (b : Bool) → is_setting_number option number ≡ b → NumberTells option number (cond b (Some (digits_value 10 number)) None)
   by true e = (e, refl)
   by false e = e
+
+-- 16 is in each range
+fits_all : (option : RunOption) → is_setting_number option (codes "16") ≡ true
+fits_all Pages = refl
+fits_all History = refl
+fits_all Workers = refl
 
 module _ (device : Word) where
   module _ (settings : Settings) where
@@ -46,7 +53,7 @@ module _ (device : Word) where
     least_tail : (word : Word) (option : RunOption) → Names settings word (Some option)
         → IsTail device settings (word ∷ codes "16" ∷ fresh device ∷ []) (run_of (with_number settings option 16))
     least_tail word option names =
-        first_tail device settings word option names.0 names.1 (codes "16") refl (fresh device ∷ []) (run_of (with_number settings option 16))
+        first_tail device settings word option names.0 names.1 (codes "16") (fits_all option) (fresh device ∷ []) (run_of (with_number settings option 16))
         (scripts_tail device (with_number settings option 16) (fresh device ∷ []) (run_of (with_number settings option 16)) (record { some = lit≤ tt; good = good_fresh device; is = refl }))
 
     number_missing : (word : Word) (option : RunOption) → Names settings word (Some option)
@@ -60,7 +67,7 @@ module _ (device : Word) where
         nothing : {form : Form} → Follows device settings option [] form → ⊥
         nothing follows = let no : [] ≡ follows.number ∷ follows.rest = follows.spelled in cc
 
-    number_refused : (word : Word) (option : RunOption) → Names settings word (Some option) → (number : Word) → is_setting_number number ≡ false → (words : List Word)
+    number_refused : (word : Word) (option : RunOption) → Names settings word (Some option) → (number : Word) → is_setting_number option number ≡ false → (words : List Word)
         → Judged (place_of settings) (IsTail device settings) (word ∷ number ∷ words) (Err (place_of settings + 1))
     number_refused word option names number wrong words =
         judged_step (place_of settings) (IsTail device settings) word (number ∷ words) (Err (place_of settings + 1))
@@ -69,9 +76,9 @@ module _ (device : Word) where
         (codes "16" ∷ fresh device ∷ []) (run_of (with_number settings option 16)) (least_tail word option names))
       where
         unfit : (more : List Word) (form : Form) → Follows device settings option (number ∷ more) form → ⊥
-        unfit more form follows = true≢false (sym (ap is_setting_number (same_head number follows.number more follows.rest follows.spelled) ∙ follows.fits) ∙ wrong)
+        unfit more form follows = true≢false (sym (ap (is_setting_number option) (same_head number follows.number more follows.rest follows.spelled) ∙ follows.fits) ∙ wrong)
 
-    option_read : (word : Word) (option : RunOption) → Names settings word (Some option) → (number : Word) (value : ℕ) → NumberTells number (Some value) → (words : List Word) (result : Result Form ℕ)
+    option_read : (word : Word) (option : RunOption) → Names settings word (Some option) → (number : Word) (value : ℕ) → NumberTells option number (Some value) → (words : List Word) (result : Result Form ℕ)
         → Judged (place_of (with_number settings option value)) (IsTail device (with_number settings option value)) words result
         → Judged (place_of settings) (IsTail device settings) (word ∷ number ∷ words) result
     option_read word option names number value tells words result judged =
@@ -94,21 +101,24 @@ module _ (device : Word) where
               (subst (λ (n : ℕ). IsTail device (with_number settings option n) follows.rest form) same follows.after)
 
     one_left : (word : Word) (o : Option RunOption) → Names settings word o
-        → Judged (place_of settings) (IsTail device settings) (word ∷ []) (by_option settings o None (read_scripts device settings (word ∷ [])) (λ next. Err (place_of next)))
+        → Judged (place_of settings) (IsTail device settings) (word ∷ []) (by_option settings o (λ option. None) (read_scripts device settings (word ∷ [])) (λ next. Err (place_of next)))
     one_left word None names = scripts_read word [] names
     one_left word (Some option) names = number_missing word option names
 
     two_left : (word number : Word) (words : List Word) (rest : Settings → Result Form ℕ)
         → ((next : Settings) → Judged (place_of next) (IsTail device next) words (rest next))
-        → (o : Option RunOption) → Names settings word o → (n : Option ℕ) → NumberTells number n
-        → Judged (place_of settings) (IsTail device settings) (word ∷ number ∷ words) (by_option settings o n (read_scripts device settings (word ∷ number ∷ words)) rest)
-    two_left word number words rest further None names n tells = scripts_read word (number ∷ words) names
-    two_left word number words rest further (Some option) names None tells = number_refused word option names number tells words
-    two_left word number words rest further (Some option) names (Some value) tells =
-        option_read word option names number value tells words (rest (with_number settings option value)) (further (with_number settings option value))
+        → (o : Option RunOption) → Names settings word o
+        → Judged (place_of settings) (IsTail device settings) (word ∷ number ∷ words)
+        (by_option settings o (λ option. number_of option number) (read_scripts device settings (word ∷ number ∷ words)) rest)
+    two_left word number words rest further None names = scripts_read word (number ∷ words) names
+    two_left word number words rest further (Some option) names = by (number_of option number) (number_tells option number) where
+      by : (n : Option ℕ) → NumberTells option number n → Judged (place_of settings) (IsTail device settings) (word ∷ number ∷ words) (by_number settings option n rest)
+      by None tells = number_refused word option names number tells words
+      by (Some value) tells =
+          option_read word option names number value tells words (rest (with_number settings option value)) (further (with_number settings option value))
 
   pub settings_judged : (words : List Word) (settings : Settings) → Judged (place_of settings) (IsTail device settings) words (read_settings device words settings)
   settings_judged [] settings = missing (place_of settings) (IsTail device settings) (no_tail settings) (fresh device ∷ []) (run_of settings) (fresh_tail settings)
   settings_judged (word ∷ []) settings = one_left settings word (next_option settings word) (option_names settings word)
   settings_judged (word ∷ number ∷ words) settings =
-      two_left settings word number words (read_settings device words) (λ next. settings_judged words next) (next_option settings word) (option_names settings word) (number_of number) (number_tells number)
+      two_left settings word number words (read_settings device words) (λ next. settings_judged words next) (next_option settings word) (option_names settings word)

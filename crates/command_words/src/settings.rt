@@ -2,18 +2,37 @@
 ghost use Rattle.std.specs.Prelude.{◌≡◌, ◌≤◌};
 ghost use Rattle.std.specs.Char.{is_ascii_digit};
 ghost use Rattle.std.specs.List.{list_all};
-ghost use Rattle.command_words.specs.Forms.{is_number};
-ghost use Rattle.command_words.specs.Inner.Reading.{next_option, no_settings, number_of, option_of, place_of, with_number, words_of};
-
-const LEAST_NUMBER: u32 = 16;
-
-const MOST_NUMBER: u32 = 1_048_576;
+ghost use Rattle.command_words.specs.Forms.{is_number, least, most};
+ghost use Rattle.command_words.specs.Inner.Reading.{next_option, no_settings, number_of, option_of, place_of, script_number, with_number, words_of};
 
 /// An option of `run`.
 #[derive(Clone, Copy)]
 pub(crate) enum RunOption {
     Pages,
     History,
+    Workers,
+}
+
+impl RunOption {
+    /// The least that its number may be.
+    const fn least(self) -> u32
+        ensures { result ≡ least self }
+    {
+        match self {
+            RunOption::Pages | RunOption::History => 16,
+            RunOption::Workers => 1,
+        }
+    }
+
+    /// The most that its number may be.
+    const fn most(self) -> u32
+        ensures { result ≡ most self }
+    {
+        match self {
+            RunOption::Pages | RunOption::History => 1_048_576,
+            RunOption::Workers => 64,
+        }
+    }
 }
 
 /// The numbers of the options so far.
@@ -21,6 +40,7 @@ pub(crate) enum RunOption {
 pub(crate) struct Settings {
     pub(crate) pages: Option<u32>,
     pub(crate) history: Option<u32>,
+    pub(crate) workers: Option<u32>,
 }
 
 fn option_of(word: &str) -> Option<RunOption>
@@ -29,6 +49,7 @@ fn option_of(word: &str) -> Option<RunOption>
     match word {
         "--pages" => Some(RunOption::Pages),
         "--history" => Some(RunOption::History),
+        "--workers" => Some(RunOption::Workers),
         _ => None,
     }
 }
@@ -48,6 +69,7 @@ impl Settings {
         Settings {
             pages: None,
             history: None,
+            workers: None,
         }
     }
 
@@ -57,6 +79,7 @@ impl Settings {
         match option {
             RunOption::Pages => self.pages,
             RunOption::History => self.history,
+            RunOption::Workers => self.workers,
         }
     }
 
@@ -70,6 +93,10 @@ impl Settings {
             },
             RunOption::History => Settings {
                 history: Some(number),
+                ..self
+            },
+            RunOption::Workers => Settings {
+                workers: Some(number),
                 ..self
             },
         }
@@ -88,9 +115,9 @@ impl Settings {
     /// The place behind the device and these options.
     pub(crate) fn place(self) -> u32
         ensures place { result ≡ place_of self }
-        ensures near { result ≤ 6 }
+        ensures near { result ≤ 8 }
     {
-        2 + number_words(self.pages) + number_words(self.history)
+        2 + number_words(self.pages) + number_words(self.history) + number_words(self.workers)
     }
 }
 
@@ -107,15 +134,26 @@ fn is_number(word: &str) -> bool
     !digits.is_empty() && digits.len() <= 10 && are_digits(digits)
 }
 
-/// The number of an option: 1 to 10 digits, and 16 to 1,048,576.
-pub(crate) fn number_of(word: &str) -> Option<u32>
-    ensures { result ≡ number_of word.now }
+/// The number of an option: 1 to 10 digits, and in its range.
+pub(crate) fn number_of(option: RunOption, word: &str) -> Option<u32>
+    ensures { result ≡ number_of option word.now }
 {
     if !is_number(word) {
         return None;
     }
     match word.parse::<u32>() {
-        Ok(number) if LEAST_NUMBER <= number && number <= MOST_NUMBER => Some(number),
+        Ok(number) if option.least() <= number && number <= option.most() => Some(number),
         _ => None,
+    }
+}
+
+/// The number of a script: 1 to 10 digits, and at most 4,294,967,295.
+pub(crate) fn script_number(word: &str) -> Option<u32>
+    ensures { result ≡ script_number word.now }
+{
+    if is_number(word) {
+        word.parse::<u32>().ok()
+    } else {
+        None
     }
 }

@@ -38,7 +38,7 @@ none_beyond dims (row ∷ rows) c all out = by_order (row_major row.at.items c) 
         cc
 
 -- a box that holds a coordinate has as many dimensions
-low_length : (lo hi : List ℤ) (c : Coordinate) → is_between lo hi c ≡ true → (length lo ≡ length c) × (length hi ≡ length c)
+pub low_length : (lo hi : List ℤ) (c : Coordinate) → is_between lo hi c ≡ true → (length lo ≡ length c) × (length hi ≡ length c)
 low_length [] [] [] e = (refl, refl)
 low_length [] [] (x ∷ c) e = absurd cc
 low_length [] (h ∷ hi) [] e = absurd cc
@@ -51,13 +51,13 @@ low_length (l ∷ lo) (h ∷ hi) (x ∷ c) e =
     (omega (arith, t.0), omega (arith, t.1))
 
 -- the chunk of a coordinate in the box meets the box
-chunk_meets : (dims : List Dimension) (area : Bounds) (k : ChunkNumber) (c : Coordinate) → is_inside (core dims k) c ≡ true → is_inside area c ≡ true → core_meets dims area k ≡ true
+pub chunk_meets : (dims : List Dimension) (area : Bounds) (k : ChunkNumber) (c : Coordinate) → is_inside (core dims k) c ≡ true → is_inside area c ≡ true → core_meets dims area k ≡ true
 chunk_meets dims area k c in_core in_area =
     what_holds_is_ordered (meet (core dims k) area) c
     (meet_holds_both (core dims k) area c (low_length (core dims k).lo.items (core dims k).hi.items c in_core) (low_length area.lo.items area.hi.items c in_area)
     ∙ and_both (is_inside (core dims k) c) (is_inside area c) in_core in_area)
 
-one_each : (dims : List Dimension) → length (overlaps dims) ≡ length dims
+pub one_each : (dims : List Dimension) → length (overlaps dims) ≡ length dims
 one_each [] = refl
 one_each (d ∷ dims) = ap suc (one_each dims)
 
@@ -67,7 +67,7 @@ one_each (d ∷ dims) = ap suc (one_each dims)
 cell_in : (area : Bounds) (rows : List Row) (c : Coordinate) → is_inside area c ≡ true → cell_at (within area rows) c ≡ cell_at rows c
 cell_in area rows c e = cell_at-within area rows c ∙ ap (λ (b : Bool). cond b (cell_at rows c) None) e
 
-empty_part : (rows : List Row) → is_not_empty rows ≡ false → rows ≡ []
+pub empty_part : (rows : List Row) → is_not_empty rows ≡ false → rows ≡ []
 empty_part [] e = refl
 empty_part (row ∷ rows) e = cc
 

@@ -1,6 +1,6 @@
 -- What an operator makes of a box depends on what it needs of its source.
 use Rattle.std.proofs.Common.{◌≡◌, ℤ, Bool, true, false, List, [], ◌∷◌, map, filter, length, cond, Option, None, Result, Ok, Err, refl, sym, ap, ◌∙◌, arith}
-use Rattle.std.specs.Prelude.{◌==◌, IfOk, IsTrue}
+use Rattle.std.specs.Prelude.{◌==◌, IfOk, IsTrue, ⊤}
 use Rattle.std.specs.Int.{int_max, int_min}
 use Rattle.std.specs.List.{AllByRecursion}
 use Rattle.std.specs.Option.{option_map}
@@ -20,6 +20,7 @@ use Rattle.array_geom.proofs.TestLaws.{and_both}
 use Rattle.logical_plan.specs.Faults.{if_whole, and_then}
 use Rattle.logical_plan.specs.Joins.{cell_beside, join_rows}
 use Rattle.logical_plan.specs.Typing.{is_box_of}
+use Rattle.logical_plan.proofs.BuiltRows.{all-each}
 use Rattle.plan_rewrite.specs.declared.stretch.Stretch.{Stretch}
 use Rattle.plan_rewrite.specs.Sides.{Sides, box_of, of_between}
 use Rattle.plan_rewrite.specs.Stretches.{stretch, shared}
@@ -47,7 +48,7 @@ lasts (s ∷ sides) [] (h ∷ hi) e = absurd (omega arith)
 lasts (s ∷ sides) (l ∷ lo) [] e = absurd (omega arith)
 lasts (s ∷ sides) (l ∷ lo) (h ∷ hi) e = ap (λ (zs : List ℤ). int_min s.last h ∷ zs) (lasts sides lo hi (omega arith))
 
-box_shared : (sides : Sides) (area : Bounds) → length area.hi.items ≡ length area.lo.items → box_of (of_between area sides) ≡ meet (box_of sides) area
+pub box_shared : (sides : Sides) (area : Bounds) → length area.hi.items ≡ length area.lo.items → box_of (of_between area sides) ≡ meet (box_of sides) area
 box_shared sides area e = λ i. corners (firsts sides area.lo.items area.hi.items e i) (lasts sides area.lo.items area.hi.items e i)
 
 box_is : (s : Schema) (sides : Sides) → length sides ≡ length s.dimensions → IsTrue (is_box_of s (box_of sides))
@@ -104,11 +105,11 @@ alike_joined area x y x' y' f g =
 
 -- ---- rows that are filtered, moved and filtered again
 
--- a row that neither filter lets through need not be there
-pub needless : {A B : Type 0} (p : B → Bool) (g : A → B) (q s : A → Bool) → ((x : A) → q x ≡ true → p (g x) ≡ true → s x ≡ true) → (xs : List A)
+-- an item that neither filter lets through need not be there, of items of which something holds
+pub needless_of : {A B : Type 0} (P : A → Type 0) (p : B → Bool) (g : A → B) (q s : A → Bool) → ((x : A) → P x → q x ≡ true → p (g x) ≡ true → s x ≡ true) → (xs : List A) → AllByRecursion P xs
     → filter p (map g (filter q xs)) ≡ filter p (map g (filter q (filter s xs)))
-needless p g q s h [] = refl
-needless {A = A} {B = B} p g q s h (x ∷ xs) = by_needed (s x) refl (needless p g q s h xs)
+needless_of P p g q s h [] all = refl
+needless_of {A = A} {B = B} P p g q s h (x ∷ xs) all = by_needed (s x) refl (needless_of P p g q s h xs all.1)
   where
     kept : (b : Bool) → filter p (map g (filter q xs)) ≡ filter p (map g (filter q (filter s xs))) → filter p (map g (cond b (x ∷ filter q xs) (filter q xs))) ≡ filter p (map g (cond b (x ∷ filter q (filter s xs)) (filter q (filter s xs))))
     kept true ih = ap (λ (l : List B). cond (p (g x)) (g x ∷ l) l) ih
@@ -117,7 +118,7 @@ needless {A = A} {B = B} p g q s h (x ∷ xs) = by_needed (s x) refl (needless p
     left_out : (b d : Bool) → q x ≡ b → p (g x) ≡ d → s x ≡ false → filter p (map g (filter q xs)) ≡ filter p (map g (filter q (filter s xs))) → cond b (cond d (g x ∷ filter p (map g (filter q xs))) (filter p (map g (filter q xs)))) (filter p (map g (filter q xs))) ≡ filter p (map g (filter q (filter s xs)))
     left_out false d e f n ih = ih
     left_out true false e f n ih = ih
-    left_out true true e f n ih = let yes : s x ≡ true = h x e f in cc
+    left_out true true e f n ih = let yes : s x ≡ true = h x all.0 e f in cc
 
     pushed : (b : Bool) → filter p (map g (cond b (x ∷ filter q xs) (filter q xs))) ≡ cond b (cond (p (g x)) (g x ∷ filter p (map g (filter q xs))) (filter p (map g (filter q xs)))) (filter p (map g (filter q xs)))
     pushed true = refl
@@ -127,6 +128,9 @@ needless {A = A} {B = B} p g q s h (x ∷ xs) = by_needed (s x) refl (needless p
         → filter p (map g (cond (q x) (x ∷ filter q xs) (filter q xs))) ≡ filter p (map g (filter q (cond t (x ∷ filter s xs) (filter s xs))))
     by_needed true n ih = kept (q x) ih
     by_needed false n ih = pushed (q x) ∙ left_out (q x) (p (g x)) refl refl n ih
+
+pub needless : {A B : Type 0} (p : B → Bool) (g : A → B) (q s : A → Bool) → ((x : A) → q x ≡ true → p (g x) ≡ true → s x ≡ true) → (xs : List A) → filter p (map g (filter q xs)) ≡ filter p (map g (filter q (filter s xs)))
+needless p g q s h xs = needless_of (λ x. ⊤) p g q s (λ x t e f. h x e f) xs (all-each (λ x. ⊤) (λ x. tt) xs)
 
 -- ---- rows of which all are in a box
 

@@ -74,6 +74,11 @@ two_blocks : need (regridded (stored (six 0)) (2 ∷ []) total) (line (pos 1) (p
 unfolding stored six dim total line
 two_blocks = refl
 
+-- no block has a number below the bounds
+no_block : need (regridded (stored (six 0)) (2 ∷ []) total) (line (negsuc 2) (negsuc 0)) ≡ line (pos 0) (negsuc 0) ∷ []
+unfolding stored six dim total line
+no_block = refl
+
 -- ---- parts
 
 part : whole_need (subarray (stored (six 0)) (line (negsuc 4) (pos 3))) ≡ line (pos 0) (pos 3) ∷ []

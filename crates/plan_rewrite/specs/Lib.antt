@@ -5,4 +5,5 @@ pub mod Settled
 pub mod Sides
 pub mod Stretches
 pub mod Sufficient
+pub mod Target
 pub mod Wanted

@@ -42,6 +42,10 @@ block_first low size x = saturate_signed w64 (low +ℤ pos (unsigned_abs (x -ℤ
 abbrev pub block_last : ℤ → ℕ → ℤ → ℤ
 block_last low size x = saturate_signed w64 (low +ℤ pos (unsigned_abs (x -ℤ low) * size + (size - 1)))
 
--- the places of a dimension whose blocks a stretch has
+-- the places of a dimension in the blocks with these numbers
+abbrev pub block_places : Dimension → ℕ → Stretch → Stretch
+block_places d size s = if is_empty s then s else shared (all_of d) (stretch (block_first d.lo size s.first) (block_last d.lo size s.last))
+
+-- the places whose blocks a stretch has. No number of a block is beyond the dimension's bounds
 abbrev pub blocks : Dimension → ℕ → Stretch → Stretch
-blocks d size s = if is_empty s then s else shared (all_of d) (stretch (block_first d.lo size s.first) (block_last d.lo size s.last))
+blocks d size s = block_places d size (shared (all_of d) s)

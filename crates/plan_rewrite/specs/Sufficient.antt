@@ -1,24 +1,14 @@
 -- The needs of a plan are sufficient: its meaning depends on its wanted chunks alone.
-use Rattle.std.specs.Prelude.{◌≡◌, Bool, true, false, IsTrue}
+use Rattle.std.specs.Prelude.{◌≡◌}
 use Rattle.logical_plan.specs.Meaning.{Database, meaning}
-use Rattle.logical_plan.specs.Query.{Query, built, listed, scanned, filtered, applied, projected, between}
+use Rattle.logical_plan.specs.Query.{Query}
 use Rattle.logical_plan.specs.Typing.{IsTyped}
 use Rattle.plan_rewrite.specs.Same.{HasArrays}
 use Rattle.plan_rewrite.specs.Wanted.{whole_need, AreAlikeFor}
 
--- what keeps each cell in its place: scans, builds and literals under filters, applies, projects and betweens
-abbrev pub keeps_places : Query → Bool
-keeps_places (built schema e) = true
-keeps_places (listed schema rows) = true
-keeps_places (scanned leaf) = true
-keeps_places (filtered source test) = keeps_places source
-keeps_places (applied source values) = keeps_places source
-keeps_places (projected source places) = keeps_places source
-keeps_places (between source area) = keeps_places source
-keeps_places query = false
-
--- two databases that have the same wanted chunks at each leaf, with the same cells in their frames, give such a plan one meaning
-abbrev pub PlacedNeedsSuffice : Type 0
-PlacedNeedsSuffice =
-    (a b : Database) (query : Query) → IsTrue (keeps_places query) → IsTyped query → HasArrays a query → HasArrays b query
-    → AreAlikeFor a b query (whole_need query) → meaning a query ≡ meaning b query
+-- two databases that have the same wanted chunks at each leaf, with the same cells in their frames, give a plan one meaning, faults
+-- included
+abbrev pub NeedsAreSufficient : Type 0
+NeedsAreSufficient =
+    (a b : Database) (query : Query) → IsTyped query → HasArrays a query → HasArrays b query → AreAlikeFor a b query (whole_need query)
+    → meaning a query ≡ meaning b query

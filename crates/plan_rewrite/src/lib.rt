@@ -10,6 +10,6 @@ mod rewriting;
 mod sides;
 mod stretch;
 
-pub use laws::placed_needs_suffice;
+pub use laws::{needs_are_sufficient, other_chunks_stay, target_needs_are_sufficient};
 pub use needs::need;
 pub use rewriting::{rewrite, rewritten};

@@ -1,6 +1,6 @@
 //! Stretches of places along a dimension.
 ghost use Rattle.std.specs.Prelude.{◌≡◌, if◌then◌else◌};
-ghost use Rattle.plan_rewrite.specs.Stretches.{all_of, block_first, block_last, blocks, grown, is_empty, lifted, shared};
+ghost use Rattle.plan_rewrite.specs.Stretches.{all_of, block_first, block_last, blocks, grown, block_places, is_empty, lifted, shared};
 
 use cell_values::Dimension;
 use logical_plan::Reach;
@@ -81,9 +81,9 @@ fn block_last(low: i64, size: u64, x: i64) -> i64
     low.saturating_add_unsigned(before.saturating_add(size.saturating_sub(1)))
 }
 
-/// The places of a dimension whose blocks a stretch has.
-pub(crate) fn blocks(dimension: &Dimension, size: u64, side: Stretch) -> Stretch
-    ensures { result ≡ blocks dimension.now size side }
+/// The places of a dimension in the blocks with these numbers.
+fn block_places(dimension: &Dimension, size: u64, side: Stretch) -> Stretch
+    ensures { result ≡ block_places dimension.now size side }
 {
     if is_empty(side) {
         return side;
@@ -95,4 +95,11 @@ pub(crate) fn blocks(dimension: &Dimension, size: u64, side: Stretch) -> Stretch
             last: block_last(dimension.lo, size, side.last),
         },
     )
+}
+
+/// The places of a dimension whose blocks a stretch has.
+pub(crate) fn blocks(dimension: &Dimension, size: u64, side: Stretch) -> Stretch
+    ensures { result ≡ blocks dimension.now size side }
+{
+    block_places(dimension, size, shared(all_of(dimension), side))
 }

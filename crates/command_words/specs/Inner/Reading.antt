@@ -5,22 +5,24 @@ use Rattle.std.specs.List.{list_any}
 use Rattle.std.specs.Str.{bytes_eq}
 use Rattle.std.specs.Str.Parse.{digits_value}
 use Rattle.command_words.specs.declared.forms.Form.{Form}
-use Rattle.command_words.specs.declared.forms.Form.TheVariants.{Try, Init, Run}
+use Rattle.command_words.specs.declared.forms.Form.TheVariants.{Try, Init, Run, Generate}
 use Rattle.command_words.specs.declared.settings.RunOption.{RunOption}
-use Rattle.command_words.specs.declared.settings.RunOption.TheVariants.{Pages, History}
+use Rattle.command_words.specs.declared.settings.RunOption.TheVariants.{Pages, History, Workers}
 use Rattle.command_words.specs.declared.settings.Settings.{Settings}
-use Rattle.command_words.specs.Forms.{Word, is_dashed, is_setting_number}
+use Rattle.command_words.specs.Forms.{Word, is_dashed, is_script_number, is_setting_number}
 
 abbrev pub given : Settings → RunOption → Option ℕ
 given settings Pages = settings.pages
 given settings History = settings.history
+given settings Workers = settings.workers
 
 abbrev pub with_number : Settings → RunOption → ℕ → Settings
 with_number settings Pages number = record settings { pages = Some number }
 with_number settings History number = record settings { history = Some number }
+with_number settings Workers number = record settings { workers = Some number }
 
 abbrev pub no_settings : Settings
-no_settings = record { pages = None; history = None }
+no_settings = record { pages = None; history = None; workers = None }
 
 abbrev pub words_of : Option ℕ → ℕ
 words_of None = 0
@@ -28,10 +30,14 @@ words_of (Some number) = 2
 
 -- the place behind the device and the options so far
 abbrev pub place_of : Settings → ℕ
-place_of settings = 2 + words_of settings.pages + words_of settings.history
+place_of settings = 2 + words_of settings.pages + words_of settings.history + words_of settings.workers
 
 abbrev pub option_of : Word → Option RunOption
-option_of word = if bytes_eq word (codes "--pages") then Some Pages else if bytes_eq word (codes "--history") then Some History else None
+option_of word =
+    if bytes_eq word (codes "--pages") then Some Pages
+    else if bytes_eq word (codes "--history") then Some History
+    else if bytes_eq word (codes "--workers") then Some Workers
+    else None
 
 abbrev pub if_new : Settings → Option RunOption → Option RunOption
 if_new settings None = None
@@ -41,8 +47,8 @@ if_new settings (Some option) = if is_some (given settings option) then None els
 abbrev pub next_option : Settings → Word → Option RunOption
 next_option settings word = if_new settings (option_of word)
 
-abbrev pub number_of : Word → Option ℕ
-number_of word = if is_setting_number word then Some (digits_value 10 word) else None
+abbrev pub number_of : RunOption → Word → Option ℕ
+number_of option word = if is_setting_number option word then Some (digits_value 10 word) else None
 
 -- whether the reply of the script has the name
 abbrev pub is_reply_of : Word → Word → Bool
@@ -65,7 +71,7 @@ wrong_from device before (word ∷ words) =
     if can_stand device before word then wrong_from device (before ++ word ∷ []) words else Some (length before)
 
 abbrev pub run_of : Settings → Form
-run_of settings = Run 1 (unwrap_or settings.pages 65536) (unwrap_or settings.history 1048576) (place_of settings)
+run_of settings = Run 1 (unwrap_or settings.workers 4) (unwrap_or settings.pages 65536) (unwrap_or settings.history 1048576) (place_of settings)
 
 abbrev pub scripts_outcome : Settings → Option ℕ → Result Form ℕ
 scripts_outcome settings None = Ok (run_of settings)
@@ -74,18 +80,21 @@ scripts_outcome settings (Some place) = Err (place_of settings + place)
 abbrev pub read_scripts : Word → Settings → List Word → Result Form ℕ
 read_scripts device settings words = scripts_outcome settings (wrong_from device [] words)
 
-abbrev pub by_option : Settings → Option RunOption → Option ℕ → Result Form ℕ → (Settings → Result Form ℕ) → Result Form ℕ
-by_option settings None number scripts rest = scripts
-by_option settings (Some option) None scripts rest = Err (place_of settings + 1)
-by_option settings (Some option) (Some number) scripts rest = rest (with_number settings option number)
+abbrev pub by_number : Settings → RunOption → Option ℕ → (Settings → Result Form ℕ) → Result Form ℕ
+by_number settings option None rest = Err (place_of settings + 1)
+by_number settings option (Some number) rest = rest (with_number settings option number)
+
+abbrev pub by_option : Settings → Option RunOption → (RunOption → Option ℕ) → Result Form ℕ → (Settings → Result Form ℕ) → Result Form ℕ
+by_option settings None numbers scripts rest = scripts
+by_option settings (Some option) numbers scripts rest = by_number settings option (numbers option) rest
 
 -- the words behind the device and the options so far
 abbrev pub read_settings : Word → List Word → Settings → Result Form ℕ
 read_settings device [] settings = Err (place_of settings)
 read_settings device (word ∷ []) settings =
-    by_option settings (next_option settings word) None (read_scripts device settings (word ∷ [])) (λ next. Err (place_of next))
+    by_option settings (next_option settings word) (λ option. None) (read_scripts device settings (word ∷ [])) (λ next. Err (place_of next))
 read_settings device (word ∷ number ∷ words) settings =
-    by_option settings (next_option settings word) (number_of number) (read_scripts device settings (word ∷ number ∷ words)) (read_settings device words)
+    by_option settings (next_option settings word) (λ option. number_of option number) (read_scripts device settings (word ∷ number ∷ words)) (read_settings device words)
 
 abbrev pub read_run : List Word → Result Form ℕ
 read_run [] = Err 1
@@ -100,11 +109,34 @@ abbrev pub read_try : List Word → Result Form ℕ
 read_try [] = Ok Try
 read_try (word ∷ words) = Err 1
 
+abbrev pub script_number : Word → Option ℕ
+script_number word = if is_script_number word then Some (digits_value 10 word) else None
+
+abbrev pub by_workers : ℕ → Option ℕ → List Word → Result Form ℕ
+by_workers number None words = Err 3
+by_workers number (Some workers) [] = Ok (Generate number workers)
+by_workers number (Some workers) (word ∷ words) = Err 4
+
+-- the words behind the number of a script
+abbrev pub read_workers : ℕ → List Word → Result Form ℕ
+read_workers number [] = Ok (Generate number 4)
+read_workers number (name ∷ []) = if bytes_eq name (codes "--workers") then Err 3 else Err 2
+read_workers number (name ∷ said ∷ words) = if bytes_eq name (codes "--workers") then by_workers number (number_of Workers said) words else Err 2
+
+abbrev pub by_script_number : Option ℕ → List Word → Result Form ℕ
+by_script_number None words = Err 1
+by_script_number (Some number) words = read_workers number words
+
+abbrev pub read_generate : List Word → Result Form ℕ
+read_generate [] = Err 1
+read_generate (digits ∷ words) = by_script_number (script_number digits) words
+
 abbrev pub read_verb : Word → List Word → Result Form ℕ
 read_verb verb words =
     if bytes_eq verb (codes "try") then read_try words
     else if bytes_eq verb (codes "init") then read_init words
     else if bytes_eq verb (codes "run") then read_run words
+    else if bytes_eq verb (codes "generate") then read_generate words
     else Err 0
 
 abbrev pub read_words : List Word → Result Form ℕ
