@@ -69,3 +69,6 @@ returns-in_err-refuse-in-Err-Rule-clause-front g c = on_err _ _ (asked_none _ _ 
 pub returns-in_err-refuse-in-Err-Rule-clause-allowed : goal.returns-in_err-refuse-in-Err-Rule-clause-allowed
 returns-in_err-refuse-in-Err-Rule-clause-allowed g c =
     wanting_over (check_of c.args.tree.now c.args.text.now c.args.names.now) c.from_residual.result c.from_residual.ensures.1
+
+pub returns-in-Err-Memory-clause-front : goal.returns-in-Err-Memory-clause-front
+returns-in-Err-Memory-clause-front g c = asked_none _ _ _ refl
