@@ -1,5 +1,5 @@
 //! One session over an empty database in memory, whose script is made here.
-ghost use Rattle.std.specs.Prelude.{◌≡◌, ◌≤◌, ◌⊎◌, ℕ, [], ◌∷◌, IfOk, List, None, length, vec_capacity};
+ghost use Rattle.std.specs.Prelude.{◌≡◌, ◌≤◌, ◌⊎◌, ℕ, [], ◌∷◌, IfOk, List, length, vec_capacity};
 ghost use Rattle.afl_lexer.specs.Inner.Standing.{StandsAfter};
 ghost use Rattle.afl_in_memory.specs.InMemory.{sure_source_state, unread};
 ghost use Rattle.afl_in_memory.specs.Inner.Records.{SureBytes, sure_disk_moment};
@@ -124,22 +124,30 @@ fn run_on_sink<K: Sink + Send + Drop, R: Threads + Wait + Sync, G: Gate>(
         disk,
         source,
         splitter,
-        mut room,
+        room,
     } = made;
-    room.push_reserved(Streams {
+    let streams = streams_in(room, source, sink, splitter);
+    run_over(rt, alloc, disk, LIMITS, workers, streams, gate)
+}
+
+/// The streams of the session, in the room that is there for them.
+fn streams_in<K: Drop>(
+    room: Vec<Streams<SureSource, K>>,
+    source: SureSource,
+    sink: K,
+    splitter: Splitter,
+) -> List<Streams<SureSource, K>>
+    requires none { room.items ≡ [] }
+    requires room { 1 ≤ vec_capacity room }
+    ensures { result ≡ record { source = source; sink = sink; splitter = splitter } ∷ [] }
+{
+    let mut streams = room;
+    streams.push_reserved(Streams {
         source,
         sink,
         splitter,
     });
-    run_over(
-        rt,
-        alloc,
-        disk,
-        LIMITS,
-        workers,
-        List::from_vec(room),
-        gate,
-    )
+    List::from_vec(streams)
 }
 
 fn report_of<F: Shelf>(
