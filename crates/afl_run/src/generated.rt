@@ -34,7 +34,7 @@ struct Prepared<K> {
     room: Vec<Streams<SureSource, K>>,
 }
 
-fn prepared<K: Drop>(alloc: Global, number: u32) -> Result<Prepared<K>, Memory>
+fn prepare<K: Drop>(alloc: Global, number: u32) -> Result<Prepared<K>, Memory>
     ensures disk { IfOk result (λ made. IsEmpty (sure_disk_moment made.disk)) }
     ensures source { IfOk result (λ made. made.source ≡ unread (script number)) }
     ensures splitter { IfOk result (λ made. StandsAfter [] made.splitter) }
@@ -65,7 +65,7 @@ pub(crate) fn run_generate<F: Shelf, R: Threads + Wait + Sync, G: Gate>(
     ensures runs { RunsGenerate sure_disk_moment sure_source_state F.K.state (F.state shelf) (F.state result.shelf) result.notice result.history
         result.generated result.free_pages (script number) }
 {
-    match prepared(alloc, number) {
+    match prepare(alloc, number) {
         Ok(made) => run_prepared(rt, alloc, made, workers, shelf, gate),
         Err(Memory) => unrun(alloc, Notice::Memory, None, shelf),
     }
