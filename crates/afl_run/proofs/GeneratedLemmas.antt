@@ -1,5 +1,5 @@
 -- What a run of a script that was made reports.
-use Rattle.std.proofs.Common.{◌≡◌, ◌⊎◌, ℕ, zero, suc, ◌+◌, ◌<◌, ◌≤◌, List, [], ◌∷◌, ◌++◌, length, get_or, All, Option, Some, None, IfSome, IsSome, MatchOption, inl, inr, refl, sym, ◌∙◌, ap, subst, arith}
+use Rattle.std.proofs.Common.{◌≡◌, ◌⊎◌, ℕ, zero, suc, ◌+◌, ◌<◌, ◌≤◌, List, [], ◌∷◌, ◌++◌, length, get_or, All, Option, Some, None, IfSome, IsSome, MatchOption, inl, inr, refl, sym, ◌∙◌, ap, subst, arith, length-append}
 use Rattle.afl_outside.specs.Counts.{Rose, risen}
 use Rattle.afl_outside.specs.Source.{IsNewSource, SourceState}
 use Rattle.afl_outside.specs.Sink.{IsNewSink, SinkState}
@@ -36,12 +36,8 @@ popped None xs ys matched few = matched.0
 popped (Some x) xs [] matched few = matched
 popped (Some x) xs (y ∷ ys) matched few =
     let many : length xs ≡ suc (length (ys ++ x ∷ [])) = ap length matched in
-    let some : 1 ≤ length (ys ++ x ∷ []) = at_least ys in
+    let sizes : length (ys ++ x ∷ []) ≡ length ys + 1 = length-append ys (x ∷ []) in
     absurd (let none : ⊥ = omega arith in none)
-  where
-    at_least : (zs : List _) → 1 ≤ length (zs ++ x ∷ [])
-    at_least [] = omega arith
-    at_least (z ∷ zs) = let more : 1 ≤ length (zs ++ x ∷ []) = at_least zs in omega arith
 
 -- where the standard output isn't opened, nothing is told of the disk
 unopened_otherwise : (told : Notice) (name : Option (List ℕ)) (old now : ShelfState) → (told ≡ notices.Memory) ⊎ FailsFor 0 name told old now → IsOfDisk told → ⊥
@@ -193,8 +189,8 @@ few_sessions sink_state disk limits own run ran = elim ran [
 ]
 
 pub begun_alone : {S K : Type 0} (own : Streams S K) (streams : List (Streams S K)) → streams ≡ own ∷ [] → StandsAfter [] own.splitter → All (λ each. StandsAfter [] each.splitter) streams
-begun_alone own streams is begun = subst (λ (all : List (Streams _ _)). All (λ each. StandsAfter [] each.splitter) all) (sym is) alone where
-  alone : All (λ each. StandsAfter [] each.splitter) (own ∷ [])
+begun_alone {S = S} {K = K} own streams is begun = subst (λ (all : List (Streams S K)). All (λ each. StandsAfter [] each.splitter) all) (sym is) alone where
+  alone : All (λ (each : Streams S K). StandsAfter [] each.splitter) (own ∷ [])
   alone zero d within = begun
   alone (suc k) d within = absurd (omega (arith, within))
 

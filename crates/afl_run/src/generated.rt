@@ -1,5 +1,5 @@
 //! One session over an empty database in memory, whose script is made here.
-ghost use Rattle.std.specs.Prelude.{◌≡◌, ◌≤◌, ◌⊎◌, ℕ, [], ◌∷◌, IfOk, List, None, length, vec_capacity};
+ghost use Rattle.std.specs.Prelude.{◌≡◌, ◌≤◌, ◌⊎◌, ℕ, [], ◌∷◌, IfOk, List, length, vec_capacity};
 ghost use Rattle.afl_lexer.specs.Inner.Standing.{StandsAfter};
 ghost use Rattle.afl_in_memory.specs.InMemory.{sure_source_state, unread};
 ghost use Rattle.afl_in_memory.specs.Inner.Records.{SureBytes, sure_disk_moment};
@@ -34,7 +34,7 @@ struct Prepared<K> {
     room: Vec<Streams<SureSource, K>>,
 }
 
-fn prepared<K: Drop>(alloc: Global, number: u32) -> Result<Prepared<K>, Memory>
+fn prepare<K: Drop>(alloc: Global, number: u32) -> Result<Prepared<K>, Memory>
     ensures disk { IfOk result (λ made. IsEmpty (sure_disk_moment made.disk)) }
     ensures source { IfOk result (λ made. made.source ≡ unread (script number)) }
     ensures splitter { IfOk result (λ made. StandsAfter [] made.splitter) }
@@ -65,7 +65,7 @@ pub(crate) fn run_generate<F: Shelf, R: Threads + Wait + Sync, G: Gate>(
     ensures runs { RunsGenerate sure_disk_moment sure_source_state F.K.state (F.state shelf) (F.state result.shelf) result.notice result.history
         result.generated result.free_pages (script number) }
 {
-    match prepared(alloc, number) {
+    match prepare(alloc, number) {
         Ok(made) => run_prepared(rt, alloc, made, workers, shelf, gate),
         Err(Memory) => unrun(alloc, Notice::Memory, None, shelf),
     }
@@ -124,22 +124,30 @@ fn run_on_sink<K: Sink + Send + Drop, R: Threads + Wait + Sync, G: Gate>(
         disk,
         source,
         splitter,
-        mut room,
+        room,
     } = made;
-    room.push_reserved(Streams {
+    let streams = streams_in(room, source, sink, splitter);
+    run_over(rt, alloc, disk, LIMITS, workers, streams, gate)
+}
+
+/// The streams of the session, in the room that is there for them.
+fn streams_in<K: Drop>(
+    room: Vec<Streams<SureSource, K>>,
+    source: SureSource,
+    sink: K,
+    splitter: Splitter,
+) -> List<Streams<SureSource, K>>
+    requires none { room.items ≡ [] }
+    requires room { 1 ≤ vec_capacity room }
+    ensures { result ≡ record { source = source; sink = sink; splitter = splitter } ∷ [] }
+{
+    let mut streams = room;
+    streams.push_reserved(Streams {
         source,
         sink,
         splitter,
     });
-    run_over(
-        rt,
-        alloc,
-        disk,
-        LIMITS,
-        workers,
-        List::from_vec(room),
-        gate,
-    )
+    List::from_vec(streams)
 }
 
 fn report_of<F: Shelf>(

@@ -140,8 +140,8 @@ returns-in-Ok-Run g c =
       not_generated = λ other. e.generated;
     }
 
-pub run_generate-requires : goal.run_generate-requires
-run_generate-requires g c κs within =
+pub run_generate-requires-clause-workers : goal.run_generate-requires-clause-workers
+run_generate-requires-clause-workers g c κs within =
     let form = c.in-Ok-Generate in
     (keep_ranges.1 c.args.words.now form.number form.workers ((c.form_of.ensures.form (Generate form.number form.workers)).0 (form.is ∙ ap Ok form.field-0-is))).1
 
