@@ -1,13 +1,11 @@
 -- What blocks need of their source.
-use Rattle.std.proofs.Common.{◌≡◌, ℕ, suc, ◌+◌, ◌-◌, ◌*◌, ◌/◌, ◌<◌, ◌≤◌, ◌^◌, ℤ, pos, negsuc, ◌+ℤ◌, ◌-ℤ◌, ◌≤ℤ◌, ◌<ℤ◌, unsigned_abs, Bool, true, false, List, [], ◌∷◌, length, cond, Result, refl, sym, ap, ◌∙◌, subst, suc-mul, le-div_iff_mul-le, div-lt_iff_lt-mul, arith}
-use Rattle.std.specs.Prelude.{◌&&◌, int_le, int_lt, nat_le, IfOk, IsTrue}
-use Rattle.std.specs.Int.{int_max, int_min, w64, saturate_signed}
+use Rattle.std.proofs.Common.{◌≡◌, ℕ, suc, ◌+◌, ◌-◌, ◌*◌, ◌/◌, ◌<◌, ◌≤◌, ◌^◌, ℤ, pos, negsuc, ◌+ℤ◌, ◌-ℤ◌, ◌≤ℤ◌, ◌<ℤ◌, unsigned_abs, Bool, true, false, List, [], ◌∷◌, length, cond, refl, sym, ap, ◌∙◌, suc-mul, le-div_iff_mul-le, div-lt_iff_lt-mul, arith}
+use Rattle.std.specs.Prelude.{nat_le, IfOk, IsTrue}
+use Rattle.std.specs.Int.{int_max, int_min}
 use Rattle.std.specs.List.{list_all}
 use Rattle.std.proofs.lemmas.Bool.{and_parts, leb-true}
 use Rattle.std.proofs.lemmas.Int.{ints, clamps}
 use Rattle.std.proofs.Math.Nat.{div-le_self}
-use Rattle.cell_values.specs.declared.datum.Broken.{Broken}
-use Rattle.cell_values.specs.declared.datum.Row.{Row}
 use Rattle.cell_values.specs.declared.schema.Dimension.{Dimension}
 use Rattle.cell_values.specs.declared.schema.Schema.{Schema}
 use Rattle.cell_values.specs.Schemas.{IsValid}
@@ -19,7 +17,7 @@ use Rattle.array_geom.proofs.NearLemmas.{near_slice}
 use Rattle.array_geom.proofs.TestLaws.{lt_from_test}
 use Rattle.logical_plan.specs.declared.parts.Aggregate.{Aggregate}
 use Rattle.logical_plan.specs.Faults.{if_whole}
-use Rattle.logical_plan.specs.Groups.{block, grouped, regrid_rows}
+use Rattle.logical_plan.specs.Groups.{block, regrid_rows}
 use Rattle.plan_rewrite.specs.declared.stretch.Stretch.{Stretch}
 use Rattle.plan_rewrite.specs.Sides.{Sides, box_of, of_regrid}
 use Rattle.plan_rewrite.specs.Stretches.{stretch, all_of, is_empty, shared, block_first, block_last, blocks}

@@ -1,6 +1,6 @@
 -- What a cross join needs of its two sources.
-use Rattle.std.proofs.Common.{◌≡◌, ℕ, zero, suc, ◌+◌, ◌<◌, ◌≤◌, ℤ, pos, Bool, true, false, List, [], ◌∷◌, ◌++◌, map, filter, length, take, drop, cond, Option, Some, None, Result, Ok, Err, refl, sym, ap, ◌∙◌, subst, length-take, length-drop, arith}
-use Rattle.std.specs.Prelude.{◌&&◌, ◌||◌, ◌==◌, int_le, nat_lt, slice_get, slice_index_or, IfOk, IsTrue}
+use Rattle.std.proofs.Common.{◌≡◌, ℕ, zero, suc, ◌+◌, ◌<◌, ◌≤◌, ℤ, pos, Bool, true, false, List, [], ◌∷◌, ◌++◌, map, filter, length, take, drop, cond, Option, Some, Result, Ok, Err, refl, sym, ap, ◌∙◌, subst, length-take, length-drop, arith}
+use Rattle.std.specs.Prelude.{◌||◌, ◌==◌, nat_lt, slice_get, slice_index_or, IfOk}
 use Rattle.std.specs.List.{AllByRecursion, list_any, list_all, flat_map, find}
 use Rattle.std.specs.Option.{option_map, option_and_then}
 use Rattle.std.specs.Ordering.{int_eq}
@@ -9,7 +9,6 @@ use Rattle.std.proofs.lemmas.Int.{ints}
 use Rattle.std.proofs.lemmas.List.Elements.{filter-append}
 use Rattle.cell_values.specs.declared.datum.Broken.{Broken}
 use Rattle.cell_values.specs.declared.datum.Row.{Row}
-use Rattle.cell_values.specs.declared.schema.Bounds.{Bounds}
 use Rattle.cell_values.specs.declared.schema.Dimension.{Dimension}
 use Rattle.array_rows.specs.Boxes.{is_inside, within, bounds_of}
 use Rattle.array_rows.specs.Rows.{Coordinate, placed, rows_where}
@@ -19,7 +18,7 @@ use Rattle.logical_plan.specs.Faults.{if_whole, and_then}
 use Rattle.logical_plan.specs.Joins.{cell_beside, agree, right_places, cross_at, cross_rows}
 use Rattle.logical_plan.specs.Typing.{left_places}
 use Rattle.plan_rewrite.specs.declared.stretch.Stretch.{Stretch}
-use Rattle.plan_rewrite.specs.Sides.{Sides, box_of, filled, of_left, of_right, paired_with}
+use Rattle.plan_rewrite.specs.Sides.{Sides, box_of, of_left, of_right, paired_with}
 use Rattle.plan_rewrite.proofs.AlikeParts.{Holds, is_there, filled_inside, given_hold, length-filled}
 use Rattle.plan_rewrite.proofs.AlikeSteps.{needless_of}
 use Rattle.plan_rewrite.proofs.AlikeWindows.{bounds_length}

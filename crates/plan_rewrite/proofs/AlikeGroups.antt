@@ -1,12 +1,11 @@
 -- What groups need of their source.
-use Rattle.std.proofs.Common.{◌≡◌, ℕ, zero, suc, ◌+◌, ◌≤◌, ℤ, pos, ◌≤ℤ◌, ◌<ℤ◌, Bool, true, false, List, [], ◌∷◌, map, filter, length, cond, Option, Some, None, Result, Ok, Err, refl, sym, ap, ◌∙◌, subst, arith}
-use Rattle.std.specs.Prelude.{◌&&◌, ◌||◌, ◌==◌, int_le, slice_index_or, IfOk, IsTrue, ⊤}
-use Rattle.std.specs.Int.{int_max, int_min}
+use Rattle.std.proofs.Common.{◌≡◌, ℕ, suc, ◌+◌, ℤ, pos, ◌≤ℤ◌, ◌<ℤ◌, Bool, true, false, List, [], ◌∷◌, map, filter, cond, Option, Some, None, Result, Ok, Err, refl, sym, ap, ◌∙◌, subst, arith}
+use Rattle.std.specs.Prelude.{◌&&◌, ◌||◌, ◌==◌, int_le, slice_index_or, IfOk}
 use Rattle.std.specs.List.{AllByRecursion, list_any}
 use Rattle.std.specs.Ordering.{is_eq}
 use Rattle.std.specs.declared.cmp.Ordering.{Ordering}
 use Rattle.std.specs.declared.cmp.Ordering.TheVariants.{Less, Equal, Greater}
-use Rattle.std.proofs.lemmas.Bool.{and_parts, and_from, eqb-true}
+use Rattle.std.proofs.lemmas.Bool.{eqb-true}
 use Rattle.std.proofs.lemmas.Int.{ints, clamps}
 use Rattle.cell_values.specs.declared.datum.Broken.{Broken}
 use Rattle.cell_values.specs.declared.datum.Cell.{Cell}
@@ -14,7 +13,7 @@ use Rattle.cell_values.specs.declared.datum.Row.{Row}
 use Rattle.cell_values.specs.declared.schema.Bounds.{Bounds}
 use Rattle.cell_values.specs.declared.schema.Dimension.{Dimension}
 use Rattle.array_rows.specs.Boxes.{is_inside, within, bounds_of}
-use Rattle.array_rows.specs.Rows.{Coordinate, row_major, placed, rows_where, in_order, cell_at}
+use Rattle.array_rows.specs.Rows.{Coordinate, row_major, placed, cell_at}
 use Rattle.array_rows.proofs.RowsLemmas.{row_major_exact, same_rows}
 use Rattle.array_rows.proofs.RowSets.{IsRising-in_order, IsRising-rows_where, cell_at-in_order, cell_at-within}
 use Rattle.array_geom.specs.Link.{is_not_empty}
@@ -25,7 +24,7 @@ use Rattle.logical_plan.specs.Faults.{if_whole}
 use Rattle.logical_plan.specs.Groups.{aggregates_of, group_at, grouped, aggregate_rows}
 use Rattle.plan_rewrite.specs.declared.stretch.Stretch.{Stretch}
 use Rattle.plan_rewrite.specs.Sides.{Sides, box_of, side_named, clipped, named_sides}
-use Rattle.plan_rewrite.specs.Stretches.{all_of, is_empty, shared}
+use Rattle.plan_rewrite.specs.Stretches.{is_empty}
 use Rattle.plan_rewrite.proofs.AlikeParts.{alike_by, Holds}
 use Rattle.plan_rewrite.proofs.Inside.{AreInside, Inside, side_parts, side_from}
 

@@ -1,22 +1,20 @@
 -- Windows within the overlap of a scan: each wanted chunk has what the windows of its cells reach.
-use Rattle.std.proofs.Common.{◌≡◌, ℕ, ◌+◌, ◌-◌, ◌*◌, ◌≤◌, ℤ, pos, ◌+ℤ◌, ◌-ℤ◌, ◌≤ℤ◌, Bool, true, false, List, [], ◌∷◌, map, filter, length, cond, Option, Some, None, Result, Ok, Err, refl, sym, ap, ◌∙◌, subst, arith}
-use Rattle.std.specs.Prelude.{◌&&◌, ◌==◌, int_le, nat_le, IfOk, IsTrue}
-use Rattle.std.specs.Int.{int_max, int_min}
+use Rattle.std.proofs.Common.{◌≡◌, ℕ, ◌≤◌, ℤ, pos, ◌+ℤ◌, ◌-ℤ◌, ◌≤ℤ◌, Bool, true, false, List, [], ◌∷◌, filter, length, cond, Option, Some, None, refl, sym, ap, ◌∙◌, subst, arith}
+use Rattle.std.specs.Prelude.{◌==◌, nat_le, IsTrue}
+use Rattle.std.specs.Int.{int_min}
 use Rattle.std.specs.List.{AllByRecursion}
 use Rattle.std.proofs.lemmas.Bool.{and_parts, and_from, leb-true, eqb-true}
 use Rattle.std.proofs.lemmas.Int.{ints, clamps}
 use Rattle.std.proofs.lemmas.List.{length-map}
-use Rattle.cell_values.specs.declared.datum.Broken.{Broken}
 use Rattle.cell_values.specs.declared.datum.Cell.{Cell}
 use Rattle.cell_values.specs.declared.datum.Row.{Row}
 use Rattle.cell_values.specs.declared.schema.Bounds.{Bounds}
 use Rattle.cell_values.specs.declared.schema.Dimension.{Dimension}
 use Rattle.cell_values.specs.declared.schema.Schema.{Schema}
 use Rattle.cell_values.specs.Schemas.{IsValid}
-use Rattle.array_rows.specs.Arrays.{AreRowsOf}
-use Rattle.array_rows.specs.Boxes.{by_pairs, is_between, is_inside, within, meet, bounds_of}
+use Rattle.array_rows.specs.Boxes.{is_inside, within, bounds_of}
 use Rattle.array_rows.specs.Cellwise.{cell_wise, put_first}
-use Rattle.array_rows.specs.Rows.{Coordinate, rows_where}
+use Rattle.array_rows.specs.Rows.{Coordinate}
 use Rattle.array_rows.proofs.RowsLemmas.{within-cell_wise}
 use Rattle.array_geom.specs.Geometry.{ChunkNumber, chunk_of, first_in, last_in, core, core_meets, frame, overlaps}
 use Rattle.array_geom.specs.Link.{is_not_empty, has_cell}
@@ -28,18 +26,16 @@ use Rattle.logical_plan.specs.declared.parts.Aggregate.{Aggregate}
 use Rattle.logical_plan.specs.declared.parts.Leaf.{Leaf}
 use Rattle.logical_plan.specs.declared.parts.Reach.{Reach}
 use Rattle.logical_plan.specs.CellOps.{filter_cell, filter_rows, apply_cell, apply_rows, project_cell, project_rows}
-use Rattle.logical_plan.specs.Faults.{if_whole}
 use Rattle.logical_plan.specs.Groups.{window, window_cell, window_rows}
-use Rattle.logical_plan.specs.Meaning.{Database, meaning, version_rows}
 use Rattle.logical_plan.specs.PlanSchema.{schema_of}
 use Rattle.logical_plan.specs.Query.{Query, built, listed, scanned, filtered, applied, projected, between, subarray, sliced, joined, crossed, redimensioned, regridded, windowed, aggregated}
 use Rattle.logical_plan.specs.Typing.{IsTyped, is_box_of}
 use Rattle.logical_plan.proofs.BuiltRows.{all-follows}
-use Rattle.plan_rewrite.specs.Needs.{is_scan, needs}
+use Rattle.plan_rewrite.specs.Needs.{is_scan}
 use Rattle.plan_rewrite.specs.Sides.{Sides, box_of, of_between, is_near, are_near}
 use Rattle.plan_rewrite.specs.Wanted.{is_wanted, HaveAlike}
 use Rattle.plan_rewrite.proofs.BoxSides.{between_length}
-use Rattle.plan_rewrite.proofs.AlikeScans.{chunk_meets, one_each}
+use Rattle.plan_rewrite.proofs.AlikeScans.{chunk_meets}
 use Rattle.plan_rewrite.proofs.AlikeSteps.{box_shared}
 use Rattle.plan_rewrite.proofs.AlikeWindows.{changed_where, same_window}
 use Rattle.plan_rewrite.proofs.BoxSteps.{held}

@@ -1,11 +1,11 @@
 -- What a part and a slice need of their source.
-use Rattle.std.proofs.Common.{◌≡◌, ℕ, zero, suc, ◌+◌, ◌-◌, ◌<◌, ◌≤◌, ◌^◌, min, ℤ, pos, negsuc, ◌+ℤ◌, ◌-ℤ◌, ◌≤ℤ◌, Bool, true, false, List, [], ◌∷◌, map, filter, length, cond, Option, Some, None, Result, Ok, Err, refl, sym, ap, ◌∙◌, subst, arith}
-use Rattle.std.specs.Prelude.{◌&&◌, ◌||◌, ◌==◌, int_le, slice_index_or, IfOk, IsTrue, ⊤}
+use Rattle.std.proofs.Common.{◌≡◌, ℕ, suc, ◌+◌, ◌-◌, ◌^◌, ℤ, pos, negsuc, ◌+ℤ◌, ◌-ℤ◌, ◌≤ℤ◌, Bool, true, false, List, [], ◌∷◌, length, cond, Option, Some, None, Result, Ok, Err, refl, sym, ap, ◌∙◌, subst, arith}
+use Rattle.std.specs.Prelude.{◌||◌, ◌==◌, slice_index_or, IfOk, ⊤}
 use Rattle.std.specs.Int.{int_max, int_min, w64, saturate_signed}
 use Rattle.std.specs.List.{AllByRecursion, list_any, list_all, find}
 use Rattle.std.specs.Option.{option_map}
 use Rattle.std.specs.Ordering.{int_eq}
-use Rattle.std.proofs.lemmas.Bool.{and_parts, and_from, eqb-true}
+use Rattle.std.proofs.lemmas.Bool.{and_parts, eqb-true}
 use Rattle.std.proofs.lemmas.Int.{ints, clamps}
 use Rattle.cell_values.specs.declared.datum.Broken.{Broken}
 use Rattle.cell_values.specs.declared.datum.Row.{Row}
@@ -14,16 +14,16 @@ use Rattle.cell_values.specs.declared.schema.Dimension.{Dimension}
 use Rattle.cell_values.specs.declared.schema.Schema.{Schema}
 use Rattle.cell_values.specs.Schemas.{IsValid}
 use Rattle.array_rows.specs.Arrays.{Meant}
-use Rattle.array_rows.specs.Boxes.{by_pairs, corners, is_between, is_inside, within, meet, bounds_of, moved}
+use Rattle.array_rows.specs.Boxes.{by_pairs, corners, is_inside, within, meet, bounds_of, moved}
 use Rattle.array_rows.specs.Rows.{Coordinate}
-use Rattle.array_geom.specs.Inner.Ranges.{IsNear, AreNear}
+use Rattle.array_geom.specs.Inner.Ranges.{AreNear}
 use Rattle.array_geom.proofs.NearLemmas.{near_slice}
 use Rattle.logical_plan.specs.declared.parts.Fixed.{Fixed}
 use Rattle.logical_plan.specs.BoxOps.{items_but, fixed_places, has_fixed, subarray_rows, slice_rows}
 use Rattle.logical_plan.specs.Faults.{if_whole}
 use Rattle.plan_rewrite.specs.declared.stretch.Stretch.{Stretch}
 use Rattle.plan_rewrite.specs.Sides.{Sides, box_of, of_subarray, next_side, filled, held_at, of_slice}
-use Rattle.plan_rewrite.specs.Stretches.{stretch, all_of, shared, lifted}
+use Rattle.plan_rewrite.specs.Stretches.{stretch, lifted}
 use Rattle.plan_rewrite.proofs.AlikeScans.{low_length}
 use Rattle.plan_rewrite.proofs.AlikeSteps.{needless, needless_of}
 use Rattle.plan_rewrite.proofs.Inside.{AreInside, Inside, side_parts, side_from}

@@ -1,9 +1,9 @@
 -- One induction over plans: their needs are sufficient.
-use Rattle.std.proofs.Common.{◌≡◌, ℕ, suc, ◌+◌, ◌≤◌, ℤ, Bool, true, false, List, [], ◌∷◌, ◌++◌, map, length, take, cond, Option, Some, None, Result, Ok, Err, refl, sym, ap, ◌∙◌, subst, length-append, length-take, arith}
-use Rattle.std.specs.Prelude.{◌&&◌, ◌==◌, int_le, nat_le, nat_lt, IfOk, IsTrue}
+use Rattle.std.proofs.Common.{◌≡◌, ℕ, suc, ◌+◌, ◌≤◌, ℤ, Bool, true, false, List, [], ◌∷◌, ◌++◌, map, length, take, cond, Result, Ok, Err, refl, sym, ap, ◌∙◌, subst, length-append, length-take, arith}
+use Rattle.std.specs.Prelude.{◌&&◌, ◌==◌, nat_le, IfOk}
 use Rattle.std.specs.Int.{int_max}
 use Rattle.std.specs.Ordering.{int_eq}
-use Rattle.std.specs.List.{AllByRecursion, AllZip, list_any, list_all}
+use Rattle.std.specs.List.{AllZip, list_any, list_all}
 use Rattle.std.proofs.lemmas.Bool.{and_parts, eqb-true}
 use Rattle.std.proofs.lemmas.List.{length-map}
 use Rattle.cell_values.specs.declared.datum.Broken.{Broken}
@@ -14,26 +14,26 @@ use Rattle.cell_values.specs.declared.schema.Dimension.{Dimension}
 use Rattle.cell_values.specs.declared.schema.Schema.{Schema}
 use Rattle.cell_values.specs.Schemas.{attribute_names, dimension_names}
 use Rattle.array_rows.specs.Arrays.{AreRowsOf, Meant}
-use Rattle.array_rows.specs.Boxes.{by_pairs, corners, is_inside, within, bounds_of}
+use Rattle.array_rows.specs.Boxes.{by_pairs, corners, within, bounds_of}
 use Rattle.array_geom.proofs.NearLemmas.{near_slice}
 use Rattle.logical_plan.specs.declared.parts.Aggregate.{Aggregate}
 use Rattle.logical_plan.specs.declared.parts.Leaf.{Leaf}
 use Rattle.logical_plan.specs.declared.parts.Reach.{Reach}
-use Rattle.logical_plan.specs.BoxOps.{items_but, fixed_places}
+use Rattle.logical_plan.specs.BoxOps.{items_but}
 use Rattle.logical_plan.specs.CellOps.{filter_cell, filter_rows, apply_cell, apply_rows, project_cell, project_rows}
-use Rattle.logical_plan.specs.Faults.{if_whole, and_then}
+use Rattle.logical_plan.specs.Faults.{if_whole}
 use Rattle.logical_plan.specs.Groups.{window_rows, aggregate_rows}
 use Rattle.logical_plan.specs.Joins.{right_places}
 use Rattle.logical_plan.specs.Leaves.{leaves}
 use Rattle.logical_plan.specs.Meaning.{Database, meaning, version_rows, redimensioned_from}
-use Rattle.logical_plan.specs.PlanSchema.{schema_of, subarray_dimensions, in_blocks, renamed_dimension, free_names, side_by_side, join_schema}
+use Rattle.logical_plan.specs.PlanSchema.{schema_of, subarray_dimensions, in_blocks, renamed_dimension, free_names, side_by_side}
 use Rattle.logical_plan.specs.Query.{Query, built, listed, scanned, filtered, applied, projected, between, subarray, sliced, joined, crossed, redimensioned, regridded, windowed, aggregated}
-use Rattle.logical_plan.specs.Typing.{IsTyped, is_box_of, same_bounds, are_blocks_of, are_windows_of, are_aggregates_of, are_below, are_apart, left_places, window_size, reached_size}
+use Rattle.logical_plan.specs.Typing.{IsTyped, same_bounds, are_blocks_of, are_windows_of, are_aggregates_of, are_below, are_apart, left_places, window_size, reached_size}
 use Rattle.logical_plan.proofs.SchemaLaws.{meaning_schema, typed_valid}
 use Rattle.plan_rewrite.specs.declared.stretch.Stretch.{Stretch}
 use Rattle.plan_rewrite.specs.Needs.{is_scan, needs}
 use Rattle.plan_rewrite.specs.Same.{HasArrays}
-use Rattle.plan_rewrite.specs.Sides.{Sides, sides_of, box_of, whole, of_between, of_subarray, of_slice, of_left, of_right, of_regrid, of_aggregate, of_window, named_sides, side_named, clipped, are_near, of_windows}
+use Rattle.plan_rewrite.specs.Sides.{Sides, sides_of, box_of, whole, of_between, of_subarray, of_slice, of_left, of_right, of_regrid, of_aggregate, of_window, named_sides, are_near, of_windows}
 use Rattle.plan_rewrite.specs.Stretches.{stretch, all_of, nothing, is_empty, lifted, blocks, grown}
 use Rattle.plan_rewrite.specs.Sufficient.{NeedsAreSufficient}
 use Rattle.plan_rewrite.specs.Wanted.{HaveAlike, AreAlikeAt, AreAlikeFor}

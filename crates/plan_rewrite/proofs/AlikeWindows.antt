@@ -1,17 +1,15 @@
 -- What windows need of their source where they reach beyond the overlap.
-use Rattle.std.proofs.Common.{◌≡◌, ℕ, ◌+◌, ◌-◌, ◌≤◌, ◌^◌, ℤ, pos, negsuc, ◌+ℤ◌, ◌-ℤ◌, ◌≤ℤ◌, Bool, true, false, List, [], ◌∷◌, map, filter, length, cond, Option, Some, None, Result, refl, sym, ap, ◌∙◌, subst, arith}
-use Rattle.std.specs.Prelude.{◌&&◌, int_le, int_lt, IfOk, IsTrue}
-use Rattle.std.specs.Int.{int_max, int_min, w64, saturate_signed}
+use Rattle.std.proofs.Common.{◌≡◌, ◌-◌, ◌^◌, ℤ, pos, negsuc, ◌+ℤ◌, ◌-ℤ◌, ◌≤ℤ◌, Bool, true, false, List, [], ◌∷◌, length, cond, Option, Some, Result, refl, sym, ap, ◌∙◌, arith}
+use Rattle.std.specs.Prelude.{IfOk}
+use Rattle.std.specs.Int.{w64, saturate_signed}
 use Rattle.std.specs.List.{AllByRecursion}
-use Rattle.std.proofs.lemmas.Bool.{and_parts}
-use Rattle.std.proofs.lemmas.Int.{ints, clamps}
+use Rattle.std.proofs.lemmas.Int.{ints}
 use Rattle.cell_values.specs.declared.datum.Broken.{Broken}
 use Rattle.cell_values.specs.declared.datum.Cell.{Cell}
 use Rattle.cell_values.specs.declared.datum.Cell.TheVariants.{Full, Doubt}
 use Rattle.cell_values.specs.declared.datum.Row.{Row}
-use Rattle.cell_values.specs.declared.schema.Bounds.{Bounds}
 use Rattle.cell_values.specs.declared.schema.Dimension.{Dimension}
-use Rattle.array_rows.specs.Boxes.{by_pairs, is_inside, within, bounds_of}
+use Rattle.array_rows.specs.Boxes.{is_inside, within, bounds_of}
 use Rattle.array_rows.specs.Cellwise.{cell_wise, put_first}
 use Rattle.array_rows.specs.Rows.{Coordinate, rows_where}
 use Rattle.array_rows.proofs.RowsLemmas.{within-cell_wise}
@@ -27,7 +25,6 @@ use Rattle.plan_rewrite.specs.Stretches.{stretch, all_of, is_empty, shared, grow
 use Rattle.plan_rewrite.proofs.AlikeBlocks.{both_below, both_above}
 use Rattle.plan_rewrite.proofs.AlikeGroups.{implied}
 use Rattle.plan_rewrite.proofs.AlikeParts.{alike_by, sat_low, sat_high}
-use Rattle.plan_rewrite.proofs.AlikeScans.{low_length}
 use Rattle.plan_rewrite.proofs.Inside.{AreInside, Inside, side_parts, side_from}
 
 -- ---- rows of which something holds, changed in two ways

@@ -1,33 +1,23 @@
 -- Coordinates within bounds, through what operators make of them.
-use Rattle.std.proofs.Common.{◌≡◌, ℕ, zero, suc, ◌+◌, ◌-◌, ◌*◌, ◌/◌, ◌<◌, ◌≤◌, ◌^◌, ℤ, pos, negsuc, ◌+ℤ◌, ◌-ℤ◌, ◌≤ℤ◌, unsigned_abs, Bool, true, false, List, [], ◌∷◌, ◌++◌, map, filter, length, take, drop, cond, Option, Some, None, Result, Ok, Err, refl, sym, ap, ◌∙◌, subst, length-append, length-drop, arith}
-use Rattle.std.specs.Prelude.{◌&&◌, ◌==◌, int_le, nat_lt, slice_get, slice_index_or, IfOk, IsTrue, ⊤}
+use Rattle.std.proofs.Common.{◌≡◌, ℕ, zero, suc, ◌+◌, ◌-◌, ◌/◌, ◌<◌, ◌≤◌, ◌^◌, ℤ, pos, negsuc, ◌-ℤ◌, ◌≤ℤ◌, unsigned_abs, Bool, true, false, List, [], ◌∷◌, ◌++◌, map, length, cond, Option, Some, None, refl, sym, ap, subst, arith}
+use Rattle.std.specs.Prelude.{◌&&◌, ◌==◌, int_le, nat_lt, slice_get, slice_index_or, IsTrue}
 use Rattle.std.specs.Int.{int_max, int_min, w64, saturate_signed}
-use Rattle.std.specs.List.{AllByRecursion, list_any, list_all, flat_map, filter_map, cons_option}
+use Rattle.std.specs.List.{AllByRecursion, list_any, list_all, cons_option}
 use Rattle.std.proofs.lemmas.Bool.{and_parts, and_from, ltb-true}
 use Rattle.std.proofs.lemmas.Int.{ints, clamps}
-use Rattle.std.proofs.lemmas.List.{length-map}
 use Rattle.std.proofs.lemmas.Nat.{le-div}
 use Rattle.std.proofs.Math.Nat.{div-mul-le_self}
-use Rattle.cell_values.specs.declared.datum.Broken.{Broken}
 use Rattle.cell_values.specs.declared.datum.Cell.{Cell}
-use Rattle.cell_values.specs.declared.datum.Cell.TheVariants.{Full, Doubt}
-use Rattle.cell_values.specs.declared.datum.Datum.{Datum}
-use Rattle.cell_values.specs.declared.datum.FaultKind.{FaultKind}
 use Rattle.cell_values.specs.declared.datum.Row.{Row}
-use Rattle.cell_values.specs.declared.schema.Attribute.{Attribute}
-use Rattle.cell_values.specs.declared.schema.Bounds.{Bounds}
 use Rattle.cell_values.specs.declared.schema.Dimension.{Dimension}
-use Rattle.cell_values.specs.declared.schema.Schema.{Schema}
-use Rattle.array_rows.specs.Boxes.{by_pairs, corners, is_between, is_inside, within, meet, bounds_of, moved}
+use Rattle.array_rows.specs.Boxes.{by_pairs, corners, is_inside, meet, bounds_of}
 use Rattle.array_rows.specs.Cellwise.{cell_wise, put_first}
-use Rattle.array_rows.specs.Rows.{Coordinate, placed, rows_where, in_order}
+use Rattle.array_rows.specs.Rows.{Coordinate}
 use Rattle.array_geom.specs.Inner.Ranges.{IsNear, AreNear}
-use Rattle.array_geom.proofs.NearLemmas.{near_slice}
 use Rattle.array_geom.proofs.TestLaws.{le_test, le_from_test}
-use Rattle.logical_plan.specs.BoxOps.{items_at, items_but, numbers_at, fixed_places, has_fixed, subarray_rows, slice_rows}
+use Rattle.logical_plan.specs.BoxOps.{items_at, items_but, numbers_at}
 use Rattle.logical_plan.specs.Groups.{block}
-use Rattle.logical_plan.specs.PlanSchema.{from_zero, subarray_dimensions, in_blocks, without_overlap, renamed_dimension}
-use Rattle.plan_rewrite.proofs.RowLists.{all_where, all_in_order, each_made}
+use Rattle.logical_plan.specs.PlanSchema.{subarray_dimensions, in_blocks, without_overlap, renamed_dimension}
 
 abbrev pub Inside : List Dimension → Row → Type 0
 Inside dims row = IsTrue (is_inside (bounds_of dims) row.at.items)

@@ -1,5 +1,5 @@
 -- Each cell that a typed plan means lies within the bounds of its schema.
-use Rattle.std.proofs.Common.{◌≡◌, ℕ, ◌+◌, ◌≤◌, ℤ, ◌-ℤ◌, Bool, true, false, List, [], ◌∷◌, ◌++◌, map, filter, length, take, cond, Option, Some, None, Result, Ok, Err, refl, sym, ap, ◌∙◌, subst, length-append, length-take, arith}
+use Rattle.std.proofs.Common.{◌≡◌, ℕ, ◌+◌, ◌-ℤ◌, Bool, true, false, List, [], ◌∷◌, ◌++◌, map, filter, length, take, cond, Option, Some, None, Result, Ok, Err, refl, sym, ap, ◌∙◌, subst, length-append, length-take, arith}
 use Rattle.std.specs.Prelude.{◌&&◌, not, IfOk, IsTrue, ⊤}
 use Rattle.std.specs.List.{AllByRecursion, list_any}
 use Rattle.std.specs.Ordering.{is_eq}
@@ -29,8 +29,8 @@ use Rattle.logical_plan.specs.CellOps.{filter_cell, filter_rows, apply_cell, app
 use Rattle.logical_plan.specs.Faults.{if_whole, and_then}
 use Rattle.logical_plan.specs.Groups.{bad_kind, number_of, first_some, block, group_at, aggregates_of, grouped, aggregate_rows, regrid_rows, window_cell, window_rows}
 use Rattle.logical_plan.specs.Joins.{cell_beside, join_rows, agree, cross_at, cross_rows, right_places}
-use Rattle.logical_plan.specs.Meaning.{Database, meaning, version_rows}
-use Rattle.logical_plan.specs.PlanSchema.{schema_of, subarray_dimensions, subarray_schema, in_blocks, regrid_schema, group_dimensions, without_overlap, free_names, side_by_side, join_schema, cross_schema}
+use Rattle.logical_plan.specs.Meaning.{Database, meaning}
+use Rattle.logical_plan.specs.PlanSchema.{schema_of, subarray_dimensions, subarray_schema, in_blocks, group_dimensions, free_names, side_by_side}
 use Rattle.logical_plan.specs.Query.{Query, built, listed, scanned, filtered, applied, projected, between, subarray, sliced, joined, crossed, redimensioned, regridded, windowed, aggregated}
 use Rattle.logical_plan.specs.Redimension.{Origin, origin_of, value_origin, Landing, lands, drops, breaks, target_value, counted_places, alike_so_far, counted_up, landing_at, unless_fault, landing_of, Landed, after_landing, landed, carried, landed_at, by_names, redimension_rows}
 use Rattle.logical_plan.specs.Typing.{IsTyped, are_below, are_aggregates_of}
