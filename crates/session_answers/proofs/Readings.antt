@@ -14,9 +14,9 @@ use Rattle.event_core.specs.History.{History}
 use Rattle.logical_plan.specs.declared.parts.Leaf.{Leaf}
 use Rattle.plan_changes.specs.declared.change.Change.{Change}
 use Rattle.plan_changes.specs.Databases.{Database, names_of}
-use Rattle.statement_answers.specs.declared.outcome.Outcome.{Outcome}
-use Rattle.statement_answers.specs.declared.outcome.Outcome.TheVariants.{Replied, Changes}
-use Rattle.statement_answers.specs.Outcomes.{asked_for, HasOutcomeKind, IsOutcomeOf, IsToldBy, MayFail}
+use Rattle.session_turns.specs.Outcome.{Outcome}
+use Rattle.session_turns.specs.Outcome.TheVariants.{Replied, Changes}
+use Rattle.session_turns.specs.Outcomes.{asked_for, HasOutcomeKind, IsOutcomeOf, IsToldBy, MayFail}
 use Rattle.statement_replies.specs.declared.replies.Reply.{Reply as Told}
 use Rattle.statement_replies.specs.Statements.{reply_to}
 use Rattle.store_ledger.specs.declared.note.NoteKind.{NoteKind}

@@ -16,11 +16,11 @@ use Rattle.event_core.specs.declared.entry.Entry.{Entry}
 use Rattle.event_core.specs.declared.entry.Entry.TheVariants.{Commit, Reap}
 use Rattle.result_print.specs.declared.refusal.Refusal.{Refusal}
 use Rattle.result_print.specs.declared.refusal.Refusal.TheVariants.{Disk, Damaged, SequenceEnd, Full, Memory}
-use Rattle.statement_answers.specs.declared.outcome.Outcome.{Outcome}
-use Rattle.statement_answers.specs.declared.outcome.Outcome.TheVariants.{Replied, Changes}
-use Rattle.statement_answers.specs.Forms.{a_change, form_said}
-use Rattle.statement_answers.specs.Outcomes.{IsAllowed, MayFail}
-use Rattle.statement_answers.proofs.Saying.{changes_refused}
+use Rattle.session_outcomes.specs.Outcome.{Outcome}
+use Rattle.session_outcomes.specs.Outcome.TheVariants.{Replied, Changes}
+use Rattle.session_outcomes.specs.Forms.{a_change, form_said}
+use Rattle.session_outcomes.specs.Outcomes.{IsAllowed, MayFail}
+use Rattle.session_outcomes.proofs.Saying.{changes_refused}
 use Rattle.statement_replies.specs.declared.replies.Reply.{Reply as Told}
 use Rattle.statement_replies.specs.Reply.{refused}
 use Rattle.statement_replies.specs.declared.style.Style.{Style}

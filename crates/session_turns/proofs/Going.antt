@@ -14,9 +14,9 @@ use Rattle.plan_changes.specs.Databases.{Database}
 use Rattle.afl_types.specs.Checking.{check_of}
 use Rattle.event_core.specs.Allowed.{is_pinned}
 use Rattle.event_core.specs.Cells.{at}
-use Rattle.statement_answers.specs.declared.outcome.Outcome.{Outcome}
-use Rattle.statement_answers.specs.declared.outcome.Outcome.TheVariants.{Changes}
-use Rattle.statement_answers.specs.Outcomes.{HasOutcomeKind, IsMadeOf, IsOutcomeOf, IsToldBy, MayFail}
+use Rattle.session_outcomes.specs.Outcome.{Outcome}
+use Rattle.session_outcomes.specs.Outcome.TheVariants.{Changes}
+use Rattle.session_outcomes.specs.Outcomes.{HasOutcomeKind, IsMadeOf, IsOutcomeOf, IsToldBy, MayFail}
 use Rattle.statement_replies.specs.declared.replies.Reply.{Reply as Told}
 use Rattle.statement_replies.specs.Reading.{HoldsVersions}
 use Rattle.statement_replies.specs.Statements.{reply_to}

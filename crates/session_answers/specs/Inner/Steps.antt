@@ -4,8 +4,8 @@ use Rattle.afl_outside.specs.Disk.{Moment}
 use Rattle.afl_trees.specs.Term.{Term}
 use Rattle.afl_types.specs.Checking.{check_of}
 use Rattle.chunk_source.specs.declared.reading.fault.ExecFault.{ExecFault}
-use Rattle.statement_answers.specs.declared.outcome.Outcome.{Outcome}
-use Rattle.statement_answers.specs.Outcomes.{asked_for, MayFail}
+use Rattle.session_turns.specs.Outcome.{Outcome}
+use Rattle.session_turns.specs.Outcomes.{asked_for, MayFail}
 use Rattle.store_ledger.specs.declared.pinned.Pinned.{Pinned}
 use Rattle.store_ledger.specs.Ledger.{is_fault, is_noted}
 use Rattle.store_state.specs.declared.event.Event.{Event}

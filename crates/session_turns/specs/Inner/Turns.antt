@@ -8,8 +8,8 @@ use Rattle.chunk_source.specs.declared.reading.fault.ExecFault.TheVariants.{Sour
 use Rattle.plan_changes.specs.declared.change.Change.{Change}
 use Rattle.session_outcomes.specs.Outcome.{Outcome}
 use Rattle.afl_types.specs.Checking.{check_of}
-use Rattle.statement_answers.specs.declared.outcome.Outcome.TheVariants.{Replied, Changes}
-use Rattle.statement_answers.specs.Outcomes.{MayFail}
+use Rattle.session_outcomes.specs.Outcome.TheVariants.{Replied, Changes}
+use Rattle.session_outcomes.specs.Outcomes.{MayFail}
 use Rattle.statement_replies.specs.declared.replies.Reply.{Reply as Told}
 use Rattle.statement_replies.specs.declared.style.Style.{Style}
 use Rattle.session_sources.specs.Owners.{ExtendsByOwn}
