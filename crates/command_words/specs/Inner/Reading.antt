@@ -111,7 +111,8 @@ read_settings device [] settings = Err (place_of settings)
 read_settings device (word ∷ []) settings =
     by_option settings (next_option settings word) (λ option. None) (read_scripts device settings (word ∷ [])) (λ next. Err (place_of next))
 read_settings device (word ∷ said ∷ words) settings =
-    by_option settings (next_option settings word) (λ option. with_said settings option said) (read_scripts device settings (word ∷ said ∷ words)) (read_settings device words)
+    by_option settings (next_option settings word) (λ option. with_said settings option said) (read_scripts device settings (word ∷ said ∷ words))
+    (read_settings device words)
 
 abbrev pub read_run : List Word → Result Form ℕ
 read_run [] = Err 1
