@@ -24,7 +24,7 @@ use Rattle.store_state.specs.Standings.{Standing}
 use Rattle.session_threads.specs.Sessions.{IsSessionOf}
 use Rattle.afl_run.specs.Generate.{IsGenerated, RunsGenerate, listed}
 use Rattle.afl_run.specs.OneHistory.{IsOneHistory}
-use Rattle.afl_run.specs.Run.{IsOfAnswers}
+use Rattle.afl_run.specs.Run.{IsOfAnswers, plain}
 use Rattle.afl_run.specs.Inner.Making.{IsEmpty}
 use Rattle.afl_run.specs.Inner.Over.{IsUnrun, RunsOver}
 use Rattle.afl_run.proofs.StandardLemmas.{IsOfDisk, answers_all, began_empty, none_there, never_fails, only_memory}
@@ -106,7 +106,7 @@ module _ {K : Type 0} (sink_state : K → SinkState) (old now : ShelfState) (oth
       one = λ ran. absurd (ran refl);
     }
 
-    module _ (end : Standing SureBytes) (over : RunsOver sure_disk_moment sure_source_state sink_state disk limits (own ∷ []) end run) where
+    module _ (end : Standing SureBytes) (over : RunsOver plain sure_disk_moment sure_source_state sink_state disk limits (own ∷ []) end run) where
       -- what the store was opened from
       found_over : IfSome (sure_disk_moment end.opened.disk).state.seen (λ file. IsOpenedFrom 65536 file (start_of end))
       found_over = subst (λ (n : ℕ). IfSome (sure_disk_moment end.opened.disk).state.seen (λ file. IsOpenedFrom n file (start_of end))) pages_given
@@ -116,8 +116,8 @@ module _ {K : Type 0} (sink_state : K → SinkState) (old now : ShelfState) (oth
       generated_of : (report : SessionReport Reading K) → run.sessions ≡ report ∷ []
           → IsGenerated old script (sure_source_state report.source) (sink_state report.sink)
       generated_of report is =
-          let session : IsSessionOf sure_disk_moment sure_source_state sink_state (start_of end) 0 own report (events end) =
-          subst (λ (rs : List (SessionReport Reading K)). IsSessionOf sure_disk_moment sure_source_state sink_state (start_of end) 0 own (get_or rs 0 report) (events end)) is
+          let session : IsSessionOf plain sure_disk_moment sure_source_state sink_state (start_of end) 0 own report (events end) =
+          subst (λ (rs : List (SessionReport Reading K)). IsSessionOf plain sure_disk_moment sure_source_state sink_state (start_of end) 0 own (get_or rs 0 report) (events end)) is
           (over.runs.each 0 own report (omega arith)) in
           let gives = session.serves.gives in
           let takes = session.serves.takes in
@@ -135,8 +135,8 @@ module _ {K : Type 0} (sink_state : K → SinkState) (old now : ShelfState) (oth
           let none : length run.sessions ≡ 0 = ap length is in
           absurd (omega (arith, many, none))
       over_of (Some report) is =
-          let one : IsOneHistory sure_disk_moment sure_source_state sink_state run.sessions run.notice run.history run.free_pages end =
-          one_history sure_disk_moment sure_source_state sink_state (own ∷ []) fresh disk limits run end over in
+          let one : IsOneHistory plain sure_disk_moment sure_source_state sink_state run.sessions run.notice run.history run.free_pages end =
+          one_history plain sure_disk_moment sure_source_state sink_state (own ∷ []) fresh disk limits run end over in
           let database = began_empty sure_disk_moment disk limits end over.opened empty in
           record {
             opened = generated_of report is;
@@ -156,7 +156,7 @@ module _ {K : Type 0} (sink_state : K → SinkState) (old now : ShelfState) (oth
                 (calm_all report calm)) over.runs.told;
             one = λ ran. (
               end,
-              subst (λ (rs : List (SessionReport Reading K)). IsOneHistory sure_disk_moment sure_source_state sink_state rs run.notice run.history run.free_pages end) is one,
+              subst (λ (rs : List (SessionReport Reading K)). IsOneHistory plain sure_disk_moment sure_source_state sink_state rs run.notice run.history run.free_pages end) is one,
               record {
                 database = database;
                 found = found_over;
@@ -174,14 +174,14 @@ module _ {K : Type 0} (sink_state : K → SinkState) (old now : ShelfState) (oth
           calm_all report calm zero d within = (still report, calm)
           calm_all report calm (suc k) d within = absurd (omega (arith, within))
 
-    pub generates_ran : IsUnrun sure_disk_moment disk run ⊎ ((end : Standing SureBytes) × RunsOver sure_disk_moment sure_source_state sink_state disk limits (own ∷ []) end run)
+    pub generates_ran : IsUnrun sure_disk_moment disk run ⊎ ((end : Standing SureBytes) × RunsOver plain sure_disk_moment sure_source_state sink_state disk limits (own ∷ []) end run)
         → (g : Option (SessionReport Reading K)) → run.sessions ≡ listed g
         → RunsGenerate sure_disk_moment sure_source_state sink_state old now run.notice run.history g run.free_pages script
     generates_ran ran g is = elim ran [ inl unrun ↦ unrun_of unrun g is | inr over ↦ over_of over.0 over.1 g is ]
 
 -- at most one session ran
 pub few_sessions : {K : Type 0} (sink_state : K → SinkState) (disk : SureBytes) (limits : Limits) (own : Streams Reading K) (run : StoreRun SureBytes Reading K)
-    → IsUnrun sure_disk_moment disk run ⊎ ((end : Standing SureBytes) × RunsOver sure_disk_moment sure_source_state sink_state disk limits (own ∷ []) end run)
+    → IsUnrun sure_disk_moment disk run ⊎ ((end : Standing SureBytes) × RunsOver plain sure_disk_moment sure_source_state sink_state disk limits (own ∷ []) end run)
     → length run.sessions ≤ 1
 few_sessions sink_state disk limits own run ran = elim ran [
   | inl unrun ↦ let none : length run.sessions ≡ 0 = ap length unrun.none in omega (arith, none)

@@ -9,10 +9,11 @@ ghost use Rattle.store_state.specs.Standings.{Standing};
 ghost use Rattle.afl_run.specs.Generate.{RunsGenerate, listed};
 ghost use Rattle.afl_run.specs.Inner.Making.{IsEmpty};
 ghost use Rattle.afl_run.specs.Inner.Over.{IsUnrun, RunsOver};
+ghost use Rattle.afl_run.specs.Run.{plain};
 
 use crate::over::run_over;
 use crate::report::{Report, unrun};
-use crate::standard::{LIMITS, empty_database};
+use crate::standard::{LIMITS, PLAIN, empty_database};
 use afl_in_memory::{SureDisk, SureSource};
 use afl_lexer::Splitter;
 use afl_outside::{Gate, Shelf, Sink};
@@ -21,6 +22,7 @@ use generated_script::script_of;
 use run_opening::open_reply;
 use run_stores::StoreRun;
 use session_reports::{Notice, Streams, status};
+use session_threads::Options;
 use std::alloc::Global;
 use std::sync::Wait;
 use std::thread::Threads;
@@ -116,7 +118,7 @@ fn run_on_sink<K: Sink + Send + Drop, R: Threads + Wait + Sync, G: Gate>(
     requires none { made.room.items ≡ [] }
     requires room { 1 ≤ vec_capacity made.room }
     ensures run { IsUnrun sure_disk_moment made.disk result
-        ⊎ ((end : Standing SureBytes) × RunsOver sure_disk_moment sure_source_state K.state made.disk LIMITS
+        ⊎ ((end : Standing SureBytes) × RunsOver plain sure_disk_moment sure_source_state K.state made.disk LIMITS
         (record { source = made.source; sink = sink; splitter = made.splitter } ∷ []) end result) }
     ensures few { length result.sessions ≤ 1 }
 {
@@ -127,7 +129,11 @@ fn run_on_sink<K: Sink + Send + Drop, R: Threads + Wait + Sync, G: Gate>(
         room,
     } = made;
     let streams = streams_in(room, source, sink, splitter);
-    run_over(rt, alloc, disk, LIMITS, workers, streams, gate)
+    let options = Options {
+        workers,
+        style: PLAIN,
+    };
+    run_over(rt, alloc, disk, LIMITS, options, streams, gate)
 }
 
 /// The streams of the session, in the room that is there for them.
