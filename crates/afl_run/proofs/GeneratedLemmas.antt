@@ -1,14 +1,14 @@
 -- What a run of a script that was made reports.
-use Rattle.std.proofs.Common.{◌≡◌, ◌⊎◌, ℕ, zero, suc, ◌+◌, ◌<◌, ◌≤◌, List, [], ◌∷◌, ◌++◌, length, get_or, All, Option, Some, None, IfSome, IsSome, MatchOption, inl, inr, refl, sym, ◌∙◌, ap, subst, arith, length-append}
+use Rattle.std.proofs.Common.{◌≡◌, ◌⊎◌, ℕ, zero, suc, ◌+◌, ◌≤◌, List, [], ◌∷◌, ◌++◌, length, get_or, All, Option, Some, None, IfSome, IsSome, MatchOption, inl, inr, refl, sym, ◌∙◌, ap, subst, arith, length-append}
 use Rattle.afl_outside.specs.Counts.{Rose, risen}
-use Rattle.afl_outside.specs.Source.{IsNewSource, SourceState}
+use Rattle.afl_outside.specs.Source.{IsNewSource}
 use Rattle.afl_outside.specs.Sink.{IsNewSink, SinkState}
 use Rattle.afl_outside.specs.Shelf.{LeavesOthers, ShelfState}
 use Rattle.afl_in_memory.specs.InMemory.{Reading, sure_source_state, unread}
 use Rattle.afl_in_memory.specs.Inner.Records.{SureBytes, sure_disk_moment}
 use Rattle.afl_lexer.specs.Inner.Standing.{StandsAfter}
 use Rattle.run_stores.specs.Starts.{start_of}
-use Rattle.run_stores.specs.Began.{BeganOver, IsOpenedFrom}
+use Rattle.run_stores.specs.Began.{IsOpenedFrom}
 use Rattle.run_stores.specs.declared.closing.StoreRun.{StoreRun}
 use Rattle.run_opening.specs.Names.{standard}
 use Rattle.run_opening.specs.Opened.{FailsFor}
