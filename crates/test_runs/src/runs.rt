@@ -98,3 +98,12 @@ pub(crate) fn tell_workers(
     tell_over(rt, "run db --workers 1 -", script.as_slice())?;
     tell_over(rt, "run db --workers 8 -", script.as_slice())
 }
+
+/// Runs a script over a new database, where arrays are told as CSV.
+pub(crate) fn tell_csv(
+    rt: &(impl Print + AllocGlobal + Threads + Wait + Sync),
+    text: &[u8],
+) -> Result<()> {
+    let script = text_of(rt.alloc(), text)?;
+    tell_over(rt, "run db --format csv+ -", script.as_slice())
+}
