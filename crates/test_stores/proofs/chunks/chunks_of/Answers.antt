@@ -11,6 +11,8 @@ chunks_made-requires-then-reads_nothing-2 g c =
     let r = c.type_bounds.sync-R in
     let i = c.in-Insert in
     let e : c.args.change.now ≡ Insert i.name i.schema i.plan = cc in
-    let typed = subst (IsTypedFor c.args.names.now) e c.requires.typed in
-    (search sendable depth 20, λ target of. subst (λ change. CanBeMade change target) (sym e)
-    (insert_can_be_made c.args.names.now i.name i.schema i.plan target c.requires.stored typed (c.reads_nothing-in-Insert.ensures c.if-reads_nothing-2.true) of))
+    let typed = subst (IsTypedFor c.args.names.now) e c.requires.typed in (
+      search sendable depth 20,
+      λ target of. subst (λ change. CanBeMade change target) (sym e)
+          (insert_can_be_made c.args.names.now i.name i.schema i.plan target c.requires.stored typed (c.reads_nothing-in-Insert.ensures c.if-reads_nothing-2.true) of),
+    )
