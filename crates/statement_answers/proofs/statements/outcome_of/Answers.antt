@@ -17,13 +17,13 @@ outcome_of_typed-requires-clause-can g c κs within =
 
 pub returns-in-Ok-clause-kind : goal.returns-in-Ok-clause-kind
 returns-in-Ok-clause-kind g c =
-    kind_over c.args.names.now (check_of c.args.tree.now c.args.text.now c.args.names.now) (good c.in-Ok.typed) c.in-Ok.ensures c.outcome_of_typed.result c.outcome_of_typed.ensures.kind
+    kind_over c.args.names.now (check_of c.args.tree.now c.args.text.now c.args.names.now) (good c.in-Ok.typed) c.in-Ok.ensures c.args.style c.outcome_of_typed.result c.outcome_of_typed.ensures.kind
 
 pub returns-in-Ok-clause-told : goal.returns-in-Ok-clause-told
 returns-in-Ok-clause-told g c =
     let source = g.S.ChunkSource.state c.args.source.now in
-    over_names c.args.names.now source c.args.text.now c.args.tree.now c.outcome_of_typed.result
-    (told_over c.args.names.now (check_of c.args.tree.now c.args.text.now c.args.names.now) (good c.in-Ok.typed) c.in-Ok.ensures source c.outcome_of_typed.result c.outcome_of_typed.ensures.told)
+    over_names c.args.style c.args.names.now source c.args.text.now c.args.tree.now c.outcome_of_typed.result
+    (told_over c.args.names.now (check_of c.args.tree.now c.args.text.now c.args.names.now) (good c.in-Ok.typed) c.in-Ok.ensures c.args.style source c.outcome_of_typed.result c.outcome_of_typed.ensures.told)
 
 pub returns-in-Ok-clause-asked : goal.returns-in-Ok-clause-asked
 returns-in-Ok-clause-asked g c =
@@ -44,7 +44,7 @@ returns-in_ok-refuse-in-Err-Rule-clause-kind g c =
     let checked = check_of c.args.tree.now c.args.text.now c.args.names.now in
     let rule = c.in-Err-Rule in
     let is : checked ≡ broken_rule rule.span rule.kind = subst (λ (f : TypeFault). Answers {A = Typed} (Err f) checked) rule.field-0-is rule.ensures in
-    kind_over c.args.names.now checked (broken_rule rule.span rule.kind) is (Ok (Replied c.in_ok-refuse-in-Err-Rule.field-0)) (ap without_change c.in_ok-refuse-in-Err-Rule.ensures)
+    kind_over c.args.names.now checked (broken_rule rule.span rule.kind) is c.args.style (Ok (Replied c.in_ok-refuse-in-Err-Rule.field-0)) (ap without_change c.in_ok-refuse-in-Err-Rule.ensures)
 
 pub returns-in_ok-refuse-in-Err-Rule-clause-told : goal.returns-in_ok-refuse-in-Err-Rule-clause-told
 returns-in_ok-refuse-in-Err-Rule-clause-told g c =
@@ -52,8 +52,8 @@ returns-in_ok-refuse-in-Err-Rule-clause-told g c =
     let rule = c.in-Err-Rule in
     let is : checked ≡ broken_rule rule.span rule.kind = subst (λ (f : TypeFault). Answers {A = Typed} (Err f) checked) rule.field-0-is rule.ensures in
     let source = g.S.ChunkSource.state c.args.source.now in
-    over_names c.args.names.now source c.args.text.now c.args.tree.now (Ok (Replied c.in_ok-refuse-in-Err-Rule.field-0))
-    (told_over c.args.names.now checked (broken_rule rule.span rule.kind) is source (Ok (Replied c.in_ok-refuse-in-Err-Rule.field-0)) (λ db there. ap without_change (sym c.in_ok-refuse-in-Err-Rule.ensures)))
+    over_names c.args.style c.args.names.now source c.args.text.now c.args.tree.now (Ok (Replied c.in_ok-refuse-in-Err-Rule.field-0))
+    (told_over c.args.names.now checked (broken_rule rule.span rule.kind) is c.args.style source (Ok (Replied c.in_ok-refuse-in-Err-Rule.field-0)) (λ db there. ap without_change (sym c.in_ok-refuse-in-Err-Rule.ensures)))
 
 pub returns-in_ok-refuse-in-Err-Rule-clause-asked : goal.returns-in_ok-refuse-in-Err-Rule-clause-asked
 returns-in_ok-refuse-in-Err-Rule-clause-asked g c =
