@@ -1,5 +1,5 @@
 -- States of the cells that landed at each coordinate.
-use Rattle.std.proofs.Common.{◌≡◌, ℕ, zero, suc, ◌+◌, ◌<◌, ◌≤◌, ◌^◌, ℤ, max, Bool, true, false, cond, List, [], ◌∷◌, ◌++◌, map, filter, length, get_or, take, drop, Option, Some, None, Result, Ok, Err, refl, sym, ap, ◌∙◌, subst, arith, length-append}
+use Rattle.std.proofs.Common.{◌≡◌, ℕ, zero, suc, ◌+◌, ◌<◌, ◌≤◌, ◌^◌, ℤ, max, Bool, true, false, cond, List, [], ◌∷◌, ◌++◌, map, filter, length, get_or, take, drop, Option, Some, None, Ok, Err, refl, sym, ap, ◌∙◌, subst, arith}
 use Rattle.std.proofs.lemmas.List.{append-nil, append_assoc, map-append, take_more, take-append-drop}
 use Rattle.std.proofs.lemmas.List.Elements.{filter-append}
 use Rattle.std.specs.BTreeMap as tree
@@ -28,9 +28,8 @@ use Rattle.exec_group.specs.Sets.{unless_empty}
 use Rattle.exec_group.proofs.RowLemmas.{put_last, free_last, rising_left}
 use Rattle.exec_group.proofs.StateLaws.{cells_push}
 use Rattle.redimension_exec.specs.Inner.Counting.{by_numbers, has_counted}
-use Rattle.redimension_exec.specs.Inner.Grouping.{AreGroupsLanded, landed_sets}
+use Rattle.redimension_exec.specs.Inner.Grouping.{landed_sets}
 use Rattle.redimension_exec.specs.Inner.Taking.{HoldsStates, IsTaken, cells_kept, group_of, rows_in}
-use Rattle.redimension_exec.proofs.CountLaws.{is_equal}
 use Rattle.redimension_exec.proofs.GroupLaws.{at_rises, rising_landed}
 use Rattle.redimension_exec.proofs.LandingsGatherLaws.{landed_more, landed_breaks}
 

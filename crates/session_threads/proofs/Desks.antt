@@ -1,5 +1,5 @@
 -- Desks that are set up one by one, and emptied one by one.
-use Rattle.std.proofs.Common.{◌≡◌, ◌∙◌, ℕ, ◌+◌, ◌<◌, true, not, List, [], ◌∷◌, ◌++◌, length, take, drop, get_or, slice_get, Option, Some, refl, ap, sym, subst, arith, All}
+use Rattle.std.proofs.Common.{◌≡◌, ◌∙◌, ℕ, ◌+◌, ◌<◌, true, not, List, [], ◌∷◌, ◌++◌, length, take, drop, get_or, slice_get, Option, Some, refl, ap, sym, subst, arith, length-drop, All}
 use Rattle.std.specs.Prelude.{IsTrue}
 use Rattle.std.proofs.lemmas.List.{take_at}
 use Rattle.std.proofs.lemmas.List.Elements.{All-push}
@@ -25,6 +25,10 @@ use Rattle.session_threads.specs.Sessions.{AreOfSessions, AreSessionsOf, IsSessi
 use Rattle.session_threads.specs.Inner.Desks.{AllWorked, AreDone, AreEmptied, AreReady, AreSeated, HasEnded, HasServed, HasWorked, IsDone, IsReady, IsReaper, IsSeated, IsWaiting}
 use Rattle.session_threads.specs.declared.desk.Desk.{Desk}
 use Rattle.session_threads.specs.declared.desk.Desk.TheVariants.{Waiting, Working, Done}
+
+-- what is left behind a place of a list has a first item
+pub is_left : {A : Type 0} (all rest : List A) (n : ℕ) → rest ≡ drop n all → n < length all → 0 < length rest
+is_left all rest n e near = let k : length rest ≡ length (drop n all) = ap length e in omega (arith, k, length-drop n all, near)
 
 module _ {D : Type 0} (shared : Shared D) where
   pub new_at : (seats : List (Seat D)) (n : ℕ) (seat : Seat D) → AreNewSeats shared seats → slice_get seats n ≡ Some seat → IsNewSeat shared n seat

@@ -97,7 +97,8 @@ pub(crate) fn groups_in(
     alloc: Global,
     groups: BTreeMap<Coord, List<AggState>>,
 ) -> Result<Groups, Memory>
-    ensures groups { IfOk result (λ made. (gs : Items Aggregate) (all : Items Landed) → HoldsStates gs all groups → AreGroupsOf gs (landed_sets all) made.groups) }
+    ensures groups { IfOk result (λ made. (gs : Items Aggregate) (all : Items Landed) → HoldsStates gs all groups
+        → AreGroupsOf gs (landed_sets all) made.groups) }
     ensures cells { IfOk result (λ made. cells_in made.groups ≡ cells_kept groups.entries) }
 {
     let mut made = List::with_capacity(alloc, groups.len())?;
