@@ -11,7 +11,7 @@ use Rattle.session_sources.specs.Prepared.{MayBeMade}
 use Rattle.statement_answers.specs.declared.outcome.Outcome.TheVariants.{Changes}
 use Rattle.statement_answers.specs.Outcomes.{IsMadeOf}
 use Rattle.statement_replies.specs.declared.replies.Reply.{Reply as Told}
-use Rattle.statement_replies.specs.Style.{Style}
+use Rattle.statement_replies.specs.declared.style.Style.{Style}
 use Rattle.store_ledger.specs.Ledger.{is_noted, is_tried}
 use Rattle.store_state.specs.declared.event.Event.{Event}
 use Rattle.store_state.specs.Calls.{database_with}

@@ -9,7 +9,7 @@ use Rattle.session_sources.specs.Prepared.{MayBeMade}
 use Rattle.statement_answers.specs.declared.outcome.Outcome.TheVariants.{Changes}
 use Rattle.statement_answers.specs.Outcomes.{MayBeCommitted}
 use Rattle.statement_replies.specs.declared.replies.Reply.{Reply as Told}
-use Rattle.statement_replies.specs.Style.{Style}
+use Rattle.statement_replies.specs.declared.style.Style.{Style}
 use Rattle.store_ledger.specs.Ledger.{is_noted, is_tried}
 use Rattle.store_state.specs.Calls.{database_with}
 use Rattle.store_state.specs.Standings.{BeganAs}

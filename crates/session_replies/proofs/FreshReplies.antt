@@ -26,7 +26,7 @@ use Rattle.statement_replies.specs.declared.replies.Reply.{Reply as Told}
 use Rattle.statement_replies.specs.Reply.{cell_reply}
 use Rattle.statement_replies.specs.StatementKinds.{HasChangeKind, HasStatementKind}
 use Rattle.statement_replies.specs.Statements.{Accepted, accepted, change_reply, changed_or_broken, reply_to, reply_to_checked, text_alone, without_change}
-use Rattle.statement_replies.specs.Style.{Style}
+use Rattle.statement_replies.specs.declared.style.Style.{Style}
 use Rattle.store_state.specs.declared.event.Event.{Event}
 use Rattle.store_state.specs.Calls.{history_at}
 use Rattle.store_state.specs.Standings.{BeganAs}

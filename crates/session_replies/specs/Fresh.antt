@@ -7,7 +7,7 @@ use Rattle.plan_changes.specs.Databases.{Database, names_of}
 use Rattle.event_core.specs.History.{History}
 use Rattle.fresh_laws.specs.Fresh.{AreLeft, SameRoom}
 use Rattle.statement_replies.specs.declared.replies.Reply.{Reply as Told}
-use Rattle.statement_replies.specs.Style.{Style}
+use Rattle.statement_replies.specs.declared.style.Style.{Style}
 use Rattle.store_state.specs.declared.event.Event.{Event}
 use Rattle.store_state.specs.Calls.{database_with, history_at}
 use Rattle.store_state.specs.Standings.{BeganAs}

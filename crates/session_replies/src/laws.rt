@@ -3,7 +3,7 @@ ghost use Rattle.session_replies.specs.Fresh.{FreshChangesAreSaid};
 ghost use Rattle.session_replies.specs.Laws.{ActsJoin, OpenPinsAreEntered, PinsChangeNothing, RepliesStay};
 ghost use Rattle.session_replies.specs.Worked.{IsWorked};
 ghost use Rattle.session_replies.specs.WorkedReplies.{AreWorked};
-ghost use Rattle.statement_replies.specs.Style.{Style};
+ghost use Rattle.statement_replies.specs.declared.style.Style.{Style};
 
 use afl_outside::Disk;
 

@@ -23,7 +23,7 @@ use Rattle.session_outcomes.specs.Outcomes.{IsAllowed, MayFail}
 use Rattle.session_outcomes.proofs.Saying.{changes_refused}
 use Rattle.statement_replies.specs.declared.replies.Reply.{Reply as Told}
 use Rattle.statement_replies.specs.Reply.{refused}
-use Rattle.statement_replies.specs.Style.{Style}
+use Rattle.statement_replies.specs.declared.style.Style.{Style}
 use Rattle.session_outcomes.specs.Turn.{Turn}
 use Rattle.store_ledger.specs.declared.pinned.Pinned.{Pinned}
 use Rattle.store_ledger.specs.Ledger.{LedgerState, IsOpenPin, is_fault, is_noted}

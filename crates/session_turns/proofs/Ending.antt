@@ -20,7 +20,7 @@ use Rattle.store_state.specs.declared.parts.StoreParts.{StoreParts}
 use Rattle.store_state.specs.At.{standing, AreParts}
 use Rattle.store_state.specs.Events.{events, owner_of}
 use Rattle.store_state.specs.Standings.{Standing}
-use Rattle.statement_replies.specs.Style.{Style}
+use Rattle.statement_replies.specs.declared.style.Style.{Style}
 use Rattle.session_outcomes.specs.Growth.{IsCounted}
 use Rattle.session_outcomes.specs.Starts.{start_of}
 use Rattle.session_outcomes.proofs.Databases.{stores_have_databases}

@@ -20,7 +20,7 @@ use Rattle.session_outcomes.specs.Outcomes.{HasOutcomeKind, IsMadeOf, IsOutcomeO
 use Rattle.statement_replies.specs.declared.replies.Reply.{Reply as Told}
 use Rattle.statement_replies.specs.Reading.{HoldsVersions}
 use Rattle.statement_replies.specs.Statements.{reply_to}
-use Rattle.statement_replies.specs.Style.{Style}
+use Rattle.statement_replies.specs.declared.style.Style.{Style}
 use Rattle.session_outcomes.specs.Owners.{is_open_to}
 use Rattle.session_outcomes.specs.Turn.{Turn}
 use Rattle.store_ledger.specs.Ledger.{history, is_noted, is_tried}

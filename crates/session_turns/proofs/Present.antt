@@ -14,7 +14,7 @@ use Rattle.event_core.specs.History.{History, names_at, up_to}
 use Rattle.session_outcomes.specs.Outcome.{Outcome}
 use Rattle.session_outcomes.specs.Outcomes.{HasOutcomeKind, IsOutcomeOf, IsToldBy}
 use Rattle.statement_replies.specs.Statements.{reply_to}
-use Rattle.statement_replies.specs.Style.{Style}
+use Rattle.statement_replies.specs.declared.style.Style.{Style}
 use Rattle.session_outcomes.specs.Turn.{Turn}
 use Rattle.store_ledger.specs.Ledger.{history}
 use Rattle.store_state.specs.declared.event.Event.{Event}

@@ -6,7 +6,7 @@ use Rattle.result_print.specs.declared.refusal.Refusal.{Refusal}
 use Rattle.result_print.specs.declared.refusal.Refusal.TheVariants.{TooLong, Parse, HistoryFull, Typing, Cell, Disk, Damaged, SequenceEnd, Full, Memory}
 use Rattle.statement_replies.specs.declared.replies.Reply.{Reply as Told}
 use Rattle.statement_replies.specs.Reply.{refused}
-use Rattle.statement_replies.specs.Style.{Style}
+use Rattle.statement_replies.specs.declared.style.Style.{Style}
 use Rattle.session_outcomes.specs.Owners.{ExtendsByOwn}
 use Rattle.store_ledger.specs.Ledger.{is_fault, is_noted}
 use Rattle.store_state.specs.declared.event.Event.{Event}

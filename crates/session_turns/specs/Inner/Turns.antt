@@ -11,7 +11,7 @@ use Rattle.afl_types.specs.Checking.{check_of}
 use Rattle.session_outcomes.specs.Outcome.TheVariants.{Replied, Changes}
 use Rattle.session_outcomes.specs.Outcomes.{MayFail}
 use Rattle.statement_replies.specs.declared.replies.Reply.{Reply as Told}
-use Rattle.statement_replies.specs.Style.{Style}
+use Rattle.statement_replies.specs.declared.style.Style.{Style}
 use Rattle.session_sources.specs.Owners.{ExtendsByOwn}
 use Rattle.session_sources.specs.Turn.{Turn}
 use Rattle.store_state.specs.declared.parts.StoreParts.{StoreParts}
