@@ -68,9 +68,9 @@ is_broken : check_of tree [] alone ≡ broken_rule (at 7 8) UnknownArray
 unfolding tree alone entry at query_named change_named
 is_broken = refl
 
-is_refused : HasOutcomeKind alone (check_of tree [] alone) (Replied (refused (Typing (at 7 8) UnknownArray)))
+is_refused : (style : Style) → HasOutcomeKind style alone (check_of tree [] alone) (Replied (refused (Typing (at 7 8) UnknownArray)))
 unfolding tree alone entry at query_named change_named
-is_refused = refl
+is_refused style = refl
 
 -- versions(A)
 listing : Term

@@ -87,7 +87,9 @@ fn outcome_of_typed<S: ChunkSource, R: Threads + Sync, G: Gate>(
 {
     match typed {
         Typed::Query(plan) => {
-            let outcome = outcome_of_query(rt, alloc, &plan, names, source, style, workers, session, gate);
+            let outcome = outcome_of_query(
+                rt, alloc, &plan, names, source, style, workers, session, gate,
+            );
             let_go(plan);
             outcome
         }
@@ -134,7 +136,9 @@ pub fn outcome_of<S: ChunkSource, R: Threads + Sync, G: Gate>(
     ensures start { S.start source.new ≡ S.start source.old }
 {
     match check(alloc, tree, text, names) {
-        Ok(typed) => outcome_of_typed(rt, alloc, typed, names, source, style, workers, session, gate),
+        Ok(typed) => outcome_of_typed(
+            rt, alloc, typed, names, source, style, workers, session, gate,
+        ),
         Err(TypeFault::Rule { span, kind }) => {
             Ok(Outcome::Replied(refuse(alloc, Refusal::Typing { span, kind })?))
         }

@@ -1,10 +1,12 @@
-use Rattle.std.proofs.Common.{◌≡◌, Ok, Err, refl, sym, ap, subst}
+use Rattle.std.proofs.Common.{◌≡◌, ◌∙◌, Ok, Err, refl, sym, ap, subst}
 use Rattle.check_rules.specs.Checked.{Answers, Checked}
 use Rattle.check_rules.specs.Checked.{refused as broken_rule}
 use Rattle.check_rules.specs.declared.rules.fault.TypeFault.{TypeFault}
 use Rattle.afl_types.specs.Checking.{check_of}
 use Rattle.afl_types.specs.declared.statements.checking.Typed.{Typed}
 use Rattle.chunk_source.proofs.ReadLemmas.{asked_none, on_err}
+use Rattle.result_print.specs.declared.refusal.Refusal.TheVariants.{Typing}
+use Rattle.statement_replies.specs.Reply.{refused as told}
 use Rattle.statement_replies.specs.Statements.{without_change}
 use Rattle.statement_answers.specs.declared.outcome.Outcome.TheVariants.{Replied}
 use Rattle.statement_answers.specs.Outcomes.{leaves_read}
@@ -44,7 +46,7 @@ returns-in_ok-refuse-in-Err-Rule-clause-kind g c =
     let checked = check_of c.args.tree.now c.args.text.now c.args.names.now in
     let rule = c.in-Err-Rule in
     let is : checked ≡ broken_rule rule.span rule.kind = subst (λ (f : TypeFault). Answers {A = Typed} (Err f) checked) rule.field-0-is rule.ensures in
-    kind_over c.args.names.now checked (broken_rule rule.span rule.kind) is c.args.style (Ok (Replied c.in_ok-refuse-in-Err-Rule.field-0)) (ap without_change c.in_ok-refuse-in-Err-Rule.ensures)
+    kind_over c.args.names.now checked (broken_rule rule.span rule.kind) is c.args.style (Ok (Replied c.in_ok-refuse-in-Err-Rule.field-0)) (ap without_change (c.in_ok-refuse-in-Err-Rule.ensures ∙ (λ i. told (Typing (rule.span-is i) (rule.kind-is i)))))
 
 pub returns-in_ok-refuse-in-Err-Rule-clause-told : goal.returns-in_ok-refuse-in-Err-Rule-clause-told
 returns-in_ok-refuse-in-Err-Rule-clause-told g c =
@@ -53,7 +55,7 @@ returns-in_ok-refuse-in-Err-Rule-clause-told g c =
     let is : checked ≡ broken_rule rule.span rule.kind = subst (λ (f : TypeFault). Answers {A = Typed} (Err f) checked) rule.field-0-is rule.ensures in
     let source = g.S.ChunkSource.state c.args.source.now in
     over_names c.args.style c.args.names.now source c.args.text.now c.args.tree.now (Ok (Replied c.in_ok-refuse-in-Err-Rule.field-0))
-    (told_over c.args.names.now checked (broken_rule rule.span rule.kind) is c.args.style source (Ok (Replied c.in_ok-refuse-in-Err-Rule.field-0)) (λ db there. ap without_change (sym c.in_ok-refuse-in-Err-Rule.ensures)))
+    (told_over c.args.names.now checked (broken_rule rule.span rule.kind) is c.args.style source (Ok (Replied c.in_ok-refuse-in-Err-Rule.field-0)) (λ db there. ap without_change (sym (c.in_ok-refuse-in-Err-Rule.ensures ∙ (λ i. told (Typing (rule.span-is i) (rule.kind-is i)))))))
 
 pub returns-in_ok-refuse-in-Err-Rule-clause-asked : goal.returns-in_ok-refuse-in-Err-Rule-clause-asked
 returns-in_ok-refuse-in-Err-Rule-clause-asked g c =
