@@ -8,7 +8,6 @@ use Rattle.statement_answers.specs.declared.outcome.Outcome.TheVariants.{Replied
 use Rattle.statement_replies.specs.declared.replies.Reply.{Reply as Told}
 use Rattle.statement_replies.specs.StatementKinds.{HasChangeKind, HasStatementKind}
 use Rattle.statement_replies.specs.Statements.{Accepted, accepted}
-use Rattle.statement_replies.specs.declared.style.Style.{Style}
 use Rattle.session_replies.specs.Replies.{names_before}
 use Rattle.session_outcomes.specs.Said.{OutcomesAreSaid}
 
