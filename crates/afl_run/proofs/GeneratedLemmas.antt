@@ -1,14 +1,14 @@
 -- What a run of a script that was made reports.
-use Rattle.std.proofs.Common.{◌≡◌, ◌⊎◌, ℕ, zero, suc, ◌+◌, ◌<◌, ◌≤◌, List, [], ◌∷◌, ◌++◌, length, get_or, All, Option, Some, None, IfSome, IsSome, MatchOption, inl, inr, refl, sym, ◌∙◌, ap, subst, arith}
+use Rattle.std.proofs.Common.{◌≡◌, ◌⊎◌, ℕ, zero, suc, ◌+◌, ◌≤◌, List, [], ◌∷◌, ◌++◌, length, get_or, All, Option, Some, None, IfSome, IsSome, MatchOption, inl, inr, refl, sym, ◌∙◌, ap, subst, arith, length-append}
 use Rattle.afl_outside.specs.Counts.{Rose, risen}
-use Rattle.afl_outside.specs.Source.{IsNewSource, SourceState}
+use Rattle.afl_outside.specs.Source.{IsNewSource}
 use Rattle.afl_outside.specs.Sink.{IsNewSink, SinkState}
 use Rattle.afl_outside.specs.Shelf.{LeavesOthers, ShelfState}
 use Rattle.afl_in_memory.specs.InMemory.{Reading, sure_source_state, unread}
 use Rattle.afl_in_memory.specs.Inner.Records.{SureBytes, sure_disk_moment}
 use Rattle.afl_lexer.specs.Inner.Standing.{StandsAfter}
 use Rattle.run_stores.specs.Starts.{start_of}
-use Rattle.run_stores.specs.Began.{BeganOver, IsOpenedFrom}
+use Rattle.run_stores.specs.Began.{IsOpenedFrom}
 use Rattle.run_stores.specs.declared.closing.StoreRun.{StoreRun}
 use Rattle.run_opening.specs.Names.{standard}
 use Rattle.run_opening.specs.Opened.{FailsFor}
@@ -24,7 +24,7 @@ use Rattle.store_state.specs.Standings.{Standing}
 use Rattle.session_threads.specs.Sessions.{IsSessionOf}
 use Rattle.afl_run.specs.Generate.{IsGenerated, RunsGenerate, listed}
 use Rattle.afl_run.specs.OneHistory.{IsOneHistory}
-use Rattle.afl_run.specs.Run.{IsOfAnswers}
+use Rattle.afl_run.specs.Run.{IsOfAnswers, plain}
 use Rattle.afl_run.specs.Inner.Making.{IsEmpty}
 use Rattle.afl_run.specs.Inner.Over.{IsUnrun, RunsOver}
 use Rattle.afl_run.proofs.StandardLemmas.{IsOfDisk, answers_all, began_empty, none_there, never_fails, only_memory}
@@ -36,12 +36,8 @@ popped None xs ys matched few = matched.0
 popped (Some x) xs [] matched few = matched
 popped (Some x) xs (y ∷ ys) matched few =
     let many : length xs ≡ suc (length (ys ++ x ∷ [])) = ap length matched in
-    let some : 1 ≤ length (ys ++ x ∷ []) = at_least ys in
+    let sizes : length (ys ++ x ∷ []) ≡ length ys + 1 = length-append ys (x ∷ []) in
     absurd (let none : ⊥ = omega arith in none)
-  where
-    at_least : (zs : List _) → 1 ≤ length (zs ++ x ∷ [])
-    at_least [] = omega arith
-    at_least (z ∷ zs) = let more : 1 ≤ length (zs ++ x ∷ []) = at_least zs in omega arith
 
 -- where the standard output isn't opened, nothing is told of the disk
 unopened_otherwise : (told : Notice) (name : Option (List ℕ)) (old now : ShelfState) → (told ≡ notices.Memory) ⊎ FailsFor 0 name told old now → IsOfDisk told → ⊥
@@ -110,7 +106,7 @@ module _ {K : Type 0} (sink_state : K → SinkState) (old now : ShelfState) (oth
       one = λ ran. absurd (ran refl);
     }
 
-    module _ (end : Standing SureBytes) (over : RunsOver sure_disk_moment sure_source_state sink_state disk limits (own ∷ []) end run) where
+    module _ (end : Standing SureBytes) (over : RunsOver plain sure_disk_moment sure_source_state sink_state disk limits (own ∷ []) end run) where
       -- what the store was opened from
       found_over : IfSome (sure_disk_moment end.opened.disk).state.seen (λ file. IsOpenedFrom 65536 file (start_of end))
       found_over = subst (λ (n : ℕ). IfSome (sure_disk_moment end.opened.disk).state.seen (λ file. IsOpenedFrom n file (start_of end))) pages_given
@@ -120,8 +116,8 @@ module _ {K : Type 0} (sink_state : K → SinkState) (old now : ShelfState) (oth
       generated_of : (report : SessionReport Reading K) → run.sessions ≡ report ∷ []
           → IsGenerated old script (sure_source_state report.source) (sink_state report.sink)
       generated_of report is =
-          let session : IsSessionOf sure_disk_moment sure_source_state sink_state (start_of end) 0 own report (events end) =
-          subst (λ (rs : List (SessionReport Reading K)). IsSessionOf sure_disk_moment sure_source_state sink_state (start_of end) 0 own (get_or rs 0 report) (events end)) is
+          let session : IsSessionOf plain sure_disk_moment sure_source_state sink_state (start_of end) 0 own report (events end) =
+          subst (λ (rs : List (SessionReport Reading K)). IsSessionOf plain sure_disk_moment sure_source_state sink_state (start_of end) 0 own (get_or rs 0 report) (events end)) is
           (over.runs.each 0 own report (omega arith)) in
           let gives = session.serves.gives in
           let takes = session.serves.takes in
@@ -139,8 +135,8 @@ module _ {K : Type 0} (sink_state : K → SinkState) (old now : ShelfState) (oth
           let none : length run.sessions ≡ 0 = ap length is in
           absurd (omega (arith, many, none))
       over_of (Some report) is =
-          let one : IsOneHistory sure_disk_moment sure_source_state sink_state run.sessions run.notice run.history run.free_pages end =
-          one_history sure_disk_moment sure_source_state sink_state (own ∷ []) fresh disk limits run end over in
+          let one : IsOneHistory plain sure_disk_moment sure_source_state sink_state run.sessions run.notice run.history run.free_pages end =
+          one_history plain sure_disk_moment sure_source_state sink_state (own ∷ []) fresh disk limits run end over in
           let database = began_empty sure_disk_moment disk limits end over.opened empty in
           record {
             opened = generated_of report is;
@@ -160,7 +156,7 @@ module _ {K : Type 0} (sink_state : K → SinkState) (old now : ShelfState) (oth
                 (calm_all report calm)) over.runs.told;
             one = λ ran. (
               end,
-              subst (λ (rs : List (SessionReport Reading K)). IsOneHistory sure_disk_moment sure_source_state sink_state rs run.notice run.history run.free_pages end) is one,
+              subst (λ (rs : List (SessionReport Reading K)). IsOneHistory plain sure_disk_moment sure_source_state sink_state rs run.notice run.history run.free_pages end) is one,
               record {
                 database = database;
                 found = found_over;
@@ -178,14 +174,14 @@ module _ {K : Type 0} (sink_state : K → SinkState) (old now : ShelfState) (oth
           calm_all report calm zero d within = (still report, calm)
           calm_all report calm (suc k) d within = absurd (omega (arith, within))
 
-    pub generates_ran : IsUnrun sure_disk_moment disk run ⊎ ((end : Standing SureBytes) × RunsOver sure_disk_moment sure_source_state sink_state disk limits (own ∷ []) end run)
+    pub generates_ran : IsUnrun sure_disk_moment disk run ⊎ ((end : Standing SureBytes) × RunsOver plain sure_disk_moment sure_source_state sink_state disk limits (own ∷ []) end run)
         → (g : Option (SessionReport Reading K)) → run.sessions ≡ listed g
         → RunsGenerate sure_disk_moment sure_source_state sink_state old now run.notice run.history g run.free_pages script
     generates_ran ran g is = elim ran [ inl unrun ↦ unrun_of unrun g is | inr over ↦ over_of over.0 over.1 g is ]
 
 -- at most one session ran
 pub few_sessions : {K : Type 0} (sink_state : K → SinkState) (disk : SureBytes) (limits : Limits) (own : Streams Reading K) (run : StoreRun SureBytes Reading K)
-    → IsUnrun sure_disk_moment disk run ⊎ ((end : Standing SureBytes) × RunsOver sure_disk_moment sure_source_state sink_state disk limits (own ∷ []) end run)
+    → IsUnrun sure_disk_moment disk run ⊎ ((end : Standing SureBytes) × RunsOver plain sure_disk_moment sure_source_state sink_state disk limits (own ∷ []) end run)
     → length run.sessions ≤ 1
 few_sessions sink_state disk limits own run ran = elim ran [
   | inl unrun ↦ let none : length run.sessions ≡ 0 = ap length unrun.none in omega (arith, none)
@@ -193,8 +189,8 @@ few_sessions sink_state disk limits own run ran = elim ran [
 ]
 
 pub begun_alone : {S K : Type 0} (own : Streams S K) (streams : List (Streams S K)) → streams ≡ own ∷ [] → StandsAfter [] own.splitter → All (λ each. StandsAfter [] each.splitter) streams
-begun_alone own streams is begun = subst (λ (all : List (Streams _ _)). All (λ each. StandsAfter [] each.splitter) all) (sym is) alone where
-  alone : All (λ each. StandsAfter [] each.splitter) (own ∷ [])
+begun_alone {S = S} {K = K} own streams is begun = subst (λ (all : List (Streams S K)). All (λ each. StandsAfter [] each.splitter) all) (sym is) alone where
+  alone : All (λ (each : Streams S K). StandsAfter [] each.splitter) (own ∷ [])
   alone zero d within = begun
   alone (suc k) d within = absurd (omega (arith, within))
 

@@ -23,7 +23,7 @@ use Rattle.session_reports.specs.Outcomes.{notice_by as told_by, notice_of}
 use Rattle.session_reports.specs.declared.reports.SessionReport.{SessionReport}
 use Rattle.session_reports.specs.declared.reports.Streams.{Streams}
 use Rattle.afl_run.specs.OneHistory.{HasCause}
-use Rattle.afl_run.specs.Run.{IsOfAnswers, RunsTry}
+use Rattle.afl_run.specs.Run.{IsOfAnswers, RunsTry, plain}
 use Rattle.afl_run.specs.Inner.Making.{IsEmpty, Makes}
 use Rattle.afl_run.specs.Inner.Over.{IsUnrun, RunsOver}
 use Rattle.afl_run.proofs.StreamsLemmas.{leaves_same, one_history, opened_fresh, reports_opened, zip_length}
@@ -209,19 +209,19 @@ module _ {S K : Type 0} (source_state : S → SourceState) (sink_state : K → S
       one = λ ran. absurd (ran unrun.none);
     }
 
-    tries_over : (end : Standing SureBytes) → RunsOver sure_disk_moment source_state sink_state disk limits streams end run
+    tries_over : (end : Standing SureBytes) → RunsOver plain sure_disk_moment source_state sink_state disk limits streams end run
         → RunsTry sure_disk_moment source_state sink_state old now run.notice run.history run.sessions run.free_pages
     tries_over end over =
         let many : length run.sessions ≡ length streams = over.runs.count in
         let all : length streams ≡ 1 = zip_length (IsOpenedFor source_state sink_state old) (standard ∷ []) streams opened in
-        let one = one_history sure_disk_moment source_state sink_state streams (opened_fresh sure_disk_moment source_state sink_state old (standard ∷ []) streams opened) disk limits run end over in
+        let one = one_history plain sure_disk_moment source_state sink_state streams (opened_fresh plain sure_disk_moment source_state sink_state old (standard ∷ []) streams opened) disk limits run end over in
         let database = began_empty sure_disk_moment disk limits end over.opened empty in
         record {
           first = λ is. let none : length run.sessions ≡ 0 = ap length is in absurd (omega (arith, many, all, none));
           disk = λ is. never_fails end one.causes is;
           damaged = λ page is. one.causes.damaged page is [] database;
           complete = λ script reply calm. answers_all run.sessions run.notice end one.causes [] database calm over.runs.told;
-          opened = inr (reports_opened sure_disk_moment source_state sink_state old (standard ∷ []) streams opened (start_of end) run.sessions end over.runs.count over.runs.each);
+          opened = inr (reports_opened plain sure_disk_moment source_state sink_state old (standard ∷ []) streams opened (start_of end) run.sessions end over.runs.count over.runs.each);
           others = others;
           handed = record {
             replies = 1;
@@ -243,7 +243,7 @@ module _ {S K : Type 0} (source_state : S → SourceState) (sink_state : K → S
           );
         }
 
-    pub tries_ran : IsUnrun sure_disk_moment disk run ⊎ ((end : Standing SureBytes) × RunsOver sure_disk_moment source_state sink_state disk limits streams end run)
+    pub tries_ran : IsUnrun sure_disk_moment disk run ⊎ ((end : Standing SureBytes) × RunsOver plain sure_disk_moment source_state sink_state disk limits streams end run)
         → RunsTry sure_disk_moment source_state sink_state old now run.notice run.history run.sessions run.free_pages
     tries_ran ran = elim ran [ inl unrun ↦ tries_unrun unrun | inr over ↦ tries_over over.0 over.1 ]
 

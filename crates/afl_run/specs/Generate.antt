@@ -13,7 +13,7 @@ use Rattle.session_reports.specs.declared.reports.SessionReport.{SessionReport}
 use Rattle.session_reports.specs.declared.notices.Notice.{Notice}
 use Rattle.session_reports.specs.declared.notices.Notice.TheVariants as notices
 use Rattle.afl_run.specs.OneHistory.{IsOneHistory}
-use Rattle.afl_run.specs.Run.{BeganEmpty, HandsOutStreams, IsOfAnswers, TellsSessions}
+use Rattle.afl_run.specs.Run.{BeganEmpty, HandsOutStreams, IsOfAnswers, TellsSessions, plain}
 
 -- the report, if there is one
 abbrev pub listed : {A : Type 0} → Option A → List A
@@ -31,7 +31,7 @@ pub record IsGenerated (shelf : ShelfState) (script : List ℕ) (source : Source
 pub record RunsGenerate {D S K : Type 0} (moment : D → Moment) (source_state : S → SourceState) (sink_state : K → SinkState) (old new : ShelfState)
     (notice : Notice) (history : List Entry) (generated : Option (SessionReport S K)) (free : ℕ) (script : List ℕ) : Type 0 where
   pub opened : IfSome generated (λ report. IsGenerated old script (source_state report.source) (sink_state report.sink))
-  -- nothing else was asked for
+  -- no other name was asked for
   pub others : LeavesOthers standard old new
   pub handed : HandsOutStreams 0 1 (length (listed generated)) old new
   pub none : generated ≡ None → (history ≡ []) × (free ≡ 0) × ((notice ≡ notices.Memory) ⊎ FailsFor 0 (old.replies standard) notice old new)
@@ -41,5 +41,5 @@ pub record RunsGenerate {D S K : Type 0} (moment : D → Moment) (source_state :
   pub damaged : (page : ℕ) → notice ≢ notices.Damaged page
   -- where the shelf tells that it opens the standard output, and no count of it rose, the script was answered, but for memory
   pub complete : IsSome (old.replies standard) → IfSome generated (λ report. Rose 0 (sink_state report.sink).faults → ⊥) → IsOfAnswers notice
-  pub one : generated ≢ None → (store : Standing D) × IsOneHistory moment source_state sink_state (listed generated) notice history free store
+  pub one : generated ≢ None → (store : Standing D) × IsOneHistory plain moment source_state sink_state (listed generated) notice history free store
       × BeganEmpty moment store

@@ -1,5 +1,5 @@
 //! One session over an empty database in memory, whose script is made here.
-ghost use Rattle.std.specs.Prelude.{◌≡◌, ◌≤◌, ◌⊎◌, ℕ, [], ◌∷◌, IfOk, List, None, length, vec_capacity};
+ghost use Rattle.std.specs.Prelude.{◌≡◌, ◌≤◌, ◌⊎◌, ℕ, [], ◌∷◌, IfOk, List, length, vec_capacity};
 ghost use Rattle.afl_lexer.specs.Inner.Standing.{StandsAfter};
 ghost use Rattle.afl_in_memory.specs.InMemory.{sure_source_state, unread};
 ghost use Rattle.afl_in_memory.specs.Inner.Records.{SureBytes, sure_disk_moment};
@@ -9,10 +9,11 @@ ghost use Rattle.store_state.specs.Standings.{Standing};
 ghost use Rattle.afl_run.specs.Generate.{RunsGenerate, listed};
 ghost use Rattle.afl_run.specs.Inner.Making.{IsEmpty};
 ghost use Rattle.afl_run.specs.Inner.Over.{IsUnrun, RunsOver};
+ghost use Rattle.afl_run.specs.Run.{plain};
 
 use crate::over::run_over;
 use crate::report::{Report, unrun};
-use crate::standard::{LIMITS, empty_database};
+use crate::standard::{LIMITS, PLAIN, empty_database};
 use afl_in_memory::{SureDisk, SureSource};
 use afl_lexer::Splitter;
 use afl_outside::{Gate, Shelf, Sink};
@@ -21,6 +22,7 @@ use generated_script::script_of;
 use run_opening::open_reply;
 use run_stores::StoreRun;
 use session_reports::{Notice, Streams, status};
+use session_threads::Options;
 use std::alloc::Global;
 use std::sync::Wait;
 use std::thread::Threads;
@@ -34,7 +36,7 @@ struct Prepared<K> {
     room: Vec<Streams<SureSource, K>>,
 }
 
-fn prepared<K: Drop>(alloc: Global, number: u32) -> Result<Prepared<K>, Memory>
+fn prepare<K: Drop>(alloc: Global, number: u32) -> Result<Prepared<K>, Memory>
     ensures disk { IfOk result (λ made. IsEmpty (sure_disk_moment made.disk)) }
     ensures source { IfOk result (λ made. made.source ≡ unread (script number)) }
     ensures splitter { IfOk result (λ made. StandsAfter [] made.splitter) }
@@ -65,7 +67,7 @@ pub(crate) fn run_generate<F: Shelf, R: Threads + Wait + Sync, G: Gate>(
     ensures runs { RunsGenerate sure_disk_moment sure_source_state F.K.state (F.state shelf) (F.state result.shelf) result.notice result.history
         result.generated result.free_pages (script number) }
 {
-    match prepared(alloc, number) {
+    match prepare(alloc, number) {
         Ok(made) => run_prepared(rt, alloc, made, workers, shelf, gate),
         Err(Memory) => unrun(alloc, Notice::Memory, None, shelf),
     }
@@ -116,7 +118,7 @@ fn run_on_sink<K: Sink + Send + Drop, R: Threads + Wait + Sync, G: Gate>(
     requires none { made.room.items ≡ [] }
     requires room { 1 ≤ vec_capacity made.room }
     ensures run { IsUnrun sure_disk_moment made.disk result
-        ⊎ ((end : Standing SureBytes) × RunsOver sure_disk_moment sure_source_state K.state made.disk LIMITS
+        ⊎ ((end : Standing SureBytes) × RunsOver plain sure_disk_moment sure_source_state K.state made.disk LIMITS
         (record { source = made.source; sink = sink; splitter = made.splitter } ∷ []) end result) }
     ensures few { length result.sessions ≤ 1 }
 {
@@ -124,22 +126,34 @@ fn run_on_sink<K: Sink + Send + Drop, R: Threads + Wait + Sync, G: Gate>(
         disk,
         source,
         splitter,
-        mut room,
+        room,
     } = made;
-    room.push_reserved(Streams {
+    let streams = streams_in(room, source, sink, splitter);
+    let options = Options {
+        workers,
+        style: PLAIN,
+    };
+    run_over(rt, alloc, disk, LIMITS, options, streams, gate)
+}
+
+/// The streams of the session, in the room that is there for them.
+fn streams_in<K: Drop>(
+    room: Vec<Streams<SureSource, K>>,
+    source: SureSource,
+    sink: K,
+    splitter: Splitter,
+) -> List<Streams<SureSource, K>>
+    requires none { room.items ≡ [] }
+    requires room { 1 ≤ vec_capacity room }
+    ensures { result ≡ record { source = source; sink = sink; splitter = splitter } ∷ [] }
+{
+    let mut streams = room;
+    streams.push_reserved(Streams {
         source,
         sink,
         splitter,
     });
-    run_over(
-        rt,
-        alloc,
-        disk,
-        LIMITS,
-        workers,
-        List::from_vec(room),
-        gate,
-    )
+    List::from_vec(streams)
 }
 
 fn report_of<F: Shelf>(

@@ -16,12 +16,18 @@ use command_words::Arg;
 use run_opening::open_streams;
 use run_stores::{Limits, StoreRun};
 use session_reports::{Notice, status};
+use session_threads::{Options, Style};
 use std::alloc::Global;
 use std::sync::Wait;
 use std::thread::Threads;
 
-/// How many threads compute a statement.
-const WORKERS: u32 = 4;
+/// How replies are printed where the words don't say so.
+pub(crate) const PLAIN: Style = Style { csv: false };
+
+const OPTIONS: Options = Options {
+    workers: 4,
+    style: PLAIN,
+};
 
 pub(crate) const LIMITS: Limits = Limits {
     pages: 65_536,
@@ -88,7 +94,7 @@ fn run_standard<F: Shelf, R: Threads + Wait + Sync, G: Gate>(
     let mut shelf = shelf;
     match open_streams(alloc, names, &mut shelf) {
         Ok(streams) => {
-            let run = run_over(rt, alloc, disk, LIMITS, WORKERS, streams, gate);
+            let run = run_over(rt, alloc, disk, LIMITS, OPTIONS, streams, gate);
             report_of(run, shelf)
         }
         Err(notice) => unrun(alloc, notice, None, shelf),

@@ -1,5 +1,5 @@
 //! The top call.
-ghost use Rattle.std.specs.Prelude.{◌≡◌, ◌<◌, ◌↔◌, ℕ, [], ◌∷◌, Some, codes, drop, length, slice_get};
+ghost use Rattle.std.specs.Prelude.{◌≡◌, ◌<◌, ◌↔◌, ℕ, Bool, [], ◌∷◌, Some, codes, drop, length, slice_get};
 ghost use Rattle.command_words.specs.Faults.{IsFault};
 ghost use Rattle.command_words.specs.Forms.{IsGenerate, IsInit, IsRun};
 ghost use Rattle.session_reports.specs.Notice.{status_of};
@@ -18,6 +18,7 @@ use afl_outside::{Gate, Shelf};
 use command_words::{Arg, Form, form_of};
 use run_stores::Limits;
 use session_reports::Notice;
+use session_threads::{Options, Style};
 use std::alloc::Global;
 use std::sync::Wait;
 use std::thread::Threads;
@@ -40,8 +41,8 @@ pub fn run<F: Shelf, R: Threads + Wait + Sync, G: Gate>(
     ensures nothing { (word : ℕ) → result.notice ≡ Notice.Usage word
         → (result.sessions ≡ []) × (result.history ≡ []) × (result.free_pages ≡ 0) × (result.disk ≡ None) }
 
-    ensures runs { (workers pages history first : ℕ) (run : IsRun words.now workers pages history first)
-        → RunsScripts F.Device.moment F.S.state F.K.state (F.state shelf) (F.state result.shelf) result.notice result.history result.sessions
+    ensures runs { (workers pages history : ℕ) (csv : Bool) (first : ℕ) (run : IsRun words.now workers pages history csv first)
+        → RunsScripts (record { csv = csv }) F.Device.moment F.S.state F.K.state (F.state shelf) (F.state result.shelf) result.notice result.history result.sessions
         result.free_pages run.device run.scripts pages history result.disk }
     ensures tries { words.now ≡ codes "try" ∷ []
         → RunsTry sure_disk_moment F.S.state F.K.state (F.state shelf) (F.state result.shelf) result.notice result.history result.sessions result.free_pages }
@@ -69,13 +70,16 @@ pub fn run<F: Shelf, R: Threads + Wait + Sync, G: Gate>(
                 workers,
                 pages,
                 history,
+                csv,
                 scripts,
             },
         ) => {
             let limits = Limits { pages, history };
+            let style = Style { csv };
+            let options = Options { workers, style };
             let target = word_at(words, device);
             let listed = words_from(words, scripts);
-            run_scripts(rt, alloc, target, listed, limits, workers, shelf, gate)
+            run_scripts(rt, alloc, target, listed, limits, options, shelf, gate)
         }
         Ok(Form::Generate { number, workers }) => {
             run_generate(rt, alloc, number, workers, shelf, gate)

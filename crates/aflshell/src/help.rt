@@ -7,7 +7,8 @@ use afl_run::Arg;
 const HELP: &str = "\
 usage: aflshell try
        aflshell init DB
-       aflshell run DB [--workers N] [--pages N] [--history N] SCRIPT..
+       aflshell run DB [--workers N] [--pages N] [--history N]
+                [--format csv+] SCRIPT..
        aflshell generate N [--workers N]
 
   try        answers the statements of standard input on standard output,
@@ -23,6 +24,7 @@ usage: aflshell try
   --workers  so many threads may compute a statement, 1 to 64 (4)
   --pages    at most so many pages of 4096 bytes, 16 to 1048576 (65536)
   --history  at most so many entries of history, 16 to 1048576 (1048576)
+  --format   with csv+ each reply to a query is printed as records of CSV
 
 A statement is an AFL query or a change. A ';' stands between statements, and
 the last one needs none. Types are int64, string and bool.

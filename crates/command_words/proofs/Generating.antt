@@ -7,8 +7,8 @@ use Rattle.std.proofs.lemmas.Bool.{cond_both}
 use Rattle.command_words.specs.declared.forms.Form.{Form}
 use Rattle.command_words.specs.declared.forms.Form.TheVariants.{Try, Init, Run, Generate}
 use Rattle.command_words.specs.declared.settings.RunOption.TheVariants.{Workers}
-use Rattle.command_words.specs.Forms.{Word, IsForm, is_script_number, is_setting_number, workers_said, workers_words}
-use Rattle.command_words.specs.Inner.Reading.{by_script_number, by_workers, number_of, read_generate, read_workers, script_number}
+use Rattle.command_words.specs.Forms.{Word, IsForm, is_script_number, may_say, workers_said, workers_words}
+use Rattle.command_words.specs.Inner.Reading.{by_script_number, by_workers, number_within, read_generate, read_workers, script_number}
 use Rattle.command_words.proofs.Names.{same_bytes}
 use Rattle.command_words.proofs.Places.{Judged, judged_step, missing, refused}
 use Rattle.command_words.proofs.Heads.{same_head, same_tail, unlike}
@@ -31,14 +31,14 @@ record GenerateTail (words : List Word) (form : Form) : Type 0 where
   given : Option Word
   spelled : words ≡ digits ∷ workers_words given
   fits : is_script_number digits ≡ true
-  in_range : IfSome given (λ said. is_setting_number Workers said ≡ true)
+  in_range : IfSome given (λ said. may_say Workers said ≡ true)
   is : form ≡ Generate (digits_value 10 digits) (workers_said given)
 
 generate_tail : (words : List Word) (form : Form) → IsForm (codes "generate" ∷ words) form → GenerateTail words form
 generate_tail words Try is = absurd (unlike (codes "generate") (codes "try") refl (verb_is (codes "generate") words Try is))
 generate_tail words (Init device) is = absurd (unlike (codes "generate") (codes "init") refl (verb_is (codes "generate") words (Init device) is))
-generate_tail words (Run device workers pages history scripts) is =
-    absurd (unlike (codes "generate") (codes "run") refl (verb_is (codes "generate") words (Run device workers pages history scripts) is))
+generate_tail words (Run device workers pages history csv scripts) is =
+    absurd (unlike (codes "generate") (codes "run") refl (verb_is (codes "generate") words (Run device workers pages history csv scripts) is))
 generate_tail words (Generate number workers) is = record {
   digits = is.digits;
   given = is.given;
@@ -52,7 +52,7 @@ module _ (digits : Word) (fits : is_script_number digits ≡ true) where
   alone : IsForm (codes "generate" ∷ digits ∷ []) (Generate (digits_value 10 digits) 4)
   alone = record { digits = digits; given = None; spelled = refl; fits = fits; in_range = tt; number_given = refl; workers_given = refl }
 
-  told : (said : Word) → is_setting_number Workers said ≡ true
+  told : (said : Word) → may_say Workers said ≡ true
       → IsForm (codes "generate" ∷ digits ∷ codes "--workers" ∷ said ∷ []) (Generate (digits_value 10 digits) (digits_value 10 said))
   told said within = record { digits = digits; given = Some said; spelled = refl; fits = fits; in_range = within; number_given = refl; workers_given = refl }
 
@@ -83,12 +83,12 @@ record Says (digits name : Word) (rest : List Word) (form : Form) : Type 0 where
   said : Word
   named : name ≡ codes "--workers"
   spelled : rest ≡ said ∷ []
-  within : is_setting_number Workers said ≡ true
+  within : may_say Workers said ≡ true
   is : form ≡ Generate (digits_value 10 digits) (digits_value 10 said)
 
 says : (digits name : Word) (rest : List Word) (form : Form) → IsForm (codes "generate" ∷ digits ∷ name ∷ rest) form → Says digits name rest form
 says digits name rest form is = by (generate_tail (digits ∷ name ∷ rest) form is) where
-  of : (given : Option Word) → name ∷ rest ≡ workers_words given → IfSome given (λ said. is_setting_number Workers said ≡ true)
+  of : (given : Option Word) → name ∷ rest ≡ workers_words given → IfSome given (λ said. may_say Workers said ≡ true)
       → form ≡ Generate (digits_value 10 digits) (workers_said given) → Says digits name rest form
   of None spelled within made = absurd (let no : ⊥ = cc in no)
   of (Some said) spelled within made = record {
@@ -112,11 +112,11 @@ module _ (digits : Word) (fits : is_script_number digits ≡ true) where
   no_number : (name : Word) (form : Form) → IsForm (codes "generate" ∷ digits ∷ name ∷ []) form → ⊥
   no_number name form is = let s : Says digits name [] form = says digits name [] form is in let none : [] ≡ s.said ∷ [] = s.spelled in cc
 
-  wrong_number : (name said : Word) → is_setting_number Workers said ≡ false → (rest : List Word) (form : Form)
+  wrong_number : (name said : Word) → may_say Workers said ≡ false → (rest : List Word) (form : Form)
       → IsForm (codes "generate" ∷ digits ∷ name ∷ said ∷ rest) form → ⊥
   wrong_number name said wrong rest form is =
       let s : Says digits name (said ∷ rest) form = says digits name (said ∷ rest) form is in
-      true≢false (sym (ap (is_setting_number Workers) (same_head said s.said rest [] s.spelled) ∙ s.within) ∙ wrong)
+      true≢false (sym (ap (may_say Workers) (same_head said s.said rest [] s.spelled) ∙ s.within) ∙ wrong)
 
   no_more : (name said word : Word) (rest : List Word) (form : Form) → IsForm (codes "generate" ∷ digits ∷ name ∷ said ∷ word ∷ rest) form → ⊥
   no_more name said word rest form is =
@@ -129,22 +129,22 @@ module _ (digits : Word) (fits : is_script_number digits ≡ true) where
       s.is ∙ ap (λ (w : Word). Generate (digits_value 10 digits) (digits_value 10 w)) (sym (same_head said s.said [] [] s.spelled))
 
   module _ (name : Word) (named : bytes_eq name (codes "--workers") ≡ true) where
-    told_so : (said : Word) → is_setting_number Workers said ≡ true
+    told_so : (said : Word) → may_say Workers said ≡ true
         → IsForm (codes "generate" ∷ digits ∷ name ∷ said ∷ []) (Generate (digits_value 10 digits) (digits_value 10 said))
     told_so said within =
         subst (λ (w : Word). IsForm (codes "generate" ∷ digits ∷ w ∷ said ∷ []) (Generate (digits_value 10 digits) (digits_value 10 said)))
         (sym (same_bytes name (codes "--workers") named)) (told digits fits said within)
 
-    end_judged : (said : Word) → is_setting_number Workers said ≡ true → (words : List Word)
+    end_judged : (said : Word) → may_say Workers said ≡ true → (words : List Word)
         → Judged 4 (λ rest. IsForm (codes "generate" ∷ digits ∷ name ∷ said ∷ rest)) words (by_workers (digits_value 10 digits) (Some (digits_value 10 said)) words)
     end_judged said within [] = (told_so said within, only_said name said)
     end_judged said within (word ∷ words) =
         refused 4 (λ rest. IsForm (codes "generate" ∷ digits ∷ name ∷ said ∷ rest)) word words (no_more name said word) [] (Generate (digits_value 10 digits) (digits_value 10 said)) (told_so said within)
 
     said_judged : (said : Word) (words : List Word)
-        → Judged 3 (λ rest. IsForm (codes "generate" ∷ digits ∷ name ∷ rest)) (said ∷ words) (by_workers (digits_value 10 digits) (number_of Workers said) words)
-    said_judged said words = by (number_of Workers said) (number_tells Workers said) where
-      by : (n : Option ℕ) → NumberTells Workers said n
+        → Judged 3 (λ rest. IsForm (codes "generate" ∷ digits ∷ name ∷ rest)) (said ∷ words) (by_workers (digits_value 10 digits) (number_within 1 64 said) words)
+    said_judged said words = by (number_within 1 64 said) (number_tells 1 64 said) where
+      by : (n : Option ℕ) → NumberTells 1 64 said n
           → Judged 3 (λ rest. IsForm (codes "generate" ∷ digits ∷ name ∷ rest)) (said ∷ words) (by_workers (digits_value 10 digits) n words)
       by None wrong = refused 3 (λ rest. IsForm (codes "generate" ∷ digits ∷ name ∷ rest)) said words (wrong_number name said wrong) (codes "4" ∷ [])
           (Generate (digits_value 10 digits) 4) (told_so (codes "4") refl)
@@ -161,9 +161,9 @@ module _ (digits : Word) (fits : is_script_number digits ≡ true) where
       (missing 3 (λ rest. IsForm (codes "generate" ∷ digits ∷ name ∷ rest)) (no_number name) (codes "4" ∷ []) (Generate (digits_value 10 digits) 4) (told_so name named (codes "4") refl)))
       (λ differs. refused 2 (λ rest. IsForm (codes "generate" ∷ digits ∷ rest)) name [] (named_else name differs) [] (Generate (digits_value 10 digits) 4) (alone digits fits))
   workers_judged (name ∷ said ∷ words) =
-      cond_both (bytes_eq name (codes "--workers")) (by_workers (digits_value 10 digits) (number_of Workers said) words) (Err 2)
+      cond_both (bytes_eq name (codes "--workers")) (by_workers (digits_value 10 digits) (number_within 1 64 said) words) (Err 2)
       (λ (r : Result Form ℕ). Judged 2 (λ rest. IsForm (codes "generate" ∷ digits ∷ rest)) (name ∷ said ∷ words) r)
-      (λ named. judged_step 2 (λ rest. IsForm (codes "generate" ∷ digits ∷ rest)) name (said ∷ words) (by_workers (digits_value 10 digits) (number_of Workers said) words)
+      (λ named. judged_step 2 (λ rest. IsForm (codes "generate" ∷ digits ∷ rest)) name (said ∷ words) (by_workers (digits_value 10 digits) (number_within 1 64 said) words)
       (said_judged name named said words))
       (λ differs. refused 2 (λ rest. IsForm (codes "generate" ∷ digits ∷ rest)) name (said ∷ words) (named_else name differs) [] (Generate (digits_value 10 digits) 4) (alone digits fits))
 

@@ -8,7 +8,7 @@ use Rattle.std.specs.Str.Parse.{digits_value}
 use Rattle.command_words.specs.declared.forms.Form.{Form}
 use Rattle.command_words.specs.declared.forms.Form.TheVariants.{Try, Init, Run, Generate}
 use Rattle.command_words.specs.declared.settings.RunOption.{RunOption}
-use Rattle.command_words.specs.declared.settings.RunOption.TheVariants.{Pages, History, Workers}
+use Rattle.command_words.specs.declared.settings.RunOption.TheVariants.{Pages, History, Workers, Format}
 
 abbrev pub Word : Type 0
 Word = List ℕ
@@ -21,52 +21,42 @@ is_dashed word = bytes_eq (take 2 word) (codes "--")
 abbrev pub is_number : Word → Bool
 is_number word = nat_le 1 (length word) && nat_le (length word) 10 && list_all is_ascii_digit word
 
--- An option is two words: its name, and a number in its range.
+-- An option is two words: its name, and what is said of it.
 pub record Setting : Type 0 where
   pub option : RunOption
-  pub number : Word
+  pub said : Word
 
 abbrev pub option_word : RunOption → Word
 option_word Pages = codes "--pages"
 option_word History = codes "--history"
 option_word Workers = codes "--workers"
+option_word Format = codes "--format"
 
 abbrev pub setting_words : Setting → List Word
-setting_words setting = option_word setting.option ∷ setting.number ∷ []
+setting_words setting = option_word setting.option ∷ setting.said ∷ []
 
--- the range of its number
-abbrev pub least : RunOption → ℕ
-least Pages = 16
-least History = 16
-least Workers = 1
+abbrev pub is_number_within : ℕ → ℕ → Word → Bool
+is_number_within least most word = is_number word && nat_le least (digits_value 10 word) && nat_le (digits_value 10 word) most
 
-abbrev pub most : RunOption → ℕ
-most Pages = 1048576
-most History = 1048576
-most Workers = 64
+-- what may be said of an option: a number in its range, or the one format
+abbrev pub may_say : RunOption → Word → Bool
+may_say Pages said = is_number_within 16 1048576 said
+may_say History said = is_number_within 16 1048576 said
+may_say Workers said = is_number_within 1 64 said
+may_say Format said = bytes_eq said (codes "csv+")
 
-abbrev pub is_setting_number : RunOption → Word → Bool
-is_setting_number option number = is_number number && nat_le (least option) (digits_value 10 number) && nat_le (digits_value 10 number) (most option)
+abbrev pub is_right : Setting → Bool
+is_right setting = may_say setting.option setting.said
 
-abbrev pub is_in_range : Setting → Bool
-is_in_range setting = is_setting_number setting.option setting.number
-
+-- options are told by their names
 abbrev pub is_option : RunOption → RunOption → Bool
-is_option Pages Pages = true
-is_option History History = true
-is_option Workers Workers = true
-is_option Pages History = false
-is_option Pages Workers = false
-is_option History Pages = false
-is_option History Workers = false
-is_option Workers Pages = false
-is_option Workers History = false
+is_option one other = bytes_eq (option_word one) (option_word other)
 
 -- the number of an option, or the other one where the option isn't there
 abbrev pub number_in : RunOption → ℕ → List Setting → ℕ
 number_in option other [] = other
 number_in option other (setting ∷ settings) =
-    if is_option option setting.option then digits_value 10 setting.number else number_in option other settings
+    if is_option option setting.option then digits_value 10 setting.said else number_in option other settings
 
 -- A script takes its own name and that of its reply. The reply of the script `-` is named `-` too.
 abbrev pub script_names : Word → List Word
@@ -80,13 +70,16 @@ abbrev pub are_different : List Word → Bool
 are_different [] = true
 are_different (name ∷ names) = not (list_any (bytes_eq name) names) && are_different names
 
--- `run DB OPTION.. SCRIPT..`: its numbers, and the place of its first script
-pub record IsRun (words : List Word) (workers pages history first : ℕ) : Type 0 where
+abbrev pub is_there : RunOption → List Setting → Bool
+is_there option settings = list_any (λ setting. is_option option setting.option) settings
+
+-- `run DB OPTION.. SCRIPT..`: its numbers, whether its arrays are records of CSV, and the place of its first script
+pub record IsRun (words : List Word) (workers pages history : ℕ) (csv : Bool) (first : ℕ) : Type 0 where
   pub device : Word
   pub settings : List Setting
   pub scripts : List Word
   pub spelled : words ≡ codes "run" ∷ device ∷ (flat_map setting_words settings ++ scripts)
-  pub in_range : list_all is_in_range settings ≡ true
+  pub right : list_all is_right settings ≡ true
   pub once : (option : RunOption) → count_by (λ setting. is_option option setting.option) settings ≤ 1
   pub some : 1 ≤ length scripts
   pub most : length scripts ≤ 16
@@ -95,6 +88,7 @@ pub record IsRun (words : List Word) (workers pages history first : ℕ) : Type 
   pub workers_given : workers ≡ number_in Workers 4 settings
   pub pages_given : pages ≡ number_in Pages 65536 settings
   pub history_given : history ≡ number_in History 1048576 settings
+  pub csv_given : csv ≡ is_there Format settings
   pub place : first ≡ 2 + 2 * length settings
 
 -- `init DB`
@@ -122,7 +116,7 @@ pub record IsGenerate (words : List Word) (number workers : ℕ) : Type 0 where
   pub given : Option Word
   pub spelled : words ≡ codes "generate" ∷ digits ∷ workers_words given
   pub fits : is_script_number digits ≡ true
-  pub in_range : IfSome given (λ said. is_setting_number Workers said ≡ true)
+  pub in_range : IfSome given (λ said. may_say Workers said ≡ true)
   pub number_given : number ≡ digits_value 10 digits
   pub workers_given : workers ≡ workers_said given
 
@@ -130,5 +124,5 @@ pub record IsGenerate (words : List Word) (number workers : ℕ) : Type 0 where
 abbrev pub IsForm : List Word → Form → Type 0
 IsForm words Try = words ≡ codes "try" ∷ []
 IsForm words (Init device) = (device ≡ 1) × IsInit words
-IsForm words (Run device workers pages history scripts) = (device ≡ 1) × IsRun words workers pages history scripts
+IsForm words (Run device workers pages history csv scripts) = (device ≡ 1) × IsRun words workers pages history csv scripts
 IsForm words (Generate number workers) = IsGenerate words number workers

@@ -7,7 +7,7 @@ ghost use Rattle.command_words.specs.Inner.Reading.{read_settings, read_try, rea
 
 use crate::arg::Arg;
 use crate::scripts::{is_dashed, wrong_script};
-use crate::settings::{RunOption, Settings, number_of, script_number};
+use crate::settings::{MAX_WORKERS, Settings, number_within, script_number};
 
 /// A form of words. Each `device` and `scripts` is a place among the words, from 0.
 #[derive(Clone, Copy, Debug)]
@@ -18,12 +18,14 @@ pub enum Form {
     Init {
         device: usize,
     },
-    /// `run DB OPTION.. SCRIPT..`, with the places of DB and of the first SCRIPT. All words from there on are scripts.
+    /// `run DB OPTION.. SCRIPT..`, with the places of DB and of the first SCRIPT. All words from there on are scripts. Its arrays
+    /// are records of CSV where `csv` says so.
     Run {
         device: usize,
         workers: u32,
         pages: u32,
         history: u32,
+        csv: bool,
         scripts: usize,
     },
     /// `generate N` or `generate N --workers N`
@@ -107,9 +109,9 @@ fn read_settings(device: &str, words: &[Arg], settings: Settings) -> Result<Form
             None => read_scripts(device, settings, words),
             Some(option) => match rest {
                 [] => Err(settings.place() + 1),
-                [number, rest @ ..] => match number_of(option, number.as_str()) {
+                [said, rest @ ..] => match settings.with(option, said.as_str()) {
                     None => Err(settings.place() + 1),
-                    Some(number) => read_settings(device, rest, settings.with(option, number)),
+                    Some(next) => read_settings(device, rest, next),
                 },
             },
         },
@@ -133,6 +135,7 @@ fn run_of(settings: Settings) -> Form
         workers: settings.workers.unwrap_or(DEFAULT_WORKERS),
         pages: settings.pages.unwrap_or(DEFAULT_PAGES),
         history: settings.history.unwrap_or(DEFAULT_HISTORY),
+        csv: settings.csv,
         scripts: settings.place() as usize,
     }
 }
@@ -160,7 +163,7 @@ fn read_workers(number: u32, words: &[Arg]) -> Result<Form, u32>
         }),
         [name, ..] if name.as_str() != "--workers" => Err(2),
         [_] => Err(3),
-        [_, said, rest @ ..] => match number_of(RunOption::Workers, said.as_str()) {
+        [_, said, rest @ ..] => match number_within(1, MAX_WORKERS, said.as_str()) {
             None => Err(3),
             Some(workers) if rest.is_empty() => Ok(Form::Generate { number, workers }),
             Some(_) => Err(4),

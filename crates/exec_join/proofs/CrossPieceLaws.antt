@@ -1,5 +1,5 @@
 -- Cross joins chunk by chunk.
-use Rattle.std.proofs.Common.{◌≡◌, ℕ, zero, suc, ◌+◌, ◌-◌, ◌/◌, ◌<◌, ◌≤◌, ◌^◌, ℤ, pos, ◌-ℤ◌, ◌≤ℤ◌, Bool, true, false, cond, ◌&&◌, ◌||◌, ◌⊎◌, inl, inr, List, [], ◌∷◌, ◌++◌, map, length, take, drop, Option, Some, None, refl, sym, ap, ◌∙◌, subst, arith, add-one, length-append, length-drop, length-take}
+use Rattle.std.proofs.Common.{◌≡◌, ℕ, zero, suc, ◌+◌, ◌/◌, ◌<◌, ◌≤◌, ℤ, pos, ◌-ℤ◌, ◌≤ℤ◌, Bool, true, false, cond, ◌&&◌, ◌||◌, ◌⊎◌, inl, inr, List, [], ◌∷◌, ◌++◌, map, length, take, drop, Option, Some, None, refl, sym, ap, ◌∙◌, subst, arith, add-one, length-append, length-drop, length-take}
 use Rattle.std.proofs.lemmas.Bool.{eqb-true}
 use Rattle.std.proofs.lemmas.Cmp.{tied_itself}
 use Rattle.std.proofs.lemmas.Int.{ints}
@@ -24,7 +24,7 @@ use Rattle.array_rows.proofs.RowSets.{IsRising-rows_where}
 use Rattle.array_geom.specs.declared.chunk.Chunk.{Chunk}
 use Rattle.array_geom.specs.declared.chunk.ChunkedArray.{ChunkedArray}
 use Rattle.array_geom.specs.Geometry.{ChunkNumber, chunk_of, core, has_core}
-use Rattle.array_geom.specs.Link.{NumbersRise, core_rows, has_cell, is_listed, is_not_empty, number_order}
+use Rattle.array_geom.specs.Link.{NumbersRise, has_cell, is_listed, is_not_empty, number_order}
 use Rattle.array_geom.specs.Inner.Ranges.{AreNear}
 use Rattle.array_geom.proofs.CoreLaws.{core_of}
 use Rattle.array_geom.proofs.NearLemmas.{valid_placed}
@@ -39,7 +39,7 @@ use Rattle.chunk_cells.proofs.SortedLaws.{all_listed}
 use Rattle.area_cells.specs.Pieces.{IsPartAt}
 use Rattle.logical_plan.specs.declared.parts.Pair.{Pair}
 use Rattle.logical_plan.specs.BoxOps.{items_but}
-use Rattle.logical_plan.specs.Joins.{agree, cell_beside, cross_at, cross_rows, right_places}
+use Rattle.logical_plan.specs.Joins.{agree, cross_at, cross_rows, right_places}
 use Rattle.logical_plan.specs.PlanSchema.{cross_schema, free_names, renamed_dimension}
 use Rattle.exec_box.specs.Inner.Reached.{AddsPicks, HaveCores}
 use Rattle.exec_box.proofs.MovedLaws.{all_where}

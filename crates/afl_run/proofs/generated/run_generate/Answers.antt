@@ -1,4 +1,4 @@
-use Rattle.std.proofs.Common.{[], None, inl, refl}
+use Rattle.std.proofs.Common.{[], None}
 use Rattle.generated_script.specs.Script.{script}
 use Rattle.session_reports.specs.declared.notices.Notice.TheVariants.{Memory}
 use Rattle.afl_run.proofs.GeneratedLemmas.{generated_reported, generates_not}

@@ -1,12 +1,6 @@
-use Rattle.std.proofs.Common.{ℕ, List, [], ◌∷◌, Option, None, Some, inr, refl}
-use Rattle.afl_outside.specs.Shelf.{ShelfState}
-use Rattle.afl_in_memory.specs.InMemory.{Reading, sure_source_state}
-use Rattle.afl_in_memory.specs.Inner.Records.{sure_disk_moment}
-use Rattle.event_core.specs.declared.entry.Entry.{Entry}
-use Rattle.session_reports.specs.declared.notices.Notice.{Notice}
-use Rattle.session_reports.specs.declared.reports.SessionReport.{SessionReport}
+use Rattle.std.proofs.Common.{[], None, inr, refl}
+use Rattle.afl_in_memory.specs.InMemory.{Reading}
 use Rattle.session_reports.specs.declared.reports.Streams.{Streams}
-use Rattle.afl_run.specs.Generate.{RunsGenerate}
 use Rattle.afl_run.proofs.GeneratedLemmas.{generated_reported, generates_nothing, generates_ran}
 use Rattle.afl_run.proofs.generated.run_prepared.Goals as goal
 

@@ -1,10 +1,8 @@
-use Rattle.std.proofs.Common.{◌≡◌, List, length, rules, sym, ap, ◌∙◌, subst}
+use Rattle.std.proofs.Common.{List, sym, ap, ◌∙◌, subst}
 use Rattle.cell_values.specs.declared.schema.Bounds.{Bounds}
 use Rattle.array_rows.specs.Boxes.{corners, within}
-use Rattle.array_rows.specs.Rows.{Coordinate}
 use Rattle.array_geom.specs.declared.chunk.Chunk.{Chunk}
 use Rattle.array_geom.specs.Link.{core_rows}
-use Rattle.array_parts.specs.Cores.{cores_of}
 use Rattle.chunk_cells.specs.Whole.{CoresRise}
 use Rattle.chunk_cells.proofs.MergeLaws.{if_ok}
 use Rattle.exec_join.proofs.ArraysCrossLaws.{cross_room, few_pairs}
