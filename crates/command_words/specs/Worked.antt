@@ -95,7 +95,7 @@ right_words =
     ∷ right (run_with (codes "--workers" ∷ codes "64" ∷ codes "--pages" ∷ codes "16" ∷ codes "a" ∷ [])) (Run 1 64 16 1048576 false 6)
     ∷ right (run_with (codes "--format" ∷ codes "csv+" ∷ codes "a" ∷ [])) (Run 1 4 65536 1048576 true 4)
     ∷ right (run_with (codes "--pages" ∷ codes "16" ∷ codes "--format" ∷ codes "csv+" ∷ codes "--workers" ∷ codes "2" ∷ codes "a" ∷ []))
-        (Run 1 2 16 1048576 true 8)
+    (Run 1 2 16 1048576 true 8)
     ∷ right (codes "generate" ∷ codes "7" ∷ []) (Generate 7 4)
     ∷ right (codes "generate" ∷ codes "7" ∷ codes "--workers" ∷ codes "8" ∷ []) (Generate 7 8)
     ∷ right (codes "generate" ∷ codes "4294967295" ∷ []) (Generate 4294967295 4)

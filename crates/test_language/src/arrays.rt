@@ -18,18 +18,17 @@ fn row_at(alloc: Global, at: i64, text: &[u8]) -> Result<Row, Memory> {
 }
 
 /// Cells with the parts of a text between each `|`, from coordinate 0 on.
-fn rows_in(alloc: Global, text: &[u8]) -> Result<List<Row>, Memory> {
+fn rows_in(alloc: Global, text: &str) -> Result<List<Row>, Memory> {
     let mut rows = List::new(alloc);
-    let mut at = 0;
-    for part in text.split(|byte| *byte == b'|') {
-        rows.push(row_at(alloc, at, part)?)?;
-        at += 1;
+    for part in text.split('|') {
+        let at = i64::try_from(rows.len()).unwrap_or(0);
+        rows.push(row_at(alloc, at, part.as_bytes())?)?;
     }
     Ok(rows)
 }
 
 /// Adds both texts of the array of these cells.
-pub(crate) fn push_cells(out: &mut String, text: &[u8]) -> Result<()> {
+pub(crate) fn push_cells(out: &mut String, text: &str) -> Result<()> {
     let alloc = *out.allocator();
     let Some(schema) = schema_in(alloc, b"<v:string>[i=0:*,10,0]") else {
         return Ok(());

@@ -64,7 +64,10 @@ fn push_answer(out: &mut String, line: &str) -> Result<()> {
             let (from, text) = rest.split_once(' ').unwrap_or((rest, ""));
             push_read(out, from, script_of(alloc, text)?.as_slice())
         }
-        Some(("cells", cells)) => push_cells(out, script_of(alloc, cells)?.as_slice()),
+        Some(("cells", cells)) => push_cells(
+            out,
+            from_utf8(script_of(alloc, cells)?.as_slice()).unwrap_or(""),
+        ),
         Some(("array", array)) => push_array(out, array),
         Some(("list", arrays)) => push_list(out, arrays),
         Some(("refusal", refusal)) => push_refusal(out, refusal),
