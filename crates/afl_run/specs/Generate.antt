@@ -31,7 +31,7 @@ pub record IsGenerated (shelf : ShelfState) (script : List ℕ) (source : Source
 pub record RunsGenerate {D S K : Type 0} (moment : D → Moment) (source_state : S → SourceState) (sink_state : K → SinkState) (old new : ShelfState)
     (notice : Notice) (history : List Entry) (generated : Option (SessionReport S K)) (free : ℕ) (script : List ℕ) : Type 0 where
   pub opened : IfSome generated (λ report. IsGenerated old script (source_state report.source) (sink_state report.sink))
-  -- nothing else was asked for
+  -- no other name was asked for
   pub others : LeavesOthers standard old new
   pub handed : HandsOutStreams 0 1 (length (listed generated)) old new
   pub none : generated ≡ None → (history ≡ []) × (free ≡ 0) × ((notice ≡ notices.Memory) ⊎ FailsFor 0 (old.replies standard) notice old new)

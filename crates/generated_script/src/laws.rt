@@ -1,7 +1,7 @@
 //! A script at work.
 ghost use Rattle.generated_script.specs.Worked.{WorkedScript};
 
-/// The query that the script for 7 builds its array with.
+/// The script for 7.
 pub fn worked_script()
     ensures { WorkedScript }
 {}
