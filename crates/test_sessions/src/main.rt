@@ -23,7 +23,10 @@ use std::time::Clock;
 use test_kit::{begin_answer, input};
 
 /// Prints a line with what comes of it.
-fn tell_line<R: Print + AllocGlobal + Threads + Wait + Clock + Sync>(rt: &R, line: &str) -> Result<()> {
+fn tell_line<R: Print + AllocGlobal + Threads + Wait + Clock + Sync>(
+    rt: &R,
+    line: &str,
+) -> Result<()> {
     let mut out = String::new(rt.alloc());
     let is_case = begin_answer(&mut out, line)?;
     print!(rt; "{out}")?;
