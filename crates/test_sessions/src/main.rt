@@ -5,9 +5,10 @@
 //! and a script that is run after them. Each of the three runs reopens the file that the one before has left.
 //!
 //! The order is a list of stops, as `0p2`: session 0 comes to its statement 2, before its pin (`s`), behind it (`p`), or with its result
-//! computed (`c`). A session that comes to a stop which is named goes on once all stops before it in the list are behind their sessions. A stop
-//! that is named twice is reached at the first place, and left at the second. In a script `{3 show(A#);}` is that text three times, with 0 to 2
-//! for `#`. A line that begins with `##` is a title.
+//! computed (`c`); or, as `0w2`, to piece 2 of the work on a statement. A session or a worker that comes to a stop which is named goes on
+//! once all stops before it in the list are behind their sessions. A stop that is named twice is reached at the first place, and left at
+//! the second. Where a session is held too long all stops are let go; it is told where the order wasn't kept. In a script `{3 show(A#);}`
+//! is that text three times, with 0 to 2 for `#`. A line that begins with `##` is a title.
 #![tactic(auto)]
 
 mod order;
@@ -18,10 +19,14 @@ use anyhow::Result;
 use runs::tell_case;
 use std::sync::Wait;
 use std::thread::Threads;
+use std::time::Clock;
 use test_kit::{begin_answer, input};
 
 /// Prints a line with what comes of it.
-fn tell_line<R: Print + AllocGlobal + Threads + Wait + Sync>(rt: &R, line: &str) -> Result<()> {
+fn tell_line<R: Print + AllocGlobal + Threads + Wait + Clock + Sync>(
+    rt: &R,
+    line: &str,
+) -> Result<()> {
     let mut out = String::new(rt.alloc());
     let is_case = begin_answer(&mut out, line)?;
     print!(rt; "{out}")?;

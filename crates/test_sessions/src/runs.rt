@@ -11,6 +11,7 @@ use std::alloc::{AllocError, Global};
 use std::str::from_utf8;
 use std::sync::Wait;
 use std::thread::Threads;
+use std::time::Clock;
 
 fn file_of(alloc: Global, name: &str, content: &[u8]) -> Result<MemFile, Memory> {
     Ok(MemFile {
@@ -141,7 +142,7 @@ fn tell_after<R: Print + AllocGlobal + Threads + Wait + Sync>(
 }
 
 /// Runs a case: its scripts side by side, in its order, and then the last one.
-pub(crate) fn tell_case<R: Print + AllocGlobal + Threads + Wait + Sync>(
+pub(crate) fn tell_case<R: Print + AllocGlobal + Threads + Wait + Clock + Sync>(
     rt: &R,
     parts: &[&str],
 ) -> Result<()> {
@@ -161,6 +162,9 @@ pub(crate) fn tell_case<R: Print + AllocGlobal + Threads + Wait + Sync>(
         &gate,
     )?;
     tell_report(rt, &report)?;
+    if !gate.is_kept() {
+        println!(rt; "not in this order")?;
+    }
     let file = file_after(rt.alloc(), &report)?;
     tell_after(rt, file.as_slice(), after)
 }
