@@ -4,13 +4,14 @@ use crate::streams::{database_of, device_of, shelf_of};
 use crate::told::{image_of, tell, tell_replies};
 use afl_in_memory::MemShelf;
 use afl_outside::OpenGate;
-use afl_run::{Arg, Report, run};
+use afl_run::{Arg, Report};
 use anyhow::Result;
 use cell_values::{Bytes, Memory};
 use std::alloc::{AllocError, Global};
 use std::str::from_utf8;
 use std::sync::Wait;
 use std::thread::Threads;
+use test_calls::run_words;
 use test_kit::text_of;
 
 /// The words of a command line.
@@ -33,7 +34,10 @@ pub(crate) fn tell_script(
     let words = words_of(alloc, "try")?;
     let script = text_of(alloc, text)?;
     let shelf = shelf_of(alloc, script.as_slice(), reads, writes)?;
-    tell(rt, &run(rt, alloc, words.as_slice(), shelf, &OpenGate))
+    tell(
+        rt,
+        &run_words(rt, alloc, words.as_slice(), shelf, &OpenGate),
+    )
 }
 
 /// Runs these words over an empty script.
@@ -44,7 +48,10 @@ pub(crate) fn tell_words(
     let alloc = rt.alloc();
     let words = words_of(alloc, from_utf8(text).unwrap_or(""))?;
     let shelf = shelf_of(alloc, b"", &[], &[])?;
-    tell(rt, &run(rt, alloc, words.as_slice(), shelf, &OpenGate))
+    tell(
+        rt,
+        &run_words(rt, alloc, words.as_slice(), shelf, &OpenGate),
+    )
 }
 
 /// Runs `init db` over a device of so many zero bytes, whose listed calls fail.
@@ -56,7 +63,10 @@ pub(crate) fn tell_device(
     let alloc = rt.alloc();
     let words = words_of(alloc, "init db")?;
     let shelf = device_of(alloc, length, fails)?;
-    tell(rt, &run(rt, alloc, words.as_slice(), shelf, &OpenGate))
+    tell(
+        rt,
+        &run_words(rt, alloc, words.as_slice(), shelf, &OpenGate),
+    )
 }
 
 /// The bytes of the device that a run has left.
@@ -72,7 +82,7 @@ fn new_database(rt: &(impl AllocGlobal + Threads + Wait + Sync)) -> Result<Bytes
     let alloc = rt.alloc();
     let words = words_of(alloc, "init db")?;
     let shelf = device_of(alloc, 0, &[])?;
-    let report = run(rt, alloc, words.as_slice(), shelf, &OpenGate);
+    let report = run_words(rt, alloc, words.as_slice(), shelf, &OpenGate);
     Ok(file_after(alloc, &report)?)
 }
 
@@ -86,7 +96,10 @@ fn tell_over(
     let words = words_of(alloc, line)?;
     let database = new_database(rt)?;
     let shelf = database_of(alloc, database.as_slice(), script)?;
-    tell_replies(rt, &run(rt, alloc, words.as_slice(), shelf, &OpenGate))
+    tell_replies(
+        rt,
+        &run_words(rt, alloc, words.as_slice(), shelf, &OpenGate),
+    )
 }
 
 /// Runs a script over a new database with one worker, and over another one with eight.

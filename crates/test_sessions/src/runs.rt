@@ -4,7 +4,7 @@ use crate::order::Ordered;
 use crate::scripts::script_of;
 use afl_in_memory::{MemDisk, MemFile, MemShelf};
 use afl_outside::{Gate, OpenGate};
-use afl_run::{Arg, Report, SessionEnd, notice_line, run};
+use afl_run::{Arg, Report, SessionEnd, notice_line};
 use anyhow::Result;
 use cell_values::{Bytes, List, Memory};
 use std::alloc::{AllocError, Global};
@@ -12,6 +12,7 @@ use std::str::from_utf8;
 use std::sync::Wait;
 use std::thread::Threads;
 use std::time::Clock;
+use test_calls::run_words;
 
 fn file_of(alloc: Global, name: &str, content: &[u8]) -> Result<MemFile, Memory> {
     Ok(MemFile {
@@ -64,7 +65,7 @@ fn report_of<R: AllocGlobal + Threads + Wait + Sync, G: Gate>(
     let texts: Vec<&str> = line.split_whitespace().collect(alloc)?;
     let words = words_of(alloc, texts.as_slice())?;
     let shelf = shelf_of(alloc, file, scripts)?;
-    Ok(run(rt, alloc, words.as_slice(), shelf, gate))
+    Ok(run_words(rt, alloc, words.as_slice(), shelf, gate))
 }
 
 /// The file that a device has at the end.
