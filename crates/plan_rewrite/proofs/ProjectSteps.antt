@@ -28,7 +28,8 @@ use Rattle.logical_plan.specs.Typing.{IsTyped, is_over, is_null_alone, are_below
 use Rattle.logical_plan.proofs.SchemaLaws.{meaning_schema, typed_valid}
 use Rattle.plan_rewrite.specs.Inner.Trimmed.{kept, relocated}
 use Rattle.plan_rewrite.specs.Inner.Wide.{IsWide, AreWide}
-use Rattle.plan_rewrite.specs.Same.{HasArrays, IsSame}
+use Rattle.plan_needs.specs.Sufficient.{HasArrays}
+use Rattle.plan_rewrite.specs.Same.{IsSame}
 use Rattle.plan_rewrite.proofs.ItemPlaces.{kept-map, relocated-map, relocated_below, all_kept, items_kept, values_kept, items_picked, index_picked, picked_below, length_picked}
 use Rattle.plan_rewrite.proofs.ValidLess.{valid_less}
 

@@ -1,5 +1,5 @@
 -- A plan in place of a source of another plan.
-use Rattle.std.proofs.Common.{◌≡◌, ℕ, Bool, List, [], ◌∷◌, ◌++◌, length, refl, sym, ap, ◌∙◌, subst}
+use Rattle.std.proofs.Common.{◌≡◌, ℕ, Bool, List, ◌++◌, length, refl, sym, ap, ◌∙◌, subst}
 use Rattle.std.specs.Prelude.{◌&&◌, IsTrue}
 use Rattle.std.specs.List.{AllByRecursion}
 use Rattle.cell_values.specs.declared.schema.Bounds.{Bounds}
@@ -24,9 +24,10 @@ use Rattle.logical_plan.specs.Meaning.{Database, meaning, version_rows, made, ma
 use Rattle.logical_plan.specs.PlanSchema.{schema_of, apply_schema, project_schema, subarray_schema, slice_schema, regrid_schema, window_schema, aggregate_schema, join_schema, cross_schema}
 use Rattle.logical_plan.specs.Query.{Query, filtered, applied, projected, between, subarray, sliced, joined, crossed, redimensioned, regridded, windowed, aggregated}
 use Rattle.logical_plan.specs.Typing.{is_over, fits_apply, are_below, are_apart, is_box_of, same_bounds, pairs_dimensions, redimensions, are_blocks_of, are_aggregates_of, are_windows_of}
-use Rattle.plan_rewrite.specs.Needs.{is_scan, needs}
-use Rattle.plan_rewrite.specs.Same.{HasArrays, IsSame}
-use Rattle.plan_rewrite.specs.Sides.{whole, of_between, of_subarray, of_slice, of_left, of_right, of_regrid, of_aggregate, of_window}
+use Rattle.plan_needs.specs.Needs.{is_scan, needs}
+use Rattle.plan_needs.proofs.LeafParts.{left_arrays, right_arrays}
+use Rattle.plan_rewrite.specs.Same.{IsSame}
+use Rattle.plan_needs.specs.Sides.{whole, of_between, of_subarray, of_slice, of_left, of_right, of_regrid, of_aggregate, of_window}
 
 pub refl_same : (query : Query) → IsSame query query
 refl_same query = record {
@@ -37,9 +38,6 @@ refl_same query = record {
   same_needs = λ sides. refl;
   same_scan = refl;
 }
-
-IsArray : Database → Leaf → Type 0
-IsArray db leaf = AreRowsOf leaf.schema (version_rows db leaf.name leaf.version)
 
 has_leaves : (db : Database) (a b : Query) → leaves b ≡ leaves a → HasArrays db a → HasArrays db b
 has_leaves db a b same h = subst (λ (ls : List Leaf). AllByRecursion (λ leaf. AreRowsOf leaf.schema (version_rows db leaf.name leaf.version)) ls) (sym same) h
@@ -160,22 +158,6 @@ under_aggregate s r gs places h = record {
 }
 
 -- ---- two sources
-
-of_first : {A : Type 0} (P : A → Type 0) (xs ys : List A) → AllByRecursion P (xs ++ ys) → AllByRecursion P xs
-of_first P [] ys all = tt
-of_first P (x ∷ xs) ys all = (all.0, of_first P xs ys all.1)
-
-of_second : {A : Type 0} (P : A → Type 0) (xs ys : List A) → AllByRecursion P (xs ++ ys) → AllByRecursion P ys
-of_second P [] ys all = all
-of_second P (x ∷ xs) ys all = of_second P xs ys all.1
-
-pub left_arrays : (db : Database) (l r : Query) (schema : Schema) → HasArrays db (joined l r schema) → HasArrays db l
-unfolding IsArray
-left_arrays db l r schema h = of_first (IsArray db) (leaves l) (leaves r) h
-
-pub right_arrays : (db : Database) (l r : Query) (schema : Schema) → HasArrays db (joined l r schema) → HasArrays db r
-unfolding IsArray
-right_arrays db l r schema h = of_second (IsArray db) (leaves l) (leaves r) h
 
 both_same : {A B C : Type 0} (f : A → B → C) (a a' : A) (b b' : B) → a ≡ a' → b ≡ b' → f a b ≡ f a' b'
 both_same f a a' b b' p q = ap (λ x. f x b) p ∙ ap (f a') q

@@ -35,18 +35,19 @@ use Rattle.logical_plan.specs.Faults.{if_whole, and_then}
 use Rattle.logical_plan.specs.Groups.{block, regrid_rows, aggregates_of, group_at, grouped, aggregate_rows, window_cell, window_rows}
 use Rattle.logical_plan.specs.Joins.{cell_beside, join_rows, right_places, agree, cross_at, cross_rows}
 use Rattle.logical_plan.specs.Meaning.{Database, meaning, version_rows}
-use Rattle.logical_plan.specs.PlanSchema.{schema_of, derived, aggregate_kind, free_name, free_names, renamed_attribute, side_by_side, join_schema, cross_schema, apply_schema, project_schema, regrid_schema, window_schema, aggregate_schema}
+use Rattle.logical_plan.specs.PlanSchema.{schema_of, derived, aggregate_kind, free_names, renamed_attribute, side_by_side, join_schema, cross_schema, apply_schema, project_schema, regrid_schema, window_schema, aggregate_schema}
 use Rattle.logical_plan.specs.Query.{Query, built, listed, scanned, filtered, applied, projected, between, subarray, sliced, joined, crossed, redimensioned, regridded, windowed, aggregated}
 use Rattle.logical_plan.specs.Redimension.{Origin, origin_of, value_origin, Landed, landed, carried, landed_at, by_names, redimension_rows}
 use Rattle.logical_plan.specs.Typing.{IsTyped}
 use Rattle.logical_plan.proofs.ArrayLaws.{typed_arrays}
 use Rattle.logical_plan.proofs.BuiltRows.{all-map, all-flat_map, all-follows}
+use Rattle.plan_needs.proofs.FreeNames.{many_names}
 use Rattle.plan_rewrite.specs.Inner.Wide.{IsWide, AreWide}
-use Rattle.plan_rewrite.specs.Same.{HasArrays}
+use Rattle.plan_needs.specs.Sufficient.{HasArrays}
 use Rattle.plan_rewrite.proofs.ItemPlaces.{length_picked}
 use Rattle.plan_rewrite.proofs.ProjectSteps.{applied_length}
-use Rattle.plan_rewrite.proofs.RowLists.{all_where, each_made}
-use Rattle.plan_rewrite.proofs.SameLaws.{left_arrays, right_arrays}
+use Rattle.plan_needs.proofs.RowLists.{all_where, each_made}
+use Rattle.plan_needs.proofs.LeafParts.{left_arrays, right_arrays}
 
 -- ---- cells of a schema
 
@@ -159,10 +160,6 @@ both_wide : (m n k : ℕ) (f : List Row → List Row → List Row) → ((left ri
 both_wide m n k f h (Ok left) (Ok right) v w = h left right v w
 both_wide m n k f h (Ok left) (Err broken) v w = w
 both_wide m n k f h (Err broken) r v w = v
-
-pub many_names : (given names : List (List ℕ)) → length (free_names given names) ≡ length names
-many_names given [] = refl
-many_names given (name ∷ names) = ap suc (many_names (given ++ free_name given name ∷ []) names)
 
 length-renamed : (attributes : List Attribute) (names : List (List ℕ)) → length names ≡ length attributes → length (by_pairs renamed_attribute attributes names) ≡ length attributes
 length-renamed [] names e = refl

@@ -1,19 +1,14 @@
 -- When a plan may stand for another one.
 use Rattle.std.specs.Prelude.{◌≡◌, IsTrue}
-use Rattle.std.specs.List.{AllByRecursion}
-use Rattle.array_rows.specs.Arrays.{AreRowsOf}
 use Rattle.logical_plan.specs.Leaves.{leaves}
-use Rattle.logical_plan.specs.Meaning.{Database, meaning, version_rows}
+use Rattle.logical_plan.specs.Meaning.{Database, meaning}
 use Rattle.logical_plan.specs.PlanSchema.{schema_of}
 use Rattle.logical_plan.specs.Query.{Query}
 use Rattle.logical_plan.specs.Typing.{IsTyped}
-use Rattle.plan_rewrite.specs.Needs.{is_scan, needs}
+use Rattle.plan_needs.specs.Needs.{is_scan, needs}
+use Rattle.plan_needs.specs.Sides.{Sides}
+use Rattle.plan_needs.specs.Sufficient.{HasArrays}
 use Rattle.plan_rewrite.specs.Settled.{is_settled}
-use Rattle.plan_rewrite.specs.Sides.{Sides}
-
--- each leaf of a plan stands in a database for an array of its schema
-abbrev pub HasArrays : Database → Query → Type 0
-HasArrays db query = AllByRecursion (λ leaf. AreRowsOf leaf.schema (version_rows db leaf.name leaf.version)) (leaves query)
 
 -- The same leaves in the same order, the same schema, and over every such database the same meaning, faults included. For each box
 -- of the result the same boxes of the leaves are needed.

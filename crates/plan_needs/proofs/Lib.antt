@@ -1,0 +1,21 @@
+pub mod AlikeBlocks
+pub mod AlikeCross
+pub mod AlikeGroups
+pub mod AlikeNear
+pub mod AlikeParts
+pub mod AlikePlans
+pub mod AlikeScans
+pub mod AlikeSteps
+pub mod AlikeWindows
+pub mod BoxLaws
+pub mod BoxSides
+pub mod FreeNames
+pub mod Inside
+pub mod InsidePlans
+pub mod LeafParts
+pub mod RowLists
+pub mod Saturated
+pub mod TargetLaws
+mod Worked
+mod WorkedNeeds
+mod WorkedTargets

@@ -1,0 +1,11 @@
+//! The boxes of stored arrays that plans need.
+#![tactic(auto)]
+
+mod boxes;
+mod laws;
+mod needs;
+mod sides;
+mod stretch;
+
+pub use laws::{needs_are_sufficient, other_chunks_stay, target_needs_are_sufficient};
+pub use needs::need;
