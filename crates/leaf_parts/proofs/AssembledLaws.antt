@@ -172,10 +172,11 @@ pub part_is_told : (db : Database) (leaf : Leaf) (area : Bounds) (stored : List 
     → (alone ≡ true → array.chunks ≡ chunks)
     → (alone ≡ false → Is array (whole leaf.schema (in_order (flat_map (chunk_rows leaf.schema.dimensions (overlaps leaf.schema.dimensions)) chunks))))
     → IsPartIn db leaf area stored array
-part_is_told db leaf area stored chunks alone array is valid rising zip has parts read standing together = cases alone is standing together
+part_is_told db leaf area stored chunks alone array is valid rising zip has parts read standing together = record { stored_is = has valid; known_is = cases alone is standing together }
   where
     cases : (t : Bool) → t ≡ stand_alone leaf.schema.dimensions stored (wanted_of leaf.schema.dimensions area stored) → (t ≡ true → array.chunks ≡ chunks)
-        → (t ≡ false → Is array (whole leaf.schema (in_order (flat_map (chunk_rows leaf.schema.dimensions (overlaps leaf.schema.dimensions)) chunks)))) → IsPartIn db leaf area stored array
+        → (t ≡ false → Is array (whole leaf.schema (in_order (flat_map (chunk_rows leaf.schema.dimensions (overlaps leaf.schema.dimensions)) chunks))))
+        → Is array (whole leaf.schema (known_for leaf area stored (version_rows db leaf.name leaf.version)))
     cases true e s g =
         let same : chunks ≡ array.chunks = sym (s refl) in
         alone_is_known leaf area (version_rows db leaf.name leaf.version) stored array read valid rising (has valid)

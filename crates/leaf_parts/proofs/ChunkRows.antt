@@ -1,5 +1,5 @@
 -- The rows of chunks, cell by cell and chunk by chunk.
-use Rattle.std.proofs.Common.{◌≡◌, ℕ, ◌+◌, ◌<◌, ◌≤◌, ℤ, List, [], ◌∷◌, ◌++◌, length, drop, refl, sym, ap, ◌∙◌, append_assoc}
+use Rattle.std.proofs.Common.{◌≡◌, ℕ, ◌+◌, ◌<◌, ◌≤◌, ℤ, List, [], ◌∷◌, ◌++◌, length, drop, refl, sym, ap, ◌∙◌, subst, append_assoc}
 use Rattle.std.specs.List.{AllByRecursion, flat_map}
 use Rattle.std.specs.Prelude.{slice_index_or}
 use Rattle.std.proofs.lemmas.List.{drop_more, drop_all, append-nil}
@@ -51,12 +51,12 @@ pub none_gathered : (schema : Schema) (margins : List ℕ) (rows : List Row) (le
 none_gathered schema margins rows left all e f a = rw (e, f) (record { places = a; same = refl })
 
 pub next_places : (schema : Schema) (margins : List ℕ) (rows : List Row) (left left' all : List Chunk) (chunk : Chunk) → left ≡ chunk ∷ left' → AreGathered schema margins rows left all → HasPlaces schema margins chunk
-next_places schema margins rows left left' all chunk e g = (let a : AllByRecursion (HasPlaces schema margins) (chunk ∷ left') = rw (sym e) g.places in a.0)
+next_places schema margins rows left left' all chunk e g = (let a : AllByRecursion (HasPlaces schema margins) (chunk ∷ left') = subst (AllByRecursion (HasPlaces schema margins)) e g.places in a.0)
 
 pub one_gathered : (schema : Schema) (margins : List ℕ) (rows rows' : List Row) (left left' all : List Chunk) (chunk : Chunk) → left ≡ chunk ∷ left' → rows' ≡ rows ++ chunk_rows schema.dimensions margins chunk
     → AreGathered schema margins rows left all → AreGathered schema margins rows' left' all
 one_gathered schema margins rows rows' left left' all chunk e f g = record {
-  places = (let a : AllByRecursion (HasPlaces schema margins) (chunk ∷ left') = rw (sym e) g.places in a.1);
+  places = (let a : AllByRecursion (HasPlaces schema margins) (chunk ∷ left') = subst (AllByRecursion (HasPlaces schema margins)) e g.places in a.1);
   same = ap (λ (rs : List Row). rs ++ flat_map (chunk_rows schema.dimensions margins) left') f
       ∙ append_assoc rows (chunk_rows schema.dimensions margins chunk) (flat_map (chunk_rows schema.dimensions margins) left')
       ∙ ap (λ (cs : List Chunk). rows ++ flat_map (chunk_rows schema.dimensions margins) cs) (sym e)

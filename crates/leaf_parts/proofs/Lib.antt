@@ -3,4 +3,5 @@ pub mod AssembledLaws
 pub mod ChunkRows
 pub mod KnownLaws
 pub mod OrderLaws
+pub mod ReadLaws
 mod Worked

@@ -13,6 +13,7 @@ use Rattle.array_geom.specs.declared.chunk.ChunkedArray.{ChunkedArray}
 use Rattle.logical_plan.specs.Meaning.{Database, version_rows, whole}
 use Rattle.logical_plan.specs.declared.parts.Leaf.{Leaf}
 use Rattle.plan_needs.specs.Wanted.{wanted_of}
+use Rattle.chunk_source.specs.Source.{HasArray}
 
 -- a coordinate lies in the frame of one of these chunks
 abbrev pub is_framed : List Dimension → List (ArrayVec ℕ) → Coordinate → Bool
@@ -26,6 +27,7 @@ known dims chunks = rows_where (is_framed dims chunks)
 abbrev pub known_for : Leaf → Bounds → List (ArrayVec ℕ) → List Row → List Row
 known_for leaf area stored rows = known leaf.schema.dimensions (wanted_of leaf.schema.dimensions area stored) rows
 
--- a leaf in a database, as its wanted chunks tell it
-abbrev pub IsPartIn : Database → Leaf → Bounds → List (ArrayVec ℕ) → ChunkedArray → Type 0
-IsPartIn db leaf area stored array = Is array (whole leaf.schema (known_for leaf area stored (version_rows db leaf.name leaf.version)))
+-- a leaf in a database: these are the chunks of its array, and this is the array of the rows that the wanted ones tell
+pub record IsPartIn (db : Database) (leaf : Leaf) (area : Bounds) (stored : List (ArrayVec ℕ)) (array : ChunkedArray) : Type 0 where
+  pub stored_is : HasArray leaf (version_rows db leaf.name leaf.version) stored
+  pub known_is : Is array (whole leaf.schema (known_for leaf area stored (version_rows db leaf.name leaf.version)))

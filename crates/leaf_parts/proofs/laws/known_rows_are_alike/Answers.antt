@@ -1,0 +1,8 @@
+use Rattle.leaf_parts.proofs.KnownLaws.{known_is_alike}
+use Rattle.leaf_parts.proofs.AssembledLaws.{part_is_told}
+use Rattle.leaf_parts.proofs.OrderLaws.{sorted_once}
+use Rattle.leaf_parts.proofs.ChunkRows.{step}
+use Rattle.leaf_parts.proofs.laws.known_rows_are_alike.Goals as goal
+
+pub returns : goal.returns
+returns c = known_is_alike
