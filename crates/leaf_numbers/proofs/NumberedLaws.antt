@@ -6,9 +6,7 @@ use Rattle.cell_values.specs.declared.schema.Bounds.{Bounds}
 use Rattle.cell_values.specs.declared.schema.Kind.TheVariants.{Bool as Truths}
 use Rattle.cell_values.specs.declared.schema.Schema.{Schema}
 use Rattle.cell_values.specs.Schemas.{IsValid}
-use Rattle.array_rows.specs.Arrays.{Meant}
 use Rattle.array_rows.specs.Boxes.{bounds_of, meet, within}
-use Rattle.expr_nulls.specs.Expr.{Expr}
 use Rattle.logical_plan.specs.declared.parts.Leaf.{Leaf}
 use Rattle.logical_plan.specs.BoxOps.{fixed_places, slice_rows, subarray_rows}
 use Rattle.logical_plan.specs.CellOps.{apply_rows, filter_rows, project_rows}

@@ -32,7 +32,7 @@ at_behind : (before : List (List Row)) (rows : List Row) (more : List (List Row)
 at_behind [] rows more = refl
 at_behind (x ∷ before) rows more = at_behind before rows more
 
-holds_behind : (before all : List (List Row)) → HoldsAll (by_number (before ++ all)) (length before) all
+pub holds_behind : (before all : List (List Row)) → HoldsAll (by_number (before ++ all)) (length before) all
 holds_behind before [] = tt
 holds_behind before (rows ∷ more) =
     let same : (before ++ rows ∷ []) ++ more ≡ before ++ rows ∷ more = append_assoc before (rows ∷ []) more in

@@ -1,13 +1,15 @@
 -- The rows of chunks in order are what they tell.
-use Rattle.std.proofs.Common.{◌≡◌, ℕ, ◌≤◌, ◌^◌, Bool, true, false, cond, ◌||◌, List, [], ◌∷◌, ◌++◌, length, Option, Some, None, refl, sym, ap, ◌∙◌, subst}
+use Rattle.std.proofs.Common.{◌≡◌, ℕ, ◌≤◌, ◌^◌, Bool, true, false, cond, ◌||◌, List, [], ◌∷◌, ◌++◌, length, Option, Some, None, Result, Ok, Err, refl, sym, ap, ◌∙◌, subst}
 use Rattle.std.specs.List.{AllByRecursion, AllZip, flat_map}
 use Rattle.std.specs.Option.{option_or}
+use Rattle.std.specs.Prelude.{IfOk}
 use Rattle.std.specs.Ordering.{is_eq}
 use Rattle.std.specs.declared.cmp.Ordering.{Ordering}
 use Rattle.std.specs.declared.cmp.Ordering.TheVariants.{Less, Equal, Greater}
 use Rattle.arrayvec.specs.ArrayVec.{ArrayVec}
 use Rattle.cell_values.specs.declared.datum.Cell.{Cell}
 use Rattle.cell_values.specs.declared.datum.Row.{Row}
+use Rattle.cell_values.specs.declared.memory.Memory.{Memory}
 use Rattle.cell_values.specs.declared.schema.Bounds.{Bounds}
 use Rattle.cell_values.specs.declared.schema.Dimension.{Dimension}
 use Rattle.cell_values.specs.declared.schema.Schema.{Schema}
@@ -157,6 +159,18 @@ held_is_read schema rows array is m = record {
   placed = subst (λ (s : Schema). HavePlaces s array.margins.items array.chunks) (sym is.schema) (held_rows_placed schema array rows is.cells);
   valid = subst (λ (s : Schema). AllByRecursion (IsChunk s array.margins.items) array.chunks) (sym is.schema) (valid_chunks schema array rows is.cells);
 }
+
+-- the same of what a call answers
+pub all_standing_are_read : (schema : Schema) (chunks : List Chunk) → IsValid schema → AllByRecursion (IsChunk schema (overlaps schema.dimensions)) chunks → (answer : Result ChunkedArray Memory)
+    → IfOk answer (λ array. array.schema ≡ schema) → IfOk answer (λ array. array.margins.items ≡ overlaps schema.dimensions) → IfOk answer (λ array. array.broken ≡ None) → IfOk answer (λ array. array.chunks ≡ chunks)
+    → IfOk answer (IsRead schema)
+all_standing_are_read schema chunks valid good (Ok array) e m b c = standing_is_read schema (overlaps schema.dimensions) chunks refl valid good array e m b c
+all_standing_are_read schema chunks valid good (Err memory) e m b c = tt
+
+pub all_held_are_read : (schema : Schema) (rows : List Row) (answer : Result ChunkedArray Memory) → IfOk answer (λ array. Is array (whole schema rows)) → IfOk answer (λ array. array.margins.items ≡ overlaps schema.dimensions)
+    → IfOk answer (IsRead schema)
+all_held_are_read schema rows (Ok array) is m = held_is_read schema rows array is m
+all_held_are_read schema rows (Err memory) is m = tt
 
 -- ---- what was read of a leaf
 

@@ -7,7 +7,7 @@ ghost use Rattle.array_geom.specs.Chunks.{IsChunk};
 ghost use Rattle.array_geom.specs.Geometry.{overlaps};
 ghost use Rattle.array_geom.specs.Link.{Is, chunk_rows};
 ghost use Rattle.logical_plan.specs.Meaning.{whole};
-ghost use Rattle.leaf_parts.specs.Inner.Alone.{stand_alone};
+ghost use Rattle.leaf_parts.specs.Inner.Alone.{have_no_overlap, stand_alone};
 ghost use Rattle.leaf_parts.specs.Read.{IsRead};
 
 use crate::gathering::rows_in_order;

@@ -6,7 +6,7 @@ use Rattle.leaf_parts.proofs.gathering.all_rows.Goals as goal
 
 pub loop-chunk-init : goal.loop-chunk-init
 loop-chunk-init c =
-    none_gathered c.args.schema.now c.args.margins.now.items c.another.result (into_iter_items c.into_iter-chunk-iterator.result) c.args.chunks c.another.ensures (c.into_iter-chunk-iterator.ensures.into_iter_gives.0 ∙ c.into_vec-chunk-items.ensures) c.requires
+    none_gathered c.args.schema.now c.args.margins.now.items c.another-rows.result (into_iter_items c.into_iter-chunk-iterator.result) c.args.chunks c.another-rows.ensures (c.into_iter-chunk-iterator.ensures.into_iter_gives.0 ∙ c.into_vec-chunk-items.ensures) c.requires
 
 pub push_rows-requires : goal.push_rows-requires
 push_rows-requires c =
