@@ -78,21 +78,19 @@ same_whole n query =
 -- ---- leaf by leaf
 
 module _ (stored : Leaf → List (ArrayVec ℕ)) (db : Database) where
-  HasLeaf : Leaf → Type 0
+  abbrev HasLeaf : Leaf → Type 0
   HasLeaf leaf = HasArray leaf (version_rows db leaf.name leaf.version) (stored leaf)
 
-IsArrayOf : Database → Leaf → Type 0
+abbrev IsArrayOf : Database → Leaf → Type 0
 IsArrayOf db leaf = AreRowsOf leaf.schema (version_rows db leaf.name leaf.version)
 
 module _ (stored : Leaf → List (ArrayVec ℕ)) (db known told : Database) where
   told_arrays : (n : ℕ) (all : List Leaf) → AllByRecursion (HasLeaf stored db) all → HoldsAll told n (rows_of_leaves db all) → AllByRecursion (IsArrayOf told) (numbered_leaves n all)
-  unfolding HasLeaf IsArrayOf
   told_arrays n [] a t = tt
   told_arrays n (leaf ∷ all) a t = (subst (AreRowsOf leaf.schema) (sym t.0) a.0.rows_of, told_arrays (n + 1) all a.1 t.1)
 
   known_arrays : (n : ℕ) (all : List Leaf) (boxes : List Bounds) → length boxes ≡ length all → AllByRecursion (HasLeaf stored db) all → HoldsAll known n (known_of_leaves stored db all boxes)
       → AllByRecursion (IsArrayOf known) (numbered_leaves n all)
-  unfolding HasLeaf IsArrayOf
   known_arrays n [] boxes e a h = tt
   known_arrays n (leaf ∷ all) [] e a h = absurd (omega (arith, e))
   known_arrays n (leaf ∷ all) (box ∷ boxes) e a h = (
@@ -102,7 +100,6 @@ module _ (stored : Leaf → List (ArrayVec ℕ)) (db known told : Database) wher
 
   all_alike : (n : ℕ) (all : List Leaf) (boxes : List Bounds) → length boxes ≡ length all → AllByRecursion (HasLeaf stored db) all → HoldsAll known n (known_of_leaves stored db all boxes)
       → HoldsAll told n (rows_of_leaves db all) → AllZip (AreAlikeAt known told) (numbered_leaves n all) boxes
-  unfolding HasLeaf
   all_alike n [] [] e a h t = tt
   all_alike n [] (box ∷ boxes) e a h t = absurd (omega (arith, e))
   all_alike n (leaf ∷ all) [] e a h t = absurd (omega (arith, e))
@@ -114,7 +111,6 @@ module _ (stored : Leaf → List (ArrayVec ℕ)) (db known told : Database) wher
   )
 
 pub suffices : KnownRowsSuffice
-unfolding HasLeaf IsArrayOf
 suffices stored db known query is_typed arrays holds =
     let told : Database = by_number (rows_of_leaves db (leaves query)) in
     let told_holds : HoldsAll told 0 (rows_of_leaves db (leaves query)) = holds_behind [] (rows_of_leaves db (leaves query)) in
