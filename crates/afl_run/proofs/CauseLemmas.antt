@@ -40,6 +40,7 @@ use Rattle.session_reports.proofs.OutcomeLemmas.{is_damaged, is_disk}
 use Rattle.session_threads.specs.Marked.{AnswersText, IsMarked, IsReplyOf, reply_told}
 use Rattle.session_threads.specs.Session.{AreAnswered, Replies}
 use Rattle.session_threads.specs.Sessions.{AreSessionsOf}
+use Rattle.session_threads.specs.Style.{Style}
 
 -- ---- a fault among events
 
@@ -118,22 +119,22 @@ rose_for moment s is some counted =
 
 -- ---- a reply that tells it
 
-module _ {D : Type 0} (trees : HasTreeOrStop) (moment : D → Moment) (start : Start D) (session : ℕ) where
+module _ {D : Type 0} (trees : HasTreeOrStop) (style : Style) (moment : D → Moment) (start : Start D) (session : ℕ) where
   of_disk : (pin : ℕ) (new own : List Event) (text : List ℕ) (tree : Term) (reply : Reply) (course : Course)
-      → IsToldFor moment start session pin new own text tree reply (Some refusals.Disk) course → HasFault session own
+      → IsToldFor moment start session pin new own text tree reply style (Some refusals.Disk) course → HasFault session own
   of_disk pin new own text tree reply nothing told = absurd told
   of_disk pin new own text tree reply looking told = told.1
   of_disk pin new own text tree reply (trying change) told = told.1
   of_disk pin new own text tree reply (making change) told = absurd told
 
   of_damage : (pin : ℕ) (new own : List Event) (text : List ℕ) (tree : Term) (reply : Reply) (page : ℕ) (course : Course)
-      → IsToldFor moment start session pin new own text tree reply (Some (refusals.Damaged page)) course → BeganAsNone moment start
+      → IsToldFor moment start session pin new own text tree reply style (Some (refusals.Damaged page)) course → BeganAsNone moment start
   of_damage pin new own text tree reply page nothing told = absurd told
   of_damage pin new own text tree reply page looking told = told.2
   of_damage pin new own text tree reply page (trying change) told = absurd told
   of_damage pin new own text tree reply page (making change) told = absurd told
 
-  reply_of_disk : (old new : List Event) (last bytes : ℕ) (text : Option (List ℕ)) (reply : Reply) → IsReplyOf (AnswersText moment start session) old new last bytes text reply
+  reply_of_disk : (old new : List Event) (last bytes : ℕ) (text : Option (List ℕ)) (reply : Reply) → IsReplyOf (AnswersText style moment start session) old new last bytes text reply
       → reply.refusal ≡ Some refusals.Disk → has_fault_in new ≡ true
   reply_of_disk old new last bytes None reply replied is = elim replied.words [
     | inl words ↦ let other = ap (λ (w : Words). w.refusal) words.0 in absurd (cc (other, is))
@@ -141,7 +142,7 @@ module _ {D : Type 0} (trees : HasTreeOrStop) (moment : D → Moment) (start : S
   ]
   reply_of_disk old new last bytes (Some text) reply replied is = elim (trees text) [
     | inl tree ↦
-        let told = subst (λ (r : Option Refusal). IsToldFor moment start session replied.pin new replied.own text tree.0 reply r replied.course) is (replied.told tree.0 tree.1).1 in
+        let told = subst (λ (r : Option Refusal). IsToldFor moment start session replied.pin new replied.own text tree.0 reply style r replied.course) is (replied.told tree.0 tree.1).1 in
         let own = fault_is_there session replied.own (of_disk replied.pin new replied.own text tree.0 reply replied.course told) in
         comes_there old replied.adds.more new replied.adds.grown
         (in_filter is_fault_event (λ event. is_owned_by (owner_of event) session) replied.adds.more
@@ -152,7 +153,7 @@ module _ {D : Type 0} (trees : HasTreeOrStop) (moment : D → Moment) (start : S
     ]
   ]
 
-  reply_of_damage : (old new : List Event) (last bytes : ℕ) (text : Option (List ℕ)) (reply : Reply) (page : ℕ) → IsReplyOf (AnswersText moment start session) old new last bytes text reply
+  reply_of_damage : (old new : List Event) (last bytes : ℕ) (text : Option (List ℕ)) (reply : Reply) (page : ℕ) → IsReplyOf (AnswersText style moment start session) old new last bytes text reply
       → reply.refusal ≡ Some (refusals.Damaged page) → BeganAsNone moment start
   reply_of_damage old new last bytes None reply page replied is = elim replied.words [
     | inl words ↦ let other = ap (λ (w : Words). w.refusal) words.0 in absurd (cc (other, is))
@@ -160,7 +161,7 @@ module _ {D : Type 0} (trees : HasTreeOrStop) (moment : D → Moment) (start : S
   ]
   reply_of_damage old new last bytes (Some text) reply page replied is = elim (trees text) [
     | inl tree ↦
-        let told = subst (λ (r : Option Refusal). IsToldFor moment start session replied.pin new replied.own text tree.0 reply r replied.course) is (replied.told tree.0 tree.1).1 in
+        let told = subst (λ (r : Option Refusal). IsToldFor moment start session replied.pin new replied.own text tree.0 reply style r replied.course) is (replied.told tree.0 tree.1).1 in
         of_damage replied.pin new replied.own text tree.0 reply page replied.course told
     | inr stop ↦ elim (replied.stopped stop.0 stop.1 stop.2).1 [
       | inl stops ↦ let other = ap (λ (w : Words). w.refusal) stops.words in absurd (cc (other, is))
@@ -168,13 +169,13 @@ module _ {D : Type 0} (trees : HasTreeOrStop) (moment : D → Moment) (start : S
     ]
   ]
 
-  reply_stays_there : (old new : List Event) (last bytes : ℕ) (text : Option (List ℕ)) (reply : Reply) → IsReplyOf (AnswersText moment start session) old new last bytes text reply
+  reply_stays_there : (old new : List Event) (last bytes : ℕ) (text : Option (List ℕ)) (reply : Reply) → IsReplyOf (AnswersText style moment start session) old new last bytes text reply
       → has_fault_in old ≡ true → has_fault_in new ≡ true
   reply_stays_there old new last bytes None reply replied is = subst (λ (es : List Event). has_fault_in es ≡ true) (sym replied.same) is
   reply_stays_there old new last bytes (Some text) reply replied is = stays_there old replied.adds.more new replied.adds.grown is
 
   all_stay_there : (old : List Event) (last : ℕ) (ss : List Statement) (ms : List Mark) (ts : List (List ℕ)) (new : List Event)
-      → AreAnswered (IsMarked moment start session) old last ss ms ts new → has_fault_in old ≡ true → has_fault_in new ≡ true
+      → AreAnswered (IsMarked style moment start session) old last ss ms ts new → has_fault_in old ≡ true → has_fault_in new ≡ true
   all_stay_there old last [] [] [] new all is = subst (λ (es : List Event). has_fault_in es ≡ true) all is
   all_stay_there old last (s ∷ ss) (m ∷ ms) (t ∷ ts) new all is =
       all_stay_there all.0 m.place ss ms ts new all.2 (reply_stays_there old all.0 last (s.end - s.start) s.text (reply_told m t) all.1.reply is)
@@ -190,11 +191,11 @@ module _ {D : Type 0} (trees : HasTreeOrStop) (moment : D → Moment) (start : S
     last : ℕ
     statement : Statement
     written : List ℕ
-    marked : IsMarked moment start session before then last statement mark written
+    marked : IsMarked style moment start session before then last statement mark written
     stays : has_fault_in then ≡ true → has_fault_in new ≡ true
 
   mark_at : (old : List Event) (last : ℕ) (ss : List Statement) (ms : List Mark) (ts : List (List ℕ)) (new : List Event)
-      → AreAnswered (IsMarked moment start session) old last ss ms ts new → (k : ℕ) (d : Mark) → k < length ms → MarkedThere (get_or ms k d) new
+      → AreAnswered (IsMarked style moment start session) old last ss ms ts new → (k : ℕ) (d : Mark) → k < length ms → MarkedThere (get_or ms k d) new
   mark_at old last (s ∷ ss) (m ∷ ms) (t ∷ ts) new all zero d within = record {
     before = old;
     then = all.0;
@@ -213,29 +214,29 @@ module _ {D : Type 0} (trees : HasTreeOrStop) (moment : D → Moment) (start : S
 
   -- at any end all marks are of statements
   marks_in : (end : SessionEnd) (is_whole : Bool) (read : List ℕ) (ms : List Mark) (written : List ℕ) (new : List Event)
-      → Replies (IsMarked moment start session) [] 0 new end is_whole read ms written → (k : ℕ) (d : Mark) → k < length ms → MarkedThere (get_or ms k d) new
+      → Replies (IsMarked style moment start session) [] 0 new end is_whole read ms written → (k : ℕ) (d : Mark) → k < length ms → MarkedThere (get_or ms k d) new
   marks_in ends.Whole is_whole read ms written new replies = mark_at [] 0 (statements read) ms replies.1.texts new replies.1.each
   marks_in ends.Source is_whole read ms written new replies = mark_at [] 0 (closed_statements read) ms replies.1.texts new replies.1.each
   marks_in ends.Sink is_whole read ms written new replies = mark_at [] 0 replies.answered ms (replies.texts ++ replies.begun) new replies.each
   marks_in ends.Memory is_whole read ms written new replies = mark_at [] 0 replies.answered ms (replies.texts ++ replies.begun) new replies.each
 
   pub session_of_disk : (end : SessionEnd) (is_whole : Bool) (read : List ℕ) (ms : List Mark) (written : List ℕ) (new : List Event)
-      → Replies (IsMarked moment start session) [] 0 new end is_whole read ms written → Any (λ m. m.refusal ≡ Some refusals.Disk) ms → has_fault_in new ≡ true
+      → Replies (IsMarked style moment start session) [] 0 new end is_whole read ms written → Any (λ m. m.refusal ≡ Some refusals.Disk) ms → has_fault_in new ≡ true
   session_of_disk end is_whole read ms written new replies (k, m, within, here, tells) =
       let there = subst (λ (mark : Mark). MarkedThere mark new) here (marks_in end is_whole read ms written new replies k m within) in
       there.stays (reply_of_disk there.before there.then there.last (there.statement.end - there.statement.start) there.statement.text (reply_told m there.written) there.marked.reply tells)
 
   pub session_of_damage : (end : SessionEnd) (is_whole : Bool) (read : List ℕ) (ms : List Mark) (written : List ℕ) (new : List Event) (page : ℕ)
-      → Replies (IsMarked moment start session) [] 0 new end is_whole read ms written → Any (λ m. m.refusal ≡ Some (refusals.Damaged page)) ms → BeganAsNone moment start
+      → Replies (IsMarked style moment start session) [] 0 new end is_whole read ms written → Any (λ m. m.refusal ≡ Some (refusals.Damaged page)) ms → BeganAsNone moment start
   session_of_damage end is_whole read ms written new page replies (k, m, within, here, tells) =
       let there = subst (λ (mark : Mark). MarkedThere mark new) here (marks_in end is_whole read ms written new replies k m within) in
       reply_of_damage there.before there.then there.last (there.statement.end - there.statement.start) there.statement.text (reply_told m there.written) page there.marked.reply tells
 
 -- ---- the notice of sessions
 
-module _ {D S K : Type 0} (trees : HasTreeOrStop) (moment : D → Moment) (source_state : S → SourceState) (sink_state : K → SinkState) (start : Start D)
+module _ {D S K : Type 0} (trees : HasTreeOrStop) (style : Style) (moment : D → Moment) (source_state : S → SourceState) (sink_state : K → SinkState) (start : Start D)
     (streams : List (Streams S K)) (reports : List (SessionReport S K)) (all : List Event) (count : length reports ≡ length streams)
-    (each : AreSessionsOf moment source_state sink_state start streams reports all) (notice : Notice) (told : (notice ≡ notices.Memory) ⊎ (notice ≡ notice_of reports)) where
+    (each : AreSessionsOf style moment source_state sink_state start streams reports all) (notice : Notice) (told : (notice ≡ notices.Memory) ⊎ (notice ≡ notice_of reports)) where
   some_stream : (k : ℕ) (xs : List (Streams S K)) → k < length xs → Streams S K
   some_stream k [] within = absurd (omega (arith, within))
   some_stream k (x ∷ xs) within = x
@@ -252,7 +253,7 @@ module _ {D S K : Type 0} (trees : HasTreeOrStop) (moment : D → Moment) (sourc
           let h = each k (some_stream k streams inside) r inside in
           let marks = subst (λ (x : SessionReport S K). Any (λ m. m.refusal ≡ Some refusals.Disk) x.marks) (sym here) some in
           stays_there h.seen h.later.0 all h.later.1
-          (session_of_disk trees moment start k _ h.serves.is_whole h.serves.read _ h.serves.written h.seen h.serves.replies marks)
+          (session_of_disk trees style moment start k _ h.serves.is_whole h.serves.read _ h.serves.written h.seen h.serves.replies marks)
 
   pub tells_damage : (page : ℕ) → notice ≡ notices.Damaged page → BeganAsNone moment start
   tells_damage page is = elim told [
@@ -265,4 +266,4 @@ module _ {D S K : Type 0} (trees : HasTreeOrStop) (moment : D → Moment) (sourc
           let inside : k < length streams = omega (arith, within, count) in
           let h = each k (some_stream k streams inside) r inside in
           let marks = subst (λ (x : SessionReport S K). Any (λ m. m.refusal ≡ Some (refusals.Damaged page)) x.marks) (sym here) some in
-          session_of_damage trees moment start k _ h.serves.is_whole h.serves.read _ h.serves.written h.seen page h.serves.replies marks
+          session_of_damage trees style moment start k _ h.serves.is_whole h.serves.read _ h.serves.written h.seen page h.serves.replies marks

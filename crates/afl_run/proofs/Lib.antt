@@ -1,5 +1,6 @@
 pub mod CauseLemmas
 pub mod FormLemmas
+pub mod GeneratedLemmas
 pub mod MakingLemmas
 pub mod OverLemmas
 pub mod Reporting

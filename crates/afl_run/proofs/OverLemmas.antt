@@ -22,6 +22,7 @@ use Rattle.session_reports.specs.declared.notices.Notice.TheVariants.{Memory}
 use Rattle.session_reports.specs.declared.reports.SessionReport.{SessionReport}
 use Rattle.session_reports.specs.declared.reports.Streams.{Streams}
 use Rattle.session_threads.specs.Sessions.{AreSessionsOf}
+use Rattle.session_threads.specs.Style.{Style}
 use Rattle.run_stores.specs.Began.{BeganOver, TellsUnopened}
 use Rattle.run_stores.specs.Ends.{IsClosed, IsReap}
 use Rattle.run_stores.specs.declared.closing.StoreRun.{StoreRun}
@@ -53,34 +54,34 @@ still_others session seen old more new before none grown = (
   list_all-append _ before.0 more ∙ and_from (none_of owner_of session before.0) (none_of owner_of session more) before.2 none,
 )
 
-module _ {D S K : Type 0} (moment : D → Moment) (source_state : S → SourceState) (sink_state : K → SinkState) where
+module _ {D S K : Type 0} (style : Style) (moment : D → Moment) (source_state : S → SourceState) (sink_state : K → SinkState) where
   reaped_later : (start : Start D) (streams : List (Streams S K)) (reports : List (SessionReport S K)) (old more new : List Event)
-      → AreSessionsOf moment source_state sink_state start streams reports old → IsReap more → new ≡ old ++ more
-      → AreSessionsOf moment source_state sink_state start streams reports new
+      → AreSessionsOf style moment source_state sink_state start streams reports old → IsReap more → new ≡ old ++ more
+      → AreSessionsOf style moment source_state sink_state start streams reports new
   reaped_later start streams reports old more new each reap grown k own report within =
       let h = each k own report within in
       record { seen = h.seen; sealed = h.sealed; later = still_others k h.seen old more new h.later (reap_is_nobodys k more reap) grown; serves = h.serves }
 
   -- the sessions ran, and the store was closed
   pub runs_to : (start : Start D) (streams : List (Streams S K)) (shared end : Standing D) (reports : List (SessionReport S K)) (run : StoreRun D S K)
-      → HasTreeOrStop → start_of shared ≡ start → length reports ≡ length streams → AreSessionsOf moment source_state sink_state start streams reports (events shared)
+      → HasTreeOrStop → start_of shared ≡ start → length reports ≡ length streams → AreSessionsOf style moment source_state sink_state start streams reports (events shared)
       → AreOwnedBelow owner_of (length streams) (events shared) → (run.notice ≡ Memory) ⊎ (run.notice ≡ notice_of reports) → run.sessions ≡ reports → IsClosed moment shared end run
-      → RunsTo moment source_state sink_state start streams end run
+      → RunsTo style moment source_state sink_state start streams end run
   runs_to start streams shared end reports run trees began count each owned told is closed = record {
     began = closed.start ∙ began;
     ends = closed.ends;
     count = ap length is ∙ count;
-    each = subst (λ (rs : List (SessionReport S K)). AreSessionsOf moment source_state sink_state start streams rs (events end)) (sym is)
+    each = subst (λ (rs : List (SessionReport S K)). AreSessionsOf style moment source_state sink_state start streams rs (events end)) (sym is)
         later;
     others = still_owned (length streams) (events shared) closed.more (events end) owned closed.reap closed.grown;
     told = subst (λ (rs : List (SessionReport S K)). (run.notice ≡ Memory) ⊎ (run.notice ≡ notice_of rs)) (sym is) told;
-    disk = λ tells. rose_for moment end closed.ends.ledger (tells_disk trees moment source_state sink_state start streams reports (events end) count later run.notice told tells)
+    disk = λ tells. rose_for moment end closed.ends.ledger (tells_disk trees style moment source_state sink_state start streams reports (events end) count later run.notice told tells)
         closed.ends.counted;
-    damaged = λ page tells db began_as. tells_damage trees moment source_state sink_state start streams reports (events end) count later run.notice told page tells db
+    damaged = λ page tells db began_as. tells_damage trees style moment source_state sink_state start streams reports (events end) count later run.notice told page tells db
         (subst (λ (s : Start D). BeganAs (moment s.opened.disk).state db) (closed.start ∙ began) began_as);
   }
     where
-      later : AreSessionsOf moment source_state sink_state start streams reports (events end)
+      later : AreSessionsOf style moment source_state sink_state start streams reports (events end)
       later = reaped_later start streams reports (events shared) closed.more (events end) each closed.reap closed.grown
 
   -- no session ran over a store that was opened
@@ -95,16 +96,16 @@ module _ {D S K : Type 0} (moment : D → Moment) (source_state : S → SourceSt
   }
 
   pub runs_over : (disk : D) (limits : Limits) (streams : List (Streams S K)) (store end : Standing D) (run : StoreRun D S K)
-      → BeganOver moment disk limits (start_of store) → RunsTo moment source_state sink_state (start_of store) streams end run
-      → RunsOver moment source_state sink_state disk limits streams end run
+      → BeganOver moment disk limits (start_of store) → RunsTo style moment source_state sink_state (start_of store) streams end run
+      → RunsOver style moment source_state sink_state disk limits streams end run
   runs_over disk limits streams store end run began runs = record {
     opened = subst (λ (start : Start D). BeganOver moment disk limits start) (sym runs.began) began;
-    runs = subst (λ (start : Start D). RunsTo moment source_state sink_state start streams end run) (sym runs.began) runs;
+    runs = subst (λ (start : Start D). RunsTo style moment source_state sink_state start streams end run) (sym runs.began) runs;
   }
 
   pub over : (disk : D) (limits : Limits) (streams : List (Streams S K)) (store : Standing D) (run : StoreRun D S K) → BeganOver moment disk limits (start_of store)
-      → OnlySyncs (moment disk) (moment store.disk) → LacksMemory store run ⊎ ((end : Standing D) × RunsTo moment source_state sink_state (start_of store) streams end run)
-      → IsUnrun moment disk run ⊎ ((end : Standing D) × RunsOver moment source_state sink_state disk limits streams end run)
+      → OnlySyncs (moment disk) (moment store.disk) → LacksMemory store run ⊎ ((end : Standing D) × RunsTo style moment source_state sink_state (start_of store) streams end run)
+      → IsUnrun moment disk run ⊎ ((end : Standing D) × RunsOver style moment source_state sink_state disk limits streams end run)
   over disk limits streams store run began reads ran = elim ran [
     | inl lacks ↦ inl (lacks_memory disk store run reads.seen lacks)
     | inr runs ↦ inr (runs.0, runs_over disk limits streams store runs.0 run began runs.1)
@@ -112,7 +113,7 @@ module _ {D S K : Type 0} (moment : D → Moment) (source_state : S → SourceSt
 
   -- the disk that is handed back is the one that was opened, some calls later
   pub disk_goes_on : (disk : D) (limits : Limits) (streams : List (Streams S K)) (store : Standing D) (run : StoreRun D S K) → BeganOver moment disk limits (start_of store)
-      → DiskGoesOn (moment disk).state (moment store.disk).state → LacksMemory store run ⊎ ((end : Standing D) × RunsTo moment source_state sink_state (start_of store) streams end run)
+      → DiskGoesOn (moment disk).state (moment store.disk).state → LacksMemory store run ⊎ ((end : Standing D) × RunsTo style moment source_state sink_state (start_of store) streams end run)
       → DiskGoesOn (moment disk).state (moment run.disk).state
   disk_goes_on disk limits streams store run began same ran = elim ran [
     | inl lacks ↦ subst (λ (d : D). DiskGoesOn (moment disk).state (moment d).state) (sym lacks.is_disk) same

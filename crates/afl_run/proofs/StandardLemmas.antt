@@ -23,10 +23,10 @@ use Rattle.session_reports.specs.Outcomes.{notice_by as told_by, notice_of}
 use Rattle.session_reports.specs.declared.reports.SessionReport.{SessionReport}
 use Rattle.session_reports.specs.declared.reports.Streams.{Streams}
 use Rattle.afl_run.specs.OneHistory.{HasCause}
-use Rattle.afl_run.specs.Run.{IsOfAnswers, RunsTry}
+use Rattle.afl_run.specs.Run.{IsOfAnswers, RunsTry, plain}
 use Rattle.afl_run.specs.Inner.Making.{IsEmpty, Makes}
 use Rattle.afl_run.specs.Inner.Over.{IsUnrun, RunsOver}
-use Rattle.afl_run.proofs.StreamsLemmas.{leaves_same, one_history, reports_opened, zip_length}
+use Rattle.afl_run.proofs.StreamsLemmas.{leaves_same, one_history, opened_fresh, reports_opened, zip_length}
 
 -- ---- an empty database in memory
 
@@ -69,7 +69,7 @@ began_empty moment disk limits end began empty = record {
 
 -- ---- what is never told
 
-abbrev IsOfDisk : Notice → Type 0
+abbrev pub IsOfDisk : Notice → Type 0
 IsOfDisk notices.Disk = Unit {0}
 IsOfDisk (notices.Damaged page) = Unit {0}
 IsOfDisk _ = ⊥
@@ -91,7 +91,7 @@ not_opened_otherwise told old now fails is = elim fails [
   ]
 ]
 
-none_there : {A : Type 0} (o : Option A) → IsSome o → o ≡ None → ⊥
+pub none_there : {A : Type 0} (o : Option A) → IsSome o → o ≡ None → ⊥
 none_there None some is = absurd (cc (some))
 none_there (Some x) some is = absurd (cc (is))
 
@@ -118,7 +118,7 @@ opens_if_told told old now script reply fails = elim fails [
 ]
 
 -- a disk in memory never fails
-never_fails : {S K : Type 0} {source_state : S → SourceState} {sink_state : K → SinkState} {sessions : List (SessionReport S K)} {notice : Notice} (end : Standing SureBytes)
+pub never_fails : {S K : Type 0} {source_state : S → SourceState} {sink_state : K → SinkState} {sessions : List (SessionReport S K)} {notice : Notice} (end : Standing SureBytes)
     → HasCause sure_disk_moment source_state sink_state sessions notice end → notice ≡ notices.Disk → ⊥
 never_fails end causes is = let rose : risen 0 ≤ 0 = causes.disk is in absurd (omega (arith, rose))
 
@@ -139,7 +139,7 @@ told_of_sessions false false None (Some at) refused = tt
 told_of_sessions false false None None true = tt
 told_of_sessions false false None None false = tt
 
-answers_all : {S K : Type 0} {source_state : S → SourceState} {sink_state : K → SinkState} (sessions : List (SessionReport S K)) (notice : Notice) (end : Standing SureBytes)
+pub answers_all : {S K : Type 0} {source_state : S → SourceState} {sink_state : K → SinkState} (sessions : List (SessionReport S K)) (notice : Notice) (end : Standing SureBytes)
     → HasCause sure_disk_moment source_state sink_state sessions notice end → (db : Database) → BeganAs (sure_disk_moment end.opened.disk).state db
     → All (λ report. (Rose 0 (source_state report.source).faults → ⊥) × (Rose 0 (sink_state report.sink).faults → ⊥)) sessions
     → (notice ≡ notices.Memory) ⊎ (notice ≡ notice_of sessions) → IsOfAnswers notice
@@ -209,19 +209,19 @@ module _ {S K : Type 0} (source_state : S → SourceState) (sink_state : K → S
       one = λ ran. absurd (ran unrun.none);
     }
 
-    tries_over : (end : Standing SureBytes) → RunsOver sure_disk_moment source_state sink_state disk limits streams end run
+    tries_over : (end : Standing SureBytes) → RunsOver plain sure_disk_moment source_state sink_state disk limits streams end run
         → RunsTry sure_disk_moment source_state sink_state old now run.notice run.history run.sessions run.free_pages
     tries_over end over =
         let many : length run.sessions ≡ length streams = over.runs.count in
         let all : length streams ≡ 1 = zip_length (IsOpenedFor source_state sink_state old) (standard ∷ []) streams opened in
-        let one = one_history sure_disk_moment source_state sink_state old (standard ∷ []) streams opened disk limits run end over in
+        let one = one_history plain sure_disk_moment source_state sink_state streams (opened_fresh plain sure_disk_moment source_state sink_state old (standard ∷ []) streams opened) disk limits run end over in
         let database = began_empty sure_disk_moment disk limits end over.opened empty in
         record {
           first = λ is. let none : length run.sessions ≡ 0 = ap length is in absurd (omega (arith, many, all, none));
           disk = λ is. never_fails end one.causes is;
           damaged = λ page is. one.causes.damaged page is [] database;
           complete = λ script reply calm. answers_all run.sessions run.notice end one.causes [] database calm over.runs.told;
-          opened = inr (reports_opened sure_disk_moment source_state sink_state old (standard ∷ []) streams opened (start_of end) run.sessions end over.runs.count over.runs.each);
+          opened = inr (reports_opened plain sure_disk_moment source_state sink_state old (standard ∷ []) streams opened (start_of end) run.sessions end over.runs.count over.runs.each);
           others = others;
           handed = record {
             replies = 1;
@@ -243,7 +243,7 @@ module _ {S K : Type 0} (source_state : S → SourceState) (sink_state : K → S
           );
         }
 
-    pub tries_ran : IsUnrun sure_disk_moment disk run ⊎ ((end : Standing SureBytes) × RunsOver sure_disk_moment source_state sink_state disk limits streams end run)
+    pub tries_ran : IsUnrun sure_disk_moment disk run ⊎ ((end : Standing SureBytes) × RunsOver plain sure_disk_moment source_state sink_state disk limits streams end run)
         → RunsTry sure_disk_moment source_state sink_state old now run.notice run.history run.sessions run.free_pages
     tries_ran ran = elim ran [ inl unrun ↦ tries_unrun unrun | inr over ↦ tries_over over.0 over.1 ]
 

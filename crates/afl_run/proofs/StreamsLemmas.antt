@@ -4,8 +4,8 @@ use Rattle.std.specs.List.{AllZip}
 use Rattle.afl_lexer.specs.Inner.Standing.{StandsAfter}
 use Rattle.afl_outside.specs.Counts.{Rose, risen}
 use Rattle.afl_outside.specs.Disk.{DiskGoesOn, DiskState, IsNewDisk, Moment}
-use Rattle.afl_outside.specs.Source.{SourceState}
-use Rattle.afl_outside.specs.Sink.{SinkState}
+use Rattle.afl_outside.specs.Source.{IsNewSource, SourceState}
+use Rattle.afl_outside.specs.Sink.{IsNewSink, SinkState}
 use Rattle.afl_outside.specs.Shelf.{LeavesOthers, ShelfState}
 use Rattle.run_stores.specs.Start.{Start}
 use Rattle.run_stores.specs.Starts.{start_of}
@@ -28,6 +28,7 @@ use Rattle.session_reports.specs.declared.reports.Streams.{Streams}
 use Rattle.session_reports.specs.declared.notices.Notice.{Notice}
 use Rattle.session_reports.specs.declared.notices.Notice.TheVariants as notices
 use Rattle.session_threads.specs.Sessions.{AreSessionsOf, IsSessionOf}
+use Rattle.session_threads.specs.Style.{Style}
 use Rattle.afl_run.specs.OneHistory.{IsOneHistory, IsReportOf}
 use Rattle.afl_run.specs.Printed.{IsOpenedAs, Prints}
 use Rattle.session_threads.proofs.InHistories.{sessions_stay}
@@ -83,33 +84,52 @@ begun source_state sink_state shelf (script ∷ scripts) (own ∷ streams) all (
 
 -- ---- sessions that ran
 
-module _ {D S K : Type 0} (moment : D → Moment) (source_state : S → SourceState) (sink_state : K → SinkState) (shelf : ShelfState) (scripts : List Word)
+-- streams of which nothing is read or written yet
+pub record IsFresh {S K : Type 0} (source_state : S → SourceState) (sink_state : K → SinkState) (own : Streams S K) : Type 0 where
+  pub script : Word
+  pub reply : Word
+  pub source : IsNewSource script (source_state own.source)
+  pub sink : IsNewSink reply (sink_state own.sink)
+
+abbrev pub AreFresh : {S K : Type 0} → (S → SourceState) → (K → SinkState) → List (Streams S K) → Type 0
+AreFresh {S = S} {K = K} source_state sink_state streams = (k : ℕ) (other : Streams S K) → k < length streams → IsFresh source_state sink_state (get_or streams k other)
+
+module _ {D S K : Type 0} (style : Style) (moment : D → Moment) (source_state : S → SourceState) (sink_state : K → SinkState) (shelf : ShelfState) (scripts : List Word)
     (streams : List (Streams S K)) (opened : AreOpenedFor source_state sink_state shelf scripts streams) where
+  pub opened_fresh : AreFresh source_state sink_state streams
+  opened_fresh k other within =
+      let is = zip_at (IsOpenedFor source_state sink_state shelf) scripts streams k [] other opened within in
+      record { script = get_or scripts k []; reply = reply_name (get_or scripts k []); source = is.source.new; sink = is.sink.new }
+
   module _ (start : Start D) (reports : List (SessionReport S K)) (end : Standing D) (count : length reports ≡ length streams)
-      (each : AreSessionsOf moment source_state sink_state start streams reports (events end)) where
+      (each : AreSessionsOf style moment source_state sink_state start streams reports (events end)) where
     pub reports_opened : AllZip (λ script report. IsOpenedAs shelf script (source_state report.source) (sink_state report.sink)) scripts reports
     reports_opened = zip_places (IsOpenedFor source_state sink_state shelf) (λ script report. IsOpenedAs shelf script (source_state report.source) (sink_state report.sink))
-        (λ own report. (k : ℕ) × IsSessionOf moment source_state sink_state start k own report (events end)) scripts streams reports
+        (λ own report. (k : ℕ) × IsSessionOf style moment source_state sink_state start k own report (events end)) scripts streams reports
         (λ script own report is session. opened_as _ _ _ _ _ _ _ _ _ _ shelf script is.source is.sink session.1.serves)
         count opened (λ k own report within. (k, each k own report within))
 
-    pub report_prints : (k : ℕ) (other : SessionReport S K) → k < length reports → IsReportOf moment source_state sink_state start k (get_or reports k other) (events end)
+module _ {D S K : Type 0} (style : Style) (moment : D → Moment) (source_state : S → SourceState) (sink_state : K → SinkState) (streams : List (Streams S K))
+    (fresh : AreFresh source_state sink_state streams) where
+  module _ (start : Start D) (reports : List (SessionReport S K)) (end : Standing D) (count : length reports ≡ length streams)
+      (each : AreSessionsOf style moment source_state sink_state start streams reports (events end)) where
+    pub report_prints : (k : ℕ) (other : SessionReport S K) → k < length reports → IsReportOf style moment source_state sink_state start k (get_or reports k other) (events end)
     report_prints k other within =
         let inside : k < length streams = omega (arith, within, count) in
         let own = get_or streams k (first streams inside) in
         let h = each k (first streams inside) other inside in
-        let is = zip_at (IsOpenedFor source_state sink_state shelf) scripts streams k [] (first streams inside) opened inside in
+        let is = fresh k (first streams inside) inside in
         record {
           seen = h.seen;
           later = h.later;
           sealed = h.sealed;
-          prints = prints _ _ _ _ _ _ _ _ _ _ _ _ is.source.new is.sink.new h.serves;
+          prints = prints _ _ _ _ _ _ _ _ _ _ _ _ is.source is.sink h.serves;
           in_history = subst
-              (λ (whole : List Event). Prints (IsMarkedIn moment start k whole) [] 0 h.seen (source_state (get_or reports k other).source) (sink_state (get_or reports k other).sink)
+              (λ (whole : List Event). Prints (IsMarkedIn style moment start k whole) [] 0 h.seen (source_state (get_or reports k other).source) (sink_state (get_or reports k other).sink)
               (get_or reports k other).marks (get_or reports k other).end)
               (sym h.later.1)
-              (prints _ _ _ _ _ _ _ _ _ _ _ _ is.source.new is.sink.new
-              (sessions_stay moment start k [] h.seen h.later.0 0 _ _ _ _ _ _ h.sealed h.serves));
+              (prints _ _ _ _ _ _ _ _ _ _ _ _ is.source is.sink
+              (sessions_stay moment style start k [] h.seen h.later.0 0 _ _ _ _ _ _ h.sealed h.serves));
         }
       where
         first : {A : Type 0} (xs : List A) → k < length xs → A
@@ -126,8 +146,8 @@ module _ {D S K : Type 0} (moment : D → Moment) (source_state : S → SourceSt
           | inr sink ↦ inr (p.sink_fault sink)
         ])
 
-  pub one_history : (disk : D) (limits : Limits) (run : StoreRun D S K) (end : Standing D) → RunsOver moment source_state sink_state disk limits streams end run
-      → IsOneHistory moment source_state sink_state run.sessions run.notice run.history run.free_pages end
+  pub one_history : (disk : D) (limits : Limits) (run : StoreRun D S K) (end : Standing D) → RunsOver style moment source_state sink_state disk limits streams end run
+      → IsOneHistory style moment source_state sink_state run.sessions run.notice run.history run.free_pages end
   one_history disk limits run end over = record {
     is_history = over.runs.ends.is_history;
     ledger = over.runs.ends.ledger;
@@ -199,11 +219,11 @@ tells_stream notice asked scripts device old new fails = elim fails [
   ]
 ]
 
-module _ {D S K : Type 0} (moment : D → Moment) (source_state : S → SourceState) (sink_state : K → SinkState) (old now : ShelfState) (disk : D) (scripts : List Word)
+module _ {D S K : Type 0} (style : Style) (moment : D → Moment) (source_state : S → SourceState) (sink_state : K → SinkState) (old now : ShelfState) (disk : D) (scripts : List Word)
     (limits : Limits) (others : LeavesUnasked (stream_names scripts) old now) where
   pub on_unopened : (told : Notice) → HandsOutSome (length scripts) old now → (told ≡ notices.Memory) ⊎ FailsToOpen scripts told old now
       → StopsAt source_state sink_state scripts old now told
-      → RunsOn moment source_state sink_state old now told [] [] 0 disk scripts limits.pages limits.history (Some disk)
+      → RunsOn style moment source_state sink_state old now told [] [] 0 disk scripts limits.pages limits.history (Some disk)
   on_unopened told some fails stops = record {
     opened = inl refl;
     all = λ is. absurd (not_of_store told scripts old now fails is);
@@ -233,7 +253,7 @@ module _ {D S K : Type 0} (moment : D → Moment) (source_state : S → SourceSt
     }
 
     on_unrun : IsUnrun moment disk run
-        → RunsOn moment source_state sink_state old now run.notice run.history run.sessions run.free_pages disk scripts limits.pages limits.history (Some run.disk)
+        → RunsOn style moment source_state sink_state old now run.notice run.history run.sessions run.free_pages disk scripts limits.pages limits.history (Some run.disk)
     on_unrun unrun = record {
       opened = inl unrun.none;
       all = λ is. hands;
@@ -247,7 +267,7 @@ module _ {D S K : Type 0} (moment : D → Moment) (source_state : S → SourceSt
       one = λ ran. absurd (ran unrun.none);
     }
 
-    module _ (end : Standing D) (over : RunsOver moment source_state sink_state disk limits streams end run) where
+    module _ (end : Standing D) (over : RunsOver style moment source_state sink_state disk limits streams end run) where
       as_many : length run.sessions ≡ length scripts
       as_many = over.runs.count ∙ zip_length (IsOpenedFor source_state sink_state old) scripts streams opened
 
@@ -267,9 +287,9 @@ module _ {D S K : Type 0} (moment : D → Moment) (source_state : S → SourceSt
         found = subst (λ (o : Option (List ℕ)). IfSome o (λ file. IsOpenedFrom limits.pages file (start_of end))) (begins.seen ∙ sym goes_end.first) over.opened.opened;
       }
 
-      on_over : RunsOn moment source_state sink_state old now run.notice run.history run.sessions run.free_pages disk scripts limits.pages limits.history (Some run.disk)
+      on_over : RunsOn style moment source_state sink_state old now run.notice run.history run.sessions run.free_pages disk scripts limits.pages limits.history (Some run.disk)
       on_over = record {
-        opened = inr (reports_opened moment source_state sink_state old scripts streams opened (start_of end) run.sessions end over.runs.count over.runs.each);
+        opened = inr (reports_opened style moment source_state sink_state old scripts streams opened (start_of end) run.sessions end over.runs.count over.runs.each);
         goes_on = goes;
         others = others;
         handed = all_replies (inr (sym as_many));
@@ -278,11 +298,11 @@ module _ {D S K : Type 0} (moment : D → Moment) (source_state : S → SourceSt
         unwritten = λ is. absurd (some_ran is);
         none = λ is. absurd (some_ran is);
         told = λ ran. over.runs.told;
-        one = λ ran. (end, one_history moment source_state sink_state old scripts streams opened disk limits run end over, began_from);
+        one = λ ran. (end, one_history style moment source_state sink_state streams (opened_fresh style moment source_state sink_state old scripts streams opened) disk limits run end over, began_from);
       }
 
-    pub on_ran : IsUnrun moment disk run ⊎ ((end : Standing D) × RunsOver moment source_state sink_state disk limits streams end run)
-        → RunsOn moment source_state sink_state old now run.notice run.history run.sessions run.free_pages disk scripts limits.pages limits.history (Some run.disk)
+    pub on_ran : IsUnrun moment disk run ⊎ ((end : Standing D) × RunsOver style moment source_state sink_state disk limits streams end run)
+        → RunsOn style moment source_state sink_state old now run.notice run.history run.sessions run.free_pages disk scripts limits.pages limits.history (Some run.disk)
     on_ran ran = elim ran [ inl unrun ↦ on_unrun unrun | inr over ↦ on_over over.0 over.1 ]
 
 -- ---- a report that has these parts
@@ -372,11 +392,11 @@ module _ (asked : Word) (scripts : List Word) (old mid : ShelfState) (others : L
         all)
   ]
 
-  module _ {D S K : Type 0} (moment : D → Moment) (source_state : S → SourceState) (sink_state : K → SinkState) (new : ShelfState) (notice : Notice) (history : List Entry)
+  module _ {D S K : Type 0} (style : Style) (moment : D → Moment) (source_state : S → SourceState) (sink_state : K → SinkState) (new : ShelfState) (notice : Notice) (history : List Entry)
       (sessions : List (SessionReport S K)) (free pages limit : ℕ) (disk : D) (is_new : IsNewDisk asked (moment disk).state)
       (content : IfSome (old.devices asked) (λ bytes. (moment disk).state.first ≡ Some bytes)) (handed : mid.handed ≡ risen old.handed) where
-    pub runs_scripts : (device : Option D) → RunsOn moment source_state sink_state mid new notice history sessions free disk scripts pages limit device
-        → RunsScripts moment source_state sink_state old new notice history sessions free asked scripts pages limit device
+    pub runs_scripts : (device : Option D) → RunsOn style moment source_state sink_state mid new notice history sessions free disk scripts pages limit device
+        → RunsScripts style moment source_state sink_state old new notice history sessions free asked scripts pages limit device
     runs_scripts None on = absurd on.goes_on
     runs_scripts (Some later) on = record {
       opened = opened_since source_state sink_state sessions on.opened;
@@ -400,11 +420,11 @@ module _ (asked : Word) (scripts : List Word) (old mid : ShelfState) (others : L
       one = on.one;
     }
 
-module _ {D S K : Type 0} (moment : D → Moment) (source_state : S → SourceState) (sink_state : K → SinkState) (old now : ShelfState) (asked : Word) (scripts : List Word)
+module _ {D S K : Type 0} (style : Style) (moment : D → Moment) (source_state : S → SourceState) (sink_state : K → SinkState) (old now : ShelfState) (asked : Word) (scripts : List Word)
     (pages limit : ℕ) where
   -- the device was not opened
   pub runs_nothing : (told : Notice) → FailsToOpenDevice asked told old now → LeavesOthers asked old now → now.handed ≡ old.handed
-      → RunsScripts moment source_state sink_state old now told [] [] 0 asked scripts pages limit None
+      → RunsScripts style moment source_state sink_state old now told [] [] 0 asked scripts pages limit None
   runs_nothing told fails others handed = record {
     opened = inl refl;
     is_asked = tt;

@@ -1,3 +1,4 @@
+pub mod Generate
 pub mod Init
 pub mod Inner
 pub mod OneHistory

@@ -23,10 +23,19 @@ use Rattle.session_reports.specs.declared.notices.Notice.{Notice}
 use Rattle.session_reports.specs.declared.notices.Notice.TheVariants.{Damaged, Disk, Memory, Stream}
 use Rattle.session_threads.specs.Histories.{IsMarkedIn}
 use Rattle.session_threads.specs.Marked.{IsMarked}
+use Rattle.session_threads.specs.Style.{Style}
 use Rattle.run_stores.specs.Held.{HoldsHistory}
 use Rattle.afl_run.specs.Printed.{Prints}
 
 module _ {D S K : Type 0} (moment : D → Moment) (source_state : S → SourceState) (sink_state : K → SinkState) where
+  -- WHAT THE NOTICE OF SESSIONS SAYS HAS ITS CAUSE: the disk's count rose; the file began as no database; a count of the session's streams rose
+  pub record HasCause (sessions : List (SessionReport S K)) (notice : Notice) (store : Standing D) : Type 0 where
+    pub disk : notice ≡ Disk → Rose (moment store.opened.disk).state.faults (moment store.disk).state.faults
+    pub damaged : (page : ℕ) → notice ≡ Damaged page → (db : Database) → BeganAs (moment store.opened.disk).state db → ⊥
+    pub stream : (session : ℕ) → notice ≡ Stream session
+        → IsSomeAnd (slice_get sessions session) (λ report. Rose 0 (source_state report.source).faults ⊎ Rose 0 (sink_state report.sink).faults)
+
+module _ {D S K : Type 0} (style : Style) (moment : D → Moment) (source_state : S → SourceState) (sink_state : K → SinkState) where
   -- A SESSION OVER ONE HISTORY: what it had seen at its end is a beginning of the history, in which each commit was acknowledged; none of what came
   -- behind is its own; and up to there it answered the statements of its script in order. Each mark tells at its place of what the session had seen
   -- then, and of the whole history
@@ -34,15 +43,8 @@ module _ {D S K : Type 0} (moment : D → Moment) (source_state : S → SourceSt
     pub seen : List Event
     pub later : ExtendsByOthers owner_of session seen history
     pub sealed : IsTrue (list_all is_sealed seen)
-    pub prints : Prints (IsMarked moment start session) [] 0 seen (source_state report.source) (sink_state report.sink) report.marks report.end
-    pub in_history : Prints (IsMarkedIn moment start session history) [] 0 seen (source_state report.source) (sink_state report.sink) report.marks report.end
-
-  -- WHAT THE NOTICE OF SESSIONS SAYS HAS ITS CAUSE: the disk's count rose; the file began as no database; a count of the session's streams rose
-  pub record HasCause (sessions : List (SessionReport S K)) (notice : Notice) (store : Standing D) : Type 0 where
-    pub disk : notice ≡ Disk → Rose (moment store.opened.disk).state.faults (moment store.disk).state.faults
-    pub damaged : (page : ℕ) → notice ≡ Damaged page → (db : Database) → BeganAs (moment store.opened.disk).state db → ⊥
-    pub stream : (session : ℕ) → notice ≡ Stream session
-        → IsSomeAnd (slice_get sessions session) (λ report. Rose 0 (source_state report.source).faults ⊎ Rose 0 (sink_state report.sink).faults)
+    pub prints : Prints (IsMarked style moment start session) [] 0 seen (source_state report.source) (sink_state report.sink) report.marks report.end
+    pub in_history : Prints (IsMarkedIn style moment start session history) [] 0 seen (source_state report.source) (sink_state report.sink) report.marks report.end
 
   -- THE REPORTS OF A RUN ARE THOSE OF ONE HISTORY, which is that of its store at its end
   pub record IsOneHistory (sessions : List (SessionReport S K)) (notice : Notice) (history : List Entry) (free : ℕ) (store : Standing D) : Type 0 where
@@ -57,7 +59,7 @@ module _ {D S K : Type 0} (moment : D → Moment) (source_state : S → SourceSt
     pub pages : free ≡ length (unused_pages store.ledger)
     -- each page that nobody can name is free, or one more entry would pass the limit
     pub reaped : (notice ≡ Memory → ⊥) → reap_comes store.ledger ≡ false
-    pub causes : HasCause sessions notice store
+    pub causes : HasCause moment source_state sink_state sessions notice store
     pub cells : (db : Database) → BeganAs (moment store.opened.disk).state db → HoldsHistory moment store db
     -- whatever the file stood for as it was opened, each image has each payload, whole or with the bytes of then
     pub payloads : (file : List ℕ) → HasTold (moment store.opened.disk).state file → (image : List ℕ) → (moment store.disk).may_leave image

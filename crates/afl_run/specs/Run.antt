@@ -1,5 +1,5 @@
 -- What the top call reports, by the words.
-use Rattle.std.specs.Prelude.{◌≡◌, ◌≢◌, ◌⊎◌, ℕ, ◌+◌, ◌≤◌, List, [], ◌∷◌, length, All, Option, None, Some, IfSome, IsSome}
+use Rattle.std.specs.Prelude.{◌≡◌, ◌≢◌, ◌⊎◌, ℕ, ◌+◌, ◌≤◌, false, List, [], ◌∷◌, length, All, Option, None, Some, IfSome, IsSome}
 use Rattle.std.specs.List.{AllZip}
 use Rattle.afl_outside.specs.Counts.{Rose}
 use Rattle.afl_outside.specs.Disk.{DiskState, Moment}
@@ -17,6 +17,7 @@ use Rattle.session_reports.specs.declared.notices.Notice.{Notice}
 use Rattle.session_reports.specs.declared.notices.Notice.TheVariants as notices
 use Rattle.run_stores.specs.Began.{IsOpenedFrom}
 use Rattle.run_stores.specs.Starts.{start_of}
+use Rattle.session_threads.specs.Style.{Style}
 use Rattle.afl_run.specs.Init.{TellsDevice, notice_by}
 use Rattle.afl_run.specs.OneHistory.{IsOneHistory}
 use Rattle.afl_run.specs.Printed.{IsOpenedAs}
@@ -96,9 +97,9 @@ pub record BeganEmpty {D : Type 0} (moment : D → Moment) (store : Standing D) 
   pub entries : store.ledger.limit ≡ 1048576
   pub page_limit : store.ledger.base.limit ≡ 65536
 
-module _ {D S K : Type 0} (moment : D → Moment) (source_state : S → SourceState) (sink_state : K → SinkState) (old new : ShelfState)
+module _ {D S K : Type 0} (style : Style) (moment : D → Moment) (source_state : S → SourceState) (sink_state : K → SinkState) (old new : ShelfState)
     (notice : Notice) (history : List Entry) (sessions : List (SessionReport S K)) (free : ℕ) where
-  -- SESSIONS OVER A DEVICE, by the words of `run`
+  -- SESSIONS OVER A DEVICE, by the words of `run`, whose replies are printed in this style
   pub record RunsScripts (asked : Word) (scripts : List Word) (pages limit : ℕ) (device : Option D) : Type 0 where
     pub opened : AreOfScripts source_state sink_state old scripts sessions
     pub is_asked : IfSome device (λ disk. IsOpenedDevice asked old (moment disk).state)
@@ -114,9 +115,15 @@ module _ {D S K : Type 0} (moment : D → Moment) (source_state : S → SourceSt
     pub unwritten : sessions ≡ [] → IfSome device (λ disk. (moment disk).state.seen ≡ (moment disk).state.first)
     pub none : sessions ≡ [] → (history ≡ []) × (free ≡ 0) × TellsUnrun notice asked scripts (state_in moment device) old new
     pub told : TellsSessions notice sessions
-    pub one : sessions ≢ [] → (store : Standing D) × IsOneHistory moment source_state sink_state sessions notice history free store
+    pub one : sessions ≢ [] → (store : Standing D) × IsOneHistory style moment source_state sink_state sessions notice history free store
         × BeganFrom moment pages limit device store
 
+-- the replies of a run whose words ask for no other style
+abbrev pub plain : Style
+plain = record { csv = false }
+
+module _ {D S K : Type 0} (moment : D → Moment) (source_state : S → SourceState) (sink_state : K → SinkState) (old new : ShelfState)
+    (notice : Notice) (history : List Entry) (sessions : List (SessionReport S K)) (free : ℕ) where
   -- ONE SESSION over an empty database in memory, from the standard input to the standard output
   pub record RunsTry : Type 0 where
     pub opened : AreOfScripts source_state sink_state old (standard ∷ []) sessions
@@ -132,7 +139,7 @@ module _ {D S K : Type 0} (moment : D → Moment) (source_state : S → SourceSt
     pub complete : IsSome (old.scripts standard) → IsSome (old.replies standard)
         → All (λ report. (Rose 0 (source_state report.source).faults → ⊥) × (Rose 0 (sink_state report.sink).faults → ⊥)) sessions
         → IsOfAnswers notice
-    pub one : sessions ≢ [] → (store : Standing D) × IsOneHistory moment source_state sink_state sessions notice history free store
+    pub one : sessions ≢ [] → (store : Standing D) × IsOneHistory plain moment source_state sink_state sessions notice history free store
         × BeganEmpty moment store
 
 -- ---- `init`

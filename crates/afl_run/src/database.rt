@@ -17,6 +17,7 @@ use std::alloc::Global;
 pub(crate) fn run_init<F: Shelf>(alloc: Global, name: &str, shelf: F) -> Report<F>
     ensures status { result.status ≡ status_of result.notice }
     ensures sessions { result.sessions ≡ [] }
+    ensures generated { result.generated ≡ None }
     ensures history { result.history ≡ [] }
     ensures free_pages { result.free_pages ≡ 0 }
     ensures makes { MakesDatabase F.Device.moment (F.state shelf) (F.state result.shelf) result.notice name.now result.disk }
@@ -32,6 +33,7 @@ pub(crate) fn run_init<F: Shelf>(alloc: Global, name: &str, shelf: F) -> Report<
 fn made<F: Shelf>(alloc: Global, disk: F::Device, shelf: F) -> Report<F>
     ensures status { result.status ≡ status_of result.notice }
     ensures sessions { result.sessions ≡ [] }
+    ensures generated { result.generated ≡ None }
     ensures history { result.history ≡ [] }
     ensures free_pages { result.free_pages ≡ 0 }
     ensures shelf { result.shelf ≡ shelf }

@@ -2,6 +2,7 @@
 #![tactic(auto)]
 
 mod database;
+mod generated;
 mod over;
 mod report;
 mod scripts;

@@ -17,9 +17,6 @@ use std::alloc::Global;
 use std::sync::Wait;
 use std::thread::Threads;
 
-/// How many threads may compute a statement.
-const WORKERS: u32 = 4;
-
 /// Opens a store over a disk, and answers a script for each of these streams.
 pub(crate) fn run_over<
     D: Disk + Send + Drop,
@@ -32,16 +29,18 @@ pub(crate) fn run_over<
     alloc: Global,
     disk: D,
     limits: Limits,
+    options: Options,
     streams: List<Streams<S, K>>,
     gate: &G,
 ) -> StoreRun<D, S, K>
+    requires workers { (1 ≤ options.workers) × (options.workers ≤ 64) }
     requires count { (1 ≤ length streams) × (length streams ≤ 16) }
     requires begun { All (λ own. StandsAfter [] own.splitter) streams }
     ensures same { DiskGoesOn (D.moment disk).state (D.moment result.disk).state }
-    ensures run { IsUnrun D.moment disk result ⊎ ((end : Standing D) × RunsOver D.moment S.state K.state disk limits streams end result) }
+    ensures run { IsUnrun D.moment disk result ⊎ ((end : Standing D) × RunsOver options.style D.moment S.state K.state disk limits streams end result) }
 {
     match open_store(alloc, disk, limits) {
-        Ok(store) => run_store(rt, alloc, store, streams, gate),
+        Ok(store) => run_store(rt, alloc, store, options, streams, gate),
         Err((notice, disk)) => {
             drop(streams);
             unrun(alloc, notice, disk)
@@ -73,18 +72,19 @@ fn run_store<
     rt: &R,
     alloc: Global,
     store: Store<D>,
+    options: Options,
     streams: List<Streams<S, K>>,
     gate: &G,
 ) -> StoreRun<D, S, K>
+    requires workers { (1 ≤ options.workers) × (options.workers ≤ 64) }
     requires count { (1 ≤ length streams) × (length streams ≤ 16) }
     requires entries { store.ledger.entries ≡ [] }
     requires notes { store.ledger.notes ≡ [] }
     requires begun { All (λ own. StandsAfter [] own.splitter) streams }
     ensures { LacksMemory (standing D.moment store) result
-        ⊎ ((end : Standing D) × RunsTo D.moment S.state K.state (start_of (standing D.moment store)) streams end result) }
+        ⊎ ((end : Standing D) × RunsTo options.style D.moment S.state K.state (start_of (standing D.moment store)) streams end result) }
 {
     texts_have_tree_or_stop();
-    let options = Options { workers: WORKERS };
     match run_sessions(rt, alloc, store, streams, &options, gate) {
         Ok((store, sessions)) => close_store(store, sessions),
         Err((Memory, store, streams)) => {

@@ -2,6 +2,7 @@
 ghost use Rattle.std.specs.Prelude.{◌≡◌, []};
 ghost use Rattle.session_reports.specs.Notice.{status_of};
 
+use afl_in_memory::SureSource;
 use afl_outside::Shelf;
 use cell_values::List;
 use event_core::Entry;
@@ -18,6 +19,8 @@ pub struct Report<F: Shelf> {
     pub history: List<Entry>,
     /// A report for each script, in order.
     pub sessions: List<SessionReport<F::S, F::K>>,
+    /// The report of a script that was made.
+    pub generated: Option<SessionReport<SureSource, F::K>>,
     /// How many pages nobody can name.
     pub free_pages: u64,
     /// The disk, wherever it was opened.
@@ -36,6 +39,7 @@ pub(crate) fn unrun<F: Shelf>(
     ensures notice { result.notice ≡ notice }
     ensures history { result.history ≡ [] }
     ensures sessions { result.sessions ≡ [] }
+    ensures generated { result.generated ≡ None }
     ensures free_pages { result.free_pages ≡ 0 }
     ensures disk { result.disk ≡ disk }
     ensures shelf { result.shelf ≡ shelf }
@@ -45,6 +49,7 @@ pub(crate) fn unrun<F: Shelf>(
         notice,
         history: List::new(alloc),
         sessions: List::new(alloc),
+        generated: None,
         free_pages: 0,
         disk,
         shelf,

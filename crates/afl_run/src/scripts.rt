@@ -12,6 +12,7 @@ use command_words::Arg;
 use run_opening::{open_device, open_streams};
 use run_stores::{Limits, StoreRun};
 use session_reports::status;
+use session_threads::Options;
 use std::alloc::Global;
 use std::sync::Wait;
 use std::thread::Threads;
@@ -23,19 +24,22 @@ pub(crate) fn run_scripts<F: Shelf, R: Threads + Wait + Sync, G: Gate>(
     device: &Arg,
     scripts: &[Arg],
     limits: Limits,
+    options: Options,
     shelf: F,
     gate: &G,
 ) -> Report<F>
+    requires workers { (1 ≤ options.workers) × (options.workers ≤ 64) }
     requires count { (1 ≤ length scripts.now) × (length scripts.now ≤ 16) }
     requires names { HaveOwnNames scripts.now }
     requires apart { All (λ name. device.now ≢ name) (stream_names scripts.now) }
     ensures status { result.status ≡ status_of result.notice }
-    ensures runs { RunsScripts F.Device.moment F.S.state F.K.state (F.state shelf) (F.state result.shelf) result.notice result.history result.sessions
+    ensures generated { result.generated ≡ None }
+    ensures runs { RunsScripts options.style F.Device.moment F.S.state F.K.state (F.state shelf) (F.state result.shelf) result.notice result.history result.sessions
         result.free_pages device.now scripts.now limits.pages limits.history result.disk }
 {
     let mut shelf = shelf;
     match open_device(&mut shelf, device.as_str()) {
-        Ok(disk) => run_on(rt, alloc, disk, scripts, limits, shelf, gate),
+        Ok(disk) => run_on(rt, alloc, disk, scripts, limits, options, shelf, gate),
         Err(notice) => unrun(alloc, notice, None, shelf),
     }
 }
@@ -47,20 +51,23 @@ fn run_on<F: Shelf, R: Threads + Wait + Sync, G: Gate>(
     disk: F::Device,
     scripts: &[Arg],
     limits: Limits,
+    options: Options,
     shelf: F,
     gate: &G,
 ) -> Report<F>
+    requires workers { (1 ≤ options.workers) × (options.workers ≤ 64) }
     requires count { (1 ≤ length scripts.now) × (length scripts.now ≤ 16) }
     requires names { HaveOwnNames scripts.now }
     requires begun { IsAsBegun (F.Device.moment disk).state }
     ensures status { result.status ≡ status_of result.notice }
-    ensures runs { RunsOn F.Device.moment F.S.state F.K.state (F.state shelf) (F.state result.shelf) result.notice result.history result.sessions
+    ensures generated { result.generated ≡ None }
+    ensures runs { RunsOn options.style F.Device.moment F.S.state F.K.state (F.state shelf) (F.state result.shelf) result.notice result.history result.sessions
         result.free_pages disk scripts.now limits.pages limits.history result.disk }
 {
     let mut shelf = shelf;
     match open_streams(alloc, scripts, &mut shelf) {
         Ok(streams) => {
-            let run = run_over(rt, alloc, disk, limits, streams, gate);
+            let run = run_over(rt, alloc, disk, limits, options, streams, gate);
             report_of(run, shelf)
         }
         Err(notice) => unrun(alloc, notice, Some(disk), shelf),
@@ -69,6 +76,7 @@ fn run_on<F: Shelf, R: Threads + Wait + Sync, G: Gate>(
 
 fn report_of<F: Shelf>(run: StoreRun<F::Device, F::S, F::K>, shelf: F) -> Report<F>
     ensures status { result.status ≡ status_of result.notice }
+    ensures generated { result.generated ≡ None }
     ensures notice { result.notice ≡ run.notice }
     ensures history { result.history ≡ run.history }
     ensures sessions { result.sessions ≡ run.sessions }
@@ -88,6 +96,7 @@ fn report_of<F: Shelf>(run: StoreRun<F::Device, F::S, F::K>, shelf: F) -> Report
         notice,
         history,
         sessions,
+        generated: None,
         free_pages,
         disk: Some(disk),
         shelf,

@@ -16,11 +16,20 @@ use command_words::Arg;
 use run_opening::open_streams;
 use run_stores::{Limits, StoreRun};
 use session_reports::{Notice, status};
+use session_threads::{Options, Style};
 use std::alloc::Global;
 use std::sync::Wait;
 use std::thread::Threads;
 
-const LIMITS: Limits = Limits {
+/// How replies are printed where the words don't say so.
+pub(crate) const PLAIN: Style = Style { csv: false };
+
+const OPTIONS: Options = Options {
+    workers: 4,
+    style: PLAIN,
+};
+
+pub(crate) const LIMITS: Limits = Limits {
     pages: 65_536,
     history: 1_048_576,
 };
@@ -33,7 +42,7 @@ fn standard_name(alloc: Global) -> Result<Arg, Memory>
 }
 
 /// An empty database in memory.
-fn empty_database(alloc: Global) -> Result<SureDisk, Memory>
+pub(crate) fn empty_database(alloc: Global) -> Result<SureDisk, Memory>
     ensures { IfOk result (λ disk. IsEmpty (sure_disk_moment disk)) }
 {
     let mut disk = SureDisk::new(Bytes::new(alloc));
@@ -51,6 +60,7 @@ pub(crate) fn run_try<F: Shelf, R: Threads + Wait + Sync, G: Gate>(
     gate: &G,
 ) -> Report<F>
     ensures status { result.status ≡ status_of result.notice }
+    ensures generated { result.generated ≡ None }
     ensures disk { result.disk ≡ None }
     ensures runs { RunsTry sure_disk_moment F.S.state F.K.state (F.state shelf) (F.state result.shelf) result.notice result.history result.sessions
         result.free_pages }
@@ -76,6 +86,7 @@ fn run_standard<F: Shelf, R: Threads + Wait + Sync, G: Gate>(
     requires name { names.now ≡ standard ∷ [] }
     requires empty { IsEmpty (sure_disk_moment disk) }
     ensures status { result.status ≡ status_of result.notice }
+    ensures generated { result.generated ≡ None }
     ensures disk { result.disk ≡ None }
     ensures runs { RunsTry sure_disk_moment F.S.state F.K.state (F.state shelf) (F.state result.shelf) result.notice result.history result.sessions
         result.free_pages }
@@ -83,7 +94,7 @@ fn run_standard<F: Shelf, R: Threads + Wait + Sync, G: Gate>(
     let mut shelf = shelf;
     match open_streams(alloc, names, &mut shelf) {
         Ok(streams) => {
-            let run = run_over(rt, alloc, disk, LIMITS, streams, gate);
+            let run = run_over(rt, alloc, disk, LIMITS, OPTIONS, streams, gate);
             report_of(run, shelf)
         }
         Err(notice) => unrun(alloc, notice, None, shelf),
@@ -96,6 +107,7 @@ fn report_of<F: Shelf>(run: StoreRun<SureDisk, F::S, F::K>, shelf: F) -> Report<
     ensures history { result.history ≡ run.history }
     ensures sessions { result.sessions ≡ run.sessions }
     ensures free_pages { result.free_pages ≡ run.free_pages }
+    ensures generated { result.generated ≡ None }
     ensures disk { result.disk ≡ None }
     ensures shelf { result.shelf ≡ shelf }
 {
@@ -112,6 +124,7 @@ fn report_of<F: Shelf>(run: StoreRun<SureDisk, F::S, F::K>, shelf: F) -> Report<
         notice,
         history,
         sessions,
+        generated: None,
         free_pages,
         disk: None,
         shelf,

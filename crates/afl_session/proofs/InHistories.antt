@@ -14,6 +14,7 @@ use Rattle.session_answers.specs.Event.{Event}
 use Rattle.session_answers.specs.Replies.{IsToldFor}
 use Rattle.session_answers.specs.Reply.{Reply}
 use Rattle.session_answers.specs.Start.{Start}
+use Rattle.session_answers.specs.Style.{Style}
 use Rattle.session_answers.specs.Told.{entries_in, is_sealed}
 use Rattle.session_answers.proofs.Staying.{entered_later, no_room_later, replies_stay}
 use Rattle.session_reports.specs.declared.reports.Mark.{Mark}
@@ -33,9 +34,9 @@ began_stays session pin old new later (making change) began = entered_later (len
 
 -- ---- a mark in more events
 
-module _ {D : Type 0} (moment : D → Moment) (origin : Start D) (session : ℕ) where
+module _ {D : Type 0} (style : Style) (moment : D → Moment) (origin : Start D) (session : ℕ) where
   answer_stays : (old new later : List Event) (last : ℕ) (text : List ℕ) (reply : Reply) → list_all is_sealed new ≡ true
-      → IsAnswered moment origin session last old new text reply → IsAnsweredIn moment origin session (new ++ later) old new last text reply
+      → IsAnswered style moment origin session last old new text reply → IsAnsweredIn style moment origin session (new ++ later) old new last text reply
   answer_stays old new later last text reply sealed answered = record {
     own = answered.own;
     course = answered.course;
@@ -47,8 +48,8 @@ module _ {D : Type 0} (moment : D → Moment) (origin : Start D) (session : ℕ)
     told = λ tree derives.
         let t = answered.told tree derives in (
           t.0,
-          subst (λ (events : List Event). IsToldFor moment origin session answered.pin (new ++ later) events text tree reply reply.refusal answered.course) (append-nil answered.own)
-              (replies_stay moment origin session answered.pin new later answered.own [] text tree reply reply.refusal answered.course sealed (answered.until tree derives) t.1),
+          subst (λ (events : List Event). IsToldFor moment origin session answered.pin (new ++ later) events text tree reply style reply.refusal answered.course) (append-nil answered.own)
+              (replies_stay moment style origin session answered.pin new later answered.own [] text tree reply reply.refusal answered.course sealed (answered.until tree derives) t.1),
         );
     until = answered.until;
     full = λ tree derives is. no_room_later origin old new later reply.place (answered.full tree derives is);
@@ -56,12 +57,12 @@ module _ {D : Type 0} (moment : D → Moment) (origin : Start D) (session : ℕ)
   }
 
   reply_stays : (old new later : List Event) (last bytes : ℕ) (text : Option (List ℕ)) (reply : Reply) → list_all is_sealed new ≡ true
-      → IsReplyOf (AnswersText moment origin session) old new last bytes text reply → IsReplyOf (AnswersTextIn moment origin session (new ++ later)) old new last bytes text reply
+      → IsReplyOf (AnswersText style moment origin session) old new last bytes text reply → IsReplyOf (AnswersTextIn style moment origin session (new ++ later)) old new last bytes text reply
   reply_stays old new later last bytes None reply sealed replied = replied
   reply_stays old new later last bytes (Some text) reply sealed replied = answer_stays old new later last text reply sealed replied
 
   mark_stays : (old new later : List Event) (last : ℕ) (statement : Statement) (mark : Mark) (written : List ℕ) → list_all is_sealed new ≡ true
-      → IsMarked moment origin session old new last statement mark written → IsMarkedIn moment origin session (new ++ later) old new last statement mark written
+      → IsMarked style moment origin session old new last statement mark written → IsMarkedIn style moment origin session (new ++ later) old new last statement mark written
   mark_stays old new later last statement mark written sealed marked = record {
     start = marked.start;
     end = marked.end;
@@ -75,12 +76,12 @@ module _ {D : Type 0} (moment : D → Moment) (origin : Start D) (session : ℕ)
     more : List Event
     grown : new ≡ old ++ more
 
-  reply_grows : (old new : List Event) (last bytes : ℕ) (text : Option (List ℕ)) (reply : Reply) → IsReplyOf (AnswersText moment origin session) old new last bytes text reply → Grows old new
+  reply_grows : (old new : List Event) (last bytes : ℕ) (text : Option (List ℕ)) (reply : Reply) → IsReplyOf (AnswersText style moment origin session) old new last bytes text reply → Grows old new
   reply_grows old new last bytes None reply replied = record { more = []; grown = replied.same ∙ sym (append-nil old) }
   reply_grows old new last bytes (Some text) reply replied = record { more = replied.adds.more; grown = replied.adds.grown }
 
   all_grow : (old : List Event) (last : ℕ) (ss : List Statement) (ms : List Mark) (ts : List (List ℕ)) (new : List Event)
-      → AreAnswered (IsMarked moment origin session) old last ss ms ts new → Grows old new
+      → AreAnswered (IsMarked style moment origin session) old last ss ms ts new → Grows old new
   all_grow old last [] [] [] new all = record { more = []; grown = sym all ∙ sym (append-nil old) }
   all_grow old last (s ∷ ss) (m ∷ ms) (t ∷ ts) new all =
       let first : Grows old all.0 = reply_grows old all.0 last (s.end - s.start) s.text (reply_told m t) all.1.reply in
@@ -98,14 +99,14 @@ module _ {D : Type 0} (moment : D → Moment) (origin : Start D) (session : ℕ)
   -- ---- all marks in more events
 
   each_stays : (whole later : List Event) (old : List Event) (last : ℕ) (ss : List Statement) (ms : List Mark) (ts : List (List ℕ)) (new : List Event)
-      → whole ≡ new ++ later → list_all is_sealed new ≡ true → AreAnswered (IsMarked moment origin session) old last ss ms ts new
-      → AreAnswered (IsMarkedIn moment origin session whole) old last ss ms ts new
+      → whole ≡ new ++ later → list_all is_sealed new ≡ true → AreAnswered (IsMarked style moment origin session) old last ss ms ts new
+      → AreAnswered (IsMarkedIn style moment origin session whole) old last ss ms ts new
   each_stays whole later old last [] [] [] new is sealed all = all
   each_stays whole later old last (s ∷ ss) (m ∷ ms) (t ∷ ts) new is sealed all =
       let rest : Grows all.0 new = all_grow all.0 m.place ss ms ts new all.2 in
       let longer : whole ≡ all.0 ++ (rest.more ++ later) = is ∙ ap (λ (es : List Event). es ++ later) rest.grown ∙ append_assoc all.0 rest.more later in (
         all.0,
-        subst (λ (es : List Event). IsMarkedIn moment origin session es old all.0 last s m t) (sym longer)
+        subst (λ (es : List Event). IsMarkedIn style moment origin session es old all.0 last s m t) (sym longer)
             (mark_stays old all.0 (rest.more ++ later) last s m t (sealed_before all.0 new rest.more rest.grown sealed) all.1),
         each_stays whole later all.0 m.place ss ms ts new is sealed all.2,
       )
@@ -172,10 +173,10 @@ module _ (Answered Told : AnswerRule) (old : List Event) (last : ℕ) (new : Lis
   }
 
 pub marks_stay : {D : Type 0} (moment : D → Moment) → MarksStay moment
-marks_stay moment origin session old new later last statement mark written sealed marked =
-    mark_stays moment origin session old new later last statement mark written sealed marked
+marks_stay moment style origin session old new later last statement mark written sealed marked =
+    mark_stays style moment origin session old new later last statement mark written sealed marked
 
 pub sessions_stay : {D : Type 0} (moment : D → Moment) → SessionsStay moment
-sessions_stay moment origin session old new later last source source' sink sink' marks end sealed serves =
-    serves_told (IsMarked moment origin session) (IsMarkedIn moment origin session (new ++ later)) old last new
-    (λ ss ms ts. each_stays moment origin session (new ++ later) later old last ss ms ts new refl sealed) source source' sink sink' marks end serves
+sessions_stay moment style origin session old new later last source source' sink sink' marks end sealed serves =
+    serves_told (IsMarked style moment origin session) (IsMarkedIn style moment origin session (new ++ later)) old last new
+    (λ ss ms ts. each_stays style moment origin session (new ++ later) later old last ss ms ts new refl sealed) source source' sink sink' marks end serves

@@ -19,6 +19,7 @@ use Rattle.session_answers.specs.Event.{Event}
 use Rattle.session_answers.specs.Replies.{HasLine}
 use Rattle.session_answers.specs.Reply.{Reply}
 use Rattle.session_answers.specs.Start.{Start}
+use Rattle.session_answers.specs.Style.{Style}
 use Rattle.session_reports.specs.Outcomes.{is_want}
 use Rattle.afl_session.specs.Inner.Serving.{GoesOn, HasAnswered, HasStopped, Reached, mark_at, place_after, statement_at}
 use Rattle.afl_session.specs.Marked.{AnswersText, IsMarked, IsReplyOf, reply_told, written_for}
@@ -53,8 +54,8 @@ empty_line : (reply : Reply) (refusal : Option Refusal) → HasLine reply refusa
 empty_line reply (Some refusals.Memory) line want = line
 empty_line reply _ line want = absurd (cc (want))
 
-module _ {D : Type 0} (moment : D → Moment) (origin : Start D) (session : ℕ) where
-  empty_text : (old new : List Event) (last bytes : ℕ) (text : Option (List ℕ)) (reply : Reply) → IsReplyOf (AnswersText moment origin session) old new last bytes text reply
+module _ {D : Type 0} (style : Style) (moment : D → Moment) (origin : Start D) (session : ℕ) where
+  empty_text : (old new : List Event) (last bytes : ℕ) (text : Option (List ℕ)) (reply : Reply) → IsReplyOf (AnswersText style moment origin session) old new last bytes text reply
       → is_want reply.refusal ≡ true → reply.text ≡ []
   empty_text old new last bytes None reply replied want = elim replied.words [
     | inl told ↦ let other : is_want reply.refusal ≡ false = ap (λ (words : Words). is_want words.refusal) told.0 in absurd (cc (want, other))
@@ -74,16 +75,16 @@ same_reply start end reply none =
 want_written : (reply : Reply) → reply.refusal ≡ Some refusals.Memory → written_for reply ≡ memory_line
 want_written reply e = ap (λ (want : Bool). if want then memory_line else reply.text) (ap is_want e)
 
-module _ {D : Type 0} (moment : D → Moment) (origin : Start D) (session : ℕ) where
+module _ {D : Type 0} (style : Style) (moment : D → Moment) (origin : Start D) (session : ℕ) where
   -- a statement's mark and what was written for it are those of its reply
   marked : (old new : List Event) (last start end : ℕ) (text : Option (List ℕ)) (reply : Reply)
-      → IsReplyOf (AnswersText moment origin session) old new last (end - start) text reply
-      → IsMarked moment origin session old new last (statement_at start end text) (mark_at start end reply) (written_for reply)
+      → IsReplyOf (AnswersText style moment origin session) old new last (end - start) text reply
+      → IsMarked style moment origin session old new last (statement_at start end text) (mark_at start end reply) (written_for reply)
   marked old new last start end text reply replied = record {
     start = refl;
     end = refl;
-    reply = subst (λ (r : Reply). IsReplyOf (AnswersText moment origin session) old new last (end - start) text r)
-        (sym (same_reply start end reply (empty_text moment origin session old new last (end - start) text reply replied))) replied;
+    reply = subst (λ (r : Reply). IsReplyOf (AnswersText style moment origin session) old new last (end - start) text r)
+        (sym (same_reply start end reply (empty_text style moment origin session old new last (end - start) text reply replied))) replied;
     want = want_written reply;
   }
 
@@ -177,15 +178,15 @@ module _ (Answered : AnswerRule) (now now' : Reached) (marks marks' : List Mark)
 
 -- ---- a statement's turn
 
-module _ {D : Type 0} (moment : D → Moment) (origin : Start D) (own : ℕ) (now now' : Reached) (marks marks' : List Mark) (start end : ℕ) (text : Option (List ℕ)) where
+module _ {D : Type 0} (style : Style) (moment : D → Moment) (origin : Start D) (own : ℕ) (now now' : Reached) (marks marks' : List Mark) (start end : ℕ) (text : Option (List ℕ)) where
   -- a statement was answered, its reply written as far as it went, and its mark kept
-  pub goes_on : (reply : Reply) (r : Result (Unit {0}) Stopped) → IsReplyOf (AnswersText moment origin own) now.seen now'.seen now.last (end - start) text reply
+  pub goes_on : (reply : Reply) (r : Result (Unit {0}) Stopped) → IsReplyOf (AnswersText style moment origin own) now.seen now'.seen now.last (end - start) text reply
       → now'.last ≡ reply.place → marks' ≡ marks ++ mark_at start end reply ∷ [] → OnOk r (Takes now.sink now'.sink (written_for reply))
       → OnErr r ((n : ℕ) × Takes now.sink now'.sink (take n (written_for reply))) → (IsErrOf r Fault → Rose now.sink.faults now'.sink.faults)
       → (IsErrOf r Memory → Rose now.sink.wants now'.sink.wants)
-      → (session : ℕ) → own ≡ session → GoesOn (IsMarked moment origin session) now now' marks marks' (statement_at start end text ∷ []) r
+      → (session : ℕ) → own ≡ session → GoesOn (IsMarked style moment origin session) now now' marks marks' (statement_at start end text ∷ []) r
   goes_on reply r replied place kept ok err fault want session is first before so_far =
-      let answered : IsReplyOf (AnswersText moment origin session) now.seen now'.seen now.last (end - start) text reply =
-      subst (λ (k : ℕ). IsReplyOf (AnswersText moment origin k) now.seen now'.seen now.last (end - start) text reply) is replied in
-      goes_there (IsMarked moment origin session) now now' marks marks' (statement_at start end text) (mark_at start end reply) (written_for reply) kept place
-      (marked moment origin session now.seen now'.seen now.last start end text reply answered) first before so_far r ok err fault want
+      let answered : IsReplyOf (AnswersText style moment origin session) now.seen now'.seen now.last (end - start) text reply =
+      subst (λ (k : ℕ). IsReplyOf (AnswersText style moment origin k) now.seen now'.seen now.last (end - start) text reply) is replied in
+      goes_there (IsMarked style moment origin session) now now' marks marks' (statement_at start end text) (mark_at start end reply) (written_for reply) kept place
+      (marked style moment origin session now.seen now'.seen now.last start end text reply answered) first before so_far r ok err fault want

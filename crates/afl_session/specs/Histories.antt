@@ -13,13 +13,14 @@ use Rattle.session_answers.specs.Refusals.{IsWantBetween}
 use Rattle.session_answers.specs.Replies.{HadNoRoom, HasLine, IsToldFor}
 use Rattle.session_answers.specs.Reply.{Reply}
 use Rattle.session_answers.specs.Start.{Start}
+use Rattle.session_answers.specs.Style.{Style}
 use Rattle.session_answers.specs.Told.{entries_in}
 use Rattle.afl_session.specs.Marked.{IsMarkedBy, ReplyRule}
 use Rattle.afl_session.specs.Session.{AnswerRule}
 
--- A STATEMENT IN ONE HISTORY: between what its session had seen before and then, it did this of its own; its pin came at that place of the history,
--- and its reply, which is that of its tree or of its stop, tells at its place of the history what it has to
-pub record IsAnsweredIn {D : Type 0} (moment : D → Moment) (origin : Start D) (session : ℕ) (events old new : List Event)
+-- A STATEMENT IN ONE HISTORY, in a style of replies: between what its session had seen before and then, it did this of its own; its pin came
+-- at that place of the history, and its reply, which is that of its tree or of its stop, tells at its place of the history what it has to
+pub record IsAnsweredIn {D : Type 0} (style : Style) (moment : D → Moment) (origin : Start D) (session : ℕ) (events old new : List Event)
     (last : ℕ) (text : List ℕ) (reply : Reply) : Type 0 where
   pub own : List Event
   pub course : Course
@@ -29,14 +30,14 @@ pub record IsAnsweredIn {D : Type 0} (moment : D → Moment) (origin : Start D) 
   pub began : BeganAt session pin old events course
   pub line : HasLine reply reply.refusal
   pub told : (tree : Term) → DerivesText text tree
-      → (length (entries_in old) ≤ reply.place) × IsToldFor moment origin session pin events own text tree reply reply.refusal course
+      → (length (entries_in old) ≤ reply.place) × IsToldFor moment origin session pin events own text tree reply style reply.refusal course
   pub until : (tree : Term) → DerivesText text tree → reply.place ≤ length (entries_in new)
   pub full : (tree : Term) → DerivesText text tree → reply.refusal ≡ Some HistoryFull → HadNoRoom origin old events reply.place
   pub stopped : (at : ℕ) (kind : ParseKind) → StopsText text at kind → (own ≡ []) × (IsStopReply last at kind reply ⊎ IsWantBetween old new reply)
 
-module _ {D : Type 0} (moment : D → Moment) (origin : Start D) (session : ℕ) (events : List Event) where
+module _ {D : Type 0} (style : Style) (moment : D → Moment) (origin : Start D) (session : ℕ) (events : List Event) where
   abbrev pub AnswersTextIn : ReplyRule
-  AnswersTextIn old new last text reply = IsAnsweredIn moment origin session events old new last text reply
+  AnswersTextIn old new last text reply = IsAnsweredIn style moment origin session events old new last text reply
 
   -- A STATEMENT'S MARK, AND THE TEXT THAT IT WAS ANSWERED, in one history
   abbrev pub IsMarkedIn : AnswerRule

@@ -1,6 +1,7 @@
 pub use Rattle.session_answers.specs.Acts
 pub use Rattle.session_answers.specs.Replies
 pub use Rattle.session_answers.specs.Reply
+pub use Rattle.session_answers.specs.Style
 pub use Rattle.session_reports.specs.declared.reports.Mark
 pub use Rattle.session_reports.specs.declared.reports.SessionEnd
 pub use Rattle.session_reports.specs.declared.reports.SessionReport

@@ -14,6 +14,7 @@ use Rattle.session_answers.specs.Refusals.{IsWantBetween}
 use Rattle.session_answers.specs.Replies.{words_of}
 use Rattle.session_answers.specs.Reply.{Reply}
 use Rattle.session_answers.specs.Start.{Start}
+use Rattle.session_answers.specs.Style.{Style}
 use Rattle.session_reports.specs.declared.reports.Mark.{Mark}
 use Rattle.session_reports.specs.Outcomes.{is_want}
 use Rattle.afl_session.specs.Session.{AnswerRule}
@@ -49,10 +50,10 @@ module _ (Replied : ReplyRule) (old new : List Event) (last : ℕ) where
     pub reply : IsReplyOf (statement.end - statement.start) statement.text (reply_told mark written)
     pub want : mark.refusal ≡ Some Memory → written ≡ memory_line
 
-module _ {D : Type 0} (moment : D → Moment) (origin : Start D) (session : ℕ) where
-  -- a text is answered by a session of a store that began so
+module _ {D : Type 0} (style : Style) (moment : D → Moment) (origin : Start D) (session : ℕ) where
+  -- a text is answered, in this style, by a session of a store that began so
   abbrev pub AnswersText : ReplyRule
-  AnswersText old new last text reply = IsAnswered moment origin session last old new text reply
+  AnswersText old new last text reply = IsAnswered style moment origin session last old new text reply
 
   -- A STATEMENT'S MARK, AND THE TEXT THAT IT WAS ANSWERED
   abbrev pub IsMarked : AnswerRule

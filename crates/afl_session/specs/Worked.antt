@@ -6,6 +6,7 @@ use Rattle.result_print.specs.declared.refusal.Refusal.TheVariants.{TooLong, Mem
 use Rattle.statement_replies.specs.Reply.{memory_line}
 use Rattle.session_answers.specs.Event.{Event}
 use Rattle.session_answers.specs.Start.{Start}
+use Rattle.session_answers.specs.Style.{Style}
 use Rattle.session_answers.specs.Told.{entries_in}
 use Rattle.session_reports.specs.declared.reports.Mark.{Mark}
 use Rattle.afl_session.specs.Marked.{IsMarked}
@@ -24,5 +25,7 @@ abbrev pub mark_of_want : List Event → Mark
 mark_of_want events = record { start = 5; end = 1048590; place = length (entries_in events); refusal = Some Memory }
 
 pub record IsWorked {D : Type 0} (moment : D → Moment) : Type 0 where
-  pub told : (origin : Start D) (events : List Event) → IsMarked moment origin 0 events events 3 long_statement its_mark its_line
-  pub wanting : (origin : Start D) (events : List Event) → IsMarked moment origin 0 events events 3 long_statement (mark_of_want events) memory_line
+  pub told : (style : Style) (origin : Start D) (events : List Event)
+      → IsMarked style moment origin 0 events events 3 long_statement its_mark its_line
+  pub wanting : (style : Style) (origin : Start D) (events : List Event)
+      → IsMarked style moment origin 0 events events 3 long_statement (mark_of_want events) memory_line

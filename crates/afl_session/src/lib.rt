@@ -8,5 +8,5 @@ mod streams;
 
 pub use laws::marks_stay;
 pub use session::serve;
-pub use session_answers::{Options, Reply, answer};
+pub use session_answers::{Options, Reply, Style, answer};
 pub use session_reports::{Mark, SessionEnd, SessionReport};

@@ -59,7 +59,7 @@ impl<K: Sink> Session<K> {
         ensures none { HoldsNone D.moment shared.now result.1 }
         ensures splitter { self.new.splitter ≡ self.old.splitter }
         ensures goes_on { (session : ℕ) → session_of seat ≡ session
-            → GoesOn (IsMarked D.moment (start D.moment shared.now) session)
+            → GoesOn (IsMarked options.now.style D.moment (start D.moment shared.now) session)
             (reached (seen seat) (last_place seat) (K.state self.old.sink)) (reached (seen result.1) (last_place result.1) (K.state self.new.sink))
             self.old.marks.items self.new.marks.items (told step self.old.splitter) result.0 }
     {
@@ -108,12 +108,12 @@ impl<K: Sink> Session<K> {
         ensures session { session_of result.1 ≡ session_of seat }
         ensures none { HoldsNone D.moment shared.now result.1 }
         ensures serving { (session : ℕ) (first : Reached) (script : List ℕ) → session_of seat ≡ session
-            → IsServing (IsMarked D.moment (start D.moment shared.now) session) first (reached (seen seat) (last_place seat) (K.state self.old.sink))
-            script self.old.splitter self.old.marks.items
+            → IsServing (IsMarked options.now.style D.moment (start D.moment shared.now) session) first
+            (reached (seen seat) (last_place seat) (K.state self.old.sink)) script self.old.splitter self.old.marks.items
             → MatchResult result.0
-            (λ _. IsServing (IsMarked D.moment (start D.moment shared.now) session) first
+            (λ _. IsServing (IsMarked options.now.style D.moment (start D.moment shared.now) session) first
             (reached (seen result.1) (last_place result.1) (K.state self.new.sink)) (script ++ bytes.now) self.new.splitter self.new.marks.items)
-            (StopsWithin (IsMarked D.moment (start D.moment shared.now) session) first
+            (StopsWithin (IsMarked options.now.style D.moment (start D.moment shared.now) session) first
             (reached (seen result.1) (last_place result.1) (K.state self.new.sink)) script bytes.now self.new.marks.items) }
     {
         let mut seat = seat;
@@ -145,10 +145,10 @@ impl<K: Sink> Session<K> {
         ensures session { session_of result.1 ≡ session_of seat }
         ensures none { HoldsNone D.moment shared.now result.1 }
         ensures ends { (session : ℕ) (first : Reached) (script : List ℕ) → session_of seat ≡ session
-            → IsServing (IsMarked D.moment (start D.moment shared.now) session) first (reached (seen seat) (last_place seat) (K.state self.old.sink))
-            script self.old.splitter self.old.marks.items
-            → EndsServing (IsMarked D.moment (start D.moment shared.now) session) first (reached (seen result.1) (last_place result.1) (K.state self.new.sink))
-            script self.new.marks.items result.0 }
+            → IsServing (IsMarked options.now.style D.moment (start D.moment shared.now) session) first
+            (reached (seen seat) (last_place seat) (K.state self.old.sink)) script self.old.splitter self.old.marks.items
+            → EndsServing (IsMarked options.now.style D.moment (start D.moment shared.now) session) first
+            (reached (seen result.1) (last_place result.1) (K.state self.new.sink)) script self.new.marks.items result.0 }
     {
         let step = self.splitter.finish();
         let (taken, seat) = self.take_step(rt, shared, seat, step, options, gate);
@@ -177,8 +177,8 @@ fn converse<D: Disk, S: Source, K: Sink, R: Threads + Wait + Sync, G: Gate>(
     ensures seat { IsSeatOf shared.now result.1 × IsIdle result.1 }
     ensures session { session_of result.1 ≡ session_of seat }
     ensures none { HoldsNone D.moment shared.now result.1 }
-    ensures serves { Serves (IsMarked D.moment (start D.moment shared.now) (session_of seat)) (seen seat) (last_place seat) (seen result.1)
-        (S.state source.old) (S.state source.new) (K.state session.old.sink) (K.state session.new.sink) session.new.marks.items result.0 }
+    ensures serves { Serves (IsMarked options.now.style D.moment (start D.moment shared.now) (session_of seat)) (seen seat) (last_place seat)
+        (seen result.1) (S.state source.old) (S.state source.new) (K.state session.old.sink) (K.state session.new.sink) session.new.marks.items result.0 }
 {
     let mut seat = seat;
     let mut piece = [0u8; PIECE];
@@ -225,8 +225,8 @@ pub fn serve<D: Disk, S: Source, K: Sink, R: Threads + Wait + Sync, G: Gate>(
     ensures seat { IsSeatOf shared.now result.1 × IsIdle result.1 }
     ensures session { session_of result.1 ≡ session_of seat }
     ensures none { HoldsNone D.moment shared.now result.1 }
-    ensures serves { Serves (IsMarked D.moment (start D.moment shared.now) (session_of seat)) (seen seat) (last_place seat) (seen result.1)
-        (S.state source) (S.state result.0.source) (K.state sink) (K.state result.0.sink) result.0.marks result.0.end }
+    ensures serves { Serves (IsMarked options.now.style D.moment (start D.moment shared.now) (session_of seat)) (seen seat) (last_place seat)
+        (seen result.1) (S.state source) (S.state result.0.source) (K.state sink) (K.state result.0.sink) result.0.marks result.0.end }
 {
     let mut source = source;
     let mut session = Session {

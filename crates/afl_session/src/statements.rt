@@ -37,8 +37,8 @@ fn reply_to<D: Disk, R: Threads + Wait + Sync, G: Gate>(
     ensures session { session_of result.1 ≡ session_of seat }
     ensures none { HoldsNone D.moment shared.now result.1 }
     ensures last { last_place result.1 ≡ result.0.place }
-    ensures answered { IsReplyOf (AnswersText D.moment (start D.moment shared.now) (session_of seat)) (seen seat) (seen result.1) (last_place seat)
-        (to - from) (option_map (λ t. t.now) text.entry) result.0 }
+    ensures answered { IsReplyOf (AnswersText options.now.style D.moment (start D.moment shared.now) (session_of seat)) (seen seat) (seen result.1)
+        (last_place seat) (to - from) (option_map (λ t. t.now) text.entry) result.0 }
 {
     match text {
         Some(text) => answer(rt, alloc, shared, seat, text, number, options, gate),
@@ -141,7 +141,7 @@ fn answer_marked<D: Disk, K: Sink, R: Threads + Wait + Sync, G: Gate>(
     ensures session { session_of result.1 ≡ session_of seat }
     ensures none { HoldsNone D.moment shared.now result.1 }
     ensures goes_on { let statement = statement_at from to (option_map (λ t. t.now) text.entry) in
-        (session : ℕ) → session_of seat ≡ session → GoesOn (IsMarked D.moment (start D.moment shared.now) session)
+        (session : ℕ) → session_of seat ≡ session → GoesOn (IsMarked options.now.style D.moment (start D.moment shared.now) session)
         (reached (seen seat) (last_place seat) (K.state sink.old)) (reached (seen result.1) (last_place result.1) (K.state sink.new))
         marks.old.items marks.new.items (statement ∷ []) result.0 }
 {
@@ -176,7 +176,7 @@ pub(crate) fn answer_statement<D: Disk, K: Sink, R: Threads + Wait + Sync, G: Ga
     ensures session { session_of result.1 ≡ session_of seat }
     ensures none { HoldsNone D.moment shared.now result.1 }
     ensures goes_on { let statement = statement_at from to (option_map (λ t. t.now) text.entry) in
-        (session : ℕ) → session_of seat ≡ session → GoesOn (IsMarked D.moment (start D.moment shared.now) session)
+        (session : ℕ) → session_of seat ≡ session → GoesOn (IsMarked options.now.style D.moment (start D.moment shared.now) session)
         (reached (seen seat) (last_place seat) (K.state sink.old)) (reached (seen result.1) (last_place result.1) (K.state sink.new))
         marks.old.items marks.new.items (statement ∷ []) result.0 }
 {

@@ -7,7 +7,9 @@ use afl_run::Arg;
 const HELP: &str = "\
 usage: aflshell try
        aflshell init DB
-       aflshell run DB [--pages N] [--history N] SCRIPT..
+       aflshell run DB [--workers N] [--pages N] [--history N]
+                [--format csv+] SCRIPT..
+       aflshell generate N [--workers N]
 
   try        answers the statements of standard input on standard output,
              over an empty database in memory
@@ -17,8 +19,12 @@ usage: aflshell try
              a session of its own and all side by side. The replies to the
              script FILE are written to FILE.out; the script '-' is standard
              input, and its replies go to standard output
+  generate N answers a script that is made for the number N, 0 to 4294967295,
+             as try does
+  --workers  so many threads may compute a statement, 1 to 64 (4)
   --pages    at most so many pages of 4096 bytes, 16 to 1048576 (65536)
   --history  at most so many entries of history, 16 to 1048576 (1048576)
+  --format   with csv+ each reply to a query is printed as records of CSV
 
 A statement is an AFL query or a change. A ';' stands between statements, and
 the last one needs none. Types are int64, string and bool.

@@ -16,7 +16,7 @@ use Rattle.array_parts.proofs.PlaceRows.{valid_chunks_have_cells}
 use Rattle.expr_nulls.specs.Expr.{Expr}
 use Rattle.logical_plan.specs.declared.parts.Leaf.{Leaf}
 use Rattle.logical_plan.specs.Leaves.{leaves}
-use Rattle.logical_plan.specs.Meaning.{Database, meaning, whole, built_rows}
+use Rattle.logical_plan.specs.Meaning.{Database, whole, built_rows}
 use Rattle.logical_plan.specs.Query.{Query, built, scanned}
 use Rattle.logical_plan.specs.Typing.{IsTyped}
 use Rattle.logical_plan.proofs.ArrayLaws.{typed_arrays}

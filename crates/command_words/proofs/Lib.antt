@@ -1,11 +1,14 @@
 pub mod Answering
+pub mod Generating
 pub mod Heads
 pub mod Names
 pub mod Numbers
 pub mod Options
 pub mod PlaceLaws
 pub mod Places
+pub mod RangeLaws
 pub mod ReadingLemmas
 pub mod ScriptLemmas
 pub mod Slices
+pub mod VerbWords
 pub mod Verbs

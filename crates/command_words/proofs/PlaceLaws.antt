@@ -12,7 +12,7 @@ init_place : InitsNameTheirDevice
 init_place words init = ap (λ (l : List Word). slice_get l 1) init.spelled
 
 run_places : RunsNameTheirScripts
-run_places words pages history first run =
+run_places words workers pages history csv first run =
     let front : List Word = codes "run" ∷ run.device ∷ flat_map setting_words run.settings in
     let each : length (flat_map setting_words run.settings) ≡ 2 * length run.settings = two_words_each run.settings in
     let place : first ≡ 2 + 2 * length run.settings = run.place in

@@ -1,27 +1,65 @@
 -- What is read of words is their form, or the place where they leave the forms.
 use Rattle.std.proofs.Common.{◌≡◌, ℕ, ◌+◌, ◌≤◌, Bool, true, false, cond, Option, None, Some, Result, Err, List, [], ◌∷◌, ◌++◌, length, refl, sym, ap, subst, ◌∙◌, arith, true≢false, lit≤}
 use Rattle.std.specs.Prelude.{codes, flat_map}
+use Rattle.std.specs.Str.{bytes_eq}
 use Rattle.std.specs.Str.Parse.{digits_value}
 use Rattle.command_words.specs.declared.forms.Form.{Form}
 use Rattle.command_words.specs.declared.settings.RunOption.{RunOption}
+use Rattle.command_words.specs.declared.settings.RunOption.TheVariants.{Pages, History, Workers, Format}
 use Rattle.command_words.specs.declared.settings.Settings.{Settings}
-use Rattle.command_words.specs.Forms.{Word, Setting, setting_words, is_setting_number, option_word}
-use Rattle.command_words.specs.Inner.Reading.{with_number, place_of, next_option, number_of, run_of, by_option, read_scripts, read_settings}
+use Rattle.command_words.specs.Forms.{Word, Setting, setting_words, is_number_within, may_say, option_word}
+use Rattle.command_words.specs.Inner.Reading.{number_within, with_pages, with_history, with_workers, with_said, place_of, next_option, run_of, by_said, by_option, read_scripts, read_settings}
 use Rattle.command_words.proofs.Names.{no_scripts, fresh, good_fresh}
 use Rattle.command_words.proofs.Places.{Judged, judged_first, judged_same, judged_step, missing, refused}
 use Rattle.command_words.proofs.Heads.{same_head, same_tail}
 use Rattle.command_words.proofs.ScriptLemmas.{AreScripts, scripts_judged}
-use Rattle.command_words.proofs.Options.{IsTail, Names, option_names, place_step, Follows, tail_first, first_tail, tail_scripts, scripts_tail}
+use Rattle.command_words.proofs.Options.{IsTail, Names, option_names, after, place_step, Follows, tail_first, first_tail, tail_scripts, scripts_tail}
 
-abbrev NumberTells : Word → Option ℕ → Type 0
-NumberTells number None = is_setting_number number ≡ false
-NumberTells number (Some value) = (is_setting_number number ≡ true) × (value ≡ digits_value 10 number)
+abbrev pub NumberTells : ℕ → ℕ → Word → Option ℕ → Type 0
+NumberTells least most word None = is_number_within least most word ≡ false
+NumberTells least most word (Some value) = (is_number_within least most word ≡ true) × (value ≡ digits_value 10 word)
 
-number_tells : (number : Word) → NumberTells number (number_of number)
-number_tells number = by (is_setting_number number) refl where
-  by : (b : Bool) → is_setting_number number ≡ b → NumberTells number (cond b (Some (digits_value 10 number)) None)
+pub number_tells : (least most : ℕ) (word : Word) → NumberTells least most word (number_within least most word)
+number_tells least most word = by (is_number_within least most word) refl where
+  by : (b : Bool) → is_number_within least most word ≡ b → NumberTells least most word (cond b (Some (digits_value 10 word)) None)
   by true e = (e, refl)
   by false e = e
+
+abbrev SaidTells : Settings → RunOption → Word → Option Settings → Type 0
+SaidTells settings option said None = may_say option said ≡ false
+SaidTells settings option said (Some next) = (may_say option said ≡ true) × (next ≡ after settings option said)
+
+said_tells : (settings : Settings) (option : RunOption) (said : Word) → SaidTells settings option said (with_said settings option said)
+said_tells settings Pages said = by (number_within 16 1048576 said) (number_tells 16 1048576 said) where
+  by : (n : Option ℕ) → NumberTells 16 1048576 said n → SaidTells settings Pages said (with_pages settings n)
+  by None wrong = wrong
+  by (Some value) (fits, is) = (fits, λ i. record settings { pages = Some (is i) })
+said_tells settings History said = by (number_within 16 1048576 said) (number_tells 16 1048576 said) where
+  by : (n : Option ℕ) → NumberTells 16 1048576 said n → SaidTells settings History said (with_history settings n)
+  by None wrong = wrong
+  by (Some value) (fits, is) = (fits, λ i. record settings { history = Some (is i) })
+said_tells settings Workers said = by (number_within 1 64 said) (number_tells 1 64 said) where
+  by : (n : Option ℕ) → NumberTells 1 64 said n → SaidTells settings Workers said (with_workers settings n)
+  by None wrong = wrong
+  by (Some value) (fits, is) = (fits, λ i. record settings { workers = Some (is i) })
+said_tells settings Format said = by (bytes_eq said (codes "csv+")) refl where
+  by : (b : Bool) → bytes_eq said (codes "csv+") ≡ b → SaidTells settings Format said (cond b (Some (record settings { csv = true })) None)
+  by true e = (e, refl)
+  by false e = e
+
+-- what may be said of each option
+right_word : RunOption → Word
+right_word Pages = codes "16"
+right_word History = codes "16"
+right_word Workers = codes "16"
+right_word Format = codes "csv+"
+
+is_right_word : (option : RunOption) → may_say option (right_word option) ≡ true
+unfolding right_word
+is_right_word Pages = refl
+is_right_word History = refl
+is_right_word Workers = refl
+is_right_word Format = refl
 
 module _ (device : Word) where
   module _ (settings : Settings) where
@@ -32,7 +70,7 @@ module _ (device : Word) where
     no_tail form tail = by tail.more tail.spelled where
       by : (more : List Setting) → [] ≡ flat_map setting_words more ++ tail.scripts → ⊥
       by [] spelled = let none : 1 ≤ 0 = subst (λ (l : List Word). 1 ≤ length l) (sym spelled) tail.some in let no : ⊥ = omega arith in no
-      by (s ∷ more) spelled = let no : [] ≡ option_word s.option ∷ s.number ∷ (flat_map setting_words more ++ tail.scripts) = spelled in cc
+      by (s ∷ more) spelled = let no : [] ≡ option_word s.option ∷ s.said ∷ (flat_map setting_words more ++ tail.scripts) = spelled in cc
 
     scripts_read : (word : Word) (words : List Word) → Names settings word None → Judged (place_of settings) (IsTail device settings) (word ∷ words) (read_scripts device settings (word ∷ words))
     scripts_read word words unnamed =
@@ -42,73 +80,76 @@ module _ (device : Word) where
         judged_first (AreScripts device settings []) (IsTail device settings) (scripts_tail device settings) word (tail_scripts device settings word unnamed) (place_of settings) words result
         (subst (λ (n : ℕ). Judged n (AreScripts device settings []) (word ∷ words) result) base (scripts_judged device settings (word ∷ words) [] (no_scripts device) one))
 
-    -- with a number of its own and a script the option goes on
+    -- with what may be said of it and a script the option goes on
     least_tail : (word : Word) (option : RunOption) → Names settings word (Some option)
-        → IsTail device settings (word ∷ codes "16" ∷ fresh device ∷ []) (run_of (with_number settings option 16))
+        → IsTail device settings (word ∷ right_word option ∷ fresh device ∷ []) (run_of (after settings option (right_word option)))
     least_tail word option names =
-        first_tail device settings word option names.0 names.1 (codes "16") refl (fresh device ∷ []) (run_of (with_number settings option 16))
-        (scripts_tail device (with_number settings option 16) (fresh device ∷ []) (run_of (with_number settings option 16)) (record { some = lit≤ tt; good = good_fresh device; is = refl }))
+        let next : Settings = after settings option (right_word option) in
+        first_tail device settings word option names.0 names.1 (right_word option) (is_right_word option) (fresh device ∷ []) (run_of next)
+        (scripts_tail device next (fresh device ∷ []) (run_of next) (record { some = lit≤ tt; good = good_fresh device; is = refl }))
 
-    number_missing : (word : Word) (option : RunOption) → Names settings word (Some option)
+    word_missing : (word : Word) (option : RunOption) → Names settings word (Some option)
         → Judged (place_of settings) (IsTail device settings) (word ∷ []) (Err (place_of settings + 1))
-    number_missing word option names =
+    word_missing word option names =
         judged_step (place_of settings) (IsTail device settings) word [] (Err (place_of settings + 1))
         (missing (place_of settings + 1) (λ rest. IsTail device settings (word ∷ rest))
         (λ form tail. nothing (tail_first device settings word option names.0 names.1 [] form tail))
-        (codes "16" ∷ fresh device ∷ []) (run_of (with_number settings option 16)) (least_tail word option names))
+        (right_word option ∷ fresh device ∷ []) (run_of (after settings option (right_word option))) (least_tail word option names))
       where
         nothing : {form : Form} → Follows device settings option [] form → ⊥
-        nothing follows = let no : [] ≡ follows.number ∷ follows.rest = follows.spelled in cc
+        nothing follows = let no : [] ≡ follows.said ∷ follows.rest = follows.spelled in cc
 
-    number_refused : (word : Word) (option : RunOption) → Names settings word (Some option) → (number : Word) → is_setting_number number ≡ false → (words : List Word)
-        → Judged (place_of settings) (IsTail device settings) (word ∷ number ∷ words) (Err (place_of settings + 1))
-    number_refused word option names number wrong words =
-        judged_step (place_of settings) (IsTail device settings) word (number ∷ words) (Err (place_of settings + 1))
-        (refused (place_of settings + 1) (λ rest. IsTail device settings (word ∷ rest)) number words
-        (λ more form tail. unfit more form (tail_first device settings word option names.0 names.1 (number ∷ more) form tail))
-        (codes "16" ∷ fresh device ∷ []) (run_of (with_number settings option 16)) (least_tail word option names))
+    word_refused : (word : Word) (option : RunOption) → Names settings word (Some option) → (said : Word) → may_say option said ≡ false → (words : List Word)
+        → Judged (place_of settings) (IsTail device settings) (word ∷ said ∷ words) (Err (place_of settings + 1))
+    word_refused word option names said wrong words =
+        judged_step (place_of settings) (IsTail device settings) word (said ∷ words) (Err (place_of settings + 1))
+        (refused (place_of settings + 1) (λ rest. IsTail device settings (word ∷ rest)) said words
+        (λ more form tail. unfit more form (tail_first device settings word option names.0 names.1 (said ∷ more) form tail))
+        (right_word option ∷ fresh device ∷ []) (run_of (after settings option (right_word option))) (least_tail word option names))
       where
-        unfit : (more : List Word) (form : Form) → Follows device settings option (number ∷ more) form → ⊥
-        unfit more form follows = true≢false (sym (ap is_setting_number (same_head number follows.number more follows.rest follows.spelled) ∙ follows.fits) ∙ wrong)
+        unfit : (more : List Word) (form : Form) → Follows device settings option (said ∷ more) form → ⊥
+        unfit more form follows = true≢false (sym (ap (may_say option) (same_head said follows.said more follows.rest follows.spelled) ∙ follows.fits) ∙ wrong)
 
-    option_read : (word : Word) (option : RunOption) → Names settings word (Some option) → (number : Word) (value : ℕ) → NumberTells number (Some value) → (words : List Word) (result : Result Form ℕ)
-        → Judged (place_of (with_number settings option value)) (IsTail device (with_number settings option value)) words result
-        → Judged (place_of settings) (IsTail device settings) (word ∷ number ∷ words) result
-    option_read word option names number value tells words result judged =
-        judged_step (place_of settings) (IsTail device settings) word (number ∷ words) result
-        (judged_step (place_of settings + 1) (λ rest. IsTail device settings (word ∷ rest)) number words result
-        (judged_same (IsTail device (with_number settings option value)) (λ rest. IsTail device settings (word ∷ number ∷ rest)) to from (place_of settings + 1 + 1) words result
-        (subst (λ (n : ℕ). Judged n (IsTail device (with_number settings option value)) words result) (place_step option settings value names.1) judged)))
+    option_read : (word : Word) (option : RunOption) → Names settings word (Some option) → (said : Word) → may_say option said ≡ true → (words : List Word) (result : Result Form ℕ)
+        → Judged (place_of (after settings option said)) (IsTail device (after settings option said)) words result
+        → Judged (place_of settings) (IsTail device settings) (word ∷ said ∷ words) result
+    option_read word option names said fits words result judged =
+        let next : Settings = after settings option said in
+        judged_step (place_of settings) (IsTail device settings) word (said ∷ words) result
+        (judged_step (place_of settings + 1) (λ rest. IsTail device settings (word ∷ rest)) said words result
+        (judged_same (IsTail device next) (λ rest. IsTail device settings (word ∷ said ∷ rest)) to from (place_of settings + 1 + 1) words result
+        (subst (λ (n : ℕ). Judged n (IsTail device next) words result) (place_step option settings said names.1) judged)))
       where
-        to : (rest : List Word) (form : Form) → IsTail device (with_number settings option value) rest form → IsTail device settings (word ∷ number ∷ rest) form
-        to rest form tail =
-            first_tail device settings word option names.0 names.1 number tells.0 rest form
-            (subst (λ (n : ℕ). IsTail device (with_number settings option n) rest form) tells.1 tail)
+        to : (rest : List Word) (form : Form) → IsTail device (after settings option said) rest form → IsTail device settings (word ∷ said ∷ rest) form
+        to rest form tail = first_tail device settings word option names.0 names.1 said fits rest form tail
 
-        from : (rest : List Word) (form : Form) → IsTail device settings (word ∷ number ∷ rest) form → IsTail device (with_number settings option value) rest form
-        from rest form tail = by (tail_first device settings word option names.0 names.1 (number ∷ rest) form tail) where
-          by : Follows device settings option (number ∷ rest) form → IsTail device (with_number settings option value) rest form
+        from : (rest : List Word) (form : Form) → IsTail device settings (word ∷ said ∷ rest) form → IsTail device (after settings option said) rest form
+        from rest form tail = by (tail_first device settings word option names.0 names.1 (said ∷ rest) form tail) where
+          by : Follows device settings option (said ∷ rest) form → IsTail device (after settings option said) rest form
           by follows =
-              let same : digits_value 10 follows.number ≡ value = sym (tells.1 ∙ ap (digits_value 10) (same_head number follows.number rest follows.rest follows.spelled)) in
-              subst (λ (l : List Word). IsTail device (with_number settings option value) l form) (sym (same_tail number follows.number rest follows.rest follows.spelled))
-              (subst (λ (n : ℕ). IsTail device (with_number settings option n) follows.rest form) same follows.after)
+              subst (λ (l : List Word). IsTail device (after settings option said) l form) (sym (same_tail said follows.said rest follows.rest follows.spelled))
+              (subst (λ (w : Word). IsTail device (after settings option w) follows.rest form) (sym (same_head said follows.said rest follows.rest follows.spelled)) follows.behind)
 
     one_left : (word : Word) (o : Option RunOption) → Names settings word o
-        → Judged (place_of settings) (IsTail device settings) (word ∷ []) (by_option settings o None (read_scripts device settings (word ∷ [])) (λ next. Err (place_of next)))
+        → Judged (place_of settings) (IsTail device settings) (word ∷ []) (by_option settings o (λ option. None) (read_scripts device settings (word ∷ [])) (λ next. Err (place_of next)))
     one_left word None names = scripts_read word [] names
-    one_left word (Some option) names = number_missing word option names
+    one_left word (Some option) names = word_missing word option names
 
-    two_left : (word number : Word) (words : List Word) (rest : Settings → Result Form ℕ)
+    two_left : (word said : Word) (words : List Word) (rest : Settings → Result Form ℕ)
         → ((next : Settings) → Judged (place_of next) (IsTail device next) words (rest next))
-        → (o : Option RunOption) → Names settings word o → (n : Option ℕ) → NumberTells number n
-        → Judged (place_of settings) (IsTail device settings) (word ∷ number ∷ words) (by_option settings o n (read_scripts device settings (word ∷ number ∷ words)) rest)
-    two_left word number words rest further None names n tells = scripts_read word (number ∷ words) names
-    two_left word number words rest further (Some option) names None tells = number_refused word option names number tells words
-    two_left word number words rest further (Some option) names (Some value) tells =
-        option_read word option names number value tells words (rest (with_number settings option value)) (further (with_number settings option value))
+        → (o : Option RunOption) → Names settings word o
+        → Judged (place_of settings) (IsTail device settings) (word ∷ said ∷ words)
+        (by_option settings o (λ option. with_said settings option said) (read_scripts device settings (word ∷ said ∷ words)) rest)
+    two_left word said words rest further None names = scripts_read word (said ∷ words) names
+    two_left word said words rest further (Some option) names = by (with_said settings option said) (said_tells settings option said) where
+      by : (o : Option Settings) → SaidTells settings option said o → Judged (place_of settings) (IsTail device settings) (word ∷ said ∷ words) (by_said settings o rest)
+      by None wrong = word_refused word option names said wrong words
+      by (Some next) (fits, is) =
+          option_read word option names said fits words (rest next)
+          (subst (λ (s : Settings). Judged (place_of s) (IsTail device s) words (rest next)) is (further next))
 
   pub settings_judged : (words : List Word) (settings : Settings) → Judged (place_of settings) (IsTail device settings) words (read_settings device words settings)
   settings_judged [] settings = missing (place_of settings) (IsTail device settings) (no_tail settings) (fresh device ∷ []) (run_of settings) (fresh_tail settings)
   settings_judged (word ∷ []) settings = one_left settings word (next_option settings word) (option_names settings word)
-  settings_judged (word ∷ number ∷ words) settings =
-      two_left settings word number words (read_settings device words) (λ next. settings_judged words next) (next_option settings word) (option_names settings word) (number_of number) (number_tells number)
+  settings_judged (word ∷ said ∷ words) settings =
+      two_left settings word said words (read_settings device words) (λ next. settings_judged words next) (next_option settings word) (option_names settings word)

@@ -1,9 +1,9 @@
 -- The words of a slice, one after the other.
-use Rattle.std.proofs.Common.{◌≡◌, ℕ, ◌-◌, ◌≤◌, false, cond, Option, Some, Err, List, [], ◌∷◌, length, get_or, take, drop, sym, ap, ap₂, ◌∙◌, arith, take_all}
+use Rattle.std.proofs.Common.{◌≡◌, ◌-◌, ◌≤◌, false, cond, Option, Some, Err, List, [], ◌∷◌, length, get_or, take, drop, sym, ap, ◌∙◌, arith, take_all}
 use Rattle.command_words.specs.declared.settings.RunOption.{RunOption}
 use Rattle.command_words.specs.declared.settings.Settings.{Settings}
 use Rattle.command_words.specs.Forms.{Word, is_dashed}
-use Rattle.command_words.specs.Inner.Reading.{with_number, no_settings, next_option, number_of, by_option, read_scripts, read_settings, read_run}
+use Rattle.command_words.specs.Inner.Reading.{no_settings, next_option, with_said, by_said, by_option, read_scripts, read_settings, read_run}
 
 -- the words behind the first one, as the code cuts them
 abbrev pub behind : List Word → List Word
@@ -25,18 +25,17 @@ run_first words item tested name settings some is tests plain shows begins =
     sym (ap (λ b. cond b (Err 1) (read_settings item (behind words) no_settings)) (ap is_dashed (sym tests) ∙ plain)) in
     same ∙ kept ∙ ap read_run (sym (first_word words item some is))
 
-pub settings_two : (device : Word) (words : List Word) (settings next : Settings) (name shown number digits : Word) (option : RunOption) (value : ℕ)
+pub settings_two : (device : Word) (words : List Word) (settings next : Settings) (name shown said told : Word) (option : RunOption)
     → 1 ≤ length words → name ≡ get_or words 0 name → shown ≡ name → next_option settings shown ≡ Some option
-    → 1 ≤ length (behind words) → number ≡ get_or (behind words) 0 number → digits ≡ number → number_of digits ≡ Some value
-    → next ≡ with_number settings option value
+    → 1 ≤ length (behind words) → said ≡ get_or (behind words) 0 said → told ≡ said → with_said settings option told ≡ Some next
     → read_settings device (behind (behind words)) next ≡ read_settings device words settings
-settings_two device words settings next name shown number digits option value some first shows chosen more second tells valued goes =
+settings_two device words settings next name shown said told option some first shows chosen more second tells goes =
     let rest : List Word = behind (behind words) in
-    let split : words ≡ name ∷ number ∷ rest = first_word words name some first ∙ ap (λ (l : List Word). name ∷ l) (first_word (behind words) number more second) in
+    let split : words ≡ name ∷ said ∷ rest = first_word words name some first ∙ ap (λ (l : List Word). name ∷ l) (first_word (behind words) said more second) in
     let option_is : next_option settings name ≡ Some option = ap (next_option settings) (sym shows) ∙ chosen in
-    let number_is : number_of number ≡ Some value = ap number_of (sym tells) ∙ valued in
+    let next_is : with_said settings option said ≡ Some next = ap (with_said settings option) (sym tells) ∙ goes in
     let read : read_settings device words settings ≡ read_settings device rest next =
     ap (λ (l : List Word). read_settings device l settings) split
-    ∙ ap₂ (λ (o : Option RunOption) (n : Option ℕ). by_option settings o n (read_scripts device settings (name ∷ number ∷ rest)) (read_settings device rest)) option_is number_is
-    ∙ ap (read_settings device rest) (sym goes) in
+    ∙ ap (λ (o : Option RunOption). by_option settings o (λ given. with_said settings given said) (read_scripts device settings (name ∷ said ∷ rest)) (read_settings device rest)) option_is
+    ∙ ap (λ (n : Option Settings). by_said settings n (read_settings device rest)) next_is in
     sym read

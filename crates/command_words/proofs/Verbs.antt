@@ -5,33 +5,18 @@ use Rattle.std.specs.List.{list_any}
 use Rattle.std.specs.Str.{bytes_eq}
 use Rattle.std.proofs.lemmas.Bool.{cond_both, or_parts, or_from}
 use Rattle.command_words.specs.declared.forms.Form.{Form}
-use Rattle.command_words.specs.declared.forms.Form.TheVariants.{Try, Init, Run}
+use Rattle.command_words.specs.declared.forms.Form.TheVariants.{Try, Init, Run, Generate}
 use Rattle.command_words.specs.declared.settings.RunOption.{RunOption}
-use Rattle.command_words.specs.declared.settings.RunOption.TheVariants.{Pages, History}
+use Rattle.command_words.specs.declared.settings.RunOption.TheVariants.{Pages, History, Workers, Format}
 use Rattle.command_words.specs.Forms.{Word, setting_words, is_dashed, IsForm, IsRun}
-use Rattle.command_words.specs.Inner.Reading.{no_settings, given, read_run, read_init, read_try, read_words, read_settings}
+use Rattle.command_words.specs.Inner.Reading.{no_settings, is_given, read_generate, read_run, read_init, read_try, read_words, read_settings}
 use Rattle.command_words.proofs.Names.{same_bytes}
 use Rattle.command_words.proofs.Places.{Judged, judged_same, judged_step, missing, refused}
 use Rattle.command_words.proofs.Heads.{same_head, same_tail, unlike}
 use Rattle.command_words.proofs.Options.{IsTail, count}
+use Rattle.command_words.proofs.Generating.{generate_judged}
+use Rattle.command_words.proofs.VerbWords.{no_words, verb_is}
 use Rattle.command_words.proofs.ReadingLemmas.{settings_judged}
-
-abbrev verb_word : Form → Word
-verb_word Try = codes "try"
-verb_word (Init device) = codes "init"
-verb_word (Run device pages history scripts) = codes "run"
-
-verb_is : (verb : Word) (words : List Word) (form : Form) → IsForm (verb ∷ words) form → verb ≡ verb_word form
-verb_is verb words Try is = same_head verb (codes "try") words [] is
-verb_is verb words (Init device) is = same_head verb (codes "init") words (is.1.device ∷ []) is.1.spelled
-verb_is verb words (Run device pages history scripts) is =
-    same_head verb (codes "run") words (is.1.device ∷ (flat_map setting_words is.1.settings ++ is.1.scripts)) is.1.spelled
-
-no_words : (form : Form) → IsForm [] form → ⊥
-no_words Try is = cc
-no_words (Init device) is = let none : [] ≡ codes "init" ∷ is.1.device ∷ [] = is.1.spelled in cc
-no_words (Run device pages history scripts) is =
-    let none : [] ≡ codes "run" ∷ is.1.device ∷ (flat_map setting_words is.1.settings ++ is.1.scripts) = is.1.spelled in cc
 
 least_init : (device : Word) → is_dashed device ≡ false → IsForm (codes "init" ∷ device ∷ []) (Init 1)
 least_init device named = (refl, record { device = device; spelled = refl; named = named })
@@ -41,13 +26,15 @@ least_init device named = (refl, record { device = device; spelled = refl; named
 only_try : (form : Form) → IsForm (codes "try" ∷ []) form → form ≡ Try
 only_try Try is = refl
 only_try (Init device) is = absurd (unlike (codes "try") (codes "init") refl (verb_is (codes "try") [] (Init device) is))
-only_try (Run device pages history scripts) is = absurd (unlike (codes "try") (codes "run") refl (verb_is (codes "try") [] (Run device pages history scripts) is))
+only_try (Run device workers pages history csv scripts) is = absurd (unlike (codes "try") (codes "run") refl (verb_is (codes "try") [] (Run device workers pages history csv scripts) is))
+only_try (Generate number workers) is = absurd (unlike (codes "try") (codes "generate") refl (verb_is (codes "try") [] (Generate number workers) is))
 
 try_alone : (word : Word) (words : List Word) (form : Form) → IsForm (codes "try" ∷ word ∷ words) form → ⊥
 try_alone word words Try is = let none : word ∷ words ≡ [] = same_tail (codes "try") (codes "try") (word ∷ words) [] is in cc
 try_alone word words (Init device) is = unlike (codes "try") (codes "init") refl (verb_is (codes "try") (word ∷ words) (Init device) is)
-try_alone word words (Run device pages history scripts) is =
-    unlike (codes "try") (codes "run") refl (verb_is (codes "try") (word ∷ words) (Run device pages history scripts) is)
+try_alone word words (Run device workers pages history csv scripts) is =
+    unlike (codes "try") (codes "run") refl (verb_is (codes "try") (word ∷ words) (Run device workers pages history csv scripts) is)
+try_alone word words (Generate number workers) is = unlike (codes "try") (codes "generate") refl (verb_is (codes "try") (word ∷ words) (Generate number workers) is)
 
 try_judged : (words : List Word) → Judged 1 (λ rest. IsForm (codes "try" ∷ rest)) words (read_try words)
 try_judged [] = (refl, only_try)
@@ -58,8 +45,9 @@ try_judged (word ∷ words) = refused 1 (λ rest. IsForm (codes "try" ∷ rest))
 init_tail : (words : List Word) (form : Form) → IsForm (codes "init" ∷ words) form → (device : Word) × (words ≡ device ∷ []) × (is_dashed device ≡ false) × (form ≡ Init 1)
 init_tail words Try is = absurd (unlike (codes "init") (codes "try") refl (verb_is (codes "init") words Try is))
 init_tail words (Init device) is = (is.1.device, same_tail (codes "init") (codes "init") words (is.1.device ∷ []) is.1.spelled, is.1.named, ap Init is.0)
-init_tail words (Run device pages history scripts) is =
-    absurd (unlike (codes "init") (codes "run") refl (verb_is (codes "init") words (Run device pages history scripts) is))
+init_tail words (Run device workers pages history csv scripts) is =
+    absurd (unlike (codes "init") (codes "run") refl (verb_is (codes "init") words (Run device workers pages history csv scripts) is))
+init_tail words (Generate number workers) is = absurd (unlike (codes "init") (codes "generate") refl (verb_is (codes "init") words (Generate number workers) is))
 
 init_needs : (form : Form) → IsForm (codes "init" ∷ []) form → ⊥
 init_needs form is = by (init_tail [] form is) where
@@ -90,9 +78,11 @@ init_judged (device ∷ word ∷ words) =
 
 -- run
 
-none_given : (option : RunOption) → count (given no_settings option) ≡ 0
+none_given : (option : RunOption) → count (is_given no_settings option) ≡ 0
 none_given Pages = refl
 none_given History = refl
+none_given Workers = refl
+none_given Format = refl
 
 record RunTail (words : List Word) (form : Form) : Type 0 where
   name : Word
@@ -104,8 +94,9 @@ record RunTail (words : List Word) (form : Form) : Type 0 where
 run_tail : (words : List Word) (form : Form) → IsForm (codes "run" ∷ words) form → RunTail words form
 run_tail words Try is = absurd (unlike (codes "run") (codes "try") refl (verb_is (codes "run") words Try is))
 run_tail words (Init device) is = absurd (unlike (codes "run") (codes "init") refl (verb_is (codes "run") words (Init device) is))
-run_tail words (Run device pages history scripts) is =
-    let run : IsRun (codes "run" ∷ words) pages history scripts = is.1 in
+run_tail words (Generate number workers) is = absurd (unlike (codes "run") (codes "generate") refl (verb_is (codes "run") words (Generate number workers) is))
+run_tail words (Run device workers pages history csv scripts) is =
+    let run : IsRun (codes "run" ∷ words) workers pages history csv scripts = is.1 in
     let rest : List Word = flat_map setting_words run.settings ++ run.scripts in
     let (plain, others) = or_parts (is_dashed run.device) (list_any is_dashed run.scripts) run.named in
     record {
@@ -117,11 +108,11 @@ run_tail words (Run device pages history scripts) is =
         more = run.settings;
         scripts = run.scripts;
         spelled = refl;
-        in_range = run.in_range;
-        once = λ option. let none : count (given no_settings option) ≡ 0 = none_given option in omega (arith, run.once option);
+        right = run.right;
+        once = λ option. let none : count (is_given no_settings option) ≡ 0 = none_given option in omega (arith, run.once option);
         some = run.some;
         good = record { most = run.most; named = others; different = run.different };
-        is = λ i. Run (is.0 i) (run.pages_given i) (run.history_given i) (run.place i);
+        is = λ i. Run (is.0 i) (run.workers_given i) (run.pages_given i) (run.history_given i) (run.csv_given i) (run.place i);
       };
     }
 
@@ -133,14 +124,16 @@ tail_run device named words form tail = subst (IsForm (codes "run" ∷ device �
     settings = tail.more;
     scripts = tail.scripts;
     spelled = ap (λ (l : List Word). codes "run" ∷ device ∷ l) tail.spelled;
-    in_range = tail.in_range;
-    once = λ option. let none : count (given no_settings option) ≡ 0 = none_given option in omega (arith, tail.once option);
+    right = tail.right;
+    once = λ option. let none : count (is_given no_settings option) ≡ 0 = none_given option in omega (arith, tail.once option);
     some = tail.some;
     most = tail.good.most;
     named = or_from (is_dashed device) (list_any is_dashed tail.scripts) named tail.good.named;
     different = tail.good.different;
+    workers_given = refl;
     pages_given = refl;
     history_given = refl;
+    csv_given = refl;
     place = refl;
   },
 )
@@ -159,7 +152,7 @@ past_device device words form is =
     subst (λ (d : Word). IsTail d no_settings words form) (sym (same_head device run.name words run.rest run.spelled))
     (subst (λ (l : List Word). IsTail run.name no_settings l form) (sym (same_tail device run.name words run.rest run.spelled)) run.behind)
 
-least_run : IsForm (codes "run" ∷ codes "a" ∷ codes "-" ∷ []) (Run 1 65536 1048576 2)
+least_run : IsForm (codes "run" ∷ codes "a" ∷ codes "-" ∷ []) (Run 1 4 65536 1048576 false 2)
 least_run = (
   refl,
   record {
@@ -167,23 +160,25 @@ least_run = (
     settings = [];
     scripts = codes "-" ∷ [];
     spelled = refl;
-    in_range = refl;
+    right = refl;
     once = λ option. omega arith;
     some = omega arith;
     most = omega arith;
     named = refl;
     different = refl;
+    workers_given = refl;
     pages_given = refl;
     history_given = refl;
+    csv_given = refl;
     place = refl;
   },
 )
 
 run_judged : (words : List Word) → Judged 1 (λ rest. IsForm (codes "run" ∷ rest)) words (read_run words)
-run_judged [] = missing 1 (λ rest. IsForm (codes "run" ∷ rest)) run_needs (codes "a" ∷ codes "-" ∷ []) (Run 1 65536 1048576 2) least_run
+run_judged [] = missing 1 (λ rest. IsForm (codes "run" ∷ rest)) run_needs (codes "a" ∷ codes "-" ∷ []) (Run 1 4 65536 1048576 false 2) least_run
 run_judged (device ∷ words) =
     cond_both (is_dashed device) (Err 1) (read_settings device words no_settings) (λ (r : Result Form ℕ). Judged 1 (λ rest. IsForm (codes "run" ∷ rest)) (device ∷ words) r)
-    (λ dashed. refused 1 (λ rest. IsForm (codes "run" ∷ rest)) device words (run_dashed device dashed) (codes "a" ∷ codes "-" ∷ []) (Run 1 65536 1048576 2) least_run)
+    (λ dashed. refused 1 (λ rest. IsForm (codes "run" ∷ rest)) device words (run_dashed device dashed) (codes "a" ∷ codes "-" ∷ []) (Run 1 4 65536 1048576 false 2) least_run)
     (λ named. judged_step 1 (λ rest. IsForm (codes "run" ∷ rest)) device words (read_settings device words no_settings)
     (judged_same (IsTail device no_settings) (λ rest. IsForm (codes "run" ∷ device ∷ rest)) (tail_run device named) (past_device device) 2 words (read_settings device words no_settings)
     (settings_judged device words no_settings)))
@@ -191,10 +186,11 @@ run_judged (device ∷ words) =
 -- all
 
 no_verb : (verb : Word) → bytes_eq verb (codes "try") ≡ false → bytes_eq verb (codes "init") ≡ false → bytes_eq verb (codes "run") ≡ false
-    → (words : List Word) (form : Form) → IsForm (verb ∷ words) form → ⊥
-no_verb verb a b c words Try is = unlike verb (codes "try") a (verb_is verb words Try is)
-no_verb verb a b c words (Init device) is = unlike verb (codes "init") b (verb_is verb words (Init device) is)
-no_verb verb a b c words (Run device pages history scripts) is = unlike verb (codes "run") c (verb_is verb words (Run device pages history scripts) is)
+    → bytes_eq verb (codes "generate") ≡ false → (words : List Word) (form : Form) → IsForm (verb ∷ words) form → ⊥
+no_verb verb a b c d words Try is = unlike verb (codes "try") a (verb_is verb words Try is)
+no_verb verb a b c d words (Init device) is = unlike verb (codes "init") b (verb_is verb words (Init device) is)
+no_verb verb a b c d words (Run device workers pages history csv scripts) is = unlike verb (codes "run") c (verb_is verb words (Run device workers pages history csv scripts) is)
+no_verb verb a b c d words (Generate number workers) is = unlike verb (codes "generate") d (verb_is verb words (Generate number workers) is)
 
 at_verb : (verb word : Word) → bytes_eq verb word ≡ true → (words : List Word) (result : Result Form ℕ)
     → Judged 1 (λ rest. IsForm (word ∷ rest)) words result → Judged 0 IsForm (verb ∷ words) result
@@ -205,10 +201,13 @@ pub words_judged : (words : List Word) → Judged 0 IsForm words (read_words wor
 words_judged [] = missing 0 IsForm no_words (codes "try" ∷ []) Try refl
 words_judged (verb ∷ words) =
     let P : Result Form ℕ → Type 0 = λ r. Judged 0 IsForm (verb ∷ words) r in
-    cond_both (bytes_eq verb (codes "try")) (read_try words) (cond (bytes_eq verb (codes "init")) (read_init words) (cond (bytes_eq verb (codes "run")) (read_run words) (Err 0))) P
+    let last : Result Form ℕ = cond (bytes_eq verb (codes "generate")) (read_generate words) (Err 0) in
+    cond_both (bytes_eq verb (codes "try")) (read_try words) (cond (bytes_eq verb (codes "init")) (read_init words) (cond (bytes_eq verb (codes "run")) (read_run words) last)) P
     (λ same. at_verb verb (codes "try") same words (read_try words) (try_judged words))
-    (λ a. cond_both (bytes_eq verb (codes "init")) (read_init words) (cond (bytes_eq verb (codes "run")) (read_run words) (Err 0)) P
+    (λ a. cond_both (bytes_eq verb (codes "init")) (read_init words) (cond (bytes_eq verb (codes "run")) (read_run words) last) P
     (λ same. at_verb verb (codes "init") same words (read_init words) (init_judged words))
-    (λ b. cond_both (bytes_eq verb (codes "run")) (read_run words) (Err 0) P
+    (λ b. cond_both (bytes_eq verb (codes "run")) (read_run words) last P
     (λ same. at_verb verb (codes "run") same words (read_run words) (run_judged words))
-    (λ c. refused 0 IsForm verb words (no_verb verb a b c) (codes "try" ∷ []) Try refl)))
+    (λ c. cond_both (bytes_eq verb (codes "generate")) (read_generate words) (Err 0) P
+    (λ same. at_verb verb (codes "generate") same words (read_generate words) (generate_judged words))
+    (λ d. refused 0 IsForm verb words (no_verb verb a b c d) (codes "try" ∷ []) Try refl))))

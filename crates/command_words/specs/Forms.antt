@@ -1,14 +1,14 @@
 -- The forms of the words of a command line. A word is the list of its bytes.
 use Rattle.std.specs.Prelude.{◌≡◌, ℕ, ◌+◌, ◌*◌, ◌≤◌, Bool, true, false, ◌&&◌, not, nat_le, if◌then◌else◌}
-use Rattle.std.specs.Prelude.{List, [], ◌∷◌, ◌++◌, length, take, count_by, codes, flat_map}
+use Rattle.std.specs.Prelude.{List, [], ◌∷◌, ◌++◌, length, take, count_by, codes, flat_map, Option, None, Some, IfSome}
 use Rattle.std.specs.List.{list_any, list_all}
 use Rattle.std.specs.Char.{is_ascii_digit}
 use Rattle.std.specs.Str.{bytes_eq}
 use Rattle.std.specs.Str.Parse.{digits_value}
 use Rattle.command_words.specs.declared.forms.Form.{Form}
-use Rattle.command_words.specs.declared.forms.Form.TheVariants.{Try, Init, Run}
+use Rattle.command_words.specs.declared.forms.Form.TheVariants.{Try, Init, Run, Generate}
 use Rattle.command_words.specs.declared.settings.RunOption.{RunOption}
-use Rattle.command_words.specs.declared.settings.RunOption.TheVariants.{Pages, History}
+use Rattle.command_words.specs.declared.settings.RunOption.TheVariants.{Pages, History, Workers, Format}
 
 abbrev pub Word : Type 0
 Word = List ℕ
@@ -21,32 +21,42 @@ is_dashed word = bytes_eq (take 2 word) (codes "--")
 abbrev pub is_number : Word → Bool
 is_number word = nat_le 1 (length word) && nat_le (length word) 10 && list_all is_ascii_digit word
 
--- An option of `run` is two words: its name, and a number from 16 to 1,048,576.
+-- An option is two words: its name, and what is said of it.
 pub record Setting : Type 0 where
   pub option : RunOption
-  pub number : Word
+  pub said : Word
 
 abbrev pub option_word : RunOption → Word
 option_word Pages = codes "--pages"
 option_word History = codes "--history"
+option_word Workers = codes "--workers"
+option_word Format = codes "--format"
 
 abbrev pub setting_words : Setting → List Word
-setting_words setting = option_word setting.option ∷ setting.number ∷ []
+setting_words setting = option_word setting.option ∷ setting.said ∷ []
 
-abbrev pub is_setting_number : Word → Bool
-is_setting_number number = is_number number && nat_le 16 (digits_value 10 number) && nat_le (digits_value 10 number) 1048576
+abbrev pub is_number_within : ℕ → ℕ → Word → Bool
+is_number_within least most word = is_number word && nat_le least (digits_value 10 word) && nat_le (digits_value 10 word) most
 
+-- what may be said of an option: a number in its range, or the one format
+abbrev pub may_say : RunOption → Word → Bool
+may_say Pages said = is_number_within 16 1048576 said
+may_say History said = is_number_within 16 1048576 said
+may_say Workers said = is_number_within 1 64 said
+may_say Format said = bytes_eq said (codes "csv+")
+
+abbrev pub is_right : Setting → Bool
+is_right setting = may_say setting.option setting.said
+
+-- options are told by their names
 abbrev pub is_option : RunOption → RunOption → Bool
-is_option Pages Pages = true
-is_option History History = true
-is_option Pages History = false
-is_option History Pages = false
+is_option one other = bytes_eq (option_word one) (option_word other)
 
 -- the number of an option, or the other one where the option isn't there
 abbrev pub number_in : RunOption → ℕ → List Setting → ℕ
 number_in option other [] = other
 number_in option other (setting ∷ settings) =
-    if is_option option setting.option then digits_value 10 setting.number else number_in option other settings
+    if is_option option setting.option then digits_value 10 setting.said else number_in option other settings
 
 -- A script takes its own name and that of its reply. The reply of the script `-` is named `-` too.
 abbrev pub script_names : Word → List Word
@@ -60,20 +70,25 @@ abbrev pub are_different : List Word → Bool
 are_different [] = true
 are_different (name ∷ names) = not (list_any (bytes_eq name) names) && are_different names
 
--- `run DB OPTION.. SCRIPT..`: its numbers, and the place of its first script
-pub record IsRun (words : List Word) (pages history first : ℕ) : Type 0 where
+abbrev pub is_there : RunOption → List Setting → Bool
+is_there option settings = list_any (λ setting. is_option option setting.option) settings
+
+-- `run DB OPTION.. SCRIPT..`: its numbers, whether its arrays are records of CSV, and the place of its first script
+pub record IsRun (words : List Word) (workers pages history : ℕ) (csv : Bool) (first : ℕ) : Type 0 where
   pub device : Word
   pub settings : List Setting
   pub scripts : List Word
   pub spelled : words ≡ codes "run" ∷ device ∷ (flat_map setting_words settings ++ scripts)
-  pub in_range : list_all (λ setting. is_setting_number setting.number) settings ≡ true
+  pub right : list_all is_right settings ≡ true
   pub once : (option : RunOption) → count_by (λ setting. is_option option setting.option) settings ≤ 1
   pub some : 1 ≤ length scripts
   pub most : length scripts ≤ 16
   pub named : list_any is_dashed (device ∷ scripts) ≡ false
   pub different : are_different (run_names device scripts) ≡ true
+  pub workers_given : workers ≡ number_in Workers 4 settings
   pub pages_given : pages ≡ number_in Pages 65536 settings
   pub history_given : history ≡ number_in History 1048576 settings
+  pub csv_given : csv ≡ is_there Format settings
   pub place : first ≡ 2 + 2 * length settings
 
 -- `init DB`
@@ -82,8 +97,32 @@ pub record IsInit (words : List Word) : Type 0 where
   pub spelled : words ≡ codes "init" ∷ device ∷ []
   pub named : is_dashed device ≡ false
 
+-- the number of a script: at most 4,294,967,295
+abbrev pub is_script_number : Word → Bool
+is_script_number number = is_number number && nat_le (digits_value 10 number) 4294967295
+
+-- the words of `--workers`, where it is given, and what it says
+abbrev pub workers_words : Option Word → List Word
+workers_words None = []
+workers_words (Some number) = option_word Workers ∷ number ∷ []
+
+abbrev pub workers_said : Option Word → ℕ
+workers_said None = 4
+workers_said (Some number) = digits_value 10 number
+
+-- `generate N`, with `--workers` behind it or not
+pub record IsGenerate (words : List Word) (number workers : ℕ) : Type 0 where
+  pub digits : Word
+  pub given : Option Word
+  pub spelled : words ≡ codes "generate" ∷ digits ∷ workers_words given
+  pub fits : is_script_number digits ≡ true
+  pub in_range : IfSome given (λ said. may_say Workers said ≡ true)
+  pub number_given : number ≡ digits_value 10 digits
+  pub workers_given : workers ≡ workers_said given
+
 -- the words have the form; a device stands at place 1
 abbrev pub IsForm : List Word → Form → Type 0
 IsForm words Try = words ≡ codes "try" ∷ []
 IsForm words (Init device) = (device ≡ 1) × IsInit words
-IsForm words (Run device pages history scripts) = (device ≡ 1) × IsRun words pages history scripts
+IsForm words (Run device workers pages history csv scripts) = (device ≡ 1) × IsRun words workers pages history csv scripts
+IsForm words (Generate number workers) = IsGenerate words number workers

@@ -1,8 +1,8 @@
 -- Worked words: some that have a form, and some that have none, each with the place where it shows.
-use Rattle.std.specs.Prelude.{ℕ, List, [], ◌∷◌, ◌++◌, codes}
+use Rattle.std.specs.Prelude.{ℕ, false, true, List, [], ◌∷◌, ◌++◌, codes}
 use Rattle.command_words.specs.Forms.{Word, IsForm}
 use Rattle.command_words.specs.declared.forms.Form.{Form}
-use Rattle.command_words.specs.declared.forms.Form.TheVariants.{Try, Init, Run}
+use Rattle.command_words.specs.declared.forms.Form.TheVariants.{Try, Init, Run, Generate}
 use Rattle.command_words.specs.Faults.{IsFault}
 
 pub record Wrong : Type 0 where
@@ -56,7 +56,13 @@ wrong_words =
     ∷ wrong (run_with (codes "--pages" ∷ codes "16" ∷ [])) 4
     ∷ wrong (run_with (codes "--pages" ∷ codes "16" ∷ codes "--pages" ∷ codes "17" ∷ codes "a" ∷ [])) 4
     ∷ wrong (run_with (codes "--pages" ∷ codes "16" ∷ codes "--history" ∷ codes "16" ∷ codes "--pages" ∷ [])) 6
-    ∷ wrong (run_with (codes "--workers" ∷ codes "4" ∷ codes "a" ∷ [])) 2
+    ∷ wrong (run_with (codes "--workers" ∷ codes "0" ∷ codes "a" ∷ [])) 3
+    ∷ wrong (run_with (codes "--workers" ∷ codes "65" ∷ codes "a" ∷ [])) 3
+    ∷ wrong (run_with (codes "--workers" ∷ codes "1" ∷ codes "--workers" ∷ codes "1" ∷ codes "a" ∷ [])) 4
+    ∷ wrong (run_with (codes "--format" ∷ [])) 3
+    ∷ wrong (run_with (codes "--format" ∷ codes "csv" ∷ codes "a" ∷ [])) 3
+    ∷ wrong (run_with (codes "--format" ∷ codes "csv+" ∷ codes "--format" ∷ codes "csv+" ∷ codes "a" ∷ [])) 4
+    ∷ wrong (run_with (codes "--threads" ∷ codes "4" ∷ codes "a" ∷ [])) 2
     ∷ wrong (run_with (codes "a" ∷ codes "--pages" ∷ codes "16" ∷ [])) 3
     ∷ wrong (run_with (codes "DB" ∷ [])) 2
     ∷ wrong (run_with (codes "a" ∷ codes "a" ∷ [])) 3
@@ -66,19 +72,33 @@ wrong_words =
     ∷ wrong (codes "run" ∷ codes "-" ∷ codes "-" ∷ []) 2
     ∷ wrong (run_with (codes "-" ∷ codes "-" ∷ [])) 3
     ∷ wrong (run_with (sixteen ++ codes "p" ∷ [])) 18
+    ∷ wrong (codes "generate" ∷ []) 1
+    ∷ wrong (codes "generate" ∷ codes "4294967296" ∷ []) 1
+    ∷ wrong (codes "generate" ∷ codes "7" ∷ codes "a" ∷ []) 2
+    ∷ wrong (codes "generate" ∷ codes "7" ∷ codes "--format" ∷ codes "csv+" ∷ []) 2
+    ∷ wrong (codes "generate" ∷ codes "7" ∷ codes "--workers" ∷ []) 3
+    ∷ wrong (codes "generate" ∷ codes "7" ∷ codes "--workers" ∷ codes "0" ∷ []) 3
+    ∷ wrong (codes "generate" ∷ codes "7" ∷ codes "--workers" ∷ codes "8" ∷ codes "--workers" ∷ codes "8" ∷ []) 4
     ∷ []
 
 abbrev pub right_words : List Right
 right_words =
     right (codes "try" ∷ []) Try
     ∷ right (codes "init" ∷ codes "-" ∷ []) (Init 1)
-    ∷ right (run_with (codes "a" ∷ [])) (Run 1 65536 1048576 2)
-    ∷ right (run_with (codes "-" ∷ [])) (Run 1 65536 1048576 2)
-    ∷ right (run_with (codes "-" ∷ codes "-.out" ∷ [])) (Run 1 65536 1048576 2)
-    ∷ right (run_with (codes "DB.out" ∷ [])) (Run 1 65536 1048576 2)
-    ∷ right (run_with sixteen) (Run 1 65536 1048576 2)
-    ∷ right (run_with (codes "--pages" ∷ codes "0000000016" ∷ codes "a" ∷ [])) (Run 1 16 1048576 4)
-    ∷ right (run_with (codes "--history" ∷ codes "1048576" ∷ codes "--pages" ∷ codes "4096" ∷ codes "a" ∷ codes "b" ∷ [])) (Run 1 4096 1048576 6)
+    ∷ right (run_with (codes "a" ∷ [])) (Run 1 4 65536 1048576 false 2)
+    ∷ right (run_with (codes "-" ∷ [])) (Run 1 4 65536 1048576 false 2)
+    ∷ right (run_with (codes "-" ∷ codes "-.out" ∷ [])) (Run 1 4 65536 1048576 false 2)
+    ∷ right (run_with (codes "DB.out" ∷ [])) (Run 1 4 65536 1048576 false 2)
+    ∷ right (run_with sixteen) (Run 1 4 65536 1048576 false 2)
+    ∷ right (run_with (codes "--pages" ∷ codes "0000000016" ∷ codes "a" ∷ [])) (Run 1 4 16 1048576 false 4)
+    ∷ right (run_with (codes "--history" ∷ codes "1048576" ∷ codes "--pages" ∷ codes "4096" ∷ codes "a" ∷ codes "b" ∷ [])) (Run 1 4 4096 1048576 false 6)
+    ∷ right (run_with (codes "--workers" ∷ codes "64" ∷ codes "--pages" ∷ codes "16" ∷ codes "a" ∷ [])) (Run 1 64 16 1048576 false 6)
+    ∷ right (run_with (codes "--format" ∷ codes "csv+" ∷ codes "a" ∷ [])) (Run 1 4 65536 1048576 true 4)
+    ∷ right (run_with (codes "--pages" ∷ codes "16" ∷ codes "--format" ∷ codes "csv+" ∷ codes "--workers" ∷ codes "2" ∷ codes "a" ∷ []))
+    (Run 1 2 16 1048576 true 8)
+    ∷ right (codes "generate" ∷ codes "7" ∷ []) (Generate 7 4)
+    ∷ right (codes "generate" ∷ codes "7" ∷ codes "--workers" ∷ codes "8" ∷ []) (Generate 7 8)
+    ∷ right (codes "generate" ∷ codes "4294967295" ∷ []) (Generate 4294967295 4)
     ∷ []
 
 -- each of these is a witness that forms and faults are there

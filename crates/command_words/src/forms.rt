@@ -2,11 +2,12 @@
 ghost use Rattle.std.specs.Prelude.{◌≡◌, ◌↔◌, ℕ};
 ghost use Rattle.command_words.specs.Forms.{IsForm};
 ghost use Rattle.command_words.specs.Faults.{IsFault};
-ghost use Rattle.command_words.specs.Inner.Reading.{no_settings, read_init, read_run, read_scripts, read_settings, read_try, read_words, run_of};
+ghost use Rattle.command_words.specs.Inner.Reading.{no_settings, read_generate, read_init, read_run, read_scripts};
+ghost use Rattle.command_words.specs.Inner.Reading.{read_settings, read_try, read_words, read_workers, run_of};
 
 use crate::arg::Arg;
 use crate::scripts::{is_dashed, wrong_script};
-use crate::settings::{Settings, number_of};
+use crate::settings::{MAX_WORKERS, Settings, number_within, script_number};
 
 /// A form of words. Each `device` and `scripts` is a place among the words, from 0.
 #[derive(Clone, Copy, Debug)]
@@ -17,14 +18,24 @@ pub enum Form {
     Init {
         device: usize,
     },
-    /// `run DB OPTION.. SCRIPT..`, with the places of DB and of the first SCRIPT. All words from there on are scripts.
+    /// `run DB OPTION.. SCRIPT..`, with the places of DB and of the first SCRIPT. All words from there on are scripts. Its arrays
+    /// are records of CSV where `csv` says so.
     Run {
         device: usize,
+        workers: u32,
         pages: u32,
         history: u32,
+        csv: bool,
         scripts: usize,
     },
+    /// `generate N` or `generate N --workers N`
+    Generate {
+        number: u32,
+        workers: u32,
+    },
 }
+
+const DEFAULT_WORKERS: u32 = 4;
 
 const DEFAULT_PAGES: u32 = 65_536;
 
@@ -47,6 +58,7 @@ fn read_words(words: &[Arg]) -> Result<Form, u32>
             "try" => read_try(rest),
             "init" => read_init(rest),
             "run" => read_run(rest),
+            "generate" => read_generate(rest),
             _ => Err(0),
         },
     }
@@ -97,9 +109,9 @@ fn read_settings(device: &str, words: &[Arg], settings: Settings) -> Result<Form
             None => read_scripts(device, settings, words),
             Some(option) => match rest {
                 [] => Err(settings.place() + 1),
-                [number, rest @ ..] => match number_of(number.as_str()) {
+                [said, rest @ ..] => match settings.with(option, said.as_str()) {
                     None => Err(settings.place() + 1),
-                    Some(number) => read_settings(device, rest, settings.with(option, number)),
+                    Some(next) => read_settings(device, rest, next),
                 },
             },
         },
@@ -120,8 +132,41 @@ fn run_of(settings: Settings) -> Form
 {
     Form::Run {
         device: 1,
+        workers: settings.workers.unwrap_or(DEFAULT_WORKERS),
         pages: settings.pages.unwrap_or(DEFAULT_PAGES),
         history: settings.history.unwrap_or(DEFAULT_HISTORY),
+        csv: settings.csv,
         scripts: settings.place() as usize,
+    }
+}
+
+fn read_generate(words: &[Arg]) -> Result<Form, u32>
+    ensures { result ≡ read_generate words.now }
+{
+    match words {
+        [] => Err(1),
+        [digits, rest @ ..] => match script_number(digits.as_str()) {
+            None => Err(1),
+            Some(number) => read_workers(number, rest),
+        },
+    }
+}
+
+/// The words behind the number of a script.
+fn read_workers(number: u32, words: &[Arg]) -> Result<Form, u32>
+    ensures { result ≡ read_workers number words.now }
+{
+    match words {
+        [] => Ok(Form::Generate {
+            number,
+            workers: DEFAULT_WORKERS,
+        }),
+        [name, ..] if name.as_str() != "--workers" => Err(2),
+        [_] => Err(3),
+        [_, said, rest @ ..] => match number_within(1, MAX_WORKERS, said.as_str()) {
+            None => Err(3),
+            Some(workers) if rest.is_empty() => Ok(Form::Generate { number, workers }),
+            Some(_) => Err(4),
+        },
     }
 }

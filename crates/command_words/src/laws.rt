@@ -1,5 +1,5 @@
 //! Laws of forms.
-ghost use Rattle.command_words.specs.Laws.{FaultsAreUnique, FormsAreUnique, FormsKeepTheirPlaces};
+ghost use Rattle.command_words.specs.Laws.{FaultsAreUnique, FormsAreUnique, FormsKeepTheirPlaces, FormsKeepTheirRanges};
 ghost use Rattle.command_words.specs.Worked.{WorkedWords};
 
 /// No words have two forms.
@@ -15,6 +15,11 @@ pub fn faults_are_unique()
 /// In words of a form the device stands at place 1, and the scripts are all words from the first one on.
 pub fn forms_keep_their_places()
     ensures { FormsKeepTheirPlaces }
+{}
+
+/// The numbers of a run and of a generated script are in their ranges.
+pub fn forms_keep_their_ranges()
+    ensures { FormsKeepTheirRanges }
 {}
 
 /// The worked words have the forms and the faults that stand beside them.

@@ -1,26 +1,33 @@
-//! The options of `run`, and their numbers.
+//! The options of `run`, and what may be said of them.
 ghost use Rattle.std.specs.Prelude.{◌≡◌, ◌≤◌};
 ghost use Rattle.std.specs.Char.{is_ascii_digit};
 ghost use Rattle.std.specs.List.{list_all};
 ghost use Rattle.command_words.specs.Forms.{is_number};
-ghost use Rattle.command_words.specs.Inner.Reading.{next_option, no_settings, number_of, option_of, place_of, with_number, words_of};
+ghost use Rattle.command_words.specs.Inner.Reading.{next_option, no_settings, number_within, option_of, place_of, script_number};
+ghost use Rattle.command_words.specs.Inner.Reading.{with_history, with_pages, with_said, with_workers, words_of};
 
-const LEAST_NUMBER: u32 = 16;
+pub(crate) const MAX_WORKERS: u32 = 64;
 
-const MOST_NUMBER: u32 = 1_048_576;
+const LEAST_SIZE: u32 = 16;
+
+const MOST_SIZE: u32 = 1_048_576;
 
 /// An option of `run`.
 #[derive(Clone, Copy)]
 pub(crate) enum RunOption {
     Pages,
     History,
+    Workers,
+    Format,
 }
 
-/// The numbers of the options so far.
+/// What the options so far say.
 #[derive(Clone, Copy)]
 pub(crate) struct Settings {
     pub(crate) pages: Option<u32>,
     pub(crate) history: Option<u32>,
+    pub(crate) workers: Option<u32>,
+    pub(crate) csv: bool,
 }
 
 fn option_of(word: &str) -> Option<RunOption>
@@ -29,18 +36,21 @@ fn option_of(word: &str) -> Option<RunOption>
     match word {
         "--pages" => Some(RunOption::Pages),
         "--history" => Some(RunOption::History),
+        "--workers" => Some(RunOption::Workers),
+        "--format" => Some(RunOption::Format),
         _ => None,
     }
 }
 
-fn number_words(number: Option<u32>) -> u32
-    ensures { result ≡ words_of number }
+/// The words of an option that is given or not.
+const fn words_of(is_given: bool) -> u32
+    ensures { result ≡ words_of is_given }
 {
-    if number.is_some() { 2 } else { 0 }
+    if is_given { 2 } else { 0 }
 }
 
 impl Settings {
-    ghost use Rattle.command_words.specs.Inner.Reading.{given};
+    ghost use Rattle.command_words.specs.Inner.Reading.{is_given};
 
     pub(crate) const fn new() -> Settings
         ensures { result ≡ no_settings }
@@ -48,30 +58,59 @@ impl Settings {
         Settings {
             pages: None,
             history: None,
+            workers: None,
+            csv: false,
         }
     }
 
-    fn number(self, option: RunOption) -> Option<u32>
-        ensures { result ≡ given self option }
+    fn is_given(self, option: RunOption) -> bool
+        ensures { result ≡ is_given self option }
     {
         match option {
-            RunOption::Pages => self.pages,
-            RunOption::History => self.history,
+            RunOption::Pages => self.pages.is_some(),
+            RunOption::History => self.history.is_some(),
+            RunOption::Workers => self.workers.is_some(),
+            RunOption::Format => self.csv,
         }
     }
 
-    pub(crate) fn with(self, option: RunOption, number: u32) -> Settings
-        ensures { result ≡ with_number self option number }
+    fn with_pages(self, pages: Option<u32>) -> Option<Settings>
+        ensures { result ≡ with_pages self pages }
+    {
+        match pages {
+            Some(_) => Some(Settings { pages, ..self }),
+            None => None,
+        }
+    }
+
+    fn with_history(self, history: Option<u32>) -> Option<Settings>
+        ensures { result ≡ with_history self history }
+    {
+        match history {
+            Some(_) => Some(Settings { history, ..self }),
+            None => None,
+        }
+    }
+
+    fn with_workers(self, workers: Option<u32>) -> Option<Settings>
+        ensures { result ≡ with_workers self workers }
+    {
+        match workers {
+            Some(_) => Some(Settings { workers, ..self }),
+            None => None,
+        }
+    }
+
+    /// These and the option with what is said of it, where that may be said.
+    pub(crate) fn with(self, option: RunOption, said: &str) -> Option<Settings>
+        ensures { result ≡ with_said self option said.now }
     {
         match option {
-            RunOption::Pages => Settings {
-                pages: Some(number),
-                ..self
-            },
-            RunOption::History => Settings {
-                history: Some(number),
-                ..self
-            },
+            RunOption::Pages => self.with_pages(number_within(LEAST_SIZE, MOST_SIZE, said)),
+            RunOption::History => self.with_history(number_within(LEAST_SIZE, MOST_SIZE, said)),
+            RunOption::Workers => self.with_workers(number_within(1, MAX_WORKERS, said)),
+            RunOption::Format if said == "csv+" => Some(Settings { csv: true, ..self }),
+            RunOption::Format => None,
         }
     }
 
@@ -80,7 +119,7 @@ impl Settings {
         ensures { result ≡ next_option self word.now }
     {
         match option_of(word) {
-            Some(option) if self.number(option).is_none() => Some(option),
+            Some(option) if !self.is_given(option) => Some(option),
             _ => None,
         }
     }
@@ -88,9 +127,10 @@ impl Settings {
     /// The place behind the device and these options.
     pub(crate) fn place(self) -> u32
         ensures place { result ≡ place_of self }
-        ensures near { result ≤ 6 }
+        ensures near { result ≤ 10 }
     {
-        2 + number_words(self.pages) + number_words(self.history)
+        let numbers = words_of(self.pages.is_some()) + words_of(self.history.is_some());
+        2 + numbers + words_of(self.workers.is_some()) + words_of(self.csv)
     }
 }
 
@@ -107,15 +147,26 @@ fn is_number(word: &str) -> bool
     !digits.is_empty() && digits.len() <= 10 && are_digits(digits)
 }
 
-/// The number of an option: 1 to 10 digits, and 16 to 1,048,576.
-pub(crate) fn number_of(word: &str) -> Option<u32>
-    ensures { result ≡ number_of word.now }
+/// The number that the word is: 1 to 10 digits, and in the range.
+pub(crate) fn number_within(least: u32, most: u32, word: &str) -> Option<u32>
+    ensures { result ≡ number_within least most word.now }
 {
     if !is_number(word) {
         return None;
     }
     match word.parse::<u32>() {
-        Ok(number) if LEAST_NUMBER <= number && number <= MOST_NUMBER => Some(number),
+        Ok(number) if least <= number && number <= most => Some(number),
         _ => None,
+    }
+}
+
+/// The number of a script: 1 to 10 digits, and at most 4,294,967,295.
+pub(crate) fn script_number(word: &str) -> Option<u32>
+    ensures { result ≡ script_number word.now }
+{
+    if is_number(word) {
+        word.parse::<u32>().ok()
+    } else {
+        None
     }
 }

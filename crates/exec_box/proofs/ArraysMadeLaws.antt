@@ -1,23 +1,20 @@
 -- An array made of the rows of another one means what the operator makes of that one's meaning.
-use Rattle.std.proofs.Common.{◌≡◌, ℕ, suc, ◌≤◌, ◌^◌, List, [], ◌∷◌, length, Some, None, Result, Ok, Err, refl, sym, ap, subst, ◌∙◌, arith}
-use Rattle.std.specs.Prelude.{◌&&◌, IfOk}
+use Rattle.std.proofs.Common.{◌≡◌, ℕ, List, [], ◌∷◌, Some, None, Result, Ok, Err, sym, ap, subst, ◌∙◌}
+use Rattle.std.specs.Prelude.{IfOk}
 use Rattle.cell_values.specs.declared.datum.Broken.{Broken}
 use Rattle.cell_values.specs.declared.datum.Row.{Row}
 use Rattle.cell_values.specs.declared.memory.Memory.{Memory}
 use Rattle.cell_values.specs.declared.schema.Bounds.{Bounds}
-use Rattle.cell_values.specs.declared.schema.Dimension.{Dimension}
 use Rattle.cell_values.specs.declared.schema.Schema.{Schema}
-use Rattle.cell_values.specs.Schemas.{has_attributes, has_dimensions, are_distinct, names_of, is_dimension, frame_size, frame_fits, IsValid}
-use Rattle.std.specs.List.{AllByRecursion, list_all}
+use Rattle.cell_values.specs.Schemas.{IsValid}
+use Rattle.std.specs.List.{AllByRecursion}
 use Rattle.array_rows.specs.Arrays.{AreRowsOf, Meant}
 use Rattle.array_rows.specs.Boxes.{is_inside, meet, bounds_of}
 use Rattle.array_rows.proofs.RowSets.{IsRising-rows_where}
 use Rattle.array_geom.specs.declared.chunk.ChunkedArray.{ChunkedArray}
 use Rattle.array_geom.specs.declared.chunk.Chunk.{Chunk}
-use Rattle.array_geom.specs.Geometry.{core, overlaps, frame_lengths, volume}
+use Rattle.array_geom.specs.Geometry.{core, overlaps}
 use Rattle.array_geom.specs.Link.{Is, chunk_rows}
-use Rattle.array_geom.proofs.NearLemmas.{valid_placed, size_is_volume}
-use Rattle.array_geom.proofs.TestLaws.{and_parts, at_most}
 use Rattle.array_parts.specs.Cores.{HasCells, HaveCells, cores_of, meant_by_cores, unless_broken}
 use Rattle.array_parts.proofs.CoreLaws.{arrays_are_their_cores, arrays_have_cells, cores_are_rows}
 use Rattle.chunk_cells.specs.Whole.{CoresRise, IsArray}

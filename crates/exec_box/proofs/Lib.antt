@@ -4,4 +4,8 @@ pub mod FreeLaws
 pub mod MovedLaws
 pub mod OperatorsMadeLaws
 pub mod PartLaws
+pub mod PickLaws
+pub mod PieceLaws
+pub mod ReachLaws
 pub mod SliceLaws
+pub mod SpreadLaws

@@ -25,7 +25,7 @@ use Rattle.exec_box.specs.Laws.{SubarraysAreArrays}
 use Rattle.exec_box.specs.Moves.{AreShort, IsShort, lowered}
 use Rattle.exec_box.proofs.MovedLaws.{AllAt, rising_moved, all_moved, moved_alike, all_where, passing}
 
-abbrev less : List ℤ → Coordinate → Coordinate
+abbrev pub less : List ℤ → Coordinate → Coordinate
 less lo c = by_pairs (λ x l. x -ℤ l) c lo
 
 shift_ranks : (l x y : ℤ) (r : Ordering) → MatchOrdering r (x <ℤ y) (x ≡ y) (y <ℤ x) → MatchOrdering r ((x -ℤ l) <ℤ (y -ℤ l)) ((x -ℤ l) ≡ (y -ℤ l)) ((y -ℤ l) <ℤ (x -ℤ l))
@@ -60,10 +60,10 @@ stretch d l h x near e f =
     let below : (x -ℤ int_max d.lo l) ≤ℤ (int_min d.hi h -ℤ int_max d.lo l) = omega (arith, ints, clamps) in
     (omega (arith, ints), subst (λ (z : ℤ). (x -ℤ int_max d.lo l) ≤ℤ z) (sym whole) below)
 
-abbrev lows : List Dimension → List ℤ → List ℤ
+abbrev pub lows : List Dimension → List ℤ → List ℤ
 lows dims lo = by_pairs int_max (map (λ d. d.lo) dims) lo
 
-abbrev highs : List Dimension → List ℤ → List ℤ
+abbrev pub highs : List Dimension → List ℤ → List ℤ
 highs dims hi = by_pairs int_min (map (λ d. d.hi) dims) hi
 
 in_part : (dims : List Dimension) (lo hi : List ℤ) (c : Coordinate) → AreNear dims → is_between (lows dims lo) (highs dims hi) c ≡ true

@@ -6,4 +6,5 @@ mod slices;
 
 pub use laws::moved_rows_are_arrays;
 pub use parts::part_of_rows;
+pub(crate) use slices::is_fixed;
 pub use slices::slice_of_rows;

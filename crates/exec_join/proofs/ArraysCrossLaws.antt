@@ -37,11 +37,11 @@ use Rattle.exec_box.proofs.SliceLaws.{AgreeFrom, inside_but, is_among, long, ord
 use Rattle.exec_join.proofs.SideLaws.{as_many_names, beside_kinds, renamed_cell, same_bounds}
 
 -- the row of two rows
-abbrev of_both : List Pair → Row → Row → Row
+abbrev pub of_both : List Pair → Row → Row → Row
 of_both pairs l r = placed (cross_at pairs l.at.items r.at.items) (cell_beside l.cell r.cell)
 
 -- the rows of a left one
-abbrev of_left : List Pair → List Row → Row → List Row
+abbrev pub of_left : List Pair → List Row → Row → List Row
 of_left pairs right l = map (of_both pairs l) (rows_where (agree pairs l.at.items) right)
 
 -- ---- places
@@ -268,7 +268,7 @@ as_long_but places n (x ∷ xs) (y ∷ ys) e = cases (is_among places n) (as_lon
     cases true h = h
     cases false h = ap suc h
 
-as_many_dimensions : (pairs : List Pair) (left right schema : Schema) → schema ≡ cross_schema pairs left right → length schema.dimensions ≡ length (dims_of pairs left right)
+pub as_many_dimensions : (pairs : List Pair) (left right schema : Schema) → schema ≡ cross_schema pairs left right → length schema.dimensions ≡ length (dims_of pairs left right)
 as_many_dimensions pairs left right schema e =
     sym (length-map schema.dimensions (λ (d : Dimension). d.lo)) ∙ ap (λ (b : Bounds). length b.lo.items) (cross_bounds pairs left right schema e) ∙ length-map (dims_of pairs left right) (λ (d : Dimension). d.lo)
 

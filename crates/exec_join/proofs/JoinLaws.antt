@@ -1,16 +1,12 @@
 -- Joins of the rows in a box.
-use Rattle.std.proofs.Common.{◌≡◌, Bool, true, false, cond, List, [], ◌∷◌, Option, Some, None, refl, sym, ap, ◌∙◌, subst}
+use Rattle.std.proofs.Common.{◌≡◌, Bool, true, false, cond, List, [], ◌∷◌, None, refl, sym, ap, ◌∙◌}
 use Rattle.std.specs.Option.{option_map}
-use Rattle.std.specs.Ordering.{is_eq}
-use Rattle.std.specs.declared.cmp.Ordering.{Ordering}
-use Rattle.std.specs.declared.cmp.Ordering.TheVariants.{Less}
-use Rattle.cell_values.specs.declared.datum.Cell.{Cell}
 use Rattle.cell_values.specs.declared.datum.Row.{Row}
 use Rattle.cell_values.specs.declared.schema.Bounds.{Bounds}
 use Rattle.array_rows.specs.Boxes.{is_inside, within}
 use Rattle.array_rows.specs.Cellwise.{put_first}
-use Rattle.array_rows.specs.Rows.{Coordinate, row_major, IsBefore, IsRising, placed, cell_at}
-use Rattle.array_rows.proofs.RowsLemmas.{none_at_bound, IsBefore-trans, within-cell_wise, same_coordinate}
+use Rattle.array_rows.specs.Rows.{cell_at}
+use Rattle.array_rows.proofs.RowsLemmas.{within-cell_wise}
 use Rattle.array_rows.proofs.RowSets.{cell_at-within}
 use Rattle.logical_plan.specs.Joins.{cell_beside, join_rows}
 

@@ -1,4 +1,5 @@
 pub mod ArraysCrossLaws
+pub mod CrossPieceLaws
 pub mod JoinLaws
 pub mod MadeLaws
 pub mod MoveLaws

@@ -1,3 +1,4 @@
 pub mod Beside
 pub mod Cross
 pub mod Partners
+pub mod Pieces

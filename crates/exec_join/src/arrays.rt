@@ -1,6 +1,8 @@
 //! Joins of arrays.
 
 mod building;
+mod cross_numbers;
+mod cross_pieces;
 mod crossed;
 mod joined;
 mod pieces;

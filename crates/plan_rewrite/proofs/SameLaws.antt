@@ -25,6 +25,7 @@ use Rattle.logical_plan.specs.PlanSchema.{schema_of, apply_schema, project_schem
 use Rattle.logical_plan.specs.Query.{Query, filtered, applied, projected, between, subarray, sliced, joined, crossed, redimensioned, regridded, windowed, aggregated}
 use Rattle.logical_plan.specs.Typing.{is_over, fits_apply, are_below, are_apart, is_box_of, same_bounds, pairs_dimensions, redimensions, are_blocks_of, are_aggregates_of, are_windows_of}
 use Rattle.plan_needs.specs.Needs.{is_scan, needs}
+use Rattle.plan_needs.specs.Sufficient.{HasArrays}
 use Rattle.plan_needs.proofs.LeafParts.{left_arrays, right_arrays}
 use Rattle.plan_rewrite.specs.Same.{IsSame}
 use Rattle.plan_needs.specs.Sides.{whole, of_between, of_subarray, of_slice, of_left, of_right, of_regrid, of_aggregate, of_window}

@@ -1,29 +1,17 @@
 -- Groups of rows that land at one coordinate.
-use Rattle.std.proofs.Common.{◌≡◌, ℕ, ◌<◌, ◌≤◌, ◌^◌, ℤ, Bool, true, false, cond, IsTrue, List, [], ◌∷◌, map, filter, length, Option, Result, Ok, refl, sym, ap, ◌∙◌, subst, arith}
+use Rattle.std.proofs.Common.{◌≡◌, ◌≤◌, Bool, true, false, cond, IsTrue, List, [], ◌∷◌, map, filter, length, Ok, refl, sym, ap, ◌∙◌, subst, arith}
 use Rattle.std.specs.List.{AllByRecursion}
 use Rattle.std.specs.Ordering.{is_eq}
 use Rattle.std.specs.declared.cmp.Ordering.TheVariants.{Less}
-use Rattle.arrayvec.specs.ArrayVec.{ArrayVec}
-use Rattle.cell_values.specs.declared.datum.Broken.{Broken}
 use Rattle.cell_values.specs.declared.datum.Row.{Row}
 use Rattle.cell_values.specs.declared.schema.Bounds.{Bounds}
 use Rattle.array_rows.specs.Boxes.{is_inside}
 use Rattle.array_rows.specs.Rows.{Coordinate, row_major, IsBefore, IsRising}
 use Rattle.array_rows.proofs.RowsLemmas.{same_coordinate}
 use Rattle.array_rows.proofs.RowSets.{IsRising-rows_where}
-use Rattle.logical_plan.specs.declared.parts.Aggregate.{Aggregate}
-use Rattle.logical_plan.specs.Groups.{group_at}
 use Rattle.logical_plan.specs.Redimension.{Origin, Landing, Landed, lands, drops, breaks, landing_of, after_landing, landed, landed_at}
-use Rattle.exec_group.specs.declared.rows.groups.Group.{Group}
-use Rattle.exec_group.specs.Grouped.{AreGroupsOf, IsGroupOf, states_at}
-use Rattle.exec_group.specs.Sets.{AreKeys, sets_by, unless_empty}
-use Rattle.redimension_exec.specs.declared.landings.gathering.Landings.{Landings}
-use Rattle.redimension_exec.specs.Inner.Gathering.{AreLandings, pairs}
-use Rattle.redimension_exec.specs.Inner.Grouping.{landed_sets}
+use Rattle.redimension_exec.specs.Inner.Taking.{rows_in}
 use Rattle.redimension_exec.proofs.LandedLaws.{all_landed, whole_of}
-
-abbrev pub rows_in : List Landed → List Row
-rows_in all = map (λ (l : Landed). l.1) all
 
 before_in : (c : Coordinate) (bounds : Bounds) (all : List Landed) → AllByRecursion (λ l. IsTrue (is_inside bounds l.0) × (row_major c l.1.at.items ≡ Less)) all → IsBefore c (rows_in all)
 before_in c bounds [] h = tt
@@ -84,80 +72,3 @@ same_group g c (l ∷ xs) e =
 pub at_rises : (all : List Landed) (c : Coordinate) → IsRising (rows_in all) → IsRising (landed_at all c)
 at_rises all c r =
     subst IsRising (same_group (λ (row : Row). target_in all row.at.items) c all (keys_in all r)) (IsRising-rows_where (λ at. is_eq (row_major (target_in all at) c)) (rows_in all) r)
-
--- ---- pairs of targets and rows
-
-firsts_of : (targets : List (ArrayVec ℤ)) (rows : List Row) → length targets ≡ length rows → map (λ (l : Landed). l.0) (pairs targets rows) ≡ map (λ (t : ArrayVec ℤ). t.items) targets
-firsts_of [] rows l = refl
-firsts_of (t ∷ targets) [] l = absurd (omega (arith, l))
-firsts_of (t ∷ targets) (row ∷ rows) l = ap (λ (rest : List Coordinate). t.items ∷ rest) (firsts_of targets rows (omega (arith, l)))
-
-seconds_of : (targets : List (ArrayVec ℤ)) (rows : List Row) → length targets ≡ length rows → rows_in (pairs targets rows) ≡ rows
-seconds_of [] [] l = refl
-seconds_of [] (row ∷ rows) l = absurd (omega (arith, l))
-seconds_of (t ∷ targets) [] l = absurd (omega (arith, l))
-seconds_of (t ∷ targets) (row ∷ rows) l = ap (λ (rest : List Row). row ∷ rest) (seconds_of targets rows (omega (arith, l)))
-
-as_many : (targets : List (ArrayVec ℤ)) (rows : List Row) → length targets ≡ length rows → length (pairs targets rows) ≡ length rows
-as_many [] [] l = refl
-as_many [] (row ∷ rows) l = absurd (omega (arith, l))
-as_many (t ∷ targets) [] l = absurd (omega (arith, l))
-as_many (t ∷ targets) (row ∷ rows) l = let rest = as_many targets rows (omega (arith, l)) in omega (arith, rest)
-
-module _ (origins : List Origin) (bounds : Bounds) (rows : List Row) (targets : List (ArrayVec ℤ)) (kept : List Row) (rise : IsRising rows) (l : length targets ≡ length kept)
-    (e : landed origins bounds false rows [] ≡ Ok (pairs targets kept)) where
-  pub kept_rise : IsRising kept
-  kept_rise = subst IsRising (seconds_of targets kept l) (rising_landed origins bounds rows [] (pairs targets kept) rise e).0
-
-  pub kept_few : length rows < 2 ^ 63 → length kept < 2 ^ 63
-  kept_few few = let h = (rising_landed origins bounds rows [] (pairs targets kept) rise e).1 in let m = as_many targets kept l in omega (arith, h, m, few)
-
-  abbrev group : Coordinate → Coordinate
-  group = target_in (pairs targets kept)
-
-  pub kept_keys : AreKeys group targets kept
-  kept_keys =
-      sym (firsts_of targets kept l)
-      ∙ keys_in (pairs targets kept) (rising_landed origins bounds rows [] (pairs targets kept) rise e).0
-      ∙ (λ i. map (λ (row : Row). target_in (pairs targets kept) row.at.items) (seconds_of targets kept l i))
-
-  same_sets : (c : Coordinate) → sets_by group kept c ≡ landed_sets (pairs targets kept) c
-  same_sets c =
-      (λ i. unless_empty (group_at group c (sym (seconds_of targets kept l) i)))
-      ∙ ap unless_empty (same_group (λ (row : Row). group row.at.items) c (pairs targets kept) (keys_in (pairs targets kept) (rising_landed origins bounds rows [] (pairs targets kept) rise e).0))
-
-  pub kept_groups : (gs : List Aggregate) (groups : List Group) → AreGroupsOf gs (sets_by group kept) groups → (all : List Landed) × (landed origins bounds false rows [] ≡ Ok all) × AreGroupsOf gs (landed_sets all) groups
-  kept_groups gs groups are = (
-    pairs targets kept,
-    e,
-    record {
-      in_order = are.in_order;
-      each = λ c. subst (λ (set : Option (List Row)). IsGroupOf gs set (states_at groups c)) (same_sets c) (are.each c);
-    },
-  )
-
--- the same of slices of the two lists
-pub landed_groups : (origins : List Origin) (bounds : Bounds) (rows : List Row) (landings : Landings) (landed_as : Result Landings Broken) → IsRising rows → landed_as ≡ Ok landings → AreLandings origins bounds rows landed_as
-    → (targets : List (ArrayVec ℤ)) (kept : List Row) → targets ≡ landings.targets → kept ≡ landings.rows → (gs : List Aggregate) (groups : List Group)
-    → ((g : Coordinate → Coordinate) → AreKeys g targets kept → AreGroupsOf gs (sets_by g kept) groups) → (all : List Landed) × (landed origins bounds false rows [] ≡ Ok all) × AreGroupsOf gs (landed_sets all) groups
-landed_groups origins bounds rows landings landed_as rise is are targets kept t k gs groups f =
-    let land : AreLandings origins bounds rows (Ok landings) = subst (AreLandings origins bounds rows) is are in
-    let g : Coordinate → Coordinate = group origins bounds rows landings.targets landings.rows rise land.0 land.1 in
-    let keys : AreKeys g targets kept = (λ i. map (λ (key : ArrayVec ℤ). key.items) (t i)) ∙ kept_keys origins bounds rows landings.targets landings.rows rise land.0 land.1 ∙ (λ i. map (λ (row : Row). g row.at.items) (sym k i)) in
-    kept_groups origins bounds rows landings.targets landings.rows rise land.0 land.1 gs groups (subst (λ (those : List Row). AreGroupsOf gs (sets_by g those) groups) k (f g keys))
-
-pub landed_rise : (origins : List Origin) (bounds : Bounds) (rows : List Row) (landings : Landings) (landed_as : Result Landings Broken) → IsRising rows → landed_as ≡ Ok landings → AreLandings origins bounds rows landed_as
-    → (kept : List Row) → kept ≡ landings.rows → IsRising kept
-landed_rise origins bounds rows landings landed_as rise is are kept k =
-    let land : AreLandings origins bounds rows (Ok landings) = subst (AreLandings origins bounds rows) is are in
-    subst IsRising (sym k) (kept_rise origins bounds rows landings.targets landings.rows rise land.0 land.1)
-
--- what is no more than the rows that land is no more than all rows
-pub landed_fewer : (origins : List Origin) (bounds : Bounds) (rows : List Row) (landings : Landings) (landed_as : Result Landings Broken) → IsRising rows → landed_as ≡ Ok landings → AreLandings origins bounds rows landed_as
-    → (kept : List Row) → kept ≡ landings.rows → (n : ℕ) → n ≤ length kept → n ≤ length rows
-landed_fewer origins bounds rows landings landed_as rise is are kept k n l =
-    let land : AreLandings origins bounds rows (Ok landings) = subst (AreLandings origins bounds rows) is are in
-    let fewer = (rising_landed origins bounds rows [] (pairs landings.targets landings.rows) rise land.1).1 in
-    let many = as_many landings.targets landings.rows land.0 in
-    let same = ap length k in
-    omega (arith, fewer, many, same, l)

@@ -8,6 +8,7 @@ pub mod LandingsGatherLaws
 pub mod MeantLaws
 pub mod OrderLaws
 pub mod SortLaws
+pub mod StateLaws
 pub mod StepLaws
 pub mod TakenLaws
 pub mod ValueLaws

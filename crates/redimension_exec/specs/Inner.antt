@@ -1,7 +1,7 @@
 pub mod Bands
 pub mod Counting
-pub mod Gathering
 pub mod Grouping
 pub mod Places
 pub mod Sorting
 pub mod Steps
+pub mod Taking

@@ -1,5 +1,6 @@
 //! Rows that land where several may land at one coordinate.
 
 mod gathering;
+mod states;
 
-pub use gathering::{Landings, landed_rows};
+pub(crate) use gathering::groups_from;

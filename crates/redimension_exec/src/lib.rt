@@ -6,7 +6,6 @@ mod landings;
 mod places;
 
 pub use arrays::{groups_landed, redimension, redimension_cells};
-pub use landings::{Landings, landed_rows};
 pub use places::{
     Place, bounds_of, carried_rows, first_numbers, places_of_attributes, places_of_dimensions,
 };

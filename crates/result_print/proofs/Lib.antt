@@ -1,2 +1,4 @@
+pub mod Alike
 mod Joined
 mod Numbered
+mod Worked

@@ -35,7 +35,7 @@ fn with_ending(script: String) -> Result<String, Memory>
 }
 
 /// The reply of this name, which is this session's, or what is told where it isn't opened.
-fn open_reply<F: Shelf>(shelf: &mut F, session: u32, name: &str) -> Result<F::K, Notice>
+pub fn open_reply<F: Shelf>(shelf: &mut F, session: u32, name: &str) -> Result<F::K, Notice>
     ensures new { IfOk result (λ sink. IsNewSink name.now (F.K.state sink)) }
     ensures content { IfOk result (λ sink. IfSome ((F.state shelf.old).replies name.now) (λ bytes. (F.K.state sink).first ≡ Some bytes)) }
     ensures cause { IfErr result (λ notice. FailsFor session ((F.state shelf.old).replies name.now) notice (F.state shelf.old) (F.state shelf.new)) }

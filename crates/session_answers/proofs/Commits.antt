@@ -18,6 +18,7 @@ use Rattle.statement_replies.specs.declared.replies.Reply.{Reply as Told}
 use Rattle.statement_replies.specs.Reply.{refused}
 use Rattle.statement_replies.specs.StatementKinds.{HasChangeKind, HasStatementKind, MayBreak}
 use Rattle.statement_replies.specs.Statements.{Accepted}
+use Rattle.statement_replies.specs.declared.style.Style.{Style}
 use Rattle.store_ledger.specs.declared.pinned.Pinned.{Pinned}
 use Rattle.store_ledger.specs.Ledger.{IsOpenPin, is_noted, is_tried}
 use Rattle.store_state.specs.declared.event.Event.{Event}
@@ -62,16 +63,16 @@ accepts names (Insert name schema plan) words e = may_refuse names (Insert name 
 accepts names (Remove name) words e = ap (λ (answer : Accepted). answer.reply.refusal) e
 accepts names (RemoveVersions name below) words e = ap (λ (answer : Accepted). answer.reply.refusal) e
 
-said_accepts : {D : Type 0} (moment : D → Moment) (start : Start D) (events : List Event) (text : List ℕ) (tree : Term) (place : ℕ) (change : Change) (words : Told) →
-    SaysChange moment start events text tree place change → Says moment start events text tree place (record { reply = words; change = Some change }) → words.refusal ≡ None
-said_accepts moment start events text tree place change words says said =
+said_accepts : {D : Type 0} (style : Style) (moment : D → Moment) (start : Start D) (events : List Event) (text : List ℕ) (tree : Term) (place : ℕ) (change : Change) (words : Told) →
+    SaysChange style moment start events text tree place change → Says style moment start events text tree place (record { reply = words; change = Some change }) → words.refusal ≡ None
+said_accepts style moment start events text tree place change words says said =
     accepts (names_before start events place) change words
-    (subst (λ c. HasStatementKind (names_before start events place) c (record { reply = words; change = Some change })) says.typed said.kind)
+    (subst (λ c. HasStatementKind style (names_before start events place) c (record { reply = words; change = Some change })) says.typed said.kind)
 
 -- under the pin the statement was the change
-pub change_under : {D : Type 0} (moment : D → Moment) (start : Start D) (events : List Event) (pinned : Pinned) (text : List ℕ) (tree : Term) (change : Change) →
-    IsOpenPin (ledger_of start events) pinned → SaysChange moment start events text tree (pinned.place + 1) change → check_of tree text pinned.names ≡ Ok (AChange change)
-change_under moment start events pinned text tree change o says =
+pub change_under : {D : Type 0} (style : Style) (moment : D → Moment) (start : Start D) (events : List Event) (pinned : Pinned) (text : List ℕ) (tree : Term) (change : Change) →
+    IsOpenPin (ledger_of start events) pinned → SaysChange style moment start events text tree (pinned.place + 1) change → check_of tree text pinned.names ≡ Ok (AChange change)
+change_under style moment start events pinned text tree change o says =
     ap (λ (names : Names). check_of tree text names) (sym (names_behind start events pinned o)) ∙ says.typed
 
 -- there was room for it at a place
@@ -96,8 +97,8 @@ module _ {D : Type 0} (start : Start D) (session : ℕ) (first before old : List
   turn_behind own new turn = courses_join session before (own_events session own) first old new a.adds (turns_are_courses session own old new turn)
 
   -- a turn in which the session held, behind what others had added
-  pub held_behind : {moment : D → Moment} {text : List ℕ} {tree : Term} {reply : Reply} (pin : ℕ) (seen new : List Event) → Adds session [] old seen →
-      IsAnsweredInTurn moment start session pin seen new text tree reply → IsAnsweredUnder moment start session pin first new text tree reply
+  pub held_behind : {style : Style} {moment : D → Moment} {text : List ℕ} {tree : Term} {reply : Reply} (pin : ℕ) (seen new : List Event) → Adds session [] old seen →
+      IsAnsweredInTurn style moment start session pin seen new text tree reply → IsAnsweredUnder style moment start session pin first new text tree reply
   held_behind pin seen new turn h =
       let later : AddsOwn session h.own old new = courses_join session [] h.own old seen new (turns_are_courses session [] old seen turn) h.adds in
       let whole : AddsOwn session (before ++ h.own) first new = courses_join session before h.own first old new a.adds later in
@@ -115,11 +116,11 @@ module _ {D : Type 0} (start : Start D) (session : ℕ) (first before old : List
 
 -- ---- commits
 
-module _ {D : Type 0} (moment : D → Moment) (start : Start D) (pinned : Pinned) (change : Change) (first before old new : List Event) (text : List ℕ) (tree : Term) (reply : Reply)
+module _ {D : Type 0} (style : Style) (moment : D → Moment) (start : Start D) (pinned : Pinned) (change : Change) (first before old new : List Event) (text : List ℕ) (tree : Term) (reply : Reply)
     (a : AddsNoAct start pinned.session first before old) (o : IsOpenPin (ledger_of start old) pinned) (within : pinned.place + 1 ≤ length (entries_in old))
-    (named : IsNamedAt moment start old (pinned.place + 1)) (says : SaysChange moment start old text tree (pinned.place + 1) change) where
+    (named : IsNamedAt moment start old (pinned.place + 1)) (says : SaysChange style moment start old text tree (pinned.place + 1) change) where
   abbrev Answered : Type 0
-  Answered = IsAnsweredUnder moment start pinned.session pinned.place first new text tree reply
+  Answered = IsAnsweredUnder style moment start pinned.session pinned.place first new text tree reply
 
   -- ---- one that was refused
 
@@ -147,12 +148,12 @@ module _ {D : Type 0} (moment : D → Moment) (start : Start D) (pinned : Pinned
     since : pinned.place < here
     since = let le : pinned.place + 1 ≤ here = within_commit moment start pinned change [] old new t o within in omega (arith, le)
 
-    change_here : SaysChange moment start new text tree here change
-    change_here = change_at_commit moment start pinned change [] old new t o within named text tree says
+    change_here : SaysChange style moment start new text tree here change
+    change_here = change_at_commit moment start pinned change [] old new t o within style named text tree says
 
     -- what is told for the reply's refusal is told of it
     by_refusal : (refusal : Option Refusal) → reply.refusal ≡ refusal → HasLine reply refusal → reply.place ≡ here →
-        IsToldFor moment start pinned.session pinned.place new own text tree reply refusal (trying change) → Answered
+        IsToldFor moment start pinned.session pinned.place new own text tree reply style refusal (trying change) → Answered
     by_refusal refusal e line at told = record {
       own = own;
       course = trying change;
@@ -161,14 +162,14 @@ module _ {D : Type 0} (moment : D → Moment) (start : Start D) (pinned : Pinned
       line = subst (λ (r : Option Refusal). HasLine reply r) (sym e) line;
       since = subst (λ (place : ℕ). pinned.place < place) (sym at) since;
       until = let same = count in omega (arith, at, same);
-      told = subst (λ (r : Option Refusal). IsToldFor moment start pinned.session pinned.place new own text tree reply r (trying change)) (sym e) told;
+      told = subst (λ (r : Option Refusal). IsToldFor moment start pinned.session pinned.place new own text tree reply style r (trying change)) (sym e) told;
     }
 
     wanting : IsWant reply → reply.place ≡ here → Answered
     wanting w at = by_refusal (Some Memory) w.1 w.0 at (here, since, (let same = count in omega (arith, same)), change_here)
 
     refusing : (refusal : Refusal) → Refuses refusal reply → reply.place ≡ here → (reply.text ≡ (refused refusal).text → HasLine reply (Some refusal)) →
-        IsToldFor moment start pinned.session pinned.place new own text tree reply (Some refusal) (trying change) → Answered
+        IsToldFor moment start pinned.session pinned.place new own text tree reply style (Some refusal) (trying change) → Answered
     refusing refusal (inl e) at line told =
         by_refusal (Some refusal) (ap (λ (words : Told). words.refusal) e) (line (ap (λ (words : Told). words.text) e)) at told
     refusing refusal (inr w) at line told = wanting w at
@@ -179,8 +180,8 @@ module _ {D : Type 0} (moment : D → Moment) (start : Start D) (pinned : Pinned
       (let same = count in omega (arith, at, same)),
     )
 
-    said : reply.place ≡ here → SaysChange moment start new text tree reply.place change
-    said at = subst (λ (place : ℕ). SaysChange moment start new text tree place change) (sym at) change_here
+    said : reply.place ≡ here → SaysChange style moment start new text tree reply.place change
+    said at = subst (λ (place : ℕ). SaysChange style moment start new text tree place change) (sym at) change_here
 
     was : reply.place ≡ here → WasAt reply.place new new
     was at = record { later = []; grown = sym (append-nil new); count = at ∙ sym count }
@@ -234,16 +235,16 @@ module _ {D : Type 0} (moment : D → Moment) (start : Start D) (pinned : Pinned
         (eq-eqb pinned.session pinned.session refl)))))
 
     -- there was room for it where it came
-    pub made_is_answered : (words : Told) → HadRoomFor moment start new reply.place change → Says moment start old text tree (pinned.place + 1) (record { reply = words; change = Some change }) →
+    pub made_is_answered : (words : Told) → HadRoomFor moment start new reply.place change → Says style moment start old text tree (pinned.place + 1) (record { reply = words; change = Some change }) →
         words_of reply ≡ words → reply.place + 1 ≡ length (entries_in new) → Answered
     made_is_answered words room says_words same last =
-        let accepted : reply.refusal ≡ None = ap (λ (w : Told). w.refusal) same ∙ said_accepts moment start old text tree (pinned.place + 1) change words says says_words in
+        let accepted : reply.refusal ≡ None = ap (λ (w : Told). w.refusal) same ∙ said_accepts style moment start old text tree (pinned.place + 1) change words says says_words in
         let count : length (entries_in new) ≡ made_at + 1 =
         ap (λ (es : List Entry). length es) made_entries ∙ length-append (entries_in front) (Commit pinned.session change m.used ∷ []) in
         let at : reply.place ≡ made_at = omega (arith, count, last) in
         let le : pinned.place + 1 ≤ made_at = within_commit moment start pinned change commit old new m.tries o within in
-        let says_here : Says moment start new text tree made_at (record { reply = words; change = Some change }) =
-        says_at_commit moment start pinned change commit old new m.tries o within named text tree says words says_words in
+        let says_here : Says style moment start new text tree made_at (record { reply = words; change = Some change }) =
+        says_at_commit moment start pinned change commit old new m.tries o within style named text tree says words says_words in
         let is : slice_get (entries_in new) made_at ≡ Some (Commit pinned.session change m.used) =
         ap (λ (es : List Entry). slice_get es made_at) made_entries ∙ get_seam (entries_in front) [] (Commit pinned.session change m.used) in
         record {
@@ -254,7 +255,7 @@ module _ {D : Type 0} (moment : D → Moment) (start : Start D) (pinned : Pinned
           line = subst (λ (r : Option Refusal). HasLine reply r) (sym accepted) tt;
           since = omega (arith, at, le);
           until = omega (arith, at, count);
-          told = subst (λ (r : Option Refusal). IsToldFor moment start pinned.session pinned.place new made_own text tree reply r (making change)) (sym accepted) (
+          told = subst (λ (r : Option Refusal). IsToldFor moment start pinned.session pinned.place new made_own text tree reply style r (making change)) (sym accepted) (
             (
               m.used,
               record {
@@ -262,8 +263,8 @@ module _ {D : Type 0} (moment : D → Moment) (start : Start D) (pinned : Pinned
                 later = omega (arith, at, le);
               },
             ),
-            subst (λ (w : Told). Says moment start new text tree reply.place (record { reply = w; change = Some change })) (sym same)
-                (subst (λ (place : ℕ). Says moment start new text tree place (record { reply = words; change = Some change })) (sym at) says_here),
+            subst (λ (w : Told). Says style moment start new text tree reply.place (record { reply = w; change = Some change })) (sym same)
+                (subst (λ (place : ℕ). Says style moment start new text tree place (record { reply = words; change = Some change })) (sym at) says_here),
             room,
           );
         }

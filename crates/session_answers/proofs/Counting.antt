@@ -27,6 +27,7 @@ use Rattle.session_turns.specs.Outcomes.{leaves_for, leaves_read}
 use Rattle.statement_replies.specs.declared.replies.Reply.{Reply as Told}
 use Rattle.statement_replies.specs.StatementKinds.{HasChangeKind, HasStatementKind, MayBreak}
 use Rattle.statement_replies.specs.Statements.{Accepted, without_change}
+use Rattle.statement_replies.specs.declared.style.Style.{Style}
 use Rattle.store_ledger.specs.declared.pinned.Pinned.{Pinned}
 use Rattle.store_ledger.specs.Ledger.{IsOpenPin}
 use Rattle.store_state.specs.declared.event.Event.{Event}
@@ -60,14 +61,14 @@ not_accepted names (Insert name schema plan) words k accepts = not_broken names 
 not_accepted names (Remove name) words e accepts = none-some (Remove name) (ap (λ (answer : Accepted). answer.change) e)
 not_accepted names (RemoveVersions name below) words e accepts = none-some (RemoveVersions name below) (ap (λ (answer : Accepted). answer.change) e)
 
-replied_reads : (names : Names) (checked : Checked Typed) (words : Told) → HasStatementKind names checked (without_change words) → words.refusal ≡ None →
+replied_reads : (style : Style) (names : Names) (checked : Checked Typed) (words : Told) → HasStatementKind style names checked (without_change words) → words.refusal ≡ None →
     leaves_read names checked (Replied words) ≡ leaves_for names checked
-replied_reads names (Ok (AQuery plan)) words k accepts = refl
-replied_reads names (Ok (AChange change)) words k accepts = absurd (not_accepted names change words k accepts)
-replied_reads names (Ok (Versions name)) words k accepts = refl
-replied_reads names (Ok (Show name)) words k accepts = refl
-replied_reads names (Ok ListArrays) words k accepts = refl
-replied_reads names (Err breach) words k accepts = refl
+replied_reads style names (Ok (AQuery plan)) words k accepts = refl
+replied_reads style names (Ok (AChange change)) words k accepts = absurd (not_accepted names change words k accepts)
+replied_reads style names (Ok (Versions name)) words k accepts = refl
+replied_reads style names (Ok (Show name)) words k accepts = refl
+replied_reads style names (Ok ListArrays) words k accepts = refl
+replied_reads style names (Err breach) words k accepts = refl
 
 change_reads : (names : Names) (checked : Checked Typed) (change : Change) (changed : Option Changed) (words : Told) → checked ≡ Ok (AChange change) →
     leaves_read names checked (Changes change changed words) ≡ leaves_for names checked
@@ -85,11 +86,11 @@ module _ {D : Type 0} (moment : D → Moment) (shared : Shared D) (pinned : Pinn
       ∙ ap (λ (n : ℕ). n + length (asked_of source (number + 1) leaves)) (length-map (listed source leaf) (asks number))
       ∙ ap (λ (n : ℕ). length (listed source leaf) + n) (asked_count (number + 1) leaves)
 
-module _ {D : Type 0} (moment : D → Moment) (shared : Shared D) (pinned : Pinned) (old new : Seat D) (text : List ℕ) (tree : Term) where
+module _ {D : Type 0} (style : Style) (moment : D → Moment) (shared : Shared D) (pinned : Pinned) (old new : Seat D) (text : List ℕ) (tree : Term) where
   abbrev IsCounted : Type 0
   IsCounted = read_count new ≡ counted (start moment shared) (seen old) pinned.place pinned.names text tree (read_count old)
 
-  count_of : (outcome : Outcome) (w : WasRead moment shared pinned old new text tree (Ok outcome)) →
+  count_of : (outcome : Outcome) (w : WasRead style moment shared pinned old new text tree (Ok outcome)) →
       leaves_read pinned.names (check_of tree text pinned.names) outcome ≡ leaves_for pinned.names (check_of tree text pinned.names) → IsCounted
   count_of outcome w same =
       w.read.reads
@@ -98,11 +99,11 @@ module _ {D : Type 0} (moment : D → Moment) (shared : Shared D) (pinned : Pinn
       ∙ ap (λ (leaves : List Leaf). length (asked_of (pinned_state moment (unread shared pinned old)) 0 leaves)) same
       ∙ asked_count moment shared pinned old 0 (leaves_of pinned.names text tree))
 
-  pub replied_counts : (words : Told) → WasRead moment shared pinned old new text tree (Ok (Replied words)) → words.refusal ≡ None → IsCounted
+  pub replied_counts : (words : Told) → WasRead style moment shared pinned old new text tree (Ok (Replied words)) → words.refusal ≡ None → IsCounted
   replied_counts words w accepts =
-      count_of (Replied words) w (replied_reads pinned.names (check_of tree text pinned.names) words w.comes.kind accepts)
+      count_of (Replied words) w (replied_reads style pinned.names (check_of tree text pinned.names) words w.comes.kind accepts)
 
-  pub change_counts : (change : Change) (changed : Option Changed) (words : Told) → WasRead moment shared pinned old new text tree (Ok (Changes change changed words)) →
+  pub change_counts : (change : Change) (changed : Option Changed) (words : Told) → WasRead style moment shared pinned old new text tree (Ok (Changes change changed words)) →
       IsCounted
   change_counts change changed words w =
       count_of (Changes change changed words) w (change_reads pinned.names (check_of tree text pinned.names) change changed words w.comes.kind.0)

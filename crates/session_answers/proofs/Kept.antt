@@ -2,6 +2,7 @@
 use Rattle.std.proofs.Common.{◌≡◌, ℕ, List, sym, subst}
 use Rattle.afl_outside.specs.Disk.{Moment}
 use Rattle.afl_trees.specs.Term.{Term}
+use Rattle.statement_replies.specs.declared.style.Style.{Style}
 use Rattle.store_state.specs.declared.event.Event.{Event}
 use Rattle.session_turns.specs.Seat.{Seat}
 use Rattle.session_turns.specs.Shared.{Shared}
@@ -20,10 +21,10 @@ module _ {D : Type 0} (moment : D → Moment) (shared : Shared D) (place : ℕ) 
   pub still_none : HoldsNone moment shared seat → HoldsNone moment shared kept
   still_none none = subst (λ (x : Seat D). HoldsNone moment shared x) (sym e) none
 
-  pub still_answered : (session last : ℕ) (old : List Event) (text : List ℕ) (reply : Reply) → IsAnswered moment (start moment shared) session last old (seen seat) text reply →
-      IsAnswered moment (start moment shared) session last old (seen kept) text reply
-  still_answered session last old text reply a =
-      subst (λ (x : Seat D). IsAnswered moment (start moment shared) session last old (seen x) text reply) (sym e) a
+  pub still_answered : (style : Style) (session last : ℕ) (old : List Event) (text : List ℕ) (reply : Reply) → IsAnswered style moment (start moment shared) session last old (seen seat) text reply →
+      IsAnswered style moment (start moment shared) session last old (seen kept) text reply
+  still_answered style session last old text reply a =
+      subst (λ (x : Seat D). IsAnswered style moment (start moment shared) session last old (seen x) text reply) (sym e) a
 
   pub still_read : (session : ℕ) (old : List Event) (text : List ℕ) (tree : Term) (before : ℕ) →
       ReadsOnce (start moment shared) session old (seen seat) text tree before (read_count seat) → ReadsOnce (start moment shared) session old (seen kept) text tree before (read_count kept)

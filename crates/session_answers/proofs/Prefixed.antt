@@ -5,6 +5,7 @@ use Rattle.afl_outside.specs.Disk.{Moment}
 use Rattle.afl_trees.specs.Term.{Term}
 use Rattle.result_print.specs.declared.refusal.Refusal.{Refusal}
 use Rattle.result_print.specs.declared.refusal.Refusal.TheVariants.{TooLong, Parse, HistoryFull, Typing, Cell, Disk, Damaged, SequenceEnd, Full, Memory}
+use Rattle.statement_replies.specs.declared.style.Style.{Style}
 use Rattle.store_ledger.specs.declared.note.NoteKind.TheVariants.{Fault}
 use Rattle.store_state.specs.declared.event.Event.{Event}
 use Rattle.store_state.specs.declared.event.Event.TheVariants.{Noted}
@@ -13,12 +14,12 @@ use Rattle.session_turns.specs.Replies.{HasFault, IsToldFor}
 use Rattle.session_turns.specs.Reply.{Reply}
 use Rattle.session_turns.specs.Start.{Start}
 
-module _ {D : Type 0} (moment : D → Moment) (start : Start D) (session pin : ℕ) (events before own : List Event) (text : List ℕ) (tree : Term) (reply : Reply) where
+module _ {D : Type 0} (style : Style) (moment : D → Moment) (start : Start D) (session pin : ℕ) (events before own : List Event) (text : List ℕ) (tree : Term) (reply : Reply) where
   fault_before : HasFault session own → HasFault session (before ++ own)
   fault_before f = (f.0, Contains-append_right before own (Noted (record { session = session; kind = Fault; after = f.0 })) f.1)
 
-  pub told_before : (refusal : Option Refusal) (course : Course) → IsToldFor moment start session pin events own text tree reply refusal course →
-      IsToldFor moment start session pin events (before ++ own) text tree reply refusal course
+  pub told_before : (refusal : Option Refusal) (course : Course) → IsToldFor moment start session pin events own text tree reply style refusal course →
+      IsToldFor moment start session pin events (before ++ own) text tree reply style refusal course
   told_before None nothing t = t
   told_before None looking t = t
   told_before None (trying change) t = t

@@ -14,11 +14,12 @@ use Rattle.event_core.specs.History.{History}
 use Rattle.logical_plan.specs.declared.parts.Leaf.{Leaf}
 use Rattle.plan_changes.specs.declared.change.Change.{Change}
 use Rattle.plan_changes.specs.Databases.{Database, names_of}
-use Rattle.statement_answers.specs.declared.outcome.Outcome.{Outcome}
-use Rattle.statement_answers.specs.declared.outcome.Outcome.TheVariants.{Replied, Changes}
-use Rattle.statement_answers.specs.Outcomes.{asked_for, HasOutcomeKind, IsOutcomeOf, IsToldBy, MayFail}
+use Rattle.session_turns.specs.Outcome.{Outcome}
+use Rattle.session_turns.specs.Outcome.TheVariants.{Replied, Changes}
+use Rattle.session_turns.specs.Outcomes.{asked_for, HasOutcomeKind, IsOutcomeOf, IsToldBy, MayFail}
 use Rattle.statement_replies.specs.declared.replies.Reply.{Reply as Told}
 use Rattle.statement_replies.specs.Statements.{reply_to}
+use Rattle.statement_replies.specs.declared.style.Style.{Style}
 use Rattle.store_ledger.specs.declared.note.NoteKind.{NoteKind}
 use Rattle.store_ledger.specs.declared.pinned.Pinned.{Pinned}
 use Rattle.store_ledger.specs.Ledger.{IsOpenPin, is_fault, is_noted}
@@ -74,7 +75,7 @@ pub holds_versions : {D : Type 0} (moment : D → Moment) (shared : Shared D) (p
 holds_versions {D} moment shared pinned old first made law leaf is =
     subst (λ (r : Reading D). Reads (pinned_state moment r) leaf) (sym made) (law (unread shared pinned old) leaf is)
 
-module _ {D : Type 0} (moment : D → Moment) (shared : Shared D) (pinned : Pinned) (old new : Seat D) (text : List ℕ) (tree : Term) (first last : Reading D)
+module _ {D : Type 0} (style : Style) (moment : D → Moment) (shared : Shared D) (pinned : Pinned) (old new : Seat D) (text : List ℕ) (tree : Term) (first last : Reading D)
     (made : first ≡ unread shared pinned old) where
   module _ (lent : last.lent ≡ first.lent) (seat : new ≡ last.seat) where
     last_is : last ≡ reading_of shared pinned old new last.marks
@@ -83,10 +84,10 @@ module _ {D : Type 0} (moment : D → Moment) (shared : Shared D) (pinned : Pinn
         ∙ ap (λ (s : Seat D). reading_of shared pinned old s last.marks) (sym seat)
 
     abbrev TellsBy : Reading D → Outcome → Type 0
-    TellsBy r outcome = (db : Database) → IsToldBy pinned.names (pinned_state moment r) db → IsOutcomeOf db (reply_to db text tree) outcome
+    TellsBy r outcome = (db : Database) → IsToldBy pinned.names (pinned_state moment r) db → IsOutcomeOf db (reply_to style db text tree) outcome
 
-    comes_by : (result : Result Outcome ExecFault) → IfOk result (HasOutcomeKind pinned.names (check_of tree text pinned.names)) → IfOk result (TellsBy first) →
-        IfOk result (ComesOver pinned.names (pinned_state moment (unread shared pinned old)) text tree)
+    comes_by : (result : Result Outcome ExecFault) → IfOk result (HasOutcomeKind style pinned.names (check_of tree text pinned.names)) → IfOk result (TellsBy first) →
+        IfOk result (ComesOver style pinned.names (pinned_state moment (unread shared pinned old)) text tree)
     comes_by (Ok outcome) kind tells = record { kind = kind; told = subst (λ (r : Reading D). TellsBy r outcome) made tells }
     comes_by (Err fault) kind tells = tt
 
@@ -105,9 +106,9 @@ module _ {D : Type 0} (moment : D → Moment) (shared : Shared D) (pinned : Pinn
     asked_by (Ok outcome) asks = subst (λ (r : Reading D). AsksBy r outcome) made asks
     asked_by (Err fault) asks = tt
 
-    pub was_read : (result : Result Outcome ExecFault) → HasRead moment last → IfOk result (HasOutcomeKind pinned.names (check_of tree text pinned.names)) →
+    pub was_read : (result : Result Outcome ExecFault) → HasRead moment last → IfOk result (HasOutcomeKind style pinned.names (check_of tree text pinned.names)) →
         IfOk result (TellsBy first) → IfOk result (AsksBy first) → Answers (pinned_state moment first) (pinned_state moment last) result →
-        IfErr result (λ fault. MayFail fault (check_of tree text pinned.names)) → WasRead moment shared pinned old new text tree result
+        IfErr result (λ fault. MayFail fault (check_of tree text pinned.names)) → WasRead style moment shared pinned old new text tree result
     was_read result read kind tells asks answers allowed = record {
       marks = last.marks;
       read = subst (HasRead moment) last_is read;
@@ -119,13 +120,13 @@ module _ {D : Type 0} (moment : D → Moment) (shared : Shared D) (pinned : Pinn
 
 -- ---- its answers
 
-module _ {D : Type 0} (moment : D → Moment) (shared : Shared D) (pinned : Pinned) (old new : Seat D) (text : List ℕ) (tree : Term)
+module _ {D : Type 0} (style : Style) (moment : D → Moment) (shared : Shared D) (pinned : Pinned) (old new : Seat D) (text : List ℕ) (tree : Term)
     (has : HasDatabaseAt moment (start moment shared) (seen old) pinned.place pinned.names)
     (untried : (kinds : NoteKind → Bool) → is_noted kinds (ledger_seen moment shared old) (session_of old) ≡ false) where
   abbrev began : Start D
   began = start moment shared
 
-  module _ (result : Result Outcome ExecFault) (w : WasRead moment shared pinned old new text tree result) where
+  module _ (result : Result Outcome ExecFault) (w : WasRead style moment shared pinned old new text tree result) where
     abbrev r : Reading D
     r = reading_of shared pinned old new w.marks
 
@@ -152,8 +153,8 @@ module _ {D : Type 0} (moment : D → Moment) (shared : Shared D) (pinned : Pinn
     database_now = subst (λ (events : List Event). HasDatabaseAt moment began events pinned.place pinned.names) (sym own_adds.grown)
         (database_later moment began (seen old) pinned w.read.lent_pin.open_pin has own_adds.more)
 
-    looked : (reply : Reply) → reply.place ≡ pinned.place + 1 → IsLookedReply moment began pinned.session pinned.place (seen new) own text tree reply →
-        IsAnsweredUnder moment began pinned.session pinned.place (seen old) (seen new) text tree reply
+    looked : (reply : Reply) → reply.place ≡ pinned.place + 1 → IsLookedReply moment began pinned.session pinned.place (seen new) own text tree reply style →
+        IsAnsweredUnder style moment began pinned.session pinned.place (seen old) (seen new) text tree reply
     looked reply at look =
         let le : pinned.place + 1 ≤ length (entries_in (seen new)) = pin_within began (seen new) pinned w.read.pin.open_pin in
         record {
@@ -167,22 +168,22 @@ module _ {D : Type 0} (moment : D → Moment) (shared : Shared D) (pinned : Pinn
           told = look.told;
         }
 
-  pub replied_is_answered : (words : Told) (reply : Reply) → WasRead moment shared pinned old new text tree (Ok (Replied words)) → words_of reply ≡ words →
-      reply.place ≡ pinned.place + 1 → IsAnsweredUnder moment began pinned.session pinned.place (seen old) (seen new) text tree reply
+  pub replied_is_answered : (words : Told) (reply : Reply) → WasRead style moment shared pinned old new text tree (Ok (Replied words)) → words_of reply ≡ words →
+      reply.place ≡ pinned.place + 1 → IsAnsweredUnder style moment began pinned.session pinned.place (seen old) (seen new) text tree reply
   replied_is_answered words reply w same at =
       looked (Ok (Replied words)) w reply at
-      (read_replies_are_told moment (reading_of shared pinned old new w.marks) text tree reply w.read (was (Ok (Replied words)) w)
-      (subst (λ (said : Told). ComesOver pinned.names (pinned_state moment (unread shared pinned old)) text tree (Replied said)) (sym same) w.comes)
+      (read_replies_are_told moment style (reading_of shared pinned old new w.marks) text tree reply w.read (was (Ok (Replied words)) w)
+      (subst (λ (said : Told). ComesOver style pinned.names (pinned_state moment (unread shared pinned old)) text tree (Replied said)) (sym same) w.comes)
       at w.read.adds)
 
-  pub unread_is_answered : (fault : ExecFault) (reply : Reply) → WasRead moment shared pinned old new text tree (Err fault) → IsUnreadReply fault reply →
-      reply.place ≡ pinned.place + 1 → IsAnsweredUnder moment began pinned.session pinned.place (seen old) (seen new) text tree reply
+  pub unread_is_answered : (fault : ExecFault) (reply : Reply) → WasRead style moment shared pinned old new text tree (Err fault) → IsUnreadReply fault reply →
+      reply.place ≡ pinned.place + 1 → IsAnsweredUnder style moment began pinned.session pinned.place (seen old) (seen new) text tree reply
   unread_is_answered fault reply w u at =
       looked (Err fault) w reply at
-      (failed_replies_are_told moment (reading_of shared pinned old new w.marks) text tree reply fault w.read (was (Err fault) w) w.why w.allowed u at w.read.adds)
+      (failed_replies_are_told moment style (reading_of shared pinned old new w.marks) text tree reply fault w.read (was (Err fault) w) w.why w.allowed u at w.read.adds)
 
-  pub change_is_read : (change : Change) (changed : Option Changed) (words : Told) (w : WasRead moment shared pinned old new text tree (Ok (Changes change changed words))) →
-      IsReadChange moment (reading_of shared pinned old new w.marks) text tree change changed words
+  pub change_is_read : (change : Change) (changed : Option Changed) (words : Told) (w : WasRead style moment shared pinned old new text tree (Ok (Changes change changed words))) →
+      IsReadChange moment (reading_of shared pinned old new w.marks) text tree change changed words style
   change_is_read change changed words w =
-      read_changes_may_be_committed moment (reading_of shared pinned old new w.marks) text tree change changed words w.read
+      read_changes_may_be_committed moment style (reading_of shared pinned old new w.marks) text tree change changed words w.read
       (was (Ok (Changes change changed words)) w) w.comes

@@ -9,6 +9,7 @@ use Rattle.logical_plan.specs.declared.names.Names.{Names}
 use Rattle.result_print.specs.declared.refusal.Refusal.{Refusal}
 use Rattle.result_print.specs.declared.refusal.Refusal.TheVariants as refusals
 use Rattle.statement_replies.specs.declared.replies.Reply.{Reply as Told}
+use Rattle.statement_replies.specs.declared.style.Style.{Style}
 use Rattle.store_ledger.specs.declared.pinned.PinFault.TheVariants.{HistoryFull}
 use Rattle.store_ledger.specs.declared.pinned.Pinned.{Pinned}
 use Rattle.store_ledger.specs.Ledger.{IsOpenPin, IsRefused}
@@ -57,19 +58,19 @@ has_acts [] = false
 has_acts (act ∷ acts) = true
 
 -- under a pin nobody is told that the history is full
-never_full : {D : Type 0} (moment : D → Moment) (start : Start D) (session pin : ℕ) (new own : List Event) (text : List ℕ) (tree : Term) (reply : Reply) (acts : List Act)
-    (course : Course) → begins ∷ acts ≡ acts_for course → IsToldFor moment start session pin new own text tree reply (Some refusals.HistoryFull) course → ⊥
-never_full moment start session pin new own text tree reply acts nothing e t = true≢false (ap has_acts e)
-never_full moment start session pin new own text tree reply acts looking e t = t
-never_full moment start session pin new own text tree reply acts (trying change) e t = t
-never_full moment start session pin new own text tree reply acts (making change) e t = t
+never_full : {D : Type 0} (style : Style) (moment : D → Moment) (start : Start D) (session pin : ℕ) (new own : List Event) (text : List ℕ) (tree : Term) (reply : Reply) (acts : List Act)
+    (course : Course) → begins ∷ acts ≡ acts_for course → IsToldFor moment start session pin new own text tree reply style (Some refusals.HistoryFull) course → ⊥
+never_full style moment start session pin new own text tree reply acts nothing e t = true≢false (ap has_acts e)
+never_full style moment start session pin new own text tree reply acts looking e t = t
+never_full style moment start session pin new own text tree reply acts (trying change) e t = t
+never_full style moment start session pin new own text tree reply acts (making change) e t = t
 
-module _ {D : Type 0} (moment : D → Moment) (start : Start D) (session : ℕ) (old mid end new : List Event) (pinned : Pinned) (text : List ℕ) (tree : Term) (reply : Reply)
+module _ {D : Type 0} (style : Style) (moment : D → Moment) (start : Start D) (session : ℕ) (old mid end new : List Event) (pinned : Pinned) (text : List ℕ) (tree : Term) (reply : Reply)
     (turn : Adds session (pin_event session ∷ []) old mid) (mine : pinned.session ≡ session)
     (place : pinned.place ≡ length (entries_in (found_before (pin_event session ∷ []) mid)))
     (o : IsOpenPin (ledger_of start mid) pinned) (sealed : list_all is_sealed end ≡ true)
     (last : Adds session (Entered (Unpin session) ∷ []) end new)
-    (under : IsAnsweredUnder moment start pinned.session pinned.place mid end text tree reply) where
+    (under : IsAnsweredUnder style moment start pinned.session pinned.place mid end text tree reply) where
   pin_adds : AddsOwn session (pin_event session ∷ []) old mid
   pin_adds = one_adds session (pin_event session) old mid (own_first session session (pin_event session) [] refl (eq-eqb session session refl)) turn
 
@@ -95,21 +96,21 @@ module _ {D : Type 0} (moment : D → Moment) (start : Start D) (session : ℕ) 
         later = behind_old;
       }))
 
-  told : IsToldFor moment start session pinned.place new (pin_event session ∷ (under.own ++ Entered (Unpin session) ∷ [])) text tree reply reply.refusal under.course
-  told = subst (λ (es : List Event). IsToldFor moment start session pinned.place es (pin_event session ∷ (under.own ++ Entered (Unpin session) ∷ [])) text tree reply reply.refusal under.course)
+  told : IsToldFor moment start session pinned.place new (pin_event session ∷ (under.own ++ Entered (Unpin session) ∷ [])) text tree reply style reply.refusal under.course
+  told = subst (λ (es : List Event). IsToldFor moment start session pinned.place es (pin_event session ∷ (under.own ++ Entered (Unpin session) ∷ [])) text tree reply style reply.refusal under.course)
       (sym unpin_adds.grown)
-      (replies_stay moment start session pinned.place end unpin_adds.more (pin_event session ∷ under.own) (Entered (Unpin session) ∷ []) text tree reply reply.refusal under.course
+      (replies_stay moment style start session pinned.place end unpin_adds.more (pin_event session ∷ under.own) (Entered (Unpin session) ∷ []) text tree reply reply.refusal under.course
       sealed under.until
-      (told_before moment start session pinned.place end (pin_event session ∷ []) under.own text tree reply reply.refusal under.course
-      (subst (λ (s : ℕ). IsToldFor moment start s pinned.place end under.own text tree reply reply.refusal under.course) mine under.told)))
+      (told_before style moment start session pinned.place end (pin_event session ∷ []) under.own text tree reply reply.refusal under.course
+      (subst (λ (s : ℕ). IsToldFor moment start s pinned.place end under.own text tree reply style reply.refusal under.course) mine under.told)))
 
   full : reply.refusal ≡ Some refusals.HistoryFull → HadNoRoom start old new reply.place
   full is =
       let own : List Event = pin_event session ∷ (under.own ++ Entered (Unpin session) ∷ []) in
-      absurd (never_full moment start session pinned.place new own text tree reply (acts_in under.own ++ ends ∷ []) under.course under.acts
-      (subst (λ (r : Option Refusal). IsToldFor moment start session pinned.place new own text tree reply r under.course) is told))
+      absurd (never_full style moment start session pinned.place new own text tree reply (acts_in under.own ++ ends ∷ []) under.course under.acts
+      (subst (λ (r : Option Refusal). IsToldFor moment start session pinned.place new own text tree reply style r under.course) is told))
 
-  pub pinned_is_answered : IsAnsweredTree moment start session old new text tree reply
+  pub pinned_is_answered : IsAnsweredTree style moment start session old new text tree reply
   pinned_is_answered = record {
     own = pin_event session ∷ (under.own ++ Entered (Unpin session) ∷ []);
     course = under.course;
@@ -135,7 +136,7 @@ module _ {D : Type 0} (moment : D → Moment) (start : Start D) (session : ℕ) 
 
 -- ---- without a pin
 
-module _ {D : Type 0} (moment : D → Moment) (start : Start D) (session : ℕ) (old new : List Event) (text : List ℕ) (tree : Term) (reply : Reply) (turn : Adds session [] old new) where
+module _ {D : Type 0} (style : Style) (moment : D → Moment) (start : Start D) (session : ℕ) (old new : List Event) (text : List ℕ) (tree : Term) (reply : Reply) (turn : Adds session [] old new) where
   found : AddsOwn session [] old new
   found = turns_are_courses session [] old new turn
 
@@ -144,7 +145,7 @@ module _ {D : Type 0} (moment : D → Moment) (start : Start D) (session : ℕ) 
 
   unpinned : (refusal : Option Refusal) → reply.refusal ≡ refusal → HasLine reply refusal → reply.place ≡ length (entries_in new) →
       (reply.refusal ≡ Some refusals.HistoryFull → HadNoRoom start old new reply.place) →
-      IsToldFor moment start session 0 new [] text tree reply refusal nothing → IsAnsweredTree moment start session old new text tree reply
+      IsToldFor moment start session 0 new [] text tree reply style refusal nothing → IsAnsweredTree style moment start session old new text tree reply
   unpinned refusal e line at full told = record {
     own = [];
     course = nothing;
@@ -156,17 +157,17 @@ module _ {D : Type 0} (moment : D → Moment) (start : Start D) (session : ℕ) 
     later = subst (λ (n : ℕ). length (entries_in old) ≤ n) (sym at) grown;
     until = omega (arith, at);
     full = full;
-    told = subst (λ (r : Option Refusal). IsToldFor moment start session 0 new [] text tree reply r nothing) (sym e) told;
+    told = subst (λ (r : Option Refusal). IsToldFor moment start session 0 new [] text tree reply style r nothing) (sym e) told;
   }
 
-  pub want_is_answered : IsWant reply → reply.place ≡ length (entries_in new) → IsAnsweredTree moment start session old new text tree reply
+  pub want_is_answered : IsWant reply → reply.place ≡ length (entries_in new) → IsAnsweredTree style moment start session old new text tree reply
   want_is_answered w at = unpinned (Some refusals.Memory) w.1 w.0 at (λ is. absurd (cc (w.1, is))) tt
 
   here : {place : ℕ} → place ≡ length (entries_in new) → WasAt place new new
   here count = record { later = []; grown = sym (append-nil new); count = count }
 
   pub full_is_answered : (entries : ℕ) → Refuses refusals.HistoryFull reply → reply.place ≡ entries → IsRefused (ledger_of start new) (HistoryFull entries) →
-      IsAnsweredTree moment start session old new text tree reply
+      IsAnsweredTree style moment start session old new text tree reply
   full_is_answered entries (inl e) at why =
       let count : reply.place ≡ length (entries_in new) = at ∙ why.1 in
       unpinned (Some refusals.HistoryFull) (ap (λ (words : Told). words.refusal) e) (ap (λ (words : Told). words.text) e) count

@@ -17,6 +17,7 @@ use Rattle.event_laws.proofs.Pins.{all_entries_are_the_history}
 use Rattle.fresh_laws.specs.Fresh.{AreLeft, SameRoom}
 use Rattle.statement_replies.specs.declared.replies.Reply.{Reply as Told}
 use Rattle.statement_replies.specs.Statements.{Accepted}
+use Rattle.statement_replies.specs.declared.style.Style.{Style}
 use Rattle.store_ledger.specs.declared.note.NoteKind.TheVariants.{Fault}
 use Rattle.session_turns.specs.Owners.{is_owned_by}
 use Rattle.store_ledger.specs.declared.pinned.Pinned.{Pinned}
@@ -192,7 +193,7 @@ module _ {D : Type 0} (moment : D → Moment) (start : Start D) (pinned : Pinned
               (subst (λ (h : History). SameRoom start.base f.later h) (sym same) f.room);
         }
 
-    module _ (named : IsNamedAt moment start old (pinned.place + 1)) (text : List ℕ) (tree : Term) (says : SaysChange moment start old text tree (pinned.place + 1) change) where
+    module _ (style : Style) (named : IsNamedAt moment start old (pinned.place + 1)) (text : List ℕ) (tree : Term) (says : SaysChange style moment start old text tree (pinned.place + 1) change) where
       named_here : IsNamedAt moment start before_commit (pinned.place + 1)
       named_here = named_later moment start found trying (pinned.place + 1) within_found
           (named_later moment start old t.adds.others (pinned.place + 1) within named)
@@ -200,27 +201,27 @@ module _ {D : Type 0} (moment : D → Moment) (start : Start D) (pinned : Pinned
       named_there : IsNamedAt moment start before_commit commit_place
       named_there = named_since moment start before_commit (pinned.place + 1) commit_place change left_commit named_here
 
-      change_here : SaysChange moment start before_commit text tree (pinned.place + 1) change
-      change_here = change_later moment start found trying text tree (pinned.place + 1) within_found change
-          (change_later moment start old t.adds.others text tree (pinned.place + 1) within change says)
+      change_here : SaysChange style moment start before_commit text tree (pinned.place + 1) change
+      change_here = change_later moment start found trying text tree (pinned.place + 1) within_found style change
+          (change_later moment start old t.adds.others text tree (pinned.place + 1) within style change says)
 
-      change_there : SaysChange moment start before_commit text tree commit_place change
-      change_there = (fresh_changes_are_said moment start before_commit text tree (pinned.place + 1) commit_place change left_commit named_here named_there).0 change_here
+      change_there : SaysChange style moment start before_commit text tree commit_place change
+      change_there = (fresh_changes_are_said moment style start before_commit text tree (pinned.place + 1) commit_place change left_commit named_here named_there).0 change_here
 
       -- the statement is still this change there
-      pub change_at_commit : SaysChange moment start new text tree commit_place change
-      change_at_commit = subst (λ (es : List Event). SaysChange moment start es text tree commit_place change) (sym new_is)
-          (change_later moment start before_commit from_commit text tree commit_place (same_le commit_place) change change_there)
+      pub change_at_commit : SaysChange style moment start new text tree commit_place change
+      change_at_commit = subst (λ (es : List Event). SaysChange style moment start es text tree commit_place change) (sym new_is)
+          (change_later moment start before_commit from_commit text tree commit_place (same_le commit_place) style change change_there)
 
       -- and has the same reply
-      pub says_at_commit : (words : Told) → Says moment start old text tree (pinned.place + 1) (record { reply = words; change = Some change }) →
-          Says moment start new text tree commit_place (record { reply = words; change = Some change })
+      pub says_at_commit : (words : Told) → Says style moment start old text tree (pinned.place + 1) (record { reply = words; change = Some change }) →
+          Says style moment start new text tree commit_place (record { reply = words; change = Some change })
       says_at_commit words said =
           let answer : Accepted = record { reply = words; change = Some change } in
-          let here : Says moment start before_commit text tree (pinned.place + 1) answer =
-          says_later moment start found trying text tree (pinned.place + 1) within_found answer
-          (says_later moment start old t.adds.others text tree (pinned.place + 1) within answer said) in
-          let there : Says moment start before_commit text tree commit_place answer =
-          (fresh_changes_are_said moment start before_commit text tree (pinned.place + 1) commit_place change left_commit named_here named_there).1 words change_here here in
-          subst (λ (es : List Event). Says moment start es text tree commit_place answer) (sym new_is)
-          (says_later moment start before_commit from_commit text tree commit_place (same_le commit_place) answer there)
+          let here : Says style moment start before_commit text tree (pinned.place + 1) answer =
+          says_later moment start found trying text tree (pinned.place + 1) within_found style answer
+          (says_later moment start old t.adds.others text tree (pinned.place + 1) within style answer said) in
+          let there : Says style moment start before_commit text tree commit_place answer =
+          (fresh_changes_are_said moment style start before_commit text tree (pinned.place + 1) commit_place change left_commit named_here named_there).1 words change_here here in
+          subst (λ (es : List Event). Says style moment start es text tree commit_place answer) (sym new_is)
+          (says_later moment start before_commit from_commit text tree commit_place (same_le commit_place) style answer there)

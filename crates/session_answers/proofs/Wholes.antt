@@ -10,6 +10,7 @@ use Rattle.result_print.specs.declared.refusal.Refusal.{Refusal}
 use Rattle.result_print.specs.declared.refusal.Refusal.TheVariants.{Memory, Parse}
 use Rattle.statement_replies.specs.declared.replies.Reply.{Reply as Told}
 use Rattle.statement_replies.specs.Reply.{refused}
+use Rattle.statement_replies.specs.declared.style.Style.{Style}
 use Rattle.store_state.specs.declared.event.Event.{Event}
 use Rattle.session_turns.specs.Acts.{nothing}
 use Rattle.session_turns.specs.Refusals.{IsWant, RefusesAt}
@@ -23,9 +24,9 @@ use Rattle.session_answers.specs.Inner.Tree.{IsAnsweredTree}
 use Rattle.session_answers.specs.Reads.{ReadsOnce}
 use Rattle.session_answers.proofs.Counting.{want_refuses}
 
-module _ {D : Type 0} (moment : D → Moment) (start : Start D) (session last : ℕ) (old new : List Event) (text : List ℕ) (reply : Reply) where
-  pub tree_is_answered : (tree : Term) → IsAnsweredTree moment start session old new text tree reply → ((t : Term) → DerivesText text t → AnswersTree (Ok tree) t) →
-      ((at : ℕ) (kind : ParseKind) → StopsText text at kind → AnswersStop (Ok tree) at kind) → IsAnswered moment start session last old new text reply
+module _ {D : Type 0} (style : Style) (moment : D → Moment) (start : Start D) (session last : ℕ) (old new : List Event) (text : List ℕ) (reply : Reply) where
+  pub tree_is_answered : (tree : Term) → IsAnsweredTree style moment start session old new text tree reply → ((t : Term) → DerivesText text t → AnswersTree (Ok tree) t) →
+      ((at : ℕ) (kind : ParseKind) → StopsText text at kind → AnswersStop (Ok tree) at kind) → IsAnswered style moment start session last old new text reply
   tree_is_answered tree a only_tree only_stop = record {
     own = a.own;
     course = a.course;
@@ -36,18 +37,18 @@ module _ {D : Type 0} (moment : D → Moment) (start : Start D) (session last : 
     line = a.line;
     told = λ t derives. (
       a.later,
-      subst (λ (one : Term). IsToldFor moment start session a.pin new a.own text one reply reply.refusal a.course) (only_tree t derives) a.told,
+      subst (λ (one : Term). IsToldFor moment start session a.pin new a.own text one reply style reply.refusal a.course) (only_tree t derives) a.told,
     );
     until = λ t derives. a.until;
     full = λ t derives is. a.full is;
     stopped = λ at kind stop. absurd (only_stop at kind stop);
   }
 
-module _ {D : Type 0} (moment : D → Moment) (start : Start D) (session last : ℕ) (old : List Event) (text : List ℕ) (reply : Reply) where
+module _ {D : Type 0} (style : Style) (moment : D → Moment) (start : Start D) (session last : ℕ) (old : List Event) (text : List ℕ) (reply : Reply) where
   refused_line : (refusal : Option Refusal) → reply.refusal ≡ refusal → HasLine reply refusal → HasLine reply reply.refusal
   refused_line refusal e line = subst (λ (r : Option Refusal). HasLine reply r) (sym e) line
 
-  pub want_is_whole : IsWant reply → reply.place ≡ length (entries_in old) → IsAnswered moment start session last old old text reply
+  pub want_is_whole : IsWant reply → reply.place ≡ length (entries_in old) → IsAnswered style moment start session last old old text reply
   want_is_whole w at = record {
     own = [];
     course = nothing;
@@ -58,7 +59,7 @@ module _ {D : Type 0} (moment : D → Moment) (start : Start D) (session last : 
     line = refused_line (Some Memory) w.1 w.0;
     told = λ t derives. (
       omega (arith, at),
-      subst (λ (r : Option Refusal). IsToldFor moment start session 0 old [] text t reply r nothing) (sym w.1) tt,
+      subst (λ (r : Option Refusal). IsToldFor moment start session 0 old [] text t reply style r nothing) (sym w.1) tt,
     );
     until = λ t derives. omega (arith, at);
     full = λ t derives is. absurd (cc (w.1, is));
@@ -82,7 +83,7 @@ module _ {D : Type 0} (moment : D → Moment) (start : Start D) (session last : 
     }
 
     pub stop_is_whole : (mine count : ℕ) → mine ≡ last → count ≡ length (entries_in old) → RefusesAt (Parse at kind) mine count reply →
-        IsAnswered moment start session last old old text reply
+        IsAnswered style moment start session last old old text reply
     stop_is_whole mine count is_last is_all (inl (e, place)) = record {
       own = [];
       course = nothing;

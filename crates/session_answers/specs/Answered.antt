@@ -7,6 +7,7 @@ use Rattle.afl_trees.specs.declared.kind.ParseKind.{ParseKind}
 use Rattle.event_core.specs.declared.entry.Entry.TheVariants.{Pin}
 use Rattle.result_print.specs.declared.refusal.Refusal.TheVariants.{HistoryFull, Parse}
 use Rattle.statement_replies.specs.Reply.{refused}
+use Rattle.statement_replies.specs.declared.style.Style.{Style}
 use Rattle.store_state.specs.declared.event.Event.{Event}
 use Rattle.session_turns.specs.Start.{Start}
 use Rattle.session_turns.specs.Told.{entries_in}
@@ -26,10 +27,10 @@ abbrev pub BeganAt : ℕ → ℕ → List Event → List Event → Course → Ty
 BeganAt session pin old new nothing = Unit {0}
 BeganAt session pin old new course = EnteredAt (length (entries_in old)) (Pin session) pin new
 
--- A STATEMENT IS ANSWERED: behind all that its session had seen, and among others' events, it did this; its reply is that of its tree, or that
--- of its stop, of which it has one; and the reply's place is behind all that the session had seen. Where the history is told to be full, it was
--- so behind that too
-pub record IsAnswered {D : Type 0} (moment : D → Moment) (start : Start D) (session last : ℕ) (old new : List Event)
+-- A STATEMENT IS ANSWERED, in a style of replies: behind all that its session had seen, and among others' events, it did this; its reply is
+-- that of its tree, or that of its stop, of which it has one; and the reply's place is behind all that the session had seen. Where the history
+-- is told to be full, it was so behind that too
+pub record IsAnswered {D : Type 0} (style : Style) (moment : D → Moment) (start : Start D) (session last : ℕ) (old new : List Event)
     (text : List ℕ) (reply : Reply) : Type 0 where
   pub own : List Event
   pub course : Course
@@ -39,7 +40,7 @@ pub record IsAnswered {D : Type 0} (moment : D → Moment) (start : Start D) (se
   pub began : BeganAt session pin old new course
   pub line : HasLine reply reply.refusal
   pub told : (tree : Term) → DerivesText text tree
-      → (length (entries_in old) ≤ reply.place) × IsToldFor moment start session pin new own text tree reply reply.refusal course
+      → (length (entries_in old) ≤ reply.place) × IsToldFor moment start session pin new own text tree reply style reply.refusal course
   pub until : (tree : Term) → DerivesText text tree → reply.place ≤ length (entries_in new)
   pub full : (tree : Term) → DerivesText text tree → reply.refusal ≡ Some HistoryFull → HadNoRoom start old new reply.place
   pub stopped : (at : ℕ) (kind : ParseKind) → StopsText text at kind

@@ -6,6 +6,7 @@ pub use Rattle.session_turns.specs.Reply
 pub use Rattle.session_turns.specs.Seats
 pub use Rattle.session_turns.specs.Start
 pub use Rattle.session_turns.specs.Told
+pub use Rattle.statement_replies.specs.declared.style.Style
 pub use Rattle.store_state.specs.declared.event.Event
 pub mod Answered
 pub mod Inner

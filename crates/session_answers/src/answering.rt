@@ -41,7 +41,7 @@ pub fn answer<D: Disk, R: Threads + Wait + Sync, G: Gate>(
     ensures session { session_of result.1 ≡ session_of seat }
     ensures none { HoldsNone D.moment shared.now result.1 }
     ensures last { last_place result.1 ≡ result.0.place }
-    ensures answered { IsAnswered D.moment (start D.moment shared.now) (session_of seat) (last_place seat)
+    ensures answered { IsAnswered options.now.style D.moment (start D.moment shared.now) (session_of seat) (last_place seat)
         (seen seat) (seen result.1) text.now result.0 }
     ensures reads { (tree : Term) → DerivesText text.now tree → result.0.refusal ≡ None
         → ReadsOnce (start D.moment shared.now) (session_of seat) (seen seat) (seen result.1) text.now tree
@@ -70,7 +70,7 @@ fn answer_text<D: Disk, R: Threads + Wait + Sync, G: Gate>(
     ensures seat { IsSeatOf shared.now result.1 × IsIdle result.1 }
     ensures same { IsSameSeat seat result.1 }
     ensures none { HoldsNone D.moment shared.now result.1 }
-    ensures answered { IsAnswered D.moment (start D.moment shared.now) (session_of seat) (last_place seat)
+    ensures answered { IsAnswered options.now.style D.moment (start D.moment shared.now) (session_of seat) (last_place seat)
         (seen seat) (seen result.1) text.now result.0 }
     ensures reads { (tree : Term) → DerivesText text.now tree → result.0.refusal ≡ None
         → ReadsOnce (start D.moment shared.now) (session_of seat) (seen seat) (seen result.1) text.now tree
@@ -111,7 +111,7 @@ fn answer_tree<D: Disk, R: Threads + Wait + Sync, G: Gate>(
     ensures seat { IsSeatOf shared.now result.1 × IsIdle result.1 }
     ensures same { IsSameSeat seat result.1 }
     ensures none { HoldsNone D.moment shared.now result.1 }
-    ensures answered { IsAnsweredTree D.moment (start D.moment shared.now) (session_of seat)
+    ensures answered { IsAnsweredTree options.now.style D.moment (start D.moment shared.now) (session_of seat)
         (seen seat) (seen result.1) text.now tree.now result.0 }
     ensures reads { result.0.refusal ≡ None
         → ReadsOnce (start D.moment shared.now) (session_of seat) (seen seat) (seen result.1) text.now tree.now

@@ -48,9 +48,9 @@ pub(crate) fn commit<D: Disk, R: Threads + Wait + Sync, G: Gate>(
         → IsDatabaseOf (database_with db (store_seen D.moment shared.now seat) pinned.now.place) pinned.now.names }
     requires may { (db : Database) → BeganAs (D.moment (start D.moment shared.now).opened.disk).state db
         → MayBeMade (database_with db (store_seen D.moment shared.now seat) pinned.now.place) change changed }
-    requires said { Says D.moment (start D.moment shared.now) (seen seat) text.now tree.now (pinned.now.place + 1)
+    requires said { Says options.now.style D.moment (start D.moment shared.now) (seen seat) text.now tree.now (pinned.now.place + 1)
         (record { reply = words; change = Some change }) }
-    requires typed { SaysChange D.moment (start D.moment shared.now) (seen seat) text.now tree.now (pinned.now.place + 1) change }
+    requires typed { SaysChange options.now.style D.moment (start D.moment shared.now) (seen seat) text.now tree.now (pinned.now.place + 1) change }
     requires fit { IsTrue (leaves_fit tree.now) }
     requires workers { (1 ≤ options.now.workers) × (options.now.workers ≤ 64) }
     ensures seat { IsSeatOf shared.now result.1 × IsIdle result.1 }
@@ -58,7 +58,7 @@ pub(crate) fn commit<D: Disk, R: Threads + Wait + Sync, G: Gate>(
     ensures reads { read_count result.1 ≡ read_count seat }
     ensures pin { HoldsPin D.moment shared.now result.1 pinned.now }
     ensures answered { (first before : List Event) → AddsNoAct (start D.moment shared.now) pinned.now.session first before (seen seat)
-        → IsAnsweredUnder D.moment (start D.moment shared.now) pinned.now.session pinned.now.place
+        → IsAnsweredUnder options.now.style D.moment (start D.moment shared.now) pinned.now.session pinned.now.place
         first (seen result.1) text.now tree.now result.0 }
 {
     let mut seat = seat;

@@ -6,4 +6,4 @@ mod committing;
 mod pinned;
 
 pub use answering::answer;
-pub use session_turns::{Options, Reply, Seat, Shared, refusal_or_want};
+pub use session_turns::{Options, Reply, Seat, Shared, Style, refusal_or_want};

@@ -50,7 +50,7 @@ pub(crate) fn answer_pinned<D: Disk, R: Threads + Wait + Sync, G: Gate>(
     ensures seat { IsSeatOf shared.now result.1 × IsIdle result.1 }
     ensures same { IsSameSeat seat result.1 }
     ensures pin { HoldsPin D.moment shared.now result.1 pinned.now }
-    ensures answered { IsAnsweredUnder D.moment (start D.moment shared.now) pinned.now.session pinned.now.place
+    ensures answered { IsAnsweredUnder options.now.style D.moment (start D.moment shared.now) pinned.now.session pinned.now.place
         (seen seat) (seen result.1) text.now tree.now result.0 }
     ensures reads { result.0.refusal ≡ None → read_count result.1
         ≡ counted (start D.moment shared.now) (seen seat) pinned.now.place pinned.now.names text.now tree.now (read_count seat) }
@@ -103,7 +103,7 @@ fn read_under<D: Disk, R: Threads + Wait + Sync, G: Gate>(
     requires stored { AreStored pinned.now.names }
     requires fit { IsTrue (leaves_fit tree.now) }
     requires workers { (1 ≤ options.now.workers) × (options.now.workers ≤ 64) }
-    ensures read { WasRead D.moment shared.now pinned.now seat result.1 text.now tree.now result.0 }
+    ensures read { WasRead options.now.style D.moment shared.now pinned.now seat result.1 text.now tree.now result.0 }
 {
     sources_hold_their_versions::<D>();
     let mut source = PinnedSource::new(rt, alloc, shared, seat, pinned);
@@ -114,6 +114,7 @@ fn read_under<D: Disk, R: Threads + Wait + Sync, G: Gate>(
         tree,
         &pinned.names,
         &mut source,
+        options.style,
         options.workers,
         pinned.session,
         gate,

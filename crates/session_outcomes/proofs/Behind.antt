@@ -8,6 +8,7 @@ use Rattle.afl_types.specs.Checking.{check_of}
 use Rattle.statement_answers.specs.declared.outcome.Outcome.{Outcome}
 use Rattle.statement_answers.specs.Outcomes.{HasOutcomeKind, IsOutcomeOf, IsToldBy}
 use Rattle.statement_replies.specs.Statements.{reply_to}
+use Rattle.statement_replies.specs.declared.style.Style.{Style}
 use Rattle.store_ledger.specs.declared.pinned.Pinned.{Pinned}
 use Rattle.store_ledger.specs.Ledger.{IsOpenPin}
 use Rattle.store_state.specs.declared.event.Event.{Event}
@@ -45,20 +46,20 @@ pub names_behind : {D : Type 0} (began : Start D) (events : List Event) (pinned 
     names_before began events (pinned.place + 1) ≡ pinned.names
 names_behind {D} began events pinned o = (open_pin_behind began events pinned o).names ∙ (open_pins_are_entered D began events pinned o).1
 
-module _ {D : Type 0} (moment : D → Moment) (r : Reading D) (text : List ℕ) (tree : Term) (outcome : Outcome)
+module _ {D : Type 0} (moment : D → Moment) (style : Style) (r : Reading D) (text : List ℕ) (tree : Term) (outcome : Outcome)
     (o : IsOpenPin (ledger_seen moment r.lent.shared r.lent.seat) r.lent.pinned)
     (has : HasDatabaseAt moment (start moment r.lent.shared) (seen r.lent.seat) r.lent.pinned.place r.lent.pinned.names)
-    (comes : ComesOver r.lent.pinned.names (pinned_state moment r) text tree outcome) where
-  comes_behind : ComesOf moment (start moment r.lent.shared) (seen r.lent.seat) text tree (r.lent.pinned.place + 1) outcome
+    (comes : ComesOver style r.lent.pinned.names (pinned_state moment r) text tree outcome) where
+  comes_behind : ComesOf moment (start moment r.lent.shared) (seen r.lent.seat) text tree (r.lent.pinned.place + 1) style outcome
   comes_behind = (
-    subst (λ (names : Names). HasOutcomeKind names (check_of tree text names) outcome)
+    subst (λ (names : Names). HasOutcomeKind style names (check_of tree text names) outcome)
         (sym (names_behind (start moment r.lent.shared) (seen r.lent.seat) r.lent.pinned o)) comes.kind,
-    λ db began. subst (λ (there : Database). IsOutcomeOf there (reply_to there text tree) outcome)
+    λ db began. subst (λ (there : Database). IsOutcomeOf there (reply_to style there text tree) outcome)
         (sym ((open_pin_behind (start moment r.lent.shared) (seen r.lent.seat) r.lent.pinned o).database db))
         (comes.told (database_with db (told (start moment r.lent.shared) (seen r.lent.seat)) r.lent.pinned.place) (source_tells moment r has db began)),
   )
 
 pub pinned_outcomes_are_said : {D : Type 0} (moment : D → Moment) → PinnedOutcomesAreSaid moment
-pinned_outcomes_are_said moment r text tree outcome o has comes =
-    outcomes_are_said moment (start moment r.lent.shared) (seen r.lent.seat) text tree (r.lent.pinned.place + 1) outcome
-    (comes_behind moment r text tree outcome o has comes)
+pinned_outcomes_are_said moment style r text tree outcome o has comes =
+    outcomes_are_said moment style (start moment r.lent.shared) (seen r.lent.seat) text tree (r.lent.pinned.place + 1) outcome
+    (comes_behind moment style r text tree outcome o has comes)

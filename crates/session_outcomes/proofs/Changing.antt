@@ -11,6 +11,7 @@ use Rattle.session_sources.specs.Prepared.{MayBeMade}
 use Rattle.statement_answers.specs.declared.outcome.Outcome.TheVariants.{Changes}
 use Rattle.statement_answers.specs.Outcomes.{IsMadeOf}
 use Rattle.statement_replies.specs.declared.replies.Reply.{Reply as Told}
+use Rattle.statement_replies.specs.declared.style.Style.{Style}
 use Rattle.store_ledger.specs.Ledger.{is_noted, is_tried}
 use Rattle.store_state.specs.declared.event.Event.{Event}
 use Rattle.store_state.specs.Calls.{database_with}
@@ -32,8 +33,8 @@ use Rattle.session_outcomes.proofs.Under.{pin_within}
 made : (db : Database) (change : Change) (changed : Option Changed) → IsMadeOf db change changed → MayBeMade db change changed
 made db change changed m = record { stores = m.stores; fault = m.whole; chunks = m.chunks }
 
-module _ {D : Type 0} (moment : D → Moment) (r : Reading D) (text : List ℕ) (tree : Term) (change : Change) (changed : Option Changed) (words : Told)
-    (read : HasRead moment r) (was : WasPinned moment r) (comes : HasOutcomesChange moment r text tree change changed words) where
+module _ {D : Type 0} (moment : D → Moment) (style : Style) (r : Reading D) (text : List ℕ) (tree : Term) (change : Change) (changed : Option Changed) (words : Told)
+    (read : HasRead moment r) (was : WasPinned moment r) (comes : HasOutcomesChange moment r text tree change changed words style) where
   abbrev began : Start D
   began = start moment r.lent.shared
 
@@ -49,16 +50,16 @@ module _ {D : Type 0} (moment : D → Moment) (r : Reading D) (text : List ℕ) 
   before : r.lent.pinned.place ≤ length (entries_in old)
   before = let le = within in omega (arith, le)
 
-  said : IsSaid moment began old text tree (r.lent.pinned.place + 1) (Changes change changed words)
-  said = pinned_outcomes_are_said moment (unread r.lent.shared r.lent.pinned r.lent.seat) text tree (Changes change changed words) read.lent_pin.open_pin was.database comes
+  said : IsSaid moment began old text tree (r.lent.pinned.place + 1) style (Changes change changed words)
+  said = pinned_outcomes_are_said moment style (unread r.lent.shared r.lent.pinned r.lent.seat) text tree (Changes change changed words) read.lent_pin.open_pin was.database comes
 
-  says_now : Says moment began (seen r.seat) text tree (r.lent.pinned.place + 1) (record { reply = words; change = Some change })
-  says_now = subst (λ (es : List Event). Says moment began es text tree (r.lent.pinned.place + 1) (record { reply = words; change = Some change })) (sym read.adds.adds.grown)
-      (says_later moment began old more text tree (r.lent.pinned.place + 1) within (record { reply = words; change = Some change }) said.0)
+  says_now : Says style moment began (seen r.seat) text tree (r.lent.pinned.place + 1) (record { reply = words; change = Some change })
+  says_now = subst (λ (es : List Event). Says style moment began es text tree (r.lent.pinned.place + 1) (record { reply = words; change = Some change })) (sym read.adds.adds.grown)
+      (says_later moment began old more text tree (r.lent.pinned.place + 1) within style (record { reply = words; change = Some change }) said.0)
 
-  typed_now : SaysChange moment began (seen r.seat) text tree (r.lent.pinned.place + 1) change
-  typed_now = subst (λ (es : List Event). SaysChange moment began es text tree (r.lent.pinned.place + 1) change) (sym read.adds.adds.grown)
-      (change_later moment began old more text tree (r.lent.pinned.place + 1) within change said.1)
+  typed_now : SaysChange style moment began (seen r.seat) text tree (r.lent.pinned.place + 1) change
+  typed_now = subst (λ (es : List Event). SaysChange style moment began es text tree (r.lent.pinned.place + 1) change) (sym read.adds.adds.grown)
+      (change_later moment began old more text tree (r.lent.pinned.place + 1) within style change said.1)
 
   may_now : (db : Database) → BeganAs (moment began.opened.disk).state db → MayBeMade (database_with db (told began (seen r.seat)) r.lent.pinned.place) change changed
   may_now db is = subst (λ (es : List Event). MayBeMade (database_with db (told began es) r.lent.pinned.place) change changed) (sym read.adds.adds.grown)
@@ -71,10 +72,10 @@ module _ {D : Type 0} (moment : D → Moment) (r : Reading D) (text : List ℕ) 
   tried_now = ap (λ (session : ℕ). is_noted is_tried (ledger_seen moment r.lent.shared r.seat) session) read.lent_pin.own ∙ read.tried ∙ was.untried is_tried
 
 pub read_changes_may_be_committed : {D : Type 0} (moment : D → Moment) → ReadChangesMayBeCommitted moment
-read_changes_may_be_committed moment r text tree change changed words read was comes = record {
+read_changes_may_be_committed moment style r text tree change changed words read was comes = record {
   allowed = comes.kind.1;
-  said = says_now moment r text tree change changed words read was comes;
-  typed = typed_now moment r text tree change changed words read was comes;
-  may = may_now moment r text tree change changed words read was comes;
-  tried = tried_now moment r text tree change changed words read was comes;
+  said = says_now moment style r text tree change changed words read was comes;
+  typed = typed_now moment style r text tree change changed words read was comes;
+  may = may_now moment style r text tree change changed words read was comes;
+  tried = tried_now moment style r text tree change changed words read was comes;
 }

@@ -19,11 +19,11 @@ accepted_kind names (Remove name) = refl
 accepted_kind names (RemoveVersions name below) = refl
 
 pub outcomes_are_said : {D : Type 0} (moment : D → Moment) → OutcomesAreSaid moment
-outcomes_are_said moment start events text tree place (Replied reply) comes = record { kind = comes.0; told = λ db began. comes.1 db began }
-outcomes_are_said moment start events text tree place (Changes change changed reply) comes =
+outcomes_are_said moment style start events text tree place (Replied reply) comes = record { kind = comes.0; told = λ db began. comes.1 db began }
+outcomes_are_said moment style start events text tree place (Changes change changed reply) comes =
     let names : Names = names_before start events place in (
       record {
-        kind = subst (λ c. HasStatementKind names c (record { reply = reply; change = Some change })) (sym comes.0.0)
+        kind = subst (λ c. HasStatementKind style names c (record { reply = reply; change = Some change })) (sym comes.0.0)
             (subst (λ (r : Told). HasChangeKind names change (record { reply = r; change = Some change })) (sym comes.0.2) (accepted_kind names change));
         told = λ db began. (comes.1 db began).0;
       },

@@ -22,6 +22,7 @@ use Rattle.statement_replies.specs.Kinds.{IsRowsReply}
 use Rattle.statement_replies.specs.Reply.{cell_reply, refused}
 use Rattle.statement_replies.specs.StatementKinds.{HasChangeKind, HasStatementKind, MayBreak}
 use Rattle.statement_replies.specs.Statements.{Accepted, accepted, without_change}
+use Rattle.statement_replies.specs.declared.style.Style.{Style}
 use Rattle.store_state.specs.declared.event.Event.{Event}
 use Rattle.session_sources.specs.Start.{Start}
 use Rattle.session_replies.specs.Acts.{looking}
@@ -54,30 +55,31 @@ of_change words names (Insert name schema plan) k = may_break words names (Inser
 of_change words names (Remove name) k = no_change words names (Remove name) k
 of_change words names (RemoveVersions name below) k = no_change words names (RemoveVersions name below) k
 
-of_rows : (words : Told) (schema : Schema) → IsRowsReply schema words → Words words
-of_rows words schema (inl (rows, e)) = tells (ap (λ (r : Told). r.refusal) e)
-of_rows words schema (inr (broken, e)) = fails broken e
+of_rows : (style : Style) (words : Told) (schema : Schema) → IsRowsReply style schema words → Words words
+of_rows style words schema (inl (rows, e)) = tells (ap (λ (r : Told). r.refusal) e)
+of_rows style words schema (inr (broken, e)) = fails broken e
 
-of_kind : (words : Told) (names : Names) (checked : Checked Typed) → HasStatementKind names checked (without_change words) → Words words
-of_kind words names (Ok (AQuery plan)) k = of_rows words (schema_of plan) k.0
-of_kind words names (Ok (AChange change)) k = of_change words names change k
-of_kind words names (Ok (Versions name)) k = tells (ap (λ (answer : Accepted). answer.reply.refusal) k)
-of_kind words names (Ok (Show name)) k = tells (ap (λ (answer : Accepted). answer.reply.refusal) k)
-of_kind words names (Ok ListArrays) k = tells (ap (λ (answer : Accepted). answer.reply.refusal) k)
-of_kind words names (Err breach) k = breaks breach (said_words words (refused (Typing breach.span breach.kind)) k)
+of_kind : (style : Style) (words : Told) (names : Names) (checked : Checked Typed) → HasStatementKind style names checked (without_change words) → Words words
+of_kind style words names (Ok (AQuery plan)) k = of_rows style words (schema_of plan) k.0
+of_kind style words names (Ok (AChange change)) k = of_change words names change k
+of_kind style words names (Ok (Versions name)) k = tells (ap (λ (answer : Accepted). answer.reply.refusal) k)
+of_kind style words names (Ok (Show name)) k = tells (ap (λ (answer : Accepted). answer.reply.refusal) k)
+of_kind style words names (Ok ListArrays) k = tells (ap (λ (answer : Accepted). answer.reply.refusal) k)
+of_kind style words names (Err breach) k = breaks breach (said_words words (refused (Typing breach.span breach.kind)) k)
 
 -- ---- replies
 
-module _ {D : Type 0} (moment : D → Moment) (start : Start D) (session pin : ℕ) (events own : List Event) (text : List ℕ) (tree : Term) (reply : Reply) where
+module _ {D : Type 0} (moment : D → Moment) (start : Start D) (session pin : ℕ) (events own : List Event) (text : List ℕ) (tree : Term) (reply : Reply)
+    (style : Style) where
   abbrev Looked : Type 0
-  Looked = IsLookedReply moment start session pin events own text tree reply
+  Looked = IsLookedReply moment start session pin events own text tree reply style
 
   -- what holds for its refusal holds of it
   looked : (refusal : Option Refusal) → reply.refusal ≡ refusal → HasLine reply refusal →
-      IsToldFor moment start session pin events own text tree reply refusal looking → Looked
+      IsToldFor moment start session pin events own text tree reply style refusal looking → Looked
   looked refusal e line told = record {
     line = subst (λ (r : Option Refusal). HasLine reply r) (sym e) line;
-    told = subst (λ (r : Option Refusal). IsToldFor moment start session pin events own text tree reply r looking) (sym e) told;
+    told = subst (λ (r : Option Refusal). IsToldFor moment start session pin events own text tree reply style r looking) (sym e) told;
   }
 
   refusal_is : (other : Told) → words_of reply ≡ other → reply.refusal ≡ other.refusal
@@ -86,7 +88,7 @@ module _ {D : Type 0} (moment : D → Moment) (start : Start D) (session pin : �
   text_is : (other : Told) → words_of reply ≡ other → reply.text ≡ other.text
   text_is other e = ap (λ (words : Told). words.text) e
 
-  module _ (s : IsSaidBehindPin moment start session pin events own text tree reply) where
+  module _ (s : IsSaidBehindPin moment start session pin events own text tree reply style) where
     by_words : Words (words_of reply) → Looked
     by_words (tells e) = looked None e tt (s.behind, s.said)
     by_words (breaks breach e) = looked (Some (Typing breach.span breach.kind)) (refusal_is (refused (Typing breach.span breach.kind)) e)
@@ -94,7 +96,7 @@ module _ {D : Type 0} (moment : D → Moment) (start : Start D) (session pin : �
     by_words (fails broken e) = looked (Some (Cell broken.at broken.kind)) (refusal_is (cell_reply broken) e) (text_is (cell_reply broken) e) (inl s.behind, s.said)
 
     said_is_told : Looked
-    said_is_told = by_words (of_kind (words_of reply) (names_before start events reply.place)
+    said_is_told = by_words (of_kind style (words_of reply) (names_before start events reply.place)
         (check_of tree text (names_before start events reply.place)) s.said.kind)
 
   want_is_told : IsWant reply → Looked
@@ -115,7 +117,8 @@ module _ {D : Type 0} (moment : D → Moment) (start : Start D) (session pin : �
   unread_is_told Wanting c = want_is_told c.unread
 
 pub said_replies_are_told : {D : Type 0} (moment : D → Moment) → SaidRepliesAreTold moment
-said_replies_are_told moment start session pin events own text tree reply s = said_is_told moment start session pin events own text tree reply s
+said_replies_are_told moment style start session pin events own text tree reply s = said_is_told moment start session pin events own text tree reply style s
 
 pub unread_replies_are_told : {D : Type 0} (moment : D → Moment) → UnreadRepliesAreTold moment
-unread_replies_are_told moment start session pin events own text tree reply fault c = unread_is_told moment start session pin events own text tree reply fault c
+unread_replies_are_told moment style start session pin events own text tree reply fault c =
+    unread_is_told moment start session pin events own text tree reply style fault c

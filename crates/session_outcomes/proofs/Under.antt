@@ -12,6 +12,7 @@ use Rattle.event_core.specs.declared.entry.Entry.TheVariants.{Pin}
 use Rattle.afl_types.specs.Checking.{check_of}
 use Rattle.statement_answers.specs.declared.outcome.Outcome.TheVariants.{Replied}
 use Rattle.statement_answers.specs.Outcomes.{MayFail}
+use Rattle.statement_replies.specs.declared.style.Style.{Style}
 use Rattle.store_ledger.specs.declared.pinned.Pinned.{Pinned}
 use Rattle.store_ledger.specs.Ledger.{IsOpenPin}
 use Rattle.store_state.specs.declared.event.Event.{Event}
@@ -45,11 +46,11 @@ pin_within {D} began events pinned o =
 
 module _ {D : Type 0} (moment : D → Moment) (began : Start D) (session pin other : ℕ) (old new own : List Event) (text : List ℕ) (tree : Term) (reply : Reply)
     (adds : AddsOwn other own old new) (sealed : list_all is_sealed old ≡ true) (within : reply.place ≤ length (entries_in old)) where
-  later_told : IsLookedReply moment began session pin old [] text tree reply → IsLookedReply moment began session pin new own text tree reply
-  later_told t = record {
+  later_told : (style : Style) → IsLookedReply moment began session pin old [] text tree reply style → IsLookedReply moment began session pin new own text tree reply style
+  later_told style t = record {
     line = t.line;
-    told = subst (λ (es : List Event). IsToldFor moment began session pin es own text tree reply reply.refusal looking) (sym adds.grown)
-        (replies_stay moment began session pin old adds.more [] own text tree reply reply.refusal looking sealed within t.told);
+    told = subst (λ (es : List Event). IsToldFor moment began session pin es own text tree reply style reply.refusal looking) (sym adds.grown)
+        (replies_stay moment style began session pin old adds.more [] own text tree reply reply.refusal looking sealed within t.told);
   }
 
   later_page : (page : ℕ) → IsDamagedPage moment began old reply.place page → IsDamagedPage moment began new reply.place page
@@ -79,14 +80,14 @@ module _ {D : Type 0} (moment : D → Moment) (r : Reading D) (text : List ℕ) 
   within_seen : reply.place ≤ length (entries_in (seen r.lent.seat))
   within_seen = let le = pin_within began (seen r.lent.seat) r.lent.pinned read.lent_pin.open_pin in omega (arith, at, le)
 
-  words_told : HasOutcomesWords moment r text tree reply →
-      IsLookedReply moment began r.lent.pinned.session r.lent.pinned.place (seen r.seat) adds.own text tree reply
-  words_told comes = later_told moment began r.lent.pinned.session r.lent.pinned.place (session_of r.lent.seat) (seen r.lent.seat) (seen r.seat) adds.own text tree reply
-      adds.adds read.lent.sealed within_seen
-      (said_replies_are_told moment began r.lent.pinned.session r.lent.pinned.place (seen r.lent.seat) [] text tree reply (record {
+  words_told : (style : Style) → HasOutcomesWords moment r text tree reply style →
+      IsLookedReply moment began r.lent.pinned.session r.lent.pinned.place (seen r.seat) adds.own text tree reply style
+  words_told style comes = later_told moment began r.lent.pinned.session r.lent.pinned.place (session_of r.lent.seat) (seen r.lent.seat) (seen r.seat) adds.own text tree reply
+      adds.adds read.lent.sealed within_seen style
+      (said_replies_are_told moment style began r.lent.pinned.session r.lent.pinned.place (seen r.lent.seat) [] text tree reply (record {
         behind = at;
-        said = subst (λ (place : ℕ). IsSaid moment began (seen r.lent.seat) text tree place (Replied (words_of reply))) (sym at)
-            (pinned_outcomes_are_said moment (unread r.lent.shared r.lent.pinned r.lent.seat) text tree (Replied (words_of reply)) read.lent_pin.open_pin was.database comes);
+        said = subst (λ (place : ℕ). IsSaid moment began (seen r.lent.seat) text tree place style (Replied (words_of reply))) (sym at)
+            (pinned_outcomes_are_said moment style (unread r.lent.shared r.lent.pinned r.lent.seat) text tree (Replied (words_of reply)) read.lent_pin.open_pin was.database comes);
       }))
 
   damaged_page : (page : ℕ) → r.marks.damaged ≡ Some page → IsDamagedPage moment began (seen r.seat) reply.place page
@@ -109,9 +110,9 @@ module _ {D : Type 0} (moment : D → Moment) (r : Reading D) (text : List ℕ) 
   names_there : names_before began (seen r.seat) reply.place ≡ r.lent.pinned.names
   names_there = ap (names_before began (seen r.seat)) at ∙ names_behind began (seen r.seat) r.lent.pinned read.pin.open_pin
 
-  fault_told : (fault : ExecFault) → SaysWhy moment r fault → MayFail fault (check_of tree text r.lent.pinned.names) → IsUnreadReply fault reply →
-      IsLookedReply moment began r.lent.pinned.session r.lent.pinned.place (seen r.seat) adds.own text tree reply
-  fault_told fault why may u = unread_replies_are_told moment began r.lent.pinned.session r.lent.pinned.place (seen r.seat) adds.own text tree reply fault (record {
+  fault_told : (style : Style) (fault : ExecFault) → SaysWhy moment r fault → MayFail fault (check_of tree text r.lent.pinned.names) → IsUnreadReply fault reply →
+      IsLookedReply moment began r.lent.pinned.session r.lent.pinned.place (seen r.seat) adds.own text tree reply style
+  fault_told style fault why may u = unread_replies_are_told moment style began r.lent.pinned.session r.lent.pinned.place (seen r.seat) adds.own text tree reply fault (record {
     holds = inl at;
     cause = cause fault why;
     allowed = subst (λ (names : Names). MayFail fault (check_of tree text names)) (sym names_there) may;
@@ -119,7 +120,8 @@ module _ {D : Type 0} (moment : D → Moment) (r : Reading D) (text : List ℕ) 
   })
 
 pub read_replies_are_told : {D : Type 0} (moment : D → Moment) → ReadRepliesAreTold moment
-read_replies_are_told moment r text tree reply read was comes at adds = words_told moment r text tree reply read was at adds comes
+read_replies_are_told moment style r text tree reply read was comes at adds = words_told moment r text tree reply read was at adds style comes
 
 pub failed_replies_are_told : {D : Type 0} (moment : D → Moment) → FailedRepliesAreTold moment
-failed_replies_are_told moment r text tree reply fault read was why may u at adds = fault_told moment r text tree reply read was at adds fault why may u
+failed_replies_are_told moment style r text tree reply fault read was why may u at adds =
+    fault_told moment r text tree reply read was at adds style fault why may u

@@ -9,6 +9,7 @@ use Rattle.chunk_source.specs.Source.{SourceState}
 use Rattle.statement_answers.specs.declared.outcome.Outcome.{Outcome}
 use Rattle.statement_answers.specs.Outcomes.{HasOutcomeKind, IsOutcomeOf, IsToldBy}
 use Rattle.statement_replies.specs.Statements.{reply_to}
+use Rattle.statement_replies.specs.declared.style.Style.{Style}
 use Rattle.store_ledger.specs.Ledger.{IsOpenPin}
 use Rattle.store_state.specs.declared.event.Event.{Event}
 use Rattle.store_state.specs.Calls.{database_with}
@@ -22,9 +23,9 @@ use Rattle.session_sources.specs.Pinned.{pinned_state}
 use Rattle.session_outcomes.specs.Said.{IsSaid}
 
 -- an outcome is that of a statement over a source with these names
-pub record ComesOver (names : Names) (source : SourceState) (text : List ℕ) (tree : Term) (outcome : Outcome) : Type 0 where
-  pub kind : HasOutcomeKind names (check_of tree text names) outcome
-  pub told : (db : Database) → IsToldBy names source db → IsOutcomeOf db (reply_to db text tree) outcome
+pub record ComesOver (style : Style) (names : Names) (source : SourceState) (text : List ℕ) (tree : Term) (outcome : Outcome) : Type 0 where
+  pub kind : HasOutcomeKind style names (check_of tree text names) outcome
+  pub told : (db : Database) → IsToldBy names source db → IsOutcomeOf db (reply_to style db text tree) outcome
 
 -- where the file began as a database, that of a place has these names
 abbrev pub HasDatabaseAt : {D : Type 0} → (D → Moment) → Start D → List Event → ℕ → Names → Type 0
@@ -33,8 +34,8 @@ HasDatabaseAt moment start events place names = (db : Database) → BeganAs (mom
 
 -- WHAT COMES OF A STATEMENT OVER A PIN'S SOURCE IS SAID, right behind the pin
 abbrev pub PinnedOutcomesAreSaid : {D : Type 0} → (D → Moment) → Type 0
-PinnedOutcomesAreSaid {D} moment = (r : Reading D) (text : List ℕ) (tree : Term) (outcome : Outcome)
+PinnedOutcomesAreSaid {D} moment = (style : Style) (r : Reading D) (text : List ℕ) (tree : Term) (outcome : Outcome)
     → IsOpenPin (ledger_seen moment r.lent.shared r.lent.seat) r.lent.pinned
     → HasDatabaseAt moment (start moment r.lent.shared) (seen r.lent.seat) r.lent.pinned.place r.lent.pinned.names
-    → ComesOver r.lent.pinned.names (pinned_state moment r) text tree outcome
-    → IsSaid moment (start moment r.lent.shared) (seen r.lent.seat) text tree (r.lent.pinned.place + 1) outcome
+    → ComesOver style r.lent.pinned.names (pinned_state moment r) text tree outcome
+    → IsSaid moment (start moment r.lent.shared) (seen r.lent.seat) text tree (r.lent.pinned.place + 1) style outcome

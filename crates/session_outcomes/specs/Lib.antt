@@ -28,6 +28,7 @@ pub use Rattle.session_sources.specs.declared.marks.Marks
 pub use Rattle.statement_answers.specs.Forms
 pub use Rattle.statement_answers.specs.Outcomes
 pub use Rattle.statement_answers.specs.declared.outcome.Outcome
+pub use Rattle.statement_replies.specs.declared.style.Style
 pub mod BehindPins
 pub mod Changing
 pub mod Freshly

@@ -8,6 +8,7 @@ use Rattle.statement_answers.specs.declared.outcome.Outcome.{Outcome}
 use Rattle.statement_answers.specs.declared.outcome.Outcome.TheVariants.{Replied, Changes}
 use Rattle.statement_answers.specs.Outcomes.{HasOutcomeKind, IsOutcomeOf}
 use Rattle.statement_replies.specs.Statements.{reply_to, without_change}
+use Rattle.statement_replies.specs.declared.style.Style.{Style}
 use Rattle.store_state.specs.declared.event.Event.{Event}
 use Rattle.store_state.specs.Calls.{database_with}
 use Rattle.store_state.specs.Standings.{BeganAs}
@@ -15,19 +16,19 @@ use Rattle.session_sources.specs.Start.{Start}
 use Rattle.session_sources.specs.Told.{told}
 use Rattle.session_replies.specs.Replies.{names_before, Says, SaysChange}
 
-module _ {D : Type 0} (moment : D → Moment) (start : Start D) (events : List Event) (text : List ℕ) (tree : Term) (place : ℕ) where
+module _ {D : Type 0} (moment : D → Moment) (start : Start D) (events : List Event) (text : List ℕ) (tree : Term) (place : ℕ) (style : Style) where
   -- an outcome is what the statement says there: its reply, or the change with its reply
   abbrev pub IsSaid : Outcome → Type 0
-  IsSaid (Replied reply) = Says moment start events text tree place (without_change reply)
-  IsSaid (Changes change changed reply) = Says moment start events text tree place (record { reply = reply; change = Some change })
-      × SaysChange moment start events text tree place change
+  IsSaid (Replied reply) = Says style moment start events text tree place (without_change reply)
+  IsSaid (Changes change changed reply) = Says style moment start events text tree place (record { reply = reply; change = Some change })
+      × SaysChange style moment start events text tree place change
 
   -- it is of the kind that the names there tell, and what the statement is answered over the database there
   abbrev pub ComesOf : Outcome → Type 0
-  ComesOf outcome = HasOutcomeKind (names_before start events place) (check_of tree text (names_before start events place)) outcome
+  ComesOf outcome = HasOutcomeKind style (names_before start events place) (check_of tree text (names_before start events place)) outcome
       × ((db : Database) → BeganAs (moment start.opened.disk).state db
-      → IsOutcomeOf (database_with db (told start events) place) (reply_to (database_with db (told start events) place) text tree) outcome)
+      → IsOutcomeOf (database_with db (told start events) place) (reply_to style (database_with db (told start events) place) text tree) outcome)
 
 abbrev pub OutcomesAreSaid : {D : Type 0} → (D → Moment) → Type 0
-OutcomesAreSaid {D} moment = (start : Start D) (events : List Event) (text : List ℕ) (tree : Term) (place : ℕ) (outcome : Outcome)
-    → ComesOf moment start events text tree place outcome → IsSaid moment start events text tree place outcome
+OutcomesAreSaid {D} moment = (style : Style) (start : Start D) (events : List Event) (text : List ℕ) (tree : Term) (place : ℕ) (outcome : Outcome)
+    → ComesOf moment start events text tree place style outcome → IsSaid moment start events text tree place style outcome

@@ -7,6 +7,7 @@ use Rattle.chunk_source.specs.declared.reading.fault.ExecFault.TheVariants.{Sour
 use Rattle.afl_types.specs.Checking.{check_of}
 use Rattle.statement_answers.specs.declared.outcome.Outcome.TheVariants.{Replied}
 use Rattle.statement_answers.specs.Outcomes.{MayFail}
+use Rattle.statement_replies.specs.declared.style.Style.{Style}
 use Rattle.store_ledger.specs.declared.note.NoteKind.{NoteKind}
 use Rattle.store_ledger.specs.Ledger.{is_noted}
 use Rattle.store_state.specs.declared.event.Event.{Event}
@@ -22,16 +23,6 @@ use Rattle.session_sources.specs.Pinned.{HasRead}
 use Rattle.session_outcomes.specs.Said.{IsSaid}
 
 module _ {D : Type 0} (moment : D → Moment) (start : Start D) (session pin : ℕ) (events own : List Event) (text : List ℕ) (tree : Term) (reply : Reply) where
-  -- it tells what it has to, for a statement that looked at arrays, and its text is its refusal's
-  pub record IsLookedReply : Type 0 where
-    pub line : HasLine reply reply.refusal
-    pub told : IsToldFor moment start session pin events own text tree reply reply.refusal looking
-
-  -- the words that are said at its place, right behind the pin
-  pub record IsSaidBehindPin : Type 0 where
-    pub behind : HoldsBehindPin moment start session pin events own text tree reply
-    pub said : IsSaid moment start events text tree reply.place (Replied (words_of reply))
-
   -- why a source gave no answer: that it was damaged, only where the file began as no database, and had that damage
   abbrev pub IsCause : ExecFault → Type 0
   IsCause Source = HasFault session own
@@ -44,15 +35,26 @@ module _ {D : Type 0} (moment : D → Moment) (start : Start D) (session pin : �
     pub allowed : MayFail fault (check_of tree text (names_before start events reply.place))
     pub unread : IsUnreadReply fault reply
 
+  module _ (style : Style) where
+    -- it tells what it has to, for a statement that looked at arrays, and its text is its refusal's
+    pub record IsLookedReply : Type 0 where
+      pub line : HasLine reply reply.refusal
+      pub told : IsToldFor moment start session pin events own text tree reply style reply.refusal looking
+
+    -- the words that are said at its place, right behind the pin
+    pub record IsSaidBehindPin : Type 0 where
+      pub behind : HoldsBehindPin moment start session pin events own text tree reply
+      pub said : IsSaid moment start events text tree reply.place style (Replied (words_of reply))
+
 -- WHAT IS SAID BEHIND A PIN IS TOLD by the reply of these words, and why a source gave no answer by the reply that refuses for it
 abbrev pub SaidRepliesAreTold : {D : Type 0} → (D → Moment) → Type 0
-SaidRepliesAreTold {D} moment = (start : Start D) (session pin : ℕ) (events own : List Event) (text : List ℕ) (tree : Term) (reply : Reply)
-    → IsSaidBehindPin moment start session pin events own text tree reply → IsLookedReply moment start session pin events own text tree reply
+SaidRepliesAreTold {D} moment = (style : Style) (start : Start D) (session pin : ℕ) (events own : List Event) (text : List ℕ) (tree : Term) (reply : Reply)
+    → IsSaidBehindPin moment start session pin events own text tree reply style → IsLookedReply moment start session pin events own text tree reply style
 
 abbrev pub UnreadRepliesAreTold : {D : Type 0} → (D → Moment) → Type 0
-UnreadRepliesAreTold {D} moment = (start : Start D) (session pin : ℕ) (events own : List Event) (text : List ℕ) (tree : Term) (reply : Reply)
+UnreadRepliesAreTold {D} moment = (style : Style) (start : Start D) (session pin : ℕ) (events own : List Event) (text : List ℕ) (tree : Term) (reply : Reply)
     (fault : ExecFault)
-    → IsCausedSincePin moment start session pin events own text tree reply fault → IsLookedReply moment start session pin events own text tree reply
+    → IsCausedSincePin moment start session pin events own text tree reply fault → IsLookedReply moment start session pin events own text tree reply style
 
 -- A READING THAT FAILED UNDER A PIN LEFT ITS NOTE, if no note was under the pin before
 abbrev pub FailuresAreNoted : {D : Type 0} → (D → Moment) → Type 0

@@ -7,6 +7,7 @@ use Rattle.chunk_source.specs.declared.reading.fault.ExecFault.TheVariants.{Sour
 use Rattle.afl_types.specs.Checking.{check_of}
 use Rattle.statement_answers.specs.declared.outcome.Outcome.TheVariants.{Replied}
 use Rattle.statement_answers.specs.Outcomes.{MayFail}
+use Rattle.statement_replies.specs.declared.style.Style.{Style}
 use Rattle.store_ledger.specs.declared.note.NoteKind.{NoteKind}
 use Rattle.store_ledger.specs.Ledger.{is_noted}
 use Rattle.session_sources.specs.Seats.{ledger_seen, seen, session_of, start}
@@ -31,23 +32,24 @@ module _ {D : Type 0} (moment : D → Moment) (r : Reading D) where
   SaysWhy (Damaged page) = r.marks.damaged ≡ Some page
   SaysWhy Memory = Unit {0}
 
-module _ {D : Type 0} (moment : D → Moment) (r : Reading D) (text : List ℕ) (tree : Term) (reply : Reply) where
+module _ {D : Type 0} (moment : D → Moment) (r : Reading D) (text : List ℕ) (tree : Term) (reply : Reply) (style : Style) where
   -- a reply right behind the pin tells what it has to, whatever the reading added
   abbrev pub IsToldUnder : Type 0
   IsToldUnder = reply.place ≡ r.lent.pinned.place + 1
       → (adds : AddsAtMostFault (start moment r.lent.shared) (session_of r.lent.seat) (seen r.lent.seat) (seen r.seat))
-      → IsLookedReply moment (start moment r.lent.shared) r.lent.pinned.session r.lent.pinned.place (seen r.seat) adds.own text tree reply
+      → IsLookedReply moment (start moment r.lent.shared) r.lent.pinned.session r.lent.pinned.place (seen r.seat) adds.own text tree reply style
 
   -- the words that come of the statement over the pin's source
   abbrev pub HasOutcomesWords : Type 0
-  HasOutcomesWords = ComesOver r.lent.pinned.names (pinned_state moment (unread r.lent.shared r.lent.pinned r.lent.seat)) text tree (Replied (words_of reply))
+  HasOutcomesWords = ComesOver style r.lent.pinned.names (pinned_state moment (unread r.lent.shared r.lent.pinned r.lent.seat)) text tree
+      (Replied (words_of reply))
 
 -- WHAT WAS READ UNDER A PIN IS TOLD, and why it could not be
 abbrev pub ReadRepliesAreTold : {D : Type 0} → (D → Moment) → Type 0
-ReadRepliesAreTold {D} moment = (r : Reading D) (text : List ℕ) (tree : Term) (reply : Reply) → HasRead moment r → WasPinned moment r
-    → HasOutcomesWords moment r text tree reply → IsToldUnder moment r text tree reply
+ReadRepliesAreTold {D} moment = (style : Style) (r : Reading D) (text : List ℕ) (tree : Term) (reply : Reply) → HasRead moment r → WasPinned moment r
+    → HasOutcomesWords moment r text tree reply style → IsToldUnder moment r text tree reply style
 
 abbrev pub FailedRepliesAreTold : {D : Type 0} → (D → Moment) → Type 0
-FailedRepliesAreTold {D} moment = (r : Reading D) (text : List ℕ) (tree : Term) (reply : Reply) (fault : ExecFault) → HasRead moment r
+FailedRepliesAreTold {D} moment = (style : Style) (r : Reading D) (text : List ℕ) (tree : Term) (reply : Reply) (fault : ExecFault) → HasRead moment r
     → WasPinned moment r → SaysWhy moment r fault → MayFail fault (check_of tree text r.lent.pinned.names) → IsUnreadReply fault reply
-    → IsToldUnder moment r text tree reply
+    → IsToldUnder moment r text tree reply style

@@ -26,6 +26,7 @@ use Rattle.statement_replies.specs.declared.replies.Reply.{Reply as Told}
 use Rattle.statement_replies.specs.Reply.{cell_reply}
 use Rattle.statement_replies.specs.StatementKinds.{HasChangeKind, HasStatementKind}
 use Rattle.statement_replies.specs.Statements.{Accepted, accepted, change_reply, changed_or_broken, reply_to, reply_to_checked, text_alone, without_change}
+use Rattle.statement_replies.specs.declared.style.Style.{Style}
 use Rattle.store_state.specs.declared.event.Event.{Event}
 use Rattle.store_state.specs.Calls.{history_at}
 use Rattle.store_state.specs.Standings.{BeganAs}
@@ -81,56 +82,57 @@ module _ (base : Core) (later h : History) (text : List ℕ) (tree : Term) (chan
   same_accepted : accepted (names_at base (later ++ h)) change ≡ accepted (names_at base h) change
   same_accepted = ap (λ (reply : Told). record { reply = reply; change = Some change }) (same_line base later h change left)
 
-  kind_later : (reply : Told) → HasStatementKind (names_at base h) (check_of tree text (names_at base h)) (record { reply = reply; change = Some change }) →
-      HasStatementKind (names_at base (later ++ h)) (check_of tree text (names_at base (later ++ h))) (record { reply = reply; change = Some change })
-  kind_later reply k =
-      subst (λ c. HasStatementKind (names_at base (later ++ h)) c (record { reply = reply; change = Some change })) (sym typed_later)
-      (kind_stays (names_at base h) (names_at base (later ++ h)) change reply same_accepted
-      (subst (λ c. HasStatementKind (names_at base h) c (record { reply = reply; change = Some change })) typed k))
+  module _ (style : Style) where
+    kind_later : (reply : Told) → HasStatementKind style (names_at base h) (check_of tree text (names_at base h)) (record { reply = reply; change = Some change }) →
+        HasStatementKind style (names_at base (later ++ h)) (check_of tree text (names_at base (later ++ h))) (record { reply = reply; change = Some change })
+    kind_later reply k =
+        subst (λ c. HasStatementKind style (names_at base (later ++ h)) c (record { reply = reply; change = Some change })) (sym typed_later)
+        (kind_stays (names_at base h) (names_at base (later ++ h)) change reply same_accepted
+        (subst (λ c. HasStatementKind style (names_at base h) c (record { reply = reply; change = Some change })) typed k))
 
-  answer_there : (d : Database) (names : Names) → names_of d ≡ names → check_of tree text names ≡ Ok (AChange change) →
-      reply_to d text tree ≡ changed_or_broken names change (fault_of_change d change)
-  answer_there d names e c =
-      ap (λ checked. reply_to_checked d checked) (ap (λ (n : Names). check_of tree text n) e ∙ c)
-      ∙ ap (λ (n : Names). changed_or_broken n change (fault_of_change d change)) e
+    answer_there : (d : Database) (names : Names) → names_of d ≡ names → check_of tree text names ≡ Ok (AChange change) →
+        reply_to style d text tree ≡ changed_or_broken names change (fault_of_change d change)
+    answer_there d names e c =
+        ap (λ checked. reply_to_checked style d checked) (ap (λ (n : Names). check_of tree text n) e ∙ c)
+        ∙ ap (λ (n : Names). changed_or_broken n change (fault_of_change d change)) e
 
-  answer_later : (db : Database) → names_of (at db h) ≡ names_at base h → names_of (at db (later ++ h)) ≡ names_at base (later ++ h) →
-      reply_to (at db (later ++ h)) text tree ≡ reply_to (at db h) text tree
-  answer_later db here there =
-      answer_there (at db (later ++ h)) (names_at base (later ++ h)) there typed_later
-      ∙ ap (λ (fault : Option Broken). changed_or_broken (names_at base (later ++ h)) change fault) (changes_mean_the_same db later h change left).0
-      ∙ broken_or_same (names_at base (later ++ h)) (names_at base h) change (fault_of_change (at db h) change) same_accepted
-      ∙ sym (answer_there (at db h) (names_at base h) here typed)
+    answer_later : (db : Database) → names_of (at db h) ≡ names_at base h → names_of (at db (later ++ h)) ≡ names_at base (later ++ h) →
+        reply_to style (at db (later ++ h)) text tree ≡ reply_to style (at db h) text tree
+    answer_later db here there =
+        answer_there (at db (later ++ h)) (names_at base (later ++ h)) there typed_later
+        ∙ ap (λ (fault : Option Broken). changed_or_broken (names_at base (later ++ h)) change fault) (changes_mean_the_same db later h change left).0
+        ∙ broken_or_same (names_at base (later ++ h)) (names_at base h) change (fault_of_change (at db h) change) same_accepted
+        ∙ sym (answer_there (at db h) (names_at base h) here typed)
 
 -- ---- at places
 
-module _ {D : Type 0} (moment : D → Moment) (start : Start D) (events : List Event) (text : List ℕ) (tree : Term) (place other : ℕ) (change : Change)
+module _ {D : Type 0} (moment : D → Moment) (style : Style) (start : Start D) (events : List Event) (text : List ℕ) (tree : Term) (place other : ℕ) (change : Change)
     (since : AreLeftSince start events place other change) (here : IsNamedAt moment start events place) (there : IsNamedAt moment start events other)
-    (says : SaysChange moment start events text tree place change) where
+    (says : SaysChange style moment start events text tree place change) where
   answer_at : (db : Database) → BeganAs (moment start.opened.disk).state db →
-      reply_to (at db (history_at (told start events) other)) text tree ≡ reply_to (at db (history_at (told start events) place)) text tree
+      reply_to style (at db (history_at (told start events) other)) text tree ≡ reply_to style (at db (history_at (told start events) place)) text tree
   answer_at db began =
-      ap (λ (h : History). reply_to (at db h) text tree) since.grown
-      ∙ answer_later start.base since.later (history_at (told start events) place) text tree change since.left since.room says.typed db (here db began)
+      ap (λ (h : History). reply_to style (at db h) text tree) since.grown
+      ∙ answer_later start.base since.later (history_at (told start events) place) text tree change since.left since.room says.typed style db (here db began)
       (sym (ap (λ (h : History). names_of (at db h)) since.grown) ∙ there db began ∙ ap (names_at start.base) since.grown)
 
-  said_again : SaysChange moment start events text tree other change
+  said_again : SaysChange style moment start events text tree other change
   said_again = record {
     typed = ap (λ (h : History). check_of tree text (names_at start.base h)) since.grown
         ∙ typed_later start.base since.later (history_at (told start events) place) text tree change since.left since.room says.typed;
     told = λ db began. ap (λ (answer : Accepted). answer.change) (answer_at db began) ∙ says.told db began;
   }
 
-  replied_again : (reply : Told) → Says moment start events text tree place (record { reply = reply; change = Some change }) →
-      Says moment start events text tree other (record { reply = reply; change = Some change })
+  replied_again : (reply : Told) → Says style moment start events text tree place (record { reply = reply; change = Some change }) →
+      Says style moment start events text tree other (record { reply = reply; change = Some change })
   replied_again reply s = record {
-    kind = subst (λ (h : History). HasStatementKind (names_at start.base h) (check_of tree text (names_at start.base h)) (record { reply = reply; change = Some change })) (sym since.grown)
-        (kind_later start.base since.later (history_at (told start events) place) text tree change since.left since.room says.typed reply s.kind);
+    kind = subst (λ (h : History). HasStatementKind style (names_at start.base h) (check_of tree text (names_at start.base h)) (record { reply = reply; change = Some change })) (sym since.grown)
+        (kind_later start.base since.later (history_at (told start events) place) text tree change since.left since.room says.typed style reply s.kind);
     told = λ db began. answer_at db began ∙ s.told db began;
   }
 
 pub fresh_changes_are_said : {D : Type 0} (moment : D → Moment) → FreshChangesAreSaid moment
-fresh_changes_are_said moment start events text tree place other change since here there = (
-  λ says. said_again moment start events text tree place other change since here there says,
-  λ reply says s. replied_again moment start events text tree place other change since here there says reply s,
+fresh_changes_are_said moment style start events text tree place other change since here there = (
+  λ says. said_again moment style start events text tree place other change since here there says,
+  λ reply says s. replied_again moment style start events text tree place other change since here there says reply s,
 )

@@ -19,6 +19,7 @@ use Rattle.result_print.specs.declared.refusal.Refusal.{Refusal}
 use Rattle.result_print.specs.declared.refusal.Refusal.TheVariants.{TooLong, Parse, HistoryFull, Typing, Cell, Disk, Damaged, SequenceEnd, Full, Memory}
 use Rattle.statement_replies.specs.Statements.{Accepted, reply_to}
 use Rattle.statement_replies.specs.StatementKinds.{HasStatementKind}
+use Rattle.statement_replies.specs.declared.style.Style.{Style}
 use Rattle.store_ledger.specs.declared.note.NoteKind.TheVariants.{Fault}
 use Rattle.store_state.specs.declared.event.Event.{Event}
 use Rattle.store_state.specs.declared.event.Event.TheVariants.{Noted}
@@ -65,21 +66,6 @@ module _ {D : Type 0} (moment : D → Moment) (start : Start D) (old more : List
   pub names_stay : names_before start (old ++ more) place ≡ names_before start old place
   names_stay = ap (names_at start.base) (history_stays start old more place within)
 
-  same_reply : (db : Database) → reply_to (at db (history_at (told start (old ++ more)) place)) text tree ≡ reply_to (at db (history_at (told start old) place)) text tree
-  same_reply db = ap (λ (h : History). reply_to (at db h) text tree) (history_stays start old more place within)
-
-  pub says_later : (answer : Accepted) → Says moment start old text tree place answer → Says moment start (old ++ more) text tree place answer
-  says_later answer s = record {
-    kind = subst (λ (names : Names). HasStatementKind names (check_of tree text names) answer) (sym names_stay) s.kind;
-    told = λ db began. same_reply db ∙ s.told db began;
-  }
-
-  pub change_later : (change : Change) → SaysChange moment start old text tree place change → SaysChange moment start (old ++ more) text tree place change
-  change_later change s = record {
-    typed = ap (λ (names : Names). check_of tree text names) names_stay ∙ s.typed;
-    told = λ db began. ap (λ (answer : Accepted). answer.change) (same_reply db) ∙ s.told db began;
-  }
-
   pub page_later : (page : ℕ) → list_all is_sealed old ≡ true → IsDamagedPage moment start old place page → IsDamagedPage moment start (old ++ more) place page
   page_later page sealed p = record {
     leaf = p.leaf;
@@ -104,6 +90,22 @@ module _ {D : Type 0} (moment : D → Moment) (start : Start D) (old more : List
         (fits_later (history_at (told start old) place) change r.fits);
   }
 
+  module _ (style : Style) where
+    same_reply : (db : Database) → reply_to style (at db (history_at (told start (old ++ more)) place)) text tree ≡ reply_to style (at db (history_at (told start old) place)) text tree
+    same_reply db = ap (λ (h : History). reply_to style (at db h) text tree) (history_stays start old more place within)
+
+    pub says_later : (answer : Accepted) → Says style moment start old text tree place answer → Says style moment start (old ++ more) text tree place answer
+    says_later answer s = record {
+      kind = subst (λ (names : Names). HasStatementKind style names (check_of tree text names) answer) (sym names_stay) s.kind;
+      told = λ db began. same_reply db ∙ s.told db began;
+    }
+
+    pub change_later : (change : Change) → SaysChange style moment start old text tree place change → SaysChange style moment start (old ++ more) text tree place change
+    change_later change s = record {
+      typed = ap (λ (names : Names). check_of tree text names) names_stay ∙ s.typed;
+      told = λ db began. ap (λ (answer : Accepted). answer.change) (same_reply db) ∙ s.told db began;
+    }
+
 -- ---- the reply
 
 module _ {D : Type 0} (moment : D → Moment) (start : Start D) (session pin : ℕ) (old more own later : List Event) (text : List ℕ) (tree : Term) (reply : Reply)
@@ -124,67 +126,68 @@ module _ {D : Type 0} (moment : D → Moment) (start : Start D) (session pin : �
   fault_stays : HasFault session own → HasFault session (own ++ later)
   fault_stays f = (f.0, Contains-append_left own later (Noted (record { session = session; kind = Fault; after = f.0 })) f.1)
 
-  uncommitted_stays : (change : Change) (fault : CommitFault) → WasUncommitted moment start session pin old own text tree reply change fault →
-      WasUncommitted moment start session pin (old ++ more) (own ++ later) text tree reply change fault
-  uncommitted_stays change fault u =
-      (change_later moment start old more text tree reply.place within change u.0, (u.1.0, was_later u.1.0 old more u.1.1, u.1.2))
+  module _ (style : Style) where
+    uncommitted_stays : (change : Change) (fault : CommitFault) → WasUncommitted moment start session pin old own text tree reply style change fault →
+        WasUncommitted moment start session pin (old ++ more) (own ++ later) text tree reply style change fault
+    uncommitted_stays change fault u =
+        (change_later moment start old more text tree reply.place within style change u.0, (u.1.0, was_later u.1.0 old more u.1.1, u.1.2))
 
-  told_stays : (refusal : Option Refusal) (course : Course) → IsToldFor moment start session pin old own text tree reply refusal course →
-      IsToldFor moment start session pin (old ++ more) (own ++ later) text tree reply refusal course
-  told_stays None nothing t = absurd t
-  told_stays None looking t = (t.0, says_later moment start old more text tree reply.place within _ t.1)
-  told_stays None (trying change) t = absurd t
-  told_stays None (making change) t = (
-    (t.0.0, entered_later pin (Commit session change t.0.0) reply.place old more t.0.1),
-    says_later moment start old more text tree reply.place within _ t.1,
-    room_later moment start old more text tree reply.place within change t.2,
-  )
-  told_stays (Some (TooLong bytes)) nothing t = absurd t
-  told_stays (Some (TooLong bytes)) looking t = absurd t
-  told_stays (Some (TooLong bytes)) (trying change) t = absurd t
-  told_stays (Some (TooLong bytes)) (making change) t = absurd t
-  told_stays (Some (Parse at kind)) nothing t = absurd t
-  told_stays (Some (Parse at kind)) looking t = absurd t
-  told_stays (Some (Parse at kind)) (trying change) t = absurd t
-  told_stays (Some (Parse at kind)) (making change) t = absurd t
-  told_stays (Some HistoryFull) nothing t = (t.0, was_later t.0 old more t.1, t.2)
-  told_stays (Some HistoryFull) looking t = absurd t
-  told_stays (Some HistoryFull) (trying change) t = absurd t
-  told_stays (Some HistoryFull) (making change) t = absurd t
-  told_stays (Some (Typing span kind)) nothing t = absurd t
-  told_stays (Some (Typing span kind)) looking t = (where_stays t.0, says_later moment start old more text tree reply.place within _ t.1)
-  told_stays (Some (Typing span kind)) (trying change) t = absurd t
-  told_stays (Some (Typing span kind)) (making change) t = absurd t
-  told_stays (Some Disk) nothing t = absurd t
-  told_stays (Some Disk) looking t = (where_stays t.0, fault_stays t.1, allowed_later moment start old more text tree reply.place within t.2)
-  told_stays (Some Disk) (trying change) t = (since_stays t.0, fault_stays t.1, uncommitted_stays change (faults.Disk reply.place) t.2)
-  told_stays (Some Disk) (making change) t = absurd t
-  told_stays (Some (Damaged page)) nothing t = absurd t
-  told_stays (Some (Damaged page)) looking t = (
-    where_stays t.0,
-    page_later moment start old more text tree reply.place within page sealed t.1,
-    t.2,
-    allowed_later moment start old more text tree reply.place within t.3,
-  )
-  told_stays (Some (Damaged page)) (trying change) t = absurd t
-  told_stays (Some (Damaged page)) (making change) t = absurd t
-  told_stays (Some (Cell at kind)) nothing t = absurd t
-  told_stays (Some (Cell at kind)) looking t = (where_stays t.0, says_later moment start old more text tree reply.place within _ t.1)
-  told_stays (Some (Cell at kind)) (trying change) t = absurd t
-  told_stays (Some (Cell at kind)) (making change) t = absurd t
-  told_stays (Some SequenceEnd) nothing t = absurd t
-  told_stays (Some SequenceEnd) looking t = absurd t
-  told_stays (Some SequenceEnd) (trying change) t = (since_stays t.0, uncommitted_stays change (faults.SequenceEnd reply.place) t.1)
-  told_stays (Some SequenceEnd) (making change) t = absurd t
-  told_stays (Some (Full needed free)) nothing t = absurd t
-  told_stays (Some (Full needed free)) looking t = absurd t
-  told_stays (Some (Full needed free)) (trying change) t = (since_stays t.0, uncommitted_stays change (faults.Full needed free reply.place) t.1)
-  told_stays (Some (Full needed free)) (making change) t = absurd t
-  told_stays (Some Memory) nothing t = tt
-  told_stays (Some Memory) looking t = tt
-  told_stays (Some Memory) (trying change) t = (t.0, t.1, reached start old more t.0 t.2, change_later moment start old more text tree t.0 t.2 change t.3)
-  told_stays (Some Memory) (making change) t = absurd t
+    told_stays : (refusal : Option Refusal) (course : Course) → IsToldFor moment start session pin old own text tree reply style refusal course →
+        IsToldFor moment start session pin (old ++ more) (own ++ later) text tree reply style refusal course
+    told_stays None nothing t = absurd t
+    told_stays None looking t = (t.0, says_later moment start old more text tree reply.place within style _ t.1)
+    told_stays None (trying change) t = absurd t
+    told_stays None (making change) t = (
+      (t.0.0, entered_later pin (Commit session change t.0.0) reply.place old more t.0.1),
+      says_later moment start old more text tree reply.place within style _ t.1,
+      room_later moment start old more text tree reply.place within change t.2,
+    )
+    told_stays (Some (TooLong bytes)) nothing t = absurd t
+    told_stays (Some (TooLong bytes)) looking t = absurd t
+    told_stays (Some (TooLong bytes)) (trying change) t = absurd t
+    told_stays (Some (TooLong bytes)) (making change) t = absurd t
+    told_stays (Some (Parse at kind)) nothing t = absurd t
+    told_stays (Some (Parse at kind)) looking t = absurd t
+    told_stays (Some (Parse at kind)) (trying change) t = absurd t
+    told_stays (Some (Parse at kind)) (making change) t = absurd t
+    told_stays (Some HistoryFull) nothing t = (t.0, was_later t.0 old more t.1, t.2)
+    told_stays (Some HistoryFull) looking t = absurd t
+    told_stays (Some HistoryFull) (trying change) t = absurd t
+    told_stays (Some HistoryFull) (making change) t = absurd t
+    told_stays (Some (Typing span kind)) nothing t = absurd t
+    told_stays (Some (Typing span kind)) looking t = (where_stays t.0, says_later moment start old more text tree reply.place within style _ t.1)
+    told_stays (Some (Typing span kind)) (trying change) t = absurd t
+    told_stays (Some (Typing span kind)) (making change) t = absurd t
+    told_stays (Some Disk) nothing t = absurd t
+    told_stays (Some Disk) looking t = (where_stays t.0, fault_stays t.1, allowed_later moment start old more text tree reply.place within t.2)
+    told_stays (Some Disk) (trying change) t = (since_stays t.0, fault_stays t.1, uncommitted_stays change (faults.Disk reply.place) t.2)
+    told_stays (Some Disk) (making change) t = absurd t
+    told_stays (Some (Damaged page)) nothing t = absurd t
+    told_stays (Some (Damaged page)) looking t = (
+      where_stays t.0,
+      page_later moment start old more text tree reply.place within page sealed t.1,
+      t.2,
+      allowed_later moment start old more text tree reply.place within t.3,
+    )
+    told_stays (Some (Damaged page)) (trying change) t = absurd t
+    told_stays (Some (Damaged page)) (making change) t = absurd t
+    told_stays (Some (Cell at kind)) nothing t = absurd t
+    told_stays (Some (Cell at kind)) looking t = (where_stays t.0, says_later moment start old more text tree reply.place within style _ t.1)
+    told_stays (Some (Cell at kind)) (trying change) t = absurd t
+    told_stays (Some (Cell at kind)) (making change) t = absurd t
+    told_stays (Some SequenceEnd) nothing t = absurd t
+    told_stays (Some SequenceEnd) looking t = absurd t
+    told_stays (Some SequenceEnd) (trying change) t = (since_stays t.0, uncommitted_stays change (faults.SequenceEnd reply.place) t.1)
+    told_stays (Some SequenceEnd) (making change) t = absurd t
+    told_stays (Some (Full needed free)) nothing t = absurd t
+    told_stays (Some (Full needed free)) looking t = absurd t
+    told_stays (Some (Full needed free)) (trying change) t = (since_stays t.0, uncommitted_stays change (faults.Full needed free reply.place) t.1)
+    told_stays (Some (Full needed free)) (making change) t = absurd t
+    told_stays (Some Memory) nothing t = tt
+    told_stays (Some Memory) looking t = tt
+    told_stays (Some Memory) (trying change) t = (t.0, t.1, reached start old more t.0 t.2, change_later moment start old more text tree t.0 t.2 style change t.3)
+    told_stays (Some Memory) (making change) t = absurd t
 
 pub replies_stay : {D : Type 0} (moment : D → Moment) → RepliesStay moment
-replies_stay moment start session pin old more own later text tree reply refusal course sealed within t =
-    told_stays moment start session pin old more own later text tree reply sealed within refusal course t
+replies_stay moment style start session pin old more own later text tree reply refusal course sealed within t =
+    told_stays moment start session pin old more own later text tree reply sealed within style refusal course t

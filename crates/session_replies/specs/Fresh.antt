@@ -7,6 +7,7 @@ use Rattle.plan_changes.specs.Databases.{Database, names_of}
 use Rattle.event_core.specs.History.{History}
 use Rattle.fresh_laws.specs.Fresh.{AreLeft, SameRoom}
 use Rattle.statement_replies.specs.declared.replies.Reply.{Reply as Told}
+use Rattle.statement_replies.specs.declared.style.Style.{Style}
 use Rattle.store_state.specs.declared.event.Event.{Event}
 use Rattle.store_state.specs.Calls.{database_with, history_at}
 use Rattle.store_state.specs.Standings.{BeganAs}
@@ -26,19 +27,20 @@ pub record AreLeftSince {D : Type 0} (start : Start D) (events : List Event) (pl
   pub left : AreLeft later change
   pub room : SameRoom start.base later (history_at (told start events) place)
 
-module _ {D : Type 0} (moment : D → Moment) (start : Start D) (events : List Event) (text : List ℕ) (tree : Term) (place other : ℕ) (change : Change) where
+module _ {D : Type 0} (moment : D → Moment) (start : Start D) (events : List Event) (text : List ℕ) (tree : Term) (place other : ℕ) (change : Change)
+    (style : Style) where
   -- at both places the statement is this change
   abbrev pub IsSaidAgain : Type 0
-  IsSaidAgain = SaysChange moment start events text tree place change → SaysChange moment start events text tree other change
+  IsSaidAgain = SaysChange style moment start events text tree place change → SaysChange style moment start events text tree other change
 
   -- and has the same reply, where it is accepted
   abbrev pub IsRepliedAgain : Type 0
-  IsRepliedAgain = (reply : Told) → SaysChange moment start events text tree place change
-      → Says moment start events text tree place (record { reply = reply; change = Some change })
-      → Says moment start events text tree other (record { reply = reply; change = Some change })
+  IsRepliedAgain = (reply : Told) → SaysChange style moment start events text tree place change
+      → Says style moment start events text tree place (record { reply = reply; change = Some change })
+      → Says style moment start events text tree other (record { reply = reply; change = Some change })
 
 -- A FRESH CHANGE IS SAID AGAIN, with the same reply
 abbrev pub FreshChangesAreSaid : {D : Type 0} → (D → Moment) → Type 0
-FreshChangesAreSaid {D} moment = (start : Start D) (events : List Event) (text : List ℕ) (tree : Term) (place other : ℕ) (change : Change)
+FreshChangesAreSaid {D} moment = (style : Style) (start : Start D) (events : List Event) (text : List ℕ) (tree : Term) (place other : ℕ) (change : Change)
     → AreLeftSince start events place other change → IsNamedAt moment start events place → IsNamedAt moment start events other
-    → IsSaidAgain moment start events text tree place other change × IsRepliedAgain moment start events text tree place other change
+    → IsSaidAgain moment start events text tree place other change style × IsRepliedAgain moment start events text tree place other change style

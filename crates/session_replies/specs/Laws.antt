@@ -8,6 +8,7 @@ use Rattle.logical_plan.specs.declared.parts.Leaf.{Leaf}
 use Rattle.plan_changes.specs.Databases.{Database}
 use Rattle.event_core.specs.declared.entry.Entry.TheVariants.{Pin}
 use Rattle.result_print.specs.declared.refusal.Refusal.{Refusal}
+use Rattle.statement_replies.specs.declared.style.Style.{Style}
 use Rattle.store_ledger.specs.declared.pinned.Pinned.{Pinned}
 use Rattle.store_ledger.specs.Ledger.{IsOpenPin}
 use Rattle.store_state.specs.declared.event.Event.{Event}
@@ -40,7 +41,7 @@ PinsChangeNothing D = (start : Start D) (session place : ℕ) (events : List Eve
 
 -- WHAT A REPLY TELLS STAYS, whatever comes later: its session's own events, and others'
 abbrev pub RepliesStay : {D : Type 0} → (D → Moment) → Type 0
-RepliesStay {D} moment = (start : Start D) (session pin : ℕ) (old more own later : List Event) (text : List ℕ) (tree : Term) (reply : Reply)
+RepliesStay {D} moment = (style : Style) (start : Start D) (session pin : ℕ) (old more own later : List Event) (text : List ℕ) (tree : Term) (reply : Reply)
     (refusal : Option Refusal) (course : Course) → IsTrue (list_all is_sealed old) → reply.place ≤ length (entries_in old)
-    → IsToldFor moment start session pin old own text tree reply refusal course
-    → IsToldFor moment start session pin (old ++ more) (own ++ later) text tree reply refusal course
+    → IsToldFor moment start session pin old own text tree reply style refusal course
+    → IsToldFor moment start session pin (old ++ more) (own ++ later) text tree reply style refusal course

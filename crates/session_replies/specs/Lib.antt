@@ -1,3 +1,4 @@
+pub use Rattle.statement_replies.specs.declared.style.Style
 pub mod Acts
 pub mod Fresh
 pub mod Laws

@@ -26,6 +26,7 @@ use Rattle.result_print.specs.Lines.{line_of_refusal}
 use Rattle.statement_replies.specs.declared.replies.Reply.{Reply as Told}
 use Rattle.statement_replies.specs.Statements.{Accepted, reply_to}
 use Rattle.statement_replies.specs.StatementKinds.{HasStatementKind}
+use Rattle.statement_replies.specs.declared.style.Style.{Style}
 use Rattle.store_ledger.specs.declared.note.NoteKind.TheVariants.{Fault}
 use Rattle.store_ledger.specs.Ledger.{has_room}
 use Rattle.store_state.specs.declared.event.Event.{Event}
@@ -49,19 +50,19 @@ names_before start events place = names_at start.base (history_at (told start ev
 abbrev pub words_of : Reply → Told
 words_of reply = record { text = reply.text; refusal = reply.refusal }
 
--- THIS IS WHAT THE STATEMENT SAYS AT A PLACE: what the names there alone tell, and, where the file began as a database, what its meaning is
--- in the database after the commits before the place
-pub record Says {D : Type 0} (moment : D → Moment) (start : Start D) (events : List Event) (text : List ℕ) (tree : Term) (place : ℕ)
-    (answer : Accepted) : Type 0 where
-  pub kind : HasStatementKind (names_before start events place) (check_of tree text (names_before start events place)) answer
-  pub told : (db : Database) → BeganAs (moment start.opened.disk).state db → reply_to (database_with db (told start events) place) text tree ≡ answer
+-- THIS IS WHAT THE STATEMENT SAYS AT A PLACE, in a style of replies: what the names there alone tell, and, where the file began as a
+-- database, what its meaning is in the database after the commits before the place
+pub record Says {D : Type 0} (style : Style) (moment : D → Moment) (start : Start D) (events : List Event) (text : List ℕ) (tree : Term)
+    (place : ℕ) (answer : Accepted) : Type 0 where
+  pub kind : HasStatementKind style (names_before start events place) (check_of tree text (names_before start events place)) answer
+  pub told : (db : Database) → BeganAs (moment start.opened.disk).state db → reply_to style (database_with db (told start events) place) text tree ≡ answer
 
 -- it is this change at a place, and one that is accepted
-pub record SaysChange {D : Type 0} (moment : D → Moment) (start : Start D) (events : List Event) (text : List ℕ) (tree : Term) (place : ℕ)
-    (change : Change) : Type 0 where
+pub record SaysChange {D : Type 0} (style : Style) (moment : D → Moment) (start : Start D) (events : List Event) (text : List ℕ) (tree : Term)
+    (place : ℕ) (change : Change) : Type 0 where
   pub typed : check_of tree text (names_before start events place) ≡ Ok (AChange change)
   pub told : (db : Database) → BeganAs (moment start.opened.disk).state db
-      → (reply_to (database_with db (told start events) place) text tree).change ≡ Some change
+      → (reply_to style (database_with db (told start events) place) text tree).change ≡ Some change
 
 -- by the names at a place it is a change
 abbrev pub IsChangeAt : {D : Type 0} → Start D → List Event → List ℕ → Term → ℕ → Type 0
@@ -134,31 +135,33 @@ module _ {D : Type 0} (moment : D → Moment) (start : Start D) (session pin : �
   abbrev pub HoldsBeforeCommit : Change → Type 0
   HoldsBeforeCommit change = (used : Used) × EnteredAt pin (Commit session change used) reply.place new
 
-  -- at its place the statement has this reply, and is no change that is accepted
-  abbrev pub SaysReply : Type 0
-  SaysReply = Says moment start new text tree reply.place (record { reply = words_of reply; change = None })
+  module _ (style : Style) where
+    -- at its place the statement has this reply, and is no change that is accepted
+    abbrev pub SaysReply : Type 0
+    SaysReply = Says style moment start new text tree reply.place (record { reply = words_of reply; change = None })
 
-  -- at its place the statement was this change, and this was why it was not committed
-  abbrev pub WasUncommitted : Change → CommitFault → Type 0
-  WasUncommitted change fault = SaysChange moment start new text tree reply.place change
-      × ((then : List Event) × WasAt reply.place then new × IsUncommitted moment session change (told start then) fault)
+    -- at its place the statement was this change, and this was why it was not committed
+    abbrev pub WasUncommitted : Change → CommitFault → Type 0
+    WasUncommitted change fault = SaysChange style moment start new text tree reply.place change
+        × ((then : List Event) × WasAt reply.place then new × IsUncommitted moment session change (told start then) fault)
 
-  -- THE REPLY TO A TREE, BY ITS REFUSAL AND BY WHAT THE STATEMENT DID
-  abbrev pub IsToldFor : Option Refusal → Course → Type 0
-  IsToldFor None looking = HoldsBehindPin × SaysReply
-  IsToldFor None (making change) = HoldsBeforeCommit change
-      × Says moment start new text tree reply.place (record { reply = words_of reply; change = Some change })
-      × HadRoomFor moment start new reply.place change
-  IsToldFor (Some (Typing span kind)) looking = HoldsWhereRefused × SaysReply
-  IsToldFor (Some (Cell at kind)) looking = HoldsWhereRefused × SaysReply
-  IsToldFor (Some HistoryFull) nothing = (then : List Event) × WasAt reply.place then new × (has_room (ledger_of start then) 4 ≡ false)
-  IsToldFor (Some Disk) looking = HoldsWhereRefused × HasFault session own × IsAllowedAt start new text tree reply.place
-  IsToldFor (Some Disk) (trying change) = HoldsSincePin × HasFault session own × WasUncommitted change (faults.Disk reply.place)
-  IsToldFor (Some (Damaged page)) looking = HoldsWhereRefused × IsDamagedPage moment start new reply.place page × BeganAsNone moment start
-      × IsAllowedAt start new text tree reply.place
-  IsToldFor (Some SequenceEnd) (trying change) = HoldsSincePin × WasUncommitted change (faults.SequenceEnd reply.place)
-  IsToldFor (Some (Full needed free)) (trying change) = HoldsSincePin × WasUncommitted change (faults.Full needed free reply.place)
-  IsToldFor (Some Memory) nothing = Unit {0}
-  IsToldFor (Some Memory) looking = Unit {0}
-  IsToldFor (Some Memory) (trying change) = (place : ℕ) × (pin < place) × (place ≤ length (entries_in new)) × SaysChange moment start new text tree place change
-  IsToldFor _ _ = ⊥
+    -- THE REPLY TO A TREE, BY ITS REFUSAL AND BY WHAT THE STATEMENT DID
+    abbrev pub IsToldFor : Option Refusal → Course → Type 0
+    IsToldFor None looking = HoldsBehindPin × SaysReply
+    IsToldFor None (making change) = HoldsBeforeCommit change
+        × Says style moment start new text tree reply.place (record { reply = words_of reply; change = Some change })
+        × HadRoomFor moment start new reply.place change
+    IsToldFor (Some (Typing span kind)) looking = HoldsWhereRefused × SaysReply
+    IsToldFor (Some (Cell at kind)) looking = HoldsWhereRefused × SaysReply
+    IsToldFor (Some HistoryFull) nothing = (then : List Event) × WasAt reply.place then new × (has_room (ledger_of start then) 4 ≡ false)
+    IsToldFor (Some Disk) looking = HoldsWhereRefused × HasFault session own × IsAllowedAt start new text tree reply.place
+    IsToldFor (Some Disk) (trying change) = HoldsSincePin × HasFault session own × WasUncommitted change (faults.Disk reply.place)
+    IsToldFor (Some (Damaged page)) looking = HoldsWhereRefused × IsDamagedPage moment start new reply.place page × BeganAsNone moment start
+        × IsAllowedAt start new text tree reply.place
+    IsToldFor (Some SequenceEnd) (trying change) = HoldsSincePin × WasUncommitted change (faults.SequenceEnd reply.place)
+    IsToldFor (Some (Full needed free)) (trying change) = HoldsSincePin × WasUncommitted change (faults.Full needed free reply.place)
+    IsToldFor (Some Memory) nothing = Unit {0}
+    IsToldFor (Some Memory) looking = Unit {0}
+    IsToldFor (Some Memory) (trying change) = (place : ℕ) × (pin < place) × (place ≤ length (entries_in new))
+        × SaysChange style moment start new text tree place change
+    IsToldFor _ _ = ⊥

@@ -8,6 +8,7 @@ use Rattle.plan_changes.specs.declared.change.Change.TheVariants.{Remove}
 use Rattle.result_print.specs.declared.refusal.Refusal.{Refusal}
 use Rattle.result_print.specs.declared.refusal.Refusal.TheVariants.{Typing, Damaged}
 use Rattle.result_print.specs.Lines.{line_of_refusal}
+use Rattle.statement_replies.specs.declared.style.Style.{Style}
 use Rattle.store_state.specs.declared.event.Event.{Event}
 use Rattle.told_stores.specs.Worked.{worked_others, worked_own, worked_seen, worked_start}
 use Rattle.session_replies.specs.Acts.{looking, making}
@@ -42,13 +43,13 @@ all_events = worked_seen ++ worked_others
 abbrev pub no_such_array : Refusal
 no_such_array = Typing array_name UnknownArray
 
--- each fact computes
-pub record AreWorked : Type 0 where
+-- each fact computes, in every style
+pub record AreWorked (style : Style) : Type 0 where
   -- session 1 is told that A is removed, at the place of its commit: there was a next sequence number, and there were pages
-  pub removed : IsToldFor unknown_moment worked_start 1 1 all_events [] [] removal made None (making (Remove (codes "A")))
+  pub removed : IsToldFor unknown_moment worked_start 1 1 all_events [] [] removal made style None (making (Remove (codes "A")))
   -- session 0 is told in the turn of its commit that there is no A any more: right behind its pin the statement was a change
-  pub refused : IsToldFor unknown_moment worked_start 0 0 all_events [] [] removal (refusal_told no_such_array 4) (Some no_such_array) looking
+  pub refused : IsToldFor unknown_moment worked_start 0 0 all_events [] [] removal (refusal_told no_such_array 4) style (Some no_such_array) looking
   -- that page 4 is damaged it is told right behind its pin
-  pub damaged : IsToldFor unknown_moment worked_start 0 0 worked_seen worked_own [] removal (refusal_told (Damaged 4) 1) (Some (Damaged 4)) looking
+  pub damaged : IsToldFor unknown_moment worked_start 0 0 worked_seen worked_own [] removal (refusal_told (Damaged 4) 1) style (Some (Damaged 4)) looking
   -- where three entries are the limit nobody pins
   pub full : HadNoRoom (record worked_start { limit = 3 }) [] [] 0

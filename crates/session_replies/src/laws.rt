@@ -3,6 +3,7 @@ ghost use Rattle.session_replies.specs.Fresh.{FreshChangesAreSaid};
 ghost use Rattle.session_replies.specs.Laws.{ActsJoin, OpenPinsAreEntered, PinsChangeNothing, RepliesStay};
 ghost use Rattle.session_replies.specs.Worked.{IsWorked};
 ghost use Rattle.session_replies.specs.WorkedReplies.{AreWorked};
+ghost use Rattle.statement_replies.specs.declared.style.Style.{Style};
 
 use afl_outside::Disk;
 
@@ -28,8 +29,8 @@ pub fn a_damaged_page_is_told()
     ensures { IsWorked }
 {}
 
-/// What two sessions are told of the removal of one array: that it was made, that there is no array any more, that a page is damaged, and that
+/// What two sessions are told, in every style, of the removal of one array: that it was made, that there is no array any more, that a page is damaged, and that
 /// the history is full.
 pub fn some_replies_are_told()
-    ensures { AreWorked }
+    ensures { (style : Style) → AreWorked style }
 {}

@@ -1,5 +1,5 @@
 -- Desks that are set up one by one, and emptied one by one.
-use Rattle.std.proofs.Common.{◌≡◌, ◌∙◌, ℕ, ◌+◌, ◌<◌, true, not, List, [], ◌∷◌, ◌++◌, length, take, drop, get_or, slice_get, Option, Some, refl, ap, sym, subst, arith, All}
+use Rattle.std.proofs.Common.{◌≡◌, ◌∙◌, ℕ, ◌+◌, ◌<◌, true, not, List, [], ◌∷◌, ◌++◌, length, take, drop, get_or, slice_get, Option, Some, refl, ap, sym, subst, arith, length-drop, All}
 use Rattle.std.specs.Prelude.{IsTrue}
 use Rattle.std.proofs.lemmas.List.{take_at}
 use Rattle.std.proofs.lemmas.List.Elements.{All-push}
@@ -21,10 +21,15 @@ use Rattle.snapshot_manager.specs.declared.seat.Seat.{Seat}
 use Rattle.snapshot_manager.specs.declared.shared.Shared.{Shared}
 use Rattle.session_reports.specs.declared.reports.SessionReport.{SessionReport}
 use Rattle.session_reports.specs.declared.reports.Streams.{Streams}
+use Rattle.afl_session.specs.Style.{Style}
 use Rattle.session_threads.specs.Sessions.{AreOfSessions, AreSessionsOf, IsSessionOf}
 use Rattle.session_threads.specs.Inner.Desks.{AllWorked, AreDone, AreEmptied, AreReady, AreSeated, HasEnded, HasServed, HasWorked, IsDone, IsReady, IsReaper, IsSeated, IsWaiting}
 use Rattle.session_threads.specs.declared.desk.Desk.{Desk}
 use Rattle.session_threads.specs.declared.desk.Desk.TheVariants.{Waiting, Working, Done}
+
+-- what is left behind a place of a list has a first item
+pub is_left : {A : Type 0} (all rest : List A) (n : ℕ) → rest ≡ drop n all → n < length all → 0 < length rest
+is_left all rest n e near = let k : length rest ≡ length (drop n all) = ap length e in omega (arith, k, length-drop n all, near)
 
 module _ {D : Type 0} (shared : Shared D) where
   pub new_at : (seats : List (Seat D)) (n : ℕ) (seat : Seat D) → AreNewSeats shared seats → slice_get seats n ≡ Some seat → IsNewSeat shared n seat
@@ -105,49 +110,49 @@ module _ {D S K : Type 0} (shared : Shared D) where
       All (λ desk. IsWaiting shared desk) desks
   all_waiting all desks begun are k desk near = waiting_one all k (get_or desks k desk) begun (are k desk near)
 
-module _ {D S K : Type 0} (moment : D → Moment) (source_of : S → SourceState) (sink_of : K → SinkState) (shared : Shared D) where
-  done_one : (k : ℕ) (given : Option (Streams S K)) (old new : Desk D S K) → IsReady shared k given old → HasWorked moment source_of sink_of shared old new →
-      IsDone moment source_of sink_of shared k given new
+module _ {D S K : Type 0} (style : Style) (moment : D → Moment) (source_of : S → SourceState) (sink_of : K → SinkState) (shared : Shared D) where
+  done_one : (k : ℕ) (given : Option (Streams S K)) (old new : Desk D S K) → IsReady shared k given old → HasWorked style moment source_of sink_of shared old new →
+      IsDone style moment source_of sink_of shared k given new
   done_one k given (Waiting seat own) (Done after report) ready worked =
-      (own, ready.0, subst (λ j. HasServed moment source_of sink_of shared j own after report) ready.1.session_is worked)
+      (own, ready.0, subst (λ j. HasServed style moment source_of sink_of shared j own after report) ready.1.session_is worked)
   done_one k given (Waiting seat own) (Waiting after other) ready worked = absurd worked
   done_one k given (Waiting seat own) Working ready worked = absurd worked
   done_one k given Working new ready worked = absurd ready
   done_one k given (Done seat report) new ready worked = absurd ready
 
-  pub all_done : (all : List (Streams S K)) (old new : List (Desk D S K)) → AreReady shared all old → AllWorked moment source_of sink_of shared old new →
-      length new ≡ length old → AreDone moment source_of sink_of shared all new
+  pub all_done : (all : List (Streams S K)) (old new : List (Desk D S K)) → AreReady shared all old → AllWorked style moment source_of sink_of shared old new →
+      length new ≡ length old → AreDone style moment source_of sink_of shared all new
   all_done all old new are worked len k desk near =
       let low : k < length old = omega arith in
       done_one k (slice_get all k) (get_or old k desk) (get_or new k desk) (are k desk low) (worked k desk low)
 
   -- what for_each_mut did to a vector, whose items it was lent
   pub all_worked : (old was new : List (Desk D S K)) (count : ℕ) → was ≡ old → length new ≡ length was → count ≡ length old →
-      ((k : ℕ) (desk : Desk D S K) → k < length was → HasWorked moment source_of sink_of shared (get_or was k desk) (get_or new k desk)) →
-      AllWorked moment source_of sink_of shared old (take count (new ++ drop (length new) old))
+      ((k : ℕ) (desk : Desk D S K) → k < length was → HasWorked style moment source_of sink_of shared (get_or was k desk) (get_or new k desk)) →
+      AllWorked style moment source_of sink_of shared old (take count (new ++ drop (length new) old))
   all_worked old was new count same len full each =
       let whole : count ≡ length new = full ∙ ap length (sym same) ∙ sym len in
       let left : take count (new ++ drop (length new) old) ≡ new =
       ap (λ n. take n (new ++ drop (length new) old)) whole ∙ take_at new (drop (length new) old) (length new) refl in
-      subst (λ l. AllWorked moment source_of sink_of shared old l) (sym left)
-      (subst (λ l. AllWorked moment source_of sink_of shared l new) same each)
+      subst (λ l. AllWorked style moment source_of sink_of shared old l) (sym left)
+      (subst (λ l. AllWorked style moment source_of sink_of shared l new) same each)
 
-  pub done_at : (all : List (Streams S K)) (desks : List (Desk D S K)) (n : ℕ) (desk : Desk D S K) → AreDone moment source_of sink_of shared all desks →
-      slice_get desks n ≡ Some desk → IsDone moment source_of sink_of shared n (slice_get all n) desk
+  pub done_at : (all : List (Streams S K)) (desks : List (Desk D S K)) (n : ℕ) (desk : Desk D S K) → AreDone style moment source_of sink_of shared all desks →
+      slice_get desks n ≡ Some desk → IsDone style moment source_of sink_of shared n (slice_get all n) desk
   done_at all desks n desk are e =
-      subst (IsDone moment source_of sink_of shared n (slice_get all n)) (get_or_from_slice_get desks n desk desk e) (are n desk (slice_get_within desks n desk e))
+      subst (IsDone style moment source_of sink_of shared n (slice_get all n)) (get_or_from_slice_get desks n desk desk e) (are n desk (slice_get_within desks n desk e))
 
-  ended_one : (k : ℕ) (given : Option (Streams S K)) (desk : Desk D S K) → IsDone moment source_of sink_of shared k given desk → HasEnded desk
+  ended_one : (k : ℕ) (given : Option (Streams S K)) (desk : Desk D S K) → IsDone style moment source_of sink_of shared k given desk → HasEnded desk
   ended_one k given (Waiting seat own) done = done
   ended_one k given Working done = done
   ended_one k given (Done seat report) done = tt
 
-  pub all_ended : (all : List (Streams S K)) (desks : List (Desk D S K)) → AreDone moment source_of sink_of shared all desks → All (λ desk. HasEnded desk) desks
+  pub all_ended : (all : List (Streams S K)) (desks : List (Desk D S K)) → AreDone style moment source_of sink_of shared all desks → All (λ desk. HasEnded desk) desks
   all_ended all desks are k desk near = ended_one k (slice_get all k) (get_or desks k desk) (are k desk near)
 
   session_one : (k : ℕ) (own : Streams S K) (seat : Seat D) (report : SessionReport S K) (events : List Event) →
-      HasServed moment source_of sink_of shared k own seat report → ExtendsByOthers owner_of (session_of seat) (seen seat) events →
-      IsSessionOf moment source_of sink_of (start moment shared) k own report events
+      HasServed style moment source_of sink_of shared k own seat report → ExtendsByOthers owner_of (session_of seat) (seen seat) events →
+      IsSessionOf style moment source_of sink_of (start moment shared) k own report events
   session_one k own seat report events served extend = record {
     seen = seen seat;
     sealed = served.of_store.sealed;
@@ -157,10 +162,10 @@ module _ {D S K : Type 0} (moment : D → Moment) (source_of : S → SourceState
 
   -- the seats of desks that are done
   pub seats_idle : (all : List (Streams S K)) (desks : List (Desk D S K)) (seats : List (Seat D)) (reports : List (SessionReport S K)) →
-      AreDone moment source_of sink_of shared all desks → AreEmptied desks seats reports → AreIdleSeats shared seats
+      AreDone style moment source_of sink_of shared all desks → AreEmptied desks seats reports → AreIdleSeats shared seats
   seats_idle all desks seats reports are emptied k seat near =
       let at = emptied.of_seats k seat near in
-      let done : IsDone moment source_of sink_of shared k (slice_get all k) (Done (get_or seats k seat) at.0) =
+      let done : IsDone style moment source_of sink_of shared k (slice_get all k) (Done (get_or seats k seat) at.0) =
       done_at all desks k (Done (get_or seats k seat) at.0) are at.1 in (done.2.of_store, done.2.idle)
 
   same_seat : (place : Option (Desk D S K)) (seat seat' : Seat D) (report report' : SessionReport S K) → place ≡ Some (Done seat report) →
@@ -169,8 +174,8 @@ module _ {D S K : Type 0} (moment : D → Moment) (source_of : S → SourceState
 
   -- and what their sessions did
   pub all_served : (all : List (Streams S K)) (desks : List (Desk D S K)) (seats : List (Seat D)) (reports : List (SessionReport S K)) (events : List Event) →
-      AreDone moment source_of sink_of shared all desks → AreEmptied desks seats reports → length seats ≡ length all → length reports ≡ length all →
-      ExtendEach seats events → AreSessionsOf moment source_of sink_of (start moment shared) all reports events
+      AreDone style moment source_of sink_of shared all desks → AreEmptied desks seats reports → length seats ≡ length all → length reports ≡ length all →
+      ExtendEach seats events → AreSessionsOf style moment source_of sink_of (start moment shared) all reports events
   all_served all desks seats reports events are emptied seat_count report_count extend k own report near =
       let low : k < length reports = omega arith in
       let seated : k < length seats = omega arith in
@@ -179,9 +184,9 @@ module _ {D S K : Type 0} (moment : D → Moment) (source_of : S → SourceState
       let same : get_or seats k at.0 ≡ at.0 = same_seat (slice_get desks k) at.0 (get_or seats k at.0) (get_or reports k report) there.0 at.1 there.1 in
       let later : ExtendsByOthers owner_of (session_of at.0) (seen at.0) events =
       subst (λ s. ExtendsByOthers owner_of (session_of s) (seen s) events) same (extend k at.0 seated) in
-      let done : IsDone moment source_of sink_of shared k (slice_get all k) (Done at.0 (get_or reports k report)) =
+      let done : IsDone style moment source_of sink_of shared k (slice_get all k) (Done at.0 (get_or reports k report)) =
       done_at all desks k (Done at.0 (get_or reports k report)) are at.1 in
-      subst (λ o. IsSessionOf moment source_of sink_of (start moment shared) k o (get_or reports k report) events)
+      subst (λ o. IsSessionOf style moment source_of sink_of (start moment shared) k o (get_or reports k report) events)
       (sym (get_or_from_slice_get all k done.0 own done.1)) (session_one k done.0 at.0 (get_or reports k report) events done.2 later)
 
 module _ {D : Type 0} (shared : Shared D) where

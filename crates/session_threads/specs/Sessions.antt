@@ -12,16 +12,17 @@ use Rattle.snapshot_manager.specs.Told.{is_sealed}
 use Rattle.session_reports.specs.declared.reports.SessionReport.{SessionReport}
 use Rattle.afl_session.specs.Marked.{IsMarked}
 use Rattle.afl_session.specs.Session.{Serves}
+use Rattle.afl_session.specs.Style.{Style}
 use Rattle.session_reports.specs.declared.reports.Streams.{Streams}
 
-module _ {D S K : Type 0} (moment : D → Moment) (source_of : S → SourceState) (sink_of : K → SinkState) (origin : Start D) where
+module _ {D S K : Type 0} (style : Style) (moment : D → Moment) (source_of : S → SourceState) (sink_of : K → SinkState) (origin : Start D) where
   -- A SESSION OVER ONE HISTORY: what it had seen at its end is a beginning of the history, in which each commit was acknowledged; none of
   -- what came behind is its own; and up to there it served its streams
   pub record IsSessionOf (session : ℕ) (streams : Streams S K) (report : SessionReport S K) (events : List Event) : Type 0 where
     pub seen : List Event
     pub sealed : IsTrue (list_all is_sealed seen)
     pub later : ExtendsByOthers owner_of session seen events
-    pub serves : Serves (IsMarked moment origin session) [] 0 seen (source_of streams.source) (source_of report.source)
+    pub serves : Serves (IsMarked style moment origin session) [] 0 seen (source_of streams.source) (source_of report.source)
         (sink_of streams.sink) (sink_of report.sink) report.marks report.end
 
   -- each of these streams was served by the session of its place, whose report has the same place

@@ -39,7 +39,7 @@ impl<D: Disk + Drop, S: Source + Drop, K: Sink + Drop> Desk<D, S, K> {
     )
         requires waiting { IsWaiting shared.now self.old }
         requires workers { (1 ≤ options.now.workers) × (options.now.workers ≤ 64) }
-        ensures { HasWorked D.moment S.state K.state shared.now self.old self.new }
+        ensures { HasWorked options.now.style D.moment S.state K.state shared.now self.old self.new }
     {
         match replace(self, Desk::Working) {
             Desk::Waiting { seat, streams } => {
@@ -90,13 +90,13 @@ pub(crate) fn work_all<
 ) -> Vec<Desk<D, S, K>>
     requires desks { All (λ desk. IsWaiting shared.now desk) desks.items }
     requires workers { (1 ≤ options.now.workers) × (options.now.workers ≤ 64) }
-    ensures desks { AllWorked D.moment S.state K.state shared.now desks.items result.items }
+    ensures desks { AllWorked options.now.style D.moment S.state K.state shared.now desks.items result.items }
     ensures count { vec_len result ≡ vec_len desks }
 {
     let threads = desks.len().max(1);
     let each = |_: usize, desk: &mut Desk<D, S, K>|
         requires { IsWaiting shared.now desk.now × (1 ≤ options.now.workers) × (options.now.workers ≤ 64) }
-        ensures { HasWorked D.moment S.state K.state shared.entry.now desk.entry.now desk.exit.now }
+        ensures { HasWorked options.entry.now.style D.moment S.state K.state shared.entry.now desk.entry.now desk.exit.now }
     { desk.work(rt, alloc, shared, options, gate) };
     thread::for_each_mut(rt, desks.as_mut_slice(), threads, &each);
     desks

@@ -6,6 +6,6 @@ mod reaper;
 mod room;
 mod run;
 
-pub use afl_session::Options;
+pub use afl_session::{Options, Style};
 pub use run::run_sessions;
 pub use session_reports::Streams;

@@ -67,7 +67,7 @@ pub(crate) fn work_beside<
     requires desks { All (λ desk. IsWaiting shared.now desk) desks.items }
     requires own { IsReaper shared.now (session_of own) own }
     requires workers { (1 ≤ options.now.workers) × (options.now.workers ≤ 64) }
-    ensures desks { AllWorked D.moment S.state K.state shared.now desks.items result.0.items }
+    ensures desks { AllWorked options.now.style D.moment S.state K.state shared.now desks.items result.0.items }
     ensures count { vec_len result.0 ≡ vec_len desks }
     ensures own { IsReaper shared.now (session_of own) result.1 }
 {
@@ -77,7 +77,7 @@ pub(crate) fn work_beside<
         move |scope| -> (Vec<Desk<D, S, K>>, Seat<D>)
             requires { All (λ desk. IsWaiting shared.now desk) desks.items × IsReaper shared.now (session_of own) own
                 × (1 ≤ options.now.workers) × (options.now.workers ≤ 64) }
-            ensures desks { AllWorked D.moment S.state K.state shared.entry.now desks.items result.0.items }
+            ensures desks { AllWorked options.entry.now.style D.moment S.state K.state shared.entry.now desks.items result.0.items }
             ensures count { vec_len result.0 ≡ vec_len desks }
             ensures own { IsReaper shared.entry.now (session_of own) result.1 }
         {

@@ -5,6 +5,7 @@ ghost use Rattle.store_state.specs.At.{standing};
 ghost use Rattle.store_state.specs.Events.{events};
 ghost use Rattle.snapshot_manager.specs.Starts.{start_of};
 ghost use Rattle.snapshot_manager.specs.Seats.{seats_in_all, start, AreIdleSeats, AreNewSeats, ExtendEach};
+ghost use Rattle.afl_session.specs.Style.{Style};
 ghost use Rattle.session_threads.specs.Sessions.{AreOfSessions, AreSessionsOf};
 ghost use Rattle.session_threads.specs.Inner.Desks.{AreDone, AreEmptied, AreSeated, HasEnded, IsReaper};
 ghost use Rattle.session_threads.specs.Inner.Rooms.{HasRoom};
@@ -45,7 +46,7 @@ pub fn run_sessions<
     requires workers { (1 ≤ options.now.workers) × (options.now.workers ≤ 64) }
     ensures start { IfOk result (λ run. start_of (standing D.moment run.0) ≡ start_of (standing D.moment store)) }
     ensures reports { IfOk result (λ run. length run.1 ≡ length streams) }
-    ensures each { IfOk result (λ run. AreSessionsOf D.moment S.state K.state (start_of (standing D.moment store)) streams run.1
+    ensures each { IfOk result (λ run. AreSessionsOf options.now.style D.moment S.state K.state (start_of (standing D.moment store)) streams run.1
         (events (standing D.moment run.0))) }
     ensures others { IfOk result (λ run. AreOfSessions (length streams) (events (standing D.moment run.0))) }
     ensures err { IfErr result (λ failed. (failed.1 ≡ store) × (failed.2 ≡ streams)) }
@@ -82,7 +83,7 @@ fn run_shared<
     requires room { HasRoom (length streams) room }
     ensures start { start_of (standing D.moment result.0) ≡ start D.moment shared }
     ensures reports { length result.1 ≡ length streams }
-    ensures each { AreSessionsOf D.moment S.state K.state (start D.moment shared) streams result.1 (events (standing D.moment result.0)) }
+    ensures each { AreSessionsOf options.now.style D.moment S.state K.state (start D.moment shared) streams result.1 (events (standing D.moment result.0)) }
     ensures others { AreOfSessions (length streams) (events (standing D.moment result.0)) }
 {
     let Room {
@@ -117,7 +118,7 @@ fn worked<
     requires workers { (1 ≤ options.now.workers) × (options.now.workers ≤ 64) }
     requires room { (room.items ≡ []) × (length streams ≤ vec_capacity room) }
     ensures count { vec_len result.0 ≡ length streams }
-    ensures desks { AreDone D.moment S.state K.state shared.now streams result.0.items }
+    ensures desks { AreDone options.now.style D.moment S.state K.state shared.now streams result.0.items }
     ensures own { IsReaper shared.now (length streams) result.1 }
 {
     let (desks, own) = seated(seats, streams, room);
@@ -161,13 +162,14 @@ fn gathered<D: Disk + Drop, S: Source + Drop, K: Sink + Drop>(
 ) -> (Store<D>, List<SessionReport<S, K>>)
     requires count { seats_in_all shared ≡ length desks + 1 }
     requires own { IsReaper shared (length desks) own }
-    requires desks { (streams : List (Streams S K)) × AreDone D.moment S.state K.state shared streams desks }
+    requires desks { (style : Style) × (streams : List (Streams S K)) × AreDone style D.moment S.state K.state shared streams desks }
     requires seats { (seats.items ≡ []) × (length desks + 1 ≤ vec_capacity seats) }
     requires reports { (reports.items ≡ []) × (length desks ≤ vec_capacity reports) }
     ensures start { start_of (standing D.moment result.0) ≡ start D.moment shared }
     ensures count { length result.1 ≡ length desks }
-    ensures each { (streams : List (Streams S K)) → length streams ≡ length desks → AreDone D.moment S.state K.state shared streams desks
-        → AreSessionsOf D.moment S.state K.state (start D.moment shared) streams result.1 (events (standing D.moment result.0)) }
+    ensures each { (style : Style) (streams : List (Streams S K)) → length streams ≡ length desks
+        → AreDone style D.moment S.state K.state shared streams desks
+        → AreSessionsOf style D.moment S.state K.state (start D.moment shared) streams result.1 (events (standing D.moment result.0)) }
     ensures others { AreOfSessions (length desks) (events (standing D.moment result.0)) }
 {
     let (seats, reports) = emptied(desks, seats, reports);

@@ -16,13 +16,14 @@ use Rattle.event_core.specs.declared.entry.Entry.{Entry}
 use Rattle.event_core.specs.declared.entry.Entry.TheVariants.{Commit, Reap}
 use Rattle.result_print.specs.declared.refusal.Refusal.{Refusal}
 use Rattle.result_print.specs.declared.refusal.Refusal.TheVariants.{Disk, Damaged, SequenceEnd, Full, Memory}
-use Rattle.statement_answers.specs.declared.outcome.Outcome.{Outcome}
-use Rattle.statement_answers.specs.declared.outcome.Outcome.TheVariants.{Replied, Changes}
-use Rattle.statement_answers.specs.Forms.{a_change, form_said}
-use Rattle.statement_answers.specs.Outcomes.{IsAllowed, MayFail}
-use Rattle.statement_answers.proofs.Saying.{changes_refused}
+use Rattle.session_outcomes.specs.Outcome.{Outcome}
+use Rattle.session_outcomes.specs.Outcome.TheVariants.{Replied, Changes}
+use Rattle.session_outcomes.specs.Forms.{a_change, form_said}
+use Rattle.session_outcomes.specs.Outcomes.{IsAllowed, MayFail}
+use Rattle.session_outcomes.proofs.Saying.{changes_refused}
 use Rattle.statement_replies.specs.declared.replies.Reply.{Reply as Told}
 use Rattle.statement_replies.specs.Reply.{refused}
+use Rattle.statement_replies.specs.declared.style.Style.{Style}
 use Rattle.session_outcomes.specs.Turn.{Turn}
 use Rattle.store_ledger.specs.declared.pinned.Pinned.{Pinned}
 use Rattle.store_ledger.specs.Ledger.{LedgerState, IsOpenPin, is_fault, is_noted}
@@ -72,7 +73,7 @@ get_behind : {A : Type 0} → (xs ys : List A) (x : A) → slice_get (xs ++ x �
 get_behind [] ys x = refl
 get_behind (y ∷ xs) ys x = get_behind xs ys x
 
-module _ {D : Type 0} (moment : D → Moment) (session : ℕ) (old new : Turn (StoreParts D)) (text : List ℕ) (tree : Term) (reply : Reply)
+module _ {D : Type 0} (style : Style) (moment : D → Moment) (session : ℕ) (old new : Turn (StoreParts D)) (text : List ℕ) (tree : Term) (reply : Reply)
     (keeps : KeepsTurn moment session old new)
     (has : HasDatabase moment (store_in moment old) (length (store_of old).ledger.entries) (names_now (store_of old).ledger))
     (told_now : IsTold (start_of (store_in moment new)) (events (store_in moment new)) (store_in moment new))
@@ -87,7 +88,7 @@ module _ {D : Type 0} (moment : D → Moment) (session : ℕ) (old new : Turn (S
   began = start_of s
 
   abbrev Answer : Type 0
-  Answer = IsAnsweredInTurn moment began session pin (events s) (events n) text tree reply
+  Answer = IsAnsweredInTurn style moment began session pin (events s) (events n) text tree reply
 
   after : IsTold began (events n) n
   after = subst (λ (start : Start D). IsTold start (events n) n) keeps.start told_now
@@ -120,12 +121,12 @@ module _ {D : Type 0} (moment : D → Moment) (session : ℕ) (old new : Turn (S
     no_fewer = let e : length n.ledger.entries ≡ length s.ledger.entries = ap (λ (x : Standing D). length x.ledger.entries) same in omega (arith, e)
 
     short_answer : Answer
-    short_answer = answered moment began session pin (events s) (events n) text tree reply keeps.extends (since_pin no_fewer at) (until_now no_fewer at)
+    short_answer = answered style moment began session pin (events s) (events n) text tree reply keeps.extends (since_pin no_fewer at) (until_now no_fewer at)
         looking [] (ap acts_in none_more) refl (Some Memory) w.1 w.0 (λ own fault. tt)
 
   -- ---- the store was read
 
-  module _ (outcome : Result Outcome ExecFault) (read : IsRead moment session old new text tree outcome) where
+  module _ (outcome : Result Outcome ExecFault) (read : IsRead style moment session old new text tree outcome) where
     same_entries : n.ledger.entries ≡ s.ledger.entries
     same_entries = ap (λ (x : Standing D). x.ledger.entries) read.held.same
 
@@ -176,9 +177,9 @@ module _ {D : Type 0} (moment : D → Moment) (session : ℕ) (old new : Turn (S
 
   -- it has a reply alone, which refuses it
   module _ (form : form_said tree ≡ a_change) (was : IsChangeAt began (events n) text tree (pin + 1))
-      (read : IsRead moment session old new text tree (Ok (Replied (words_of reply)))) (at : reply.place ≡ length n.ledger.entries) where
+      (read : IsRead style moment session old new text tree (Ok (Replied (words_of reply)))) (at : reply.place ≡ length n.ledger.entries) where
     refusal_told : (refusal : Refusal) × (words_of reply ≡ refused refusal)
-    refusal_told = changes_refused (names_now s.ledger) text tree (words_of reply) form read.comes.kind
+    refusal_told = changes_refused style (names_now s.ledger) text tree (words_of reply) form read.comes.kind
 
     before_told : pin < reply.place
     before_told = since_pin (few_more (Ok (Replied (words_of reply))) read) at
@@ -186,16 +187,16 @@ module _ {D : Type 0} (moment : D → Moment) (session : ℕ) (old new : Turn (S
     within_told : reply.place ≤ length (entries_in (events n))
     within_told = until_now (few_more (Ok (Replied (words_of reply))) read) at
 
-    said_now : IsSaid moment began (events n) text tree reply.place (Replied (words_of reply))
-    said_now = subst (λ (place : ℕ). IsSaid moment began (events n) text tree place (Replied (words_of reply)))
+    said_now : IsSaid moment began (events n) text tree reply.place style (Replied (words_of reply))
+    said_now = subst (λ (place : ℕ). IsSaid moment began (events n) text tree place style (Replied (words_of reply)))
         (sym (at_end (few_more (Ok (Replied (words_of reply))) read) at))
-        (said_there moment session old has (events n) false (read_history (Ok (Replied (words_of reply))) read) text tree (Replied (words_of reply)) read.comes)
+        (said_there moment session old has (events n) false (read_history (Ok (Replied (words_of reply))) read) style text tree (Replied (words_of reply)) read.comes)
 
     -- as if the pin had come right before it
-    looked : (own : List Event) → IsLookedReply moment began session (reply.place - 1) (events n) own text tree reply
+    looked : (own : List Event) → IsLookedReply moment began session (reply.place - 1) (events n) own text tree reply style
     looked own =
         let lt = before_told in
-        said_replies_are_told moment began session (reply.place - 1) (events n) own text tree reply (record {
+        said_replies_are_told moment style began session (reply.place - 1) (events n) own text tree reply (record {
           behind = omega (arith, lt);
           said = said_now;
         })
@@ -204,14 +205,14 @@ module _ {D : Type 0} (moment : D → Moment) (session : ℕ) (old new : Turn (S
     told_answer =
         let refusal : Refusal = refusal_told.0 in
         let is : reply.refusal ≡ Some refusal = ap (λ (words : Told). words.refusal) refusal_told.1 in
-        answered moment began session pin (events s) (events n) text tree reply keeps.extends before_told within_told
+        answered style moment began session pin (events s) (events n) text tree reply keeps.extends before_told within_told
         looking [] (read_acts (Ok (Replied (words_of reply))) read) refl (Some refusal) is
         (subst (λ (r : Option Refusal). HasLine reply r) is (looked []).line)
-        (λ own fault. earlier_pin moment began session pin (events s) (events n) text tree reply keeps.extends before_told within_told was (reply.place - 1) own refusal
-        (subst (λ (r : Option Refusal). IsToldFor moment began session (reply.place - 1) (events n) own text tree reply r looking) is (looked own).told))
+        (λ own fault. earlier_pin style moment began session pin (events s) (events n) text tree reply keeps.extends before_told within_told was (reply.place - 1) own refusal
+        (subst (λ (r : Option Refusal). IsToldFor moment began session (reply.place - 1) (events n) own text tree reply style r looking) is (looked own).told))
 
   -- its source gave no answer
-  module _ (was : IsChangeAt began (events n) text tree (pin + 1)) (fault : ExecFault) (read : IsRead moment session old new text tree (Err fault)) (at : reply.place ≡ length n.ledger.entries) where
+  module _ (was : IsChangeAt began (events n) text tree (pin + 1)) (fault : ExecFault) (read : IsRead style moment session old new text tree (Err fault)) (at : reply.place ≡ length n.ledger.entries) where
     before_unread : pin < reply.place
     before_unread = since_pin (few_more (Err fault) read) at
 
@@ -219,12 +220,12 @@ module _ {D : Type 0} (moment : D → Moment) (session : ℕ) (old new : Turn (S
     within_unread = until_now (few_more (Err fault) read) at
 
     refused_later : (own : List Event) → HoldsWhereRefused moment began session pin (events n) own text tree reply
-    refused_later own = later_refused moment began session pin (events s) (events n) text tree reply keeps.extends before_unread within_unread was own
+    refused_later own = later_refused style moment began session pin (events s) (events n) text tree reply keeps.extends before_unread within_unread was own
 
     refuses_unread : (refusal : Refusal) → (reply.text ≡ (refused refusal).text → HasLine reply (Some refusal)) → Refuses refusal reply →
-        Tells moment began session pin (events s) (events n) text tree reply keeps.extends before_unread within_unread (Some refusal) looking → Answer
+        Tells style moment began session pin (events s) (events n) text tree reply keeps.extends before_unread within_unread (Some refusal) looking → Answer
     refuses_unread refusal line r says =
-        refuses moment began session pin (events s) (events n) text tree reply keeps.extends before_unread within_unread
+        refuses style moment began session pin (events s) (events n) text tree reply keeps.extends before_unread within_unread
         looking [] (read_acts (Err fault) read) refl refusal line r says (λ own noted. tt)
 
     unread_by : (why : ExecFault) → IsWhy read.marks why → MayFail why (check_of tree text (names_now s.ledger)) → IsUnreadReply why reply → Answer
@@ -233,7 +234,7 @@ module _ {D : Type 0} (moment : D → Moment) (session : ℕ) (old new : Turn (S
     unread_by (Spoiled page) why may r = refuses_unread (Damaged page) (λ e. e) r
         (λ own noted. (refused_later own, page_told (Err fault) read page at why, none_began (Err fault) read page why, allowed_told (Err fault) read at may))
     unread_by Wanting why may w =
-        answered moment began session pin (events s) (events n) text tree reply keeps.extends before_unread within_unread
+        answered style moment began session pin (events s) (events n) text tree reply keeps.extends before_unread within_unread
         looking [] (read_acts (Err fault) read) refl (Some Memory) w.1 w.0 (λ own noted. tt)
 
     unread_answer : IsUnreadReply fault reply → Answer
@@ -242,7 +243,7 @@ module _ {D : Type 0} (moment : D → Moment) (session : ℕ) (old new : Turn (S
   -- ---- its change was tried
 
   module _ (between : Turn (StoreParts D)) (change : Change) (changed : Option Changed) (words : Told)
-      (read : IsRead moment session old between text tree (Ok (Changes change changed words))) where
+      (read : IsRead style moment session old between text tree (Ok (Changes change changed words))) where
     abbrev t : Standing D
     t = store_in moment between
 
@@ -292,8 +293,8 @@ module _ {D : Type 0} (moment : D → Moment) (session : ℕ) (old new : Turn (S
           entries_before session change t.ledger t.ledger n.ledger first a.faults commit a.comes read.held.adds.note a.fault (events s)
           ∙ ap (λ (es : List Entry). es ++ (if a.comes then Reap ∷ [] else [])) (entries_are s))
 
-      said_before : IsSaid moment began middle text tree (length (entries_in middle)) (Changes change changed words)
-      said_before = said_there moment session old has middle a.comes middle_history text tree (Changes change changed words) read.comes
+      said_before : IsSaid moment began middle text tree (length (entries_in middle)) style (Changes change changed words)
+      said_before = said_there moment session old has middle a.comes middle_history style text tree (Changes change changed words) read.comes
 
     -- it was made
     module _ (made : AddsSealed session change t n) (place : ℕ) (placed : place + 1 ≡ length n.ledger.entries)
@@ -334,13 +335,13 @@ module _ {D : Type 0} (moment : D → Moment) (session : ℕ) (old new : Turn (S
         later = let lt = since_made in omega (arith, lt);
       }
 
-      says_made : Says moment began (events n) text tree reply.place (record { reply = words_of reply; change = Some change })
+      says_made : Says style moment began (events n) text tree reply.place (record { reply = words_of reply; change = Some change })
       says_made =
-          subst (λ (w : Told). Says moment began (events n) text tree reply.place (record { reply = w; change = Some change })) (sym tells.0)
-          (subst (λ (k : ℕ). Says moment began (events n) text tree k (record { reply = words; change = Some change })) here
-          (subst (λ (es : List Event). Says moment began es text tree (length (entries_in front)) (record { reply = words; change = Some change }))
+          subst (λ (w : Told). Says style moment began (events n) text tree reply.place (record { reply = w; change = Some change })) (sym tells.0)
+          (subst (λ (k : ℕ). Says style moment began (events n) text tree k (record { reply = words; change = Some change })) here
+          (subst (λ (es : List Event). Says style moment began es text tree (length (entries_in front)) (record { reply = words; change = Some change }))
           (sym (whole (commit_event ∷ []) made.tried))
-          (says_later moment began front (commit_event ∷ made.tried.faults) text tree (length (entries_in front)) (omega arith) (record { reply = words; change = Some change })
+          (says_later moment began front (commit_event ∷ made.tried.faults) text tree (length (entries_in front)) (omega arith) style (record { reply = words; change = Some change })
           (said_before (commit_event ∷ []) made.tried).0)))
 
       room_made : HadRoomFor moment began (events n) reply.place change
@@ -351,7 +352,7 @@ module _ {D : Type 0} (moment : D → Moment) (session : ℕ) (old new : Turn (S
 
       made_answer : Answer
       made_answer =
-          answered moment began session pin (events s) (events n) text tree reply keeps.extends since_made until_made
+          answered style moment began session pin (events s) (events n) text tree reply keeps.extends since_made until_made
           (making change) (tries change ∷ makes change ∷ []) (tried_acts (commit_event ∷ []) made.tried) refl
           None (ap (λ (w : Told). w.refusal) tells.0 ∙ ap (λ (w : Told). w.refusal) read.comes.kind.2) tt
           (λ own noted. ((made.used, entered), says_made, room_made))
@@ -370,8 +371,8 @@ module _ {D : Type 0} (moment : D → Moment) (session : ℕ) (old new : Turn (S
           let e : length n.ledger.entries ≡ length (entries_in (middle [] left)) = ap (λ (es : List Entry). length es) (sym (entries_are n) ∙ entries_left) in
           omega (arith, more, e)
 
-      says_left : SaysChange moment began (events n) text tree (length (entries_in (events n))) change
-      says_left = (said_there moment session old has (events n) left.comes left_history text tree (Changes change changed words) read.comes).1
+      says_left : SaysChange style moment began (events n) text tree (length (entries_in (events n))) change
+      says_left = (said_there moment session old has (events n) left.comes left_history style text tree (Changes change changed words) read.comes).1
 
       module _ (at : reply.place ≡ length n.ledger.entries) where
         since_left : pin < reply.place
@@ -380,20 +381,20 @@ module _ {D : Type 0} (moment : D → Moment) (session : ℕ) (old new : Turn (S
         until_left : reply.place ≤ length (entries_in (events n))
         until_left = until_now more_left at
 
-        change_left : SaysChange moment began (events n) text tree reply.place change
-        change_left = subst (λ (place : ℕ). SaysChange moment began (events n) text tree place change) (sym (at_end more_left at)) says_left
+        change_left : SaysChange style moment began (events n) text tree reply.place change
+        change_left = subst (λ (place : ℕ). SaysChange style moment began (events n) text tree place change) (sym (at_end more_left at)) says_left
 
-        short_left : Tells moment began session pin (events s) (events n) text tree reply keeps.extends since_left until_left (Some Memory) (trying change)
+        short_left : Tells style moment began session pin (events s) (events n) text tree reply keeps.extends since_left until_left (Some Memory) (trying change)
         short_left own noted = (reply.place, since_left, until_left, change_left)
 
         refuses_left : (refusal : Refusal) → (reply.text ≡ (refused refusal).text → HasLine reply (Some refusal)) → Refuses refusal reply →
-            Tells moment began session pin (events s) (events n) text tree reply keeps.extends since_left until_left (Some refusal) (trying change) → Answer
+            Tells style moment began session pin (events s) (events n) text tree reply keeps.extends since_left until_left (Some refusal) (trying change) → Answer
         refuses_left refusal line r says =
-            refuses moment began session pin (events s) (events n) text tree reply keeps.extends since_left until_left
+            refuses style moment began session pin (events s) (events n) text tree reply keeps.extends since_left until_left
             (trying change) (tries change ∷ []) (tried_acts [] left) refl refusal line r says short_left
 
         uncommitted_now : (fault : CommitFault) → IsUncommitted moment session change n fault →
-            WasUncommitted moment began session pin (events n) [] text tree reply change fault
+            WasUncommitted moment began session pin (events n) [] text tree reply style change fault
         uncommitted_now fault why = (
           change_left,
           (events n, record { later = []; grown = sym (append-nil (events n)); count = at_end more_left at }, cause_told moment began change (events n) n after session fault why),
@@ -402,7 +403,7 @@ module _ {D : Type 0} (moment : D → Moment) (session : ℕ) (old new : Turn (S
       -- where there is no memory for it, its place is that behind all entries too
       short_answer_left : IsWant reply → reply.place ≡ length n.ledger.entries → Answer
       short_answer_left w at =
-          answered moment began session pin (events s) (events n) text tree reply keeps.extends (since_left at) (until_left at)
+          answered style moment began session pin (events s) (events n) text tree reply keeps.extends (since_left at) (until_left at)
           (trying change) (tries change ∷ []) (tried_acts [] left) refl (Some Memory) w.1 w.0 (short_left at)
 
       left_answer : (fault : CommitFault) → IsUncommitted moment session change n fault → IsUncommittedReply (length n.ledger.entries) fault reply → Answer
@@ -444,21 +445,21 @@ module _ {D : Type 0} (moment : D → Moment) (session : ℕ) (old new : Turn (S
 
   -- ---- however it went
 
-  pub goes_answered : form_said tree ≡ a_change → IsChangeAt began (events n) text tree (pin + 1) → Goes moment session old new text tree reply → IsAnsweredInTurn moment began session pin (events s) (events n) text tree reply
+  pub goes_answered : form_said tree ≡ a_change → IsChangeAt began (events n) text tree (pin + 1) → Goes style moment session old new text tree reply → IsAnsweredInTurn style moment began session pin (events s) (events n) text tree reply
   goes_answered form was (goes_short same w at) = short_answer same w at
   goes_answered form was (goes_told read at) = told_answer form was read at
   goes_answered form was (goes_unread fault read r at) = unread_answer was fault read at r
   goes_answered form was (goes_tried between change changed words read tried) =
       tried_by between change changed words read tried.answer tried.done tried.place tried.next tried.fits tried.err tried.cause tried.tells
 
-  leaves_pins : Goes moment session old new text tree reply → list_all (leaves_pin_of session) keeps.extends.0 ≡ true
+  leaves_pins : Goes style moment session old new text tree reply → list_all (leaves_pin_of session) keeps.extends.0 ≡ true
   leaves_pins (goes_short same w at) = ap (list_all (leaves_pin_of session)) (none_more same w at)
   leaves_pins (goes_told read at) = read_leaves (Ok (Replied (words_of reply))) read
   leaves_pins (goes_unread fault read r at) = read_leaves (Err fault) read
   leaves_pins (goes_tried between change changed words read tried) = leaves_by between change changed words read tried.answer tried.done tried.err
 
   -- the session's pin is still open
-  pub goes_open : (pinned : Pinned) → pinned.session ≡ session → Goes moment session old new text tree reply → IsOpenPin (ledger_of began (events s)) pinned →
+  pub goes_open : (pinned : Pinned) → pinned.session ≡ session → Goes style moment session old new text tree reply → IsOpenPin (ledger_of began (events s)) pinned →
       IsOpenPin (ledger_of began (events n)) pinned
   goes_open pinned mine goes o =
       subst (λ (es : List Event). IsOpenPin (ledger_of began es) pinned) (sym keeps.extends.1)

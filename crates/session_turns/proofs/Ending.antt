@@ -20,6 +20,7 @@ use Rattle.store_state.specs.declared.parts.StoreParts.{StoreParts}
 use Rattle.store_state.specs.At.{standing, AreParts}
 use Rattle.store_state.specs.Events.{events, owner_of}
 use Rattle.store_state.specs.Standings.{Standing}
+use Rattle.statement_replies.specs.declared.style.Style.{Style}
 use Rattle.session_outcomes.specs.Growth.{IsCounted}
 use Rattle.session_outcomes.specs.Starts.{start_of}
 use Rattle.session_outcomes.proofs.Databases.{stores_have_databases}
@@ -98,10 +99,10 @@ module _ {D : Type 0} (moment : D → Moment) (shared : Shared D) (seat : Seat D
           (subst (λ (es : List Event). ExtendsByOwn owner_of pinned.session es (events (standing moment next))) events_here keeps_last.extends)
 
       -- what the seat has then seen
-      module _ (text : List ℕ) (tree : Term) (reply : Reply) (goes : Goes moment pinned.session old new text tree reply)
+      module _ (style : Style) (text : List ℕ) (tree : Term) (reply : Reply) (goes : Goes style moment pinned.session old new text tree reply)
           (ledger : IsLedger next.ledger) (counted : IsCounted (standing moment next)) (after : Seat D) (seen_is : seen after ≡ events (standing moment next)) where
-        goes_last : Goes moment pinned.session old last text tree reply
-        goes_last = subst (λ (t : Turn (StoreParts D)). Goes moment pinned.session old t text tree reply) (sym last_is) goes
+        goes_last : Goes style moment pinned.session old last text tree reply
+        goes_last = subst (λ (t : Turn (StoreParts D)). Goes style moment pinned.session old t text tree reply) (sym last_is) goes
 
         told_last : IsTold (start_of (standing moment next)) (events (standing moment next)) (standing moment next)
         told_last = (stores_are_told D (standing moment next) ledger counted).told
@@ -114,7 +115,7 @@ module _ {D : Type 0} (moment : D → Moment) (shared : Shared D) (seat : Seat D
 
         open_there : IsOpenPin (ledger_of began last_events) pinned
         open_there =
-            goes_open moment pinned.session old last text tree reply keeps_last database_here told_last pinned.place within_here pinned refl goes_last
+            goes_open style moment pinned.session old last text tree reply keeps_last database_here told_last pinned.place within_here pinned refl goes_last
             (subst (λ (es : List Event). IsOpenPin (ledger_of began es) pinned) (sym events_here)
             (subst (λ (start : Start D). IsOpenPin (ledger_of start (seen seat)) pinned) (sym start_here) pin.open_pin))
 
@@ -123,12 +124,12 @@ module _ {D : Type 0} (moment : D → Moment) (shared : Shared D) (seat : Seat D
         change_there change e = (change, ap (λ (names : Names). check_of tree text names) (names_behind began last_events pinned open_there) ∙ e)
 
         pub answered_last : (change : Change) → check_of tree text pinned.names ≡ Ok (AChange change) →
-            IsAnsweredInTurn moment (start moment shared) pinned.session pinned.place (seen seat) (seen after) text tree reply
+            IsAnsweredInTurn style moment (start moment shared) pinned.session pinned.place (seen seat) (seen after) text tree reply
         answered_last change e =
-            subst (λ (es : List Event). IsAnsweredInTurn moment (start moment shared) pinned.session pinned.place (seen seat) es text tree reply) (sym seen_is)
-            (subst (λ (es : List Event). IsAnsweredInTurn moment (start moment shared) pinned.session pinned.place es last_events text tree reply) events_here
-            (subst (λ (start : Start D). IsAnsweredInTurn moment start pinned.session pinned.place (events (standing moment parts)) last_events text tree reply) start_here
-            (goes_answered moment pinned.session old last text tree reply keeps_last database_here told_last pinned.place within_here
+            subst (λ (es : List Event). IsAnsweredInTurn style moment (start moment shared) pinned.session pinned.place (seen seat) es text tree reply) (sym seen_is)
+            (subst (λ (es : List Event). IsAnsweredInTurn style moment (start moment shared) pinned.session pinned.place es last_events text tree reply) events_here
+            (subst (λ (start : Start D). IsAnsweredInTurn style moment start pinned.session pinned.place (events (standing moment parts)) last_events text tree reply) start_here
+            (goes_answered style moment pinned.session old last text tree reply keeps_last database_here told_last pinned.place within_here
             (change_said change text tree pinned e) (change_there change e) goes_last)))
 
         open_last : IsOpenPin (ledger_of (start moment shared) (seen after)) pinned

@@ -14,12 +14,13 @@ use Rattle.plan_changes.specs.Databases.{Database}
 use Rattle.afl_types.specs.Checking.{check_of}
 use Rattle.event_core.specs.Allowed.{is_pinned}
 use Rattle.event_core.specs.Cells.{at}
-use Rattle.statement_answers.specs.declared.outcome.Outcome.{Outcome}
-use Rattle.statement_answers.specs.declared.outcome.Outcome.TheVariants.{Changes}
-use Rattle.statement_answers.specs.Outcomes.{HasOutcomeKind, IsMadeOf, IsOutcomeOf, IsToldBy, MayFail}
+use Rattle.session_outcomes.specs.Outcome.{Outcome}
+use Rattle.session_outcomes.specs.Outcome.TheVariants.{Changes}
+use Rattle.session_outcomes.specs.Outcomes.{HasOutcomeKind, IsMadeOf, IsOutcomeOf, IsToldBy, MayFail}
 use Rattle.statement_replies.specs.declared.replies.Reply.{Reply as Told}
 use Rattle.statement_replies.specs.Reading.{HoldsVersions}
 use Rattle.statement_replies.specs.Statements.{reply_to}
+use Rattle.statement_replies.specs.declared.style.Style.{Style}
 use Rattle.session_outcomes.specs.Owners.{is_open_to}
 use Rattle.session_outcomes.specs.Turn.{Turn}
 use Rattle.store_ledger.specs.Ledger.{history, is_noted, is_tried}
@@ -64,11 +65,11 @@ module _ {D : Type 0} (moment : D → Moment) (session : ℕ) where
 
 -- ---- what a source says of a statement
 
-comes_by : (names : Names) (source : SourceState) (text : List ℕ) (tree : Term) (result : Result Outcome ExecFault) →
-    IfOk result (HasOutcomeKind names (check_of tree text names)) →
-    IfOk result (λ outcome. (db : Database) → IsToldBy names source db → IsOutcomeOf db (reply_to db text tree) outcome) → IfOk result (ComesOver names source text tree)
-comes_by names source text tree (Ok outcome) kind told = record { kind = kind; told = told }
-comes_by names source text tree (Err fault) kind told = tt
+comes_by : (style : Style) (names : Names) (source : SourceState) (text : List ℕ) (tree : Term) (result : Result Outcome ExecFault) →
+    IfOk result (HasOutcomeKind style names (check_of tree text names)) →
+    IfOk result (λ outcome. (db : Database) → IsToldBy names source db → IsOutcomeOf db (reply_to style db text tree) outcome) → IfOk result (ComesOver style names source text tree)
+comes_by style names source text tree (Ok outcome) kind told = record { kind = kind; told = told }
+comes_by style names source text tree (Err fault) kind told = tt
 
 rose_some : (before now : ℕ) → before ≡ 0 → Rose before now → 0 < now
 rose_some before now none rose = omega (arith, none, rose)
@@ -91,19 +92,19 @@ module _ {D : Type 0} (moment : D → Moment) (session : ℕ) (old : Turn (Store
       held_sources_hold_versions moment start leaf (subst (λ (ns : Names). IsLeafOf ns leaf) same of)
 
   -- A STATEMENT WAS READ IN A TURN
-  pub read_by : (new : Turn (StoreParts D)) (h : Holding D) → h.lent ≡ start.lent → new ≡ h.turn → HasHeld moment h →
+  pub read_by : (style : Style) (new : Turn (StoreParts D)) (h : Holding D) → h.lent ≡ start.lent → new ≡ h.turn → HasHeld moment h →
       (text : List ℕ) (tree : Term) (result : Result Outcome ExecFault) →
-      IfOk result (HasOutcomeKind names (check_of tree text names)) →
-      IfOk result (λ outcome. (db : Database) → IsToldBy names (held_state moment start) db → IsOutcomeOf db (reply_to db text tree) outcome) →
+      IfOk result (HasOutcomeKind style names (check_of tree text names)) →
+      IfOk result (λ outcome. (db : Database) → IsToldBy names (held_state moment start) db → IsOutcomeOf db (reply_to style db text tree) outcome) →
       Answers (held_state moment start) (held_state moment h) result → IfErr result (λ fault. MayFail fault (check_of tree text names)) →
-      IsRead moment session old new text tree result
-  read_by new h lent turn held text tree result kind told cause allowed = record {
+      IsRead style moment session old new text tree result
+  read_by style new h lent turn held text tree result kind told cause allowed = record {
     marks = h.marks;
     held = subst (λ (t : Turn (StoreParts D)). HasHeld moment (holding_of session old t h.marks)) (sym turn)
         (subst (λ (l : LentTurn D). HasHeld moment (record { lent = l; turn = h.turn; marks = h.marks })) (lent ∙ ap (λ (x : Holding D). x.lent) made) held);
-    comes = subst (λ (ns : Names). IfOk result (ComesOver ns (held_state moment (unheld session old)) text tree)) named
-        (subst (λ (x : Holding D). IfOk result (ComesOver names (held_state moment x) text tree)) made
-        (comes_by names (held_state moment start) text tree result kind told));
+    comes = subst (λ (ns : Names). IfOk result (ComesOver style ns (held_state moment (unheld session old)) text tree)) named
+        (subst (λ (x : Holding D). IfOk result (ComesOver style names (held_state moment x) text tree)) made
+        (comes_by style names (held_state moment start) text tree result kind told));
     why = why_by result (held_state moment start) (held_state moment h) h.marks (ap (λ (x : Holding D). x.marks.faults) made) refl refl cause;
     allowed = subst (λ (ns : Names). IfErr result (λ fault. MayFail fault (check_of tree text ns))) named allowed;
   }
@@ -113,9 +114,9 @@ module _ {D : Type 0} (moment : D → Moment) (session : ℕ) (old : Turn (Store
 may_be_made : (db : Database) (change : Change) (changed : Option Changed) → IsMadeOf db change changed → MayBeMade db change changed
 may_be_made db change changed m = record { stores = m.stores; fault = m.whole; chunks = m.chunks }
 
-module _ {D : Type 0} (moment : D → Moment) (session : ℕ) (old new : Turn (StoreParts D))
+module _ {D : Type 0} (moment : D → Moment) (style : Style) (session : ℕ) (old new : Turn (StoreParts D))
     (has : HasDatabase moment (store_in moment old) (length (store_of old).ledger.entries) (names_now (store_of old).ledger))
-    (text : List ℕ) (tree : Term) (outcome : Result Outcome ExecFault) (read : IsRead moment session old new text tree outcome) where
+    (text : List ℕ) (tree : Term) (outcome : Result Outcome ExecFault) (read : IsRead style moment session old new text tree outcome) where
   pub pinned_read : IsTrue (is_pinned session (history (store_of new).ledger))
   pinned_read = subst (λ (x : Standing D). IsTrue (is_pinned session (history x.ledger))) (sym read.held.same) read.held.pinned
 
@@ -124,8 +125,8 @@ module _ {D : Type 0} (moment : D → Moment) (session : ℕ) (old new : Turn (S
 
   pub asked_read : (change : Change) (changed : Option Changed) (words : Told) → outcome ≡ Ok (Changes change changed words) → IsAsked moment (store_in moment new) change changed
   asked_read change changed words is =
-      let over : ComesOver (names_now (store_of old).ledger) (held_state moment (unheld session old)) text tree (Changes change changed words) =
-      subst (λ (o : Result Outcome ExecFault). IfOk o (ComesOver (names_now (store_of old).ledger) (held_state moment (unheld session old)) text tree)) is read.comes in
+      let over : ComesOver style (names_now (store_of old).ledger) (held_state moment (unheld session old)) text tree (Changes change changed words) =
+      subst (λ (o : Result Outcome ExecFault). IfOk o (ComesOver style (names_now (store_of old).ledger) (held_state moment (unheld session old)) text tree)) is read.comes in
       subst (λ (x : Standing D). IsAsked moment x change changed) (sym read.held.same) (record {
         named = over.kind.1.named;
         typed = over.kind.1.typed;

@@ -14,6 +14,7 @@ use Rattle.event_core.specs.History.{History, names_at, up_to}
 use Rattle.session_outcomes.specs.Outcome.{Outcome}
 use Rattle.session_outcomes.specs.Outcomes.{HasOutcomeKind, IsOutcomeOf, IsToldBy}
 use Rattle.statement_replies.specs.Statements.{reply_to}
+use Rattle.statement_replies.specs.declared.style.Style.{Style}
 use Rattle.session_outcomes.specs.Turn.{Turn}
 use Rattle.store_ledger.specs.Ledger.{history}
 use Rattle.store_state.specs.declared.event.Event.{Event}
@@ -88,14 +89,14 @@ module _ {D : Type 0} (moment : D → Moment) (session : ℕ) (old : Turn (Store
     database_there : (db : Database) → database_with db (told began events) (length (entries_in events)) ≡ at db past
     database_there db = ap (at db) there ∙ same_cells comes db past
 
-    module _ (text : List ℕ) (tree : Term) (outcome : Outcome)
-        (over : ComesOver (names_now (store_of old).ledger) (held_state moment (unheld session old)) text tree outcome) where
-      comes_there : ComesOf moment began events text tree (length (entries_in events)) outcome
+    module _ (style : Style) (text : List ℕ) (tree : Term) (outcome : Outcome)
+        (over : ComesOver style (names_now (store_of old).ledger) (held_state moment (unheld session old)) text tree outcome) where
+      comes_there : ComesOf moment began events text tree (length (entries_in events)) style outcome
       comes_there = (
-        subst (λ (names : Names). HasOutcomeKind names (check_of tree text names) outcome) (sym names_there) over.kind,
-        λ db is. subst (λ (d : Database). IsOutcomeOf d (reply_to d text tree) outcome) (sym (database_there db)) (over.told (at db past) (source_tells db is)),
+        subst (λ (names : Names). HasOutcomeKind style names (check_of tree text names) outcome) (sym names_there) over.kind,
+        λ db is. subst (λ (d : Database). IsOutcomeOf d (reply_to style d text tree) outcome) (sym (database_there db)) (over.told (at db past) (source_tells db is)),
       )
 
       -- WHAT COMES OF A STATEMENT OVER THE SOURCE IS SAID THERE
-      pub said_there : IsSaid moment began events text tree (length (entries_in events)) outcome
-      said_there = outcomes_are_said moment began events text tree (length (entries_in events)) outcome comes_there
+      pub said_there : IsSaid moment began events text tree (length (entries_in events)) style outcome
+      said_there = outcomes_are_said moment style began events text tree (length (entries_in events)) outcome comes_there

@@ -6,6 +6,7 @@ use Rattle.result_print.specs.declared.refusal.Refusal.{Refusal}
 use Rattle.result_print.specs.declared.refusal.Refusal.TheVariants.{TooLong, Parse, HistoryFull, Typing, Cell, Disk, Damaged, SequenceEnd, Full, Memory}
 use Rattle.statement_replies.specs.declared.replies.Reply.{Reply as Told}
 use Rattle.statement_replies.specs.Reply.{refused}
+use Rattle.statement_replies.specs.declared.style.Style.{Style}
 use Rattle.session_outcomes.specs.Owners.{ExtendsByOwn}
 use Rattle.store_ledger.specs.Ledger.{is_fault, is_noted}
 use Rattle.store_state.specs.declared.event.Event.{Event}
@@ -20,15 +21,15 @@ use Rattle.session_outcomes.specs.Turns.{own_events}
 use Rattle.session_turns.specs.AnsweredUnder.{IsAnsweredInTurn}
 use Rattle.session_turns.proofs.Adding.{only_acts}
 
-module _ {D : Type 0} (moment : D → Moment) (start : Start D) (session pin : ℕ) (old new : List Event) (text : List ℕ) (tree : Term) (reply : Reply)
+module _ {D : Type 0} (style : Style) (moment : D → Moment) (start : Start D) (session pin : ℕ) (old new : List Event) (text : List ℕ) (tree : Term) (reply : Reply)
     (more : ExtendsByOwn owner_of session old new) (since : pin < reply.place) (until : reply.place ≤ length (entries_in new)) where
   abbrev pub Answered : Type 0
-  Answered = IsAnsweredInTurn moment start session pin old new text tree reply
+  Answered = IsAnsweredInTurn style moment start session pin old new text tree reply
 
   -- what is told for a refusal, whatever came before the turn
   abbrev pub Tells : Option Refusal → Course → Type 0
   Tells refusal course = (own : List Event) → (IsTrue (is_noted is_fault (ledger_of start new) session) → HasFault session own)
-      → IsToldFor moment start session pin new own text tree reply refusal course
+      → IsToldFor moment start session pin new own text tree reply style refusal course
 
   module _ (course : Course) (acts : List Act) (is : acts_in more.0 ≡ acts) (for_course : begins ∷ (acts ++ ends ∷ []) ≡ acts_for course) where
     pub answered : (refusal : Option Refusal) → reply.refusal ≡ refusal → HasLine reply refusal → Tells refusal course → Answered
@@ -40,7 +41,7 @@ module _ {D : Type 0} (moment : D → Moment) (start : Start D) (session pin : �
       line = subst (λ (r : Option Refusal). HasLine reply r) (sym e) line;
       since = since;
       until = until;
-      told = λ before fault. subst (λ (r : Option Refusal). IsToldFor moment start session pin new (before ++ own_events session more.0) text tree reply r course) (sym e)
+      told = λ before fault. subst (λ (r : Option Refusal). IsToldFor moment start session pin new (before ++ own_events session more.0) text tree reply style r course) (sym e)
           (told (before ++ own_events session more.0) fault);
     }
 
@@ -56,8 +57,8 @@ module _ {D : Type 0} (moment : D → Moment) (start : Start D) (session pin : �
     pub later_refused : (own : List Event) → HoldsWhereRefused moment start session pin new own text tree reply
     later_refused own = inr ((since, until), was)
 
-    pub earlier_pin : (later : ℕ) (own : List Event) (refusal : Refusal) → IsToldFor moment start session later new own text tree reply (Some refusal) looking →
-        IsToldFor moment start session pin new own text tree reply (Some refusal) looking
+    pub earlier_pin : (later : ℕ) (own : List Event) (refusal : Refusal) → IsToldFor moment start session later new own text tree reply style (Some refusal) looking →
+        IsToldFor moment start session pin new own text tree reply style (Some refusal) looking
     earlier_pin later own (TooLong bytes) t = absurd t
     earlier_pin later own (Parse at kind) t = absurd t
     earlier_pin later own HistoryFull t = absurd t

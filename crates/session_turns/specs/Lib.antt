@@ -29,5 +29,6 @@ pub use Rattle.session_sources.specs.Turns
 pub use Rattle.session_sources.specs.declared.marks.Marks
 pub use Rattle.session_sources.specs.declared.reading.Lent
 pub use Rattle.session_sources.specs.declared.reading.Reading
+pub use Rattle.statement_replies.specs.declared.style.Style
 pub mod AnsweredUnder
 pub mod Inner

@@ -61,7 +61,7 @@ pub fn answer_held<D: Disk, R: Threads + Wait + Sync, G: Gate>(
     ensures same { IsSameSeat seat result.1 }
     ensures reads { read_count result.1 ≡ read_count seat }
     ensures pin { HoldsPin D.moment shared.now result.1 pinned.now }
-    ensures answered { IsAnsweredInTurn D.moment (start D.moment shared.now) pinned.now.session pinned.now.place
+    ensures answered { IsAnsweredInTurn options.now.style D.moment (start D.moment shared.now) pinned.now.session pinned.now.place
         (seen seat) (seen result.1) text.now tree.now result.0 }
 {
     let mut seat = seat;
@@ -99,7 +99,7 @@ fn answer_in_turn<D: Disk, R: Threads + Sync, G: Gate>(
     requires fit { IsTrue (leaves_fit tree.now) }
     requires workers { (1 ≤ options.now.workers) × (options.now.workers ≤ 64) }
     ensures keeps { KeepsTurn D.moment session turn result.1 }
-    ensures goes { Goes D.moment session turn result.1 text.now tree.now result.0 }
+    ensures goes { Goes options.now.style D.moment session turn result.1 text.now tree.now result.0 }
 {
     let mut turn = turn;
     let store = turn.value();
@@ -130,7 +130,7 @@ fn answer_over<D: Disk, R: Threads + Sync, G: Gate>(
     requires fit { IsTrue (leaves_fit tree.now) }
     requires workers { (1 ≤ options.now.workers) × (options.now.workers ≤ 64) }
     ensures keeps { KeepsTurn D.moment session turn result.1 }
-    ensures goes { Goes D.moment session turn result.1 text.now tree.now result.0 }
+    ensures goes { Goes options.now.style D.moment session turn result.1 text.now tree.now result.0 }
 {
     let mut source = HeldSource::new(alloc, turn, session);
     let outcome = outcome_of(
@@ -140,6 +140,7 @@ fn answer_over<D: Disk, R: Threads + Sync, G: Gate>(
         tree,
         names,
         &mut source,
+        options.style,
         options.workers,
         session,
         gate,

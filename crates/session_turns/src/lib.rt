@@ -10,3 +10,4 @@ pub use session_outcomes::{
     refusal_or_want, sources_hold_their_versions, uncommitted, unread, want,
 };
 pub use settings::Options;
+pub use statement_replies::Style;

@@ -10,6 +10,7 @@ use Rattle.logical_plan.specs.Query.{Query}
 use Rattle.logical_plan.specs.declared.names.NameEntry.{NameEntry}
 use Rattle.logical_plan.specs.declared.names.Names.{Names}
 use Rattle.plan_changes.specs.Databases.{Database, names_of, rows_of}
+use Rattle.plan_changes.specs.declared.change.Change.{Change}
 use Rattle.plan_changes.specs.Stored.{AreStored}
 use Rattle.check_exprs.specs.Laws.{leaves_fit}
 use Rattle.check_queries.specs.Arrays.{AreValid}
@@ -38,6 +39,7 @@ use Rattle.statement_replies.specs.Reply.{plan_reply}
 use Rattle.statement_replies.specs.StatementKinds.{NamesWhatStands}
 use Rattle.statement_replies.specs.Statements.{reply_to, reply_to_checked, reply_to_typed, without_change}
 use Rattle.statement_replies.specs.declared.replies.Reply.{Reply}
+use Rattle.statement_replies.specs.declared.style.Style.{Style}
 use Rattle.statement_replies.proofs.QueryReplies.{can_compute}
 use Rattle.statement_replies.proofs.Standing.{stand}
 use Rattle.statement_answers.specs.declared.outcome.Outcome.{Outcome}
@@ -106,14 +108,14 @@ wanting_over checked (Ok outcome) want = tt
 wanting_over checked (Err fault) want = subst (λ (f : ExecFault). MayFail f checked) (sym want) tt
 
 module _ (names : Names) (a b : Checked Typed) (same : a ≡ b) where
-  pub kind_over : (answer : Result Outcome ExecFault) → IfOk answer (HasOutcomeKind names b) → IfOk answer (HasOutcomeKind names a)
-  kind_over answer kind = subst (λ (c : Checked Typed). IfOk answer (HasOutcomeKind names c)) (sym same) kind
+  pub kind_over : (style : Style) (answer : Result Outcome ExecFault) → IfOk answer (HasOutcomeKind style names b) → IfOk answer (HasOutcomeKind style names a)
+  kind_over style answer kind = subst (λ (c : Checked Typed). IfOk answer (HasOutcomeKind style names c)) (sym same) kind
 
-  pub told_over : (source : SourceState) (answer : Result Outcome ExecFault)
-      → IfOk answer (λ outcome. (db : Database) → IsToldBy names source db → IsOutcomeOf db (reply_to_checked db b) outcome)
-      → IfOk answer (λ outcome. (db : Database) → IsToldBy names source db → IsOutcomeOf db (reply_to_checked db a) outcome)
-  told_over source answer told =
-      subst (λ (c : Checked Typed). IfOk answer (λ outcome. (db : Database) → IsToldBy names source db → IsOutcomeOf db (reply_to_checked db c) outcome)) (sym same) told
+  pub told_over : (style : Style) (source : SourceState) (answer : Result Outcome ExecFault)
+      → IfOk answer (λ outcome. (db : Database) → IsToldBy names source db → IsOutcomeOf db (reply_to_checked style db b) outcome)
+      → IfOk answer (λ outcome. (db : Database) → IsToldBy names source db → IsOutcomeOf db (reply_to_checked style db a) outcome)
+  told_over style source answer told =
+      subst (λ (c : Checked Typed). IfOk answer (λ outcome. (db : Database) → IsToldBy names source db → IsOutcomeOf db (reply_to_checked style db c) outcome)) (sym same) told
 
   module _ (old new : SourceState) where
     pub asked_over : (answer : Result Outcome ExecFault) → IfOk answer (λ outcome. new.asked ≡ old.asked ++ asked_for old names b outcome)
@@ -123,23 +125,36 @@ module _ (names : Names) (a b : Checked Typed) (same : a ≡ b) where
     pub front_over : (answer : Result Outcome ExecFault) → OnErr answer (AsksFront (asked_of old 0 (leaves_for names b)) old new) → OnErr answer (AsksFront (asked_of old 0 (leaves_for names a)) old new)
     front_over answer front = subst (λ (c : Checked Typed). OnErr answer (AsksFront (asked_of old 0 (leaves_for names c)) old new)) (sym same) front
 
+-- ---- what holds in each style
+
+pub in_style : (IsOutcome : Style → Outcome → Type 0) (style : Style) (answer : Result Outcome ExecFault) → IfOk answer (λ outcome. (s : Style) → IsOutcome s outcome)
+    → IfOk answer (IsOutcome style)
+in_style IsOutcome style (Ok outcome) each = each style
+in_style IsOutcome style (Err fault) each = tt
+
+pub told_in : (style : Style) (names : Names) (source : SourceState) (change : Change) (answer : Result Outcome ExecFault)
+    → IfOk answer (λ outcome. (s : Style) (db : Database) → IsToldBy names source db → IsOutcomeOf db (reply_to_typed s db (AChange change)) outcome)
+    → IfOk answer (λ outcome. (db : Database) → IsToldBy names source db → IsOutcomeOf db (reply_to_typed style db (AChange change)) outcome)
+told_in style names source change =
+    in_style (λ s outcome. (db : Database) → IsToldBy names source db → IsOutcomeOf db (reply_to_typed s db (AChange change)) outcome) style
+
 -- ---- the reply over each database of these names
 
-pub over_names : (names : Names) (source : SourceState) (text : List ℕ) (tree : Term) (answer : Result Outcome ExecFault)
-    → IfOk answer (λ outcome. (db : Database) → IsToldBy names source db → IsOutcomeOf db (reply_to_checked db (check_of tree text names)) outcome)
-    → IfOk answer (λ outcome. (db : Database) → IsToldBy names source db → IsOutcomeOf db (reply_to db text tree) outcome)
-over_names names source text tree (Ok outcome) told =
-    λ db there. subst (λ (n : Names). IsOutcomeOf db (reply_to_checked db (check_of tree text n)) outcome) (sym there.named) (told db there)
-over_names names source text tree (Err fault) told = tt
+pub over_names : (style : Style) (names : Names) (source : SourceState) (text : List ℕ) (tree : Term) (answer : Result Outcome ExecFault)
+    → IfOk answer (λ outcome. (db : Database) → IsToldBy names source db → IsOutcomeOf db (reply_to_checked style db (check_of tree text names)) outcome)
+    → IfOk answer (λ outcome. (db : Database) → IsToldBy names source db → IsOutcomeOf db (reply_to style db text tree) outcome)
+over_names style names source text tree (Ok outcome) told =
+    λ db there. subst (λ (n : Names). IsOutcomeOf db (reply_to_checked style db (check_of tree text n)) outcome) (sym there.named) (told db there)
+over_names style names source text tree (Err fault) told = tt
 
 -- ---- queries
 
-pub query_kind : (names : Names) (plan : Query) (reply : Reply) → IsRowsReply (schema_of plan) reply → HasOutcomeKind names (Ok (AQuery plan)) (Replied reply)
-query_kind names plan reply kind = (kind, refl)
+pub query_kind : (style : Style) (names : Names) (plan : Query) (reply : Reply) → IsRowsReply style (schema_of plan) reply → HasOutcomeKind style names (Ok (AQuery plan)) (Replied reply)
+query_kind style names plan reply kind = (kind, refl)
 
-pub query_told : (names : Names) (source : SourceState) (plan : Query) (reply : Reply) → ((rows : Rows) → source.tells rows → reply ≡ plan_reply rows plan)
-    → (db : Database) → IsToldBy names source db → reply_to_typed db (AQuery plan) ≡ without_change reply
-query_told names source plan reply told db there = ap without_change (sym (told (rows_of db) there.tells))
+pub query_told : (style : Style) (names : Names) (source : SourceState) (plan : Query) (reply : Reply) → ((rows : Rows) → source.tells rows → reply ≡ plan_reply style rows plan)
+    → (db : Database) → IsToldBy names source db → reply_to_typed style db (AQuery plan) ≡ without_change reply
+query_told style names source plan reply told db there = ap without_change (sym (told (rows_of db) there.tells))
 
 -- ---- listings and broken rules, for which nothing is read
 

@@ -18,6 +18,7 @@ use Rattle.changed_chunks.proofs.Asked.{front_plan}
 use Rattle.statement_replies.specs.Reply.{cell_reply}
 use Rattle.statement_replies.specs.Statements.{Accepted, accepted, change_reply, changed_or_broken, reply_to_typed, without_change}
 use Rattle.statement_replies.specs.declared.replies.Reply.{Reply}
+use Rattle.statement_replies.specs.declared.style.Style.{Style}
 use Rattle.statement_answers.specs.declared.outcome.Offer.{Offer}
 use Rattle.statement_answers.specs.declared.outcome.Outcome.TheVariants.{Replied}
 use Rattle.statement_answers.specs.Inner.Made.{HasChunks, HasPlan, IsMadeIn, leaves_made, outcome_with}
@@ -28,11 +29,11 @@ use Rattle.statement_answers.specs.Outcomes.{HasOutcomeKind, IsMadeOf, IsOutcome
 pub some_made : (db : Database) (change : Change) (changed : Changed) → IsAnswerOver db change (Ok changed) → IsMadeIn db change (Ok (Some changed))
 some_made db change changed is = record { stores = is.stores; whole = is.answer.fault; chunks = is.answer }
 
--- ---- an offer
+-- ---- an offer, in each style
 
-pub offer_kind : (names : Names) (change : Change) (changed : Option Changed) (offer : Offer) → HasItsNames change → IsTypedFor names change → HasChunks change (Ok changed) → offer.changed ≡ changed
-    → offer.reply ≡ change_reply names change → HasOutcomeKind names (Ok (AChange change)) (outcome_with change (Ok offer))
-offer_kind names change changed offer named typed has same reply = (
+pub offer_kind : (style : Style) (names : Names) (change : Change) (changed : Option Changed) (offer : Offer) → HasItsNames change → IsTypedFor names change → HasChunks change (Ok changed) → offer.changed ≡ changed
+    → offer.reply ≡ change_reply names change → HasOutcomeKind style names (Ok (AChange change)) (outcome_with change (Ok offer))
+offer_kind style names change changed offer named typed has same reply = (
   refl,
   record {
     named = named;
@@ -46,25 +47,25 @@ offer_kind names change changed offer named typed has same reply = (
 abbrev with_reply : Change → Reply → Accepted
 with_reply change reply = record { reply = reply; change = Some change }
 
-pub offer_told : (names : Names) (db : Database) (change : Change) (changed : Option Changed) (offer : Offer) → names_of db ≡ names → IsMadeIn db change (Ok changed) → offer.changed ≡ changed
-    → offer.reply ≡ change_reply names change → IsOutcomeOf db (reply_to_typed db (AChange change)) (outcome_with change (Ok offer))
-offer_told names db change changed offer named made same reply = (
+pub offer_told : (style : Style) (names : Names) (db : Database) (change : Change) (changed : Option Changed) (offer : Offer) → names_of db ≡ names → IsMadeIn db change (Ok changed) → offer.changed ≡ changed
+    → offer.reply ≡ change_reply names change → IsOutcomeOf db (reply_to_typed style db (AChange change)) (outcome_with change (Ok offer))
+offer_told style names db change changed offer named made same reply = (
   ap (changed_or_broken (names_of db) change) made.whole ∙ ap (λ n. accepted n change) named ∙ ap (with_reply change) (sym reply),
   subst (IsMadeOf db change) (sym same) made,
 )
 
--- ---- a refusal
+-- ---- a refusal, in each style
 
-pub fault_kind : (names : Names) (change : Change) (broken : Broken) (reply : Reply) → HasPlan change → reply ≡ cell_reply broken → HasOutcomeKind names (Ok (AChange change)) (Replied reply)
-fault_kind names (Create name schema) broken reply has e = absurd has
-fault_kind names (Store name schema plan) broken reply has e = inr (broken, ap without_change e)
-fault_kind names (Insert name schema plan) broken reply has e = inr (broken, ap without_change e)
-fault_kind names (Remove name) broken reply has e = absurd has
-fault_kind names (RemoveVersions name below) broken reply has e = absurd has
+pub fault_kind : (style : Style) (names : Names) (change : Change) (broken : Broken) (reply : Reply) → HasPlan change → reply ≡ cell_reply broken → HasOutcomeKind style names (Ok (AChange change)) (Replied reply)
+fault_kind style names (Create name schema) broken reply has e = absurd has
+fault_kind style names (Store name schema plan) broken reply has e = inr (broken, ap without_change e)
+fault_kind style names (Insert name schema plan) broken reply has e = inr (broken, ap without_change e)
+fault_kind style names (Remove name) broken reply has e = absurd has
+fault_kind style names (RemoveVersions name below) broken reply has e = absurd has
 
-pub fault_told : (db : Database) (change : Change) (broken : Broken) (reply : Reply) → fault_of_change db change ≡ Some broken → reply ≡ cell_reply broken
-    → reply_to_typed db (AChange change) ≡ without_change reply
-fault_told db change broken reply fault e = ap (changed_or_broken (names_of db) change) fault ∙ ap without_change (sym e)
+pub fault_told : (style : Style) (db : Database) (change : Change) (broken : Broken) (reply : Reply) → fault_of_change db change ≡ Some broken → reply ≡ cell_reply broken
+    → reply_to_typed style db (AChange change) ≡ without_change reply
+fault_told style db change broken reply fault e = ap (changed_or_broken (names_of db) change) fault ∙ ap without_change (sym e)
 
 -- ---- what is asked for
 

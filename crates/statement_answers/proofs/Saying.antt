@@ -25,6 +25,7 @@ use Rattle.statement_replies.specs.Reply.{refused}
 use Rattle.statement_replies.specs.StatementKinds.{HasChangeKind, HasStatementKind, MayBreak}
 use Rattle.statement_replies.specs.Statements.{Accepted, without_change}
 use Rattle.statement_replies.specs.declared.replies.Reply.{Reply}
+use Rattle.statement_replies.specs.declared.style.Style.{Style}
 use Rattle.statement_answers.specs.Forms.{Form, a_query, a_change, a_listing, form_of, form_called, form_said, ChangesReplyRefusals, FormsAreSaid, FormsStay}
 
 abbrev Has : Form → Typed → Type 0
@@ -78,13 +79,13 @@ change_refused names (Insert name schema plan) reply kind = may_refuse names (In
 change_refused names (Remove name) reply same = none_accepted (Remove name) reply _ same refl
 change_refused names (RemoveVersions name below) reply same = none_accepted (RemoveVersions name below) reply _ same refl
 
-reply_refused : (names : Names) (reply : Reply) (checked : Checked Typed) → IfOk checked (Has a_change) → HasStatementKind names checked (without_change reply) → IsRefusal reply
-reply_refused names reply (Ok (AQuery plan)) form kind = absurd (let no : a_query ≡ a_change = form in cc)
-reply_refused names reply (Ok (AChange change)) form kind = change_refused names change reply kind
-reply_refused names reply (Ok (Versions name)) form kind = absurd (let no : a_listing ≡ a_change = form in cc)
-reply_refused names reply (Ok (Show name)) form kind = absurd (let no : a_listing ≡ a_change = form in cc)
-reply_refused names reply (Ok ListArrays) form kind = absurd (let no : a_listing ≡ a_change = form in cc)
-reply_refused names reply (Err breach) form kind = (Typing breach.span breach.kind, ap (λ (a : Accepted). a.reply) kind)
+reply_refused : (style : Style) (names : Names) (reply : Reply) (checked : Checked Typed) → IfOk checked (Has a_change) → HasStatementKind style names checked (without_change reply) → IsRefusal reply
+reply_refused style names reply (Ok (AQuery plan)) form kind = absurd (let no : a_query ≡ a_change = form in cc)
+reply_refused style names reply (Ok (AChange change)) form kind = change_refused names change reply kind
+reply_refused style names reply (Ok (Versions name)) form kind = absurd (let no : a_listing ≡ a_change = form in cc)
+reply_refused style names reply (Ok (Show name)) form kind = absurd (let no : a_listing ≡ a_change = form in cc)
+reply_refused style names reply (Ok ListArrays) form kind = absurd (let no : a_listing ≡ a_change = form in cc)
+reply_refused style names reply (Err breach) form kind = (Typing breach.span breach.kind, ap (λ (a : Accepted). a.reply) kind)
 
 -- the form is a change's, whatever the tree is
 form_is : (checked : Checked Typed) (form : Form) → IfOk checked (Has form) → form ≡ a_change → IfOk checked (Has a_change)
@@ -92,5 +93,5 @@ form_is (Ok typed) form has e = has ∙ e
 form_is (Err breach) form has e = tt
 
 pub changes_refused : ChangesReplyRefusals
-changes_refused names text tree reply e kind =
-    reply_refused names reply (check_of tree text names) (form_is (check_of tree text names) (form_said tree) (statement_has names.arrays text tree) e) kind
+changes_refused style names text tree reply e kind =
+    reply_refused style names reply (check_of tree text names) (form_is (check_of tree text names) (form_said tree) (statement_has names.arrays text tree) e) kind

@@ -22,6 +22,7 @@ use Rattle.chunk_source.specs.Source.{SourceState}
 use Rattle.result_print.specs.declared.refusal.Refusal.TheVariants.{Typing}
 use Rattle.statement_replies.specs.Reply.{refused}
 use Rattle.statement_replies.specs.Statements.{reply_to, text_alone}
+use Rattle.statement_replies.specs.declared.style.Style.{Style}
 use Rattle.statement_answers.specs.declared.outcome.Outcome.{Outcome}
 use Rattle.statement_answers.specs.declared.outcome.Outcome.TheVariants.{Replied, Changes}
 use Rattle.statement_answers.specs.Forms.{a_change, a_listing, form_said}
@@ -67,9 +68,9 @@ is_broken : check_of tree [] alone ≡ broken_rule (at 7 8) UnknownArray
 unfolding tree alone entry at query_named change_named
 is_broken = refl
 
-is_refused : HasOutcomeKind alone (check_of tree [] alone) (Replied (refused (Typing (at 7 8) UnknownArray)))
+is_refused : (style : Style) → HasOutcomeKind style alone (check_of tree [] alone) (Replied (refused (Typing (at 7 8) UnknownArray)))
 unfolding tree alone entry at query_named change_named
-is_refused = refl
+is_refused style = refl
 
 -- versions(A)
 listing : Term
@@ -117,10 +118,10 @@ removal = call (record { start = 0; end = 9 }) (codes "remove") (and_term (refer
 abbrev outcome : Outcome
 outcome = Changes (Remove (codes "A")) None (text_alone (codes "ok\n"))
 
-kind : HasOutcomeKind (names_of db) (check_of removal [] (names_of db)) outcome
+kind : (style : Style) → HasOutcomeKind style (names_of db) (check_of removal [] (names_of db)) outcome
 unfolding query_named change_named
-kind = (refl, record { named = refl; typed = (refl, tt); comes = refl; valid = tt }, refl)
+kind style = (refl, record { named = refl; typed = (refl, tt); comes = refl; valid = tt }, refl)
 
-is_outcome : IsOutcomeOf db (reply_to db [] removal) outcome
+is_outcome : (style : Style) → IsOutcomeOf db (reply_to style db [] removal) outcome
 unfolding query_named change_named
-is_outcome = (refl, record { stores = tt; whole = refl; chunks = tt })
+is_outcome style = (refl, record { stores = tt; whole = refl; chunks = tt })

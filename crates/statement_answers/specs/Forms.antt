@@ -11,6 +11,7 @@ use Rattle.afl_types.specs.declared.statements.checking.Typed.TheVariants.{Query
 use Rattle.result_print.specs.declared.refusal.Refusal.{Refusal}
 use Rattle.statement_replies.specs.Reply.{refused}
 use Rattle.statement_replies.specs.declared.replies.Reply.{Reply}
+use Rattle.statement_replies.specs.declared.style.Style.{Style}
 use Rattle.statement_answers.specs.declared.outcome.Outcome.TheVariants.{Replied}
 use Rattle.statement_answers.specs.Outcomes.{HasOutcomeKind}
 
@@ -53,5 +54,5 @@ FormsStay = (a b : Names) (text : List ℕ) (tree : Term) (x y : Typed) → chec
 
 -- a tree of a change that has a reply alone is refused
 abbrev pub ChangesReplyRefusals : Type 0
-ChangesReplyRefusals = (names : Names) (text : List ℕ) (tree : Term) (reply : Reply) → form_said tree ≡ a_change
-    → HasOutcomeKind names (check_of tree text names) (Replied reply) → (refusal : Refusal) × (reply ≡ refused refusal)
+ChangesReplyRefusals = (style : Style) (names : Names) (text : List ℕ) (tree : Term) (reply : Reply) → form_said tree ≡ a_change
+    → HasOutcomeKind style names (check_of tree text names) (Replied reply) → (refusal : Refusal) × (reply ≡ refused refusal)

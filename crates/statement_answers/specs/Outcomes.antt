@@ -24,6 +24,7 @@ use Rattle.commit_pages.specs.Changes.{AreValid, ComesWith, IsChangeOf}
 use Rattle.changed_chunks.specs.Changing.{plan_leaves}
 use Rattle.statement_replies.specs.StatementKinds.{HasStatementKind}
 use Rattle.statement_replies.specs.Statements.{Accepted, change_reply, without_change}
+use Rattle.statement_replies.specs.declared.style.Style.{Style}
 use Rattle.statement_answers.specs.declared.outcome.Outcome.{Outcome}
 use Rattle.statement_answers.specs.declared.outcome.Outcome.TheVariants.{Replied, Changes}
 
@@ -37,9 +38,9 @@ pub record MayBeCommitted (names : Names) (change : Change) (changed : Option Ch
   pub valid : IfSome changed AreValid
 
 -- a statement is answered without a change, as its kind is, or it is this change, with the reply to one that is accepted
-abbrev pub HasOutcomeKind : Names → Checked Typed → Outcome → Type 0
-HasOutcomeKind names checked (Replied reply) = HasStatementKind names checked (without_change reply)
-HasOutcomeKind names checked (Changes change changed reply) =
+abbrev pub HasOutcomeKind : Style → Names → Checked Typed → Outcome → Type 0
+HasOutcomeKind style names checked (Replied reply) = HasStatementKind style names checked (without_change reply)
+HasOutcomeKind style names checked (Changes change changed reply) =
     (checked ≡ Ok (AChange change)) × MayBeCommitted names change changed × (reply ≡ change_reply names change)
 
 -- a statement breaks no rule

@@ -10,6 +10,7 @@ ghost use Rattle.afl_types.specs.declared.statements.checking.Typed.TheVariants.
 ghost use Rattle.statement_replies.specs.Reading.{HoldsVersions};
 ghost use Rattle.statement_replies.specs.Reply.{cell_reply};
 ghost use Rattle.statement_replies.specs.Statements.{change_reply, reply_to_typed};
+ghost use Rattle.statement_replies.specs.declared.style.Style.{Style};
 ghost use Rattle.statement_answers.specs.Inner.Made.{HasChunks, IsMadeIn, IsPutUnder, leaves_made, outcome_with};
 ghost use Rattle.statement_answers.specs.Outcomes.{HasOutcomeKind, IsOutcomeOf, IsToldBy, asked_for, change_leaves, newest_leaf};
 
@@ -134,7 +135,7 @@ fn faulty(alloc: Global, broken: Broken) -> Result<Reply, Memory>
     refuse(alloc, Refusal::Cell { at, kind })
 }
 
-/// What a change is answered: it is offered for a commit, or refused.
+/// What a change is answered, in each style: it is offered for a commit, or refused.
 fn offer_of<S: ChunkSource, R: Threads + Sync, G: Gate>(
     rt: &R,
     alloc: Global,
@@ -150,9 +151,9 @@ fn offer_of<S: ChunkSource, R: Threads + Sync, G: Gate>(
     requires typed { IsTypedFor names.now change.now }
     requires holds { HoldsVersions names.now (S.state source.old) }
     requires workers { (1 ≤ workers) × (workers ≤ 64) }
-    ensures kind { IfOk result (λ offer. HasOutcomeKind names.now (Good (AChange change.now)) (outcome_with change.now offer)) }
-    ensures told { IfOk result (λ offer. (db : Database) → IsToldBy names.now (S.state source.old) db
-        → IsOutcomeOf db (reply_to_typed db (AChange change.now)) (outcome_with change.now offer)) }
+    ensures kind { IfOk result (λ offer. (style : Style) → HasOutcomeKind style names.now (Good (AChange change.now)) (outcome_with change.now offer)) }
+    ensures told { IfOk result (λ offer. (style : Style) (db : Database) → IsToldBy names.now (S.state source.old) db
+        → IsOutcomeOf db (reply_to_typed style db (AChange change.now)) (outcome_with change.now offer)) }
     ensures asked { let old = S.state source.old in
         IfOk result (λ offer. (S.state source.new).asked ≡ old.asked ++ asked_for old names.now (Good (AChange change.now)) (outcome_with change.now offer)) }
     ensures front { let old = S.state source.old in
@@ -168,7 +169,7 @@ fn offer_of<S: ChunkSource, R: Threads + Sync, G: Gate>(
     }
 }
 
-/// What comes of a change.
+/// What comes of a change, in each style.
 pub(crate) fn outcome_of_change<S: ChunkSource, R: Threads + Sync, G: Gate>(
     rt: &R,
     alloc: Global,
@@ -184,9 +185,9 @@ pub(crate) fn outcome_of_change<S: ChunkSource, R: Threads + Sync, G: Gate>(
     requires typed { IsTypedFor names.now change }
     requires holds { HoldsVersions names.now (S.state source.old) }
     requires workers { (1 ≤ workers) × (workers ≤ 64) }
-    ensures kind { IfOk result (HasOutcomeKind names.now (Good (AChange change))) }
-    ensures told { IfOk result (λ outcome. (db : Database) → IsToldBy names.now (S.state source.old) db
-        → IsOutcomeOf db (reply_to_typed db (AChange change)) outcome) }
+    ensures kind { IfOk result (λ outcome. (style : Style) → HasOutcomeKind style names.now (Good (AChange change)) outcome) }
+    ensures told { IfOk result (λ outcome. (style : Style) (db : Database) → IsToldBy names.now (S.state source.old) db
+        → IsOutcomeOf db (reply_to_typed style db (AChange change)) outcome) }
     ensures asked { let old = S.state source.old in
         IfOk result (λ outcome. (S.state source.new).asked ≡ old.asked ++ asked_for old names.now (Good (AChange change)) outcome) }
     ensures front { let old = S.state source.old in

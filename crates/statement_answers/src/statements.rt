@@ -22,7 +22,7 @@ use afl_types::{TypeFault, Typed, check};
 use chunk_source::{ChunkSource, ExecFault};
 use logical_plan::{Names, Plan, let_go};
 use result_print::Refusal;
-use statement_replies::{answer_query, list_reply, refuse, show_reply, versions_reply};
+use statement_replies::{Style, answer_query, list_reply, refuse, show_reply, versions_reply};
 use std::alloc::Global;
 use std::thread::Threads;
 
@@ -33,6 +33,7 @@ fn outcome_of_query<S: ChunkSource, R: Threads + Sync, G: Gate>(
     plan: &Plan,
     names: &Names,
     source: &mut S,
+    style: Style,
     workers: u32,
     session: u32,
     gate: &G,
@@ -40,9 +41,9 @@ fn outcome_of_query<S: ChunkSource, R: Threads + Sync, G: Gate>(
     requires undamaged { (S.state source.old).damaged ≡ None }
     requires can { CanCompute (S.state source.old) plan.now }
     requires workers { (1 ≤ workers) × (workers ≤ 64) }
-    ensures kind { IfOk result (HasOutcomeKind names.now (Good (AQuery plan.now))) }
+    ensures kind { IfOk result (HasOutcomeKind style names.now (Good (AQuery plan.now))) }
     ensures told { IfOk result (λ outcome. (db : Database) → IsToldBy names.now (S.state source.old) db
-        → IsOutcomeOf db (reply_to_typed db (AQuery plan.now)) outcome) }
+        → IsOutcomeOf db (reply_to_typed style db (AQuery plan.now)) outcome) }
     ensures asked { let old = S.state source.old in
         IfOk result (λ outcome. (S.state source.new).asked ≡ old.asked ++ asked_for old names.now (Good (AQuery plan.now)) outcome) }
     ensures front { let old = S.state source.old in
@@ -51,7 +52,7 @@ fn outcome_of_query<S: ChunkSource, R: Threads + Sync, G: Gate>(
     ensures cause { Answers (S.state source.old) (S.state source.new) result }
     ensures start { S.start source.new ≡ S.start source.old }
 {
-    match answer_query(rt, alloc, plan, source, workers, session, gate) {
+    match answer_query(rt, alloc, plan, source, style, workers, session, gate) {
         Ok(reply) => Ok(Outcome::Replied(reply)),
         Err(fault) => Err(fault),
     }
@@ -64,6 +65,7 @@ fn outcome_of_typed<S: ChunkSource, R: Threads + Sync, G: Gate>(
     typed: Typed,
     names: &Names,
     source: &mut S,
+    style: Style,
     workers: u32,
     session: u32,
     gate: &G,
@@ -73,8 +75,8 @@ fn outcome_of_typed<S: ChunkSource, R: Threads + Sync, G: Gate>(
     requires can { CanAnswer names.now (S.state source.old) typed }
     requires holds { HoldsVersions names.now (S.state source.old) }
     requires workers { (1 ≤ workers) × (workers ≤ 64) }
-    ensures kind { IfOk result (HasOutcomeKind names.now (Good typed)) }
-    ensures told { IfOk result (λ outcome. (db : Database) → IsToldBy names.now (S.state source.old) db → IsOutcomeOf db (reply_to_typed db typed) outcome) }
+    ensures kind { IfOk result (HasOutcomeKind style names.now (Good typed)) }
+    ensures told { IfOk result (λ outcome. (db : Database) → IsToldBy names.now (S.state source.old) db → IsOutcomeOf db (reply_to_typed style db typed) outcome) }
     ensures asked { let old = S.state source.old in
         IfOk result (λ outcome. (S.state source.new).asked ≡ old.asked ++ asked_for old names.now (Good typed) outcome) }
     ensures front { let old = S.state source.old in
@@ -85,7 +87,9 @@ fn outcome_of_typed<S: ChunkSource, R: Threads + Sync, G: Gate>(
 {
     match typed {
         Typed::Query(plan) => {
-            let outcome = outcome_of_query(rt, alloc, &plan, names, source, workers, session, gate);
+            let outcome = outcome_of_query(
+                rt, alloc, &plan, names, source, style, workers, session, gate,
+            );
             let_go(plan);
             outcome
         }
@@ -99,7 +103,7 @@ fn outcome_of_typed<S: ChunkSource, R: Threads + Sync, G: Gate>(
 }
 
 /// What comes of a statement's tree, which is of this text, over the arrays of a source that has the versions of these names: its
-/// reply, or a change that may be committed. How many workers there are changes nothing.
+/// reply, in this style, or a change that may be committed. How many workers there are changes nothing.
 pub fn outcome_of<S: ChunkSource, R: Threads + Sync, G: Gate>(
     rt: &R,
     alloc: Global,
@@ -107,6 +111,7 @@ pub fn outcome_of<S: ChunkSource, R: Threads + Sync, G: Gate>(
     tree: &Tree,
     names: &Names,
     source: &mut S,
+    style: Style,
     workers: u32,
     session: u32,
     gate: &G,
@@ -116,9 +121,9 @@ pub fn outcome_of<S: ChunkSource, R: Threads + Sync, G: Gate>(
     requires stored { AreStored names.now }
     requires holds { HoldsVersions names.now (S.state source.old) }
     requires workers { (1 ≤ workers) × (workers ≤ 64) }
-    ensures kind { IfOk result (HasOutcomeKind names.now (check_of tree.now text.now names.now)) }
+    ensures kind { IfOk result (HasOutcomeKind style names.now (check_of tree.now text.now names.now)) }
     ensures told { IfOk result (λ outcome. (db : Database) → IsToldBy names.now (S.state source.old) db
-        → IsOutcomeOf db (reply_to db text.now tree.now) outcome) }
+        → IsOutcomeOf db (reply_to style db text.now tree.now) outcome) }
     ensures asked { let old = S.state source.old in
         let checked = check_of tree.now text.now names.now in
         IfOk result (λ outcome. (S.state source.new).asked ≡ old.asked ++ asked_for old names.now checked outcome) }
@@ -131,7 +136,9 @@ pub fn outcome_of<S: ChunkSource, R: Threads + Sync, G: Gate>(
     ensures start { S.start source.new ≡ S.start source.old }
 {
     match check(alloc, tree, text, names) {
-        Ok(typed) => outcome_of_typed(rt, alloc, typed, names, source, workers, session, gate),
+        Ok(typed) => outcome_of_typed(
+            rt, alloc, typed, names, source, style, workers, session, gate,
+        ),
         Err(TypeFault::Rule { span, kind }) => {
             Ok(Outcome::Replied(refuse(alloc, Refusal::Typing { span, kind })?))
         }

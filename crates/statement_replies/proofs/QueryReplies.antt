@@ -28,6 +28,7 @@ use Rattle.statement_replies.specs.Kinds.{HasKind, IsQueryReply, IsRowsReply}
 use Rattle.statement_replies.specs.Reading.{HoldsVersions, asked_for}
 use Rattle.statement_replies.specs.Reply.{checked_reply, plan_reply, refused}
 use Rattle.statement_replies.specs.declared.replies.Reply.{Reply}
+use Rattle.statement_replies.specs.declared.style.Style.{Style}
 
 -- a checked plan can be computed over a source that has the versions of its names
 module _ (names : Names) (source : SourceState) (holds : HoldsVersions names source) where
@@ -42,22 +43,22 @@ module _ (names : Names) (source : SourceState) (holds : HoldsVersions names sou
   }
 
 -- where checking answers a plan, and where it answers the first rule that is broken
-module _ (names : Names) (tells : Database → Type 0) (tree : Term) where
-  pub of_plan : (plan : Query) (reply : Reply) → query_of names.arrays tree ≡ Ok plan → IsRowsReply (schema_of plan) reply → ((db : Database) → tells db → reply ≡ plan_reply db plan) → IsQueryReply names tells tree reply
+module _ (style : Style) (names : Names) (tells : Database → Type 0) (tree : Term) where
+  pub of_plan : (plan : Query) (reply : Reply) → query_of names.arrays tree ≡ Ok plan → IsRowsReply style (schema_of plan) reply → ((db : Database) → tells db → reply ≡ plan_reply style db plan) → IsQueryReply style names tells tree reply
   of_plan plan reply is kind told = record {
-    kind = subst (λ (c : Checked Query). HasKind c reply) (sym is) kind;
-    told = λ db t. told db t ∙ ap (checked_reply db) (sym is);
+    kind = subst (λ (c : Checked Query). HasKind style c reply) (sym is) kind;
+    told = λ db t. told db t ∙ ap (checked_reply style db) (sym is);
   }
 
-  pub plan_answer : {E : Type 0} (answer : Result Reply E) (plan : Query) → query_of names.arrays tree ≡ Ok plan → IfOk answer (IsRowsReply (schema_of plan)) → IfOk answer (λ reply. (db : Database) → tells db → reply ≡ plan_reply db plan)
-      → IfOk answer (IsQueryReply names tells tree)
+  pub plan_answer : {E : Type 0} (answer : Result Reply E) (plan : Query) → query_of names.arrays tree ≡ Ok plan → IfOk answer (IsRowsReply style (schema_of plan)) → IfOk answer (λ reply. (db : Database) → tells db → reply ≡ plan_reply style db plan)
+      → IfOk answer (IsQueryReply style names tells tree)
   plan_answer (Ok reply) plan is kind told = of_plan plan reply is kind told
   plan_answer (Err fault) plan is kind told = tt
 
-  pub of_breach : (span : Span) (kind : TypeKind) (reply : Reply) → query_of names.arrays tree ≡ broken span kind → reply ≡ refused (Typing span kind) → IsQueryReply names tells tree reply
+  pub of_breach : (span : Span) (kind : TypeKind) (reply : Reply) → query_of names.arrays tree ≡ broken span kind → reply ≡ refused (Typing span kind) → IsQueryReply style names tells tree reply
   of_breach span kind reply is e = record {
-    kind = subst (λ (c : Checked Query). HasKind c reply) (sym is) e;
-    told = λ db t. e ∙ ap (checked_reply db) (sym is);
+    kind = subst (λ (c : Checked Query). HasKind style c reply) (sym is) e;
+    told = λ db t. e ∙ ap (checked_reply style db) (sym is);
   }
 
 module _ (old new : SourceState) (checked : Checked Query) where

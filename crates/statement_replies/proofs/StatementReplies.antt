@@ -23,6 +23,7 @@ use Rattle.statement_replies.specs.Reply.{cell_reply, checked_reply, plan_reply,
 use Rattle.statement_replies.specs.StatementKinds.{HasChangeKind, HasStatementKind, HasTypedKind, IsStatementReply, MayBreak, QueriesHaveTheirReplies, RepliesHaveStatementKinds}
 use Rattle.statement_replies.specs.Statements.{Accepted, accepted, changed_or_broken, list_reply, reply_to_checked, reply_to_typed, show_reply, versions_reply, without_change}
 use Rattle.statement_replies.specs.declared.replies.Reply.{Reply}
+use Rattle.statement_replies.specs.declared.style.Style.{Style}
 use Rattle.statement_replies.proofs.PlanReplies.{checked_kind}
 
 -- ---- kinds
@@ -38,47 +39,47 @@ change_kind db (Insert name schema plan) = may_break (names_of db) (Insert name 
 change_kind db (Remove name) = refl
 change_kind db (RemoveVersions name below) = refl
 
-typed_kind : (db : Database) (typed : Typed) → HasTypedKind (names_of db) typed (reply_to_typed db typed)
-typed_kind db (AQuery plan) = (checked_kind (rows_of db) (Ok plan), refl)
-typed_kind db (AChange change) = change_kind db change
-typed_kind db (Versions name) = refl
-typed_kind db (Show name) = refl
-typed_kind db ListArrays = refl
+typed_kind : (style : Style) (db : Database) (typed : Typed) → HasTypedKind style (names_of db) typed (reply_to_typed style db typed)
+typed_kind style db (AQuery plan) = (checked_kind style (rows_of db) (Ok plan), refl)
+typed_kind style db (AChange change) = change_kind db change
+typed_kind style db (Versions name) = refl
+typed_kind style db (Show name) = refl
+typed_kind style db ListArrays = refl
 
-statement_kind : (db : Database) (checked : Checked Typed) → HasStatementKind (names_of db) checked (reply_to_checked db checked)
-statement_kind db (Ok typed) = typed_kind db typed
-statement_kind db (Err breach) = refl
+statement_kind : (style : Style) (db : Database) (checked : Checked Typed) → HasStatementKind style (names_of db) checked (reply_to_checked style db checked)
+statement_kind style db (Ok typed) = typed_kind style db typed
+statement_kind style db (Err breach) = refl
 
 pub have_statement_kinds : RepliesHaveStatementKinds
-have_statement_kinds db text tree = statement_kind db (check_of tree text (names_of db))
+have_statement_kinds style db text tree = statement_kind style db (check_of tree text (names_of db))
 
 -- ---- a statement that is a query
 
-query_replied : (db : Database) (checked : Checked Query) → reply_to_checked db (queried checked) ≡ without_change (checked_reply (rows_of db) checked)
-query_replied db (Ok plan) = refl
-query_replied db (Err breach) = refl
+query_replied : (style : Style) (db : Database) (checked : Checked Query) → reply_to_checked style db (queried checked) ≡ without_change (checked_reply style (rows_of db) checked)
+query_replied style db (Ok plan) = refl
+query_replied style db (Err breach) = refl
 
 pub queries_replied : QueriesHaveTheirReplies
-queries_replied db text tree e = ap (reply_to_checked db) e ∙ query_replied db (query_of (names_of db).arrays tree)
+queries_replied style db text tree e = ap (reply_to_checked style db) e ∙ query_replied style db (query_of (names_of db).arrays tree)
 
 -- ---- a statement's reply, by what checking answers over the names of the databases that may stand
 
-module _ (names : Names) (stands : Database → Type 0) (named : (db : Database) → stands db → names_of db ≡ names) (text : List ℕ) (tree : Term) where
+module _ (style : Style) (names : Names) (stands : Database → Type 0) (named : (db : Database) → stands db → names_of db ≡ names) (text : List ℕ) (tree : Term) where
   abbrev IsReply : Accepted → Type 0
-  IsReply = IsStatementReply names stands text tree
+  IsReply = IsStatementReply style names stands text tree
 
-  by_check : (checked : Checked Typed) (answer : Accepted) → check_of tree text names ≡ checked → HasStatementKind names checked answer
-      → ((db : Database) → stands db → answer ≡ reply_to_checked db checked) → IsReply answer
+  by_check : (checked : Checked Typed) (answer : Accepted) → check_of tree text names ≡ checked → HasStatementKind style names checked answer
+      → ((db : Database) → stands db → answer ≡ reply_to_checked style db checked) → IsReply answer
   by_check checked answer is kind told = record {
-    kind = subst (λ (c : Checked Typed). HasStatementKind names c answer) (sym is) kind;
-    told = λ db there. told db there ∙ ap (reply_to_checked db) (sym is ∙ ap (check_of tree text) (sym (named db there)));
+    kind = subst (λ (c : Checked Typed). HasStatementKind style names c answer) (sym is) kind;
+    told = λ db there. told db there ∙ ap (reply_to_checked style db) (sym is ∙ ap (check_of tree text) (sym (named db there)));
   }
 
   pub of_breach : (span : Span) (kind : TypeKind) (reply : Reply) → check_of tree text names ≡ broken_rule span kind → reply ≡ refused (Typing span kind) → IsReply (without_change reply)
   of_breach span kind reply is e = by_check (broken_rule span kind) (without_change reply) is (ap without_change e) (λ db there. ap without_change e)
 
-  pub of_query : (plan : Query) (reply : Reply) → check_of tree text names ≡ Ok (AQuery plan) → IsRowsReply (schema_of plan) reply
-      → ((db : Database) → stands db → reply ≡ plan_reply (rows_of db) plan) → IsReply (without_change reply)
+  pub of_query : (plan : Query) (reply : Reply) → check_of tree text names ≡ Ok (AQuery plan) → IsRowsReply style (schema_of plan) reply
+      → ((db : Database) → stands db → reply ≡ plan_reply style (rows_of db) plan) → IsReply (without_change reply)
   of_query plan reply is kind told = by_check (Ok (AQuery plan)) (without_change reply) is (kind, refl) (λ db there. ap without_change (told db there))
 
   pub of_versions : (name : List ℕ) (reply : Reply) → check_of tree text names ≡ Ok (Versions name) → reply ≡ versions_reply names name → IsReply (without_change reply)

@@ -18,9 +18,14 @@ use Rattle.plan_changes.specs.Databases.{Database}
 use Rattle.plan_changes.specs.declared.change.Change.TheVariants.{Store, Remove}
 use Rattle.check_rules.specs.Operators.{query_named, change_named}
 use Rattle.result_print.specs.Listings.{list_text, show_text, stored_line, versions_text}
+use Rattle.result_print.specs.Records.{csv_text}
 use Rattle.result_print.specs.declared.refusal.Refusal.TheVariants.{Cell, Typing}
 use Rattle.statement_replies.specs.Reply.{refused, text_reply}
 use Rattle.statement_replies.specs.Statements.{reply_to, text_alone, without_change}
+use Rattle.statement_replies.specs.declared.style.Style.{Style}
+
+abbrev lines : Style
+lines = record { csv = false }
 
 abbrev at : ℕ → ℕ → Span
 at a b = record { start = a; end = b }
@@ -59,47 +64,52 @@ abbrev store_in : List ℕ → Term
 store_in target = call (at 0 11) (codes "store") (and_term (name 6 7 (codes "A")) (and_term (name 9 10 target) no_terms))
 
 -- A
-queried : reply_to db [] (name 0 1 (codes "A")) ≡ without_change (text_reply (line true) rows)
+queried : reply_to lines db [] (name 0 1 (codes "A")) ≡ without_change (text_reply lines (line true) rows)
 unfolding query_named change_named
 queried = refl
 
+-- A, as CSV
+queried_as_csv : reply_to (record { csv = true }) db [] (name 0 1 (codes "A")) ≡ without_change (text_alone (csv_text (line true) rows))
+unfolding query_named change_named
+queried_as_csv = refl
+
 -- store(A, A)
-stored : reply_to db [] (store_in (codes "A")) ≡ record { reply = text_alone (stored_line (codes "A") 4); change = Some (Store (codes "A") (line true) plan) }
+stored : reply_to lines db [] (store_in (codes "A")) ≡ record { reply = text_alone (stored_line (codes "A") 4); change = Some (Store (codes "A") (line true) plan) }
 unfolding query_named change_named
 stored = refl
 
 -- store(A, B)
-stored_anew : reply_to db [] (store_in (codes "B")) ≡ record { reply = text_alone (stored_line (codes "B") 1); change = Some (Store (codes "B") (line true) plan) }
+stored_anew : reply_to lines db [] (store_in (codes "B")) ≡ record { reply = text_alone (stored_line (codes "B") 1); change = Some (Store (codes "B") (line true) plan) }
 unfolding query_named change_named
 stored_anew = refl
 
 -- store(A, N)
-broken : reply_to db [] (store_in (codes "N")) ≡ without_change (refused (Cell (record { items = pos 3 ∷ [] }) NullInNotNull))
+broken : reply_to lines db [] (store_in (codes "N")) ≡ without_change (refused (Cell (record { items = pos 3 ∷ [] }) NullInNotNull))
 unfolding query_named change_named
 broken = refl
 
 -- remove(A)
-removed : reply_to db [] (one (codes "remove") 9 (name 7 8 (codes "A"))) ≡ record { reply = text_alone (codes "ok\n"); change = Some (Remove (codes "A")) }
+removed : reply_to lines db [] (one (codes "remove") 9 (name 7 8 (codes "A"))) ≡ record { reply = text_alone (codes "ok\n"); change = Some (Remove (codes "A")) }
 unfolding query_named change_named
 removed = refl
 
 -- versions(A)
-versions : reply_to db [] (one (codes "versions") 11 (name 9 10 (codes "A"))) ≡ without_change (text_alone (versions_text a))
+versions : reply_to lines db [] (one (codes "versions") 11 (name 9 10 (codes "A"))) ≡ without_change (text_alone (versions_text a))
 unfolding query_named change_named
 versions = refl
 
 -- show(N)
-shown : reply_to db [] (one (codes "show") 7 (name 5 6 (codes "N"))) ≡ without_change (text_alone (show_text n))
+shown : reply_to lines db [] (one (codes "show") 7 (name 5 6 (codes "N"))) ≡ without_change (text_alone (show_text n))
 unfolding query_named change_named
 shown = refl
 
 -- list('arrays')
-listed : reply_to db [] (one (codes "list") 14 (text (at 5 13) (codes "arrays")))
+listed : reply_to lines db [] (one (codes "list") 14 (text (at 5 13) (codes "arrays")))
     ≡ without_change (text_alone (list_text (record { arrays = a ∷ n ∷ [] })))
 unfolding query_named change_named
 listed = refl
 
 -- show(B)
-unknown : reply_to db [] (one (codes "show") 7 (name 5 6 (codes "B"))) ≡ without_change (refused (Typing (at 5 6) UnknownArray))
+unknown : reply_to lines db [] (one (codes "show") 7 (name 5 6 (codes "B"))) ≡ without_change (refused (Typing (at 5 6) UnknownArray))
 unfolding query_named change_named
 unknown = refl

@@ -13,21 +13,23 @@ use Rattle.check_laws.specs.Queries.{query_of}
 use Rattle.result_print.specs.declared.refusal.Refusal.TheVariants.{Typing}
 use Rattle.statement_replies.specs.Reply.{cell_reply, query_reply, refused, text_reply}
 use Rattle.statement_replies.specs.declared.replies.Reply.{Reply}
+use Rattle.statement_replies.specs.declared.style.Style.{Style}
 
 -- the text of some rows of this schema, or the refusal that tells of some cell
-abbrev pub IsRowsReply : Schema → Reply → Type 0
-IsRowsReply schema reply = ((rows : List Row) × (reply ≡ text_reply schema rows)) ⊎ ((broken : Broken) × (reply ≡ cell_reply broken))
+abbrev pub IsRowsReply : Style → Schema → Reply → Type 0
+IsRowsReply style schema reply = ((rows : List Row) × (reply ≡ text_reply style schema rows)) ⊎ ((broken : Broken) × (reply ≡ cell_reply broken))
 
 -- a rule that is broken is told, and else rows of the plan's schema are
-abbrev pub HasKind : Checked Query → Reply → Type 0
-HasKind (Ok query) reply = IsRowsReply (schema_of query) reply
-HasKind (Err breach) reply = reply ≡ refused (Typing breach.span breach.kind)
+abbrev pub HasKind : Style → Checked Query → Reply → Type 0
+HasKind style (Ok query) reply = IsRowsReply style (schema_of query) reply
+HasKind style (Err breach) reply = reply ≡ refused (Typing breach.span breach.kind)
 
 -- The reply to the tree of a query over a source: of this kind always, and in each database that the source tells the reply there.
-pub record IsQueryReply (names : Names) (tells : Database → Type 0) (tree : Term) (reply : Reply) : Type 0 where
-  pub kind : HasKind (query_of names.arrays tree) reply
-  pub told : (db : Database) → tells db → reply ≡ query_reply names db tree
+pub record IsQueryReply (style : Style) (names : Names) (tells : Database → Type 0) (tree : Term) (reply : Reply) : Type 0 where
+  pub kind : HasKind style (query_of names.arrays tree) reply
+  pub told : (db : Database) → tells db → reply ≡ query_reply style names db tree
 
 -- a reply over a database is of that kind
 abbrev pub RepliesHaveKinds : Type 0
-RepliesHaveKinds = (names : Names) (db : Database) (tree : Term) → HasKind (query_of names.arrays tree) (query_reply names db tree)
+RepliesHaveKinds = (style : Style) (names : Names) (db : Database) (tree : Term)
+    → HasKind style (query_of names.arrays tree) (query_reply style names db tree)

@@ -16,11 +16,12 @@ use Rattle.logical_plan.specs.Faults.{first_fault}
 use Rattle.logical_plan.specs.Meaning.{Database, Meant, meaning}
 use Rattle.check_rules.specs.Checked.{Checked}
 use Rattle.check_laws.specs.Queries.{query_of}
-use Rattle.result_print.specs.Texts.{array_text}
 use Rattle.result_print.specs.Lines.{line_of_refusal}
 use Rattle.result_print.specs.declared.refusal.Refusal.{Refusal}
 use Rattle.result_print.specs.declared.refusal.Refusal.TheVariants.{TooLong, Parse, Typing, Cell, Memory}
+use Rattle.statement_replies.specs.Printed.{printed}
 use Rattle.statement_replies.specs.declared.replies.Reply.{Reply}
+use Rattle.statement_replies.specs.declared.style.Style.{Style}
 
 -- a refusal, told by its line
 abbrev pub refused : Refusal → Reply
@@ -39,34 +40,34 @@ abbrev pub cell_reply : Broken → Reply
 cell_reply broken = refused (Cell broken.at broken.kind)
 
 -- the text of an array
-abbrev pub text_reply : Schema → List Row → Reply
-text_reply schema rows = record { text = array_text schema rows; refusal = None }
+abbrev pub text_reply : Style → Schema → List Row → Reply
+text_reply style schema rows = record { text = printed style schema rows; refusal = None }
 
 -- the fault, or else the text
-abbrev pub fault_or_text : Option Broken → Schema → List Row → Reply
-fault_or_text (Some fault) schema rows = cell_reply fault
-fault_or_text None schema rows = text_reply schema rows
+abbrev pub fault_or_text : Style → Option Broken → Schema → List Row → Reply
+fault_or_text style (Some fault) schema rows = cell_reply fault
+fault_or_text style None schema rows = text_reply style schema rows
 
 -- the first fault of an array, or its text
-abbrev pub array_reply : Schema → Result (List Row) Broken → Reply
-array_reply schema (Ok rows) = fault_or_text (first_fault rows) schema rows
-array_reply schema (Err broken) = cell_reply broken
+abbrev pub array_reply : Style → Schema → Result (List Row) Broken → Reply
+array_reply style schema (Ok rows) = fault_or_text style (first_fault rows) schema rows
+array_reply style schema (Err broken) = cell_reply broken
 
-abbrev pub meant_reply : Meant → Reply
-meant_reply array = array_reply array.schema array.rows
+abbrev pub meant_reply : Style → Meant → Reply
+meant_reply style array = array_reply style array.schema array.rows
 
 -- the reply to a plan
-abbrev pub plan_reply : Database → Query → Reply
-plan_reply db query = meant_reply (meaning db query)
+abbrev pub plan_reply : Style → Database → Query → Reply
+plan_reply style db query = meant_reply style (meaning db query)
 
 -- the reply to a query that was checked
-abbrev pub checked_reply : Database → Checked Query → Reply
-checked_reply db (Ok query) = plan_reply db query
-checked_reply db (Err breach) = refused (Typing breach.span breach.kind)
+abbrev pub checked_reply : Style → Database → Checked Query → Reply
+checked_reply style db (Ok query) = plan_reply style db query
+checked_reply style db (Err breach) = refused (Typing breach.span breach.kind)
 
 -- the reply to the tree of a query over stored arrays of these names and rows
-abbrev pub query_reply : Names → Database → Term → Reply
-query_reply names db tree = checked_reply db (query_of names.arrays tree)
+abbrev pub query_reply : Style → Names → Database → Term → Reply
+query_reply style names db tree = checked_reply style db (query_of names.arrays tree)
 
 -- ---- statements, where this is the reply to a tree
 

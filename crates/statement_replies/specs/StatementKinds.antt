@@ -18,6 +18,7 @@ use Rattle.result_print.specs.declared.refusal.Refusal.TheVariants.{Typing}
 use Rattle.statement_replies.specs.Kinds.{IsRowsReply}
 use Rattle.statement_replies.specs.Reply.{cell_reply, query_reply, refused}
 use Rattle.statement_replies.specs.Statements.{Accepted, accepted, list_reply, reply_to, show_reply, versions_reply, without_change}
+use Rattle.statement_replies.specs.declared.style.Style.{Style}
 
 -- the change, or the refusal that tells of some cell
 abbrev pub MayBreak : Names → Change → Accepted → Type 0
@@ -32,33 +33,34 @@ HasChangeKind names (Remove name) answer = answer ≡ accepted names (Remove nam
 HasChangeKind names (RemoveVersions name below) answer = answer ≡ accepted names (RemoveVersions name below)
 
 -- a query has some rows of its plan's schema, or the refusal that tells of some cell; a listing has its text
-abbrev pub HasTypedKind : Names → Typed → Accepted → Type 0
-HasTypedKind names (AQuery plan) answer = IsRowsReply (schema_of plan) answer.reply × (answer.change ≡ None)
-HasTypedKind names (AChange change) answer = HasChangeKind names change answer
-HasTypedKind names (Versions name) answer = answer ≡ without_change (versions_reply names name)
-HasTypedKind names (Show name) answer = answer ≡ without_change (show_reply names name)
-HasTypedKind names ListArrays answer = answer ≡ without_change (list_reply names)
+abbrev pub HasTypedKind : Style → Names → Typed → Accepted → Type 0
+HasTypedKind style names (AQuery plan) answer = IsRowsReply style (schema_of plan) answer.reply × (answer.change ≡ None)
+HasTypedKind style names (AChange change) answer = HasChangeKind names change answer
+HasTypedKind style names (Versions name) answer = answer ≡ without_change (versions_reply names name)
+HasTypedKind style names (Show name) answer = answer ≡ without_change (show_reply names name)
+HasTypedKind style names ListArrays answer = answer ≡ without_change (list_reply names)
 
 -- a rule that is broken is told
-abbrev pub HasStatementKind : Names → Checked Typed → Accepted → Type 0
-HasStatementKind names (Ok typed) answer = HasTypedKind names typed answer
-HasStatementKind names (Err breach) answer = answer ≡ without_change (refused (Typing breach.span breach.kind))
+abbrev pub HasStatementKind : Style → Names → Checked Typed → Accepted → Type 0
+HasStatementKind style names (Ok typed) answer = HasTypedKind style names typed answer
+HasStatementKind style names (Err breach) answer = answer ≡ without_change (refused (Typing breach.span breach.kind))
 
 -- What a tree of a text is answered over stored arrays of these names: of this kind always, and in each database that may stand
 -- there the reply there.
-pub record IsStatementReply (names : Names) (stands : Database → Type 0) (text : List ℕ) (tree : Term) (answer : Accepted) : Type 0 where
-  pub kind : HasStatementKind names (check_of tree text names) answer
-  pub told : (db : Database) → stands db → answer ≡ reply_to db text tree
+pub record IsStatementReply (style : Style) (names : Names) (stands : Database → Type 0) (text : List ℕ) (tree : Term) (answer : Accepted) : Type 0 where
+  pub kind : HasStatementKind style names (check_of tree text names) answer
+  pub told : (db : Database) → stands db → answer ≡ reply_to style db text tree
 
 -- what is answered over a database is of that kind
 abbrev pub RepliesHaveStatementKinds : Type 0
-RepliesHaveStatementKinds = (db : Database) (text : List ℕ) (tree : Term)
-    → HasStatementKind (names_of db) (check_of tree text (names_of db)) (reply_to db text tree)
+RepliesHaveStatementKinds = (style : Style) (db : Database) (text : List ℕ) (tree : Term)
+    → HasStatementKind style (names_of db) (check_of tree text (names_of db)) (reply_to style db text tree)
 
 -- a tree that is checked as a query has the reply to the query
 abbrev pub QueriesHaveTheirReplies : Type 0
-QueriesHaveTheirReplies = (db : Database) (text : List ℕ) (tree : Term) → check_of tree text (names_of db) ≡ queried (query_of (names_of db).arrays tree)
-    → reply_to db text tree ≡ without_change (query_reply (names_of db) (rows_of db) tree)
+QueriesHaveTheirReplies = (style : Style) (db : Database) (text : List ℕ) (tree : Term)
+    → check_of tree text (names_of db) ≡ queried (query_of (names_of db).arrays tree)
+    → reply_to style db text tree ≡ without_change (query_reply style (names_of db) (rows_of db) tree)
 
 -- the array, if any, whose versions or schema are listed stands
 abbrev pub NamesWhatStands : Names → Typed → Type 0

@@ -19,6 +19,7 @@ use Rattle.result_print.specs.Listings.{list_text, ok_line, show_text, stored_li
 use Rattle.result_print.specs.declared.refusal.Refusal.TheVariants.{Typing}
 use Rattle.statement_replies.specs.Reply.{cell_reply, plan_reply, refused}
 use Rattle.statement_replies.specs.declared.replies.Reply.{Reply}
+use Rattle.statement_replies.specs.declared.style.Style.{Style}
 
 -- the reply, and the change where the statement is accepted as one
 pub record Accepted : Type 0 where
@@ -71,17 +72,17 @@ changed_or_broken names change None = accepted names change
 
 -- ---- statements
 
-abbrev pub reply_to_typed : Database → Typed → Accepted
-reply_to_typed db (AQuery plan) = without_change (plan_reply (rows_of db) plan)
-reply_to_typed db (AChange change) = changed_or_broken (names_of db) change (fault_of_change db change)
-reply_to_typed db (Versions name) = without_change (versions_reply (names_of db) name)
-reply_to_typed db (Show name) = without_change (show_reply (names_of db) name)
-reply_to_typed db ListArrays = without_change (list_reply (names_of db))
+abbrev pub reply_to_typed : Style → Database → Typed → Accepted
+reply_to_typed style db (AQuery plan) = without_change (plan_reply style (rows_of db) plan)
+reply_to_typed style db (AChange change) = changed_or_broken (names_of db) change (fault_of_change db change)
+reply_to_typed style db (Versions name) = without_change (versions_reply (names_of db) name)
+reply_to_typed style db (Show name) = without_change (show_reply (names_of db) name)
+reply_to_typed style db ListArrays = without_change (list_reply (names_of db))
 
-abbrev pub reply_to_checked : Database → Checked Typed → Accepted
-reply_to_checked db (Ok typed) = reply_to_typed db typed
-reply_to_checked db (Err breach) = without_change (refused (Typing breach.span breach.kind))
+abbrev pub reply_to_checked : Style → Database → Checked Typed → Accepted
+reply_to_checked style db (Ok typed) = reply_to_typed style db typed
+reply_to_checked style db (Err breach) = without_change (refused (Typing breach.span breach.kind))
 
--- what a statement's tree, which is of this text, is answered over a database
-abbrev pub reply_to : Database → List ℕ → Term → Accepted
-reply_to db text tree = reply_to_checked db (check_of tree text (names_of db))
+-- what a statement's tree, which is of this text, is answered over a database, in this style
+abbrev pub reply_to : Style → Database → List ℕ → Term → Accepted
+reply_to style db text tree = reply_to_checked style db (check_of tree text (names_of db))

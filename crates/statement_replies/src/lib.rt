@@ -5,6 +5,7 @@ mod laws;
 mod listings;
 mod queries;
 mod replies;
+mod style;
 mod texts;
 
 pub use laws::{
@@ -14,3 +15,4 @@ pub use laws::{
 pub use listings::{accepted_line, list_reply, show_reply, versions_reply};
 pub use queries::{answer_query, reply_to_query};
 pub use replies::{Reply, refuse};
+pub use style::Style;

@@ -18,6 +18,7 @@ ghost use Rattle.statement_replies.specs.Reading.{HoldsVersions, asked_for};
 ghost use Rattle.statement_replies.specs.Reply.{meant_reply, plan_reply};
 
 use crate::replies::{Reply, refuse};
+use crate::style::Style;
 use crate::texts::text_of;
 use afl_outside::Gate;
 use afl_trees::Tree;
@@ -32,7 +33,7 @@ use std::alloc::Global;
 use std::thread::Threads;
 
 /// The reply to the tree of a query, over the arrays of a source that has the versions of these names: the first rule that it
-/// breaks, else its array's first fault, else its array's text.
+/// breaks, else its array's first fault, else its array's text in this style.
 pub fn reply_to_query<S: ChunkSource, R: Threads + Sync, G: Gate>(
     rt: &R,
     alloc: Global,
@@ -40,6 +41,7 @@ pub fn reply_to_query<S: ChunkSource, R: Threads + Sync, G: Gate>(
     tree: &Tree,
     names: &Names,
     source: &mut S,
+    style: Style,
     workers: u32,
     session: u32,
     gate: &G,
@@ -49,7 +51,7 @@ pub fn reply_to_query<S: ChunkSource, R: Threads + Sync, G: Gate>(
     requires valid { AreValid names.now.arrays }
     requires holds { HoldsVersions names.now (S.state source.old) }
     requires workers { (1 ≤ workers) × (workers ≤ 64) }
-    ensures reply { IfOk result (IsQueryReply names.now (S.state source.old).tells tree.now) }
+    ensures reply { IfOk result (IsQueryReply style names.now (S.state source.old).tells tree.now) }
     ensures asked { let old = S.state source.old in
         let all = asked_for old (query_of names.now.arrays tree.now) in
         OnOk result ((S.state source.new).asked ≡ old.asked ++ all) }
@@ -62,7 +64,7 @@ pub fn reply_to_query<S: ChunkSource, R: Threads + Sync, G: Gate>(
 {
     match query_plan(alloc, tree, text, names) {
         Ok(plan) => {
-            let answer = answer_query(rt, alloc, &plan, source, workers, session, gate);
+            let answer = answer_query(rt, alloc, &plan, source, style, workers, session, gate);
             drop(plan);
             answer
         }
@@ -72,12 +74,13 @@ pub fn reply_to_query<S: ChunkSource, R: Threads + Sync, G: Gate>(
 }
 
 /// The reply to a query's plan, over the arrays of a source that has the versions which it reads: its array's first fault, or else
-/// its array's text.
+/// its array's text in this style.
 pub fn answer_query<S: ChunkSource, R: Threads + Sync, G: Gate>(
     rt: &R,
     alloc: Global,
     plan: &Plan,
     source: &mut S,
+    style: Style,
     workers: u32,
     session: u32,
     gate: &G,
@@ -85,8 +88,8 @@ pub fn answer_query<S: ChunkSource, R: Threads + Sync, G: Gate>(
     requires undamaged { (S.state source.old).damaged ≡ None }
     requires can { CanCompute (S.state source.old) plan.now }
     requires workers { (1 ≤ workers) × (workers ≤ 64) }
-    ensures kind { IfOk result (IsRowsReply (schema_of plan.now)) }
-    ensures told { IfOk result (λ reply. (db : Database) → (S.state source.old).tells db → reply ≡ plan_reply db plan.now) }
+    ensures kind { IfOk result (IsRowsReply style (schema_of plan.now)) }
+    ensures told { IfOk result (λ reply. (db : Database) → (S.state source.old).tells db → reply ≡ plan_reply style db plan.now) }
     ensures asked { OnOk result ((S.state source.new).asked ≡ (S.state source.old).asked ++ asked_of (S.state source.old) 0 (leaves plan.now)) }
     ensures front { let old = S.state source.old in OnErr result (AsksFront (asked_of old 0 (leaves plan.now)) old (S.state source.new)) }
     ensures kept { Keeps (S.state source.old) (S.state source.new) }
@@ -94,7 +97,7 @@ pub fn answer_query<S: ChunkSource, R: Threads + Sync, G: Gate>(
     ensures start { S.start source.new ≡ S.start source.old }
 {
     match array_of(rt, alloc, plan, source, workers, session, gate) {
-        Ok(found) => match reply_of(alloc, found) {
+        Ok(found) => match reply_of(alloc, style, found) {
             Ok(reply) => Ok(reply),
             Err(Memory) => Err(ExecFault::Memory),
         },
@@ -104,15 +107,15 @@ pub fn answer_query<S: ChunkSource, R: Threads + Sync, G: Gate>(
 
 /// The reply that tells what a plan gives.
 #[tactic(auto, using(crate::proofs::PlanReplies::fault_reply, crate::proofs::PlanReplies::rows_reply))]
-fn reply_of(alloc: Global, found: PlanArray) -> Result<Reply, Memory>
+fn reply_of(alloc: Global, style: Style, found: PlanArray) -> Result<Reply, Memory>
     requires { HoldsCells found }
-    ensures kind { (schema : Schema) → HasSchema schema (rows_held found) → IfOk result (IsRowsReply schema) }
-    ensures told { (meant : Meant) → IsFound meant (rows_held found) → IfOk result (λ reply. reply ≡ meant_reply meant) }
+    ensures kind { (schema : Schema) → HasSchema schema (rows_held found) → IfOk result (IsRowsReply style schema) }
+    ensures told { (meant : Meant) → IsFound meant (rows_held found) → IfOk result (λ reply. reply ≡ meant_reply style meant) }
 {
     match found {
         PlanArray::Fault(Broken { at, kind }) => refuse(alloc, Refusal::Cell { at, kind }),
         PlanArray::Whole(array) => Ok(Reply {
-            text: text_of(alloc, &array)?,
+            text: text_of(alloc, style, &array)?,
             refusal: None,
         }),
     }

@@ -5,15 +5,18 @@
 //! with its place, `split TEXT` by each piece of a script, `schema 1 TEXT` by the schema that begins at token 1, and
 //! `tree TEXT` by the schema as it is written. `array A 4 1,3 SCHEMA`, an array with its next number and its versions, is
 //! answered by the texts of `show` and `versions`, of a store and of another change, `list` and such arrays with `|` between
-//! by their list, and `refusal full 3 1` by the refusal's line.
+//! by their list, and `refusal full 3 1` by the refusal's line. `cells TEXT` is answered by both texts of an array whose cells
+//! are the parts of the text between each `|`.
 #![tactic(auto)]
 
+mod arrays;
 mod pieces;
 mod replies;
 mod schemas;
 mod tokens;
 
 use anyhow::Result;
+use arrays::push_cells;
 use cell_values::{Bytes, Memory};
 use pieces::push_pieces;
 use replies::{push_array, push_list, push_refusal};
@@ -61,6 +64,10 @@ fn push_answer(out: &mut String, line: &str) -> Result<()> {
             let (from, text) = rest.split_once(' ').unwrap_or((rest, ""));
             push_read(out, from, script_of(alloc, text)?.as_slice())
         }
+        Some(("cells", cells)) => push_cells(
+            out,
+            from_utf8(script_of(alloc, cells)?.as_slice()).unwrap_or(""),
+        ),
         Some(("array", array)) => push_array(out, array),
         Some(("list", arrays)) => push_list(out, arrays),
         Some(("refusal", refusal)) => push_refusal(out, refusal),

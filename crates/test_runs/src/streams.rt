@@ -38,3 +38,14 @@ pub(crate) fn device_of(alloc: Global, length: usize, fails: &[u64]) -> Result<M
     let files = file_of(alloc, b"db", zeros.as_slice(), fails)?;
     Ok(MemShelf::new(files, List::new(alloc), List::new(alloc)))
 }
+
+/// The device `db` with these bytes, and a script as standard input.
+pub(crate) fn database_of(
+    alloc: Global,
+    database: &[u8],
+    script: &[u8],
+) -> Result<MemShelf, Memory> {
+    let mut files = file_of(alloc, b"db", database, &[])?;
+    files.append(file_of(alloc, b"-", script, &[])?)?;
+    Ok(MemShelf::new(files, List::new(alloc), List::new(alloc)))
+}

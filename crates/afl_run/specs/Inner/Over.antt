@@ -15,6 +15,7 @@ use Rattle.session_reports.specs.declared.notices.Notice.TheVariants.{Damaged, D
 use Rattle.session_reports.specs.declared.reports.Streams.{Streams}
 use Rattle.turn_lock.specs.Owners.{AreOwnedBelow}
 use Rattle.session_threads.specs.Sessions.{AreSessionsOf}
+use Rattle.session_threads.specs.Style.{Style}
 use Rattle.store_opening.specs.declared.opening.Limits.{Limits}
 use Rattle.store_state.specs.Events.{events, owner_of}
 use Rattle.store_state.specs.Standings.{BeganAs, Standing}
@@ -36,13 +37,13 @@ module _ {D S K : Type 0} where
     pub cause : TellsUnopened run.notice (moment disk).state (moment run.disk).state
     pub unwritten : (moment run.disk).state.seen ≡ (moment disk).state.seen
 
-module _ {D S K : Type 0} (moment : D → Moment) (source_state : S → SourceState) (sink_state : K → SinkState) where
+module _ {D S K : Type 0} (style : Style) (moment : D → Moment) (source_state : S → SourceState) (sink_state : K → SinkState) where
   -- SESSIONS RAN over a store that began so, which was this at its end: each served its streams, over the one history that the store has at its end
   pub record RunsTo (start : Start D) (streams : List (Streams S K)) (end : Standing D) (run : StoreRun D S K) : Type 0 where
     pub began : start_of end ≡ start
     pub ends : EndsWith moment end run
     pub count : length run.sessions ≡ length streams
-    pub each : AreSessionsOf moment source_state sink_state start streams run.sessions (events end)
+    pub each : AreSessionsOf style moment source_state sink_state start streams run.sessions (events end)
     pub others : AreOwnedBelow owner_of (length streams) (events end)
     pub told : (run.notice ≡ Memory) ⊎ (run.notice ≡ notice_of run.sessions)
     pub disk : run.notice ≡ Disk → Rose (moment end.opened.disk).state.faults (moment end.disk).state.faults

@@ -10,6 +10,7 @@ use Rattle.run_opening.specs.Names.{Word, stream_names}
 use Rattle.run_opening.specs.Opened.{HandsOut, LeavesUnasked, StopsAt}
 use Rattle.session_reports.specs.declared.reports.SessionReport.{SessionReport}
 use Rattle.session_reports.specs.declared.notices.Notice.{Notice}
+use Rattle.session_threads.specs.Style.{Style}
 use Rattle.afl_run.specs.OneHistory.{IsOneHistory}
 use Rattle.afl_run.specs.Run.{AreOfScripts, BeganFrom, HandsOutStreams, IsOfStore, TellsSessions, TellsUnrun, state_in}
 
@@ -22,7 +23,7 @@ pub record IsAsBegun (disk : DiskState) : Type 0 where
 abbrev pub GoesOn : {D : Type 0} → (D → Moment) → D → Option D → Type 0
 GoesOn moment disk device = IsSomeAnd device (λ later. DiskGoesOn (moment disk).state (moment later).state)
 
-module _ {D S K : Type 0} (moment : D → Moment) (source_state : S → SourceState) (sink_state : K → SinkState) (old new : ShelfState)
+module _ {D S K : Type 0} (style : Style) (moment : D → Moment) (source_state : S → SourceState) (sink_state : K → SinkState) (old new : ShelfState)
     (notice : Notice) (history : List Entry) (sessions : List (SessionReport S K)) (free : ℕ) where
   pub record RunsOn (disk : D) (scripts : List Word) (pages limit : ℕ) (device : Option D) : Type 0 where
     pub opened : AreOfScripts source_state sink_state old scripts sessions
@@ -35,5 +36,5 @@ module _ {D S K : Type 0} (moment : D → Moment) (source_state : S → SourceSt
     -- of the device only what happened to it is told here
     pub none : sessions ≡ [] → (history ≡ []) × (free ≡ 0) × ((asked : Word) → TellsUnrun notice asked scripts (state_in moment device) old new)
     pub told : TellsSessions notice sessions
-    pub one : sessions ≢ [] → (store : Standing D) × IsOneHistory moment source_state sink_state sessions notice history free store
+    pub one : sessions ≢ [] → (store : Standing D) × IsOneHistory style moment source_state sink_state sessions notice history free store
         × BeganFrom moment pages limit device store

@@ -1,48 +1,71 @@
 -- What is read of words, one after the other.
-use Rattle.std.specs.Prelude.{ℕ, ◌+◌, Bool, ◌&&◌, ◌||◌, not, nat_lt, if◌then◌else◌, codes, List, [], ◌∷◌, ◌++◌, length}
+use Rattle.std.specs.Prelude.{ℕ, ◌+◌, Bool, true, false, ◌&&◌, ◌||◌, not, nat_lt, if◌then◌else◌, codes, List, [], ◌∷◌, ◌++◌, length}
 use Rattle.std.specs.Prelude.{Option, None, Some, Result, Ok, Err, is_some, unwrap_or}
 use Rattle.std.specs.List.{list_any}
 use Rattle.std.specs.Str.{bytes_eq}
 use Rattle.std.specs.Str.Parse.{digits_value}
 use Rattle.command_words.specs.declared.forms.Form.{Form}
-use Rattle.command_words.specs.declared.forms.Form.TheVariants.{Try, Init, Run}
+use Rattle.command_words.specs.declared.forms.Form.TheVariants.{Try, Init, Run, Generate}
 use Rattle.command_words.specs.declared.settings.RunOption.{RunOption}
-use Rattle.command_words.specs.declared.settings.RunOption.TheVariants.{Pages, History}
+use Rattle.command_words.specs.declared.settings.RunOption.TheVariants.{Pages, History, Workers, Format}
 use Rattle.command_words.specs.declared.settings.Settings.{Settings}
-use Rattle.command_words.specs.Forms.{Word, is_dashed, is_setting_number}
+use Rattle.command_words.specs.Forms.{Word, is_dashed, is_number_within, is_script_number}
 
-abbrev pub given : Settings → RunOption → Option ℕ
-given settings Pages = settings.pages
-given settings History = settings.history
-
-abbrev pub with_number : Settings → RunOption → ℕ → Settings
-with_number settings Pages number = record settings { pages = Some number }
-with_number settings History number = record settings { history = Some number }
+abbrev pub is_given : Settings → RunOption → Bool
+is_given settings Pages = is_some settings.pages
+is_given settings History = is_some settings.history
+is_given settings Workers = is_some settings.workers
+is_given settings Format = settings.csv
 
 abbrev pub no_settings : Settings
-no_settings = record { pages = None; history = None }
+no_settings = record { pages = None; history = None; workers = None; csv = false }
 
-abbrev pub words_of : Option ℕ → ℕ
-words_of None = 0
-words_of (Some number) = 2
+-- the number that the word is, in this range
+abbrev pub number_within : ℕ → ℕ → Word → Option ℕ
+number_within least most word = if is_number_within least most word then Some (digits_value 10 word) else None
+
+abbrev pub with_pages : Settings → Option ℕ → Option Settings
+with_pages settings None = None
+with_pages settings (Some number) = Some (record settings { pages = Some number })
+
+abbrev pub with_history : Settings → Option ℕ → Option Settings
+with_history settings None = None
+with_history settings (Some number) = Some (record settings { history = Some number })
+
+abbrev pub with_workers : Settings → Option ℕ → Option Settings
+with_workers settings None = None
+with_workers settings (Some number) = Some (record settings { workers = Some number })
+
+-- these settings and the option with what is said of it, where that may be said
+abbrev pub with_said : Settings → RunOption → Word → Option Settings
+with_said settings Pages said = with_pages settings (number_within 16 1048576 said)
+with_said settings History said = with_history settings (number_within 16 1048576 said)
+with_said settings Workers said = with_workers settings (number_within 1 64 said)
+with_said settings Format said = if bytes_eq said (codes "csv+") then Some (record settings { csv = true }) else None
+
+abbrev pub words_of : Bool → ℕ
+words_of false = 0
+words_of true = 2
 
 -- the place behind the device and the options so far
 abbrev pub place_of : Settings → ℕ
-place_of settings = 2 + words_of settings.pages + words_of settings.history
+place_of settings = 2 + words_of (is_some settings.pages) + words_of (is_some settings.history) + words_of (is_some settings.workers) + words_of settings.csv
 
 abbrev pub option_of : Word → Option RunOption
-option_of word = if bytes_eq word (codes "--pages") then Some Pages else if bytes_eq word (codes "--history") then Some History else None
+option_of word =
+    if bytes_eq word (codes "--pages") then Some Pages
+    else if bytes_eq word (codes "--history") then Some History
+    else if bytes_eq word (codes "--workers") then Some Workers
+    else if bytes_eq word (codes "--format") then Some Format
+    else None
 
 abbrev pub if_new : Settings → Option RunOption → Option RunOption
 if_new settings None = None
-if_new settings (Some option) = if is_some (given settings option) then None else Some option
+if_new settings (Some option) = if is_given settings option then None else Some option
 
 -- the option that the word names, if it isn't given yet
 abbrev pub next_option : Settings → Word → Option RunOption
 next_option settings word = if_new settings (option_of word)
-
-abbrev pub number_of : Word → Option ℕ
-number_of word = if is_setting_number word then Some (digits_value 10 word) else None
 
 -- whether the reply of the script has the name
 abbrev pub is_reply_of : Word → Word → Bool
@@ -65,7 +88,7 @@ wrong_from device before (word ∷ words) =
     if can_stand device before word then wrong_from device (before ++ word ∷ []) words else Some (length before)
 
 abbrev pub run_of : Settings → Form
-run_of settings = Run 1 (unwrap_or settings.pages 65536) (unwrap_or settings.history 1048576) (place_of settings)
+run_of settings = Run 1 (unwrap_or settings.workers 4) (unwrap_or settings.pages 65536) (unwrap_or settings.history 1048576) settings.csv (place_of settings)
 
 abbrev pub scripts_outcome : Settings → Option ℕ → Result Form ℕ
 scripts_outcome settings None = Ok (run_of settings)
@@ -74,18 +97,22 @@ scripts_outcome settings (Some place) = Err (place_of settings + place)
 abbrev pub read_scripts : Word → Settings → List Word → Result Form ℕ
 read_scripts device settings words = scripts_outcome settings (wrong_from device [] words)
 
-abbrev pub by_option : Settings → Option RunOption → Option ℕ → Result Form ℕ → (Settings → Result Form ℕ) → Result Form ℕ
-by_option settings None number scripts rest = scripts
-by_option settings (Some option) None scripts rest = Err (place_of settings + 1)
-by_option settings (Some option) (Some number) scripts rest = rest (with_number settings option number)
+abbrev pub by_said : Settings → Option Settings → (Settings → Result Form ℕ) → Result Form ℕ
+by_said settings None rest = Err (place_of settings + 1)
+by_said settings (Some next) rest = rest next
+
+abbrev pub by_option : Settings → Option RunOption → (RunOption → Option Settings) → Result Form ℕ → (Settings → Result Form ℕ) → Result Form ℕ
+by_option settings None said scripts rest = scripts
+by_option settings (Some option) said scripts rest = by_said settings (said option) rest
 
 -- the words behind the device and the options so far
 abbrev pub read_settings : Word → List Word → Settings → Result Form ℕ
 read_settings device [] settings = Err (place_of settings)
 read_settings device (word ∷ []) settings =
-    by_option settings (next_option settings word) None (read_scripts device settings (word ∷ [])) (λ next. Err (place_of next))
-read_settings device (word ∷ number ∷ words) settings =
-    by_option settings (next_option settings word) (number_of number) (read_scripts device settings (word ∷ number ∷ words)) (read_settings device words)
+    by_option settings (next_option settings word) (λ option. None) (read_scripts device settings (word ∷ [])) (λ next. Err (place_of next))
+read_settings device (word ∷ said ∷ words) settings =
+    by_option settings (next_option settings word) (λ option. with_said settings option said) (read_scripts device settings (word ∷ said ∷ words))
+    (read_settings device words)
 
 abbrev pub read_run : List Word → Result Form ℕ
 read_run [] = Err 1
@@ -100,11 +127,34 @@ abbrev pub read_try : List Word → Result Form ℕ
 read_try [] = Ok Try
 read_try (word ∷ words) = Err 1
 
+abbrev pub script_number : Word → Option ℕ
+script_number word = if is_script_number word then Some (digits_value 10 word) else None
+
+abbrev pub by_workers : ℕ → Option ℕ → List Word → Result Form ℕ
+by_workers number None words = Err 3
+by_workers number (Some workers) [] = Ok (Generate number workers)
+by_workers number (Some workers) (word ∷ words) = Err 4
+
+-- the words behind the number of a script
+abbrev pub read_workers : ℕ → List Word → Result Form ℕ
+read_workers number [] = Ok (Generate number 4)
+read_workers number (name ∷ []) = if bytes_eq name (codes "--workers") then Err 3 else Err 2
+read_workers number (name ∷ said ∷ words) = if bytes_eq name (codes "--workers") then by_workers number (number_within 1 64 said) words else Err 2
+
+abbrev pub by_script_number : Option ℕ → List Word → Result Form ℕ
+by_script_number None words = Err 1
+by_script_number (Some number) words = read_workers number words
+
+abbrev pub read_generate : List Word → Result Form ℕ
+read_generate [] = Err 1
+read_generate (digits ∷ words) = by_script_number (script_number digits) words
+
 abbrev pub read_verb : Word → List Word → Result Form ℕ
 read_verb verb words =
     if bytes_eq verb (codes "try") then read_try words
     else if bytes_eq verb (codes "init") then read_init words
     else if bytes_eq verb (codes "run") then read_run words
+    else if bytes_eq verb (codes "generate") then read_generate words
     else Err 0
 
 abbrev pub read_words : List Word → Result Form ℕ

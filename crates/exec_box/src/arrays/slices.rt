@@ -12,7 +12,9 @@ ghost use Rattle.exec_box.specs.Parts.{slice_meant};
 
 use crate::arrays::building::{broken_part, built};
 use crate::arrays::schemas::sliced_schema;
+use crate::arrays::slice_pieces::slice_by_pieces;
 use crate::rows::slice_of_rows;
+use area_cells::are_rising;
 use array_geom::ChunkedArray;
 use cell_values::{List, Memory, Row, Schema};
 use chunk_cells::into_core_rows;
@@ -44,6 +46,26 @@ fn slice_of_whole(
     built(schema, &cells)
 }
 
+/// The slice of an array that is not broken, chunk by chunk where the numbers of its chunks rise, as those of an array do.
+fn slice_of_any(
+    schema: &Schema,
+    array: ChunkedArray,
+    fixed: &[Fixed],
+) -> Result<ChunkedArray, Memory>
+    requires whole { array.broken ≡ None }
+    requires cells { HaveCells array.schema array.margins.items array.chunks }
+    requires valid { IsValid schema.now }
+    requires schema { schema.now ≡ slice_schema fixed.now array.schema }
+    ensures array { IfOk result (λ slice. Is slice (slice_meant fixed.now (meant_by_cores array))) }
+    ensures margins { IfOk result (λ slice. slice.margins.items ≡ overlaps schema.now.dimensions) }
+{
+    if are_rising(array.chunks.as_slice(), array.schema.dimensions.len()) {
+        slice_by_pieces(schema, &array, fixed)
+    } else {
+        slice_of_whole(schema, array, fixed)
+    }
+}
+
 /// The cells of an array where some dimensions have these numbers, without these dimensions. What the array's margins hold
 /// doesn't matter.
 pub fn slice_owned(array: ChunkedArray, fixed: &[Fixed]) -> Result<ChunkedArray, Memory>
@@ -55,7 +77,7 @@ pub fn slice_owned(array: ChunkedArray, fixed: &[Fixed]) -> Result<ChunkedArray,
     let schema = sliced_schema(&array.schema, fixed)?;
     match &array.broken {
         Some(broken) => broken_part(&schema, broken),
-        None => slice_of_whole(&schema, array, fixed),
+        None => slice_of_any(&schema, array, fixed),
     }
 }
 

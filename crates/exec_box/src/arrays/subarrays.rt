@@ -12,8 +12,10 @@ ghost use Rattle.logical_plan.specs.PlanSchema.{subarray_schema};
 ghost use Rattle.exec_box.specs.Parts.{part_meant};
 
 use crate::arrays::building::{bounds, broken_part, built};
+use crate::arrays::part_pieces::part_by_pieces;
 use crate::arrays::schemas::part_schema;
 use crate::rows::part_of_rows;
+use area_cells::are_rising;
 use array_geom::{Boxes, ChunkedArray};
 use cell_values::{Bounds, List, Memory, Row, Schema};
 use chunk_cells::into_core_rows;
@@ -45,6 +47,22 @@ fn part_of_whole(
     built(schema, &cells)
 }
 
+/// The part of an array that is not broken, chunk by chunk where the numbers of its chunks rise, as those of an array do.
+fn part_of_any(schema: &Schema, array: ChunkedArray, area: &Bounds) -> Result<ChunkedArray, Memory>
+    requires whole { array.broken ≡ None }
+    requires cells { HaveCells array.schema array.margins.items array.chunks }
+    requires valid { IsValid schema.now }
+    requires schema { schema.now ≡ subarray_schema area.now array.schema }
+    ensures array { IfOk result (λ part. Is part (part_meant area.now (meant_by_cores array))) }
+    ensures margins { IfOk result (λ part. part.margins.items ≡ overlaps schema.now.dimensions) }
+{
+    if are_rising(array.chunks.as_slice(), array.schema.dimensions.len()) {
+        part_by_pieces(schema, &array, area)
+    } else {
+        part_of_whole(schema, array, area)
+    }
+}
+
 /// The cells of an array in a box, moved so that the box begins at 0 in each dimension. What the array's margins hold doesn't
 /// matter.
 pub fn subarray_owned(array: ChunkedArray, area: &Bounds) -> Result<ChunkedArray, Memory>
@@ -56,7 +74,7 @@ pub fn subarray_owned(array: ChunkedArray, area: &Bounds) -> Result<ChunkedArray
     let schema = part_schema(&array.schema, area)?;
     match &array.broken {
         Some(broken) => broken_part(&schema, broken),
-        None => part_of_whole(&schema, array, area),
+        None => part_of_any(&schema, array, area),
     }
 }
 

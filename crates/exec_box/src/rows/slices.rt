@@ -15,7 +15,7 @@ fn has_fixed(at: &Coord, fixed: &[Fixed]) -> bool
         .all(|f| number_at(at, f.dimension as usize) == f.at)
 }
 
-fn is_fixed(fixed: &[Fixed], place: usize) -> bool
+pub(crate) fn is_fixed(fixed: &[Fixed], place: usize) -> bool
     ensures { result ≡ list_any (λ f. f.dimension == place) fixed.now }
 {
     fixed.iter().any(|f| f.dimension as usize == place)

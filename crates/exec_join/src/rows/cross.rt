@@ -85,7 +85,7 @@ fn left_places(left: &List<Row>, pairs: &[Pair]) -> Result<List<u32>, Memory>
     Ok(places)
 }
 
-fn right_places(right: &List<Row>, pairs: &[Pair]) -> Result<List<u32>, Memory>
+pub(crate) fn right_places(right: &List<Row>, pairs: &[Pair]) -> Result<List<u32>, Memory>
     ensures { IfOk result (λ places. places ≡ right_places pairs.now) }
 {
     let mut places = right.another();

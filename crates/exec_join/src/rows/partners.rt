@@ -29,7 +29,7 @@ pub(crate) fn numbers_at(places: &[u32], at: &Coord) -> Coord
     numbers
 }
 
-fn is_among(places: &[u32], place: usize) -> bool
+pub(crate) fn is_among(places: &[u32], place: usize) -> bool
     ensures { result ≡ list_any (λ p. p == place) places.now }
 {
     places.iter().any(|p| *p as usize == place)

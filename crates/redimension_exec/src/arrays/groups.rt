@@ -7,9 +7,10 @@ ghost use Rattle.exec_group.specs.Counts.{cells_in};
 ghost use Rattle.redimension_exec.specs.Inner.Counting.{has_counted};
 ghost use Rattle.redimension_exec.specs.Inner.Grouping.{AreGroupsLanded};
 
-use crate::landings::landed_rows;
+use crate::landings::groups_from;
+use crate::places::{bounds_of, places_of_dimensions};
 use cell_values::{Broken, List, Memory, Row, Schema};
-use exec_group::{Groups, groups_of};
+use exec_group::Groups;
 use logical_plan::Aggregate;
 
 /// For each coordinate of the target, of which no dimension is synthetic, a state of each aggregate for the cells that land there;
@@ -27,14 +28,7 @@ pub fn groups_landed(
     ensures groups { IfOk result (AreGroupsLanded aggregates.now (map (origin_of source.now) target.now.dimensions) (bounds_of target.now.dimensions) rows) }
     ensures cells { IfOk result (λ made. IfOk made (λ groups. cells_in groups.groups ≤ length rows)) }
 {
-    let alloc = rows.allocator();
-    let landed = landed_rows(source, target, rows)?;
-    match landed {
-        Err(broken) => Ok(Err(broken)),
-        Ok(landings) => {
-            let targets = landings.targets.as_slice();
-            let groups = groups_of(alloc, aggregates, targets, landings.rows.as_slice())?;
-            Ok(Ok(groups))
-        }
-    }
+    let dimensions = target.dimensions.as_slice();
+    let places = places_of_dimensions(source, dimensions)?;
+    groups_from(aggregates, places.as_slice(), &bounds_of(dimensions), &rows)
 }

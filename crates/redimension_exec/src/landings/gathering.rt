@@ -1,22 +1,21 @@
-//! Rows that land, beside their targets, where several may land at one.
-ghost use Rattle.std.specs.Prelude.{◌≡◌, ◌≤◌, false, length, map, IfOk};
-ghost use Rattle.array_rows.specs.Boxes.{bounds_of};
-ghost use Rattle.logical_plan.specs.Redimension.{origin_of};
+//! Groups of rows that land, where several may land at one coordinate.
+ghost use Rattle.std.specs.Prelude.{◌≡◌, ◌+◌, ◌<◌, ◌^◌, ◌≤◌, false, length, map, IfOk};
+ghost use Rattle.array_rows.specs.Rows.{IsRising};
+ghost use Rattle.exec_group.specs.Counts.{cells_in};
 ghost use Rattle.redimension_exec.specs.Inner.Counting.{has_counted};
-ghost use Rattle.redimension_exec.specs.Inner.Gathering.{AreLandings, IsKept, IsNext};
+ghost use Rattle.redimension_exec.specs.Inner.Grouping.{AreGroupsLanded};
 ghost use Rattle.redimension_exec.specs.Inner.Places.{origin};
+ghost use Rattle.redimension_exec.specs.Inner.Taking.{IsTaken, cells_kept};
 
-use crate::places::{Place, bounds_of, first_numbers, places_of_dimensions};
+use crate::landings::states::{groups_in, take_at};
+use crate::places::{Place, first_numbers};
+use agg_states::AggState;
 use array_rows::is_in_box;
-use cell_values::{Bounds, Broken, Coord, FaultKind, List, Memory, Row, Schema, copy_coord};
-use std::collections::VecDeque;
-
-/// Rows, and for each of them its target.
-#[derive(Drop)]
-pub struct Landings {
-    pub targets: List<Coord>,
-    pub rows: List<Row>,
-}
+use cell_values::{Bounds, Broken, Coord, FaultKind, List, Memory, Row, copy_coord};
+use exec_group::Groups;
+use logical_plan::Aggregate;
+use std::alloc::Global;
+use std::collections::BTreeMap;
 
 fn broken_at(row: &Row, kind: FaultKind) -> Broken
     ensures { result ≡ record { at = row.now.at; kind = kind } }
@@ -27,78 +26,55 @@ fn broken_at(row: &Row, kind: FaultKind) -> Broken
     }
 }
 
-/// Adds a row whose numbers are these, or says that it breaks the array.
-fn keep(
-    targets: &mut List<Coord>,
-    kept: &mut List<Row>,
-    bounds: &Bounds,
-    at: Coord,
-    row: Row,
-) -> Result<Option<Broken>, Memory>
-    ensures { IfOk result (λ broken. IsKept bounds.now targets.old kept.old at row broken targets.new kept.new) }
-{
-    if !is_in_box(bounds, &at) {
-        return Ok(Some(broken_at(&row, FaultKind::OutOfBounds)));
-    }
-    targets.push(at)?;
-    kept.push(row)?;
-    Ok(None)
-}
-
-/// Adds a row that lands, or says that it breaks the array.
-fn keep_next(
-    targets: &mut List<Coord>,
-    kept: &mut List<Row>,
+/// Takes a row into the states of the coordinate at which it lands, or says that it breaks the array.
+fn take_next(
+    groups: &mut BTreeMap<Coord, List<AggState>>,
+    alloc: Global,
+    aggregates: &[Aggregate],
     places: &[Place],
     bounds: &Bounds,
-    row: Row,
+    row: &Row,
 ) -> Result<Option<Broken>, Memory>
     requires few { length places.now ≤ 6 }
     requires plain { has_counted (map origin places.now) ≡ false }
-    ensures { IfOk result (λ broken. IsNext (map origin places.now) bounds.now targets.old kept.old row broken targets.new kept.new) }
+    requires room { cells_kept groups.old.entries + 1 < 2 ^ 63 }
+    ensures taken { IfOk result (λ broken. IsTaken aggregates.now (map origin places.now) bounds.now row.now broken groups.old groups.new) }
+    ensures cells { IfOk result (λ broken. cells_kept groups.new.entries ≤ cells_kept groups.old.entries + 1) }
 {
-    match first_numbers(places, &row) {
-        Err(kind) => Ok(Some(broken_at(&row, kind))),
+    match first_numbers(places, row) {
+        Err(kind) => Ok(Some(broken_at(row, kind))),
         Ok(None) => Ok(None),
-        Ok(Some(at)) => keep(targets, kept, bounds, at, row),
+        Ok(Some(at)) => {
+            if !is_in_box(bounds, &at) {
+                return Ok(Some(broken_at(row, FaultKind::OutOfBounds)));
+            }
+            take_at(groups, alloc, aggregates, at, row)?;
+            Ok(None)
+        }
     }
 }
 
-fn landings_from(
+/// For each coordinate at which rows land, a state of each aggregate for them; or the first row that breaks the array, and why.
+pub(crate) fn groups_from(
+    aggregates: &[Aggregate],
     places: &[Place],
     bounds: &Bounds,
-    rows: List<Row>,
-) -> Result<Result<Landings, Broken>, Memory>
+    rows: &List<Row>,
+) -> Result<Result<Groups, Broken>, Memory>
     requires few { length places.now ≤ 6 }
     requires plain { has_counted (map origin places.now) ≡ false }
-    ensures { IfOk result (AreLandings (map origin places.now) bounds.now rows) }
+    requires counted { length rows.now < 2 ^ 63 }
+    requires rising { IsRising rows.now }
+    ensures groups { IfOk result (AreGroupsLanded aggregates.now (map origin places.now) bounds.now rows.now) }
+    ensures cells { IfOk result (λ made. IfOk made (λ groups. cells_in groups.groups ≤ length rows.now)) }
 {
-    let mut targets = rows.another();
-    let mut kept = rows.another();
-    let mut left = VecDeque::from_vec(rows.into_vec());
-    'keeping: while let Some(row) = left.pop_front() {
-        if let Some(broken) = keep_next(&mut targets, &mut kept, places, bounds, row)? {
+    let alloc = rows.allocator();
+    let mut groups = BTreeMap::new(alloc);
+    for row in rows.as_slice() {
+        if let Some(broken) = take_next(&mut groups, alloc, aggregates, places, bounds, row)? {
             return Ok(Err(broken));
         }
     }
-    Ok(Ok(Landings {
-        targets,
-        rows: kept,
-    }))
-}
-
-/// The rows that land, which are moved, beside the coordinates that their values and their own coordinates give the target's
-/// dimensions, of which none is synthetic; or the first row that breaks the array, and why.
-pub fn landed_rows(
-    source: &Schema,
-    target: &Schema,
-    rows: List<Row>,
-) -> Result<Result<Landings, Broken>, Memory>
-    requires few { length target.now.dimensions ≤ 6 }
-    requires plain { has_counted (map (origin_of source.now) target.now.dimensions) ≡ false }
-    ensures { IfOk result (AreLandings (map (origin_of source.now) target.now.dimensions) (bounds_of target.now.dimensions) rows) }
-{
-    let dimensions = target.dimensions.as_slice();
-    let places = places_of_dimensions(source, dimensions)?;
-    landings_from(places.as_slice(), &bounds_of(dimensions), rows)
+    let groups = groups_in(alloc, groups)?;
+    Ok(Ok(groups))
 }

@@ -4,8 +4,9 @@ use Rattle.afl_outside.specs.Disk.{Moment}
 use Rattle.afl_trees.specs.Term.{Term}
 use Rattle.afl_types.specs.Checking.{check_of}
 use Rattle.chunk_source.specs.declared.reading.fault.ExecFault.{ExecFault}
-use Rattle.statement_answers.specs.declared.outcome.Outcome.{Outcome}
-use Rattle.statement_answers.specs.Outcomes.{asked_for, MayFail}
+use Rattle.session_turns.specs.Outcome.{Outcome}
+use Rattle.session_turns.specs.Outcomes.{asked_for, MayFail}
+use Rattle.statement_replies.specs.declared.style.Style.{Style}
 use Rattle.store_ledger.specs.declared.pinned.Pinned.{Pinned}
 use Rattle.store_ledger.specs.Ledger.{is_fault, is_noted}
 use Rattle.store_state.specs.declared.event.Event.{Event}
@@ -22,11 +23,11 @@ use Rattle.session_turns.specs.Told.{ledger_of}
 
 -- a statement was read over what a pin sees, from one seat to the next: this came of it, for which all that it reads was asked for once; or this
 -- is why nothing did
-pub record WasRead {D : Type 0} (moment : D → Moment) (shared : Shared D) (pinned : Pinned) (old new : Seat D)
+pub record WasRead {D : Type 0} (style : Style) (moment : D → Moment) (shared : Shared D) (pinned : Pinned) (old new : Seat D)
     (text : List ℕ) (tree : Term) (result : Result Outcome ExecFault) : Type 0 where
   pub marks : Marks
   pub read : HasRead moment (reading_of shared pinned old new marks)
-  pub comes : IfOk result (ComesOver pinned.names (pinned_state moment (unread shared pinned old)) text tree)
+  pub comes : IfOk result (ComesOver style pinned.names (pinned_state moment (unread shared pinned old)) text tree)
   pub asked : IfOk result (λ outcome. marks.asked
       ≡ asked_for (pinned_state moment (unread shared pinned old)) pinned.names (check_of tree text pinned.names) outcome)
   pub why : IfErr result (SaysWhy moment (reading_of shared pinned old new marks))

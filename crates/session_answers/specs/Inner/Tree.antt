@@ -3,6 +3,7 @@ use Rattle.std.specs.Prelude.{◌≡◌, ◌≤◌, ℕ, List, length, Some}
 use Rattle.afl_outside.specs.Disk.{Moment}
 use Rattle.afl_trees.specs.Term.{Term}
 use Rattle.result_print.specs.declared.refusal.Refusal.TheVariants.{HistoryFull}
+use Rattle.statement_replies.specs.declared.style.Style.{Style}
 use Rattle.store_state.specs.declared.event.Event.{Event}
 use Rattle.session_turns.specs.Start.{Start}
 use Rattle.session_turns.specs.Told.{entries_in}
@@ -13,7 +14,7 @@ use Rattle.session_answers.specs.Answered.{BeganAt}
 use Rattle.session_turns.specs.Reply.{Reply}
 
 -- a statement with this tree was answered, behind all that its session had seen
-pub record IsAnsweredTree {D : Type 0} (moment : D → Moment) (start : Start D) (session : ℕ) (old new : List Event)
+pub record IsAnsweredTree {D : Type 0} (style : Style) (moment : D → Moment) (start : Start D) (session : ℕ) (old new : List Event)
     (text : List ℕ) (tree : Term) (reply : Reply) : Type 0 where
   pub own : List Event
   pub course : Course
@@ -25,4 +26,4 @@ pub record IsAnsweredTree {D : Type 0} (moment : D → Moment) (start : Start D)
   pub later : length (entries_in old) ≤ reply.place
   pub until : reply.place ≤ length (entries_in new)
   pub full : reply.refusal ≡ Some HistoryFull → HadNoRoom start old new reply.place
-  pub told : IsToldFor moment start session pin new own text tree reply reply.refusal course
+  pub told : IsToldFor moment start session pin new own text tree reply style reply.refusal course

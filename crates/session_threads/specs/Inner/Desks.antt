@@ -12,6 +12,7 @@ use Rattle.snapshot_manager.specs.Seats.{seen, session_of, start, IsIdle, IsNewS
 use Rattle.session_reports.specs.declared.reports.SessionReport.{SessionReport}
 use Rattle.afl_session.specs.Marked.{IsMarked}
 use Rattle.afl_session.specs.Session.{Serves}
+use Rattle.afl_session.specs.Style.{Style}
 use Rattle.session_threads.specs.declared.desk.Desk.{Desk}
 use Rattle.session_threads.specs.declared.desk.Desk.TheVariants.{Waiting, Working, Done}
 use Rattle.session_reports.specs.declared.reports.Streams.{Streams}
@@ -65,13 +66,13 @@ module _ {D S K : Type 0} (shared : Shared D) where
   abbrev pub AreReady : List (Streams S K) → List (Desk D S K) → Type 0
   AreReady all desks = (k : ℕ) (desk : Desk D S K) → k < length desks → IsReady k (slice_get all k) (slice_index_or desks k desk)
 
-module _ {D S K : Type 0} (moment : D → Moment) (source_of : S → SourceState) (sink_of : K → SinkState) (shared : Shared D) where
+module _ {D S K : Type 0} (style : Style) (moment : D → Moment) (source_of : S → SourceState) (sink_of : K → SinkState) (shared : Shared D) where
   -- a session has served its streams
   pub record HasServed (session : ℕ) (streams : Streams S K) (seat : Seat D) (report : SessionReport S K) : Type 0 where
     pub of_store : IsSeatOf shared seat
     pub idle : IsIdle seat
     pub session_is : session_of seat ≡ session
-    pub serves : Serves (IsMarked moment (start moment shared) session) [] 0 (seen seat) (source_of streams.source) (source_of report.source)
+    pub serves : Serves (IsMarked style moment (start moment shared) session) [] 0 (seen seat) (source_of streams.source) (source_of report.source)
         (sink_of streams.sink) (sink_of report.sink) report.marks report.end
 
   -- what the work of a session makes of its desk

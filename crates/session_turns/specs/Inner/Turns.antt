@@ -8,9 +8,10 @@ use Rattle.chunk_source.specs.declared.reading.fault.ExecFault.TheVariants.{Sour
 use Rattle.plan_changes.specs.declared.change.Change.{Change}
 use Rattle.session_outcomes.specs.Outcome.{Outcome}
 use Rattle.afl_types.specs.Checking.{check_of}
-use Rattle.statement_answers.specs.declared.outcome.Outcome.TheVariants.{Replied, Changes}
-use Rattle.statement_answers.specs.Outcomes.{MayFail}
+use Rattle.session_outcomes.specs.Outcome.TheVariants.{Replied, Changes}
+use Rattle.session_outcomes.specs.Outcomes.{MayFail}
 use Rattle.statement_replies.specs.declared.replies.Reply.{Reply as Told}
+use Rattle.statement_replies.specs.declared.style.Style.{Style}
 use Rattle.session_sources.specs.Owners.{ExtendsByOwn}
 use Rattle.session_sources.specs.Turn.{Turn}
 use Rattle.store_state.specs.declared.parts.StoreParts.{StoreParts}
@@ -49,11 +50,11 @@ IsWhy marks (Damaged page) = marks.damaged ≡ Some page
 IsWhy marks Memory = Unit {0}
 
 -- the store was read for a statement, of which this came, or this fault
-pub record IsRead {D : Type 0} (moment : D → Moment) (session : ℕ) (old new : Turn (StoreParts D))
+pub record IsRead {D : Type 0} (style : Style) (moment : D → Moment) (session : ℕ) (old new : Turn (StoreParts D))
     (text : List ℕ) (tree : Term) (outcome : Result Outcome ExecFault) : Type 0 where
   pub marks : Marks
   pub held : HasHeld moment (holding_of session old new marks)
-  pub comes : IfOk outcome (ComesOver (names_now (store_of old).ledger) (held_state moment (unheld session old)) text tree)
+  pub comes : IfOk outcome (ComesOver style (names_now (store_of old).ledger) (held_state moment (unheld session old)) text tree)
   pub why : IfErr outcome (IsWhy marks)
   pub allowed : IfErr outcome (λ fault. MayFail fault (check_of tree text (names_now (store_of old).ledger)))
 
@@ -74,14 +75,14 @@ pub record IsTried {D : Type 0} (moment : D → Moment) (session : ℕ) (change 
   pub tells : TellsCommit (length new.ledger.entries) words answer reply
 
 -- HOW A STATEMENT GOES: no memory was found for the names; it has a reply alone; its source gave no answer; or its change was tried
-pub data Goes {D : Type 0} (moment : D → Moment) (session : ℕ) (old new : Turn (StoreParts D))
+pub data Goes {D : Type 0} (style : Style) (moment : D → Moment) (session : ℕ) (old new : Turn (StoreParts D))
     (text : List ℕ) (tree : Term) (reply : Reply) : Type 0 where
   goes_short : store_in moment new ≡ store_in moment old → IsWant reply → reply.place ≡ length (store_of new).ledger.entries
-      → Goes moment session old new text tree reply
-  goes_told : IsRead moment session old new text tree (Ok (Replied (words_of reply))) → reply.place ≡ length (store_of new).ledger.entries
-      → Goes moment session old new text tree reply
-  goes_unread : (fault : ExecFault) → IsRead moment session old new text tree (Err fault) → IsUnreadReply fault reply
-      → reply.place ≡ length (store_of new).ledger.entries → Goes moment session old new text tree reply
+      → Goes style moment session old new text tree reply
+  goes_told : IsRead style moment session old new text tree (Ok (Replied (words_of reply))) → reply.place ≡ length (store_of new).ledger.entries
+      → Goes style moment session old new text tree reply
+  goes_unread : (fault : ExecFault) → IsRead style moment session old new text tree (Err fault) → IsUnreadReply fault reply
+      → reply.place ≡ length (store_of new).ledger.entries → Goes style moment session old new text tree reply
   goes_tried : (between : Turn (StoreParts D)) (change : Change) (changed : Option Changed) (words : Told)
-      → IsRead moment session old between text tree (Ok (Changes change changed words))
-      → IsTried moment session change words (store_in moment between) (store_in moment new) reply → Goes moment session old new text tree reply
+      → IsRead style moment session old between text tree (Ok (Changes change changed words))
+      → IsTried moment session change words (store_in moment between) (store_in moment new) reply → Goes style moment session old new text tree reply

@@ -12,12 +12,12 @@ returns-in-Ok g c =
     let closed = c.close_store.ensures.closed in
     inr (
       closed.0,
-      runs_to moment g.S.Source.state g.K.Sink.state (start_of (standing moment c.args.store)) c.args.streams (standing moment c.in-Ok.store) closed.0 c.in-Ok.sessions
+      runs_to c.args.options.style moment g.S.Source.state g.K.Sink.state (start_of (standing moment c.args.store)) c.args.streams (standing moment c.in-Ok.store) closed.0 c.in-Ok.sessions
           c.close_store.result c.texts_have_tree_or_stop.ensures.tree_or_stop e.start e.reports e.each e.others c.close_store.ensures.notice c.close_store.ensures.sessions closed.1,
     )
 
 pub returns-in-Err : goal.returns-in-Err
 returns-in-Err g c =
     let moment = g.D.Disk.moment in
-    inl (unrun_as moment g.S.Source.state g.K.Sink.state (standing moment c.args.store) _ _ c.unrun.result c.unrun.ensures refl
+    inl (unrun_as c.args.options.style moment g.S.Source.state g.K.Sink.state (standing moment c.args.store) _ _ c.unrun.result c.unrun.ensures refl
     (c.close-disk.ensures.disk ∙ ap (λ (parts : StoreParts g.row.D.Denot). parts.file.disk) c.in-Err.ensures.err.0))

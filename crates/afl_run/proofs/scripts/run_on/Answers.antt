@@ -33,10 +33,10 @@ returns-in-Ok-clause-runs g c =
     let s = c.in-Ok.ensures in
     reported state
     (λ (now : ShelfState) (n : Notice) (h : List Entry) (reports : List (SessionReport g.row.F-S.Denot g.row.F-K.Denot)) (f : ℕ) (d : Option g.row.F-Device.Denot).
-    RunsOn moment source sink old now n h reports f c.args.disk scripts limits.pages limits.history d)
+    RunsOn c.args.options.style moment source sink old now n h reports f c.args.disk scripts limits.pages limits.history d)
     r.shelf c.open_streams.new.shelf r.notice run.notice r.history run.history r.sessions run.sessions r.free_pages run.free_pages r.disk _
     e.shelf e.notice e.history e.sessions e.free_pages e.disk
-    (on_ran moment source sink old (state c.open_streams.new.shelf) c.args.disk scripts limits s.others c.in-Ok.streams run s.opened s.handed c.requires.count.0
+    (on_ran c.args.options.style moment source sink old (state c.open_streams.new.shelf) c.args.disk scripts limits s.others c.in-Ok.streams run s.opened s.handed c.requires.count.0
     c.requires.begun c.run_over-run.ensures.same c.run_over-run.ensures.run)
 
 pub returns-in-Err-clause-runs : goal.returns-in-Err-clause-runs
@@ -53,7 +53,7 @@ returns-in-Err-clause-runs g c =
     let s = c.in-Err.ensures in
     reported state
     (λ (now : ShelfState) (n : Notice) (h : List Entry) (reports : List (SessionReport g.row.F-S.Denot g.row.F-K.Denot)) (f : ℕ) (d : Option g.row.F-Device.Denot).
-    RunsOn moment source sink old now n h reports f c.args.disk scripts limits.pages limits.history d)
+    RunsOn c.args.options.style moment source sink old now n h reports f c.args.disk scripts limits.pages limits.history d)
     r.shelf c.open_streams.new.shelf r.notice c.in-Err.notice r.history _ r.sessions _ r.free_pages _ r.disk _
     e.shelf e.notice e.history e.sessions e.free_pages e.disk
-    (on_unopened moment source sink old (state c.open_streams.new.shelf) c.args.disk scripts limits s.others c.in-Err.notice s.some (fails_or_memory s.cause) s.first)
+    (on_unopened c.args.options.style moment source sink old (state c.open_streams.new.shelf) c.args.disk scripts limits s.others c.in-Err.notice s.some (fails_or_memory s.cause) s.first)

@@ -21,10 +21,10 @@ returns-in-Ok-clause-runs g c =
     let r = c.run_on.result in
     let scripts = c.args.scripts.now in
     let limits = c.args.limits in
-    subst (λ (asked : Word). RunsScripts moment g.F.S.Source.state g.F.K.Sink.state old (state r.shelf) r.notice r.history r.sessions r.free_pages asked scripts
+    subst (λ (asked : Word). RunsScripts c.args.options.style moment g.F.S.Source.state g.F.K.Sink.state old (state r.shelf) r.notice r.history r.sessions r.free_pages asked scripts
     limits.pages limits.history r.disk) c.as_str.ensures
     (runs_scripts c.as_str.result.now scripts old mid e.others
-    (subst (λ (asked : Word). All (λ name. asked ≢ name) (stream_names scripts)) (sym c.as_str.ensures) c.requires.apart) moment g.F.S.Source.state g.F.K.Sink.state
+    (subst (λ (asked : Word). All (λ name. asked ≢ name) (stream_names scripts)) (sym c.as_str.ensures) c.requires.apart) c.args.options.style moment g.F.S.Source.state g.F.K.Sink.state
     (state r.shelf) r.notice r.history r.sessions r.free_pages limits.pages limits.history c.in-Ok.disk e.new e.content e.handed r.disk c.run_on.ensures.runs)
 
 pub returns-in-Err-clause-runs : goal.returns-in-Err-clause-runs
@@ -42,8 +42,8 @@ returns-in-Err-clause-runs g c =
     let s = c.in-Err.ensures in
     reported state
     (λ (now : ShelfState) (n : Notice) (h : List Entry) (reports : List (SessionReport g.row.F-S.Denot g.row.F-K.Denot)) (f : ℕ) (d : Option g.row.F-Device.Denot).
-    RunsScripts moment source sink old now n h reports f c.args.device.now scripts limits.pages limits.history d)
+    RunsScripts c.args.options.style moment source sink old now n h reports f c.args.device.now scripts limits.pages limits.history d)
     r.shelf c.open_device.new.shelf r.notice c.in-Err.notice r.history _ r.sessions _ r.free_pages _ r.disk _
     e.shelf e.notice e.history e.sessions e.free_pages e.disk
-    (subst (λ (asked : Word). RunsScripts moment source sink old mid c.in-Err.notice [] [] 0 asked scripts limits.pages limits.history None) c.as_str.ensures
-    (runs_nothing moment source sink old mid c.as_str.result.now scripts limits.pages limits.history c.in-Err.notice s.cause s.others s.handed))
+    (subst (λ (asked : Word). RunsScripts c.args.options.style moment source sink old mid c.in-Err.notice [] [] 0 asked scripts limits.pages limits.history None) c.as_str.ensures
+    (runs_nothing c.args.options.style moment source sink old mid c.as_str.result.now scripts limits.pages limits.history c.in-Err.notice s.cause s.others s.handed))

@@ -13,8 +13,8 @@ returns g c = record {
   stay = marks_stay g.D.Disk.moment;
   sessions = sessions_stay g.D.Disk.moment;
   worked = record {
-    told = λ origin events. record { start = refl; end = refl; reply = record { same = refl; words = inl (refl, refl) }; want = λ is. absurd (cc (is)) };
-    wanting = λ origin events. record {
+    told = λ style origin events. record { start = refl; end = refl; reply = record { same = refl; words = inl (refl, refl) }; want = λ is. absurd (cc (is)) };
+    wanting = λ style origin events. record {
       start = refl;
       end = refl;
       reply = record { same = refl; words = inr ((refl, refl), same_le (length (entries_in events)), same_le (length (entries_in events))) };

@@ -21,7 +21,7 @@ returns-in-Ok-eq0-clause-serves g c =
     let so_far = c.pieces.invariant in
     let (read, given, serving) = so_far.serving in
     let none = c.in-Ok-eq0.field-0-test in
-    serves_whole (IsMarked g.D.Disk.moment (start g.D.Disk.moment c.args.shared.now) (session_of c.args.seat)) _ _ _ _ _ read _ _
+    serves_whole (IsMarked c.args.options.now.style g.D.Disk.moment (start g.D.Disk.moment c.args.shared.now) (session_of c.args.seat)) _ _ _ _ _ read _ _
     (Gives-more _ _ _ _ _ given c.in-Ok-eq0.ensures.bytes) (ap (λ (n : ℕ). take n c.read.new.into) none)
     (c.in-Ok-eq0.ensures.end (ap Ok none) (omega arith)) (c.take_end.ensures.ends _ _ read so_far.same serving)
 
@@ -41,9 +41,9 @@ pub returns-in-Err-taken-clause-serves : goal.returns-in-Err-taken-clause-serves
 returns-in-Err-taken-clause-serves g c =
     let so_far = c.pieces.invariant in
     let (read, given, serving) = so_far.serving in
-    subst (λ (end : SessionEnd). Serves (IsMarked g.D.Disk.moment (start g.D.Disk.moment c.args.shared.now) (session_of c.args.seat)) (seen c.args.seat) (last_place c.args.seat) (seen c.take_bytes-taken.result.1)
+    subst (λ (end : SessionEnd). Serves (IsMarked c.args.options.now.style g.D.Disk.moment (start g.D.Disk.moment c.args.shared.now) (session_of c.args.seat)) (seen c.args.seat) (last_place c.args.seat) (seen c.take_bytes-taken.result.1)
     (g.S.Source.state c.args.source.now) (g.S.Source.state c.read.new.self) (g.K.Sink.state c.args.session.now.sink) (g.K.Sink.state c.take_bytes-taken.new.self.sink) c.take_bytes-taken.new.self.marks.items end) (sym c.end.ensures)
-    (serves_stopped (IsMarked g.D.Disk.moment (start g.D.Disk.moment c.args.shared.now) (session_of c.args.seat)) _ _ _ _ _ read _ c.in-Err-taken.stopped
+    (serves_stopped (IsMarked c.args.options.now.style g.D.Disk.moment (start g.D.Disk.moment c.args.shared.now) (session_of c.args.seat)) _ _ _ _ _ read _ c.in-Err-taken.stopped
     (Gives-more _ _ _ _ _ given c.in-Ok.ensures.bytes) (rw c.in-Err-taken.is at (c.take_bytes-taken.ensures.serving _ _ read so_far.same serving)))
 
 pub returns-in-Err-clause-serves : goal.returns-in-Err-clause-serves
@@ -52,4 +52,4 @@ returns-in-Err-clause-serves g c =
     let later = given.later in
     let risen = c.in-Err.ensures.cause in
     let rose : Rose (g.S.Source.state c.args.source.now).faults (g.S.Source.state c.read.new.self).faults = omega (arith, later, risen) in
-    serves_early (IsMarked g.D.Disk.moment (start g.D.Disk.moment c.args.shared.now) (session_of c.args.seat)) _ _ _ _ _ read _ (Gives-more _ _ _ _ _ given c.in-Err.ensures.bytes) rose serving
+    serves_early (IsMarked c.args.options.now.style g.D.Disk.moment (start g.D.Disk.moment c.args.shared.now) (session_of c.args.seat)) _ _ _ _ _ read _ (Gives-more _ _ _ _ _ given c.in-Err.ensures.bytes) rose serving

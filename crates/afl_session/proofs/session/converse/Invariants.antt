@@ -12,7 +12,7 @@ invariant-pieces g l = record {
   none : HoldsNone g.D.Disk.moment l.shared l.seat;
   same : session_of l.seat ≡ session_of l.fn.seat;
   serving : (read : List ℕ) × Gives (g.S.Source.state l.fn.source) (g.S.Source.state l.source) read
-      × IsServing (IsMarked g.D.Disk.moment (start g.D.Disk.moment l.shared) (session_of l.fn.seat))
+      × IsServing (IsMarked l.options.style g.D.Disk.moment (start g.D.Disk.moment l.shared) (session_of l.fn.seat))
       (reached (seen l.fn.seat) (last_place l.fn.seat) (g.K.Sink.state l.fn.session.sink)) (reached (seen l.seat) (last_place l.seat) (g.K.Sink.state l.session.sink))
       read l.session.splitter l.session.marks.items;
 }

@@ -34,11 +34,11 @@ over_one-returns-clause-computed g t c =
 
 pub over_one-returns-in_err-array-clause-front : goal.over_one-returns-in_err-array-clause-front
 over_one-returns-in_err-array-clause-front g t c =
-    on_err _ _ (front_one c.args.plan.now c.args.next.now (g.S.ChunkSource.state c.args.source.now) (g.S.ChunkSource.state c.compute.new.source) c.args.from.now c.requires.from c.in_err-array.ensures.front)
+    on_err c.from_residual.result _ (front_one c.args.plan.now c.args.next.now (g.S.ChunkSource.state c.args.source.now) (g.S.ChunkSource.state c.compute.new.source) c.args.from.now c.requires.from c.in_err-array.ensures.front)
 
 pub over_one-returns-in_err-of_one-clause-front : goal.over_one-returns-in_err-of_one-clause-front
 over_one-returns-in_err-of_one-clause-front g t c =
-    on_err _ _ (front_made c.args.plan.now c.args.next.now (g.S.ChunkSource.state c.args.source.now) (g.S.ChunkSource.state c.compute.new.source) c.args.from.now c.requires.from
+    on_err c.from_residual-in_err-of_one.result _ (front_made c.args.plan.now c.args.next.now (g.S.ChunkSource.state c.args.source.now) (g.S.ChunkSource.state c.compute.new.source) c.args.from.now c.requires.from
     c.in_ok-array.array c.in_ok-array.ensures.computed)
 
 pub over_two-returns-clause-computed : goal.over_two-returns-clause-computed
@@ -54,16 +54,16 @@ over_two-returns-clause-next g t c =
 
 pub over_two-returns-in_err-left-clause-front : goal.over_two-returns-in_err-left-clause-front
 over_two-returns-in_err-left-clause-front g t c =
-    on_err _ _ (front_left c.args.plan.now c.args.next.now (g.S.ChunkSource.state c.args.source.now) (g.S.ChunkSource.state c.compute.new.source) c.args.left.now c.args.right.now c.requires.both c.in_err-left.ensures.front)
+    on_err c.from_residual.result _ (front_left c.args.plan.now c.args.next.now (g.S.ChunkSource.state c.args.source.now) (g.S.ChunkSource.state c.compute.new.source) c.args.left.now c.args.right.now c.requires.both c.in_err-left.ensures.front)
 
 pub over_two-returns-in_err-right-clause-front : goal.over_two-returns-in_err-right-clause-front
 over_two-returns-in_err-right-clause-front g t c =
     let left = c.in_ok-left.ensures in
-    on_err _ _ (front_right c.args.plan.now c.args.next.now (g.S.ChunkSource.state c.args.source.now) (g.S.ChunkSource.state c.compute-2.new.source) c.compute.new.next (g.S.ChunkSource.state c.compute.new.source)
+    on_err c.from_residual-in_err-right.result _ (front_right c.args.plan.now c.args.next.now (g.S.ChunkSource.state c.args.source.now) (g.S.ChunkSource.state c.compute-2.new.source) c.compute.new.next (g.S.ChunkSource.state c.compute.new.source)
     c.args.left.now c.args.right.now c.in_ok-left.left c.requires.both left.kept left.next left.computed c.in_err-right.ensures.front)
 
 pub over_two-returns-in_err-of_two-clause-front : goal.over_two-returns-in_err-of_two-clause-front
 over_two-returns-in_err-of_two-clause-front g t c =
     let left = c.in_ok-left.ensures in
-    on_err _ _ (front_both c.args.plan.now c.args.next.now (g.S.ChunkSource.state c.args.source.now) (g.S.ChunkSource.state c.compute-2.new.source) c.compute.new.next (g.S.ChunkSource.state c.compute.new.source)
+    on_err c.from_residual-in_err-of_two.result _ (front_both c.args.plan.now c.args.next.now (g.S.ChunkSource.state c.args.source.now) (g.S.ChunkSource.state c.compute-2.new.source) c.compute.new.next (g.S.ChunkSource.state c.compute.new.source)
     c.args.left.now c.args.right.now c.in_ok-left.left c.in_ok-right.right c.requires.both left.kept left.next left.computed c.in_ok-right.ensures.computed)

@@ -2,9 +2,9 @@ use Rattle.std.proofs.Common.{sym, ◌∙◌}
 use Rattle.command_words.proofs.Slices.{settings_two}
 use Rattle.command_words.proofs.forms.+read_settings.Goals as goal
 
-pub returns-in-Some-number_of : goal.returns-in-Some-number_of
-returns-in-Some-number_of t c =
+pub returns-in-Some-with : goal.returns-in-Some-with
+returns-in-Some-with t c =
     c.read_settings.ensures
-    ∙ settings_two c.args.device.now c.args.words.now c.args.settings c.with.result c.name-item.result c.as_str.result.now c.number-item.result c.as_str-in-len1-up-rest.result.now
-    c.in-Some.option c.in-Some-number_of.number c.in-len1-up.len_at_least c.name-item.is c.as_str.ensures (sym c.next_option.ensures ∙ c.in-Some.is)
-    c.in-len1-up-rest.len_at_least c.number-item.is c.as_str-in-len1-up-rest.ensures (sym c.number_of.ensures ∙ c.in-Some-number_of.is) c.with.ensures
+    ∙ settings_two c.args.device.now c.args.words.now c.args.settings c.in-Some-with.next c.name-item.result c.as_str.result.now c.said-item.result c.as_str-in-len1-up-rest.result.now
+    c.in-Some.option c.in-len1-up.len_at_least c.name-item.is c.as_str.ensures (sym c.next_option.ensures ∙ c.in-Some.is)
+    c.in-len1-up-rest.len_at_least c.said-item.is c.as_str-in-len1-up-rest.ensures (sym c.with.ensures ∙ c.in-Some-with.is)

@@ -14,7 +14,7 @@ returns g c =
       session = ap session_of k ∙ e.same.session;
       none = still_none moment c.args.shared.now reply.place seat c.keep_last.new.self k e.none;
       last = ap last_place k;
-      answered = still_answered moment c.args.shared.now reply.place seat c.keep_last.new.self k (session_of c.args.seat) (last_place c.args.seat) (seen c.args.seat) c.args.text.now reply e.answered;
+      answered = still_answered moment c.args.shared.now reply.place seat c.keep_last.new.self k c.args.options.now.style (session_of c.args.seat) (last_place c.args.seat) (seen c.args.seat) c.args.text.now reply e.answered;
       reads = λ t derives accepted. still_read moment c.args.shared.now reply.place seat c.keep_last.new.self k (session_of c.args.seat) (seen c.args.seat) c.args.text.now t (read_count c.args.seat)
           (e.reads t derives accepted);
     }

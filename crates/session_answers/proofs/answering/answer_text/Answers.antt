@@ -15,7 +15,7 @@ returns-in-Ok g c =
       seat = e.seat;
       same = e.same;
       none = e.none;
-      answered = tree_is_answered g.D.Disk.moment (start g.D.Disk.moment c.args.shared.now) (session_of c.args.seat) (last_place c.args.seat) (seen c.args.seat) (seen c.answer_tree.result.1)
+      answered = tree_is_answered c.args.options.now.style g.D.Disk.moment (start g.D.Disk.moment c.args.shared.now) (session_of c.args.seat) (last_place c.args.seat) (seen c.args.seat) (seen c.answer_tree.result.1)
           c.args.text.now c.answer_tree.result.0 c.in-Ok.tree e.answered p.only_tree p.only_stop;
       reads = λ t derives accepted. subst (λ one. ReadsOnce (start g.D.Disk.moment c.args.shared.now) (session_of c.args.seat) (seen c.args.seat) (seen c.answer_tree.result.1)
           c.args.text.now one (read_count c.args.seat) (read_count c.answer_tree.result.1)) (p.only_tree t derives) (e.reads accepted);
@@ -30,10 +30,10 @@ returns-in-Err-At g c =
       seat = c.requires.seat;
       same = record { session = refl; last = refl };
       none = c.requires.none;
-      answered = stop_is_whole g.D.Disk.moment (start g.D.Disk.moment c.args.shared.now) (session_of c.args.seat) (last_place c.args.seat) (seen c.args.seat)
+      answered = stop_is_whole c.args.options.now.style g.D.Disk.moment (start g.D.Disk.moment c.args.shared.now) (session_of c.args.seat) (last_place c.args.seat) (seen c.args.seat)
           c.args.text.now reply c.in-Err-At.at c.in-Err-At.kind only_tree only_stop
           c.last-last.result c.seen-count.result c.last-last.ensures (c.seen-count.ensures ∙ c.requires.seat.0.counts) c.refusal_or_want-reply.ensures;
-      reads = λ t derives accepted. stop_reads_none g.D.Disk.moment (start g.D.Disk.moment c.args.shared.now) (session_of c.args.seat) (last_place c.args.seat) (seen c.args.seat)
+      reads = λ t derives accepted. stop_reads_none c.args.options.now.style g.D.Disk.moment (start g.D.Disk.moment c.args.shared.now) (session_of c.args.seat) (last_place c.args.seat) (seen c.args.seat)
           c.args.text.now reply c.in-Err-At.at c.in-Err-At.kind only_tree only_stop t derives
           (read_count c.args.seat) (read_count c.args.seat);
     }
@@ -44,8 +44,8 @@ returns-in-Err-Memory g c =
       seat = c.requires.seat;
       same = record { session = refl; last = refl };
       none = c.requires.none;
-      answered = want_is_whole g.D.Disk.moment (start g.D.Disk.moment c.args.shared.now) (session_of c.args.seat) (last_place c.args.seat) (seen c.args.seat)
+      answered = want_is_whole c.args.options.now.style g.D.Disk.moment (start g.D.Disk.moment c.args.shared.now) (session_of c.args.seat) (last_place c.args.seat) (seen c.args.seat)
           c.args.text.now c.want.result e.want (e.place ∙ c.seen-seen.ensures ∙ c.requires.seat.0.counts);
-      reads = λ t derives accepted. want_reads_none g.D.Disk.moment (start g.D.Disk.moment c.args.shared.now) (session_of c.args.seat) (last_place c.args.seat) (seen c.args.seat)
+      reads = λ t derives accepted. want_reads_none c.args.options.now.style g.D.Disk.moment (start g.D.Disk.moment c.args.shared.now) (session_of c.args.seat) (last_place c.args.seat) (seen c.args.seat)
           c.args.text.now c.want.result e.want t (read_count c.args.seat) (read_count c.args.seat) accepted;
     }

@@ -15,6 +15,7 @@ answer_pinned-reply-requires-clause-untried g c κs within =
 
 pub returns-in-Ok : goal.returns-in-Ok
 returns-in-Ok g c =
+    let style = c.args.options.now.style in
     let moment = g.D.Disk.moment in
     let began = start moment c.args.shared.now in
     let e = c.in-Ok.ensures in
@@ -28,10 +29,10 @@ returns-in-Ok g c =
       seat = u.seat;
       same = record { session = u.same.session ∙ session; last = u.same.last ∙ a.same.last ∙ e.same.last };
       none = u.none;
-      answered = pinned_is_answered moment began (session_of c.args.seat) (seen c.args.seat) (seen c.pin.new.seat) (seen mid) (seen c.unpin.new.seat) c.in-Ok.pinned c.args.text.now c.args.tree.now reply
+      answered = pinned_is_answered style moment began (session_of c.args.seat) (seen c.args.seat) (seen c.pin.new.seat) (seen mid) (seen c.unpin.new.seat) c.in-Ok.pinned c.args.text.now c.args.tree.now reply
           e.ok parts.0 parts.1 e.open.open_pin a.seat.0.sealed
           (subst (λ s. Adds s (Entered (Unpin s) ∷ []) (seen mid) (seen c.unpin.new.seat)) session u.adds) a.answered;
-      reads = λ accepted. is_read_once moment began (session_of c.args.seat) (seen c.args.seat) (seen c.pin.new.seat) (seen mid) (seen c.unpin.new.seat) c.in-Ok.pinned c.args.text.now c.args.tree.now reply
+      reads = λ accepted. is_read_once style moment began (session_of c.args.seat) (seen c.args.seat) (seen c.pin.new.seat) (seen mid) (seen c.unpin.new.seat) c.in-Ok.pinned c.args.text.now c.args.tree.now reply
           e.ok parts.0 parts.1 e.open.open_pin a.seat.0.sealed
           (subst (λ s. Adds s (Entered (Unpin s) ∷ []) (seen mid) (seen c.unpin.new.seat)) session u.adds) a.answered e.seat.0.sealed
           (read_count c.args.seat) (read_count c.pin.new.seat) (read_count mid) (read_count c.unpin.new.seat) e.reads (a.reads accepted) u.reads;
@@ -45,9 +46,9 @@ returns-in-Err-HistoryFull g c =
       seat = e.seat;
       same = e.same;
       none = e.none;
-      answered = full_is_answered g.D.Disk.moment (start g.D.Disk.moment c.args.shared.now) (session_of c.args.seat) (seen c.args.seat) (seen c.pin.new.seat) c.args.text.now c.args.tree.now
+      answered = full_is_answered c.args.options.now.style g.D.Disk.moment (start g.D.Disk.moment c.args.shared.now) (session_of c.args.seat) (seen c.args.seat) (seen c.pin.new.seat) c.args.text.now c.args.tree.now
           c.refusal_at.result e.err c.in-Err-HistoryFull.entries r.words (r.place ∙ c.from-place.ensures) cause;
-      reads = full_reads g.D.Disk.moment (start g.D.Disk.moment c.args.shared.now) (session_of c.args.seat) (seen c.args.seat) (seen c.pin.new.seat) c.args.text.now c.args.tree.now
+      reads = full_reads c.args.options.now.style g.D.Disk.moment (start g.D.Disk.moment c.args.shared.now) (session_of c.args.seat) (seen c.args.seat) (seen c.pin.new.seat) c.args.text.now c.args.tree.now
           c.refusal_at.result e.err r.words (read_count c.args.seat) (read_count c.pin.new.seat);
     }
 
@@ -58,8 +59,8 @@ returns-in-Err-Memory g c =
       seat = e.seat;
       same = e.same;
       none = e.none;
-      answered = want_is_answered g.D.Disk.moment (start g.D.Disk.moment c.args.shared.now) (session_of c.args.seat) (seen c.args.seat) (seen c.pin.new.seat) c.args.text.now c.args.tree.now
+      answered = want_is_answered c.args.options.now.style g.D.Disk.moment (start g.D.Disk.moment c.args.shared.now) (session_of c.args.seat) (seen c.args.seat) (seen c.pin.new.seat) c.args.text.now c.args.tree.now
           c.want.result e.err w.want (w.place ∙ c.seen-seen.ensures ∙ e.seat.0.counts);
-      reads = want_reads g.D.Disk.moment (start g.D.Disk.moment c.args.shared.now) (session_of c.args.seat) (seen c.args.seat) (seen c.pin.new.seat) c.args.text.now c.args.tree.now
+      reads = want_reads c.args.options.now.style g.D.Disk.moment (start g.D.Disk.moment c.args.shared.now) (session_of c.args.seat) (seen c.args.seat) (seen c.pin.new.seat) c.args.text.now c.args.tree.now
           c.want.result e.err w.want (read_count c.args.seat) (read_count c.pin.new.seat);
     }

@@ -38,7 +38,7 @@ returns-in-Ok-Done g c =
       same = e.same;
       reads = e.reads;
       pin = e.pin;
-      answered = λ first before a. made_is_answered moment began c.args.pinned.now c.args.change first before old (seen c.commit.new.seat) c.args.text.now c.args.tree.now c.at_place.result
+      answered = λ first before a. made_is_answered c.args.options.now.style moment began c.args.pinned.now c.args.change first before old (seen c.commit.new.seat) c.args.text.now c.args.tree.now c.at_place.result
           a o (pin_within began old c.args.pinned.now o) (named_behind moment began old c.args.pinned.now o r.database) r.typed done c.args.words
           (had_room moment began (seen c.commit.new.seat) c.args.change c.in-Ok-Done.place c.at_place.result.place said.place next fits)
           r.said said.words
@@ -66,7 +66,7 @@ answer_held-requires-clause-tried g c κs within =
 pub answer_held-requires-clause-change : goal.answer_held-requires-clause-change
 answer_held-requires-clause-change g c κs within = (
   c.args.change,
-  change_under g.D.Disk.moment (start g.D.Disk.moment c.args.shared.now) (seen c.args.seat) c.args.pinned.now c.args.text.now c.args.tree.now c.args.change
+  change_under c.args.options.now.style g.D.Disk.moment (start g.D.Disk.moment c.args.shared.now) (seen c.args.seat) c.args.pinned.now c.args.text.now c.args.tree.now c.args.change
       c.requires.pin.open_pin c.requires.typed,
 )
 
@@ -97,7 +97,7 @@ returns-in-Err g c =
       same = e.same;
       reads = e.reads;
       pin = e.pin;
-      answered = λ first before a. refused_is_answered moment began c.args.pinned.now c.args.change first before old (seen c.commit.new.seat) c.args.text.now c.args.tree.now c.uncommitted.result
+      answered = λ first before a. refused_is_answered c.args.options.now.style moment began c.args.pinned.now c.args.change first before old (seen c.commit.new.seat) c.args.text.now c.args.tree.now c.uncommitted.result
           a o (pin_within began old c.args.pinned.now o) (named_behind moment began old c.args.pinned.now o r.database) r.typed e.err c.in-Err.fault
           (subst (λ count. IsUncommittedReply count c.in-Err.fault c.uncommitted.result) (c.seen-seen.ensures ∙ e.seat.counts) c.uncommitted.ensures) e.cause;
     }

@@ -15,6 +15,6 @@ returns g c =
     let e = c.outcome_of-outcome.ensures in
     let s = c.into_seat-seat.ensures in
     record {
-      read = was_read g.D.Disk.moment c.args.shared.now c.args.pinned.now c.args.seat c.into_seat-seat.result c.args.text.now c.args.tree.now
+      read = was_read c.args.options.now.style g.D.Disk.moment c.args.shared.now c.args.pinned.now c.args.seat c.into_seat-seat.result c.args.text.now c.args.tree.now
           c.new-source.result c.outcome_of-outcome.new.source c.new-source.ensures e.start s.seat c.outcome_of-outcome.result s.read e.kind e.told e.asked e.cause e.allowed;
     }

@@ -29,7 +29,7 @@ next_number = omega arith
 
 pub returns : goal.returns
 unfolding query_named change_named
-returns c = record {
+returns c style = record {
   removed = (
     (record { version = []; catalogue = 5 ∷ 6 ∷ [] }, record { is = refl; later = one_of_two }),
     record { kind = refl; told = λ db began. absurd (unknown db began) },

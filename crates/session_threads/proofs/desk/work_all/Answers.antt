@@ -19,8 +19,8 @@ for_each_mut-requires-sync-F g c κs within =
 
 pub returns-clause-desks : goal.returns-clause-desks
 returns-clause-desks g c =
-    all_worked g.D.Disk.moment g.S.Source.state g.K.Sink.state c.args.shared.now c.args.desks.items c.as_mut_slice.result.now c.for_each_mut.new.s c.args.desks.len
+    all_worked c.args.options.now.style g.D.Disk.moment g.S.Source.state g.K.Sink.state c.args.shared.now c.args.desks.items c.as_mut_slice.result.now c.for_each_mut.new.s c.args.desks.len
     c.as_mut_slice.ensures.value (search rules) (search rules)
     (λ k desk near. let change = (c.for_each_mut.ensures k desk near).1 in
-    subst (λ x. HasWorked g.D.Disk.moment g.S.Source.state g.K.Sink.state c.args.shared.now x (get_or c.for_each_mut.new.s k desk)) change.argument_is
-    (subst (λ y. HasWorked g.D.Disk.moment g.S.Source.state g.K.Sink.state c.args.shared.now change.argument.now y) change.left change.call))
+    subst (λ x. HasWorked c.args.options.now.style g.D.Disk.moment g.S.Source.state g.K.Sink.state c.args.shared.now x (get_or c.for_each_mut.new.s k desk)) change.argument_is
+    (subst (λ y. HasWorked c.args.options.now.style g.D.Disk.moment g.S.Source.state g.K.Sink.state c.args.shared.now change.argument.now y) change.left change.call))

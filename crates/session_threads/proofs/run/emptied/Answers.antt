@@ -1,8 +1,17 @@
-use Rattle.std.proofs.Common.{◌≤◌, ◌+◌, length, sym, subst}
+use Rattle.std.proofs.Common.{◌≤◌, ◌+◌, length, sym, subst, arith}
 use Rattle.turn_lock.proofs.Gathering.{longer_by_one}
 use Rattle.snapshot_manager.proofs.Seating.{first_of_rest, less_one}
-use Rattle.session_threads.proofs.Desks.{desk_at, emptied_more, ended_at}
+use Rattle.session_threads.proofs.Desks.{desk_at, emptied_more, ended_at, is_left}
 use Rattle.session_threads.proofs.run.emptied.Goals as goal
+
+pub remove-requires : goal.remove-requires
+remove-requires g c = is_left c.args.desks c.loop.desks c.loop.counter c.loop.invariant.desks (omega arith)
+
+pub push_reserved-requires : goal.push_reserved-requires
+push_reserved-requires g c = omega arith
+
+pub push_reserved-requires-in-loop : goal.push_reserved-requires-in-loop
+push_reserved-requires-in-loop g c = omega arith
 
 pub into_done-seat-requires : goal.into_done-seat-requires
 into_done-seat-requires g c =

@@ -7,16 +7,16 @@ use Rattle.session_threads.proofs.run.gathered.Goals as goal
 
 pub emptied-seats-requires-clause-ended : goal.emptied-seats-requires-clause-ended
 emptied-seats-requires-clause-ended g c =
-    all_ended g.D.Disk.moment g.S.Source.state g.K.Sink.state c.args.shared c.requires.desks.0 c.args.desks c.requires.desks.1
+    all_ended c.requires.desks.0 g.D.Disk.moment g.S.Source.state g.K.Sink.state c.args.shared c.requires.desks.1 c.args.desks c.requires.desks.2
 
 pub finished-requires-clause-seats : goal.finished-requires-clause-seats
 finished-requires-clause-seats g c =
-    seats_idle g.D.Disk.moment g.S.Source.state g.K.Sink.state c.args.shared c.requires.desks.0 c.args.desks c.emptied-seats.result.0.items c.emptied-seats.result.1
-    c.requires.desks.1 c.emptied-seats.ensures.emptied
+    seats_idle c.requires.desks.0 g.D.Disk.moment g.S.Source.state g.K.Sink.state c.args.shared c.requires.desks.1 c.args.desks c.emptied-seats.result.0.items c.emptied-seats.result.1
+    c.requires.desks.2 c.emptied-seats.ensures.emptied
 
 pub returns-clause-each : goal.returns-clause-each
-returns-clause-each g c = λ all same are.
-    all_served g.D.Disk.moment g.S.Source.state g.K.Sink.state c.args.shared all c.args.desks c.emptied-seats.result.0.items c.emptied-seats.result.1 _
+returns-clause-each g c = λ style all same are.
+    all_served style g.D.Disk.moment g.S.Source.state g.K.Sink.state c.args.shared all c.args.desks c.emptied-seats.result.0.items c.emptied-seats.result.1 _
     are c.emptied-seats.ensures.emptied (c.emptied-seats.ensures.seats.0 ∙ sym same) (c.emptied-seats.ensures.reports ∙ sym same) c.finished.ensures.events
 
 pub returns-clause-others : goal.returns-clause-others

@@ -7,5 +7,5 @@ use Rattle.session_threads.proofs.run.run_sessions.Goals as goal
 
 pub returns-in-Ok-clause-each : goal.returns-in-Ok-clause-each
 returns-in-Ok-clause-each g c =
-    subst (λ origin. AreSessionsOf g.D.Disk.moment g.S.Source.state g.K.Sink.state origin c.args.streams c.run_shared.result.1 (events (standing g.D.Disk.moment c.run_shared.result.0)))
+    subst (λ origin. AreSessionsOf c.args.options.now.style g.D.Disk.moment g.S.Source.state g.K.Sink.state origin c.args.streams c.run_shared.result.1 (events (standing g.D.Disk.moment c.run_shared.result.0)))
     (ap (λ parts. start_of (standing g.D.Disk.moment parts)) c.in-Ok.ensures.store) c.run_shared.ensures.each

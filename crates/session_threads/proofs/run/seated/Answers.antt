@@ -1,8 +1,20 @@
 use Rattle.std.proofs.Common.{◌≡◌, ◌≤◌, length, slice_get, Some, sym, subst, arith}
 use Rattle.turn_lock.proofs.Gathering.{longer_by_one}
 use Rattle.snapshot_manager.proofs.Seating.{first_of_rest, less_one}
-use Rattle.session_threads.proofs.Desks.{seated_more}
+use Rattle.session_threads.proofs.Desks.{is_left, seated_more}
 use Rattle.session_threads.proofs.run.seated.Goals as goal
+
+pub remove-seat-requires : goal.remove-seat-requires
+remove-seat-requires g c = is_left c.args.seats c.loop.seats c.loop.counter c.loop.invariant.seats (omega arith)
+
+pub remove-first-requires : goal.remove-first-requires
+remove-first-requires g c = is_left c.args.streams c.loop.streams c.loop.counter c.loop.invariant.streams (omega arith)
+
+pub push_reserved-requires : goal.push_reserved-requires
+push_reserved-requires g c = omega arith
+
+pub remove-own-requires : goal.remove-own-requires
+remove-own-requires g c = is_left c.args.seats c.loop.seats c.loop.counter c.loop.invariant.seats (omega arith)
 
 pub loop-preserved : goal.loop-preserved
 loop-preserved g c =
@@ -22,3 +34,9 @@ returns-clause-own g c =
     let at = first_of_rest c.args.seats c.loop.seats c.loop.counter c.remove-own.result c.loop.invariant.seats c.remove-own.ensures.item in
     let all : c.loop.counter ≡ length c.args.streams = omega arith in
     subst (λ n. slice_get c.args.seats n ≡ Some c.remove-own.result) all at
+
+pub returns-clause-count : goal.returns-clause-count
+returns-clause-count g c = omega arith
+
+pub returns-clause-desks : goal.returns-clause-desks
+returns-clause-desks g c = c.loop.invariant.seated

@@ -16,7 +16,7 @@ work_beside-desks-requires-clause-own g c κs within =
 pub returns-clause-desks : goal.returns-clause-desks
 returns-clause-desks g c =
     let kept : length c.work_beside-desks.result.0.items ≡ length c.seated-desks.result.0.items = omega arith in
-    all_done g.D.Disk.moment g.S.Source.state g.K.Sink.state c.args.shared.now c.args.streams c.seated-desks.result.0.items c.work_beside-desks.result.0.items
+    all_done c.args.options.now.style g.D.Disk.moment g.S.Source.state g.K.Sink.state c.args.shared.now c.args.streams c.seated-desks.result.0.items c.work_beside-desks.result.0.items
     (all_ready c.args.shared.now c.args.seats c.args.streams c.seated-desks.result.0.items c.requires.seats c.seated-desks.ensures.desks)
     c.work_beside-desks.ensures.desks kept
 

@@ -40,10 +40,10 @@ returns g c =
       same = end.same;
       reads = end.reads;
       pin = pin_last moment c.args.shared.now c.args.seat c.args.turn c.value.result.now c.value.ensures.value c.args.pinned.now r.held r.pin c.is_at.ensures.at r.start r.events
-          went.result.1 c.value-2.result.now c.value-2.ensures.value went.ensures.keeps c.args.text.now c.args.tree.now went.result.0 went.ensures.goes
+          went.result.1 c.value-2.result.now c.value-2.ensures.value went.ensures.keeps c.args.options.now.style c.args.text.now c.args.tree.now went.result.0 went.ensures.goes
           c.is_at-2.ensures.ledger c.is_at-2.ensures.counted c.end_turn.new.seat end.seen end.same.session;
       answered = answered_last moment c.args.shared.now c.args.seat c.args.turn c.value.result.now c.value.ensures.value c.args.pinned.now r.held r.pin c.is_at.ensures.at r.start r.events
-          went.result.1 c.value-2.result.now c.value-2.ensures.value went.ensures.keeps c.args.text.now c.args.tree.now went.result.0 went.ensures.goes
+          went.result.1 c.value-2.result.now c.value-2.ensures.value went.ensures.keeps c.args.options.now.style c.args.text.now c.args.tree.now went.result.0 went.ensures.goes
           c.is_at-2.ensures.ledger c.is_at-2.ensures.counted c.end_turn.new.seat end.seen
           r.change.0 r.change.1;
     }

@@ -35,7 +35,7 @@ returns-in-Ok g c =
     let e = ap (turn_with c.args.turn) c.value-store.ensures.value in
     let went = c.answer_over in record {
       keeps = subst (λ t. KeepsTurn moment c.args.session t went.result.1) e went.ensures.keeps;
-      goes = subst (λ t. Goes moment c.args.session t went.result.1 c.args.text.now c.args.tree.now went.result.0) e went.ensures.goes;
+      goes = subst (λ t. Goes c.args.options.now.style moment c.args.session t went.result.1 c.args.text.now c.args.tree.now went.result.0) e went.ensures.goes;
     }
 
 pub returns-in-Err : goal.returns-in-Err

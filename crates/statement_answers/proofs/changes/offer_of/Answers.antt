@@ -5,22 +5,22 @@ use Rattle.statement_answers.proofs.Offers.{fault_kind, fault_told, front_made, 
 use Rattle.statement_answers.proofs.changes.offer_of.Goals as goal
 
 pub returns-in_ok-offered-in-Ok-clause-kind : goal.returns-in_ok-offered-in-Ok-clause-kind
-returns-in_ok-offered-in-Ok-clause-kind g c =
-    offer_kind c.args.names.now c.args.change.now c.in-Ok.changed c.in_ok-offered-in-Ok.field-0 c.has_its_names.ensures c.requires.typed
+returns-in_ok-offered-in-Ok-clause-kind g c style =
+    offer_kind style c.args.names.now c.args.change.now c.in-Ok.changed c.in_ok-offered-in-Ok.field-0 c.has_its_names.ensures c.requires.typed
     (subst (HasChunks c.args.change.now) c.in-Ok.is c.in_ok-changed.ensures.kind) c.in_ok-offered-in-Ok.ensures.chunks c.in_ok-offered-in-Ok.ensures.reply
 
 pub returns-in_ok-offered-in-Ok-clause-told : goal.returns-in_ok-offered-in-Ok-clause-told
-returns-in_ok-offered-in-Ok-clause-told g c db there =
-    offer_told c.args.names.now db c.args.change.now c.in-Ok.changed c.in_ok-offered-in-Ok.field-0 there.named (subst (IsMadeIn db c.args.change.now) c.in-Ok.is (c.in_ok-changed.ensures.told db there))
+returns-in_ok-offered-in-Ok-clause-told g c style db there =
+    offer_told style c.args.names.now db c.args.change.now c.in-Ok.changed c.in_ok-offered-in-Ok.field-0 there.named (subst (IsMadeIn db c.args.change.now) c.in-Ok.is (c.in_ok-changed.ensures.told db there))
     c.in_ok-offered-in-Ok.ensures.chunks c.in_ok-offered-in-Ok.ensures.reply
 
 pub returns-in_ok-faulty-in-Err-clause-kind : goal.returns-in_ok-faulty-in-Err-clause-kind
-returns-in_ok-faulty-in-Err-clause-kind g c =
-    fault_kind c.args.names.now c.args.change.now c.in-Err.broken c.in_ok-faulty-in-Err.field-0 (subst (HasChunks c.args.change.now) c.in-Err.is c.in_ok-changed.ensures.kind) c.in_ok-faulty-in-Err.ensures
+returns-in_ok-faulty-in-Err-clause-kind g c style =
+    fault_kind style c.args.names.now c.args.change.now c.in-Err.broken c.in_ok-faulty-in-Err.field-0 (subst (HasChunks c.args.change.now) c.in-Err.is c.in_ok-changed.ensures.kind) c.in_ok-faulty-in-Err.ensures
 
 pub returns-in_ok-faulty-in-Err-clause-told : goal.returns-in_ok-faulty-in-Err-clause-told
-returns-in_ok-faulty-in-Err-clause-told g c db there =
-    fault_told db c.args.change.now c.in-Err.broken c.in_ok-faulty-in-Err.field-0 (subst (IsMadeIn db c.args.change.now) c.in-Err.is (c.in_ok-changed.ensures.told db there)) c.in_ok-faulty-in-Err.ensures
+returns-in_ok-faulty-in-Err-clause-told g c style db there =
+    fault_told style db c.args.change.now c.in-Err.broken c.in_ok-faulty-in-Err.field-0 (subst (IsMadeIn db c.args.change.now) c.in-Err.is (c.in_ok-changed.ensures.told db there)) c.in_ok-faulty-in-Err.ensures
 
 pub returns-in_err-faulty-in-Err-clause-front : goal.returns-in_err-faulty-in-Err-clause-front
 returns-in_err-faulty-in-Err-clause-front g c =

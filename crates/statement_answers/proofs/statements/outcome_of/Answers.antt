@@ -1,10 +1,12 @@
-use Rattle.std.proofs.Common.{◌≡◌, Ok, Err, refl, sym, ap, subst}
+use Rattle.std.proofs.Common.{◌≡◌, ◌∙◌, Ok, Err, refl, sym, ap, subst}
 use Rattle.check_rules.specs.Checked.{Answers, Checked}
 use Rattle.check_rules.specs.Checked.{refused as broken_rule}
 use Rattle.check_rules.specs.declared.rules.fault.TypeFault.{TypeFault}
 use Rattle.afl_types.specs.Checking.{check_of}
 use Rattle.afl_types.specs.declared.statements.checking.Typed.{Typed}
 use Rattle.chunk_source.proofs.ReadLemmas.{asked_none, on_err}
+use Rattle.result_print.specs.declared.refusal.Refusal.TheVariants.{Typing}
+use Rattle.statement_replies.specs.Reply.{refused as told}
 use Rattle.statement_replies.specs.Statements.{without_change}
 use Rattle.statement_answers.specs.declared.outcome.Outcome.TheVariants.{Replied}
 use Rattle.statement_answers.specs.Outcomes.{leaves_read}
@@ -17,13 +19,13 @@ outcome_of_typed-requires-clause-can g c κs within =
 
 pub returns-in-Ok-clause-kind : goal.returns-in-Ok-clause-kind
 returns-in-Ok-clause-kind g c =
-    kind_over c.args.names.now (check_of c.args.tree.now c.args.text.now c.args.names.now) (good c.in-Ok.typed) c.in-Ok.ensures c.outcome_of_typed.result c.outcome_of_typed.ensures.kind
+    kind_over c.args.names.now (check_of c.args.tree.now c.args.text.now c.args.names.now) (good c.in-Ok.typed) c.in-Ok.ensures c.args.style c.outcome_of_typed.result c.outcome_of_typed.ensures.kind
 
 pub returns-in-Ok-clause-told : goal.returns-in-Ok-clause-told
 returns-in-Ok-clause-told g c =
     let source = g.S.ChunkSource.state c.args.source.now in
-    over_names c.args.names.now source c.args.text.now c.args.tree.now c.outcome_of_typed.result
-    (told_over c.args.names.now (check_of c.args.tree.now c.args.text.now c.args.names.now) (good c.in-Ok.typed) c.in-Ok.ensures source c.outcome_of_typed.result c.outcome_of_typed.ensures.told)
+    over_names c.args.style c.args.names.now source c.args.text.now c.args.tree.now c.outcome_of_typed.result
+    (told_over c.args.names.now (check_of c.args.tree.now c.args.text.now c.args.names.now) (good c.in-Ok.typed) c.in-Ok.ensures c.args.style source c.outcome_of_typed.result c.outcome_of_typed.ensures.told)
 
 pub returns-in-Ok-clause-asked : goal.returns-in-Ok-clause-asked
 returns-in-Ok-clause-asked g c =
@@ -44,7 +46,7 @@ returns-in_ok-refuse-in-Err-Rule-clause-kind g c =
     let checked = check_of c.args.tree.now c.args.text.now c.args.names.now in
     let rule = c.in-Err-Rule in
     let is : checked ≡ broken_rule rule.span rule.kind = subst (λ (f : TypeFault). Answers {A = Typed} (Err f) checked) rule.field-0-is rule.ensures in
-    kind_over c.args.names.now checked (broken_rule rule.span rule.kind) is (Ok (Replied c.in_ok-refuse-in-Err-Rule.field-0)) (ap without_change c.in_ok-refuse-in-Err-Rule.ensures)
+    kind_over c.args.names.now checked (broken_rule rule.span rule.kind) is c.args.style (Ok (Replied c.in_ok-refuse-in-Err-Rule.field-0)) (ap without_change (c.in_ok-refuse-in-Err-Rule.ensures ∙ (λ i. told (Typing (rule.span-is i) (rule.kind-is i)))))
 
 pub returns-in_ok-refuse-in-Err-Rule-clause-told : goal.returns-in_ok-refuse-in-Err-Rule-clause-told
 returns-in_ok-refuse-in-Err-Rule-clause-told g c =
@@ -52,8 +54,8 @@ returns-in_ok-refuse-in-Err-Rule-clause-told g c =
     let rule = c.in-Err-Rule in
     let is : checked ≡ broken_rule rule.span rule.kind = subst (λ (f : TypeFault). Answers {A = Typed} (Err f) checked) rule.field-0-is rule.ensures in
     let source = g.S.ChunkSource.state c.args.source.now in
-    over_names c.args.names.now source c.args.text.now c.args.tree.now (Ok (Replied c.in_ok-refuse-in-Err-Rule.field-0))
-    (told_over c.args.names.now checked (broken_rule rule.span rule.kind) is source (Ok (Replied c.in_ok-refuse-in-Err-Rule.field-0)) (λ db there. ap without_change (sym c.in_ok-refuse-in-Err-Rule.ensures)))
+    over_names c.args.style c.args.names.now source c.args.text.now c.args.tree.now (Ok (Replied c.in_ok-refuse-in-Err-Rule.field-0))
+    (told_over c.args.names.now checked (broken_rule rule.span rule.kind) is c.args.style source (Ok (Replied c.in_ok-refuse-in-Err-Rule.field-0)) (λ db there. ap without_change (sym (c.in_ok-refuse-in-Err-Rule.ensures ∙ (λ i. told (Typing (rule.span-is i) (rule.kind-is i)))))))
 
 pub returns-in_ok-refuse-in-Err-Rule-clause-asked : goal.returns-in_ok-refuse-in-Err-Rule-clause-asked
 returns-in_ok-refuse-in-Err-Rule-clause-asked g c =
@@ -69,3 +71,6 @@ returns-in_err-refuse-in-Err-Rule-clause-front g c = on_err _ _ (asked_none _ _ 
 pub returns-in_err-refuse-in-Err-Rule-clause-allowed : goal.returns-in_err-refuse-in-Err-Rule-clause-allowed
 returns-in_err-refuse-in-Err-Rule-clause-allowed g c =
     wanting_over (check_of c.args.tree.now c.args.text.now c.args.names.now) c.from_residual.result c.from_residual.ensures.1
+
+pub returns-in-Err-Memory-clause-front : goal.returns-in-Err-Memory-clause-front
+returns-in-Err-Memory-clause-front g c = asked_none _ _ _ refl

@@ -5,8 +5,8 @@ use Rattle.chunk_source.proofs.ReadLemmas.{asked_none, on_err}
 use Rattle.statement_replies.specs.Statements.{list_reply, show_reply, versions_reply, without_change}
 use Rattle.statement_answers.specs.declared.outcome.Outcome.TheVariants.{Replied}
 use Rattle.statement_answers.specs.Inner.Made.{CanAnswer}
-use Rattle.statement_answers.specs.Outcomes.{leaves_read}
-use Rattle.statement_answers.proofs.Answering.{asked_over, front_over, good, kind_over, listing_told, nothing_read, told_over}
+use Rattle.statement_answers.specs.Outcomes.{HasOutcomeKind, leaves_read}
+use Rattle.statement_answers.proofs.Answering.{asked_over, front_over, good, in_style, kind_over, listing_told, nothing_read, told_in, told_over}
 use Rattle.statement_answers.proofs.statements.outcome_of_typed.Goals as goal
 
 pub outcome_of_query-outcome-requires-clause-can : goal.outcome_of_query-outcome-requires-clause-can
@@ -23,12 +23,12 @@ show_reply-requires g c = subst (CanAnswer c.args.names.now (g.S.ChunkSource.sta
 
 pub returns-in-Query-clause-kind : goal.returns-in-Query-clause-kind
 returns-in-Query-clause-kind g c =
-    kind_over c.args.names.now (good c.args.typed) (good (AQuery c.in-Query.plan)) (ap good c.in-Query.is)
+    kind_over c.args.names.now (good c.args.typed) (good (AQuery c.in-Query.plan)) (ap good c.in-Query.is) c.args.style
     c.outcome_of_query-outcome.result c.outcome_of_query-outcome.ensures.kind
 
 pub returns-in-Query-clause-told : goal.returns-in-Query-clause-told
 returns-in-Query-clause-told g c =
-    told_over c.args.names.now (good c.args.typed) (good (AQuery c.in-Query.plan)) (ap good c.in-Query.is) (g.S.ChunkSource.state c.args.source.now)
+    told_over c.args.names.now (good c.args.typed) (good (AQuery c.in-Query.plan)) (ap good c.in-Query.is) c.args.style (g.S.ChunkSource.state c.args.source.now)
     c.outcome_of_query-outcome.result c.outcome_of_query-outcome.ensures.told
 
 pub returns-in-Query-clause-asked : goal.returns-in-Query-clause-asked
@@ -43,13 +43,15 @@ returns-in-Query-clause-front g c =
 
 pub returns-in-Change-clause-kind : goal.returns-in-Change-clause-kind
 returns-in-Change-clause-kind g c =
-    kind_over c.args.names.now (good c.args.typed) (good (AChange c.in-Change.change)) (ap good c.in-Change.is)
-    c.outcome_of_change.result c.outcome_of_change.ensures.kind
+    kind_over c.args.names.now (good c.args.typed) (good (AChange c.in-Change.change)) (ap good c.in-Change.is) c.args.style
+    c.outcome_of_change.result
+    (in_style (λ s outcome. HasOutcomeKind s c.args.names.now (good (AChange c.in-Change.change)) outcome) c.args.style c.outcome_of_change.result c.outcome_of_change.ensures.kind)
 
 pub returns-in-Change-clause-told : goal.returns-in-Change-clause-told
 returns-in-Change-clause-told g c =
-    told_over c.args.names.now (good c.args.typed) (good (AChange c.in-Change.change)) (ap good c.in-Change.is) (g.S.ChunkSource.state c.args.source.now)
-    c.outcome_of_change.result c.outcome_of_change.ensures.told
+    told_over c.args.names.now (good c.args.typed) (good (AChange c.in-Change.change)) (ap good c.in-Change.is) c.args.style (g.S.ChunkSource.state c.args.source.now)
+    c.outcome_of_change.result
+    (told_in c.args.style c.args.names.now (g.S.ChunkSource.state c.args.source.now) c.in-Change.change c.outcome_of_change.result c.outcome_of_change.ensures.told)
 
 pub returns-in-Change-clause-asked : goal.returns-in-Change-clause-asked
 returns-in-Change-clause-asked g c =
@@ -63,11 +65,11 @@ returns-in-Change-clause-front g c =
 
 pub returns-in_ok-versions_reply-in-Versions-clause-kind : goal.returns-in_ok-versions_reply-in-Versions-clause-kind
 returns-in_ok-versions_reply-in-Versions-clause-kind g c =
-    kind_over c.args.names.now (good c.args.typed) (good (Versions c.in-Versions.name)) (ap good c.in-Versions.is) (Ok (Replied c.in_ok-versions_reply-in-Versions.field-0)) (ap without_change c.in_ok-versions_reply-in-Versions.ensures)
+    kind_over c.args.names.now (good c.args.typed) (good (Versions c.in-Versions.name)) (ap good c.in-Versions.is) c.args.style (Ok (Replied c.in_ok-versions_reply-in-Versions.field-0)) (ap without_change c.in_ok-versions_reply-in-Versions.ensures)
 
 pub returns-in_ok-versions_reply-in-Versions-clause-told : goal.returns-in_ok-versions_reply-in-Versions-clause-told
 returns-in_ok-versions_reply-in-Versions-clause-told g c =
-    told_over c.args.names.now (good c.args.typed) (good (Versions c.in-Versions.name)) (ap good c.in-Versions.is) (g.S.ChunkSource.state c.args.source.now)
+    told_over c.args.names.now (good c.args.typed) (good (Versions c.in-Versions.name)) (ap good c.in-Versions.is) c.args.style (g.S.ChunkSource.state c.args.source.now)
     (Ok (Replied c.in_ok-versions_reply-in-Versions.field-0)) (listing_told c.args.names.now (g.S.ChunkSource.state c.args.source.now) (λ n. versions_reply n c.in-Versions.name) c.in_ok-versions_reply-in-Versions.field-0 c.in_ok-versions_reply-in-Versions.ensures)
 
 pub returns-in_ok-versions_reply-in-Versions-clause-asked : goal.returns-in_ok-versions_reply-in-Versions-clause-asked
@@ -80,11 +82,11 @@ returns-in_err-versions_reply-in-Versions-clause-front g c = on_err _ _ (asked_n
 
 pub returns-in_ok-show_reply-in-Show-clause-kind : goal.returns-in_ok-show_reply-in-Show-clause-kind
 returns-in_ok-show_reply-in-Show-clause-kind g c =
-    kind_over c.args.names.now (good c.args.typed) (good (Show c.in-Show.name)) (ap good c.in-Show.is) (Ok (Replied c.in_ok-show_reply-in-Show.field-0)) (ap without_change c.in_ok-show_reply-in-Show.ensures)
+    kind_over c.args.names.now (good c.args.typed) (good (Show c.in-Show.name)) (ap good c.in-Show.is) c.args.style (Ok (Replied c.in_ok-show_reply-in-Show.field-0)) (ap without_change c.in_ok-show_reply-in-Show.ensures)
 
 pub returns-in_ok-show_reply-in-Show-clause-told : goal.returns-in_ok-show_reply-in-Show-clause-told
 returns-in_ok-show_reply-in-Show-clause-told g c =
-    told_over c.args.names.now (good c.args.typed) (good (Show c.in-Show.name)) (ap good c.in-Show.is) (g.S.ChunkSource.state c.args.source.now)
+    told_over c.args.names.now (good c.args.typed) (good (Show c.in-Show.name)) (ap good c.in-Show.is) c.args.style (g.S.ChunkSource.state c.args.source.now)
     (Ok (Replied c.in_ok-show_reply-in-Show.field-0)) (listing_told c.args.names.now (g.S.ChunkSource.state c.args.source.now) (λ n. show_reply n c.in-Show.name) c.in_ok-show_reply-in-Show.field-0 c.in_ok-show_reply-in-Show.ensures)
 
 pub returns-in_ok-show_reply-in-Show-clause-asked : goal.returns-in_ok-show_reply-in-Show-clause-asked
@@ -97,11 +99,11 @@ returns-in_err-show_reply-in-Show-clause-front g c = on_err _ _ (asked_none _ _ 
 
 pub returns-in_ok-list_reply-in-ListArrays-clause-kind : goal.returns-in_ok-list_reply-in-ListArrays-clause-kind
 returns-in_ok-list_reply-in-ListArrays-clause-kind g c =
-    kind_over c.args.names.now (good c.args.typed) (good ListArrays) (ap good c.in-ListArrays.is) (Ok (Replied c.in_ok-list_reply-in-ListArrays.field-0)) (ap without_change c.in_ok-list_reply-in-ListArrays.ensures)
+    kind_over c.args.names.now (good c.args.typed) (good ListArrays) (ap good c.in-ListArrays.is) c.args.style (Ok (Replied c.in_ok-list_reply-in-ListArrays.field-0)) (ap without_change c.in_ok-list_reply-in-ListArrays.ensures)
 
 pub returns-in_ok-list_reply-in-ListArrays-clause-told : goal.returns-in_ok-list_reply-in-ListArrays-clause-told
 returns-in_ok-list_reply-in-ListArrays-clause-told g c =
-    told_over c.args.names.now (good c.args.typed) (good ListArrays) (ap good c.in-ListArrays.is) (g.S.ChunkSource.state c.args.source.now)
+    told_over c.args.names.now (good c.args.typed) (good ListArrays) (ap good c.in-ListArrays.is) c.args.style (g.S.ChunkSource.state c.args.source.now)
     (Ok (Replied c.in_ok-list_reply-in-ListArrays.field-0)) (listing_told c.args.names.now (g.S.ChunkSource.state c.args.source.now) list_reply c.in_ok-list_reply-in-ListArrays.field-0 c.in_ok-list_reply-in-ListArrays.ensures)
 
 pub returns-in_ok-list_reply-in-ListArrays-clause-asked : goal.returns-in_ok-list_reply-in-ListArrays-clause-asked

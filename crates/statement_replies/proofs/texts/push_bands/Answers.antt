@@ -4,7 +4,8 @@ use Rattle.array_geom.specs.Link.{NumbersRise, core_rows, numbers}
 use Rattle.chunk_cells.specs.Whole.{CoresRise}
 use Rattle.area_cells.proofs.CutLaws.{cores_drop, cores_take, each_core, rise_drop}
 use Rattle.area_cells.proofs.PieceLaws.{places_drop, places_take}
-use Rattle.statement_replies.proofs.TextLaws.{lines_on}
+use Rattle.statement_replies.specs.Inner.Parts.{row_part}
+use Rattle.statement_replies.proofs.TextLaws.{rows_on}
 use Rattle.statement_replies.proofs.texts.push_bands.Goals as goal
 
 pub count_in_band-requires-clause-cores : goal.count_in_band-requires-clause-cores
@@ -29,5 +30,5 @@ loop-rest-preserved c =
       placed = places_drop c.args.schema.now margins count rest further c.split_at.ensures.back c.loop-rest.invariant.placed;
       cores = subst (λ (cs : List Chunk). CoresRise dims margins cs) (sym c.split_at.ensures.back) (cores_drop dims margins count rest c.loop-rest.invariant.cores);
       rise = subst (λ (cs : List Chunk). NumbersRise (numbers cs)) (sym c.split_at.ensures.back) (rise_drop count rest c.loop-rest.invariant.rise);
-      lines = lines_on c.loop-rest.text c.push_chunks.new.text c.args.text.now (core_rows dims margins rest) (core_rows dims margins c.split_at.result.0.now) (core_rows dims margins further) (core_rows dims margins c.args.chunks.now) rows c.in_ok-push_chunks.ensures c.loop-rest.invariant.lines;
+      rows = rows_on (row_part c.args.style.csv) c.loop-rest.text c.push_chunks.new.text c.args.text.now (core_rows dims margins rest) (core_rows dims margins c.split_at.result.0.now) (core_rows dims margins further) (core_rows dims margins c.args.chunks.now) rows c.in_ok-push_chunks.ensures c.loop-rest.invariant.rows;
     }

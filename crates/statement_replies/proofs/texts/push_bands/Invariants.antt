@@ -3,7 +3,7 @@ use Rattle.std.specs.List.{flat_map}
 use Rattle.array_geom.specs.Link.{NumbersRise, core_rows, numbers}
 use Rattle.array_parts.specs.Placed.{HavePlaces}
 use Rattle.chunk_cells.specs.Whole.{CoresRise}
-use Rattle.result_print.specs.Texts.{line_of}
+use Rattle.statement_replies.specs.Inner.Parts.{row_part}
 use Rattle.statement_replies.proofs.texts.push_bands.Given as goal
 
 abbrev pub invariant-loop-rest : goal.invariant-loop-rest
@@ -11,7 +11,7 @@ invariant-loop-rest l = record {
   placed : HavePlaces l.schema l.margins.items l.rest;
   cores : CoresRise l.schema.dimensions l.margins.items l.rest;
   rise : NumbersRise (numbers l.rest);
-  lines : l.text ++ flat_map line_of (core_rows l.schema.dimensions l.margins.items l.rest) ≡ l.initial.text ++ flat_map line_of (core_rows l.schema.dimensions l.margins.items l.fn.chunks);
+  rows : l.text ++ flat_map (row_part l.style.csv) (core_rows l.schema.dimensions l.margins.items l.rest) ≡ l.initial.text ++ flat_map (row_part l.style.csv) (core_rows l.schema.dimensions l.margins.items l.fn.chunks);
 }
 
 abbrev pub decreases-loop-rest : goal.decreases-loop-rest

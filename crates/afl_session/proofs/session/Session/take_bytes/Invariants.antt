@@ -14,8 +14,8 @@ invariant-loop-byte g l = record {
   same : session_of l.seat ≡ session_of l.fn.seat;
   stands : (script : List ℕ) → StandsAfter script l.fn.self.splitter → StandsAfter (script ++ take l.byte-index l.bytes) l.self.splitter;
   answered : (session : ℕ) (first : Reached) (script : List ℕ) → session_of l.fn.seat ≡ session → StandsAfter script l.fn.self.splitter
-      → HasAnswered (IsMarked g.D.Disk.moment (start g.D.Disk.moment l.shared) session) first
+      → HasAnswered (IsMarked l.options.style g.D.Disk.moment (start g.D.Disk.moment l.shared) session) first
       (reached (seen l.fn.seat) (last_place l.fn.seat) (g.K.Sink.state l.fn.self.sink)) (closed_statements script) l.fn.self.marks.items
-      → HasAnswered (IsMarked g.D.Disk.moment (start g.D.Disk.moment l.shared) session) first
+      → HasAnswered (IsMarked l.options.style g.D.Disk.moment (start g.D.Disk.moment l.shared) session) first
       (reached (seen l.seat) (last_place l.seat) (g.K.Sink.state l.self.sink)) (closed_statements (script ++ take l.byte-index l.bytes)) l.self.marks.items;
 }

@@ -1,0 +1,14 @@
+use Rattle.std.proofs.Common.{map, sym}
+use Rattle.redimension_exec.specs.Inner.Places.{origin}
+use Rattle.redimension_exec.proofs.LandingsGatherLaws.{next_outside, next_taken}
+use Rattle.redimension_exec.proofs.landings.gathering.take_next.Goals as goal
+
+pub returns-then-not-is_in_box-clause-taken : goal.returns-then-not-is_in_box-clause-taken
+returns-then-not-is_in_box-clause-taken c =
+    next_outside (map origin c.args.places.now) c.args.bounds.now c.requires.plain c.args.aggregates.now c.args.row.now c.args.groups.now c.args.groups.now c.in-Ok-Some.at c.broken_at-then-not-is_in_box.result
+    (rw c.in-Ok-Some.field-0-is at c.in-Ok-Some.ensures) (sym c.if-not-is_in_box.ensures) c.broken_at-then-not-is_in_box.ensures
+
+pub returns-in_ok-take_at-in-Ok-Some-clause-taken : goal.returns-in_ok-take_at-in-Ok-Some-clause-taken
+returns-in_ok-take_at-in-Ok-Some-clause-taken c =
+    next_taken (map origin c.args.places.now) c.args.bounds.now c.requires.plain c.args.aggregates.now c.args.row.now c.args.groups.now c.take_at.new.groups c.in-Ok-Some.at
+    (rw c.in-Ok-Some.field-0-is at c.in-Ok-Some.ensures) (sym c.if-not-is_in_box.ensures) c.in_ok-take_at-in-Ok-Some.ensures.states

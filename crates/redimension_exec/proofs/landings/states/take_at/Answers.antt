@@ -1,0 +1,35 @@
+use Rattle.std.proofs.Common.{◌≡◌, List, Some, sym, ap, ◌∙◌, subst}
+use Rattle.std.specs.BTreeMap as tree
+use Rattle.std.specs.BTreeMap.{Updates, is_at}
+use Rattle.std.specs.Option.{is_some}
+use Rattle.agg_states.specs.Inner.Summary.{Summary}
+use Rattle.redimension_exec.specs.Inner.Counting.{by_numbers}
+use Rattle.redimension_exec.proofs.StateLaws.{room_at, states_found, states_first, kept_after, kept_first}
+use Rattle.redimension_exec.proofs.landings.states.take_at.Goals as goal
+
+pub with_row-requires : goal.with_row-requires
+with_row-requires c = record { room = room_at (is_at (by_numbers c.args.at)) c.args.groups.now.entries c.in-Some.states.now c.take.result c.in-Some.ensures.value c.take.ensures.items c.requires.room }
+
+pub returns-in_ok-states-in-Some-clause-states : goal.returns-in_ok-states-in-Some-clause-states
+returns-in_ok-states-in-Some-clause-states c = λ all h r.
+    let more = c.in_ok-states-in-Some.field-0 in
+    let found : Some c.take.result ≡ tree.get by_numbers c.args.groups.now c.args.at = ap (λ (s : List Summary). Some s) c.take.ensures.items ∙ c.in-Some.ensures.value in
+    states_found c.args.aggregates.now all c.args.at c.args.row.now r c.args.groups.now (c.get_mut.follows.lender more) h c.take.result more ((c.get_mut.follows.holds more).3 (ap is_some (sym found))) c.in_ok-states-in-Some.ensures.states found
+
+pub returns-in_ok-states-in-Some-clause-cells : goal.returns-in_ok-states-in-Some-clause-cells
+returns-in_ok-states-in-Some-clause-cells c =
+    let more = c.in_ok-states-in-Some.field-0 in
+    kept_after (is_at (by_numbers c.args.at)) c.args.groups.now.entries (c.get_mut.follows.lender more).entries c.in-Some.states.now c.take.result more c.in-Some.ensures.value c.take.ensures.items (c.get_mut.follows.holds more).0
+    c.in_ok-states-in-Some.ensures.cells
+
+pub returns-in_ok-insert-in-None-clause-states : goal.returns-in_ok-insert-in-None-clause-states
+returns-in_ok-insert-in-None-clause-states c = λ all h r.
+    states_first c.args.aggregates.now all c.args.at c.args.row.now r c.args.groups.now c.insert.new.self h c.in_ok-no_states-in-None.field-0 c.in_ok-states-in-None.states
+    (subst (λ m. Updates by_numbers m c.insert.new.self c.args.at (Some c.in_ok-states-in-None.states)) c.get_mut.follows.holds-at-none c.in_ok-insert-in-None.ensures.updates)
+    c.in_ok-states-in-None.ensures.states c.in-None.ensures.value c.in_ok-no_states-in-None.ensures.states
+
+pub returns-in_ok-insert-in-None-clause-cells : goal.returns-in_ok-insert-in-None-clause-cells
+returns-in_ok-insert-in-None-clause-cells c =
+    kept_first c.args.groups.now.entries c.insert.new.self.entries c.args.at c.in_ok-states-in-None.states c.in_ok-no_states-in-None.field-0
+    (subst (λ m. c.insert.new.self.entries ≡ tree.insert_entry by_numbers m.entries c.args.at c.in_ok-states-in-None.states) c.get_mut.follows.holds-at-none c.in_ok-insert-in-None.ensures.entries)
+    c.in_ok-states-in-None.ensures.cells c.in_ok-no_states-in-None.ensures.cells

@@ -1,0 +1,14 @@
+use Rattle.std.proofs.Common.{sym, subst}
+use Rattle.afl_types.specs.declared.statements.checking.Typed.TheVariants.{Change as AChange}
+use Rattle.statement_replies.specs.Statements.{reply_to_typed}
+use Rattle.statement_answers.specs.Outcomes.{HasOutcomeKind, IsOutcomeOf}
+use Rattle.statement_answers.proofs.Answering.{good}
+use Rattle.statement_answers.proofs.changes.outcome_of_change.Goals as goal
+
+pub returns-in-Ok-clause-kind : goal.returns-in-Ok-clause-kind
+returns-in-Ok-clause-kind g c style =
+    subst (HasOutcomeKind style c.args.names.now (good (AChange c.args.change))) (sym c.outcome_with.ensures) (c.in-Ok.ensures.kind style)
+
+pub returns-in-Ok-clause-told : goal.returns-in-Ok-clause-told
+returns-in-Ok-clause-told g c style db there =
+    subst (IsOutcomeOf db (reply_to_typed style db (AChange c.args.change))) (sym c.outcome_with.ensures) (c.in-Ok.ensures.told style db there)
