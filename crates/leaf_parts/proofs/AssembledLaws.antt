@@ -1,5 +1,5 @@
 -- The rows of chunks in order are what they tell.
-use Rattle.std.proofs.Common.{◌≡◌, ℕ, ◌≤◌, ◌^◌, Bool, true, false, cond, ◌||◌, List, [], ◌∷◌, ◌++◌, length, Option, Some, None, Result, Ok, Err, refl, sym, ap, ◌∙◌, subst}
+use Rattle.std.proofs.Common.{◌≡◌, ℕ, Bool, true, false, cond, ◌||◌, List, [], ◌∷◌, ◌++◌, Option, Some, None, Result, Ok, Err, refl, sym, ap, ◌∙◌, subst}
 use Rattle.std.specs.List.{AllByRecursion, AllZip, flat_map}
 use Rattle.std.specs.Option.{option_or}
 use Rattle.std.specs.Prelude.{IfOk}
@@ -23,7 +23,7 @@ use Rattle.array_rows.proofs.RowSets.{cell_at-in_order, cell_at-rows_where, cell
 use Rattle.array_geom.specs.declared.chunk.Chunk.{Chunk}
 use Rattle.array_geom.specs.declared.chunk.ChunkedArray.{ChunkedArray}
 use Rattle.array_geom.specs.Chunks.{IsChunk}
-use Rattle.array_geom.specs.Geometry.{frame, frame_lengths, overlaps, volume}
+use Rattle.array_geom.specs.Geometry.{frame, overlaps}
 use Rattle.array_geom.specs.Link.{Is, IsPart, NumbersRise, chunk_rows}
 use Rattle.array_geom.proofs.MarginLaws.{overlap_each, overlap_places}
 use Rattle.array_parts.specs.Placed.{HasPlaces, HavePlaces}

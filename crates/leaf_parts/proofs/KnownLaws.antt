@@ -21,7 +21,7 @@ use Rattle.array_geom.proofs.TestLaws.{and_both, and_parts}
 use Rattle.array_parts.proofs.PartLemmas.{all_kept}
 use Rattle.logical_plan.specs.Typing.{AreSound, is_sound}
 use Rattle.logical_plan.specs.declared.parts.Leaf.{Leaf}
-use Rattle.plan_needs.specs.Wanted.{HaveAlike, is_wanted, wanted_of}
+use Rattle.plan_needs.specs.Wanted.{is_wanted, wanted_of}
 use Rattle.chunk_source.specs.Source.{HasArray, numbers_of}
 use Rattle.chunk_source.proofs.ReadingLeafLaws.{each_overlap}
 use Rattle.leaf_parts.specs.Known.{is_framed, known, known_for}

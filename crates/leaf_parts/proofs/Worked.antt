@@ -7,7 +7,7 @@ use Rattle.cell_values.specs.declared.datum.Row.{Row}
 use Rattle.cell_values.specs.declared.schema.Bounds.{Bounds}
 use Rattle.cell_values.specs.declared.schema.Kind.TheVariants.{Int64}
 use Rattle.array_rows.specs.Boxes.{corners}
-use Rattle.array_rows.specs.Rows.{in_order, placed}
+use Rattle.array_rows.specs.Rows.{placed}
 use Rattle.logical_plan.specs.declared.parts.Leaf.{Leaf}
 use Rattle.plan_needs.specs.Wanted.{wanted_of}
 use Rattle.leaf_parts.specs.Known.{known_for}

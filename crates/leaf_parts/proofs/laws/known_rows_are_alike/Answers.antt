@@ -1,7 +1,4 @@
 use Rattle.leaf_parts.proofs.KnownLaws.{known_is_alike}
-use Rattle.leaf_parts.proofs.AssembledLaws.{part_is_told}
-use Rattle.leaf_parts.proofs.OrderLaws.{sorted_once}
-use Rattle.leaf_parts.proofs.ChunkRows.{step}
 use Rattle.leaf_parts.proofs.laws.known_rows_are_alike.Goals as goal
 
 pub returns : goal.returns
