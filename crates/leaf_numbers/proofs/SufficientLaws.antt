@@ -1,5 +1,5 @@
 -- What the wanted chunks of each leaf tell suffices.
-use Rattle.std.proofs.Common.{◌≡◌, ℕ, ◌+◌, suc, List, [], ◌∷◌, ◌++◌, length, refl, sym, ap, ◌∙◌, subst, append_assoc, length-append, arith}
+use Rattle.std.proofs.Common.{◌≡◌, ℕ, ◌+◌, List, [], ◌∷◌, ◌++◌, length, refl, sym, ap, ◌∙◌, subst, append_assoc, length-append, arith}
 use Rattle.std.specs.Prelude.{slice_index_or}
 use Rattle.std.specs.List.{AllByRecursion, AllZip}
 use Rattle.arrayvec.specs.ArrayVec.{ArrayVec}
@@ -10,14 +10,13 @@ use Rattle.array_rows.specs.Arrays.{AreRowsOf}
 use Rattle.array_rows.specs.Boxes.{bounds_of}
 use Rattle.logical_plan.specs.declared.parts.Leaf.{Leaf}
 use Rattle.logical_plan.specs.Leaves.{leaves}
-use Rattle.logical_plan.specs.Meaning.{Database, meaning, version_rows}
+use Rattle.logical_plan.specs.Meaning.{Database, version_rows}
 use Rattle.logical_plan.specs.PlanSchema.{schema_of}
 use Rattle.logical_plan.specs.Query.{Query, built, listed, scanned, filtered, applied, projected, between, subarray}
 use Rattle.logical_plan.specs.Query.{sliced, joined, crossed, redimensioned, regridded, windowed, aggregated}
 use Rattle.plan_needs.specs.Needs.{is_scan, needs}
 use Rattle.plan_needs.specs.Sides.{Sides, of_aggregate, of_between, of_left, of_regrid, of_right, of_slice, of_subarray, of_window, sides_of, whole}
-use Rattle.plan_needs.specs.Sufficient.{HasArrays}
-use Rattle.plan_needs.specs.Wanted.{AreAlikeAt, AreAlikeFor, HaveAlike, wanted_of, whole_need}
+use Rattle.plan_needs.specs.Wanted.{AreAlikeAt, HaveAlike, wanted_of, whole_need}
 use Rattle.plan_needs.proofs.AlikePlans.{needs_are_sufficient}
 use Rattle.chunk_source.specs.Source.{HasArray}
 use Rattle.leaf_parts.specs.Known.{known_for}
@@ -36,10 +35,11 @@ pub holds_behind : (before all : List (List Row)) → HoldsAll (by_number (befor
 holds_behind before [] = tt
 holds_behind before (rows ∷ more) =
     let same : (before ++ rows ∷ []) ++ more ≡ before ++ rows ∷ more = append_assoc before (rows ∷ []) more in
-    let count : length (before ++ rows ∷ []) ≡ length before + 1 = length-append before (rows ∷ []) in
-    (at_behind before rows more,
-    subst (λ (m : ℕ). HoldsAll (by_number (before ++ rows ∷ more)) m more) count
-    (subst (λ (z : List (List Row)). HoldsAll (by_number z) (length (before ++ rows ∷ [])) more) same (holds_behind (before ++ rows ∷ []) more)))
+    let count : length (before ++ rows ∷ []) ≡ length before + 1 = length-append before (rows ∷ []) in (
+      at_behind before rows more,
+      subst (λ (m : ℕ). HoldsAll (by_number (before ++ rows ∷ more)) m more) count
+          (subst (λ (z : List (List Row)). HoldsAll (by_number z) (length (before ++ rows ∷ [])) more) same (holds_behind (before ++ rows ∷ []) more)),
+    )
 
 -- ---- a need for each leaf
 
@@ -105,8 +105,8 @@ module _ (stored : Leaf → List (ArrayVec ℕ)) (db known told : Database) wher
   all_alike n (leaf ∷ all) [] e a h t = absurd (omega (arith, e))
   all_alike n (leaf ∷ all) (box ∷ boxes) e a h t = (
     subst (λ (rows : List Row). HaveAlike leaf.schema.dimensions box rows (told (n ∷ []) 1)) (sym h.0)
-    (subst (λ (rows : List Row). HaveAlike leaf.schema.dimensions box (known_for leaf box (stored leaf) (version_rows db leaf.name leaf.version)) rows) (sym t.0)
-    (known_is_alike leaf box (version_rows db leaf.name leaf.version) (stored leaf) a.0)),
+        (subst (λ (rows : List Row). HaveAlike leaf.schema.dimensions box (known_for leaf box (stored leaf) (version_rows db leaf.name leaf.version)) rows) (sym t.0)
+        (known_is_alike leaf box (version_rows db leaf.name leaf.version) (stored leaf) a.0)),
     all_alike (n + 1) all boxes (omega (arith, e)) a.1 h.1 t.1,
   )
 

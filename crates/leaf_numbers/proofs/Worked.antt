@@ -34,7 +34,7 @@ db : Database
 db name version = cell (pos 1) ∷ cell (pos 2) ∷ cell (pos 5) ∷ []
 
 chunks : Leaf → List (ArrayVec ℕ)
-chunks leaf = record { items = 0 ∷ [] } ∷ record { items = 1 ∷ [] } ∷ record { items = 2 ∷ [] } ∷ []
+chunks _ = record { items = 0 ∷ [] } ∷ record { items = 1 ∷ [] } ∷ record { items = 2 ∷ [] } ∷ []
 
 -- `join(A, between(A, 0, 1))`
 query : Query
