@@ -100,10 +100,11 @@ known_of_both stored db known first left right boxes l h =
     let few : length left ≤ length (drop first boxes) = omega (arith, l, length-drop first boxes) in
     let a = known_of_leaves stored db left (drop first boxes) in
     let b = known_of_leaves stored db right (drop (length left) (drop first boxes)) in
-    let parts = holds_parts known first a b (subst (HoldsAll known first) (known_both stored db left right (drop first boxes) few) h) in
-    (parts.0,
-    subst (λ (z : List Bounds). HoldsAll known (first + length left) (known_of_leaves stored db right z)) (drop-drop (length left) first boxes)
-    (subst (λ (m : ℕ). HoldsAll known (first + m) b) (known_each stored db left (drop first boxes) few) parts.1))
+    let parts = holds_parts known first a b (subst (HoldsAll known first) (known_both stored db left right (drop first boxes) few) h) in (
+      parts.0,
+      subst (λ (z : List Bounds). HoldsAll known (first + length left) (known_of_leaves stored db right z)) (drop-drop (length left) first boxes)
+          (subst (λ (m : ℕ). HoldsAll known (first + m) b) (known_each stored db left (drop first boxes) few) parts.1),
+    )
 
 -- ---- what a numbered plan means by its sources
 

@@ -54,12 +54,5 @@ pub fn execute<S: ChunkSource, R: Threads + Sync, G: Gate>(
         pieces: 0,
     };
     let mut next = 0;
-    compute(
-        &mut crew,
-        alloc,
-        plan,
-        source,
-        &mut next,
-        boxes.as_slice(),
-    )
+    compute(&mut crew, alloc, plan, source, &mut next, boxes.as_slice())
 }

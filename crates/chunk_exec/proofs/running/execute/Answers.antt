@@ -1,5 +1,4 @@
-use Rattle.std.proofs.Common.{◌+◌, ◌≤◌, length, ap, sym, ◌∙◌, subst, arith}
-use Rattle.logical_plan.specs.Leaves.{leaves}
+use Rattle.std.proofs.Common.{length, ap, ◌∙◌, arith}
 use Rattle.leaf_numbers.proofs.SufficientLaws.{whole_needs}
 use Rattle.chunk_exec.proofs.ComputedLaws.{means_if, sound_if}
 use Rattle.chunk_exec.proofs.running.execute.Goals as goal
