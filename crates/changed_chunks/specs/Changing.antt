@@ -1,5 +1,5 @@
 -- Changes that store the array of a plan: what is asked of them, what is read for them, and the answer to them.
-use Rattle.std.specs.Prelude.{◌≡◌, List, [], ◌∷◌, ◌++◌, Option, Some, Result, Ok, Err}
+use Rattle.std.specs.Prelude.{◌≡◌, List, [], ◌++◌, length, map, Option, Some, Result, Ok, Err}
 use Rattle.cell_values.specs.declared.datum.Broken.{Broken}
 use Rattle.cell_values.specs.declared.schema.Schema.{Schema}
 use Rattle.cell_values.specs.Schemas.{IsValid}
@@ -16,9 +16,8 @@ use Rattle.plan_changes.specs.Kept.{StoresArray}
 use Rattle.plan_changes.specs.Stored.{IsDatabase}
 use Rattle.plan_changes.specs.Typed.{FitsInto}
 use Rattle.chunk_source.specs.declared.sources.asked.Asked.{Asked}
-use Rattle.chunk_source.specs.Reading.{asked_of}
-use Rattle.chunk_source.specs.Source.{SourceState, Reads}
-use Rattle.chunk_exec.specs.Computed.{CanCompute}
+use Rattle.chunk_source.specs.Source.{SourceState, Reads, asks, listed}
+use Rattle.chunk_exec.specs.Computed.{CanCompute, asked_for_plan}
 use Rattle.commit_pages.specs.Changes.{IsChangeOf}
 
 -- a plan that can be computed over the source, and a valid schema under which typing lets its array be stored
@@ -37,26 +36,27 @@ CanChange source (RemoveVersions name below) target = ⊥
 
 -- ---- what is read
 
--- the leaves of a change's plan
-abbrev pub plan_leaves : Change → List Leaf
-plan_leaves (Create name schema) = []
-plan_leaves (Store name schema plan) = leaves plan
-plan_leaves (Insert name schema plan) = leaves plan
-plan_leaves (Remove name) = []
-plan_leaves (RemoveVersions name below) = []
+-- the chunks that a change's plan needs
+abbrev pub asked_of_plan : SourceState → Change → List Asked
+asked_of_plan source (Create name schema) = []
+asked_of_plan source (Store name schema plan) = asked_for_plan source plan
+asked_of_plan source (Insert name schema plan) = asked_for_plan source plan
+asked_of_plan source (Remove name) = []
+asked_of_plan source (RemoveVersions name below) = []
 
--- an insert reads its target after them
-abbrev pub all_leaves : Change → Leaf → List Leaf
-all_leaves (Create name schema) target = []
-all_leaves (Store name schema plan) target = leaves plan
-all_leaves (Insert name schema plan) target = leaves plan ++ target ∷ []
-all_leaves (Remove name) target = []
-all_leaves (RemoveVersions name below) target = []
+-- an insert reads after them each listed chunk of its target, which is one more leaf
+abbrev pub asked_of_all : SourceState → Change → Leaf → List Asked
+asked_of_all source (Create name schema) target = []
+asked_of_all source (Store name schema plan) target = asked_for_plan source plan
+asked_of_all source (Insert name schema plan) target =
+    asked_for_plan source plan ++ map (asks (length (leaves plan))) (listed source target)
+asked_of_all source (Remove name) target = []
+asked_of_all source (RemoveVersions name below) target = []
 
--- each listed chunk of each of these leaves, once; where the plan's array has a fault those of the plan alone
+-- where the plan's array has a fault the chunks that the plan needs alone
 abbrev pub asked_for : SourceState → Change → Leaf → Result Changed Broken → List Asked
-asked_for source change target (Ok changed) = asked_of source 0 (all_leaves change target)
-asked_for source change target (Err broken) = asked_of source 0 (plan_leaves change)
+asked_for source change target (Ok changed) = asked_of_all source change target
+asked_for source change target (Err broken) = asked_of_plan source change
 
 -- ---- the answer
 

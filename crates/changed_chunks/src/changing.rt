@@ -1,14 +1,13 @@
 //! Stores and inserts.
-ghost use Rattle.std.specs.Prelude.{◌≡◌, ◌≤◌, ◌++◌, ◌∷◌, [], ℕ, List as Items, true, false, None, Some, IfOk, OnOk, OnErr};
+ghost use Rattle.std.specs.Prelude.{◌≡◌, ◌≤◌, ◌++◌, [], ℕ, List as Items, true, false, None, Some, IfOk, OnOk, OnErr};
 ghost use Rattle.chunk_source.specs.Faults.{Answers};
-ghost use Rattle.chunk_source.specs.Reading.{asked_of};
 ghost use Rattle.chunk_source.specs.Source.{AsksFront, Keeps, Reads};
+ghost use Rattle.chunk_exec.specs.Computed.{asked_for_plan};
 ghost use Rattle.commit_pages.specs.Changes.{AreValid, ComesWith, IsOf};
-ghost use Rattle.logical_plan.specs.Leaves.{leaves};
 ghost use Rattle.logical_plan.specs.Meaning.{version_rows};
 ghost use Rattle.plan_changes.specs.Databases.{Database, newest_rows, rows_of};
 ghost use Rattle.plan_changes.specs.declared.change.Change.TheVariants.{Store, Insert};
-ghost use Rattle.changed_chunks.specs.Changing.{CanChange, CanStore, IsAnswerOver, IsToldOf, all_leaves, asked_for};
+ghost use Rattle.changed_chunks.specs.Changing.{CanChange, CanStore, IsAnswerOver, IsToldOf, asked_for, asked_of_all};
 
 use crate::input::input_of;
 use crate::target::put_over_target;
@@ -41,8 +40,8 @@ fn stored<S: ChunkSource, R: Threads + Sync, G: Gate>(
     ensures valid { IfOk result (λ made. IfOk made AreValid) }
     ensures told { IfOk result (λ made. (db : Database) → (S.state source.old).tells (rows_of db)
         → (name : Items ℕ) → IsAnswerOver db (Store name schema.now plan.now) made) }
-    ensures asked { OnOk result ((S.state source.new).asked ≡ (S.state source.old).asked ++ asked_of (S.state source.old) 0 (leaves plan.now)) }
-    ensures front { let old = S.state source.old in OnErr result (AsksFront (asked_of old 0 (leaves plan.now)) old (S.state source.new)) }
+    ensures asked { OnOk result ((S.state source.new).asked ≡ (S.state source.old).asked ++ asked_for_plan (S.state source.old) plan.now) }
+    ensures front { let old = S.state source.old in OnErr result (AsksFront (asked_for_plan old plan.now) old (S.state source.new)) }
     ensures kept { Keeps (S.state source.old) (S.state source.new) }
     ensures cause { Answers (S.state source.old) (S.state source.new) result }
     ensures start { S.start source.new ≡ S.start source.old }
@@ -78,7 +77,7 @@ fn inserted<S: ChunkSource, R: Threads + Sync, G: Gate>(
     ensures asked { let old = S.state source.old in
         IfOk result (λ made. (S.state source.new).asked ≡ old.asked ++ asked_for old (Insert [] schema.now plan.now) target.now made) }
     ensures front { let old = S.state source.old in
-        OnErr result (AsksFront (asked_of old 0 (leaves plan.now ++ target.now ∷ [])) old (S.state source.new)) }
+        OnErr result (AsksFront (asked_of_all old (Insert [] schema.now plan.now) target.now) old (S.state source.new)) }
     ensures kept { Keeps (S.state source.old) (S.state source.new) }
     ensures cause { Answers (S.state source.old) (S.state source.new) result }
     ensures start { S.start source.new ≡ S.start source.old }
@@ -110,7 +109,7 @@ pub fn changed<S: ChunkSource, R: Threads + Sync, G: Gate>(
     ensures asked { let old = S.state source.old in
         IfOk result (λ made. (S.state source.new).asked ≡ old.asked ++ asked_for old change.now target.now made) }
     ensures front { let old = S.state source.old in
-        OnErr result (AsksFront (asked_of old 0 (all_leaves change.now target.now)) old (S.state source.new)) }
+        OnErr result (AsksFront (asked_of_all old change.now target.now) old (S.state source.new)) }
     ensures kept { Keeps (S.state source.old) (S.state source.new) }
     ensures cause { Answers (S.state source.old) (S.state source.new) result }
     ensures start { S.start source.new ≡ S.start source.old }

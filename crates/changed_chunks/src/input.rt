@@ -3,11 +3,10 @@ ghost use Rattle.std.specs.Prelude.{◌≡◌, ◌≤◌, ◌++◌, None, Ok as 
 ghost use Rattle.cell_values.specs.Schemas.{IsValid};
 ghost use Rattle.array_parts.specs.Cores.{HasCells, HaveCells, cores_of};
 ghost use Rattle.chunk_source.specs.Faults.{Answers};
-ghost use Rattle.chunk_source.specs.Reading.{asked_of};
 ghost use Rattle.chunk_source.specs.Source.{AsksFront, Keeps};
+ghost use Rattle.chunk_exec.specs.Computed.{asked_for_plan};
 ghost use Rattle.logical_plan.specs.CellOps.{fit_rows};
 ghost use Rattle.logical_plan.specs.Faults.{first_fault};
-ghost use Rattle.logical_plan.specs.Leaves.{leaves};
 ghost use Rattle.plan_changes.specs.Databases.{Database, fitted, rows_of};
 ghost use Rattle.plan_changes.specs.Kept.{MeansArray};
 ghost use Rattle.changed_chunks.specs.Changing.{CanStore};
@@ -103,8 +102,8 @@ pub(crate) fn input_of<S: ChunkSource, R: Threads + Sync, G: Gate>(
     ensures may { IfOk result (λ found. IfOk found (MayBeStored schema.now)) }
     ensures means { OnOk result ((db : Database) → (S.state source.old).tells (rows_of db) → MeansArray db plan.now) }
     ensures found { IfOk result (λ found. (db : Database) → (S.state source.old).tells (rows_of db) → IsFound (fitted schema.now plan.now db) found) }
-    ensures asked { OnOk result ((S.state source.new).asked ≡ (S.state source.old).asked ++ asked_of (S.state source.old) 0 (leaves plan.now)) }
-    ensures front { let old = S.state source.old in OnErr result (AsksFront (asked_of old 0 (leaves plan.now)) old (S.state source.new)) }
+    ensures asked { OnOk result ((S.state source.new).asked ≡ (S.state source.old).asked ++ asked_for_plan (S.state source.old) plan.now) }
+    ensures front { let old = S.state source.old in OnErr result (AsksFront (asked_for_plan old plan.now) old (S.state source.new)) }
     ensures kept { Keeps (S.state source.old) (S.state source.new) }
     ensures cause { Answers (S.state source.old) (S.state source.new) result }
     ensures start { S.start source.new ≡ S.start source.old }

@@ -27,14 +27,14 @@ use Rattle.logical_plan.specs.declared.parts.Pair.{Pair}
 use Rattle.logical_plan.specs.declared.parts.Reach.{Reach}
 use Rattle.logical_plan.specs.CellOps.{filter_rows, apply_rows, project_rows}
 use Rattle.logical_plan.specs.Faults.{if_whole}
-use Rattle.logical_plan.specs.Meaning.{Database, meaning, redimensioned_from}
-use Rattle.logical_plan.specs.PlanSchema.{schema_of, subarray_schema, slice_schema, regrid_schema, window_schema, aggregate_schema}
+use Rattle.logical_plan.specs.Meaning.{Database, redimensioned_from}
+use Rattle.logical_plan.specs.PlanSchema.{apply_schema, project_schema, schema_of, subarray_schema, slice_schema, regrid_schema, window_schema, aggregate_schema}
 use Rattle.logical_plan.specs.Query.{Query, scanned, filtered, applied, projected, between, subarray, sliced, joined, crossed, redimensioned, regridded, windowed, aggregated}
 use Rattle.logical_plan.specs.Typing.{IsTyped}
 use Rattle.logical_plan.proofs.ArrayLaws.{typed_arrays}
-use Rattle.logical_plan.proofs.SchemaLaws.{meaning_schema, typed_valid}
+use Rattle.logical_plan.proofs.SchemaLaws.{typed_valid}
 use Rattle.exec_box.specs.Parts.{part_meant, slice_meant}
-use Rattle.chunk_exec.specs.Inner.Operated.{sources, AreMeant, CanOperate, IsResultOf}
+use Rattle.chunk_exec.specs.Inner.Operated.{AreMeant, CanOperate, IsResultOf, operated}
 
 -- ---- rows of the schemas of plans
 
@@ -101,82 +101,89 @@ if_ok P Q (Err e) follows h = tt
 
 -- ---- the forms of operators
 
+-- what holds of whatever an array stands for, and of whatever two stand for
+of_one_meant : (array : ChunkedArray) (P : List Meant → Type 0) → ((m : Meant) → Is array m → P (m ∷ [])) → (meants : List Meant) → AreMeant (array ∷ []) meants → P meants
+of_one_meant array P f [] z = absurd z
+of_one_meant array P f (m ∷ []) z = f m z.0
+of_one_meant array P f (m ∷ n ∷ meants) z = absurd z.1
+
+of_two_meant : (a b : ChunkedArray) (P : List Meant → Type 0) → ((l r : Meant) → Is a l → Is b r → P (l ∷ r ∷ [])) → (meants : List Meant) → AreMeant (a ∷ b ∷ []) meants → P meants
+of_two_meant a b P f [] z = absurd z
+of_two_meant a b P f (l ∷ []) z = absurd z.1
+of_two_meant a b P f (l ∷ r ∷ []) z = f l r z.0 z.1.0
+of_two_meant a b P f (l ∷ r ∷ m ∷ meants) z = absurd z.1.1
+
 -- chunk by chunk
-by_chunks : (source query : Query) (operator : List Row → List Row) (array made : ChunkedArray) → sources query ≡ source ∷ []
-    → ((db : Database) → (meaning db query).rows ≡ if_whole operator (meaning db source).rows) → GivesRows operator (schema_of source) (schema_of query) → (schema_of query).dimensions ≡ (schema_of source).dimensions
+by_chunks : (source query : Query) (operator : List Row → List Row) (array made : ChunkedArray)
+    → ((m : Meant) → (operated query (m ∷ [])).rows ≡ if_whole operator m.rows) → ((m : Meant) → m.schema ≡ schema_of source → (operated query (m ∷ [])).schema ≡ schema_of query)
+    → GivesRows operator (schema_of source) (schema_of query) → (schema_of query).dimensions ≡ (schema_of source).dimensions
     → CanOperate query (array ∷ []) → array.schema ≡ schema_of source → IsMadeOf operator (schema_of query) array made → IsResultOf query (array ∷ []) made
-by_chunks source query operator array made one rows gives dims can schema m =
+by_chunks source query operator array made rows schemas gives dims can schema m =
     let from : GivesRows operator array.schema (schema_of query) = subst (λ (z : Schema). GivesRows operator z (schema_of query)) (sym schema) gives in
     record {
       schema_is = m.schema_is;
       cells = m.cells from;
-      means = λ db h.
-          let is : AreMeant db (source ∷ []) (array ∷ []) = subst (λ (z : List Query). AreMeant db z (array ∷ [])) one h in
-          is_made operator (schema_of query) array made (meaning db source) (meaning db query) (meaning_schema db query) (rows db)
-          (subst (λ (z : Schema). GivesRows operator z (schema_of query)) (sym (meaning_schema db source)) gives) (typed_valid query can.typed)
-          (dims ∙ ap (λ (z : Schema). z.dimensions) (sym schema)) m is.0;
+      means = of_one_meant array (λ meants. Is made (operated query meants)) (λ meant is.
+          is_made operator (schema_of query) array made meant (operated query (meant ∷ [])) (schemas meant (sym is.schema ∙ schema)) (rows meant)
+          (subst (λ (z : Schema). GivesRows operator z (schema_of query)) is.schema from) (typed_valid query can.typed)
+          (dims ∙ ap (λ (z : Schema). z.dimensions) (sym schema)) m is);
     }
 
 -- over the cores of an array
-computed_by_cores : (source query : Query) (operator : Meant → Meant) (array made : ChunkedArray) → sources query ≡ source ∷ [] → ((db : Database) → meaning db query ≡ operator (meaning db source))
+computed_by_cores : (query : Query) (operator : Meant → Meant) (array made : ChunkedArray) → ((m : Meant) → operated query (m ∷ []) ≡ operator m)
     → (operator (meant_by_cores array)).schema ≡ schema_of query → Is made (operator (meant_by_cores array)) → IsResultOf query (array ∷ []) made
-computed_by_cores source query operator array made one meant schema is = record {
+computed_by_cores query operator array made meant schema is = record {
   schema_is = is.schema ∙ schema;
   cells = arrays_have_cells made (operator (meant_by_cores array)) is;
-  means = λ db h.
-      let are : AreMeant db (source ∷ []) (array ∷ []) = subst (λ (z : List Query). AreMeant db z (array ∷ [])) one h in
-      subst (Is made) (ap operator (arrays_are_their_cores array (meaning db source) are.0) ∙ sym (meant db)) is;
+  means = of_one_meant array (λ meants. Is made (operated query meants)) (λ m h. subst (Is made) (ap operator (arrays_are_their_cores array m h) ∙ sym (meant m)) is);
 }
 
 -- over the cores of two arrays
-computed_of_two : (left right query : Query) (operator : Meant → Meant → Meant) (a b made : ChunkedArray) → sources query ≡ left ∷ right ∷ [] → ((db : Database) → meaning db query ≡ operator (meaning db left) (meaning db right))
+computed_of_two : (query : Query) (operator : Meant → Meant → Meant) (a b made : ChunkedArray) → ((l r : Meant) → operated query (l ∷ r ∷ []) ≡ operator l r)
     → (operator (meant_by_cores a) (meant_by_cores b)).schema ≡ schema_of query → Is made (operator (meant_by_cores a) (meant_by_cores b)) → IsResultOf query (a ∷ b ∷ []) made
-computed_of_two left right query operator a b made two meant schema is = record {
+computed_of_two query operator a b made meant schema is = record {
   schema_is = is.schema ∙ schema;
   cells = arrays_have_cells made (operator (meant_by_cores a) (meant_by_cores b)) is;
-  means = λ db h.
-      let are : AreMeant db (left ∷ right ∷ []) (a ∷ b ∷ []) = subst (λ (z : List Query). AreMeant db z (a ∷ b ∷ [])) two h in
-      let l : meant_by_cores a ≡ meaning db left = arrays_are_their_cores a (meaning db left) are.0 in
-      let r : meant_by_cores b ≡ meaning db right = arrays_are_their_cores b (meaning db right) are.1.0 in
-      subst (Is made) (ap (λ (z : Meant). operator z (meant_by_cores b)) l ∙ ap (operator (meaning db left)) r ∙ sym (meant db)) is;
+  means = of_two_meant a b (λ meants. Is made (operated query meants)) (λ l r g h.
+      subst (Is made) (ap (λ (z : Meant). operator z (meant_by_cores b)) (arrays_are_their_cores a l g) ∙ ap (operator l) (arrays_are_their_cores b r h) ∙ sym (meant l r)) is);
 }
 
 -- ---- operators chunk by chunk
 
 pub filter_result : (source : Query) (test : Expr) (array made : ChunkedArray) → CanOperate (filtered source test) (array ∷ []) → IsMadeOf (filter_rows test) (schema_of (filtered source test)) array made → IsResultOf (filtered source test) (array ∷ []) made
-filter_result source test array made can m = by_chunks source (filtered source test) (filter_rows test) array made refl (λ db. refl) (gives_filter source test can.typed) refl can can.schemas.0 m
+filter_result source test array made can m = by_chunks source (filtered source test) (filter_rows test) array made (λ m. refl) (λ m e. e) (gives_filter source test can.typed) refl can can.schemas.0 m
 
 pub apply_result : (source : Query) (values : List Applied) (array made : ChunkedArray) → CanOperate (applied source values) (array ∷ []) → IsMadeOf (apply_rows values) (schema_of (applied source values)) array made → IsResultOf (applied source values) (array ∷ []) made
-apply_result source values array made can m = by_chunks source (applied source values) (apply_rows values) array made refl (λ db. refl) (gives_apply source values can.typed) refl can can.schemas.0 m
+apply_result source values array made can m = by_chunks source (applied source values) (apply_rows values) array made (λ m. refl) (λ m e. ap (apply_schema values) e) (gives_apply source values can.typed) refl can can.schemas.0 m
 
 pub project_result : (source : Query) (places : List ℕ) (array made : ChunkedArray) → CanOperate (projected source places) (array ∷ []) → IsMadeOf (project_rows places) (schema_of (projected source places)) array made → IsResultOf (projected source places) (array ∷ []) made
-project_result source places array made can m = by_chunks source (projected source places) (project_rows places) array made refl (λ db. refl) (gives_project source places can.typed) refl can can.schemas.0 m
+project_result source places array made can m = by_chunks source (projected source places) (project_rows places) array made (λ m. refl) (λ m e. ap (project_schema places) e) (gives_project source places can.typed) refl can can.schemas.0 m
 
 pub between_result : (source : Query) (area : Bounds) (array made : ChunkedArray) → CanOperate (between source area) (array ∷ []) → IsMadeOf (within area) (schema_of (between source area)) array made → IsResultOf (between source area) (array ∷ []) made
-between_result source area array made can m = by_chunks source (between source area) (within area) array made refl (λ db. refl) (gives_between source area can.typed) refl can can.schemas.0 m
+between_result source area array made can m = by_chunks source (between source area) (within area) array made (λ m. refl) (λ m e. e) (gives_between source area can.typed) refl can can.schemas.0 m
 
 -- ---- operators over cores
 
 pub subarray_result : (source : Query) (area : Bounds) (array made : ChunkedArray) → CanOperate (subarray source area) (array ∷ []) → Is made (part_meant area (meant_by_cores array)) → IsResultOf (subarray source area) (array ∷ []) made
-subarray_result source area array made can is = computed_by_cores source (subarray source area) (part_meant area) array made refl (λ db. refl) (ap (subarray_schema area) can.schemas.0) is
+subarray_result source area array made can is = computed_by_cores (subarray source area) (part_meant area) array made (λ m. refl) (ap (subarray_schema area) can.schemas.0) is
 
 pub slice_result : (source : Query) (fixed : List Fixed) (array made : ChunkedArray) → CanOperate (sliced source fixed) (array ∷ []) → Is made (slice_meant fixed (meant_by_cores array)) → IsResultOf (sliced source fixed) (array ∷ []) made
-slice_result source fixed array made can is = computed_by_cores source (sliced source fixed) (slice_meant fixed) array made refl (λ db. refl) (ap (slice_schema fixed) can.schemas.0) is
+slice_result source fixed array made can is = computed_by_cores (sliced source fixed) (slice_meant fixed) array made (λ m. refl) (ap (slice_schema fixed) can.schemas.0) is
 
 pub redimension_result : (source : Query) (schema : Schema) (gs : List Aggregate) (array made : ChunkedArray) → Is made (redimensioned_from schema gs (meant_by_cores array)) → IsResultOf (redimensioned source schema gs) (array ∷ []) made
-redimension_result source schema gs array made is = computed_by_cores source (redimensioned source schema gs) (redimensioned_from schema gs) array made refl (λ db. refl) refl is
+redimension_result source schema gs array made is = computed_by_cores (redimensioned source schema gs) (redimensioned_from schema gs) array made (λ m. refl) refl is
 
 pub regrid_result : (source : Query) (sizes : List ℕ) (gs : List Aggregate) (array made : ChunkedArray) → CanOperate (regridded source sizes gs) (array ∷ []) → Is made (regrid_meant sizes gs (meant_by_cores array)) → IsResultOf (regridded source sizes gs) (array ∷ []) made
-regrid_result source sizes gs array made can is = computed_by_cores source (regridded source sizes gs) (regrid_meant sizes gs) array made refl (λ db. refl) (ap (regrid_schema sizes gs) can.schemas.0) is
+regrid_result source sizes gs array made can is = computed_by_cores (regridded source sizes gs) (regrid_meant sizes gs) array made (λ m. refl) (ap (regrid_schema sizes gs) can.schemas.0) is
 
 pub window_result : (source : Query) (reach : List Reach) (gs : List Aggregate) (array made : ChunkedArray) → CanOperate (windowed source reach gs) (array ∷ []) → Is made (window_meant reach gs (meant_by_cores array)) → IsResultOf (windowed source reach gs) (array ∷ []) made
-window_result source reach gs array made can is = computed_by_cores source (windowed source reach gs) (window_meant reach gs) array made refl (λ db. refl) (ap (window_schema gs) can.schemas.0) is
+window_result source reach gs array made can is = computed_by_cores (windowed source reach gs) (window_meant reach gs) array made (λ m. refl) (ap (window_schema gs) can.schemas.0) is
 
 pub aggregate_result : (source : Query) (gs : List Aggregate) (places : List ℕ) (array made : ChunkedArray) → CanOperate (aggregated source gs places) (array ∷ []) → Is made (aggregate_meant gs places (meant_by_cores array)) → IsResultOf (aggregated source gs places) (array ∷ []) made
-aggregate_result source gs places array made can is = computed_by_cores source (aggregated source gs places) (aggregate_meant gs places) array made refl (λ db. refl) (ap (aggregate_schema gs places) can.schemas.0) is
+aggregate_result source gs places array made can is = computed_by_cores (aggregated source gs places) (aggregate_meant gs places) array made (λ m. refl) (ap (aggregate_schema gs places) can.schemas.0) is
 
 pub join_result : (left right : Query) (schema : Schema) (a b made : ChunkedArray) → Is made (join_meant schema (meant_by_cores a) (meant_by_cores b)) → IsResultOf (joined left right schema) (a ∷ b ∷ []) made
-join_result left right schema a b made is = computed_of_two left right (joined left right schema) (join_meant schema) a b made refl (λ db. refl) refl is
+join_result left right schema a b made is = computed_of_two (joined left right schema) (join_meant schema) a b made (λ l r. refl) refl is
 
 pub cross_result : (left right : Query) (pairs : List Pair) (schema : Schema) (a b made : ChunkedArray) → Is made (cross_meant schema pairs (meant_by_cores a) (meant_by_cores b)) → IsResultOf (crossed left right pairs schema) (a ∷ b ∷ []) made
-cross_result left right pairs schema a b made is = computed_of_two left right (crossed left right pairs schema) (cross_meant schema pairs) a b made refl (λ db. refl) refl is
+cross_result left right pairs schema a b made is = computed_of_two (crossed left right pairs schema) (cross_meant schema pairs) a b made (λ l r. refl) refl is

@@ -4,6 +4,7 @@
 mod compute;
 mod given;
 mod leaf;
+mod needed;
 mod operators;
 mod running;
 mod sources;

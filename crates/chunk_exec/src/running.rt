@@ -3,16 +3,15 @@ ghost use Rattle.std.specs.Prelude.{◌≡◌, ◌≤◌, ◌++◌, None, IfOk, 
 ghost use Rattle.array_geom.specs.Link.{Is};
 ghost use Rattle.array_parts.specs.Cores.{HasCells};
 ghost use Rattle.array_parts.specs.Placed.{IsSound};
-ghost use Rattle.logical_plan.specs.Leaves.{leaves};
 ghost use Rattle.logical_plan.specs.Meaning.{Database, meaning};
 ghost use Rattle.logical_plan.specs.PlanSchema.{schema_of};
 ghost use Rattle.chunk_source.specs.Source.{AsksFront, Keeps};
 ghost use Rattle.chunk_source.specs.Faults.{Answers};
-ghost use Rattle.chunk_source.specs.Reading.{asked_of};
-ghost use Rattle.chunk_exec.specs.Computed.{CanCompute, IsComputed};
+ghost use Rattle.chunk_exec.specs.Computed.{CanCompute, asked_for_plan};
 
 use crate::ExecFault;
 use crate::compute::compute;
+use crate::needed::boxes_of;
 use afl_outside::Gate;
 use array_geom::ChunkedArray;
 use chunk_source::ChunkSource;
@@ -21,8 +20,9 @@ use logical_plan::Plan;
 use std::alloc::Global;
 use std::thread::Threads;
 
-/// The array of a plan over the arrays of a source. The caller's thread asks for chunks; at most `workers` threads, the caller's
-/// among them, compute on what was read, and each passes the gate before each piece. How many they are changes nothing.
+/// The array of a plan over the arrays of a source. Of each leaf the chunks are asked for that the plan needs, and no other. The
+/// caller's thread asks for chunks; at most `workers` threads, the caller's among them, compute on what was read, and each passes the
+/// gate before each piece. How many they are changes nothing.
 pub fn execute<S: ChunkSource, R: Threads + Sync, G: Gate>(
     rt: &R,
     alloc: Global,
@@ -39,12 +39,13 @@ pub fn execute<S: ChunkSource, R: Threads + Sync, G: Gate>(
     ensures sound { IfOk result IsSound }
     ensures cells { IfOk result HasCells }
     ensures means { IfOk result (λ array. (db : Database) → (S.state source.old).tells db → Is array (meaning db plan.now)) }
-    ensures asked { OnOk result ((S.state source.new).asked ≡ (S.state source.old).asked ++ asked_of (S.state source.old) 0 (leaves plan.now)) }
-    ensures front { let old = S.state source.old in OnErr result (AsksFront (asked_of old 0 (leaves plan.now)) old (S.state source.new)) }
+    ensures asked { OnOk result ((S.state source.new).asked ≡ (S.state source.old).asked ++ asked_for_plan (S.state source.old) plan.now) }
+    ensures front { let old = S.state source.old in OnErr result (AsksFront (asked_for_plan old plan.now) old (S.state source.new)) }
     ensures kept { Keeps (S.state source.old) (S.state source.new) }
     ensures cause { Answers (S.state source.old) (S.state source.new) result }
     ensures start { S.start source.new ≡ S.start source.old }
 {
+    let boxes = boxes_of(alloc, plan)?;
     let mut crew = Crew {
         rt,
         workers,
@@ -53,5 +54,5 @@ pub fn execute<S: ChunkSource, R: Threads + Sync, G: Gate>(
         pieces: 0,
     };
     let mut next = 0;
-    compute(&mut crew, alloc, plan, source, &mut next)
+    compute(&mut crew, alloc, plan, source, &mut next, boxes.as_slice())
 }

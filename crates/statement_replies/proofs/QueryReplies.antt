@@ -21,9 +21,8 @@ use Rattle.check_laws.proofs.TypedQueries.{checked_typed}
 use Rattle.check_laws.specs.Arrays.{AreValid}
 use Rattle.check_laws.specs.Queries.{query_of}
 use Rattle.result_print.specs.declared.refusal.Refusal.TheVariants.{Typing}
-use Rattle.chunk_source.specs.Reading.{asked_of}
 use Rattle.chunk_source.specs.Source.{SourceState, AsksFront, Reads}
-use Rattle.plan_rows.specs.Computed.{CanCompute}
+use Rattle.plan_rows.specs.Computed.{CanCompute, asked_for_plan}
 use Rattle.statement_replies.specs.Kinds.{HasKind, IsQueryReply, IsRowsReply}
 use Rattle.statement_replies.specs.Reading.{HoldsVersions, asked_for}
 use Rattle.statement_replies.specs.Reply.{checked_reply, plan_reply, refused}
@@ -62,10 +61,10 @@ module _ (style : Style) (names : Names) (tells : Database → Type 0) (tree : T
   }
 
 module _ (old new : SourceState) (checked : Checked Query) where
-  pub asked_of_plan : {T E : Type 0} (answer : Result T E) (plan : Query) → checked ≡ Ok plan → OnOk answer (new.asked ≡ old.asked ++ asked_of old 0 (leaves plan)) → OnOk answer (new.asked ≡ old.asked ++ asked_for old checked)
+  pub asked_of_plan : {T E : Type 0} (answer : Result T E) (plan : Query) → checked ≡ Ok plan → OnOk answer (new.asked ≡ old.asked ++ asked_for_plan old plan) → OnOk answer (new.asked ≡ old.asked ++ asked_for old checked)
   asked_of_plan answer plan is = subst (λ (c : Checked Query). OnOk answer (new.asked ≡ old.asked ++ asked_for old c)) (sym is)
 
-  pub front_of_plan : {T E : Type 0} (answer : Result T E) (plan : Query) → checked ≡ Ok plan → OnErr answer (AsksFront (asked_of old 0 (leaves plan)) old new) → OnErr answer (AsksFront (asked_for old checked) old new)
+  pub front_of_plan : {T E : Type 0} (answer : Result T E) (plan : Query) → checked ≡ Ok plan → OnErr answer (AsksFront (asked_for_plan old plan) old new) → OnErr answer (AsksFront (asked_for old checked) old new)
   front_of_plan answer plan is = subst (λ (c : Checked Query). OnErr answer (AsksFront (asked_for old c) old new)) (sym is)
 
   pub asked_of_breach : (span : Span) (kind : TypeKind) → checked ≡ broken span kind → new.asked ≡ old.asked → new.asked ≡ old.asked ++ asked_for old checked

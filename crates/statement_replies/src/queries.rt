@@ -4,13 +4,11 @@ ghost use Rattle.cell_values.specs.declared.schema.Schema.{Schema};
 ghost use Rattle.check_exprs.specs.Laws.{leaves_fit};
 ghost use Rattle.check_laws.specs.Arrays.{AreValid};
 ghost use Rattle.check_laws.specs.Queries.{query_of};
-ghost use Rattle.logical_plan.specs.Leaves.{leaves};
 ghost use Rattle.logical_plan.specs.Meaning.{Database, Meant};
 ghost use Rattle.logical_plan.specs.PlanSchema.{schema_of};
 ghost use Rattle.chunk_source.specs.Faults.{Answers};
-ghost use Rattle.chunk_source.specs.Reading.{asked_of};
 ghost use Rattle.chunk_source.specs.Source.{AsksFront, Keeps};
-ghost use Rattle.plan_rows.specs.Computed.{CanCompute};
+ghost use Rattle.plan_rows.specs.Computed.{CanCompute, asked_for_plan};
 ghost use Rattle.plan_rows.specs.Found.{HasSchema, IsFound};
 ghost use Rattle.plan_rows.specs.Held.{HoldsCells, rows_held};
 ghost use Rattle.statement_replies.specs.Kinds.{IsQueryReply, IsRowsReply};
@@ -90,8 +88,8 @@ pub fn answer_query<S: ChunkSource, R: Threads + Sync, G: Gate>(
     requires workers { (1 ≤ workers) × (workers ≤ 64) }
     ensures kind { IfOk result (IsRowsReply style (schema_of plan.now)) }
     ensures told { IfOk result (λ reply. (db : Database) → (S.state source.old).tells db → reply ≡ plan_reply style db plan.now) }
-    ensures asked { OnOk result ((S.state source.new).asked ≡ (S.state source.old).asked ++ asked_of (S.state source.old) 0 (leaves plan.now)) }
-    ensures front { let old = S.state source.old in OnErr result (AsksFront (asked_of old 0 (leaves plan.now)) old (S.state source.new)) }
+    ensures asked { OnOk result ((S.state source.new).asked ≡ (S.state source.old).asked ++ asked_for_plan (S.state source.old) plan.now) }
+    ensures front { let old = S.state source.old in OnErr result (AsksFront (asked_for_plan old plan.now) old (S.state source.new)) }
     ensures kept { Keeps (S.state source.old) (S.state source.new) }
     ensures cause { Answers (S.state source.old) (S.state source.new) result }
     ensures start { S.start source.new ≡ S.start source.old }

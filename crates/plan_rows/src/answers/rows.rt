@@ -4,11 +4,9 @@ ghost use Rattle.array_geom.specs.Link.{Is};
 ghost use Rattle.array_parts.specs.Cores.{HasCells};
 ghost use Rattle.array_parts.specs.Placed.{HavePlaces, IsSound};
 ghost use Rattle.chunk_source.specs.Faults.{Answers};
-ghost use Rattle.chunk_source.specs.Reading.{asked_of};
 ghost use Rattle.chunk_source.specs.Source.{AsksFront, Keeps};
-ghost use Rattle.chunk_exec.specs.Computed.{CanCompute};
+ghost use Rattle.chunk_exec.specs.Computed.{CanCompute, asked_for_plan};
 ghost use Rattle.logical_plan.specs.Faults.{fault_of};
-ghost use Rattle.logical_plan.specs.Leaves.{leaves};
 ghost use Rattle.logical_plan.specs.Meaning.{Database, Meant, meaning};
 ghost use Rattle.logical_plan.specs.PlanSchema.{schema_of};
 ghost use Rattle.plan_rows.specs.Found.{HasSchema, IsFound};
@@ -55,8 +53,8 @@ pub fn array_of<S: ChunkSource, R: Threads + Sync, G: Gate>(
     ensures schema { IfOk result (λ found. HasSchema (schema_of plan.now) (rows_held found)) }
     ensures cells { IfOk result HoldsCells }
     ensures found { IfOk result (λ found. (db : Database) → (S.state source.old).tells db → IsFound (meaning db plan.now) (rows_held found)) }
-    ensures asked { OnOk result ((S.state source.new).asked ≡ (S.state source.old).asked ++ asked_of (S.state source.old) 0 (leaves plan.now)) }
-    ensures front { let old = S.state source.old in OnErr result (AsksFront (asked_of old 0 (leaves plan.now)) old (S.state source.new)) }
+    ensures asked { OnOk result ((S.state source.new).asked ≡ (S.state source.old).asked ++ asked_for_plan (S.state source.old) plan.now) }
+    ensures front { let old = S.state source.old in OnErr result (AsksFront (asked_for_plan old plan.now) old (S.state source.new)) }
     ensures kept { Keeps (S.state source.old) (S.state source.new) }
     ensures cause { Answers (S.state source.old) (S.state source.new) result }
     ensures start { S.start source.new ≡ S.start source.old }
@@ -96,8 +94,8 @@ pub fn rows_of<S: ChunkSource, R: Threads + Sync, G: Gate>(
     requires workers { (1 ≤ workers) × (workers ≤ 64) }
     ensures schema { IfOk result (HasSchema (schema_of plan.now)) }
     ensures found { IfOk result (λ found. (db : Database) → (S.state source.old).tells db → IsFound (meaning db plan.now) found) }
-    ensures asked { OnOk result ((S.state source.new).asked ≡ (S.state source.old).asked ++ asked_of (S.state source.old) 0 (leaves plan.now)) }
-    ensures front { let old = S.state source.old in OnErr result (AsksFront (asked_of old 0 (leaves plan.now)) old (S.state source.new)) }
+    ensures asked { OnOk result ((S.state source.new).asked ≡ (S.state source.old).asked ++ asked_for_plan (S.state source.old) plan.now) }
+    ensures front { let old = S.state source.old in OnErr result (AsksFront (asked_for_plan old plan.now) old (S.state source.new)) }
     ensures kept { Keeps (S.state source.old) (S.state source.new) }
     ensures cause { Answers (S.state source.old) (S.state source.new) result }
     ensures start { S.start source.new ≡ S.start source.old }

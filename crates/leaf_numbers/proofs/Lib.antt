@@ -1,0 +1,3 @@
+pub mod NumberedLaws
+pub mod SufficientLaws
+mod Worked

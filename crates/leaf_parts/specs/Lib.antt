@@ -1,0 +1,4 @@
+pub mod Inner
+pub mod Known
+pub mod Laws
+pub mod Read
