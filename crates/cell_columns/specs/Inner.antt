@@ -1,3 +1,2 @@
 pub mod CellsIn
 pub mod Held
-pub mod RowsIn

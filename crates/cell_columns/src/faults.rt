@@ -1,7 +1,7 @@
 //! The faults of cells and of values.
 ghost use Rattle.std.specs.Prelude.{◌≡◌};
 ghost use Rattle.cell_columns.specs.CellFaults.{fault_of_value, fault_of_values, fault_of_cell};
-ghost use Rattle.cell_columns.specs.Inner.RowsIn.{row_at};
+ghost use Rattle.cell_columns.specs.RowsIn.{row_at};
 
 use crate::Column;
 use cell_values::{Cell, Datum, FaultKind};
