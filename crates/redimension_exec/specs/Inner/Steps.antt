@@ -44,3 +44,12 @@ IsStep origins bounds values made row None made' counts =
     ((rows : List Row) → continued values made (landed origins bounds true (row ∷ rows) (targets_of made))
     ≡ continued values made' (landed origins bounds true rows (targets_of made')))
     × AreCountsOf origins (targets_of made') counts
+
+-- rows one after the other: one breaks the array, or the same rows come of what is left
+abbrev pub AreSteps : List Origin → Bounds → List Origin → List Row → List Row → Option Broken → List Row → BTreeMap (ArrayVec ℤ) ℕ → Type 0
+AreSteps origins bounds values made rows (Some broken) made' counts =
+    (more : List Row) → continued values made (landed origins bounds true (rows ++ more) (targets_of made)) ≡ Err broken
+AreSteps origins bounds values made rows None made' counts =
+    ((more : List Row) → continued values made (landed origins bounds true (rows ++ more) (targets_of made))
+    ≡ continued values made' (landed origins bounds true more (targets_of made')))
+    × AreCountsOf origins (targets_of made') counts
