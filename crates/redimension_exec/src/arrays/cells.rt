@@ -45,9 +45,8 @@ fn carried_in_bands(
     ensures { IfOk result (λ made. made ≡ carried_rows (map (origin_of array.schema) target.now.dimensions)
         (bounds_of target.now.dimensions) (map (value_origin array.schema) target.now.attributes) (cores_of array)) }
 {
-    let landed = landed_in_bands(&array, target);
-    drop(array);
-    match landed? {
+    let landed = landed_in_bands(array, target)?;
+    match landed {
         Ok(made) => Ok(Ok(in_order(made)?)),
         Err(broken) => Ok(Err(broken)),
     }

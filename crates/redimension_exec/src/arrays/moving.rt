@@ -67,7 +67,7 @@ fn land_bands(
 }
 
 /// The rows of an array's cores at these targets, in their own order, or the first one that breaks the result.
-fn landed_at(
+fn landed_by(
     array: &ChunkedArray,
     places: &[Place],
     bounds: &Bounds,
@@ -95,7 +95,7 @@ fn landed_at(
 }
 
 /// The rows of an array's cores at the target's coordinates, in their own order, or the first one that breaks the result.
-pub(crate) fn landed_in_bands(
+fn landed_from(
     array: &ChunkedArray,
     target: &Schema,
 ) -> Result<Result<List<Row>, Broken>, Memory>
@@ -104,10 +104,24 @@ pub(crate) fn landed_in_bands(
     ensures { IfOk result (λ made. made ≡ continued (map (value_origin array.now.schema) target.now.attributes) []
         (landed (map (origin_of array.now.schema) target.now.dimensions) (bounds_of target.now.dimensions) true (cores_of array.now) [])) }
 {
-    let source = &array.schema;
     let dimensions = target.dimensions.as_slice();
-    let places = places_of_dimensions(source, dimensions)?;
-    let values = places_of_attributes(source, target.attributes.as_slice())?;
+    let places = places_of_dimensions(&array.schema, dimensions)?;
+    let values = places_of_attributes(&array.schema, target.attributes.as_slice())?;
     let bounds = bounds_of(dimensions);
-    landed_at(array, places.as_slice(), &bounds, values.as_slice())
+    landed_by(array, places.as_slice(), &bounds, values.as_slice())
+}
+
+/// The same. The array is let go.
+pub(crate) fn landed_in_bands(
+    array: ChunkedArray,
+    target: &Schema,
+) -> Result<Result<List<Row>, Broken>, Memory>
+    requires few { length target.now.dimensions ≤ 6 }
+    requires bands { AreBands array.schema array.margins.items array.chunks }
+    ensures { IfOk result (λ made. made ≡ continued (map (value_origin array.schema) target.now.attributes) []
+        (landed (map (origin_of array.schema) target.now.dimensions) (bounds_of target.now.dimensions) true (cores_of array) [])) }
+{
+    let landed = landed_from(&array, target);
+    drop(array);
+    landed
 }

@@ -9,4 +9,4 @@ pub in_order-requires : goal.in_order-requires
 in_order-requires c =
     let source = c.args.array.schema in
     let target = c.args.target.now in
-    made_apart (map (origin_of source) target.dimensions) (bounds_of target.dimensions) (map (value_origin source) target.attributes) (cores_of c.args.array) c.in-Ok.made (sym c.in-Ok.is ∙ c.landed_in_bands-landed.ensures)
+    made_apart (map (origin_of source) target.dimensions) (bounds_of target.dimensions) (map (value_origin source) target.attributes) (cores_of c.args.array) c.in-Ok.made (sym c.in-Ok.is ∙ c.in_ok-landed.ensures)

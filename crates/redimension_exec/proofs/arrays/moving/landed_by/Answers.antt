@@ -6,7 +6,7 @@ use Rattle.redimension_exec.specs.Inner.Bands.{AreBands}
 use Rattle.redimension_exec.specs.Inner.Places.{origin}
 use Rattle.redimension_exec.specs.Inner.Steps.{AreSteps}
 use Rattle.redimension_exec.proofs.StepLaws.{counts_at_first, whole_breaks, whole_lands}
-use Rattle.redimension_exec.proofs.arrays.moving.landed_at.Goals as goal
+use Rattle.redimension_exec.proofs.arrays.moving.landed_by.Goals as goal
 
 pub land_bands-requires-clause-bands : goal.land_bands-requires-clause-bands
 land_bands-requires-clause-bands c =
