@@ -79,54 +79,61 @@ module _ (origins : List Origin) (bounds : Bounds) (values : List Origin) where
 
   pub broken_at : (first all made made' left left' : List Row) (row : Row) (counts counts' : BTreeMap (ArrayVec ℤ) ℕ) (kind : FaultKind) → AreSoFar first all made left counts → left ≡ row ∷ left'
       → IsStep origins bounds values made row (Some kind) made' counts' → AreSteps origins bounds values first all (Some (record { at = row.at; kind = kind })) made' counts'
-  broken_at first all made made' left left' row counts counts' kind far l step =
-      λ more. far.same more ∙ (λ i. continued values made (landed origins bounds true (l i ++ more) (targets_of made))) ∙ ap (continued values made) (step (left' ++ more))
+  broken_at first all made made' left left' row counts counts' kind far l step = record {
+    same = λ more. far.same more ∙ (λ i. continued values made (landed origins bounds true (l i ++ more) (targets_of made))) ∙ ap (continued values made) (step (left' ++ more));
+    counts_of = λ e. absurd (some_is_none (record { at = row.at; kind = kind }) e);
+  }
+    where
+      some_is_none : (broken : Broken) → Some broken ≡ None → ⊥
+      some_is_none broken e = cc
 
   pub at_end : (first all made left : List Row) (counts : BTreeMap (ArrayVec ℤ) ℕ) → AreSoFar first all made left counts → left ≡ [] → AreSteps origins bounds values first all None made counts
-  at_end first all made left counts far l =
-      (λ more. far.same more ∙ (λ i. continued values made (landed origins bounds true (l i ++ more) (targets_of made))), far.counts_of)
+  at_end first all made left counts far l = record {
+    same = λ more. far.same more ∙ (λ i. continued values made (landed origins bounds true (l i ++ more) (targets_of made)));
+    counts_of = λ e. far.counts_of;
+  }
 
   -- ---- of rows and of others behind them
 
-  pub front_breaks : (made front back all made' made'' : List Row) (counts counts' : BTreeMap (ArrayVec ℤ) ℕ) (broken : Broken) → all ≡ front ++ back
-      → AreSteps origins bounds values made front (Some broken) made' counts → AreSteps origins bounds values made all (Some broken) made'' counts'
-  front_breaks made front back all made' made'' counts counts' broken e steps =
-      λ more. (λ i. continued values made (landed origins bounds true (e i ++ more) (targets_of made)))
+  in_two : (made front back all more : List Row) → all ≡ front ++ back
+      → continued values made (landed origins bounds true (all ++ more) (targets_of made)) ≡ continued values made (landed origins bounds true (front ++ (back ++ more)) (targets_of made))
+  in_two made front back all more e =
+      (λ i. continued values made (landed origins bounds true (e i ++ more) (targets_of made)))
       ∙ (λ i. continued values made (landed origins bounds true (append_assoc front back more i) (targets_of made)))
-      ∙ steps (back ++ more)
+
+  pub front_breaks : (made front back all made' : List Row) (counts : BTreeMap (ArrayVec ℤ) ℕ) (broken : Broken) → all ≡ front ++ back
+      → AreSteps origins bounds values made front (Some broken) made' counts → AreSteps origins bounds values made all (Some broken) made' counts
+  front_breaks made front back all made' counts broken e steps = record {
+    same = λ more. in_two made front back all more e ∙ steps.same (back ++ more);
+    counts_of = steps.counts_of;
+  }
 
   both_steps : (made front back all made' made'' : List Row) (counts counts' : BTreeMap (ArrayVec ℤ) ℕ) (broken : Option Broken) → all ≡ front ++ back
       → AreSteps origins bounds values made front None made' counts → AreSteps origins bounds values made' back broken made'' counts' → AreSteps origins bounds values made all broken made'' counts'
-  both_steps made front back all made' made'' counts counts' broken e first after = cases broken after
-    where
-      halfway : (more : List Row) → continued values made (landed origins bounds true (all ++ more) (targets_of made)) ≡ continued values made' (landed origins bounds true (back ++ more) (targets_of made'))
-      halfway more =
-          (λ i. continued values made (landed origins bounds true (e i ++ more) (targets_of made)))
-          ∙ (λ i. continued values made (landed origins bounds true (append_assoc front back more i) (targets_of made)))
-          ∙ first.0 (back ++ more)
-
-      cases : (r : Option Broken) → AreSteps origins bounds values made' back r made'' counts' → AreSteps origins bounds values made all r made'' counts'
-      cases None steps = (λ more. halfway more ∙ steps.0 more, steps.1)
-      cases (Some kind) steps = λ more. halfway more ∙ steps more
+  both_steps made front back all made' made'' counts counts' broken e steps more_steps = record {
+    same = λ more. in_two made front back all more e ∙ steps.same (back ++ more) ∙ more_steps.same more;
+    counts_of = more_steps.counts_of;
+  }
 
   pub both_land : (made front back all made' made'' : List Row) (counts counts' : BTreeMap (ArrayVec ℤ) ℕ) (r : Result (Option Broken) Memory) → all ≡ front ++ back
       → AreSteps origins bounds values made front None made' counts → IfOk r (λ broken. AreSteps origins bounds values made' back broken made'' counts') → IfOk r (λ broken. AreSteps origins bounds values made all broken made'' counts')
-  both_land made front back all made' made'' counts counts' (Ok broken) e first after = both_steps made front back all made' made'' counts counts' broken e first after
-  both_land made front back all made' made'' counts counts' (Err memory) e first after = tt
+  both_land made front back all made' made'' counts counts' (Ok broken) e steps more_steps = both_steps made front back all made' made'' counts counts' broken e steps more_steps
+  both_land made front back all made' made'' counts counts' (Err memory) e steps more_steps = tt
 
   -- ---- all rows
 
-  all_of : (rows : List Row) → continued values [] (landed origins bounds true (rows ++ []) (targets_of [])) ≡ continued values [] (landed origins bounds true rows [])
-  all_of rows = λ i. continued values [] (landed origins bounds true (append-nil rows i) [])
+  whole_is : (first rows made : List Row) (counts : BTreeMap (ArrayVec ℤ) ℕ) (broken : Option Broken) → first ≡ [] → AreSteps origins bounds values first rows broken made counts
+      → continued values [] (landed origins bounds true rows []) ≡ broken_or broken (Ok made)
+  whole_is first rows made counts broken f steps =
+      (λ i. continued values [] (landed origins bounds true (sym (append-nil rows) i) []))
+      ∙ (λ i. continued values (sym f i) (landed origins bounds true (rows ++ []) (targets_of (sym f i))))
+      ∙ steps.same []
+      ∙ (λ i. broken_or broken (Ok (append-nil made i)))
 
   pub whole_breaks : (first rows made : List Row) (counts : BTreeMap (ArrayVec ℤ) ℕ) (broken : Broken) → first ≡ [] → AreSteps origins bounds values first rows (Some broken) made counts
       → Err broken ≡ continued values [] (landed origins bounds true rows [])
-  whole_breaks first rows made counts broken f steps =
-      sym ((λ i. continued values (sym f i) (landed origins bounds true (rows ++ []) (targets_of (sym f i)))) ∙ steps []) ∙ all_of rows
+  whole_breaks first rows made counts broken f steps = sym (whole_is first rows made counts (Some broken) f steps)
 
   pub whole_lands : (first rows made : List Row) (counts : BTreeMap (ArrayVec ℤ) ℕ) → first ≡ [] → AreSteps origins bounds values first rows None made counts
       → Ok made ≡ continued values [] (landed origins bounds true rows [])
-  whole_lands first rows made counts f steps =
-      ap (λ (those : List Row). Ok those) (sym (append-nil made))
-      ∙ sym ((λ i. continued values (sym f i) (landed origins bounds true (rows ++ []) (targets_of (sym f i)))) ∙ steps.0 [])
-      ∙ all_of rows
+  whole_lands first rows made counts f steps = sym (whole_is first rows made counts None f steps)

@@ -1,4 +1,4 @@
-use Rattle.std.proofs.Common.{rules, ◌<◌, length, map, arith}
+use Rattle.std.proofs.Common.{rules, ◌<◌, length, map, refl, arith}
 use Rattle.array_geom.specs.Link.{core_rows}
 use Rattle.area_cells.proofs.CutLaws.{each_core}
 use Rattle.redimension_exec.specs.Inner.Places.{origin}
@@ -35,7 +35,7 @@ land_bands-requires-in-None t c =
     let first = rw c.in-None.is at c.in_ok-broken.ensures in
     let less : half < length chunks = search rules in (
       omega (arith, c.split_at.ensures.back_len, c.half_of_bands-half.ensures.some, less, c.decreases),
-      (c.requires.few, (back_bands source margins half chunks front back c.requires.bands less split c.split_at.ensures.back, first.1)),
+      (c.requires.few, (back_bands source margins half chunks front back c.requires.bands less split c.split_at.ensures.back, first.counts_of refl)),
     )
 
 pub returns-in-Some : goal.returns-in-Some
@@ -47,7 +47,7 @@ returns-in-Some t c =
     let back = c.split_at.result.1.now in
     let split = cut_rows source.dimensions margins c.half_of_bands-half.result chunks front back (c.half_of_bands-half.ensures.rows margins) c.split_at.ensures.front c.split_at.ensures.back in
     front_breaks (map origin c.args.places.now) c.args.bounds.now (map origin c.args.values.now) c.args.made.now (core_rows source.dimensions margins front) (core_rows source.dimensions margins back) (core_rows source.dimensions margins chunks)
-    c.land_bands.new.made c.land_bands.new.made c.land_bands.new.counts c.land_bands.new.counts c.in-Some.broken split (rw c.in-Some.is at c.in_ok-broken.ensures)
+    c.land_bands.new.made c.land_bands.new.counts c.in-Some.broken split (rw c.in-Some.is at c.in_ok-broken.ensures)
 
 pub returns-in-None : goal.returns-in-None
 returns-in-None t c =
