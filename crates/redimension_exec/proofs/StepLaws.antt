@@ -15,7 +15,7 @@ use Rattle.array_rows.specs.Rows.{Coordinate}
 use Rattle.logical_plan.specs.Faults.{if_whole}
 use Rattle.logical_plan.specs.Redimension.{Origin, Landed, after_landing, carried, landed}
 use Rattle.redimension_exec.specs.Inner.Counting.{by_numbers, AreCountsOf}
-use Rattle.redimension_exec.specs.Inner.Steps.{AreSteps, IsLanded, IsStep, continued, targets_of}
+use Rattle.redimension_exec.specs.Inner.Steps.{AreSteps, broken_or, IsLanded, IsStep, continued, targets_of}
 
 pub targets_more : (made : List Row) (row : Row) → targets_of (made ++ row ∷ []) ≡ row.at.items ∷ targets_of made
 targets_more made row =

@@ -14,7 +14,7 @@ land_bands-requires-clause-bands c =
     subst (AreBands array.schema array.margins.items) (sym c.as_slice.ensures) c.requires.bands
 
 pub land_bands-requires-clause-counts : goal.land_bands-requires-clause-counts
-land_bands-requires-clause-counts c = counts_at_first (map origin c.args.places.now) c.another-made.result c.new-counts.result c.another-made.ensures c.new-counts.ensures
+land_bands-requires-clause-counts c = counts_at_first (map origin c.args.places.now) c.another-made.result c.new-counts.result c.another-made.ensures c.new-counts.ensures.empty
 
 pub returns-in-Some : goal.returns-in-Some
 returns-in-Some c =
@@ -24,8 +24,8 @@ returns-in-Some c =
     (subst (λ (chunks : List Chunk). AreSteps (map origin c.args.places.now) c.args.bounds.now (map origin c.args.values.now) c.another-made.result (core_rows array.schema.dimensions array.margins.items chunks) (Some c.in-Some.broken) c.land_bands.new.made c.land_bands.new.counts)
     c.as_slice.ensures (rw c.in-Some.is at c.in_ok-broken.ensures))
 
-pub returns-in-None : goal.returns-in-None
-returns-in-None c =
+pub returns : goal.returns
+returns c =
     let array = c.args.array.now in
     whole_lands (map origin c.args.places.now) c.args.bounds.now (map origin c.args.values.now) c.another-made.result (cores_of array) c.land_bands.new.made c.land_bands.new.counts
     c.another-made.ensures
