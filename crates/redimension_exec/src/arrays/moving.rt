@@ -95,10 +95,7 @@ fn landed_by(
 }
 
 /// The rows of an array's cores at the target's coordinates, in their own order, or the first one that breaks the result.
-fn landed_from(
-    array: &ChunkedArray,
-    target: &Schema,
-) -> Result<Result<List<Row>, Broken>, Memory>
+fn landed_from(array: &ChunkedArray, target: &Schema) -> Result<Result<List<Row>, Broken>, Memory>
     requires few { length target.now.dimensions ≤ 6 }
     requires bands { AreBands array.now.schema array.now.margins.items array.now.chunks }
     ensures { IfOk result (λ made. made ≡ continued (map (value_origin array.now.schema) target.now.attributes) []
