@@ -1,10 +1,10 @@
-use Rattle.std.proofs.Common.{ℕ, ◌+◌, ◌<◌, ◌≤◌, drop, length, sym, subst, rules, arith}
+use Rattle.std.proofs.Common.{◌+◌, ◌<◌, ◌≤◌, drop, length, rules, arith}
 use Rattle.std.proofs.lemmas.Grind.{common_steps}
 use Rattle.logical_plan.specs.Leaves.{leaves}
 use Rattle.logical_plan.specs.Query.{query_size}
 use Rattle.chunk_source.proofs.ReadLemmas.{on_err}
 use Rattle.chunk_exec.specs.Computed.{CanCompute}
-use Rattle.chunk_exec.proofs.ComputedLaws.{can_left, can_right, can_source, computed_one, computed_two, count_two, enough_for_both, enough_for_one, front_both, front_left, front_made, front_one, front_right}
+use Rattle.chunk_exec.proofs.ComputedLaws.{can_left, can_right, can_source, computed_one, computed_two, count_two, enough_for_both, enough_for_one, enough_for_right, front_both, front_left, front_made, front_one, front_right}
 use Rattle.chunk_exec.proofs.SourceLaws.{left_is_smaller, right_is_smaller, source_is_smaller}
 use Rattle.chunk_exec.proofs.compute.+compute.Goals as goal
 
@@ -24,9 +24,8 @@ over_two-compute-requires g t c κs within =
 
 pub over_two-compute-requires-2 : goal.over_two-compute-requires-2
 over_two-compute-requires-2 g t c κs within =
-    let both = (enough_for_both c.args.next.now c.args.boxes.now c.args.plan.now c.args.left.now c.args.right.now c.requires.both c.requires.enough).1 in
     let enough : c.compute.new.next + length (leaves c.args.right.now) ≤ length c.args.boxes.now
-    = subst (λ (n : ℕ). n + length (leaves c.args.right.now) ≤ length c.args.boxes.now) (sym c.in_ok-left.ensures.next) both in
+    = enough_for_right c.args.next.now c.compute.new.next c.args.boxes.now c.args.plan.now c.args.left.now c.args.right.now c.requires.both c.requires.enough c.in_ok-left.ensures.next in
     let mid = g.S.ChunkSource.state c.compute.new.source in
     let can : CanCompute mid c.args.right.now
     = can_right (g.S.ChunkSource.state c.args.source.now) mid c.args.plan.now c.args.left.now c.args.right.now c.requires.both c.in_ok-left.ensures.kept c.requires.can in
