@@ -1,5 +1,5 @@
 -- What is told of a plan that was computed in place of another one.
-use Rattle.std.proofs.Common.{◌≡◌, List, [], ◌∷◌, ◌++◌, Ok, Err, Result, refl, sym, ap, ◌∙◌, subst}
+use Rattle.std.proofs.Common.{◌≡◌, List, [], ◌∷◌, ◌++◌, Ok, Err, Result, sym, ap, ◌∙◌, subst}
 use Rattle.std.specs.Prelude.{IfOk, OnErr, OnOk}
 use Rattle.std.specs.List.{AllByRecursion}
 use Rattle.cell_values.specs.declared.schema.Bounds.{Bounds}
