@@ -1,4 +1,4 @@
-use Rattle.std.proofs.Common.{◌+◌, ◌<◌, ◌≤◌, drop, length, arith}
+use Rattle.std.proofs.Common.{◌+◌, ◌<◌, ◌≤◌, drop, length, rules, arith}
 use Rattle.logical_plan.specs.Leaves.{leaves}
 use Rattle.logical_plan.specs.Query.{query_size}
 use Rattle.chunk_source.proofs.ReadLemmas.{keeps_on, on_err}
@@ -12,14 +12,14 @@ over_one-compute-requires g t c κs within =
     let enough = enough_for_one c.args.next.now c.args.boxes.now c.args.plan.now c.args.from.now c.requires.from c.requires.enough in
     let can : CanCompute (g.S.ChunkSource.state c.args.source.now) c.args.from.now = can_source (g.S.ChunkSource.state c.args.source.now) c.args.plan.now c.args.from.now c.requires.from c.requires.can in
     let less : query_size c.args.from.now < query_size c.args.plan.now = source_is_smaller c.args.plan.now c.args.from.now c.requires.from in
-    (omega (arith, less, c.decreases), (can, enough))
+    (omega (arith, less, c.decreases), search (rules, can, enough))
 
 pub over_two-compute-requires : goal.over_two-compute-requires
 over_two-compute-requires g t c κs within =
     let enough = (enough_for_both c.args.next.now c.args.boxes.now c.args.plan.now c.args.left.now c.args.right.now c.requires.both c.requires.enough).0 in
     let can : CanCompute (g.S.ChunkSource.state c.args.source.now) c.args.left.now = can_left (g.S.ChunkSource.state c.args.source.now) c.args.plan.now c.args.left.now c.args.right.now c.requires.both c.requires.can in
     let less : query_size c.args.left.now < query_size c.args.plan.now = left_is_smaller c.args.plan.now c.args.left.now c.args.right.now c.requires.both in
-    (omega (arith, less, c.decreases), (can, enough))
+    (omega (arith, less, c.decreases), search (rules, can, enough))
 
 pub over_two-compute-requires-2 : goal.over_two-compute-requires-2
 over_two-compute-requires-2 g t c κs within =
@@ -29,7 +29,7 @@ over_two-compute-requires-2 g t c κs within =
     let can : CanCompute mid c.args.right.now
     = can_right (g.S.ChunkSource.state c.args.source.now) mid c.args.plan.now c.args.left.now c.args.right.now c.requires.both c.in_ok-left.ensures.kept c.requires.can in
     let less : query_size c.args.right.now < query_size c.args.plan.now = right_is_smaller c.args.plan.now c.args.left.now c.args.right.now c.requires.both in
-    (omega (arith, less, c.decreases), (can, enough))
+    (omega (arith, less, c.decreases), search (rules, can, enough))
 
 pub over_one-returns-clause-computed : goal.over_one-returns-clause-computed
 over_one-returns-clause-computed g t c =

@@ -2,7 +2,7 @@ use Rattle.chunk_exec.proofs.ExecutedLaws.{asked_if, can_settled, cells_if, fron
 use Rattle.chunk_exec.proofs.running.execute.Goals as goal
 
 pub run-answer-requires-clause-can : goal.run-answer-requires-clause-can
-run-answer-requires-clause-can g c = can_settled c.args.plan.now c.in_ok-settled.settled c.in_ok-settled.ensures (g.S.ChunkSource.state c.args.source.now) c.requires.can
+run-answer-requires-clause-can g c κs lives = can_settled c.args.plan.now c.in_ok-settled.settled c.in_ok-settled.ensures (g.S.ChunkSource.state c.args.source.now) c.requires.can
 
 pub returns-clause-schema : goal.returns-clause-schema
 returns-clause-schema g c =
