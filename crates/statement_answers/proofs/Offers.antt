@@ -1,5 +1,5 @@
 -- Changes that are offered or refused.
-use Rattle.std.proofs.Common.{◌≡◌, inr, Option, Some, Ok, Err, IfSome, refl, sym, ap, subst, ◌∙◌}
+use Rattle.std.proofs.Common.{◌≡◌, inr, Option, Some, Ok, IfSome, refl, sym, ap, subst, ◌∙◌}
 use Rattle.cell_values.specs.declared.datum.Broken.{Broken}
 use Rattle.array_geom.specs.declared.chunk.Changed.{Changed}
 use Rattle.logical_plan.specs.declared.names.Names.{Names}

@@ -35,11 +35,3 @@ returns-in-Ok-clause-asked g c =
     subst (λ made. ForRowsPut c.args.names.now old (Ok (AChange c.args.change.now)) (λ rows. new.asked ≡ old.asked ++ asked_made rows old c.args.names.now c.args.change.now (with_chunks made))) c.in-Ok.is
     (put_asked c.args.names.now c.args.change.now c.args.name.now c.args.schema.now c.in_ok-target.target c.in_ok-target.ensures c.requires.put old new
     c.in_ok-changed.field-0 c.in_ok-changed.ensures.asked c.in_ok-changed.ensures.only)
-
-pub returns-in-Err-clause-asked : goal.returns-in-Err-clause-asked
-returns-in-Err-clause-asked g c =
-    let old = g.S.ChunkSource.state c.args.source.now in
-    let new = g.S.ChunkSource.state c.changed.new.source in
-    subst (λ made. ForRowsPut c.args.names.now old (Ok (AChange c.args.change.now)) (λ rows. new.asked ≡ old.asked ++ asked_made rows old c.args.names.now c.args.change.now (with_chunks made))) c.in-Err.is
-    (put_asked c.args.names.now c.args.change.now c.args.name.now c.args.schema.now c.in_ok-target.target c.in_ok-target.ensures c.requires.put old new
-    c.in_ok-changed.field-0 c.in_ok-changed.ensures.asked c.in_ok-changed.ensures.only)
