@@ -1,6 +1,7 @@
 -- Changes that store the array of a plan: what is asked of them, what is read for them, and the answer to them.
 use Rattle.std.specs.Prelude.{◌≡◌, List, [], ◌++◌, length, map, Option, Some, Result, Ok, Err}
 use Rattle.cell_values.specs.declared.datum.Broken.{Broken}
+use Rattle.cell_values.specs.declared.datum.Row.{Row}
 use Rattle.cell_values.specs.declared.schema.Schema.{Schema}
 use Rattle.cell_values.specs.Schemas.{IsValid}
 use Rattle.array_geom.specs.declared.chunk.Changed.{Changed}
@@ -11,14 +12,16 @@ use Rattle.logical_plan.specs.Query.{Query}
 use Rattle.plan_changes.specs.declared.change.Change.{Change}
 use Rattle.plan_changes.specs.declared.change.Change.TheVariants.{Create, Store, Insert, Remove, RemoveVersions}
 use Rattle.plan_changes.specs.Changes.{newest_of}
-use Rattle.plan_changes.specs.Databases.{Database, fault_of_change, names_of, rows_of}
+use Rattle.plan_changes.specs.Databases.{Database, fault_of_change, fitted, names_of, rows_if_whole, rows_of}
 use Rattle.plan_changes.specs.Kept.{StoresArray}
 use Rattle.plan_changes.specs.Stored.{IsDatabase}
 use Rattle.plan_changes.specs.Typed.{FitsInto}
+use Rattle.chunk_source.specs.declared.reading.fault.ExecFault.{ExecFault}
 use Rattle.chunk_source.specs.declared.sources.asked.Asked.{Asked}
-use Rattle.chunk_source.specs.Source.{SourceState, Reads, asks, listed}
+use Rattle.chunk_source.specs.Source.{AsksFront, SourceState, Reads, asks, listed}
 use Rattle.chunk_exec.specs.Computed.{CanCompute, asked_for_plan}
 use Rattle.commit_pages.specs.Changes.{IsChangeOf}
+use Rattle.changed_chunks.specs.Wanted.{target_wanted}
 
 -- a plan that can be computed over the source, and a valid schema under which typing lets its array be stored
 pub record CanStore (source : SourceState) (schema : Schema) (plan : Query) : Type 0 where
@@ -44,19 +47,40 @@ asked_of_plan source (Insert name schema plan) = asked_for_plan source plan
 asked_of_plan source (Remove name) = []
 asked_of_plan source (RemoveVersions name below) = []
 
--- an insert reads after them each listed chunk of its target, which is one more leaf
-abbrev pub asked_of_all : SourceState → Change → Leaf → List Asked
-asked_of_all source (Create name schema) target = []
-asked_of_all source (Store name schema plan) target = asked_for_plan source plan
-asked_of_all source (Insert name schema plan) target =
-    asked_for_plan source plan ++ map (asks (length (leaves plan))) (listed source target)
-asked_of_all source (Remove name) target = []
-asked_of_all source (RemoveVersions name below) target = []
+-- an insert asks after them for the chunks of its target, which is one more leaf, that are wanted where these rows are put in
+abbrev pub asked_with : List Row → SourceState → Change → Leaf → List Asked
+asked_with rows source (Create name schema) target = []
+asked_with rows source (Store name schema plan) target = asked_for_plan source plan
+asked_with rows source (Insert name schema plan) target =
+    asked_for_plan source plan ++ map (asks (length (leaves plan))) (target_wanted schema.dimensions rows (listed source target))
+asked_with rows source (Remove name) target = []
+asked_with rows source (RemoveVersions name below) target = []
 
 -- where the plan's array has a fault the chunks that the plan needs alone
-abbrev pub asked_for : SourceState → Change → Leaf → Result Changed Broken → List Asked
-asked_for source change target (Ok changed) = asked_of_all source change target
-asked_for source change target (Err broken) = asked_of_plan source change
+abbrev pub asked_or_fault : List Row → SourceState → Change → Leaf → Result Changed Broken → List Asked
+asked_or_fault rows source change target (Ok changed) = asked_with rows source change target
+asked_or_fault rows source change target (Err broken) = asked_of_plan source change
+
+-- the rows that a change puts in, in a database
+abbrev pub rows_put : Database → Change → List Row
+rows_put db (Create name schema) = []
+rows_put db (Store name schema plan) = rows_if_whole (fitted schema plan db)
+rows_put db (Insert name schema plan) = rows_if_whole (fitted schema plan db)
+rows_put db (Remove name) = []
+rows_put db (RemoveVersions name below) = []
+
+-- THE CHUNKS THAT ARE ASKED FOR IN A DATABASE: those wanted for the rows that it tells
+abbrev pub asked_of_all : Database → SourceState → Change → Leaf → List Asked
+asked_of_all db source change target = asked_with (rows_put db change) source change target
+
+abbrev pub asked_for : Database → SourceState → Change → Leaf → Result Changed Broken → List Asked
+asked_for db source change target made = asked_or_fault (rows_put db change) source change target made
+
+-- Whatever the source tells: the chunks that the plan needs, and behind them listed chunks of the target alone, each once, which are
+-- those wanted for some rows. Where the call fails, some first ones of such chunks.
+abbrev pub AsksOnly : SourceState → SourceState → Change → Leaf → Result (Result Changed Broken) ExecFault → Type 0
+AsksOnly old new change target (Ok made) = (rows : List Row) × (new.asked ≡ old.asked ++ asked_or_fault rows old change target made)
+AsksOnly old new change target (Err fault) = (rows : List Row) × AsksFront (asked_with rows old change target) old new
 
 -- ---- the answer
 

@@ -7,7 +7,7 @@ ghost use Rattle.commit_pages.specs.Changes.{AreValid, ComesWith, IsOf};
 ghost use Rattle.logical_plan.specs.Meaning.{version_rows};
 ghost use Rattle.plan_changes.specs.Databases.{Database, newest_rows, rows_of};
 ghost use Rattle.plan_changes.specs.declared.change.Change.TheVariants.{Store, Insert};
-ghost use Rattle.changed_chunks.specs.Changing.{CanChange, CanStore, IsAnswerOver, IsToldOf, asked_for, asked_of_all};
+ghost use Rattle.changed_chunks.specs.Changing.{AsksOnly, CanChange, CanStore, IsAnswerOver, IsToldOf, asked_for, asked_of_all};
 
 use crate::input::input_of;
 use crate::target::put_over_target;
@@ -107,9 +107,12 @@ pub fn changed<S: ChunkSource, R: Threads + Sync, G: Gate>(
     ensures valid { IfOk result (λ made. IfOk made AreValid) }
     ensures told { IfOk result (λ made. (db : Database) → IsToldOf (S.state source.old) change.now target.now db → IsAnswerOver db change.now made) }
     ensures asked { let old = S.state source.old in
-        IfOk result (λ made. (S.state source.new).asked ≡ old.asked ++ asked_for old change.now target.now made) }
+        IfOk result (λ made. (db : Database) → IsToldOf old change.now target.now db
+        → (S.state source.new).asked ≡ old.asked ++ asked_for db old change.now target.now made) }
     ensures front { let old = S.state source.old in
-        OnErr result (AsksFront (asked_of_all old change.now target.now) old (S.state source.new)) }
+        OnErr result ((db : Database) → IsToldOf old change.now target.now db
+        → AsksFront (asked_of_all db old change.now target.now) old (S.state source.new)) }
+    ensures only { AsksOnly (S.state source.old) (S.state source.new) change.now target.now result }
     ensures kept { Keeps (S.state source.old) (S.state source.new) }
     ensures cause { Answers (S.state source.old) (S.state source.new) result }
     ensures start { S.start source.new ≡ S.start source.old }

@@ -1,8 +1,8 @@
 -- How many chunks a statement reads.
-use Rattle.std.proofs.Common.{◌≡◌, ◌∙◌, ◌+◌, ◌-◌, ◌^◌, ◌≤◌, ℕ, true, List, [], ◌∷◌, inl, inr, length, map, min, Option, None, Ok, Err, refl, ap, sym, subst, arith, length-append}
+use Rattle.std.proofs.Common.{◌≡◌, ◌∙◌, ◌≤◌, ℕ, true, List, inl, inr, length, Option, None, Ok, Err, refl, ap, sym, subst, arith}
 use Rattle.std.specs.List.{list_all}
-use Rattle.std.proofs.lemmas.List.{length-map}
 use Rattle.std.proofs.lemmas.Option.{none-some}
+use Rattle.cell_values.specs.declared.datum.Row.{Row}
 use Rattle.afl_outside.specs.Disk.{Moment}
 use Rattle.afl_trees.specs.Term.{Term}
 use Rattle.afl_types.specs.Checking.{check_of}
@@ -12,18 +12,20 @@ use Rattle.array_geom.specs.declared.chunk.Changed.{Changed}
 use Rattle.check_rules.specs.Checked.{Checked}
 use Rattle.chunk_source.specs.declared.reading.fault.ExecFault.{ExecFault}
 use Rattle.chunk_source.specs.declared.reading.fault.ExecFault.TheVariants as faults
-use Rattle.chunk_source.specs.Reading.{asked_of}
-use Rattle.chunk_source.specs.Source.{SourceState, asks, listed}
+use Rattle.chunk_source.specs.declared.sources.asked.Asked.{Asked}
+use Rattle.chunk_source.specs.Source.{SourceState}
+use Rattle.event_core.specs.Cells.{at}
 use Rattle.event_core.specs.History.{names_at}
 use Rattle.logical_plan.specs.declared.names.Names.{Names}
 use Rattle.logical_plan.specs.declared.parts.Leaf.{Leaf}
+use Rattle.plan_changes.specs.Databases.{Database}
 use Rattle.plan_changes.specs.declared.change.Change.{Change}
 use Rattle.plan_changes.specs.declared.change.Change.TheVariants.{Create, Store, Insert, Remove, RemoveVersions}
 use Rattle.result_print.specs.declared.refusal.Refusal.{Refusal}
 use Rattle.result_print.specs.declared.refusal.Refusal.TheVariants.{Disk, Damaged, Memory}
 use Rattle.session_turns.specs.Outcome.{Outcome}
 use Rattle.session_turns.specs.Outcome.TheVariants.{Replied, Changes}
-use Rattle.session_turns.specs.Outcomes.{leaves_for, leaves_read}
+use Rattle.session_turns.specs.Outcomes.{all_asked, asked_for, rows_put_by}
 use Rattle.statement_replies.specs.declared.replies.Reply.{Reply as Told}
 use Rattle.statement_replies.specs.StatementKinds.{HasChangeKind, HasStatementKind, MayBreak}
 use Rattle.statement_replies.specs.Statements.{Accepted, without_change}
@@ -31,13 +33,16 @@ use Rattle.statement_replies.specs.declared.style.Style.{Style}
 use Rattle.store_ledger.specs.declared.pinned.Pinned.{Pinned}
 use Rattle.store_ledger.specs.Ledger.{IsOpenPin}
 use Rattle.store_state.specs.declared.event.Event.{Event}
-use Rattle.store_state.specs.Calls.{chunks_at}
+use Rattle.store_state.specs.Calls.{chunks_at, database_with}
 use Rattle.session_turns.specs.Seat.{Seat}
 use Rattle.session_turns.specs.Shared.{Shared}
 use Rattle.session_turns.specs.Reply.{Reply}
 use Rattle.session_turns.specs.Refusals.{IsUnreadReply, IsWant, Refuses}
 use Rattle.session_turns.specs.Replies.{names_before}
+use Rattle.session_turns.specs.BehindPins.{HasDatabaseAt}
 use Rattle.session_turns.proofs.Beginnings.{history_stays, places_see_the_same}
+use Rattle.session_turns.proofs.Behind.{source_tells}
+use Rattle.session_turns.proofs.Listed.{listed_decide}
 use Rattle.session_turns.proofs.PinPlaces.{open_pins_are_entered}
 use Rattle.session_turns.specs.Courses.{AddsOwn}
 use Rattle.session_turns.specs.Pinned.{pinned_state, unread}
@@ -46,7 +51,7 @@ use Rattle.session_turns.specs.Start.{Start}
 use Rattle.session_turns.specs.Told.{entries_in, is_sealed, ledger_of, told}
 use Rattle.session_turns.proofs.Under.{pin_within}
 use Rattle.session_answers.specs.Inner.Steps.{WasRead}
-use Rattle.session_answers.specs.Reads.{chunks_of, counted, leaves_of}
+use Rattle.session_answers.specs.Reads.{asked_at, counted, rows_put_at, source_at, CountsAt}
 
 -- ---- an accepted statement reads all that it may read
 
@@ -61,52 +66,50 @@ not_accepted names (Insert name schema plan) words k accepts = not_broken names 
 not_accepted names (Remove name) words e accepts = none-some (Remove name) (ap (λ (answer : Accepted). answer.change) e)
 not_accepted names (RemoveVersions name below) words e accepts = none-some (RemoveVersions name below) (ap (λ (answer : Accepted). answer.change) e)
 
-replied_reads : (style : Style) (names : Names) (checked : Checked Typed) (words : Told) → HasStatementKind style names checked (without_change words) → words.refusal ≡ None →
-    leaves_read names checked (Replied words) ≡ leaves_for names checked
-replied_reads style names (Ok (AQuery plan)) words k accepts = refl
-replied_reads style names (Ok (AChange change)) words k accepts = absurd (not_accepted names change words k accepts)
-replied_reads style names (Ok (Versions name)) words k accepts = refl
-replied_reads style names (Ok (Show name)) words k accepts = refl
-replied_reads style names (Ok ListArrays) words k accepts = refl
-replied_reads style names (Err breach) words k accepts = refl
+replied_asks : (style : Style) (rows : List Row) (source : SourceState) (names : Names) (checked : Checked Typed) (words : Told) → HasStatementKind style names checked (without_change words) →
+    words.refusal ≡ None → asked_for rows source names checked (Replied words) ≡ all_asked rows source names checked
+replied_asks style rows source names (Ok (AQuery plan)) words k accepts = refl
+replied_asks style rows source names (Ok (AChange change)) words k accepts = absurd (not_accepted names change words k accepts)
+replied_asks style rows source names (Ok (Versions name)) words k accepts = refl
+replied_asks style rows source names (Ok (Show name)) words k accepts = refl
+replied_asks style rows source names (Ok ListArrays) words k accepts = refl
+replied_asks style rows source names (Err breach) words k accepts = refl
 
-change_reads : (names : Names) (checked : Checked Typed) (change : Change) (changed : Option Changed) (words : Told) → checked ≡ Ok (AChange change) →
-    leaves_read names checked (Changes change changed words) ≡ leaves_for names checked
-change_reads names checked change changed words e =
-    subst (λ (c : Checked Typed). leaves_read names c (Changes change changed words) ≡ leaves_for names c) (sym e) refl
+change_asks : (rows : List Row) (source : SourceState) (names : Names) (checked : Checked Typed) (change : Change) (changed : Option Changed) (words : Told) → checked ≡ Ok (AChange change) →
+    asked_for rows source names checked (Changes change changed words) ≡ all_asked rows source names checked
+change_asks rows source names checked change changed words e =
+    subst (λ (c : Checked Typed). asked_for rows source names c (Changes change changed words) ≡ all_asked rows source names c) (sym e) refl
 
-module _ {D : Type 0} (moment : D → Moment) (shared : Shared D) (pinned : Pinned) (old : Seat D) where
+module _ {D : Type 0} (style : Style) (moment : D → Moment) (shared : Shared D) (pinned : Pinned) (old new : Seat D) (text : List ℕ) (tree : Term)
+    (has : HasDatabaseAt moment (start moment shared) (seen old) pinned.place pinned.names) where
   abbrev source : SourceState
   source = pinned_state moment (unread shared pinned old)
 
-  asked_count : (number : ℕ) (leaves : List Leaf) → length (asked_of source number leaves) ≡ chunks_of (start moment shared) (seen old) pinned.place leaves
-  asked_count number [] = refl
-  asked_count number (leaf ∷ leaves) =
-      length-append (map (asks number) (listed source leaf)) (asked_of source (number + 1) leaves)
-      ∙ ap (λ (n : ℕ). n + length (asked_of source (number + 1) leaves)) (length-map (listed source leaf) (asks number))
-      ∙ ap (λ (n : ℕ). length (listed source leaf) + n) (asked_count (number + 1) leaves)
+  abbrev checked : Checked Typed
+  checked = check_of tree text pinned.names
 
-module _ {D : Type 0} (style : Style) (moment : D → Moment) (shared : Shared D) (pinned : Pinned) (old new : Seat D) (text : List ℕ) (tree : Term) where
   abbrev IsCounted : Type 0
-  IsCounted = read_count new ≡ counted (start moment shared) (seen old) pinned.place pinned.names text tree (read_count old)
+  IsCounted = CountsAt moment (start moment shared) (seen old) pinned.place pinned.names text tree (read_count old) (read_count new)
 
-  count_of : (outcome : Outcome) (w : WasRead style moment shared pinned old new text tree (Ok outcome)) →
-      leaves_read pinned.names (check_of tree text pinned.names) outcome ≡ leaves_for pinned.names (check_of tree text pinned.names) → IsCounted
-  count_of outcome w same =
-      w.read.reads
-      ∙ ap (λ (n : ℕ). min (read_count old + n) (2 ^ 64 - 1))
-      (ap length w.asked
-      ∙ ap (λ (leaves : List Leaf). length (asked_of (pinned_state moment (unread shared pinned old)) 0 leaves)) same
-      ∙ asked_count moment shared pinned old 0 (leaves_of pinned.names text tree))
+  module _ (outcome : Outcome) (w : WasRead style moment shared pinned old new text tree (Ok outcome))
+      (same : (rows : List Row) → asked_for rows source pinned.names checked outcome ≡ all_asked rows source pinned.names checked) where
+    count_for : (rows : List Row) → w.marks.asked ≡ asked_for rows source pinned.names checked outcome →
+        read_count new ≡ counted (asked_at moment (start moment shared) (seen old) pinned.place pinned.names text tree rows) (read_count old)
+    count_for rows asked = w.read.reads ∙ ap (λ (all : List Asked). counted all (read_count old)) (asked ∙ same rows)
+
+    count_of : IsCounted
+    count_of = record {
+      in_database = λ db began. count_for (rows_put_at moment (start moment shared) (seen old) pinned.place pinned.names text tree db)
+          (w.asked.told (database_with db (told (start moment shared) (seen old)) pinned.place) (source_tells moment (unread shared pinned old) has db began));
+      some = (w.asked.some.0, count_for w.asked.some.0 w.asked.some.1);
+    }
 
   pub replied_counts : (words : Told) → WasRead style moment shared pinned old new text tree (Ok (Replied words)) → words.refusal ≡ None → IsCounted
-  replied_counts words w accepts =
-      count_of (Replied words) w (replied_reads style pinned.names (check_of tree text pinned.names) words w.comes.kind accepts)
+  replied_counts words w accepts = count_of (Replied words) w (λ rows. replied_asks style rows source pinned.names checked words w.comes.kind accepts)
 
   pub change_counts : (change : Change) (changed : Option Changed) (words : Told) → WasRead style moment shared pinned old new text tree (Ok (Changes change changed words)) →
       IsCounted
-  change_counts change changed words w =
-      count_of (Changes change changed words) w (change_reads pinned.names (check_of tree text pinned.names) change changed words w.comes.kind.0)
+  change_counts change changed words w = count_of (Changes change changed words) w (λ rows. change_asks rows source pinned.names checked change changed words w.comes.kind.0)
 
 -- ---- a reply that refuses
 
@@ -124,31 +127,46 @@ unread_refuses faults.Memory reply u accepts = want_refuses reply u accepts
 
 -- ---- what a pin sees is seen later
 
-module _ {D : Type 0} (moment : D → Moment) (start : Start D) (session before : ℕ) (mid new : List Event) (pinned : Pinned) (text : List ℕ) (tree : Term)
+module _ {D : Type 0} (moment : D → Moment) (start : Start D) (session before after : ℕ) (mid new : List Event) (pinned : Pinned) (text : List ℕ) (tree : Term)
     (o : IsOpenPin (ledger_of start mid) pinned) (sealed : list_all is_sealed mid ≡ true) (own : List Event) (adds : AddsOwn session own mid new) where
-  within : pinned.place ≤ length (entries_in mid)
+  abbrev place : ℕ
+  place = pinned.place
+
+  within : place ≤ length (entries_in mid)
   within = let le = pin_within start mid pinned o in omega (arith, le)
 
-  names_then : pinned.names ≡ names_before start new pinned.place
+  names_then : pinned.names ≡ names_before start new place
   names_then =
       sym (open_pins_are_entered D start mid pinned o).1
-      ∙ sym (ap (λ h. names_at start.base h) (history_stays start mid adds.more pinned.place within))
-      ∙ ap (λ (es : List Event). names_before start es pinned.place) (sym adds.grown)
+      ∙ sym (ap (λ h. names_at start.base h) (history_stays start mid adds.more place within))
+      ∙ ap (λ (es : List Event). names_before start es place) (sym adds.grown)
 
-  chunks_then : (leaf : Leaf) → chunks_at (told start mid) pinned.place leaf ≡ chunks_at (told start new) pinned.place leaf
+  chunks_then : (leaf : Leaf) → chunks_at (told start mid) place leaf ≡ chunks_at (told start new) place leaf
   chunks_then leaf =
-      sym ((places_see_the_same start mid adds.more pinned.place within sealed).chunks leaf)
-      ∙ ap (λ (es : List Event). chunks_at (told start es) pinned.place leaf) (sym adds.grown)
+      sym ((places_see_the_same start mid adds.more place within sealed).chunks leaf)
+      ∙ ap (λ (es : List Event). chunks_at (told start es) place leaf) (sym adds.grown)
 
-  chunks_same : (leaves : List Leaf) → chunks_of start mid pinned.place leaves ≡ chunks_of start new pinned.place leaves
-  chunks_same [] = refl
-  chunks_same (leaf ∷ leaves) =
-      ap (λ (n : ℕ). n + chunks_of start mid pinned.place leaves) (ap length (chunks_then leaf))
-      ∙ ap (λ (n : ℕ). length (chunks_at (told start new) pinned.place leaf) + n) (chunks_same leaves)
+  database_then : (db : Database) → database_with db (told start mid) place ≡ database_with db (told start new) place
+  database_then db =
+      sym (ap (at db) (history_stays start mid adds.more place within))
+      ∙ ap (λ (es : List Event). database_with db (told start es) place) (sym adds.grown)
+
+  asked_then : (rows : List Row) → asked_at moment start mid place pinned.names text tree rows ≡ asked_at moment start new place pinned.names text tree rows
+  asked_then rows =
+      listed_decide rows (source_at moment start mid place pinned.names) (source_at moment start new place pinned.names) chunks_then pinned.names
+      (check_of tree text pinned.names)
+
+  count_then : (rows : List Row) → after ≡ counted (asked_at moment start mid place pinned.names text tree rows) before →
+      after ≡ counted (asked_at moment start new place pinned.names text tree rows) before
+  count_then rows e = e ∙ ap (λ (all : List Asked). counted all before) (asked_then rows)
+
+  rows_then : (db : Database) → rows_put_at moment start mid place pinned.names text tree db ≡ rows_put_at moment start new place pinned.names text tree db
+  rows_then db = ap (λ (d : Database). rows_put_by d (check_of tree text pinned.names)) (database_then db)
 
   -- the count is the same, as the history then tells it
-  pub counted_then : counted start mid pinned.place pinned.names text tree before ≡ counted start new pinned.place (names_before start new pinned.place) text tree before
-  counted_then =
-      ap (λ (n : ℕ). min (before + n) (2 ^ 64 - 1))
-      (chunks_same (leaves_of pinned.names text tree)
-      ∙ ap (λ (names : Names). chunks_of start new pinned.place (leaves_of names text tree)) names_then)
+  pub counts_then : CountsAt moment start mid place pinned.names text tree before after → CountsAt moment start new place (names_before start new place) text tree before after
+  counts_then counts = subst (λ (names : Names). CountsAt moment start new place names text tree before after) names_then (record {
+    in_database = λ db began. count_then (rows_put_at moment start mid place pinned.names text tree db) (counts.in_database db began)
+        ∙ ap (λ (rows : List Row). counted (asked_at moment start new place pinned.names text tree rows) before) (rows_then db);
+    some = (counts.some.0, count_then counts.some.0 counts.some.1);
+  })

@@ -27,6 +27,6 @@ module _ {D : Type 0} (moment : D → Moment) (shared : Shared D) (place : ℕ) 
       subst (λ (x : Seat D). IsAnswered style moment (start moment shared) session last old (seen x) text reply) (sym e) a
 
   pub still_read : (session : ℕ) (old : List Event) (text : List ℕ) (tree : Term) (before : ℕ) →
-      ReadsOnce (start moment shared) session old (seen seat) text tree before (read_count seat) → ReadsOnce (start moment shared) session old (seen kept) text tree before (read_count kept)
+      ReadsOnce moment (start moment shared) session old (seen seat) text tree before (read_count seat) → ReadsOnce moment (start moment shared) session old (seen kept) text tree before (read_count kept)
   still_read session old text tree before r =
-      subst (λ (x : Seat D). ReadsOnce (start moment shared) session old (seen x) text tree before (read_count x)) (sym e) r
+      subst (λ (x : Seat D). ReadsOnce moment (start moment shared) session old (seen x) text tree before (read_count x)) (sym e) r

@@ -16,7 +16,7 @@ use Rattle.plan_changes.specs.declared.change.Change.{Change}
 use Rattle.plan_changes.specs.Databases.{Database, names_of}
 use Rattle.session_turns.specs.Outcome.{Outcome}
 use Rattle.session_turns.specs.Outcome.TheVariants.{Replied, Changes}
-use Rattle.session_turns.specs.Outcomes.{asked_for, HasOutcomeKind, IsOutcomeOf, IsToldBy, MayFail}
+use Rattle.session_turns.specs.Outcomes.{asked_for, ForRowsPut, HasOutcomeKind, IsOutcomeOf, IsToldBy, MayFail}
 use Rattle.statement_replies.specs.declared.replies.Reply.{Reply as Told}
 use Rattle.statement_replies.specs.Statements.{reply_to}
 use Rattle.statement_replies.specs.declared.style.Style.{Style}
@@ -99,10 +99,10 @@ module _ {D : Type 0} (style : Style) (moment : D → Moment) (shared : Shared D
     why_by (Err Memory) answers = tt
 
     abbrev AsksBy : Reading D → Outcome → Type 0
-    AsksBy r outcome = last.marks.asked ≡ r.marks.asked ++ asked_for (pinned_state moment r) pinned.names (check_of tree text pinned.names) outcome
+    AsksBy r outcome = ForRowsPut pinned.names (pinned_state moment r) (check_of tree text pinned.names) (λ rows.
+        last.marks.asked ≡ r.marks.asked ++ asked_for rows (pinned_state moment r) pinned.names (check_of tree text pinned.names) outcome)
 
-    asked_by : (result : Result Outcome ExecFault) → IfOk result (AsksBy first) →
-        IfOk result (λ outcome. last.marks.asked ≡ asked_for (pinned_state moment (unread shared pinned old)) pinned.names (check_of tree text pinned.names) outcome)
+    asked_by : (result : Result Outcome ExecFault) → IfOk result (AsksBy first) → IfOk result (AsksBy (unread shared pinned old))
     asked_by (Ok outcome) asks = subst (λ (r : Reading D). AsksBy r outcome) made asks
     asked_by (Err fault) asks = tt
 

@@ -19,7 +19,7 @@ use Rattle.session_turns.specs.Turns.{found_before, own_events, pin_event, Adds}
 use Rattle.session_turns.proofs.Turning.{turns_find}
 use Rattle.session_turns.specs.Acts.{Act, Course, acts_for, acts_in, begins, ends, nothing, looking, trying, making}
 use Rattle.session_turns.specs.Refusals.{IsWant, Refuses}
-use Rattle.session_turns.specs.Replies.{EnteredAt, HadNoRoom, HasLine, IsToldFor, WasAt}
+use Rattle.session_turns.specs.Replies.{names_before, EnteredAt, HadNoRoom, HasLine, IsToldFor, WasAt}
 use Rattle.session_turns.specs.Reply.{Reply}
 use Rattle.session_turns.proofs.ActsJoined.{acts_join}
 use Rattle.session_turns.proofs.Beginnings.{reached}
@@ -32,8 +32,8 @@ use Rattle.session_turns.proofs.CourseLaws.{courses_join, turns_are_courses}
 use Rattle.session_turns.specs.AnsweredUnder.{IsAnsweredUnder}
 use Rattle.session_answers.specs.Answered.{BeganAt}
 use Rattle.session_answers.specs.Inner.Tree.{IsAnsweredTree}
-use Rattle.session_answers.specs.Reads.{counted, ReadsOnce}
-use Rattle.session_answers.proofs.Counting.{counted_then, refusal_refuses, want_refuses}
+use Rattle.session_answers.specs.Reads.{CountsAt, ReadsOnce}
+use Rattle.session_answers.proofs.Counting.{counts_then, refusal_refuses, want_refuses}
 use Rattle.session_answers.proofs.Prefixed.{told_before}
 use Rattle.session_answers.proofs.Tried.{own_first}
 
@@ -127,11 +127,13 @@ module _ {D : Type 0} (style : Style) (moment : D → Moment) (start : Start D) 
 
   -- and so many chunks were counted, as the history then tells it
   pub is_read_once : list_all is_sealed mid ≡ true → (before first last after : ℕ) → first ≡ before →
-      last ≡ counted start mid pinned.place pinned.names text tree first → after ≡ last → ReadsOnce start session old new text tree before after
+      CountsAt moment start mid pinned.place pinned.names text tree first last → after ≡ last → ReadsOnce moment start session old new text tree before after
   is_read_once whole before first last after pins reads unpins = record {
     pin = pinned.place;
     began = entered;
-    reads = unpins ∙ reads ∙ ap (counted start mid pinned.place pinned.names text tree) pins ∙ counted_then moment start session before mid new pinned text tree o whole (under.own ++ Entered (Unpin session) ∷ []) rest_adds;
+    reads = subst (λ (n : ℕ). CountsAt moment start new pinned.place (names_before start new pinned.place) text tree before n) (sym unpins)
+        (subst (λ (n : ℕ). CountsAt moment start new pinned.place (names_before start new pinned.place) text tree n last) pins
+        (counts_then moment start session first last mid new pinned text tree o whole (under.own ++ Entered (Unpin session) ∷ []) rest_adds reads));
   }
 
 -- ---- without a pin
@@ -176,8 +178,8 @@ module _ {D : Type 0} (style : Style) (moment : D → Moment) (start : Start D) 
   full_is_answered entries (inr w) at why = want_is_answered w (at ∙ why.1)
 
   -- a statement that is refused tells nothing of what it reads
-  pub want_reads : IsWant reply → (before after : ℕ) → reply.refusal ≡ None → ReadsOnce start session old new text tree before after
+  pub want_reads : IsWant reply → (before after : ℕ) → reply.refusal ≡ None → ReadsOnce moment start session old new text tree before after
   want_reads w before after accepts = absurd (want_refuses reply w accepts)
 
-  pub full_reads : Refuses refusals.HistoryFull reply → (before after : ℕ) → reply.refusal ≡ None → ReadsOnce start session old new text tree before after
+  pub full_reads : Refuses refusals.HistoryFull reply → (before after : ℕ) → reply.refusal ≡ None → ReadsOnce moment start session old new text tree before after
   full_reads r before after accepts = absurd (refusal_refuses refusals.HistoryFull reply r accepts)

@@ -67,12 +67,12 @@ module _ {D : Type 0} (style : Style) (moment : D → Moment) (start : Start D) 
   }
 
   -- a statement that is refused tells nothing of what it reads
-  pub want_reads_none : IsWant reply → (tree : Term) (before after : ℕ) → reply.refusal ≡ None → ReadsOnce start session old old text tree before after
+  pub want_reads_none : IsWant reply → (tree : Term) (before after : ℕ) → reply.refusal ≡ None → ReadsOnce moment start session old old text tree before after
   want_reads_none w tree before after accepts = absurd (want_refuses reply w accepts)
 
   module _ (at : ℕ) (kind : ParseKind) (only_tree : (t : Term) → DerivesText text t → AnswersTree (Err (stops.At at kind)) t)
       (only_stop : (there : ℕ) (why : ParseKind) → StopsText text there why → AnswersStop (Err (stops.At at kind)) there why) where
-    pub stop_reads_none : (tree : Term) → DerivesText text tree → (before after : ℕ) → ReadsOnce start session old old text tree before after
+    pub stop_reads_none : (tree : Term) → DerivesText text tree → (before after : ℕ) → ReadsOnce moment start session old old text tree before after
     stop_reads_none tree derives before after = absurd (only_tree tree derives)
 
     stop_words : words_of reply ≡ refused (Parse at kind) → reply.place ≡ last → (there : ℕ) (why : ParseKind) → (at ≡ there) × (kind ≡ why) →

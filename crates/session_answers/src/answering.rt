@@ -44,7 +44,7 @@ pub fn answer<D: Disk, R: Threads + Wait + Sync, G: Gate>(
     ensures answered { IsAnswered options.now.style D.moment (start D.moment shared.now) (session_of seat) (last_place seat)
         (seen seat) (seen result.1) text.now result.0 }
     ensures reads { (tree : Term) → DerivesText text.now tree → result.0.refusal ≡ None
-        → ReadsOnce (start D.moment shared.now) (session_of seat) (seen seat) (seen result.1) text.now tree
+        → ReadsOnce D.moment (start D.moment shared.now) (session_of seat) (seen seat) (seen result.1) text.now tree
         (read_count seat) (read_count result.1) }
 {
     let (reply, mut seat) = answer_text(rt, alloc, shared, seat, text, number, options, gate);
@@ -73,7 +73,7 @@ fn answer_text<D: Disk, R: Threads + Wait + Sync, G: Gate>(
     ensures answered { IsAnswered options.now.style D.moment (start D.moment shared.now) (session_of seat) (last_place seat)
         (seen seat) (seen result.1) text.now result.0 }
     ensures reads { (tree : Term) → DerivesText text.now tree → result.0.refusal ≡ None
-        → ReadsOnce (start D.moment shared.now) (session_of seat) (seen seat) (seen result.1) text.now tree
+        → ReadsOnce D.moment (start D.moment shared.now) (session_of seat) (seen seat) (seen result.1) text.now tree
         (read_count seat) (read_count result.1) }
 {
     match parse(alloc, text) {
@@ -114,7 +114,7 @@ fn answer_tree<D: Disk, R: Threads + Wait + Sync, G: Gate>(
     ensures answered { IsAnsweredTree options.now.style D.moment (start D.moment shared.now) (session_of seat)
         (seen seat) (seen result.1) text.now tree.now result.0 }
     ensures reads { result.0.refusal ≡ None
-        → ReadsOnce (start D.moment shared.now) (session_of seat) (seen seat) (seen result.1) text.now tree.now
+        → ReadsOnce D.moment (start D.moment shared.now) (session_of seat) (seen seat) (seen result.1) text.now tree.now
         (read_count seat) (read_count result.1) }
 {
     let mut seat = seat;

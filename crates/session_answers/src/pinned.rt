@@ -11,7 +11,7 @@ ghost use Rattle.session_turns.specs.Databases.{IsDatabaseOf};
 ghost use Rattle.session_turns.specs.Seats.{ledger_seen, read_count, seen, session_of, start, store_seen, HoldsPin, IsIdle, IsSameSeat, IsSeatOf};
 ghost use Rattle.session_turns.specs.AnsweredUnder.{IsAnsweredUnder};
 ghost use Rattle.session_answers.specs.Inner.Steps.{WasRead};
-ghost use Rattle.session_answers.specs.Reads.{counted};
+ghost use Rattle.session_answers.specs.Reads.{CountsAt};
 
 use crate::committing::commit;
 use afl_outside::{Disk, Gate, Point};
@@ -52,8 +52,9 @@ pub(crate) fn answer_pinned<D: Disk, R: Threads + Wait + Sync, G: Gate>(
     ensures pin { HoldsPin D.moment shared.now result.1 pinned.now }
     ensures answered { IsAnsweredUnder options.now.style D.moment (start D.moment shared.now) pinned.now.session pinned.now.place
         (seen seat) (seen result.1) text.now tree.now result.0 }
-    ensures reads { result.0.refusal ≡ None → read_count result.1
-        ≡ counted (start D.moment shared.now) (seen seat) pinned.now.place pinned.now.names text.now tree.now (read_count seat) }
+    ensures reads { result.0.refusal ≡ None
+        → CountsAt D.moment (start D.moment shared.now) (seen seat) pinned.now.place pinned.now.names text.now tree.now
+        (read_count seat) (read_count result.1) }
 {
     let place = behind(shared, &seat, pinned);
     let (outcome, seat) = read_under(rt, alloc, shared, seat, pinned, text, tree, options, gate);

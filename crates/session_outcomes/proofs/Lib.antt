@@ -10,6 +10,7 @@ pub use Rattle.session_sources.proofs.Telling
 pub use Rattle.session_sources.proofs.TriedTurns
 pub use Rattle.session_sources.proofs.Turning
 pub use Rattle.session_sources.proofs.VersionLaws
+pub use Rattle.statement_answers.proofs.Listed
 pub use Rattle.statement_answers.proofs.Saying
 pub mod Behind
 pub mod Changing

@@ -5,6 +5,7 @@ pub use Rattle.session_outcomes.proofs.Changing
 pub use Rattle.session_outcomes.proofs.CourseLaws
 pub use Rattle.session_outcomes.proofs.FreshReplies
 pub use Rattle.session_outcomes.proofs.Freshly
+pub use Rattle.session_outcomes.proofs.Listed
 pub use Rattle.session_outcomes.proofs.PinPlaces
 pub use Rattle.session_outcomes.proofs.Sights
 pub use Rattle.session_outcomes.proofs.Staying

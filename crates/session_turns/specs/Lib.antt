@@ -7,6 +7,7 @@ pub use Rattle.session_outcomes.specs.Outcomes
 pub use Rattle.session_outcomes.specs.Refusals
 pub use Rattle.session_outcomes.specs.Replies
 pub use Rattle.session_outcomes.specs.Reply
+pub use Rattle.session_outcomes.specs.Stored
 pub use Rattle.session_outcomes.specs.ToldReplies
 pub use Rattle.session_outcomes.specs.Under
 pub use Rattle.session_sources.specs.Causes

@@ -1,7 +1,6 @@
 -- What comes of a typed statement, and of the tree that it is of.
-use Rattle.std.proofs.Common.{◌≡◌, ℕ, true, List, [], ◌++◌, Option, Some, Result, Ok, Err, IfErr, IfOk, OnErr, refl, sym, ap, subst, ◌∙◌}
+use Rattle.std.proofs.Common.{◌≡◌, ℕ, true, List, ◌++◌, Option, Some, Result, Ok, Err, IfErr, IfOk, OnErr, refl, sym, ap, subst, ◌∙◌}
 use Rattle.std.specs.Result.{IsErrAnd}
-use Rattle.std.proofs.lemmas.List.{append-nil}
 use Rattle.cell_values.specs.declared.name.Span.{Span}
 use Rattle.afl_trees.specs.Term.{Term, create, call, Terms}
 use Rattle.logical_plan.specs.Meaning.{Database as Rows}
@@ -29,7 +28,6 @@ use Rattle.afl_types.specs.Statements.{insert_of, queried, said, statement_of, s
 use Rattle.afl_types.specs.declared.statements.checking.Typed.{Typed}
 use Rattle.afl_types.specs.declared.statements.checking.Typed.TheVariants.{Query as AQuery, Change as AChange, Versions, Show, ListArrays}
 use Rattle.chunk_exec.specs.Computed.{CanCompute}
-use Rattle.chunk_source.specs.Reading.{asked_of}
 use Rattle.chunk_source.specs.Source.{SourceState, AsksFront}
 use Rattle.chunk_source.specs.declared.reading.fault.ExecFault.{ExecFault}
 use Rattle.chunk_source.specs.declared.reading.fault.ExecFault.TheVariants.{Source, Damaged, Memory}
@@ -45,7 +43,7 @@ use Rattle.statement_replies.proofs.Standing.{stand}
 use Rattle.statement_answers.specs.declared.outcome.Outcome.{Outcome}
 use Rattle.statement_answers.specs.declared.outcome.Outcome.TheVariants.{Replied}
 use Rattle.statement_answers.specs.Inner.Made.{CanAnswer}
-use Rattle.statement_answers.specs.Outcomes.{HasOutcomeKind, IsOutcomeOf, IsToldBy, MayFail, asked_for, leaves_for, leaves_read}
+use Rattle.statement_answers.specs.Outcomes.{ForRowsPut, HasOutcomeKind, IsOutcomeOf, IsToldBy, MayFail, all_asked, asked_for}
 
 -- ---- what is typed can be answered
 
@@ -117,13 +115,14 @@ module _ (names : Names) (a b : Checked Typed) (same : a ≡ b) where
   told_over style source answer told =
       subst (λ (c : Checked Typed). IfOk answer (λ outcome. (db : Database) → IsToldBy names source db → IsOutcomeOf db (reply_to_checked style db c) outcome)) (sym same) told
 
-  module _ (old new : SourceState) where
-    pub asked_over : (answer : Result Outcome ExecFault) → IfOk answer (λ outcome. new.asked ≡ old.asked ++ asked_for old names b outcome)
-        → IfOk answer (λ outcome. new.asked ≡ old.asked ++ asked_for old names a outcome)
-    asked_over answer asked = subst (λ (c : Checked Typed). IfOk answer (λ outcome. new.asked ≡ old.asked ++ asked_for old names c outcome)) (sym same) asked
+  pub asked_over : (old new : SourceState) (answer : Result Outcome ExecFault) → IfOk answer (λ outcome. ForRowsPut names old b (λ rows. new.asked ≡ old.asked ++ asked_for rows old names b outcome))
+      → IfOk answer (λ outcome. ForRowsPut names old a (λ rows. new.asked ≡ old.asked ++ asked_for rows old names a outcome))
+  asked_over old new answer asked =
+      subst (λ (c : Checked Typed). IfOk answer (λ outcome. ForRowsPut names old c (λ rows. new.asked ≡ old.asked ++ asked_for rows old names c outcome))) (sym same) asked
 
-    pub front_over : (answer : Result Outcome ExecFault) → OnErr answer (AsksFront (asked_of old 0 (leaves_for names b)) old new) → OnErr answer (AsksFront (asked_of old 0 (leaves_for names a)) old new)
-    front_over answer front = subst (λ (c : Checked Typed). OnErr answer (AsksFront (asked_of old 0 (leaves_for names c)) old new)) (sym same) front
+  pub front_over : (old new : SourceState) (answer : Result Outcome ExecFault) → OnErr answer (ForRowsPut names old b (λ rows. AsksFront (all_asked rows old names b) old new))
+      → OnErr answer (ForRowsPut names old a (λ rows. AsksFront (all_asked rows old names a) old new))
+  front_over old new answer front = subst (λ (c : Checked Typed). OnErr answer (ForRowsPut names old c (λ rows. AsksFront (all_asked rows old names c) old new))) (sym same) front
 
 -- ---- what holds in each style
 
@@ -156,11 +155,7 @@ pub query_told : (style : Style) (names : Names) (source : SourceState) (plan : 
     → (db : Database) → IsToldBy names source db → reply_to_typed style db (AQuery plan) ≡ without_change reply
 query_told style names source plan reply told db there = ap without_change (sym (told (rows_of db) there.tells))
 
--- ---- listings and broken rules, for which nothing is read
-
-module _ (names : Names) (checked : Checked Typed) (reply : Reply) where
-  pub nothing_read : (old : SourceState) → leaves_read names checked (Replied reply) ≡ [] → old.asked ≡ old.asked ++ asked_for old names checked (Replied reply)
-  nothing_read old none = sym (append-nil old.asked) ∙ ap (λ ls. old.asked ++ asked_of old 0 ls) (sym none)
+-- ---- listings
 
 -- a listing's text over the names
 pub listing_told : (names : Names) (source : SourceState) (text : Names → Reply) (reply : Reply) → reply ≡ text names

@@ -1,4 +1,6 @@
 pub mod Answering
+pub mod Asking
+pub mod Listed
 pub mod Saying
 pub mod Offers
 pub mod Targets

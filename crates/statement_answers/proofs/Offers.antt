@@ -1,5 +1,5 @@
--- Changes that are offered or refused, and what is read for them.
-use Rattle.std.proofs.Common.{◌≡◌, inr, ◌++◌, Option, Some, Result, Ok, Err, IfSome, refl, sym, ap, subst, ◌∙◌}
+-- Changes that are offered or refused.
+use Rattle.std.proofs.Common.{◌≡◌, inr, Option, Some, Ok, IfSome, refl, sym, ap, subst, ◌∙◌}
 use Rattle.cell_values.specs.declared.datum.Broken.{Broken}
 use Rattle.array_geom.specs.declared.chunk.Changed.{Changed}
 use Rattle.logical_plan.specs.declared.names.Names.{Names}
@@ -9,20 +9,16 @@ use Rattle.plan_changes.specs.Databases.{Database, fault_of_change, names_of}
 use Rattle.plan_changes.specs.Stored.{HasItsNames}
 use Rattle.plan_changes.specs.Typed.{IsTypedFor}
 use Rattle.afl_types.specs.declared.statements.checking.Typed.TheVariants.{Change as AChange}
-use Rattle.chunk_source.specs.Reading.{asked_of}
-use Rattle.chunk_source.specs.Source.{SourceState, AsksFront}
-use Rattle.chunk_source.proofs.ReadLemmas.{asked_all}
 use Rattle.commit_pages.specs.Changes.{AreValid, ComesWith}
-use Rattle.changed_chunks.specs.Changing.{IsAnswerOver, plan_leaves}
-use Rattle.changed_chunks.proofs.Asked.{front_plan}
+use Rattle.changed_chunks.specs.Changing.{IsAnswerOver}
 use Rattle.statement_replies.specs.Reply.{cell_reply}
 use Rattle.statement_replies.specs.Statements.{Accepted, accepted, change_reply, changed_or_broken, reply_to_typed, without_change}
 use Rattle.statement_replies.specs.declared.replies.Reply.{Reply}
 use Rattle.statement_replies.specs.declared.style.Style.{Style}
 use Rattle.statement_answers.specs.declared.outcome.Offer.{Offer}
 use Rattle.statement_answers.specs.declared.outcome.Outcome.TheVariants.{Replied}
-use Rattle.statement_answers.specs.Inner.Made.{HasChunks, HasPlan, IsMadeIn, leaves_made, outcome_with}
-use Rattle.statement_answers.specs.Outcomes.{HasOutcomeKind, IsMadeOf, IsOutcomeOf, change_leaves, newest_leaf}
+use Rattle.statement_answers.specs.Inner.Made.{HasChunks, HasPlan, IsMadeIn, outcome_with}
+use Rattle.statement_answers.specs.Outcomes.{HasOutcomeKind, IsMadeOf, IsOutcomeOf}
 
 -- ---- the chunks of a change
 
@@ -66,19 +62,3 @@ fault_kind style names (RemoveVersions name below) broken reply has e = absurd h
 pub fault_told : (style : Style) (db : Database) (change : Change) (broken : Broken) (reply : Reply) → fault_of_change db change ≡ Some broken → reply ≡ cell_reply broken
     → reply_to_typed style db (AChange change) ≡ without_change reply
 fault_told style db change broken reply fault e = ap (changed_or_broken (names_of db) change) fault ∙ ap without_change (sym e)
-
--- ---- what is asked for
-
--- the leaves of the plan come first
-pub front_of_plan : (names : Names) (change : Change) (old new : SourceState) → AsksFront (asked_of old 0 (plan_leaves change)) old new → AsksFront (asked_of old 0 (change_leaves names change)) old new
-front_of_plan names (Create name schema) old new front = front
-front_of_plan names (Store name schema plan) old new front = front
-front_of_plan names (Insert name schema plan) old new front = front_plan plan (newest_leaf names name schema) old new front
-front_of_plan names (Remove name) old new front = front
-front_of_plan names (RemoveVersions name below) old new front = front
-
--- all of them, whether the change has a fault or not
-pub front_made : (names : Names) (change : Change) (made : Result (Option Changed) Broken) (old new : SourceState) → new.asked ≡ old.asked ++ asked_of old 0 (leaves_made names change made)
-    → AsksFront (asked_of old 0 (change_leaves names change)) old new
-front_made names change (Ok changed) old new asked = asked_all (asked_of old 0 (change_leaves names change)) old new asked
-front_made names change (Err broken) old new asked = front_of_plan names change old new (asked_all (asked_of old 0 (plan_leaves change)) old new asked)

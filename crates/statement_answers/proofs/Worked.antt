@@ -3,6 +3,9 @@
 use Rattle.std.proofs.Common.{◌≡◌, ℕ, pos, true, None, Ok, List, [], ◌∷◌, refl, arith}
 use Rattle.std.specs.Prelude.{codes}
 use Rattle.cell_values.specs.declared.name.Span.{Span}
+use Rattle.cell_values.specs.declared.datum.Cell.TheVariants.{Full}
+use Rattle.cell_values.specs.declared.datum.Datum.TheVariants.{Int}
+use Rattle.cell_values.specs.declared.datum.Row.{Row}
 use Rattle.cell_values.specs.declared.schema.Schema.{Schema}
 use Rattle.cell_values.specs.declared.schema.Kind.TheVariants.{Int64}
 use Rattle.schema_grammar.specs.declared.kinds.TypeKind.TheVariants.{UnknownArray}
@@ -18,15 +21,16 @@ use Rattle.check_rules.specs.Checked.{refused as broken_rule}
 use Rattle.check_rules.specs.Operators.{query_named, change_named}
 use Rattle.afl_types.specs.Checking.{check_of}
 use Rattle.afl_types.specs.declared.statements.checking.Typed.TheVariants.{Change as AChange, Versions}
-use Rattle.chunk_source.specs.Source.{SourceState}
+use Rattle.chunk_source.specs.Source.{SourceState, asks}
 use Rattle.result_print.specs.declared.refusal.Refusal.TheVariants.{Typing}
 use Rattle.statement_replies.specs.Reply.{refused}
+use Rattle.statement_replies.specs.declared.replies.Reply.{Reply}
 use Rattle.statement_replies.specs.Statements.{reply_to, text_alone}
 use Rattle.statement_replies.specs.declared.style.Style.{Style}
 use Rattle.statement_answers.specs.declared.outcome.Outcome.{Outcome}
 use Rattle.statement_answers.specs.declared.outcome.Outcome.TheVariants.{Replied, Changes}
 use Rattle.statement_answers.specs.Forms.{a_change, a_listing, form_said}
-use Rattle.statement_answers.specs.Outcomes.{HasOutcomeKind, IsOutcomeOf, IsToldBy, change_leaves}
+use Rattle.statement_answers.specs.Outcomes.{HasOutcomeKind, IsOutcomeOf, IsToldBy, all_asked, asked_for}
 
 at : ℕ → ℕ → Span
 at a b = record { start = a; end = b }
@@ -55,10 +59,34 @@ change_is : check_of tree [] both ≡ Ok (AChange change)
 unfolding tree both entry line change at query_named change_named
 change_is = refl
 
--- version 2 of B is read, and then version 3 of A, its newest one
-reads : change_leaves both change ≡ record { name = codes "B"; version = 2; schema = line } ∷ record { name = codes "A"; version = 3; schema = line } ∷ []
-unfolding both entry change
-reads = refl
+-- each version has one chunk
+abbrev source : SourceState
+source = record {
+  stored = λ name version. None;
+  chunks = λ name version. record { items = 0 ∷ [] } ∷ [];
+  tells = λ rows. rows ≡ (λ name version. []);
+  asked = [];
+  damaged = None;
+  faults = 0;
+}
+
+row : Row
+row = record { at = record { items = pos 1 ∷ [] }; cell = Full (Int (pos 7) ∷ []) }
+
+-- that of version 2 of B is asked for, and where a row is put in, then that of version 3 of A, its newest one
+puts_one : all_asked (row ∷ []) source both (Ok (AChange change)) ≡ asks 0 (record { items = 0 ∷ [] }) ∷ asks 1 (record { items = 0 ∷ [] }) ∷ []
+unfolding both entry change line row
+puts_one = refl
+
+-- where none is put in, none of A
+puts_none : all_asked [] source both (Ok (AChange change)) ≡ asks 0 (record { items = 0 ∷ [] }) ∷ []
+unfolding both entry change line
+puts_none = refl
+
+-- nor where the change is refused
+refused_asks : (reply : Reply) → asked_for (row ∷ []) source both (Ok (AChange change)) (Replied reply) ≡ asks 0 (record { items = 0 ∷ [] }) ∷ []
+unfolding both entry change line row
+refused_asks reply = refl
 
 -- where B isn't stored a rule is broken, and the outcome is a refusal
 alone : Names
@@ -92,8 +120,8 @@ short = record { attributes = record { name = codes "v"; kind = Int64; nullable 
 abbrev db : Database
 db = record { name = codes "A"; schema = short; next = 1; versions = [] } ∷ []
 
-abbrev source : SourceState
-source = record { stored = λ name version. None; chunks = λ name version. []; tells = λ rows. rows ≡ rows_of db; asked = []; damaged = None; faults = 0 }
+abbrev short_source : SourceState
+short_source = record { stored = λ name version. None; chunks = λ name version. []; tells = λ rows. rows ≡ rows_of db; asked = []; damaged = None; faults = 0 }
 
 database : IsDatabase db
 database = record {
@@ -108,7 +136,7 @@ database = record {
   rows = (tt, tt);
 }
 
-told : IsToldBy (names_of db) source db
+told : IsToldBy (names_of db) short_source db
 told = record { database = database; named = refl; tells = refl }
 
 -- remove(A)

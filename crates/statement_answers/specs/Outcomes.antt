@@ -1,10 +1,10 @@
 -- What comes of a statement over the arrays of a source: a reply, or a change that may be committed.
-use Rattle.std.specs.Prelude.{◌≡◌, ℕ, List, [], ◌∷◌, ◌++◌, Option, None, Some, Ok, Err, IfSome}
+use Rattle.std.specs.Prelude.{◌≡◌, ℕ, List, [], Option, None, Some, Ok, Err, IfSome}
+use Rattle.cell_values.specs.declared.datum.Row.{Row}
 use Rattle.cell_values.specs.declared.schema.Schema.{Schema}
 use Rattle.array_geom.specs.declared.chunk.Changed.{Changed}
 use Rattle.logical_plan.specs.declared.names.Names.{Names}
 use Rattle.logical_plan.specs.declared.parts.Leaf.{Leaf}
-use Rattle.logical_plan.specs.Leaves.{leaves}
 use Rattle.plan_changes.specs.declared.change.Change.{Change}
 use Rattle.plan_changes.specs.declared.change.Change.TheVariants.{Create, Store, Insert, Remove, RemoveVersions}
 use Rattle.plan_changes.specs.Changes.{newest_of}
@@ -18,10 +18,10 @@ use Rattle.afl_types.specs.declared.statements.checking.Typed.TheVariants.{Query
 use Rattle.chunk_source.specs.declared.reading.fault.ExecFault.{ExecFault}
 use Rattle.chunk_source.specs.declared.reading.fault.ExecFault.TheVariants.{Source, Damaged, Memory}
 use Rattle.chunk_source.specs.declared.sources.asked.Asked.{Asked}
-use Rattle.chunk_source.specs.Reading.{asked_of}
 use Rattle.chunk_source.specs.Source.{SourceState}
+use Rattle.chunk_exec.specs.Computed.{asked_for_plan}
 use Rattle.commit_pages.specs.Changes.{AreValid, ComesWith, IsChangeOf}
-use Rattle.changed_chunks.specs.Changing.{plan_leaves}
+use Rattle.changed_chunks.specs.Changing.{asked_of_plan, asked_with, rows_put}
 use Rattle.statement_replies.specs.StatementKinds.{HasStatementKind}
 use Rattle.statement_replies.specs.Statements.{Accepted, change_reply, without_change}
 use Rattle.statement_replies.specs.declared.style.Style.{Style}
@@ -72,43 +72,54 @@ abbrev pub IsOutcomeOf : Database → Accepted → Outcome → Type 0
 IsOutcomeOf db answer (Replied reply) = answer ≡ without_change reply
 IsOutcomeOf db answer (Changes change changed reply) = (answer ≡ record { reply = reply; change = Some change }) × IsMadeOf db change changed
 
--- ---- what is read
+-- ---- what is asked for
 
 -- the newest version of an array by these names, version 0 where there is none
 abbrev pub newest_leaf : Names → List ℕ → Schema → Leaf
 newest_leaf names name schema = record { name = name; version = newest_of names.arrays name; schema = schema }
 
--- the leaves of a change's plan, and behind them an insert's target
-abbrev pub change_leaves : Names → Change → List Leaf
-change_leaves names (Create name schema) = []
-change_leaves names (Store name schema plan) = leaves plan
-change_leaves names (Insert name schema plan) = leaves plan ++ newest_leaf names name schema ∷ []
-change_leaves names (Remove name) = []
-change_leaves names (RemoveVersions name below) = []
+-- the rows that a statement puts in, in a database, where it is a change
+abbrev pub rows_put_by : Database → Checked Typed → List Row
+rows_put_by db (Ok (AQuery plan)) = []
+rows_put_by db (Ok (AChange change)) = rows_put db change
+rows_put_by db (Ok (Versions name)) = []
+rows_put_by db (Ok (Show name)) = []
+rows_put_by db (Ok ListArrays) = []
+rows_put_by db (Err breach) = []
 
--- all that a statement may read. A listing and a broken rule read nothing
-abbrev pub leaves_for : Names → Checked Typed → List Leaf
-leaves_for names (Ok (AQuery plan)) = leaves plan
-leaves_for names (Ok (AChange change)) = change_leaves names change
-leaves_for names (Ok (Versions name)) = []
-leaves_for names (Ok (Show name)) = []
-leaves_for names (Ok ListArrays) = []
-leaves_for names (Err breach) = []
+-- all that a change asks for where it puts these rows in: the chunks that its plan needs, and behind them the chunks of an insert's target, the
+-- newest version by these names, that are wanted for the rows
+abbrev pub all_of_change : List Row → SourceState → Names → Change → List Asked
+all_of_change rows source names (Create name schema) = []
+all_of_change rows source names (Store name schema plan) = asked_for_plan source plan
+all_of_change rows source names (Insert name schema plan) = asked_with rows source (Insert name schema plan) (newest_leaf names name schema)
+all_of_change rows source names (Remove name) = []
+all_of_change rows source names (RemoveVersions name below) = []
 
--- a change that is refused for its fault has read the leaves of its plan alone
-abbrev pub change_read : Names → Change → Outcome → List Leaf
-change_read names change (Replied reply) = plan_leaves change
-change_read names change (Changes made changed reply) = change_leaves names change
+-- all that a statement asks for. A listing and a broken rule ask for nothing
+abbrev pub all_asked : List Row → SourceState → Names → Checked Typed → List Asked
+all_asked rows source names (Ok (AQuery plan)) = asked_for_plan source plan
+all_asked rows source names (Ok (AChange change)) = all_of_change rows source names change
+all_asked rows source names (Ok (Versions name)) = []
+all_asked rows source names (Ok (Show name)) = []
+all_asked rows source names (Ok ListArrays) = []
+all_asked rows source names (Err breach) = []
 
--- what is read for an outcome
-abbrev pub leaves_read : Names → Checked Typed → Outcome → List Leaf
-leaves_read names (Ok (AQuery plan)) outcome = leaves plan
-leaves_read names (Ok (AChange change)) outcome = change_read names change outcome
-leaves_read names (Ok (Versions name)) outcome = []
-leaves_read names (Ok (Show name)) outcome = []
-leaves_read names (Ok ListArrays) outcome = []
-leaves_read names (Err breach) outcome = []
+-- a change that is refused for its fault has asked for the chunks that its plan needs alone
+abbrev pub asked_by_change : List Row → SourceState → Names → Change → Outcome → List Asked
+asked_by_change rows source names change (Replied reply) = asked_of_plan source change
+asked_by_change rows source names change (Changes made changed reply) = all_of_change rows source names change
 
--- each listed chunk of each of them, once
-abbrev pub asked_for : SourceState → Names → Checked Typed → Outcome → List Asked
-asked_for source names checked outcome = asked_of source 0 (leaves_read names checked outcome)
+-- what is asked for, each chunk once, where this comes of a statement
+abbrev pub asked_for : List Row → SourceState → Names → Checked Typed → Outcome → List Asked
+asked_for rows source names (Ok (AQuery plan)) outcome = asked_for_plan source plan
+asked_for rows source names (Ok (AChange change)) outcome = asked_by_change rows source names change outcome
+asked_for rows source names (Ok (Versions name)) outcome = []
+asked_for rows source names (Ok (Show name)) outcome = []
+asked_for rows source names (Ok ListArrays) outcome = []
+asked_for rows source names (Err breach) outcome = []
+
+-- it holds for the rows that a statement puts in, in each database that the source tells; and whatever the source tells, it holds for some
+pub record ForRowsPut (names : Names) (source : SourceState) (checked : Checked Typed) (Holds : List Row → Type 0) : Type 0 where
+  pub told : (db : Database) → IsToldBy names source db → Holds (rows_put_by db checked)
+  pub some : (rows : List Row) × Holds rows

@@ -1,7 +1,6 @@
 //! Changes: the chunks that they write, and what they are answered.
 ghost use Rattle.std.specs.Prelude.{◌≡◌, ◌≤◌, ◌++◌, None, Ok as Good, IfOk, OnErr};
 ghost use Rattle.chunk_source.specs.Faults.{Answers};
-ghost use Rattle.chunk_source.specs.Reading.{asked_of};
 ghost use Rattle.chunk_source.specs.Source.{AsksFront, Keeps};
 ghost use Rattle.plan_changes.specs.Databases.{Database};
 ghost use Rattle.plan_changes.specs.Stored.{AreStored};
@@ -11,8 +10,8 @@ ghost use Rattle.statement_replies.specs.Reading.{HoldsVersions};
 ghost use Rattle.statement_replies.specs.Reply.{cell_reply};
 ghost use Rattle.statement_replies.specs.Statements.{change_reply, reply_to_typed};
 ghost use Rattle.statement_replies.specs.declared.style.Style.{Style};
-ghost use Rattle.statement_answers.specs.Inner.Made.{HasChunks, IsMadeIn, IsPutUnder, leaves_made, outcome_with};
-ghost use Rattle.statement_answers.specs.Outcomes.{HasOutcomeKind, IsOutcomeOf, IsToldBy, asked_for, change_leaves, newest_leaf};
+ghost use Rattle.statement_answers.specs.Inner.Made.{HasChunks, IsMadeIn, IsPutUnder, asked_made, outcome_with};
+ghost use Rattle.statement_answers.specs.Outcomes.{ForRowsPut, HasOutcomeKind, IsOutcomeOf, IsToldBy, all_of_change, asked_by_change, newest_leaf};
 
 use crate::outcome::{Offer, Outcome, outcome_with};
 use afl_outside::Gate;
@@ -60,9 +59,11 @@ fn chunks_put<S: ChunkSource, R: Threads + Sync, G: Gate>(
     ensures kind { IfOk result (HasChunks change.now) }
     ensures told { IfOk result (λ made. (db : Database) → IsToldBy names.now (S.state source.old) db → IsMadeIn db change.now made) }
     ensures asked { let old = S.state source.old in
-        IfOk result (λ made. (S.state source.new).asked ≡ old.asked ++ asked_of old 0 (leaves_made names.now change.now made)) }
+        IfOk result (λ made. ForRowsPut names.now old (Good (AChange change.now)) (λ rows.
+        (S.state source.new).asked ≡ old.asked ++ asked_made rows old names.now change.now made)) }
     ensures front { let old = S.state source.old in
-        OnErr result (AsksFront (asked_of old 0 (change_leaves names.now change.now)) old (S.state source.new)) }
+        OnErr result (ForRowsPut names.now old (Good (AChange change.now)) (λ rows.
+        AsksFront (all_of_change rows old names.now change.now) old (S.state source.new))) }
     ensures kept { Keeps (S.state source.old) (S.state source.new) }
     ensures cause { Answers (S.state source.old) (S.state source.new) result }
     ensures start { S.start source.new ≡ S.start source.old }
@@ -93,9 +94,11 @@ fn chunks_of<S: ChunkSource, R: Threads + Sync, G: Gate>(
     ensures kind { IfOk result (HasChunks change.now) }
     ensures told { IfOk result (λ made. (db : Database) → IsToldBy names.now (S.state source.old) db → IsMadeIn db change.now made) }
     ensures asked { let old = S.state source.old in
-        IfOk result (λ made. (S.state source.new).asked ≡ old.asked ++ asked_of old 0 (leaves_made names.now change.now made)) }
+        IfOk result (λ made. ForRowsPut names.now old (Good (AChange change.now)) (λ rows.
+        (S.state source.new).asked ≡ old.asked ++ asked_made rows old names.now change.now made)) }
     ensures front { let old = S.state source.old in
-        OnErr result (AsksFront (asked_of old 0 (change_leaves names.now change.now)) old (S.state source.new)) }
+        OnErr result (ForRowsPut names.now old (Good (AChange change.now)) (λ rows.
+        AsksFront (all_of_change rows old names.now change.now) old (S.state source.new))) }
     ensures kept { Keeps (S.state source.old) (S.state source.new) }
     ensures cause { Answers (S.state source.old) (S.state source.new) result }
     ensures start { S.start source.new ≡ S.start source.old }
@@ -155,9 +158,11 @@ fn offer_of<S: ChunkSource, R: Threads + Sync, G: Gate>(
     ensures told { IfOk result (λ offer. (style : Style) (db : Database) → IsToldBy names.now (S.state source.old) db
         → IsOutcomeOf db (reply_to_typed style db (AChange change.now)) (outcome_with change.now offer)) }
     ensures asked { let old = S.state source.old in
-        IfOk result (λ offer. (S.state source.new).asked ≡ old.asked ++ asked_for old names.now (Good (AChange change.now)) (outcome_with change.now offer)) }
+        IfOk result (λ offer. ForRowsPut names.now old (Good (AChange change.now)) (λ rows.
+        (S.state source.new).asked ≡ old.asked ++ asked_by_change rows old names.now change.now (outcome_with change.now offer))) }
     ensures front { let old = S.state source.old in
-        OnErr result (AsksFront (asked_of old 0 (change_leaves names.now change.now)) old (S.state source.new)) }
+        OnErr result (ForRowsPut names.now old (Good (AChange change.now)) (λ rows.
+        AsksFront (all_of_change rows old names.now change.now) old (S.state source.new))) }
     ensures kept { Keeps (S.state source.old) (S.state source.new) }
     ensures cause { Answers (S.state source.old) (S.state source.new) result }
     ensures start { S.start source.new ≡ S.start source.old }
@@ -189,9 +194,11 @@ pub(crate) fn outcome_of_change<S: ChunkSource, R: Threads + Sync, G: Gate>(
     ensures told { IfOk result (λ outcome. (style : Style) (db : Database) → IsToldBy names.now (S.state source.old) db
         → IsOutcomeOf db (reply_to_typed style db (AChange change)) outcome) }
     ensures asked { let old = S.state source.old in
-        IfOk result (λ outcome. (S.state source.new).asked ≡ old.asked ++ asked_for old names.now (Good (AChange change)) outcome) }
+        IfOk result (λ outcome. ForRowsPut names.now old (Good (AChange change)) (λ rows.
+        (S.state source.new).asked ≡ old.asked ++ asked_by_change rows old names.now change outcome)) }
     ensures front { let old = S.state source.old in
-        OnErr result (AsksFront (asked_of old 0 (change_leaves names.now change)) old (S.state source.new)) }
+        OnErr result (ForRowsPut names.now old (Good (AChange change)) (λ rows.
+        AsksFront (all_of_change rows old names.now change) old (S.state source.new))) }
     ensures kept { Keeps (S.state source.old) (S.state source.new) }
     ensures cause { Answers (S.state source.old) (S.state source.new) result }
     ensures start { S.start source.new ≡ S.start source.old }

@@ -3,7 +3,6 @@ ghost use Rattle.std.specs.Prelude.{◌≡◌, ◌≤◌, ◌++◌, None, Ok as 
 ghost use Rattle.check_exprs.specs.Laws.{leaves_fit};
 ghost use Rattle.chunk_exec.specs.Computed.{CanCompute};
 ghost use Rattle.chunk_source.specs.Faults.{Answers};
-ghost use Rattle.chunk_source.specs.Reading.{asked_of};
 ghost use Rattle.chunk_source.specs.Source.{AsksFront, Keeps};
 ghost use Rattle.plan_changes.specs.Databases.{Database};
 ghost use Rattle.plan_changes.specs.Stored.{AreStored};
@@ -12,7 +11,7 @@ ghost use Rattle.afl_types.specs.declared.statements.checking.Typed.TheVariants.
 ghost use Rattle.statement_replies.specs.Reading.{HoldsVersions};
 ghost use Rattle.statement_replies.specs.Statements.{reply_to, reply_to_typed};
 ghost use Rattle.statement_answers.specs.Inner.Made.{CanAnswer};
-ghost use Rattle.statement_answers.specs.Outcomes.{HasOutcomeKind, IsOutcomeOf, IsToldBy, MayFail, asked_for, leaves_for};
+ghost use Rattle.statement_answers.specs.Outcomes.{ForRowsPut, HasOutcomeKind, IsOutcomeOf, IsToldBy, MayFail, all_asked, asked_for};
 
 use crate::changes::outcome_of_change;
 use crate::outcome::Outcome;
@@ -45,9 +44,11 @@ fn outcome_of_query<S: ChunkSource, R: Threads + Sync, G: Gate>(
     ensures told { IfOk result (λ outcome. (db : Database) → IsToldBy names.now (S.state source.old) db
         → IsOutcomeOf db (reply_to_typed style db (AQuery plan.now)) outcome) }
     ensures asked { let old = S.state source.old in
-        IfOk result (λ outcome. (S.state source.new).asked ≡ old.asked ++ asked_for old names.now (Good (AQuery plan.now)) outcome) }
+        IfOk result (λ outcome. ForRowsPut names.now old (Good (AQuery plan.now)) (λ rows.
+        (S.state source.new).asked ≡ old.asked ++ asked_for rows old names.now (Good (AQuery plan.now)) outcome)) }
     ensures front { let old = S.state source.old in
-        OnErr result (AsksFront (asked_of old 0 (leaves_for names.now (Good (AQuery plan.now)))) old (S.state source.new)) }
+        OnErr result (ForRowsPut names.now old (Good (AQuery plan.now)) (λ rows.
+        AsksFront (all_asked rows old names.now (Good (AQuery plan.now))) old (S.state source.new))) }
     ensures kept { Keeps (S.state source.old) (S.state source.new) }
     ensures cause { Answers (S.state source.old) (S.state source.new) result }
     ensures start { S.start source.new ≡ S.start source.old }
@@ -78,9 +79,11 @@ fn outcome_of_typed<S: ChunkSource, R: Threads + Sync, G: Gate>(
     ensures kind { IfOk result (HasOutcomeKind style names.now (Good typed)) }
     ensures told { IfOk result (λ outcome. (db : Database) → IsToldBy names.now (S.state source.old) db → IsOutcomeOf db (reply_to_typed style db typed) outcome) }
     ensures asked { let old = S.state source.old in
-        IfOk result (λ outcome. (S.state source.new).asked ≡ old.asked ++ asked_for old names.now (Good typed) outcome) }
+        IfOk result (λ outcome. ForRowsPut names.now old (Good typed) (λ rows.
+        (S.state source.new).asked ≡ old.asked ++ asked_for rows old names.now (Good typed) outcome)) }
     ensures front { let old = S.state source.old in
-        OnErr result (AsksFront (asked_of old 0 (leaves_for names.now (Good typed))) old (S.state source.new)) }
+        OnErr result (ForRowsPut names.now old (Good typed) (λ rows.
+        AsksFront (all_asked rows old names.now (Good typed)) old (S.state source.new))) }
     ensures kept { Keeps (S.state source.old) (S.state source.new) }
     ensures cause { Answers (S.state source.old) (S.state source.new) result }
     ensures start { S.start source.new ≡ S.start source.old }
@@ -126,10 +129,12 @@ pub fn outcome_of<S: ChunkSource, R: Threads + Sync, G: Gate>(
         → IsOutcomeOf db (reply_to style db text.now tree.now) outcome) }
     ensures asked { let old = S.state source.old in
         let checked = check_of tree.now text.now names.now in
-        IfOk result (λ outcome. (S.state source.new).asked ≡ old.asked ++ asked_for old names.now checked outcome) }
+        IfOk result (λ outcome. ForRowsPut names.now old checked (λ rows.
+        (S.state source.new).asked ≡ old.asked ++ asked_for rows old names.now checked outcome)) }
     ensures front { let old = S.state source.old in
-        let all = leaves_for names.now (check_of tree.now text.now names.now) in
-        OnErr result (AsksFront (asked_of old 0 all) old (S.state source.new)) }
+        let checked = check_of tree.now text.now names.now in
+        OnErr result (ForRowsPut names.now old checked (λ rows.
+        AsksFront (all_asked rows old names.now checked) old (S.state source.new))) }
     ensures kept { Keeps (S.state source.old) (S.state source.new) }
     ensures cause { Answers (S.state source.old) (S.state source.new) result }
     ensures allowed { IfErr result (λ fault. MayFail fault (check_of tree.now text.now names.now)) }

@@ -5,7 +5,7 @@ use Rattle.afl_trees.specs.Term.{Term}
 use Rattle.afl_types.specs.Checking.{check_of}
 use Rattle.chunk_source.specs.declared.reading.fault.ExecFault.{ExecFault}
 use Rattle.session_turns.specs.Outcome.{Outcome}
-use Rattle.session_turns.specs.Outcomes.{asked_for, MayFail}
+use Rattle.session_turns.specs.Outcomes.{asked_for, ForRowsPut, MayFail}
 use Rattle.statement_replies.specs.declared.style.Style.{Style}
 use Rattle.store_ledger.specs.declared.pinned.Pinned.{Pinned}
 use Rattle.store_ledger.specs.Ledger.{is_fault, is_noted}
@@ -28,8 +28,8 @@ pub record WasRead {D : Type 0} (style : Style) (moment : D → Moment) (shared 
   pub marks : Marks
   pub read : HasRead moment (reading_of shared pinned old new marks)
   pub comes : IfOk result (ComesOver style pinned.names (pinned_state moment (unread shared pinned old)) text tree)
-  pub asked : IfOk result (λ outcome. marks.asked
-      ≡ asked_for (pinned_state moment (unread shared pinned old)) pinned.names (check_of tree text pinned.names) outcome)
+  pub asked : IfOk result (λ outcome. ForRowsPut pinned.names (pinned_state moment (unread shared pinned old)) (check_of tree text pinned.names) (λ rows.
+      marks.asked ≡ asked_for rows (pinned_state moment (unread shared pinned old)) pinned.names (check_of tree text pinned.names) outcome))
   pub why : IfErr result (SaysWhy moment (reading_of shared pinned old new marks))
   pub allowed : IfErr result (λ fault. MayFail fault (check_of tree text pinned.names))
 

@@ -1,10 +1,10 @@
 -- What is made of a change before its outcome.
 use Rattle.std.specs.Prelude.{◌≡◌, ℕ, List, Option, Some, Result, Ok, Err, IfSome, IsTrue}
 use Rattle.cell_values.specs.declared.datum.Broken.{Broken}
+use Rattle.cell_values.specs.declared.datum.Row.{Row}
 use Rattle.cell_values.specs.declared.schema.Schema.{Schema}
 use Rattle.array_geom.specs.declared.chunk.Changed.{Changed}
 use Rattle.logical_plan.specs.declared.names.Names.{Names}
-use Rattle.logical_plan.specs.declared.parts.Leaf.{Leaf}
 use Rattle.plan_changes.specs.declared.change.Change.{Change}
 use Rattle.plan_changes.specs.declared.change.Change.TheVariants.{Create, Store, Insert, Remove, RemoveVersions}
 use Rattle.plan_changes.specs.Changes.{has_array}
@@ -13,14 +13,15 @@ use Rattle.plan_changes.specs.Typed.{IsTypedFor}
 use Rattle.afl_types.specs.declared.statements.checking.Typed.{Typed}
 use Rattle.afl_types.specs.declared.statements.checking.Typed.TheVariants.{Query as AQuery, Change as AChange, Versions, Show, ListArrays}
 use Rattle.chunk_exec.specs.Computed.{CanCompute}
+use Rattle.chunk_source.specs.declared.sources.asked.Asked.{Asked}
 use Rattle.chunk_source.specs.Source.{SourceState}
 use Rattle.commit_pages.specs.Changes.{AreValid, ComesWith}
-use Rattle.changed_chunks.specs.Changing.{plan_leaves}
+use Rattle.changed_chunks.specs.Changing.{asked_of_plan}
 use Rattle.statement_replies.specs.declared.replies.Reply.{Reply}
 use Rattle.statement_answers.specs.declared.outcome.Offer.{Offer}
 use Rattle.statement_answers.specs.declared.outcome.Outcome.{Outcome}
 use Rattle.statement_answers.specs.declared.outcome.Outcome.TheVariants.{Replied, Changes}
-use Rattle.statement_answers.specs.Outcomes.{IsMadeOf, change_leaves}
+use Rattle.statement_answers.specs.Outcomes.{IsMadeOf, all_of_change}
 
 -- the change puts a version under this name, with this schema
 abbrev pub IsPutUnder : List ℕ → Schema → Change → Type 0
@@ -48,10 +49,10 @@ abbrev pub IsMadeIn : Database → Change → Result (Option Changed) Broken →
 IsMadeIn db change (Ok changed) = IsMadeOf db change changed
 IsMadeIn db change (Err broken) = fault_of_change db change ≡ Some broken
 
--- what is read for them
-abbrev pub leaves_made : Names → Change → Result (Option Changed) Broken → List Leaf
-leaves_made names change (Ok changed) = change_leaves names change
-leaves_made names change (Err broken) = plan_leaves change
+-- what is asked for for them, where the change puts these rows in
+abbrev pub asked_made : List Row → SourceState → Names → Change → Result (Option Changed) Broken → List Asked
+asked_made rows source names change (Ok changed) = all_of_change rows source names change
+asked_made rows source names change (Err broken) = asked_of_plan source change
 
 -- the outcome of a change that is offered or refused
 abbrev pub outcome_with : Change → Result Offer Reply → Outcome

@@ -17,7 +17,7 @@ returns-in-Ok g c =
       none = e.none;
       answered = tree_is_answered c.args.options.now.style g.D.Disk.moment (start g.D.Disk.moment c.args.shared.now) (session_of c.args.seat) (last_place c.args.seat) (seen c.args.seat) (seen c.answer_tree.result.1)
           c.args.text.now c.answer_tree.result.0 c.in-Ok.tree e.answered p.only_tree p.only_stop;
-      reads = λ t derives accepted. subst (λ one. ReadsOnce (start g.D.Disk.moment c.args.shared.now) (session_of c.args.seat) (seen c.args.seat) (seen c.answer_tree.result.1)
+      reads = λ t derives accepted. subst (λ one. ReadsOnce g.D.Disk.moment (start g.D.Disk.moment c.args.shared.now) (session_of c.args.seat) (seen c.args.seat) (seen c.answer_tree.result.1)
           c.args.text.now one (read_count c.args.seat) (read_count c.answer_tree.result.1)) (p.only_tree t derives) (e.reads accepted);
     }
 

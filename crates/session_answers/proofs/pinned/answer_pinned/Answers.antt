@@ -1,6 +1,7 @@
 use Rattle.std.proofs.Common.{◌∙◌, Ok, ap, subst, sym}
-use Rattle.session_turns.specs.Seats.{seen}
+use Rattle.session_turns.specs.Seats.{read_count, seen, start}
 use Rattle.session_answers.specs.Inner.Steps.{WasRead}
+use Rattle.session_answers.specs.Reads.{CountsAt}
 use Rattle.session_answers.proofs.Readings.{change_is_read, database_now, no_act, replied_is_answered, unread_is_answered}
 use Rattle.session_answers.proofs.Counting.{change_counts, replied_counts, unread_refuses}
 use Rattle.session_answers.proofs.pinned.answer_pinned.Goals as goal
@@ -18,7 +19,7 @@ returns-in-Ok-Replied g c =
       pin = w.read.pin;
       answered = replied_is_answered style moment c.args.shared.now c.args.pinned.now c.args.seat seat c.args.text.now c.args.tree.now
           r.database r.untried c.in-Ok-Replied.words c.at_place.result w e.words (e.place ∙ c.behind-place.ensures);
-      reads = λ accepted. replied_counts style moment c.args.shared.now c.args.pinned.now c.args.seat seat c.args.text.now c.args.tree.now c.in-Ok-Replied.words w
+      reads = λ accepted. replied_counts style moment c.args.shared.now c.args.pinned.now c.args.seat seat c.args.text.now c.args.tree.now r.database c.in-Ok-Replied.words w
           (sym (ap (λ words. words.refusal) e.words) ∙ accepted);
     }
 
@@ -114,6 +115,7 @@ returns-in-Ok-Changes g c =
       pin = e.pin;
       answered = e.answered (seen c.args.seat) w.read.adds.own
           (no_act style moment c.args.shared.now c.args.pinned.now c.args.seat seat c.args.text.now c.args.tree.now r.database r.untried _ w);
-      reads = λ accepted. e.reads ∙ change_counts style moment c.args.shared.now c.args.pinned.now c.args.seat seat c.args.text.now c.args.tree.now
-          c.in-Ok-Changes.change c.in-Ok-Changes.changed c.in-Ok-Changes.reply w;
+      reads = λ accepted. subst (CountsAt moment (start moment c.args.shared.now) (seen c.args.seat) c.args.pinned.now.place c.args.pinned.now.names c.args.text.now c.args.tree.now (read_count c.args.seat)) (sym e.reads)
+          (change_counts style moment c.args.shared.now c.args.pinned.now c.args.seat seat c.args.text.now c.args.tree.now r.database
+          c.in-Ok-Changes.change c.in-Ok-Changes.changed c.in-Ok-Changes.reply w);
     }

@@ -1,7 +1,7 @@
-use Rattle.std.proofs.Common.{sym, subst}
+use Rattle.std.proofs.Common.{◌≡◌, ◌++◌, Ok, sym, subst}
 use Rattle.afl_types.specs.declared.statements.checking.Typed.TheVariants.{Change as AChange}
 use Rattle.statement_replies.specs.Statements.{reply_to_typed}
-use Rattle.statement_answers.specs.Outcomes.{HasOutcomeKind, IsOutcomeOf}
+use Rattle.statement_answers.specs.Outcomes.{ForRowsPut, HasOutcomeKind, IsOutcomeOf, asked_by_change}
 use Rattle.statement_answers.proofs.Answering.{good}
 use Rattle.statement_answers.proofs.changes.outcome_of_change.Goals as goal
 
@@ -12,3 +12,10 @@ returns-in-Ok-clause-kind g c style =
 pub returns-in-Ok-clause-told : goal.returns-in-Ok-clause-told
 returns-in-Ok-clause-told g c style db there =
     subst (IsOutcomeOf db (reply_to_typed style db (AChange c.args.change))) (sym c.outcome_with.ensures) (c.in-Ok.ensures.told style db there)
+
+pub returns-in-Ok-clause-asked : goal.returns-in-Ok-clause-asked
+returns-in-Ok-clause-asked g c =
+    let old = g.S.ChunkSource.state c.args.source.now in
+    let new = g.S.ChunkSource.state c.offer_of.new.source in
+    subst (λ outcome. ForRowsPut c.args.names.now old (Ok (AChange c.args.change)) (λ rows. new.asked ≡ old.asked ++ asked_by_change rows old c.args.names.now c.args.change outcome)) (sym c.outcome_with.ensures)
+    c.in-Ok.ensures.asked

@@ -4,13 +4,14 @@ use Rattle.check_rules.specs.Checked.{refused as broken_rule}
 use Rattle.check_rules.specs.declared.rules.fault.TypeFault.{TypeFault}
 use Rattle.afl_types.specs.Checking.{check_of}
 use Rattle.afl_types.specs.declared.statements.checking.Typed.{Typed}
-use Rattle.chunk_source.proofs.ReadLemmas.{asked_none, on_err}
+use Rattle.chunk_source.proofs.ReadLemmas.{on_err}
 use Rattle.result_print.specs.declared.refusal.Refusal.TheVariants.{Typing}
 use Rattle.statement_replies.specs.Reply.{refused as told}
 use Rattle.statement_replies.specs.Statements.{without_change}
 use Rattle.statement_answers.specs.declared.outcome.Outcome.TheVariants.{Replied}
-use Rattle.statement_answers.specs.Outcomes.{leaves_read}
-use Rattle.statement_answers.proofs.Answering.{allowed_over, asked_over, can_answer, front_over, good, kind_over, nothing_read, over_names, told_over, wanting_over}
+use Rattle.statement_answers.specs.Outcomes.{asked_for}
+use Rattle.statement_answers.proofs.Answering.{allowed_over, asked_over, can_answer, front_over, good, kind_over, over_names, told_over, wanting_over}
+use Rattle.statement_answers.proofs.Asking.{none_asked, nothing_asked}
 use Rattle.statement_answers.proofs.statements.outcome_of.Goals as goal
 
 pub outcome_of_typed-requires-clause-can : goal.outcome_of_typed-requires-clause-can
@@ -62,15 +63,18 @@ returns-in_ok-refuse-in-Err-Rule-clause-asked g c =
     let checked = check_of c.args.tree.now c.args.text.now c.args.names.now in
     let rule = c.in-Err-Rule in
     let is : checked ≡ broken_rule rule.span rule.kind = subst (λ (f : TypeFault). Answers {A = Typed} (Err f) checked) rule.field-0-is rule.ensures in
-    nothing_read c.args.names.now checked c.in_ok-refuse-in-Err-Rule.field-0 (g.S.ChunkSource.state c.args.source.now)
-    (ap (λ (k : Checked Typed). leaves_read c.args.names.now k (Replied c.in_ok-refuse-in-Err-Rule.field-0)) is)
+    let source = g.S.ChunkSource.state c.args.source.now in
+    nothing_asked c.args.names.now source checked c.in_ok-refuse-in-Err-Rule.field-0
+    (λ rows. ap (λ (k : Checked Typed). asked_for rows source c.args.names.now k (Replied c.in_ok-refuse-in-Err-Rule.field-0)) is)
 
 pub returns-in_err-refuse-in-Err-Rule-clause-front : goal.returns-in_err-refuse-in-Err-Rule-clause-front
-returns-in_err-refuse-in-Err-Rule-clause-front g c = on_err _ _ (asked_none _ _ _ refl)
+returns-in_err-refuse-in-Err-Rule-clause-front g c =
+    on_err _ _ (none_asked c.args.names.now (g.S.ChunkSource.state c.args.source.now) (check_of c.args.tree.now c.args.text.now c.args.names.now) (g.S.ChunkSource.state c.args.source.now) refl)
 
 pub returns-in_err-refuse-in-Err-Rule-clause-allowed : goal.returns-in_err-refuse-in-Err-Rule-clause-allowed
 returns-in_err-refuse-in-Err-Rule-clause-allowed g c =
     wanting_over (check_of c.args.tree.now c.args.text.now c.args.names.now) c.from_residual.result c.from_residual.ensures.1
 
 pub returns-in-Err-Memory-clause-front : goal.returns-in-Err-Memory-clause-front
-returns-in-Err-Memory-clause-front g c = asked_none _ _ _ refl
+returns-in-Err-Memory-clause-front g c =
+    none_asked c.args.names.now (g.S.ChunkSource.state c.args.source.now) (check_of c.args.tree.now c.args.text.now c.args.names.now) (g.S.ChunkSource.state c.args.source.now) refl

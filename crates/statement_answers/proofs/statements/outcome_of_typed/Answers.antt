@@ -1,12 +1,13 @@
 use Rattle.std.proofs.Common.{Ok, refl, ap, subst}
 use Rattle.afl_types.specs.declared.statements.checking.Typed.{Typed}
 use Rattle.afl_types.specs.declared.statements.checking.Typed.TheVariants.{Query as AQuery, Change as AChange, Versions, Show, ListArrays}
-use Rattle.chunk_source.proofs.ReadLemmas.{asked_none, on_err}
+use Rattle.chunk_source.proofs.ReadLemmas.{on_err}
 use Rattle.statement_replies.specs.Statements.{list_reply, show_reply, versions_reply, without_change}
 use Rattle.statement_answers.specs.declared.outcome.Outcome.TheVariants.{Replied}
 use Rattle.statement_answers.specs.Inner.Made.{CanAnswer}
-use Rattle.statement_answers.specs.Outcomes.{HasOutcomeKind, leaves_read}
-use Rattle.statement_answers.proofs.Answering.{asked_over, front_over, good, in_style, kind_over, listing_told, nothing_read, told_in, told_over}
+use Rattle.statement_answers.specs.Outcomes.{HasOutcomeKind, asked_for}
+use Rattle.statement_answers.proofs.Answering.{asked_over, front_over, good, in_style, kind_over, listing_told, told_in, told_over}
+use Rattle.statement_answers.proofs.Asking.{none_asked, nothing_asked}
 use Rattle.statement_answers.proofs.statements.outcome_of_typed.Goals as goal
 
 pub outcome_of_query-outcome-requires-clause-can : goal.outcome_of_query-outcome-requires-clause-can
@@ -74,11 +75,13 @@ returns-in_ok-versions_reply-in-Versions-clause-told g c =
 
 pub returns-in_ok-versions_reply-in-Versions-clause-asked : goal.returns-in_ok-versions_reply-in-Versions-clause-asked
 returns-in_ok-versions_reply-in-Versions-clause-asked g c =
-    nothing_read c.args.names.now (good c.args.typed) c.in_ok-versions_reply-in-Versions.field-0 (g.S.ChunkSource.state c.args.source.now)
-    (ap (λ (t : Typed). leaves_read c.args.names.now (good t) (Replied c.in_ok-versions_reply-in-Versions.field-0)) c.in-Versions.is)
+    let source = g.S.ChunkSource.state c.args.source.now in
+    nothing_asked c.args.names.now source (good c.args.typed) c.in_ok-versions_reply-in-Versions.field-0
+    (λ rows. ap (λ (t : Typed). asked_for rows source c.args.names.now (good t) (Replied c.in_ok-versions_reply-in-Versions.field-0)) c.in-Versions.is)
 
 pub returns-in_err-versions_reply-in-Versions-clause-front : goal.returns-in_err-versions_reply-in-Versions-clause-front
-returns-in_err-versions_reply-in-Versions-clause-front g c = on_err _ _ (asked_none _ _ _ refl)
+returns-in_err-versions_reply-in-Versions-clause-front g c =
+    on_err _ _ (none_asked c.args.names.now (g.S.ChunkSource.state c.args.source.now) (good c.args.typed) (g.S.ChunkSource.state c.args.source.now) refl)
 
 pub returns-in_ok-show_reply-in-Show-clause-kind : goal.returns-in_ok-show_reply-in-Show-clause-kind
 returns-in_ok-show_reply-in-Show-clause-kind g c =
@@ -91,11 +94,13 @@ returns-in_ok-show_reply-in-Show-clause-told g c =
 
 pub returns-in_ok-show_reply-in-Show-clause-asked : goal.returns-in_ok-show_reply-in-Show-clause-asked
 returns-in_ok-show_reply-in-Show-clause-asked g c =
-    nothing_read c.args.names.now (good c.args.typed) c.in_ok-show_reply-in-Show.field-0 (g.S.ChunkSource.state c.args.source.now)
-    (ap (λ (t : Typed). leaves_read c.args.names.now (good t) (Replied c.in_ok-show_reply-in-Show.field-0)) c.in-Show.is)
+    let source = g.S.ChunkSource.state c.args.source.now in
+    nothing_asked c.args.names.now source (good c.args.typed) c.in_ok-show_reply-in-Show.field-0
+    (λ rows. ap (λ (t : Typed). asked_for rows source c.args.names.now (good t) (Replied c.in_ok-show_reply-in-Show.field-0)) c.in-Show.is)
 
 pub returns-in_err-show_reply-in-Show-clause-front : goal.returns-in_err-show_reply-in-Show-clause-front
-returns-in_err-show_reply-in-Show-clause-front g c = on_err _ _ (asked_none _ _ _ refl)
+returns-in_err-show_reply-in-Show-clause-front g c =
+    on_err _ _ (none_asked c.args.names.now (g.S.ChunkSource.state c.args.source.now) (good c.args.typed) (g.S.ChunkSource.state c.args.source.now) refl)
 
 pub returns-in_ok-list_reply-in-ListArrays-clause-kind : goal.returns-in_ok-list_reply-in-ListArrays-clause-kind
 returns-in_ok-list_reply-in-ListArrays-clause-kind g c =
@@ -108,8 +113,10 @@ returns-in_ok-list_reply-in-ListArrays-clause-told g c =
 
 pub returns-in_ok-list_reply-in-ListArrays-clause-asked : goal.returns-in_ok-list_reply-in-ListArrays-clause-asked
 returns-in_ok-list_reply-in-ListArrays-clause-asked g c =
-    nothing_read c.args.names.now (good c.args.typed) c.in_ok-list_reply-in-ListArrays.field-0 (g.S.ChunkSource.state c.args.source.now)
-    (ap (λ (t : Typed). leaves_read c.args.names.now (good t) (Replied c.in_ok-list_reply-in-ListArrays.field-0)) c.in-ListArrays.is)
+    let source = g.S.ChunkSource.state c.args.source.now in
+    nothing_asked c.args.names.now source (good c.args.typed) c.in_ok-list_reply-in-ListArrays.field-0
+    (λ rows. ap (λ (t : Typed). asked_for rows source c.args.names.now (good t) (Replied c.in_ok-list_reply-in-ListArrays.field-0)) c.in-ListArrays.is)
 
 pub returns-in_err-list_reply-in-ListArrays-clause-front : goal.returns-in_err-list_reply-in-ListArrays-clause-front
-returns-in_err-list_reply-in-ListArrays-clause-front g c = on_err _ _ (asked_none _ _ _ refl)
+returns-in_err-list_reply-in-ListArrays-clause-front g c =
+    on_err _ _ (none_asked c.args.names.now (g.S.ChunkSource.state c.args.source.now) (good c.args.typed) (g.S.ChunkSource.state c.args.source.now) refl)
