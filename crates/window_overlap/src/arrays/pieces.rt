@@ -102,7 +102,7 @@ impl Work<ChunkAt, Chunk> for OfArray<'_> {
     ghost gives = { λ of number made. IsPartAt of.target.now of.margins.now.items (window_rows of.reach.now of.aggs.now (cores_of of.array.now)) number made };
 
     fn size(&self, number: &ChunkAt) -> usize {
-        grid_of(self.schema, self.margins, number).volume() as usize
+        grid_of(self.target, self.margins, number).volume() as usize
     }
 
     fn work(&self, number: ChunkAt) -> Result<Chunk, Memory> {
