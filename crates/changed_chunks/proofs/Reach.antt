@@ -64,7 +64,7 @@ any_right b g (x ∷ xs) = ap (λ (z : Bool). (g x && b) || z) (any_right b g xs
     table true false false = refl
     table false q b = refl
 
-any_filter : {A : Type 0} (p q : A → Bool) (xs : List A) → list_any p (filter q xs) ≡ list_any (λ x. q x && p x) xs
+pub any_filter : {A : Type 0} (p q : A → Bool) (xs : List A) → list_any p (filter q xs) ≡ list_any (λ x. q x && p x) xs
 any_filter p q [] = refl
 any_filter p q (x ∷ xs) =
     cond_out (list_any p) (q x) (x ∷ filter q xs) (filter q xs)
@@ -136,15 +136,15 @@ below_any : (f : ℕ → Bool) (n k : ℕ) → k < n → f k ≡ true → list_a
 below_any f zero k l e = absurd (omega arith)
 below_any f (suc n) k l e = any_more f n ∙ by_case (cases_lt k n) (below_any f n k)
   where
+    last : (a b : Bool) → b ≡ true → (a || b) ≡ true
+    last true b t = refl
+    last false b t = t
+
     by_case : (k < n) ⊎ (n ≤ k) → (k < n → f k ≡ true → list_any f (below n) ≡ true) → (list_any f (below n) || f n) ≡ true
     by_case (inl less) ih = ap (λ (b : Bool). b || f n) (ih less e)
     by_case (inr least) ih =
         let same : k ≡ n = omega (arith, l, least) in
         last (list_any f (below n)) (f n) (ap f (sym same) ∙ e)
-
-    last : (a b : Bool) → b ≡ true → (a || b) ≡ true
-    last true b t = refl
-    last false b t = t
 
 -- ---- one dimension
 
@@ -314,10 +314,7 @@ module _ (d : Dimension) (m q : ℕ) (near : IsNear d) (core : first_in d q ≤�
 
 regroup : (a p c r : Bool) → ((a && p) && (c && r)) ≡ ((a && c) && (p && r))
 regroup false p c r = refl
-regroup true true c r = table c r
-  where
-    table : (c r : Bool) → (c && r) ≡ (c && r)
-    table c r = refl
+regroup true true c r = refl
 regroup true false true r = refl
 regroup true false false r = refl
 
@@ -383,6 +380,12 @@ any_number (d ∷ dims) f (q ∷ k) near h e =
 
 -- ---- the places near a chunk
 
+low_inside : (lo hi x : ℤ) → lo ≤ℤ hi → x ≤ℤ hi → (lo ≤ℤ int_max x lo) × (int_max x lo ≤ℤ hi)
+low_inside lo hi x o h = (omega (arith, ints, clamps), omega (arith, ints, clamps))
+
+high_inside : (lo hi y : ℤ) → lo ≤ℤ hi → lo ≤ℤ y → (lo ≤ℤ int_min y hi) × (int_min y hi ≤ℤ hi)
+high_inside lo hi y o h = (omega (arith, ints, clamps), omega (arith, ints, clamps))
+
 pub corners_inside : (dims : List Dimension) (margins : List ℕ) (k : ChunkNumber) → AreNear dims → length margins ≡ length dims → has_core dims k ≡ true
     → (is_inside (bounds_of dims) (places_near dims margins k).lo.items ≡ true) × (is_inside (bounds_of dims) (places_near dims margins k).hi.items ≡ true)
 corners_inside [] [] [] near n h = (refl, refl)
@@ -393,9 +396,9 @@ corners_inside (d ∷ dims) (m ∷ margins) [] near n h = absurd cc
 corners_inside (d ∷ dims) (m ∷ margins) (q ∷ k) near n h =
     let t = and_parts (int_le (first_in d q) d.hi) (has_core dims k) h in
     let has : first_in d q ≤ℤ d.hi = le_from_test _ _ t.0 in
-    let o = near.0.order in
+    let before : (first_in d q -ℤ pos m) ≤ℤ d.hi = omega (arith, ints, has) in
+    let behind : d.lo ≤ℤ (last_in d q +ℤ pos m) = omega (arith, ints) in
+    let low = low_inside d.lo d.hi (first_in d q -ℤ pos m) near.0.order before in
+    let high = high_inside d.lo d.hi (last_in d q +ℤ pos m) near.0.order behind in
     let more = corners_inside dims margins k near.1 (omega arith) t.1 in
-    (
-      and_both _ _ (and_both _ _ (le_test _ _ (omega (arith, ints, clamps, o))) (le_test _ _ (omega (arith, ints, clamps, o, has)))) more.0,
-      and_both _ _ (and_both _ _ (le_test _ _ (omega (arith, ints, clamps, o, has))) (le_test _ _ (omega (arith, ints, clamps, o)))) more.1,
-    )
+    (and_both _ _ (and_both _ _ (le_test _ _ low.0) (le_test _ _ low.1)) more.0, and_both _ _ (and_both _ _ (le_test _ _ high.0) (le_test _ _ high.1)) more.1)

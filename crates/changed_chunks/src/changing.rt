@@ -74,10 +74,11 @@ fn inserted<S: ChunkSource, R: Threads + Sync, G: Gate>(
     ensures told { IfOk result (λ made. (db : Database) → (S.state source.old).tells (rows_of db)
         → (name : Items ℕ) → version_rows (rows_of db) target.now.name target.now.version ≡ newest_rows db name
         → IsAnswerOver db (Insert name schema.now plan.now) made) }
-    ensures asked { let old = S.state source.old in
-        IfOk result (λ made. (S.state source.new).asked ≡ old.asked ++ asked_for old (Insert [] schema.now plan.now) target.now made) }
-    ensures front { let old = S.state source.old in
-        OnErr result (AsksFront (asked_of_all old (Insert [] schema.now plan.now) target.now) old (S.state source.new)) }
+    ensures asked { let old = S.state source.old in IfOk result (λ made. (db : Database) → old.tells (rows_of db)
+        → (S.state source.new).asked ≡ old.asked ++ asked_for db old (Insert [] schema.now plan.now) target.now made) }
+    ensures front { let old = S.state source.old in OnErr result ((db : Database) → old.tells (rows_of db)
+        → AsksFront (asked_of_all db old (Insert [] schema.now plan.now) target.now) old (S.state source.new)) }
+    ensures only { AsksOnly (S.state source.old) (S.state source.new) (Insert [] schema.now plan.now) target.now result }
     ensures kept { Keeps (S.state source.old) (S.state source.new) }
     ensures cause { Answers (S.state source.old) (S.state source.new) result }
     ensures start { S.start source.new ≡ S.start source.old }
