@@ -83,9 +83,13 @@ fn inserted<S: ChunkSource, R: Threads + Sync, G: Gate>(
     ensures cause { Answers (S.state source.old) (S.state source.new) result }
     ensures start { S.start source.new ≡ S.start source.old }
 {
-    match input_of(rt, alloc, plan, schema, source, workers, session, gate)? {
-        Ok(input) => Ok(Ok(put_over_target(alloc, plan, schema, input, target, source)?)),
-        Err(broken) => Ok(Err(broken)),
+    match input_of(rt, alloc, plan, schema, source, workers, session, gate) {
+        Ok(Ok(input)) => match put_over_target(alloc, plan, schema, input, target, source) {
+            Ok(changed) => Ok(Ok(changed)),
+            Err(fault) => Err(fault),
+        },
+        Ok(Err(broken)) => Ok(Err(broken)),
+        Err(fault) => Err(fault),
     }
 }
 
