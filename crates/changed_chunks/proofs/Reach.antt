@@ -10,13 +10,15 @@ use Rattle.std.proofs.Math.Nat.{div-mul-le_self, lt-div-mul-add}
 use Rattle.cell_values.specs.declared.datum.Row.{Row}
 use Rattle.cell_values.specs.declared.schema.Bounds.{Bounds}
 use Rattle.cell_values.specs.declared.schema.Dimension.{Dimension}
+use Rattle.cell_values.specs.declared.schema.Schema.{Schema}
 use Rattle.array_rows.specs.Boxes.{bounds_of, is_between, is_inside, within}
 use Rattle.array_rows.specs.Rows.{Coordinate}
 use Rattle.array_rows.proofs.RowsLemmas.{cond_out}
-use Rattle.array_geom.specs.Geometry.{ChunkNumber, chunk_of, core_meets, first_in, frame, has_core, last_in, overlaps}
+use Rattle.array_geom.specs.Geometry.{ChunkNumber, HasFrame, chunk_of, core_meets, first_in, frame, has_core, last_in, overlaps}
 use Rattle.array_geom.specs.Inner.Ranges.{AreNear, IsNear}
 use Rattle.array_geom.specs.Link.{is_not_empty}
-use Rattle.array_geom.proofs.CoreLaws.{up_to_the_end}
+use Rattle.array_geom.proofs.CoreLaws.{chunk_has_core, up_to_the_end}
+use Rattle.array_geom.proofs.NearLemmas.{valid_placed}
 use Rattle.array_geom.proofs.PlaceLaws.{above}
 use Rattle.array_geom.proofs.TestLaws.{and_both, and_parts, le_from_test, le_test}
 use Rattle.commit_costs.specs.Lengths.{meets}
@@ -402,3 +404,23 @@ corners_inside (d ∷ dims) (m ∷ margins) (q ∷ k) near n h =
     let high = high_inside d.lo d.hi (last_in d q +ℤ pos m) near.0.order behind in
     let more = corners_inside dims margins k near.1 (omega arith) t.1 in
     (and_both _ _ (and_both _ _ (le_test _ _ low.0) (le_test _ _ low.1)) more.0, and_both _ _ (and_both _ _ (le_test _ _ high.0) (le_test _ _ high.1)) more.1)
+
+-- what the calls hand on
+module _ (schema : Schema) (margins : List ℕ) (k : ChunkNumber) (framed : HasFrame schema margins k) (near : Bounds) (is : near ≡ places_near schema.dimensions margins k) where
+  both_inside : (is_inside (bounds_of schema.dimensions) (places_near schema.dimensions margins k).lo.items ≡ true) × (is_inside (bounds_of schema.dimensions) (places_near schema.dimensions margins k).hi.items ≡ true)
+  both_inside = corners_inside schema.dimensions margins k (valid_placed schema framed.valid).near framed.each framed.core
+
+  pub first_inside : is_inside (bounds_of schema.dimensions) near.lo.items ≡ true
+  first_inside = ap (λ (b : Bounds). is_inside (bounds_of schema.dimensions) b.lo.items) is ∙ both_inside.0
+
+  pub last_inside : is_inside (bounds_of schema.dimensions) near.hi.items ≡ true
+  last_inside = ap (λ (b : Bounds). is_inside (bounds_of schema.dimensions) b.hi.items) is ∙ both_inside.1
+
+-- the chunk of a place has a frame too
+pub frame_there : (schema : Schema) (margins : List ℕ) (k n : ChunkNumber) (c : Coordinate) → HasFrame schema margins k → is_inside (bounds_of schema.dimensions) c ≡ true → n ≡ chunk_of schema.dimensions c → HasFrame schema margins n
+frame_there schema margins k n c framed inside is = record {
+  valid = framed.valid;
+  core = ap (has_core schema.dimensions) is ∙ chunk_has_core schema.dimensions c inside;
+  each = framed.each;
+  places = framed.places;
+}

@@ -40,7 +40,7 @@ use Rattle.chunk_source.specs.Source.{IsStored as IsRead}
 use Rattle.chunk_source.proofs.ReadingLeafLaws.{each_overlap}
 use Rattle.changed_chunks.specs.Inner.Input.{AreStoredChunks, MayBeStored, stored_rows}
 use Rattle.changed_chunks.specs.Inner.Writes.{IsInsertOf, Serves}
-use Rattle.changed_chunks.specs.Wanted.{is_wanted, target_wanted, touched}
+use Rattle.changed_chunks.specs.Wanted.{all_numbers, is_wanted, target_wanted, touched}
 use Rattle.changed_chunks.proofs.Chunks.{listed_kept, put_each}
 use Rattle.changed_chunks.proofs.Reach.{any_filter, any_number}
 
@@ -121,7 +121,7 @@ module _ (leaf : Leaf) (input rows : List Row) (stored : List (ArrayVec ℕ)) (h
       let listed : is_listed s (numbers_of stored) ≡ true = has.listed s (length-chunk_of dims c bounded) ∙ not_empty_at (within (core dims s) rows) c x held in
       let met : core_meets dims (frame dims (overlaps dims) k) s ≡ true = chunk_meets dims (frame dims (overlaps dims) k) s c in_core inside in
       let some : list_any (λ j. core_meets dims (frame dims (overlaps dims) j) s) (touched dims input) ≡ true
-      = any_filter (λ j. core_meets dims (frame dims (overlaps dims) j) s) (λ j. meets dims input j) _
+      = any_filter (λ j. core_meets dims (frame dims (overlaps dims) j) s) (λ j. meets dims input j) (all_numbers dims)
       ∙ any_number dims (λ j. meets dims input j && core_meets dims (frame dims (overlaps dims) j) s) k near cored (and_both _ _ touches met) in
       let wanted : is_wanted dims input s ≡ true = and_both _ _ (chunk_has_core dims c bounded) some in
       listed_covers leaf.schema (target_wanted dims input stored) chunks s c read (wanted_listed (is_wanted dims input) stored s listed wanted) in_core
@@ -142,7 +142,7 @@ module _ (leaf : Leaf) (input rows : List Row) (stored : List (ArrayVec ℕ)) (h
       let dims = leaf.schema.dimensions in
       let area = frame dims (overlaps dims) k in
       let rising = (cores_are_rows leaf.schema (overlaps dims) chunks are.cells).are_rows.rising in
-      same_rows _ _ (IsRising-rows_where (is_inside area) (stored_rows leaf.schema chunks) rising) (IsRising-rows_where (is_inside area) rows has.rows_of.are_rows.rising)
+      same_rows (within area (stored_rows leaf.schema chunks)) (within area rows) (IsRising-rows_where (is_inside area) (stored_rows leaf.schema chunks) rising) (IsRising-rows_where (is_inside area) rows has.rows_of.are_rows.rising)
       (λ c. cell_at-within area (stored_rows leaf.schema chunks) c ∙ by_box c (is_inside area c) refl ∙ sym (cell_at-within area rows c))
     where
       by_box : (c : Coordinate) (t : Bool) → is_inside (frame leaf.schema.dimensions (overlaps leaf.schema.dimensions) k) c ≡ t → cond t (cell_at (stored_rows leaf.schema chunks) c) None ≡ cond t (cell_at rows c) None
