@@ -18,7 +18,8 @@ use Rattle.chunk_source.specs.declared.sources.asked.Asked.{Asked}
 use Rattle.chunk_source.specs.Source.{AsksFront, Keeps, SourceState, asks, listed}
 use Rattle.chunk_source.proofs.ReadLemmas.{front_after, listed_still}
 use Rattle.chunk_exec.specs.Computed.{asked_for_plan}
-use Rattle.changed_chunks.specs.Changing.{AsksOnly, IsToldOf, asked_for, asked_of_all, asked_with}
+use Rattle.changed_chunks.specs.Changing.{AsksOnly, IsToldOf, asked_for, asked_of_all, asked_or_fault, asked_with}
+use Rattle.changed_chunks.specs.Inner.Input.{IsFound}
 use Rattle.changed_chunks.specs.Wanted.{target_wanted}
 
 module _ (plan : Query) (target : Leaf) (dims : List Dimension) (rows : List Row) where
@@ -51,7 +52,10 @@ module _ (plan : Query) (target : Leaf) (dims : List Dimension) (rows : List Row
 
 -- ---- an insert, in a database where its plan's rows are those that are put in
 
-module _ (schema : Schema) (plan : Query) (target : Leaf) (old new : SourceState) (input : List Row) (db : Database) (found : fitted schema plan db ≡ Ok input) where
+module _ (schema : Schema) (plan : Query) (target : Leaf) (old new : SourceState) (input : List Row) (db : Database) (some : Result (List Row) Broken) (is : some ≡ Ok input) (finds : IsFound (fitted schema plan db) some) where
+  found : fitted schema plan db ≡ Ok input
+  found = let f : IsFound (fitted schema plan db) (Ok input) = subst (IsFound (fitted schema plan db)) is finds in f.0
+
   there : (P : List Row → Type 0) → P input → P (rows_if_whole (fitted schema plan db))
   there P p = subst P (sym (ap rows_if_whole found)) p
 
@@ -96,10 +100,12 @@ module _ (change : Change) (target : Leaf) (name : List ℕ) (schema : Schema) (
   insert_front (Ok made) e front = tt
   insert_front (Err fault) e front = subst (λ (z : Change). FrontTold z (Err fault)) (sym e) (λ db is. front db is.tells)
 
-  pub insert_only : (answer : Result (Result Changed Broken) ExecFault) → change ≡ Insert name schema plan → AsksOnly old new (Insert [] schema plan) target answer → AsksOnly old new change target answer
-  insert_only (Ok (Ok changed)) e only = subst (λ (z : Change). AsksOnly old new z target (Ok (Ok changed))) (sym e) only
-  insert_only (Ok (Err broken)) e only = subst (λ (z : Change). AsksOnly old new z target (Ok (Err broken))) (sym e) only
-  insert_only (Err fault) e only = subst (λ (z : Change). AsksOnly old new z target (Err fault)) (sym e) only
+  pub insert_only : (answer : Result (Result Changed Broken) ExecFault) → change ≡ Insert name schema plan
+      → IfOk answer (λ made. (rows : List Row) × (new.asked ≡ old.asked ++ asked_or_fault rows old (Insert [] schema plan) target made))
+      → OnErr answer ((rows : List Row) × AsksFront (asked_with rows old (Insert [] schema plan) target) old new) → AsksOnly old new change target answer
+  insert_only (Ok (Ok changed)) e only some = subst (λ (z : Change). AsksOnly old new z target (Ok (Ok changed))) (sym e) only
+  insert_only (Ok (Err broken)) e only some = subst (λ (z : Change). AsksOnly old new z target (Ok (Err broken))) (sym e) only
+  insert_only (Err fault) e only some = subst (λ (z : Change). AsksOnly old new z target (Err fault)) (sym e) some
 
 -- ---- a list of chunks that is asked for
 

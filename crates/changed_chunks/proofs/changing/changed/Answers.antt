@@ -32,4 +32,4 @@ returns-in-Insert-clause-front g c =
 
 pub returns-in-Insert-clause-only : goal.returns-in-Insert-clause-only
 returns-in-Insert-clause-only g c =
-    insert_only c.args.change.now c.args.target.now c.in-Insert.name c.in-Insert.schema c.in-Insert.plan (g.S.ChunkSource.state c.args.source.now) (g.S.ChunkSource.state c.inserted.new.source) c.inserted.result c.in-Insert.is c.inserted.ensures.only
+    insert_only c.args.change.now c.args.target.now c.in-Insert.name c.in-Insert.schema c.in-Insert.plan (g.S.ChunkSource.state c.args.source.now) (g.S.ChunkSource.state c.inserted.new.source) c.inserted.result c.in-Insert.is c.inserted.ensures.only c.inserted.ensures.some
