@@ -6,6 +6,7 @@ use Rattle.arrayvec.specs.ArrayVec.{ArrayVec}
 use Rattle.cell_values.specs.declared.datum.Row.{Row}
 use Rattle.cell_values.specs.declared.memory.Memory.{Memory}
 use Rattle.cell_values.specs.declared.schema.Bounds.{Bounds}
+use Rattle.cell_values.specs.declared.schema.Dimension.{Dimension}
 use Rattle.cell_values.specs.declared.schema.Schema.{Schema}
 use Rattle.array_rows.specs.Arrays.{AreRowsOf}
 use Rattle.array_rows.specs.Boxes.{within}
@@ -163,6 +164,10 @@ not_none true [] h = refl
 not_none true (row ∷ rows) h = let e : row ∷ rows ≡ [] = h.0 refl in absurd cc
 not_none false [] h = let e : false ≡ true = h.1 refl in absurd cc
 not_none false (row ∷ rows) h = refl
+
+-- a number that has no core isn't wanted
+pub not_wanted : (dims : List Dimension) (rows : List Row) (number : ChunkNumber) → has_core dims number ≡ false → false ≡ is_wanted dims rows number
+not_wanted dims rows number e = ap (λ (b : Bool). b && list_any (λ k. core_meets dims (frame dims (overlaps dims) k) number) (touched dims rows)) (sym e)
 
 pub same_answer : (r : Result Bool Memory) (a b : Bool) → a ≡ b → IfOk r (λ x. x ≡ a) → IfOk r (λ x. x ≡ b)
 same_answer (Ok x) a b e is = is ∙ e
