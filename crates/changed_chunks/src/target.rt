@@ -15,8 +15,7 @@ use crate::versions::{put_over, stored_array};
 use crate::wanted::wanted_chunks;
 use array_geom::{Changed, Chunk, ChunkedArray};
 use cell_values::{ChunkAt, List, Memory, Row, Schema};
-use chunk_exec::ExecFault;
-use chunk_source::ChunkSource;
+use chunk_source::{ChunkSource, ExecFault};
 use logical_plan::{Leaf, Plan, reads};
 use std::alloc::Global;
 
