@@ -1,22 +1,34 @@
 -- What is asked for: the chunks of a plan's leaves, and then those of a target.
-use Rattle.std.proofs.Common.{◌≡◌, ℕ, List, ◌++◌, length, map, Result, Ok, Err, OnErr, sym, ap, ◌∙◌, append_assoc}
-use Rattle.std.specs.Prelude.{OnOk}
+use Rattle.std.proofs.Common.{◌≡◌, ℕ, List, [], ◌++◌, length, map, Result, Ok, Err, OnErr, sym, ap, ◌∙◌, subst, append_assoc}
+use Rattle.std.specs.Prelude.{IfOk, OnOk}
 use Rattle.arrayvec.specs.ArrayVec.{ArrayVec}
+use Rattle.cell_values.specs.declared.datum.Broken.{Broken}
+use Rattle.cell_values.specs.declared.datum.Row.{Row}
+use Rattle.cell_values.specs.declared.schema.Dimension.{Dimension}
+use Rattle.cell_values.specs.declared.schema.Schema.{Schema}
+use Rattle.array_geom.specs.declared.chunk.Changed.{Changed}
 use Rattle.logical_plan.specs.declared.parts.Leaf.{Leaf}
 use Rattle.logical_plan.specs.Leaves.{leaves}
 use Rattle.logical_plan.specs.Query.{Query}
+use Rattle.plan_changes.specs.declared.change.Change.{Change}
+use Rattle.plan_changes.specs.declared.change.Change.TheVariants.{Store, Insert}
+use Rattle.plan_changes.specs.Databases.{Database, fitted, rows_if_whole, rows_of}
+use Rattle.chunk_source.specs.declared.reading.fault.ExecFault.{ExecFault}
 use Rattle.chunk_source.specs.declared.sources.asked.Asked.{Asked}
 use Rattle.chunk_source.specs.Source.{AsksFront, Keeps, SourceState, asks, listed}
 use Rattle.chunk_source.proofs.ReadLemmas.{front_after, listed_still}
 use Rattle.chunk_exec.specs.Computed.{asked_for_plan}
+use Rattle.changed_chunks.specs.Changing.{AsksOnly, IsToldOf, asked_for, asked_of_all, asked_or_fault, asked_with}
+use Rattle.changed_chunks.specs.Inner.Input.{IsFound}
+use Rattle.changed_chunks.specs.Wanted.{target_wanted}
 
-module _ (plan : Query) (target : Leaf) where
+module _ (plan : Query) (target : Leaf) (dims : List Dimension) (rows : List Row) where
   abbrev behind : SourceState → List Asked
-  behind source = map (asks (length (leaves plan))) (listed source target)
+  behind source = map (asks (length (leaves plan))) (target_wanted dims rows (listed source target))
 
   module _ (old mid new : SourceState) (kept : Keeps old mid) (before : mid.asked ≡ old.asked ++ asked_for_plan old plan) where
     same_behind : behind mid ≡ behind old
-    same_behind = ap (map (asks (length (leaves plan)))) (listed_still old mid target kept)
+    same_behind = ap (λ (z : List (ArrayVec ℕ)). map (asks (length (leaves plan))) (target_wanted dims rows z)) (listed_still old mid target kept)
 
     pub asked_then : new.asked ≡ mid.asked ++ behind mid → new.asked ≡ old.asked ++ (asked_for_plan old plan ++ behind old)
     asked_then after = after ∙ (λ i. before i ++ same_behind i) ∙ append_assoc old.asked (asked_for_plan old plan) (behind old)
@@ -38,14 +50,71 @@ module _ (plan : Query) (target : Leaf) where
     asked = front.asked;
   }
 
+-- ---- an insert, in a database where its plan's rows are those that are put in
+
+module _ (schema : Schema) (plan : Query) (target : Leaf) (old new : SourceState) (input : List Row) (db : Database) (some : Result (List Row) Broken) (is : some ≡ Ok input) (finds : IsFound (fitted schema plan db) some) where
+  found : fitted schema plan db ≡ Ok input
+  found = let f : IsFound (fitted schema plan db) (Ok input) = subst (IsFound (fitted schema plan db)) is finds in f.0
+
+  there : (P : List Row → Type 0) → P input → P (rows_if_whole (fitted schema plan db))
+  there P p = subst P (sym (ap rows_if_whole found)) p
+
+  pub asked_there : new.asked ≡ old.asked ++ asked_with input old (Insert [] schema plan) target → new.asked ≡ old.asked ++ asked_of_all db old (Insert [] schema plan) target
+  asked_there = there (λ rows. new.asked ≡ old.asked ++ asked_with rows old (Insert [] schema plan) target)
+
+  pub front_there : AsksFront (asked_with input old (Insert [] schema plan) target) old new → AsksFront (asked_of_all db old (Insert [] schema plan) target) old new
+  front_there = there (λ rows. AsksFront (asked_with rows old (Insert [] schema plan) target) old new)
+
+-- ---- a change, of whatever name
+
+module _ (change : Change) (target : Leaf) (name : List ℕ) (schema : Schema) (plan : Query) (old new : SourceState) where
+  abbrev AsksTold : Change → Result (Result Changed Broken) ExecFault → Type 0
+  AsksTold made answer = IfOk answer (λ some. (db : Database) → IsToldOf old made target db → new.asked ≡ old.asked ++ asked_for db old made target some)
+
+  abbrev FrontTold : Change → Result (Result Changed Broken) ExecFault → Type 0
+  FrontTold made answer = OnErr answer ((db : Database) → IsToldOf old made target db → AsksFront (asked_of_all db old made target) old new)
+
+  pub store_asked : (answer : Result (Result Changed Broken) ExecFault) → change ≡ Store name schema plan → OnOk answer (new.asked ≡ old.asked ++ asked_for_plan old plan) → AsksTold change answer
+  store_asked (Err fault) e asked = tt
+  store_asked (Ok (Ok changed)) e asked = subst (λ (z : Change). AsksTold z (Ok (Ok changed))) (sym e) (λ db is. asked)
+  store_asked (Ok (Err broken)) e asked = subst (λ (z : Change). AsksTold z (Ok (Err broken))) (sym e) (λ db is. asked)
+
+  pub store_front : (answer : Result (Result Changed Broken) ExecFault) → change ≡ Store name schema plan → OnErr answer (AsksFront (asked_for_plan old plan) old new) → FrontTold change answer
+  store_front (Ok made) e front = tt
+  store_front (Err fault) e front = subst (λ (z : Change). FrontTold z (Err fault)) (sym e) (λ db is. front)
+
+  pub store_only : (answer : Result (Result Changed Broken) ExecFault) → change ≡ Store name schema plan → OnOk answer (new.asked ≡ old.asked ++ asked_for_plan old plan)
+      → OnErr answer (AsksFront (asked_for_plan old plan) old new) → AsksOnly old new change target answer
+  store_only (Ok (Ok changed)) e asked front = subst (λ (z : Change). AsksOnly old new z target (Ok (Ok changed))) (sym e) ([], asked)
+  store_only (Ok (Err broken)) e asked front = subst (λ (z : Change). AsksOnly old new z target (Ok (Err broken))) (sym e) ([], asked)
+  store_only (Err fault) e asked front = subst (λ (z : Change). AsksOnly old new z target (Err fault)) (sym e) ([], front)
+
+  pub insert_asked : (answer : Result (Result Changed Broken) ExecFault) → change ≡ Insert name schema plan
+      → IfOk answer (λ some. (db : Database) → old.tells (rows_of db) → new.asked ≡ old.asked ++ asked_for db old (Insert [] schema plan) target some) → AsksTold change answer
+  insert_asked (Err fault) e asked = tt
+  insert_asked (Ok (Ok changed)) e asked = subst (λ (z : Change). AsksTold z (Ok (Ok changed))) (sym e) (λ db is. asked db is.tells)
+  insert_asked (Ok (Err broken)) e asked = subst (λ (z : Change). AsksTold z (Ok (Err broken))) (sym e) (λ db is. asked db is.tells)
+
+  pub insert_front : (answer : Result (Result Changed Broken) ExecFault) → change ≡ Insert name schema plan
+      → OnErr answer ((db : Database) → old.tells (rows_of db) → AsksFront (asked_of_all db old (Insert [] schema plan) target) old new) → FrontTold change answer
+  insert_front (Ok made) e front = tt
+  insert_front (Err fault) e front = subst (λ (z : Change). FrontTold z (Err fault)) (sym e) (λ db is. front db is.tells)
+
+  pub insert_only : (answer : Result (Result Changed Broken) ExecFault) → change ≡ Insert name schema plan
+      → IfOk answer (λ made. (rows : List Row) × (new.asked ≡ old.asked ++ asked_or_fault rows old (Insert [] schema plan) target made))
+      → OnErr answer ((rows : List Row) × AsksFront (asked_with rows old (Insert [] schema plan) target) old new) → AsksOnly old new change target answer
+  insert_only (Ok (Ok changed)) e only some = subst (λ (z : Change). AsksOnly old new z target (Ok (Ok changed))) (sym e) only
+  insert_only (Ok (Err broken)) e only some = subst (λ (z : Change). AsksOnly old new z target (Ok (Err broken))) (sym e) only
+  insert_only (Err fault) e only some = subst (λ (z : Change). AsksOnly old new z target (Err fault)) (sym e) some
+
 -- ---- a list of chunks that is asked for
 
-pub asked_listed : {T E : Type 0} (answer : Result T E) (number : ℕ) (old mid new : SourceState) (leaf : Leaf) (chunks : List (ArrayVec ℕ)) → chunks ≡ listed old leaf → mid.asked ≡ old.asked
-    → OnOk answer (new.asked ≡ mid.asked ++ map (asks number) chunks) → OnOk answer (new.asked ≡ old.asked ++ map (asks number) (listed old leaf))
-asked_listed (Ok read) number old mid new leaf chunks e same asked = asked ∙ (λ i. same i ++ map (asks number) (e i))
-asked_listed (Err fault) number old mid new leaf chunks e same asked = tt
+pub asked_listed : {T E : Type 0} (answer : Result T E) (number : ℕ) (old mid new : SourceState) (chunks these : List (ArrayVec ℕ)) → chunks ≡ these → mid.asked ≡ old.asked
+    → OnOk answer (new.asked ≡ mid.asked ++ map (asks number) chunks) → OnOk answer (new.asked ≡ old.asked ++ map (asks number) these)
+asked_listed (Ok read) number old mid new chunks these e same asked = asked ∙ (λ i. same i ++ map (asks number) (e i))
+asked_listed (Err fault) number old mid new chunks these e same asked = tt
 
-pub front_listed : {T E : Type 0} (answer : Result T E) (number : ℕ) (old mid new : SourceState) (leaf : Leaf) (chunks : List (ArrayVec ℕ)) → chunks ≡ listed old leaf → mid.asked ≡ old.asked
-    → OnErr answer (AsksFront (map (asks number) chunks) mid new) → OnErr answer (AsksFront (map (asks number) (listed old leaf)) old new)
-front_listed (Ok read) number old mid new leaf chunks e same front = tt
-front_listed (Err fault) number old mid new leaf chunks e same front = front_after _ _ old mid new (ap (map (asks number)) e) same front
+pub front_listed : {T E : Type 0} (answer : Result T E) (number : ℕ) (old mid new : SourceState) (chunks these : List (ArrayVec ℕ)) → chunks ≡ these → mid.asked ≡ old.asked
+    → OnErr answer (AsksFront (map (asks number) chunks) mid new) → OnErr answer (AsksFront (map (asks number) these) old new)
+front_listed (Ok read) number old mid new chunks these e same front = tt
+front_listed (Err fault) number old mid new chunks these e same front = front_after _ _ old mid new (ap (map (asks number)) e) same front

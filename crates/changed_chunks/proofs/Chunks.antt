@@ -34,10 +34,9 @@ use Rattle.logical_plan.specs.Meaning.{Database, version_rows}
 use Rattle.logical_plan.specs.Typing.{AreSound, is_sound, may_all_stand, may_stand}
 use Rattle.plan_changes.proofs.NamesOf.{map_filter}
 use Rattle.chunk_source.specs.Laws.{HasSoundCells}
-use Rattle.chunk_source.specs.Source.{AreNumbersIn, IsArrayIn, IsChunkIn, Keeps, SourceState, numbers_of}
 use Rattle.chunk_source.specs.Source.{IsStored as IsRead}
 use Rattle.chunk_source.specs.declared.reading.fault.ExecFault.{ExecFault}
-use Rattle.chunk_source.proofs.ReadingLeafLaws.{are_valid, have_places, is_told}
+use Rattle.chunk_source.proofs.ReadingLeafLaws.{are_valid, have_places}
 use Rattle.changed_chunks.specs.Inner.Input.{AreStoredChunks, stored_rows}
 
 -- ---- sound cells of a schema are those that are stored
@@ -88,7 +87,7 @@ put_one P new (row ∷ rows) p all = by_order (row_major new.at.items row.at.ite
     by_order Equal more = (p, all.1)
     by_order Greater more = (all.0, more)
 
-put_each : (P : Row → Type 0) (new rows : List Row) → AllByRecursion P new → AllByRecursion P rows → AllByRecursion P (put_all new rows)
+pub put_each : (P : Row → Type 0) (new rows : List Row) → AllByRecursion P new → AllByRecursion P rows → AllByRecursion P (put_all new rows)
 put_each P [] rows a b = b
 put_each P (row ∷ new) rows a b = put_one P row (put_all new rows) a.0 (put_each P new rows a.1 b)
 
@@ -120,21 +119,6 @@ pub read_stored : (leaf : Leaf) (listed : List (ArrayVec ℕ)) (answer : Result 
 read_stored leaf listed (Ok chunks) valid read = are_stored leaf.schema listed chunks valid read
 read_stored leaf listed (Err fault) valid read = tt
 
--- the rows of a leaf's chunks are those that are told of it
-rows_told : (db : Database) (leaf : Leaf) (listed : List (ArrayVec ℕ)) (chunks : List Chunk) → IsValid leaf.schema → NumbersRise (numbers_of listed) → AllZip (IsRead leaf.schema) listed chunks → AreNumbersIn db leaf listed
-    → AllByRecursion (IsChunkIn db leaf) chunks → stored_rows leaf.schema chunks ≡ version_rows db leaf.name leaf.version
-rows_told db leaf listed chunks valid rising read has parts =
-    let array : ChunkedArray = record { schema = leaf.schema; margins = record { items = overlaps leaf.schema.dimensions }; chunks = chunks; broken = None } in
-    let is : IsArrayIn db leaf array = is_told db leaf array listed refl refl refl valid rising read has parts in
-    chunks_have_their_rows leaf.schema array (version_rows db leaf.name leaf.version) is.cells
-
-pub read_told : (old mid : SourceState) (leaf : Leaf) (listed chunks : List (ArrayVec ℕ)) (answer : Result (List Chunk) ExecFault) → chunks ≡ listed → IsValid leaf.schema → Keeps old mid → NumbersRise (numbers_of listed)
-    → ((db : Database) → old.tells db → AreNumbersIn db leaf listed) → IfOk answer (AllZip (IsRead leaf.schema) chunks) → IfOk answer (λ read. (db : Database) → mid.tells db → AllByRecursion (IsChunkIn db leaf) read)
-    → IfOk answer (λ read. (db : Database) → old.tells db → stored_rows leaf.schema read ≡ version_rows db leaf.name leaf.version)
-read_told old mid leaf listed chunks (Ok read) e valid kept rising has stored told = λ db t.
-    rows_told db leaf listed read valid rising (subst (λ (z : List (ArrayVec ℕ)). AllZip (IsRead leaf.schema) z read) e stored) (has db t) (told db ((kept.tells db).1 t))
-read_told old mid leaf listed chunks (Err fault) e valid kept rising has stored told = tt
-
 -- ---- lists
 
 pub all_both : {A : Type 0} (P : A → Type 0) (a b : List A) → AllByRecursion P a → AllByRecursion P b → AllByRecursion P (a ++ b)
@@ -164,7 +148,7 @@ passed_or true false false r x h e = e ∙ none r
 passed_or false true c r x h e = e
 passed_or false false c r x h e = e
 
-listed_kept : (p : ChunkNumber → Bool) (k : ChunkNumber) (ks : List ChunkNumber) → is_listed k (filter p ks) ≡ (is_listed k ks && p k)
+pub listed_kept : (p : ChunkNumber → Bool) (k : ChunkNumber) (ks : List ChunkNumber) → is_listed k (filter p ks) ≡ (is_listed k ks && p k)
 listed_kept p k [] = refl
 listed_kept p k (n ∷ ks) =
     cond_out (is_listed k) (p n) (n ∷ filter p ks) (filter p ks)

@@ -1,6 +1,8 @@
 pub mod Asked
 pub mod Chunks
+pub mod Reach
 pub mod Rows
+pub mod Serves
 pub mod Told
 mod Worked
 pub mod Written

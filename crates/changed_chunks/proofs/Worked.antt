@@ -1,6 +1,8 @@
 -- A worked insert: one cell put into an array of four, whose chunks the source lists and whose database it tells.
-use Rattle.std.proofs.Common.{◌≡◌, [], ◌∷◌, Some, None, Ok, refl, inr, arith}
+use Rattle.std.proofs.Common.{◌≡◌, ℕ, pos, List, [], ◌∷◌, Some, None, Ok, refl, inr, arith}
 use Rattle.std.specs.Prelude.{codes}
+use Rattle.arrayvec.specs.ArrayVec.{ArrayVec}
+use Rattle.cell_values.specs.declared.schema.Dimension.{Dimension}
 use Rattle.array_rows.specs.Arrays.{AreRowsOf}
 use Rattle.logical_plan.specs.declared.parts.Leaf.{Leaf}
 use Rattle.logical_plan.specs.Typing.{AreSound}
@@ -11,6 +13,7 @@ use Rattle.commit_costs.specs.Inner.Examples.{schema, cell_at, stored, insert_at
 use Rattle.commit_costs.proofs.Sharing.{four_rows}
 use Rattle.commit_pages.specs.Inner.Example.{four, changed}
 use Rattle.changed_chunks.specs.Changing.{CanChange, IsToldOf, asked_for}
+use Rattle.changed_chunks.specs.Wanted.{target_wanted}
 
 abbrev source : SourceState
 source = record {
@@ -56,6 +59,28 @@ can = (record { computed = record { typed = (refl, one_row, (refl, tt)); reads =
 told : IsToldOf source (insert_at 0 2) target (stored 0)
 told = record { database = database; tells = refl; newest = (refl, refl) }
 
--- the plan reads no array, so the target has the number 0
-asked : asked_for source (insert_at 0 2) target (Ok changed) ≡ record { leaf = 0; at = record { items = 0 ∷ [] } } ∷ record { leaf = 0; at = record { items = 1 ∷ [] } } ∷ []
+-- the plan reads no array, so the target has the number 0. The frame of the second chunk alone holds the cell that is put in
+asked : asked_for (stored 0) source (insert_at 0 2) target (Ok changed) ≡ record { leaf = 0; at = record { items = 1 ∷ [] } } ∷ []
 asked = refl
+
+-- ---- `[i=0:5,2,1]`, whose three chunks are stored
+
+abbrev along : List Dimension
+along = record { name = codes "i"; lo = pos 0; hi = pos 5; chunk = 2; overlap = 1 } ∷ []
+
+abbrev number_at : ℕ → ArrayVec ℕ
+number_at k = record { items = k ∷ [] }
+
+abbrev three : List (ArrayVec ℕ)
+three = number_at 0 ∷ number_at 1 ∷ number_at 2 ∷ []
+
+-- the frames -1 to 2 and 1 to 4 hold a cell that is put in; together they meet all three cores
+all_wanted : target_wanted along (cell_at 0 ∷ cell_at 1 ∷ []) three ≡ three
+all_wanted = refl
+
+-- the frame -1 to 2 alone
+two_wanted : target_wanted along (cell_at 0 ∷ []) three ≡ number_at 0 ∷ number_at 1 ∷ []
+two_wanted = refl
+
+none_wanted : target_wanted along [] three ≡ []
+none_wanted = refl

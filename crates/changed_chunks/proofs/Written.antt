@@ -1,11 +1,12 @@
 -- The chunks that are written of a version.
 use Rattle.std.proofs.Common.{◌≡◌, ℕ, Bool, true, false, not, ◌&&◌, List, [], ◌∷◌, ◌++◌, filter, length, Ok, Err, Result, ◌↔◌, refl, sym, ap, ◌∙◌, subst}
 use Rattle.std.specs.Prelude.{IfOk}
-use Rattle.std.specs.List.{AllByRecursion}
+use Rattle.std.specs.List.{AllByRecursion, list_any}
 use Rattle.arrayvec.specs.ArrayVec.{ArrayVec}
 use Rattle.cell_values.specs.declared.datum.Row.{Row}
 use Rattle.cell_values.specs.declared.memory.Memory.{Memory}
 use Rattle.cell_values.specs.declared.schema.Bounds.{Bounds}
+use Rattle.cell_values.specs.declared.schema.Dimension.{Dimension}
 use Rattle.cell_values.specs.declared.schema.Schema.{Schema}
 use Rattle.array_rows.specs.Arrays.{AreRowsOf}
 use Rattle.array_rows.specs.Boxes.{within}
@@ -14,9 +15,10 @@ use Rattle.array_geom.specs.declared.chunk.Chunk.{Chunk}
 use Rattle.array_geom.specs.declared.chunk.Changed.{Changed}
 use Rattle.array_geom.specs.declared.chunk.ChunkedArray.{ChunkedArray}
 use Rattle.array_geom.specs.Chunks.{IsChunk}
-use Rattle.array_geom.specs.Geometry.{ChunkNumber, frame, overlaps}
+use Rattle.array_geom.specs.Geometry.{ChunkNumber, HasFrame, core_meets, frame, has_core, overlaps}
 use Rattle.array_geom.specs.Link.{HoldsRows, Is, IsPart, NumbersRise, core_rows, has_cell, is_listed, is_not_empty, numbers}
 use Rattle.array_geom.proofs.LinkLaws.{chunks_have_their_rows}
+use Rattle.array_geom.proofs.NearLemmas.{valid_placed}
 use Rattle.array_parts.specs.Cores.{HaveCells, cores_of}
 use Rattle.array_parts.specs.Placed.{HasPlaces, HavePlaces}
 use Rattle.array_parts.proofs.CoreLaws.{arrays_have_cells, cores_are_rows}
@@ -27,13 +29,18 @@ use Rattle.area_cells.proofs.CutLaws.{core_rows-append}
 use Rattle.area_cells.proofs.PieceLaws.{rise_in_cores}
 use Rattle.chunk_rle.specs.Stored.{IsStored}
 use Rattle.chunk_source.specs.Laws.{HasSoundCells}
+use Rattle.chunk_source.proofs.ReadingLeafLaws.{each_overlap}
 use Rattle.chunk_source.proofs.ValidLaws.{sound_chunks, valid_chunks}
 use Rattle.logical_plan.specs.Meaning.{whole}
 use Rattle.logical_plan.specs.Typing.{AreSound}
 use Rattle.commit_costs.specs.Lengths.{meets}
 use Rattle.changed_chunks.specs.Inner.Input.{AreStoredChunks, CanBeStored, MayBeStored, stored_rows}
-use Rattle.changed_chunks.specs.Inner.Writes.{IsInsertOf, IsStoreOf}
+use Rattle.changed_chunks.specs.Inner.Reach.{reach}
+use Rattle.changed_chunks.specs.Inner.Writes.{IsInsertOf, IsStoreOf, Serves}
+use Rattle.changed_chunks.specs.Wanted.{is_wanted, touched}
 use Rattle.changed_chunks.proofs.Chunks.{all_both, kept_listed, kept_rise, sound_cores, stored_chunks}
+use Rattle.changed_chunks.proofs.Reach.{wanted_in_reach}
+use Rattle.changed_chunks.proofs.Serves.{written_over}
 
 -- ---- the array of rows that may be stored
 
@@ -158,12 +165,32 @@ not_none true (row ∷ rows) h = let e : row ∷ rows ≡ [] = h.0 refl in absur
 not_none false [] h = let e : false ≡ true = h.1 refl in absurd cc
 not_none false (row ∷ rows) h = refl
 
+-- a number that has no core isn't wanted
+pub not_wanted : (dims : List Dimension) (rows : List Row) (number : ChunkNumber) → has_core dims number ≡ false → false ≡ is_wanted dims rows number
+not_wanted dims rows number e = ap (λ (b : Bool). b && list_any (λ k. core_meets dims (frame dims (overlaps dims) k) number) (touched dims rows)) (sym e)
+
+pub same_answer : (r : Result Bool Memory) (a b : Bool) → a ≡ b → IfOk r (λ x. x ≡ a) → IfOk r (λ x. x ≡ b)
+same_answer (Ok x) a b e is = is ∙ e
+same_answer (Err f) a b e is = tt
+
 module _ (put : ChunkedArray) (can : CanBeStored put) where
-  pub is_met : (number : ChunkNumber) (area : Bounds) (rows : List Row) (none : Bool) → area ≡ frame put.schema.dimensions put.margins.items number → rows ≡ within area (cores_of put) → (none ≡ true) ↔ (rows ≡ [])
-      → not none ≡ meets put.schema.dimensions (cores_of put) number
-  is_met number area rows none a r h =
-      not_none none rows h
-      ∙ ap is_not_empty (r ∙ ap (λ (z : Bounds). within z (cores_of put)) (a ∙ ap (λ (ms : List ℕ). frame put.schema.dimensions ms number) can.margins))
+  pub has_row : (area : Bounds) (rows : List Row) (none : Bool) → rows ≡ within area (cores_of put) → (none ≡ true) ↔ (rows ≡ []) → not none ≡ is_not_empty (within area (cores_of put))
+  has_row area rows none r h = not_none none rows h ∙ ap is_not_empty r
+
+  pub is_met : (number : ChunkNumber) (area : Bounds) → area ≡ frame put.schema.dimensions put.margins.items number → is_not_empty (within area (cores_of put)) ≡ meets put.schema.dimensions (cores_of put) number
+  is_met number area a =
+      ap (λ (z : Bounds). is_not_empty (within z (cores_of put))) (a ∙ ap (λ (ms : List ℕ). frame put.schema.dimensions ms number) can.margins)
+
+  pub is_wanted_there : (number : ChunkNumber) (area : Bounds) → has_core put.schema.dimensions number ≡ true → area ≡ reach put.schema.dimensions put.margins.items number
+      → is_not_empty (within area (cores_of put)) ≡ is_wanted put.schema.dimensions (cores_of put) number
+  is_wanted_there number area cored a =
+      let dims = put.schema.dimensions in
+      ap (λ (z : Bounds). is_not_empty (within z (cores_of put))) (a ∙ ap (λ (ms : List ℕ). reach dims ms number) can.margins)
+      ∙ sym (wanted_in_reach dims number (cores_of put) (valid_placed put.schema can.holds.rows_of.valid).near (each_overlap dims) cored can.holds.rows_of.are_rows.in_bounds)
+      ∙ ap (λ (b : Bool). b && list_any (λ k. core_meets dims (frame dims (overlaps dims) k) number) (touched dims (cores_of put))) (sym cored)
+
+  pub has_frame : (number : ChunkNumber) → has_core put.schema.dimensions number ≡ true → HasFrame put.schema put.margins.items number
+  has_frame number cored = record { valid = can.holds.rows_of.valid; core = cored; each = can.holds.each; places = can.holds.places }
 
   -- the places of another array's chunks
   pub same_places : (version : ChunkedArray) → CanBeStored version → version.schema ≡ put.schema → HavePlaces put.schema put.margins.items version.chunks
@@ -198,9 +225,10 @@ module _ (put : ChunkedArray) (can : CanBeStored put) where
 
 -- ---- what is known of what is read
 
-pub over_told : (put : ChunkedArray) (schema from : Schema) (input rows : List Row) (old : List Chunk) (changed : Changed) → put.schema ≡ schema → cores_of put ≡ input → from ≡ schema → stored_rows from old ≡ rows
-    → IsInsertOf put.schema (cores_of put) (stored_rows put.schema old) changed → IsInsertOf schema input rows changed
-over_told put schema from input rows old changed s c f e w =
-    let there : stored_rows schema old ≡ rows = ap (λ (z : Schema). stored_rows z old) (sym f) ∙ e in
-    subst (λ (z : List Row). IsInsertOf schema input z changed) there
+pub over_told : (put : ChunkedArray) (schema from : Schema) (input rows : List Row) (old : List Chunk) (changed : Changed) → put.schema ≡ schema → cores_of put ≡ input → from ≡ schema → MayBeStored schema input
+    → AreStoredChunks from old → Serves from (cores_of put) rows (stored_rows from old) → IsInsertOf put.schema (cores_of put) (stored_rows put.schema old) changed → IsInsertOf schema input rows changed
+over_told put schema from input rows old changed s c f may are enough w =
+    written_over schema input rows (stored_rows schema old) changed may
+    (subst (λ (z : Schema). AreRowsOf z (stored_rows z old)) f (cores_are_rows from (overlaps from.dimensions) old are.cells))
+    (subst (λ (z : Schema). Serves z input rows (stored_rows z old)) f (subst (λ (z : List Row). Serves from z rows (stored_rows from old)) c enough))
     (subst (λ (z : Schema). IsInsertOf z input (stored_rows z old) changed) s (subst (λ (z : List Row). IsInsertOf put.schema z (stored_rows put.schema old) changed) c w))

@@ -1,5 +1,6 @@
 //! Stores and inserts.
 ghost use Rattle.std.specs.Prelude.{◌≡◌, ◌≤◌, ◌++◌, [], ℕ, List as Items, true, false, None, Some, IfOk, OnOk, OnErr};
+ghost use Rattle.cell_values.specs.declared.datum.Row.{Row as Placed};
 ghost use Rattle.chunk_source.specs.Faults.{Answers};
 ghost use Rattle.chunk_source.specs.Source.{AsksFront, Keeps, Reads};
 ghost use Rattle.chunk_exec.specs.Computed.{asked_for_plan};
@@ -7,7 +8,8 @@ ghost use Rattle.commit_pages.specs.Changes.{AreValid, ComesWith, IsOf};
 ghost use Rattle.logical_plan.specs.Meaning.{version_rows};
 ghost use Rattle.plan_changes.specs.Databases.{Database, newest_rows, rows_of};
 ghost use Rattle.plan_changes.specs.declared.change.Change.TheVariants.{Store, Insert};
-ghost use Rattle.changed_chunks.specs.Changing.{AsksOnly, CanChange, CanStore, IsAnswerOver, IsToldOf, asked_for, asked_of_all};
+ghost use Rattle.changed_chunks.specs.Changing.{AsksOnly, CanChange, CanStore, IsAnswerOver, IsToldOf};
+ghost use Rattle.changed_chunks.specs.Changing.{asked_for, asked_of_all, asked_or_fault, asked_with};
 
 use crate::input::input_of;
 use crate::target::put_over_target;
@@ -74,10 +76,14 @@ fn inserted<S: ChunkSource, R: Threads + Sync, G: Gate>(
     ensures told { IfOk result (λ made. (db : Database) → (S.state source.old).tells (rows_of db)
         → (name : Items ℕ) → version_rows (rows_of db) target.now.name target.now.version ≡ newest_rows db name
         → IsAnswerOver db (Insert name schema.now plan.now) made) }
-    ensures asked { let old = S.state source.old in
-        IfOk result (λ made. (S.state source.new).asked ≡ old.asked ++ asked_for old (Insert [] schema.now plan.now) target.now made) }
-    ensures front { let old = S.state source.old in
-        OnErr result (AsksFront (asked_of_all old (Insert [] schema.now plan.now) target.now) old (S.state source.new)) }
+    ensures asked { let old = S.state source.old in IfOk result (λ made. (db : Database) → old.tells (rows_of db)
+        → (S.state source.new).asked ≡ old.asked ++ asked_for db old (Insert [] schema.now plan.now) target.now made) }
+    ensures front { let old = S.state source.old in OnErr result ((db : Database) → old.tells (rows_of db)
+        → AsksFront (asked_of_all db old (Insert [] schema.now plan.now) target.now) old (S.state source.new)) }
+    ensures only { let old = S.state source.old in IfOk result (λ made. (rows : Items Placed)
+        × ((S.state source.new).asked ≡ old.asked ++ asked_or_fault rows old (Insert [] schema.now plan.now) target.now made)) }
+    ensures some { let old = S.state source.old in OnErr result ((rows : Items Placed)
+        × AsksFront (asked_with rows old (Insert [] schema.now plan.now) target.now) old (S.state source.new)) }
     ensures kept { Keeps (S.state source.old) (S.state source.new) }
     ensures cause { Answers (S.state source.old) (S.state source.new) result }
     ensures start { S.start source.new ≡ S.start source.old }

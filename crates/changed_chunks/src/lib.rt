@@ -5,5 +5,6 @@ mod changing;
 mod input;
 mod target;
 mod versions;
+mod wanted;
 
 pub use changing::changed;

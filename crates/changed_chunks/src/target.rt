@@ -1,20 +1,21 @@
 //! What an insert reads of its target, and the rows put over it.
 ghost use Rattle.std.specs.Prelude.{◌≡◌, ◌++◌, List as Items, false, length, map, IfOk, OnOk, OnErr, IsTrue};
 ghost use Rattle.std.specs.List.{AllByRecursion, AllZip};
-ghost use Rattle.cell_values.specs.Schemas.{IsValid};
+ghost use Rattle.array_parts.specs.Cores.{cores_of};
 ghost use Rattle.chunk_source.specs.Faults.{Answers};
 ghost use Rattle.chunk_source.specs.Source.{AsksFront, IsChunkIn, IsStored, Keeps, Reads, asks, is_among, listed};
 ghost use Rattle.commit_pages.specs.Changes.{AreValid, IsOf};
 ghost use Rattle.logical_plan.specs.Leaves.{leaves};
 ghost use Rattle.logical_plan.specs.Meaning.{Database, version_rows};
-ghost use Rattle.changed_chunks.specs.Inner.Input.{AreStoredChunks, MayBeStored, stored_rows};
-ghost use Rattle.changed_chunks.specs.Inner.Writes.{IsInsertOf};
+ghost use Rattle.changed_chunks.specs.Inner.Input.{AreStoredChunks, CanBeStored, MayBeStored, stored_rows};
+ghost use Rattle.changed_chunks.specs.Inner.Writes.{IsInsertOf, Serves};
+ghost use Rattle.changed_chunks.specs.Wanted.{target_wanted};
 
 use crate::versions::{put_over, stored_array};
-use array_geom::{Changed, Chunk};
+use crate::wanted::wanted_chunks;
+use array_geom::{Changed, Chunk, ChunkedArray};
 use cell_values::{ChunkAt, List, Memory, Row, Schema};
-use chunk_exec::ExecFault;
-use chunk_source::ChunkSource;
+use chunk_source::{ChunkSource, ExecFault};
 use logical_plan::{Leaf, Plan, reads};
 use std::alloc::Global;
 
@@ -55,25 +56,31 @@ fn read_chunks<S: ChunkSource>(
     Ok(read)
 }
 
-/// The chunks of a leaf, each of which is asked for once. What is known of each holds whatever the source tells.
-fn read_stored<S: ChunkSource>(
+/// Of a leaf's chunks those that are wanted where the rows of an array are put in, each of which is asked for once. What is known of
+/// each holds whatever the source tells.
+fn read_wanted<S: ChunkSource>(
     source: &mut S,
     number: u32,
     leaf: &Leaf,
+    put: &ChunkedArray,
 ) -> Result<List<Chunk>, ExecFault>
     requires reads { Reads (S.state source.old) leaf.now }
-    requires valid { IsValid leaf.now.schema }
+    requires put { CanBeStored put.now }
+    requires schema { put.now.schema ≡ leaf.now.schema }
     ensures stored { IfOk result (AreStoredChunks leaf.now.schema) }
     ensures told { IfOk result (λ chunks. (db : Database) → (S.state source.old).tells db
-        → stored_rows leaf.now.schema chunks ≡ version_rows db leaf.now.name leaf.now.version) }
-    ensures asked { OnOk result ((S.state source.new).asked ≡ (S.state source.old).asked ++ map (asks number) (listed (S.state source.old) leaf.now)) }
-    ensures front { let old = S.state source.old in OnErr result (AsksFront (map (asks number) (listed old leaf.now)) old (S.state source.new)) }
+        → Serves leaf.now.schema (cores_of put.now) (version_rows db leaf.now.name leaf.now.version) (stored_rows leaf.now.schema chunks)) }
+    ensures asked { let old = S.state source.old in OnOk result ((S.state source.new).asked
+        ≡ old.asked ++ map (asks number) (target_wanted leaf.now.schema.dimensions (cores_of put.now) (listed old leaf.now))) }
+    ensures front { let old = S.state source.old in OnErr result
+        (AsksFront (map (asks number) (target_wanted leaf.now.schema.dimensions (cores_of put.now) (listed old leaf.now))) old (S.state source.new)) }
     ensures kept { Keeps (S.state source.old) (S.state source.new) }
     ensures cause { Answers (S.state source.old) (S.state source.new) result }
     ensures start { S.start source.new ≡ S.start source.old }
 {
-    let listed = source.listed(leaf)?;
-    read_chunks(source, number, leaf, listed.as_slice())
+    let stored = source.listed(leaf)?;
+    let wanted = wanted_chunks(put, stored)?;
+    read_chunks(source, number, leaf, wanted.as_slice())
 }
 
 /// The chunks that are written where rows are put over the target, which is one more leaf after those of the plan.
@@ -93,17 +100,17 @@ pub(crate) fn put_over_target<S: ChunkSource>(
     ensures told { IfOk result (λ changed. (db : Database) → (S.state source.old).tells db
         → IsInsertOf schema.now input (version_rows db target.now.name target.now.version) changed) }
     ensures asked { let old = S.state source.old in
-        let all = map (asks (length (leaves plan.now))) (listed old target.now) in
-        OnOk result ((S.state source.new).asked ≡ old.asked ++ all) }
+        let wanted = target_wanted schema.now.dimensions input (listed old target.now) in
+        OnOk result ((S.state source.new).asked ≡ old.asked ++ map (asks (length (leaves plan.now))) wanted) }
     ensures front { let old = S.state source.old in
-        let all = map (asks (length (leaves plan.now))) (listed old target.now) in
-        OnErr result (AsksFront all old (S.state source.new)) }
+        let wanted = target_wanted schema.now.dimensions input (listed old target.now) in
+        OnErr result (AsksFront (map (asks (length (leaves plan.now))) wanted) old (S.state source.new)) }
     ensures kept { Keeps (S.state source.old) (S.state source.new) }
     ensures cause { Answers (S.state source.old) (S.state source.new) result }
     ensures start { S.start source.new ≡ S.start source.old }
 {
     let put = stored_array(schema, input)?;
     let number = count_leaves(alloc, plan)?;
-    let old = read_stored(source, number, target)?;
+    let old = read_wanted(source, number, target, &put)?;
     Ok(put_over(&put, old)?)
 }

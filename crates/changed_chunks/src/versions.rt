@@ -1,8 +1,10 @@
 //! Versions: the chunks of rows, and those that are written where rows are put over stored ones.
 ghost use Rattle.std.specs.Prelude.{◌≡◌, ◌++◌, List as Items, filter, IfOk};
 ghost use Rattle.cell_values.specs.declared.datum.Row.{Row as Placed};
+ghost use Rattle.array_rows.specs.Boxes.{within};
 ghost use Rattle.array_rows.specs.Rows.{put_all};
 ghost use Rattle.array_geom.specs.Geometry.{HasFrame};
+ghost use Rattle.array_geom.specs.Link.{is_not_empty};
 ghost use Rattle.array_parts.specs.Cores.{cores_of};
 ghost use Rattle.array_parts.specs.Placed.{HavePlaces};
 ghost use Rattle.commit_costs.specs.Lengths.{meets};
@@ -11,7 +13,7 @@ ghost use Rattle.changed_chunks.specs.Inner.Writes.{IsInsertOf, IsStoreOf};
 
 use area_cells::rows_in_area;
 use array_geom::{Changed, Chunk, ChunkedArray, frame, margins_of};
-use cell_values::{ChunkAt, List, Memory, Row, Schema, copy_numbers};
+use cell_values::{Bounds, ChunkAt, List, Memory, Row, Schema, copy_numbers};
 use chunk_cells::{assemble, into_core_rows};
 
 /// The array of rows that may be stored.
@@ -68,6 +70,15 @@ fn rows_over(put: &ChunkedArray, old: List<Chunk>) -> Result<List<Row>, Memory>
     })
 }
 
+/// Whether a box holds a row of an array.
+pub(crate) fn has_row_in(put: &ChunkedArray, area: &Bounds) -> Result<bool, Memory>
+    requires { CanBeStored put.now }
+    ensures { IfOk result (λ has. has ≡ is_not_empty (within area.now (cores_of put.now))) }
+{
+    let rows = rows_in_area(&put.schema, &put.margins, put.chunks.as_slice(), area)?;
+    Ok(!rows.is_empty())
+}
+
 /// Whether the frame of a chunk holds a row of an array.
 fn is_met(put: &ChunkedArray, number: &ChunkAt) -> Result<bool, Memory>
     requires put { CanBeStored put.now }
@@ -75,8 +86,7 @@ fn is_met(put: &ChunkedArray, number: &ChunkAt) -> Result<bool, Memory>
     ensures { IfOk result (λ met. met ≡ meets put.now.schema.dimensions (cores_of put.now) number.now.items) }
 {
     let area = frame(&put.schema, &put.margins, number);
-    let rows = rows_in_area(&put.schema, &put.margins, put.chunks.as_slice(), &area)?;
-    Ok(!rows.is_empty())
+    has_row_in(put, &area)
 }
 
 /// The chunks whose frame holds a row of an array.

@@ -4,4 +4,4 @@ use Rattle.changed_chunks.proofs.target.put_over_target.Goals as goal
 pub returns-clause-told : goal.returns-clause-told
 returns-clause-told g c db tells =
     over_told c.in_ok-put.put c.args.schema.now c.args.target.now.schema c.args.input _ c.in_ok-old.old c.in_ok-put_over.field-0 c.in_ok-put.ensures.schema c.in_ok-put.ensures.rows c.requires.schema
-    (c.in_ok-old.ensures.told db tells) c.in_ok-put_over.ensures
+    c.requires.input c.in_ok-old.ensures.stored (c.in_ok-old.ensures.told db tells) c.in_ok-put_over.ensures
