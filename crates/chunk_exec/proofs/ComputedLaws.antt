@@ -11,7 +11,6 @@ use Rattle.cell_values.specs.declared.schema.Schema.{Schema}
 use Rattle.array_rows.specs.Arrays.{AreRowsOf}
 use Rattle.array_geom.specs.declared.chunk.ChunkedArray.{ChunkedArray}
 use Rattle.array_geom.specs.Link.{Is}
-use Rattle.array_parts.specs.Placed.{IsSound}
 use Rattle.array_parts.proofs.CoreLaws.{arrays_have_cells}
 use Rattle.array_parts.proofs.PlaceRows.{valid_chunks_have_cells}
 use Rattle.expr_nulls.specs.Expr.{Expr}
@@ -23,7 +22,7 @@ use Rattle.logical_plan.specs.Query.{Query, built, listed, scanned, filtered, ap
 use Rattle.logical_plan.specs.Query.{sliced, joined, crossed, redimensioned, regridded, windowed, aggregated}
 use Rattle.logical_plan.specs.Typing.{IsTyped}
 use Rattle.logical_plan.proofs.ArrayLaws.{typed_arrays}
-use Rattle.plan_needs.specs.Wanted.{wanted_of, whole_need}
+use Rattle.plan_needs.specs.Wanted.{wanted_of}
 use Rattle.chunk_source.specs.declared.sources.asked.Asked.{Asked}
 use Rattle.chunk_source.specs.Source.{SourceState, AsksFront, HasArray, Keeps, Reads, asks, version_chunks}
 use Rattle.chunk_source.specs.Source.{listed as chunks_listed}
@@ -31,9 +30,8 @@ use Rattle.chunk_source.specs.declared.reading.fault.ExecFault.{ExecFault}
 use Rattle.chunk_source.proofs.ReadLemmas.{asked_all, asked_none, listed_still, on_err, reads_still}
 use Rattle.leaf_parts.specs.Known.{IsPartIn, known_for}
 use Rattle.leaf_parts.specs.Read.{IsRead}
-use Rattle.leaf_numbers.specs.Numbered.{HoldsAll, by_number, known_of_leaves, numbered}
+use Rattle.leaf_numbers.specs.Numbered.{HoldsAll, known_of_leaves, numbered}
 use Rattle.leaf_numbers.proofs.NumberedLaws.{holds_parts}
-use Rattle.leaf_numbers.proofs.SufficientLaws.{holds_behind, suffices}
 use Rattle.chunk_exec.specs.Computed.{CanCompute, IsComputed, IsGiven, asked_in_boxes}
 use Rattle.chunk_exec.specs.Inner.Operated.{sources, IsResultOf, operated}
 use Rattle.chunk_exec.proofs.SourceLaws.{leaves_of_one, leaves_of_two, typed_sources}
@@ -141,7 +139,7 @@ numbered_two db n query left right is = absurd cc
 
 -- ---- plans of one source
 
-abbrev HasLeaf : SourceState → Database → Leaf → Type 0
+abbrev pub HasLeaf : SourceState → Database → Leaf → Type 0
 HasLeaf source db leaf = HasArray leaf (version_rows db leaf.name leaf.version) (chunks_listed source leaf)
 
 pub computed_one : (first : ℕ) (boxes : List Bounds) (old new : SourceState) (query source : Query) (array made : ChunkedArray) → source ∷ [] ≡ sources query → IsComputed first boxes old new source array → IsResultOf query (array ∷ []) made
@@ -194,6 +192,10 @@ pub enough_for_both : (first : ℕ) (boxes : List Bounds) (query left right : Qu
 enough_for_both first boxes query left right is l =
     let both : first + length (leaves left ++ leaves right) ≤ length boxes = subst (λ (z : List Leaf). first + length z ≤ length boxes) (leaves_of_two query left right is) l in
     (omega (arith, both, length-append (leaves left) (leaves right)), omega (arith, both, length-append (leaves left) (leaves right)))
+
+pub enough_for_right : (first second : ℕ) (boxes : List Bounds) (query left right : Query) → left ∷ right ∷ [] ≡ sources query → first + length (leaves query) ≤ length boxes → second ≡ first + length (leaves left)
+    → second + length (leaves right) ≤ length boxes
+enough_for_right first second boxes query left right is l numbers = let both = (enough_for_both first boxes query left right is l).1 in omega (arith, both, numbers)
 
 -- the right source's leaves are numbered behind those of the left one
 pub computed_two : (first second : ℕ) (boxes : List Bounds) (old mid new : SourceState) (query left right : Query) (a b made : ChunkedArray) → left ∷ right ∷ [] ≡ sources query → Keeps old mid → second ≡ first + length (leaves left)
@@ -349,23 +351,3 @@ built_array schema e typed = typed_arrays nothing (built schema e) refl typed tt
 pub is_given : (schema : Schema) (rows : List Row) (answer : Result ChunkedArray Memory) → IfOk answer (λ array. Is array (whole schema rows)) → IfOk answer (IsGiven schema rows)
 is_given schema rows (Err e) is = is
 is_given schema rows (Ok array) is = record { schema_is = is.schema; cells = arrays_have_cells array (whole schema rows) is; means = is }
-
--- ---- what is told of the whole
-
-pub sound_if : (answer : Result ChunkedArray ExecFault) (first : ℕ) (boxes : List Bounds) (old new : SourceState) (query : Query) → IfOk answer (IsComputed first boxes old new query) → IfOk answer IsSound
-sound_if (Err fault) first boxes old new query is = is
-sound_if (Ok array) first boxes old new query is = λ whole. (is.cells whole).placed
-
--- what is known of the leaves suffices
-executed : (boxes : List Bounds) (old new : SourceState) (query : Query) (array : ChunkedArray) → boxes ≡ whole_need query → IsTyped query → IsComputed 0 boxes old new query array → (db : Database) → old.tells db → Is array (meaning db query)
-executed boxes old new query array e typed made db tells =
-    let known : Database = by_number (known_of_leaves (chunks_listed old) db (leaves query) boxes) in
-    let holds : HoldsAll known 0 (known_of_leaves (chunks_listed old) db (leaves query) boxes) = holds_behind [] (known_of_leaves (chunks_listed old) db (leaves query) boxes) in
-    subst (Is array)
-    (suffices (chunks_listed old) db known query typed (made.leaves_are db tells) (subst (λ (z : List Bounds). HoldsAll known 0 (known_of_leaves (chunks_listed old) db (leaves query) z)) e holds))
-    (made.means db known tells holds)
-
-pub means_if : (answer : Result ChunkedArray ExecFault) (boxes : List Bounds) (old new : SourceState) (query : Query) → boxes ≡ whole_need query → IsTyped query → IfOk answer (IsComputed 0 boxes old new query)
-    → IfOk answer (λ array. (db : Database) → old.tells db → Is array (meaning db query))
-means_if (Err fault) boxes old new query e typed is = tt
-means_if (Ok array) boxes old new query e typed is = executed boxes old new query array e typed is

@@ -1,3 +1,4 @@
 mod ComputedLaws
+mod ExecutedLaws
 mod OperatorLaws
 mod SourceLaws

@@ -1,6 +1,6 @@
 //! What the last operator of a plan makes of the arrays of its sources.
-ghost use Rattle.std.specs.Prelude.{[], ◌∷◌, IfOk};
-ghost use Rattle.chunk_exec.specs.Inner.Operated.{CanOperate, IsResultOf};
+ghost use Rattle.std.specs.Prelude.{◌≡◌, true, [], ◌∷◌, IfOk};
+ghost use Rattle.chunk_exec.specs.Inner.Operated.{CanOperate, IsResultOf, makes_groups};
 
 use crate::steps::{aggregate, apply, between, filter, project, regrid, window};
 use afl_outside::Gate;
@@ -13,6 +13,26 @@ use logical_plan::{Plan, PlanNode};
 use redimension_exec::redimension;
 use std::alloc::Global;
 use std::thread::Threads;
+
+/// The array of a plan of one source, each of whose cells is made of several ones.
+fn of_groups<R: Threads + Sync, G: Gate>(
+    crew: &mut Crew<'_, R, G>,
+    alloc: Global,
+    plan: &Plan,
+    array: ChunkedArray,
+) -> Result<ChunkedArray, Memory>
+    requires can { CanOperate plan.now (array ∷ []) }
+    requires groups { makes_groups plan.now ≡ true }
+    ensures { IfOk result (IsResultOf plan.now (array ∷ [])) }
+{
+    match &plan.node {
+        PlanNode::Redimension(_, schema, aggs) => redimension(array, schema, aggs.as_slice()),
+        PlanNode::Regrid(_, blocks, aggs) => regrid(crew, alloc, plan, array, blocks, aggs),
+        PlanNode::Window(_, reach, aggs) => window(crew, alloc, plan, array, reach, aggs),
+        PlanNode::Aggregate(_, aggs, places) => aggregate(crew, alloc, plan, array, aggs, places),
+        _ => unreachable!(),
+    }
+}
 
 /// The array of a plan of one source.
 pub(crate) fn of_one<R: Threads + Sync, G: Gate>(
@@ -31,10 +51,10 @@ pub(crate) fn of_one<R: Threads + Sync, G: Gate>(
         PlanNode::Between(_, area) => between(crew, alloc, plan, array, area),
         PlanNode::Subarray(_, area) => subarray_owned(array, area),
         PlanNode::Slice(_, fixed) => slice_owned(array, fixed.as_slice()),
-        PlanNode::Redimension(_, schema, aggs) => redimension(array, schema, aggs.as_slice()),
-        PlanNode::Regrid(_, blocks, aggs) => regrid(crew, alloc, plan, array, blocks, aggs),
-        PlanNode::Window(_, reach, aggs) => window(crew, alloc, plan, array, reach, aggs),
-        PlanNode::Aggregate(_, aggs, places) => aggregate(crew, alloc, plan, array, aggs, places),
+        PlanNode::Redimension(..)
+        | PlanNode::Regrid(..)
+        | PlanNode::Window(..)
+        | PlanNode::Aggregate(..) => of_groups(crew, alloc, plan, array),
         _ => unreachable!(),
     }
 }

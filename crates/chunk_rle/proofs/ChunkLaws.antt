@@ -15,6 +15,7 @@ use Rattle.array_geom.specs.Datum.TheVariants.{Null}
 use Rattle.array_geom.specs.Cell.{Cell}
 use Rattle.array_geom.specs.Cell.TheVariants.{Full, Doubt}
 use Rattle.array_geom.specs.Attribute.{Attribute}
+use Rattle.cell_columns.specs.RowsIn.{AreLong}
 use Rattle.chunk_rle.specs.Frames.{Frame}
 use Rattle.chunk_rle.specs.declared.runs.PosRun.{PosRun}
 use Rattle.chunk_rle.specs.declared.runs.Column.{Column}
@@ -251,6 +252,18 @@ pub all_within : (frame : Frame) (attributes : List Attribute) (bytes : List ℕ
 all_within frame attributes bytes runs narrow fits e =
     let t = payload_takes frame attributes bytes runs fits e in
     All-from_recursion (λ (run : PosRun). run.start + run.length < 2 ^ 64) runs.positions (within frame (length runs.positions) no_positions runs.positions narrow t.0.positions.each)
+
+long_columns : (n : ℕ) (attributes : List Attribute) (columns : List Column) → Are (IsNextColumn n) others (length attributes) attributes columns → AreLong n (all_values columns)
+unfolding Are
+long_columns n [] [] good = tt
+long_columns n [] (column ∷ columns) good = absurd good
+long_columns n (attribute ∷ attributes) [] good = absurd good
+long_columns n (attribute ∷ attributes) (column ∷ columns) good = ((column_values attribute n column good.0).0, long_columns n attributes columns good.1)
+
+pub all_long : (frame : Frame) (attributes : List Attribute) (bytes : List ℕ) (runs : ChunkRuns) → AreBytes bytes → payload frame attributes bytes ≡ Ok runs → AreLong (length (positions_of runs.positions)) (all_values runs.columns)
+all_long frame attributes bytes runs fits e =
+    let t = payload_takes frame attributes bytes runs fits e in
+    subst (λ (n : ℕ). AreLong n (all_values runs.columns)) (count_is runs.positions) (long_columns (count_positions runs.positions) attributes runs.columns t.0.columns)
 
 pub chunk_read : (frame : Frame) (at : ArrayVec ℕ) (attributes : List Attribute) (bytes : List ℕ) (runs : ChunkRuns) (chunk : Chunk) → payload frame attributes bytes ≡ Ok runs → chunk ≡ chunk_of at runs → chunk_payload frame at attributes bytes ≡ Ok chunk
 unfolding chunk_payload

@@ -2,10 +2,11 @@
 use Rattle.std.proofs.Common.{◌≡◌, ℕ, zero, suc, ◌+◌, ◌<◌, ◌≤◌, ◌≢◌, true, false, List, [], ◌∷◌, ◌++◌, length, get_or, take, drop, map, replicate, refl, sym, ap, subst, ◌∙◌, append_assoc, arith, add-one, drop-cons}
 use Rattle.std.specs.Prelude.{◌==◌}
 use Rattle.std.proofs.lemmas.Bool.{eqb-true}
-use Rattle.std.proofs.lemmas.List.{append-nil, nil_from_length, length-drop}
+use Rattle.std.proofs.lemmas.List.{append-nil, map-append, nil_from_length, length-drop}
 use Rattle.array_geom.specs.Datum.{Datum}
 use Rattle.array_geom.specs.Cell.{Cell}
 use Rattle.array_geom.specs.Cell.TheVariants.{Full}
+use Rattle.cell_columns.specs.RowsIn.{rows_in}
 use Rattle.chunk_rle.specs.declared.runs.PosRun.{PosRun}
 use Rattle.chunk_rle.specs.declared.runs.Run.{Run}
 use Rattle.chunk_rle.specs.declared.runs.Column.{Column}
@@ -70,8 +71,18 @@ more_cells i (suc n) columns =
     let same : suc i + n ≡ i + suc n = omega arith in
     ap (λ (cs : List Cell). Full (row_at i columns) ∷ cs) (more_cells (suc i) n columns ∙ ap (λ (j : ℕ). cells_from (suc i) n columns ++ Full (row_at j columns) ∷ []) same)
 
-pub cells_more : (n : ℕ) (columns : List (List Datum)) → cells_from 0 (n + 1) columns ≡ cells_from 0 n columns ++ Full (row_at n columns) ∷ []
-cells_more n columns = rw add-one (more_cells 0 n columns ∙ ap (λ (j : ℕ). cells_from 0 n columns ++ Full (row_at j columns) ∷ []) (omega arith))
+next_cells : (n : ℕ) (columns : List (List Datum)) → cells_from 0 (suc n) columns ≡ cells_from 0 n columns ++ Full (row_at n columns) ∷ []
+next_cells n columns = more_cells 0 n columns ∙ ap (λ (j : ℕ). cells_from 0 n columns ++ Full (row_at j columns) ∷ []) (omega arith)
+
+rows_are_cells : (n : ℕ) (columns : List (List Datum)) → map Full (rows_in n columns) ≡ cells_from 0 n columns
+rows_are_cells zero columns = refl
+rows_are_cells (suc n) columns =
+    map-append Full (rows_in n columns) (row_at n columns ∷ [])
+    ∙ ap (λ (cs : List Cell). cs ++ Full (row_at n columns) ∷ []) (rows_are_cells n columns)
+    ∙ sym (next_cells n columns)
+
+pub cells_of_rows : (rows : List (List Datum)) (n : ℕ) (columns now : List (List Datum)) → rows ≡ rows_in n now → now ≡ columns → map Full rows ≡ cells_from 0 n columns
+cells_of_rows rows n columns now e f = ap (map Full) e ∙ ap (λ (cs : List (List Datum)). map Full (rows_in n cs)) f ∙ rows_are_cells n columns
 
 pub take_positions : (runs : List PosRun) (d : PosRun) (i : ℕ) → i < length runs → positions_of (take (suc i) runs) ≡ positions_of (take i runs) ++ numbers_from (get_or runs i d).start (get_or runs i d).length
 take_positions [] d i lt = absurd (omega (arith, lt))

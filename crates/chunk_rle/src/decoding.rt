@@ -1,21 +1,23 @@
 //! Decoding payloads.
-ghost use Rattle.std.specs.Prelude.{◌≡◌, ◌+◌, ◌<◌, ◌^◌, All, IfOk, IsTrue, Ok};
+ghost use Rattle.std.specs.Prelude.{◌≡◌, ◌+◌, ◌<◌, ◌^◌, length, All, IfOk, IsTrue, Ok};
 ghost use Rattle.file_items.specs.Items.{IsRead};
 ghost use Rattle.array_geom.specs.Schemas.{IsValid};
 ghost use Rattle.array_geom.specs.Schema.{Schema as ASchema};
 ghost use Rattle.array_geom.specs.Geometry.{has_core};
 ghost use Rattle.array_geom.specs.declared.chunk.Chunk.{Chunk as AChunk};
-ghost use Rattle.chunk_rle.specs.Chunks.{spelling, chunk_of, chunk_payload};
+ghost use Rattle.cell_columns.specs.RowsIn.{AreLong};
+ghost use Rattle.chunk_rle.specs.Chunks.{spelling, all_values, chunk_of, chunk_payload};
 ghost use Rattle.chunk_rle.specs.Decoding.{Answers, Told};
 ghost use Rattle.chunk_rle.specs.Frames.{frame_in, frame_of};
 ghost use Rattle.chunk_rle.specs.Inner.Ready.{IsReady};
+ghost use Rattle.chunk_rle.specs.Longest.{positions_of};
 ghost use Rattle.chunk_rle.specs.Stored.{IsStored};
 
-use crate::expanding::{all_values, cells, positions};
+use crate::expanding::{cells, positions};
 use crate::places::{Places, places_of};
 use crate::reading::payload;
 use crate::runs::ChunkRuns;
-use array_geom::{Attribute, Cells, Chunk, ChunkAt, Memory, Schema, copy_numbers};
+use array_geom::{Attribute, Chunk, ChunkAt, Memory, Schema, copy_numbers};
 use file_items::Stop;
 use std::alloc::Global;
 
@@ -41,16 +43,16 @@ fn told(bytes: &[u8], stop: Stop) -> BadPayload
 
 /// The chunk that these runs are of.
 fn chunk(alloc: Global, at: &ChunkAt, runs: &ChunkRuns) -> Result<Chunk, Memory>
-    requires { All (λ run. run.start + run.length < 2 ^ 64) runs.now.positions }
+    requires within { All (λ run. run.start + run.length < 2 ^ 64) runs.now.positions }
+    requires long { AreLong (length (positions_of runs.now.positions)) (all_values runs.now.columns) }
     ensures { IfOk result (λ chunk. chunk ≡ chunk_of at.now runs.now) }
 {
     let positions = positions(alloc, runs.positions.as_slice())?;
-    let columns = all_values(alloc, runs.columns.as_slice())?;
-    let cells = cells(alloc, columns.as_slice(), positions.len())?;
+    let cells = cells(alloc, runs.columns.as_slice(), positions.len())?;
     Ok(Chunk {
         at: copy_numbers(at),
         positions,
-        cells: Cells::from_list(cells),
+        cells,
     })
 }
 

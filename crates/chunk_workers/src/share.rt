@@ -1,14 +1,18 @@
 //! How many workers pieces are given to, and which run of them falls to whom.
 ghost use Rattle.std.specs.Prelude.{◌≤◌};
 
-// A thread costs some 10 microseconds, a piece often less.
+/// How many pieces each worker has at least.
 const PIECES_EACH: usize = 2;
 
-/// So many workers, or fewer where they would have less than two pieces each.
-pub(crate) fn worth(pieces: usize, workers: u32) -> u32
+/// The work of how many cells each worker has at least: a thread costs some 20 microseconds, a cell 10 to 100 nanoseconds.
+const CELLS_EACH: usize = 4_000;
+
+/// So many workers, or fewer where they would have too few pieces or cells each. All pieces are the work of about so many cells.
+pub(crate) fn worth(pieces: usize, cells: usize, workers: u32) -> u32
     ensures { result ≤ workers }
 {
-    let most = u32::try_from(pieces / PIECES_EACH).unwrap_or(workers);
+    let runs = (pieces / PIECES_EACH).min(cells / CELLS_EACH);
+    let most = u32::try_from(runs).unwrap_or(workers);
     most.min(workers)
 }
 

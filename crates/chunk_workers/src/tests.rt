@@ -1,6 +1,7 @@
-//! Two threads at work at once.
+//! How many workers pieces are worth, and two threads at work at once.
 ghost use Rattle.std.specs.Prelude.{⊤};
 
+use crate::share::worth;
 use crate::{Crew, Work, over_pieces};
 use afl_outside::{Gate, Point};
 use cell_values::{List, Memory};
@@ -18,6 +19,10 @@ impl Work<u32, u64> for Doubles {
     ghost accepts = { λ work piece. ⊤ };
 
     ghost gives = { λ work piece made. ⊤ };
+
+    fn size(&self, _piece: &u32) -> usize {
+        2_000
+    }
 
     fn work(&self, piece: u32) -> Result<u64, Memory> {
         Ok(u64::from(piece) * 2)
@@ -75,4 +80,12 @@ fn is_let_go<R: Threads + Sync>(rt: &R, alloc: Global, workers: u32) -> Result<b
 fn two_threads_work_at_once(rt: HostRuntime) {
     assert!(&rt; matches!(is_let_go(&rt, rt.alloc(), 2), Ok(true)));
     assert!(&rt; matches!(is_let_go(&rt, rt.alloc(), 64), Ok(true)));
+}
+
+#[test]
+fn few_pieces_or_cells_are_worth_few_workers(rt: HostRuntime) {
+    assert!(&rt; worth(8, 40, 4) == 0);
+    assert!(&rt; worth(8, 8_000, 4) == 2);
+    assert!(&rt; worth(3, 1_000_000, 4) == 1);
+    assert!(&rt; worth(1_000, 1_000_000, 4) == 4);
 }

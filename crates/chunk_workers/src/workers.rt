@@ -10,6 +10,19 @@ use afl_outside::{Gate, Point};
 use cell_values::{List, Memory};
 use std::thread::{Threads, join};
 
+/// About how many cells pieces are the work of.
+fn size_of_all<P, M, W: Work<P, M>>(pieces: &[P], work: &W) -> usize
+    requires { AllByRecursion (W.accepts work.now) pieces.now }
+{
+    let mut rest = pieces;
+    let mut size = 0usize;
+    while let Some((piece, further)) = rest.split_first() {
+        size = size.saturating_add(work.size(piece));
+        rest = further;
+    }
+    size
+}
+
 /// What becomes of each piece, one after the other. The gate is passed before each; the first one's number is `first`.
 fn in_turn<P: Drop, M: Drop, W: Work<P, M>, G: Gate>(
     pieces: List<P>,
@@ -71,8 +84,8 @@ fn in_parts<R: Threads + Sync, P: Send + Drop, M: Send + Drop, W: Work<P, M>, G:
 }
 
 /// What becomes of each piece, in the order of the pieces. At most as many threads as the crew has workers are at work, the caller's
-/// among them, each on one piece after the other; where no thread can be made the caller's does it all. The gate is passed before
-/// each piece, with the pieces' numbers. Want of memory at one piece is the answer.
+/// among them, each on one piece after the other, and fewer where there is little work; where no thread can be made the caller's
+/// does it all. The gate is passed before each piece, with the pieces' numbers. Want of memory at one piece is the answer.
 pub fn over_pieces<R: Threads + Sync, P: Send + Drop, M: Send + Drop, W: Work<P, M>, G: Gate>(
     crew: &mut Crew<'_, R, G>,
     pieces: List<P>,
@@ -86,7 +99,8 @@ pub fn over_pieces<R: Threads + Sync, P: Send + Drop, M: Send + Drop, W: Work<P,
 {
     let first = crew.pieces;
     crew.pieces = first.saturating_add(pieces.len() as u64);
-    let workers = worth(pieces.len(), crew.workers);
+    let cells = size_of_all::<P, M, W>(pieces.as_slice(), work);
+    let workers = worth(pieces.len(), cells, crew.workers);
     in_parts(
         crew.rt,
         pieces,

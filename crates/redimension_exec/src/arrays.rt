@@ -6,6 +6,7 @@ mod building;
 mod cells;
 mod gathering;
 mod groups;
+mod moving;
 mod ordering;
 
 pub use arrays::redimension;

@@ -8,5 +8,7 @@ mod ordering;
 mod places;
 
 pub use carrying::{bounds_of, carried_rows};
+pub(crate) use landing::land_rows;
 pub use numbers::first_numbers;
+pub(crate) use ordering::in_order;
 pub use places::{Place, places_of_attributes, places_of_dimensions};

@@ -1,5 +1,5 @@
 -- The plans on whose arrays the last operator of a plan works, and what it makes of them.
-use Rattle.std.specs.Prelude.{◌≡◌, List, [], ◌∷◌}
+use Rattle.std.specs.Prelude.{◌≡◌, Bool, true, false, List, [], ◌∷◌}
 use Rattle.std.specs.List.{AllByRecursion, AllZip}
 use Rattle.array_parts.specs.Cores.{HasCells}
 use Rattle.array_geom.specs.declared.chunk.ChunkedArray.{ChunkedArray}
@@ -34,6 +34,14 @@ sources (redimensioned source schema gs) = source ∷ []
 sources (regridded source sizes gs) = source ∷ []
 sources (windowed source reach gs) = source ∷ []
 sources (aggregated source gs places) = source ∷ []
+
+-- the last operator of a plan makes a cell of several ones
+abbrev pub makes_groups : Query → Bool
+makes_groups (redimensioned source schema gs) = true
+makes_groups (regridded source sizes gs) = true
+makes_groups (windowed source reach gs) = true
+makes_groups (aggregated source gs places) = true
+makes_groups query = false
 
 -- what the last operator of a plan makes of what its sources mean
 abbrev pub operated : Query → List Meant → Meant

@@ -20,7 +20,7 @@ use crate::arrays::numbers::{in_order, push_corners};
 use crate::arrays::turns::in_turn;
 use crate::rows::part_of_rows;
 use area_cells::{array_of_parts, chunk_of_rows, rows_in_area};
-use array_geom::{Boxes, Chunk, ChunkedArray, frame, margins_of};
+use array_geom::{Boxes, Chunk, ChunkedArray, frame, grid_of, margins_of};
 use cell_values::{Bounds, ChunkAt, Coord, List, Margins, Memory, Row, Schema};
 use chunk_workers::Work;
 
@@ -87,6 +87,10 @@ impl Work<ChunkAt, Chunk> for OfPart<'_> {
 
     ghost gives = { λ of number made. IsPartAt of.schema.now of.margins.now.items
         (subarray_rows (meet (bounds_of of.array.now.schema.dimensions) of.area.now) (cores_of of.array.now)) number made };
+
+    fn size(&self, number: &ChunkAt) -> usize {
+        grid_of(self.schema, self.margins, number).volume() as usize
+    }
 
     fn work(&self, number: ChunkAt) -> Result<Chunk, Memory> {
         chunk_of_part(self.array, self.area, self.schema, self.margins, &number)

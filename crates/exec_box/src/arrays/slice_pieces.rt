@@ -17,7 +17,7 @@ use crate::arrays::numbers::{in_order, push_core};
 use crate::arrays::turns::in_turn;
 use crate::rows::{is_fixed, slice_of_rows};
 use area_cells::{array_of_parts, chunk_of_rows, rows_in_area};
-use array_geom::{Chunk, ChunkedArray, frame, margins_of};
+use array_geom::{Chunk, ChunkedArray, frame, grid_of, margins_of};
 use cell_values::{Bounds, ChunkAt, Coord, Dimension, List, Margins, Memory, Row, Schema};
 use chunk_workers::Work;
 use logical_plan::Fixed;
@@ -109,6 +109,10 @@ impl Work<ChunkAt, Chunk> for OfSlice<'_> {
         × HasFrame of.schema.now of.margins.now.items number.items };
 
     ghost gives = { λ of number made. IsPartAt of.schema.now of.margins.now.items (slice_rows of.fixed.now (cores_of of.array.now)) number made };
+
+    fn size(&self, number: &ChunkAt) -> usize {
+        grid_of(self.schema, self.margins, number).volume() as usize
+    }
 
     fn work(&self, number: ChunkAt) -> Result<Chunk, Memory> {
         chunk_of_slice(self.array, self.fixed, self.schema, self.margins, &number)

@@ -24,6 +24,10 @@ impl<O: ChunkOperator + Sync> Work<Chunk, Chunk> for OnChunk<'_, O> {
 
     ghost gives = { λ on chunk made. IsMadeBy (O.operator on.operator.now) on.schema.now.dimensions on.margins.now.items chunk made };
 
+    fn size(&self, chunk: &Chunk) -> usize {
+        chunk.cells.len()
+    }
+
     fn work(&self, chunk: Chunk) -> Result<Chunk, Memory> {
         self.operator.apply(self.schema, self.margins, chunk)
     }

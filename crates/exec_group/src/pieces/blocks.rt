@@ -38,6 +38,10 @@ impl Work<Chunk, Groups> for ByBlocks<'_> {
 
     ghost gives = { λ by chunk part. IsBlockPartOf by.aggs.now by.blocks.now by.schema.now.dimensions by.margins.now.items chunk part };
 
+    fn size(&self, chunk: &Chunk) -> usize {
+        chunk.cells.len()
+    }
+
     fn work(&self, chunk: Chunk) -> Result<Groups, Memory> {
         regrid_part(self.schema, self.margins, chunk, self.blocks, self.aggs)
     }

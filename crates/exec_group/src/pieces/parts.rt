@@ -32,6 +32,10 @@ impl Work<Chunk, Groups> for ByNames<'_> {
 
     ghost gives = { λ by chunk part. IsPartOf by.aggs.now by.dims.now by.schema.now.dimensions by.margins.now.items chunk part };
 
+    fn size(&self, chunk: &Chunk) -> usize {
+        chunk.cells.len()
+    }
+
     fn work(&self, chunk: Chunk) -> Result<Groups, Memory> {
         aggregate_part(self.schema, self.margins, chunk, self.aggs, self.dims)
     }

@@ -15,7 +15,7 @@ ghost use Rattle.exec_join.specs.Inner.Pieces.{paired_place, set_aside};
 use crate::arrays::cross_numbers::{crossed_numbers, unpaired_numbers};
 use crate::rows::{cross_of_rows, right_places};
 use area_cells::{array_of_parts, chunk_of_rows, rows_in_area};
-use array_geom::{Chunk, ChunkedArray, frame, margins_of};
+use array_geom::{Chunk, ChunkedArray, frame, grid_of, margins_of};
 use cell_values::{
     Bounds, ChunkAt, Coord, Dimension, List, Margins, Memory, Row, Schema, number_at,
 };
@@ -173,6 +173,10 @@ impl Work<ChunkAt, Chunk> for OfCross<'_> {
 
     ghost gives = { λ of number made. IsPartAt of.schema.now of.margins.now.items
         (cross_rows of.pairs.now (cores_of of.left.now) (cores_of of.right.now)) number made };
+
+    fn size(&self, number: &ChunkAt) -> usize {
+        grid_of(self.schema, self.margins, number).volume() as usize
+    }
 
     fn work(&self, number: ChunkAt) -> Result<Chunk, Memory> {
         chunk_of_cross(

@@ -16,7 +16,7 @@ ghost use Rattle.exec_join.specs.Meant.{join_meant};
 use crate::rows::join_of_rows;
 use afl_outside::Gate;
 use area_cells::{array_of_parts, chunk_of_rows, numbers_of, rows_in_area};
-use array_geom::{Chunk, ChunkedArray, frame, margins_of};
+use array_geom::{Chunk, ChunkedArray, frame, grid_of, margins_of};
 use cell_values::{Bounds, ChunkAt, List, Margins, Memory, Row, Schema};
 use chunk_workers::{Crew, Work, over_pieces};
 use std::thread::Threads;
@@ -73,6 +73,10 @@ impl Work<ChunkAt, Chunk> for OfBoth<'_> {
         × HasFrame of.schema.now of.margins.now.items number.items };
 
     ghost gives = { λ of number made. IsPartAt of.schema.now of.margins.now.items (join_rows (cores_of of.left.now) (cores_of of.right.now)) number made };
+
+    fn size(&self, number: &ChunkAt) -> usize {
+        grid_of(self.schema, self.margins, number).volume() as usize
+    }
 
     fn work(&self, number: ChunkAt) -> Result<Chunk, Memory> {
         join_part(self.left, self.right, self.schema, self.margins, &number)

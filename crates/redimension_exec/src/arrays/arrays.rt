@@ -1,17 +1,16 @@
 //! Redimensions, with aggregates or without.
-ghost use Rattle.std.specs.Prelude.{◌≡◌, ℕ, ◌≤◌, ◌<◌, ◌^◌, None, List as Items, length, IsTrue, IfOk};
+ghost use Rattle.std.specs.Prelude.{◌≡◌, ◌≤◌, ◌<◌, ◌^◌, None, length, IsTrue, IfOk};
 ghost use Rattle.cell_values.specs.Schemas.{IsValid};
-ghost use Rattle.cell_values.specs.declared.schema.Dimension.{Dimension};
 ghost use Rattle.array_parts.specs.Cores.{HasCells, HaveCells, cores_of, meant_by_cores};
 ghost use Rattle.array_geom.specs.Geometry.{overlaps};
-ghost use Rattle.array_geom.specs.Link.{Is, NumbersRise, core_rows, numbers};
+ghost use Rattle.array_geom.specs.Link.{Is, NumbersRise, numbers};
 ghost use Rattle.logical_plan.specs.Meaning.{redimensioned_from};
 ghost use Rattle.logical_plan.specs.Typing.{redimensions};
 
+use crate::arrays::bands::has_bands;
 use crate::arrays::building::{broken_target, fitted_array};
 use crate::arrays::cells::redimension_cells;
 use crate::arrays::gathering::{gathered_in_bands, gathered_rows};
-use area_cells::{are_few, are_rising};
 use array_geom::ChunkedArray;
 use cell_values::{Memory, Schema};
 use exec_group::rows_of_cores;
@@ -60,16 +59,6 @@ fn of_bands(
         Ok(rows) => fitted_array(target, rows),
         Err(broken) => broken_target(target, &broken),
     }
-}
-
-/// Whether an array has bands: chunks whose numbers rise, as those of an array do, with cells that can be counted.
-fn has_bands(array: &ChunkedArray) -> bool
-    ensures rise { IsTrue result → NumbersRise (numbers array.now.chunks) }
-    ensures some { IsTrue result → 0 < length array.now.chunks }
-    ensures few { IsTrue result → (dims : Items Dimension) (margins : Items ℕ) → length (core_rows dims margins array.now.chunks) < 2 ^ 63 }
-{
-    let chunks = array.chunks.as_slice();
-    !chunks.is_empty() && are_rising(chunks, array.schema.dimensions.len()) && are_few(chunks)
 }
 
 /// The redimension with aggregates of an array that is not broken.

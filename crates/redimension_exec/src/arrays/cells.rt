@@ -8,16 +8,22 @@ ghost use Rattle.array_geom.specs.Link.{Is};
 ghost use Rattle.logical_plan.specs.Meaning.{redimensioned_from};
 ghost use Rattle.logical_plan.specs.Redimension.{carried_rows, origin_of, value_origin};
 ghost use Rattle.logical_plan.specs.Typing.{redimensions};
+ghost use Rattle.redimension_exec.specs.Inner.Bands.{AreBands};
 
+use crate::arrays::bands::has_bands;
 use crate::arrays::building::{broken_target, fitted_array};
-use crate::places::carried_rows;
+use crate::arrays::moving::landed_in_bands;
+use crate::places::{carried_rows, in_order};
 use array_geom::ChunkedArray;
 use cell_values::{Broken, List, Memory, Row, Schema};
 use exec_group::rows_of_cores;
 
-/// The rows of an array's cores at the target's coordinates, or the first one that breaks the result.
+/// The rows of an array's cores at the target's coordinates, or the first one that breaks the result, from all rows.
 #[tactic(auto, using(crate::proofs::MeantLaws::few_dimensions))]
-fn carried_from(array: ChunkedArray, target: &Schema) -> Result<Result<List<Row>, Broken>, Memory>
+fn carried_from_all(
+    array: ChunkedArray,
+    target: &Schema,
+) -> Result<Result<List<Row>, Broken>, Memory>
     requires cells { HaveCells array.schema array.margins.items array.chunks }
     requires valid { IsValid target.now }
     ensures { IfOk result (λ made. made ≡ carried_rows (map (origin_of array.schema) target.now.dimensions)
@@ -26,6 +32,38 @@ fn carried_from(array: ChunkedArray, target: &Schema) -> Result<Result<List<Row>
     let source = array.schema.copy()?;
     let rows = rows_of_cores(array)?;
     carried_rows(&source, target, &rows)
+}
+
+/// The same band by band.
+#[tactic(auto, using(crate::proofs::MeantLaws::few_dimensions))]
+fn carried_in_bands(
+    array: ChunkedArray,
+    target: &Schema,
+) -> Result<Result<List<Row>, Broken>, Memory>
+    requires bands { AreBands array.schema array.margins.items array.chunks }
+    requires valid { IsValid target.now }
+    ensures { IfOk result (λ made. made ≡ carried_rows (map (origin_of array.schema) target.now.dimensions)
+        (bounds_of target.now.dimensions) (map (value_origin array.schema) target.now.attributes) (cores_of array)) }
+{
+    let landed = landed_in_bands(array, target)?;
+    match landed {
+        Ok(made) => Ok(Ok(in_order(made)?)),
+        Err(broken) => Ok(Err(broken)),
+    }
+}
+
+/// The same, band by band where the array has bands.
+fn carried_from(array: ChunkedArray, target: &Schema) -> Result<Result<List<Row>, Broken>, Memory>
+    requires cells { HaveCells array.schema array.margins.items array.chunks }
+    requires valid { IsValid target.now }
+    ensures { IfOk result (λ made. made ≡ carried_rows (map (origin_of array.schema) target.now.dimensions)
+        (bounds_of target.now.dimensions) (map (value_origin array.schema) target.now.attributes) (cores_of array)) }
+{
+    if has_bands(&array) {
+        carried_in_bands(array, target)
+    } else {
+        carried_from_all(array, target)
+    }
 }
 
 /// The redimension of an array that is not broken.

@@ -4,7 +4,7 @@ ghost use Rattle.array_rows.specs.Rows.{Coordinate};
 ghost use Rattle.logical_plan.specs.Redimension.{landed, carried};
 ghost use Rattle.redimension_exec.specs.Inner.Counting.{AreCountsOf, HasLows};
 ghost use Rattle.redimension_exec.specs.Inner.Places.{origin};
-ghost use Rattle.redimension_exec.specs.Inner.Steps.{IsPlaced, IsLanded, IsStep, continued, targets_of};
+ghost use Rattle.redimension_exec.specs.Inner.Steps.{AreSteps, IsPlaced, IsLanded, IsStep, continued, targets_of};
 
 use crate::places::counting::{collides, count_of, count_one, target_within, uncounted};
 use crate::places::numbers::{first_numbers, values_from};
@@ -92,6 +92,30 @@ fn land_next(
     }
 }
 
+/// Adds what rows make, or says which of them is the first that breaks the array.
+pub(crate) fn land_rows(
+    places: &[Place],
+    bounds: &Bounds,
+    values: &[Place],
+    counts: &mut BTreeMap<Coord, u64>,
+    made: &mut List<Row>,
+    rows: &List<Row>,
+) -> Result<Option<Broken>, Memory>
+    requires few { length places.now ≤ 6 }
+    requires counts { AreCountsOf (map origin places.now) (targets_of made.old) counts.old }
+    ensures { IfOk result (λ broken. AreSteps (map origin places.now) bounds.now (map origin values.now) made.old rows.now broken made.new counts.new) }
+{
+    for row in rows.as_slice() {
+        if let Some(kind) = land_next(places, bounds, values, counts, made, row)? {
+            return Ok(Some(Broken {
+                at: copy_coord(&row.at),
+                kind,
+            }));
+        }
+    }
+    Ok(None)
+}
+
 /// The rows at their targets in the order of the source's rows, or the first one that breaks the array.
 pub(crate) fn landed(
     places: &[Place],
@@ -104,13 +128,8 @@ pub(crate) fn landed(
 {
     let mut counts = BTreeMap::new(rows.allocator());
     let mut made = rows.another();
-    for row in rows.as_slice() {
-        if let Some(kind) = land_next(places, bounds, values, &mut counts, &mut made, row)? {
-            return Ok(Err(Broken {
-                at: copy_coord(&row.at),
-                kind,
-            }));
-        }
+    match land_rows(places, bounds, values, &mut counts, &mut made, rows)? {
+        Some(broken) => Ok(Err(broken)),
+        None => Ok(Ok(made)),
     }
-    Ok(Ok(made))
 }

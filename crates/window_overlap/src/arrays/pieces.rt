@@ -18,7 +18,7 @@ ghost use Rattle.window_overlap.specs.Meant.{window_meant};
 use crate::chunks::{reach_of, windows_inside};
 use afl_outside::Gate;
 use area_cells::{array_of_parts, chunk_of_rows, numbers_of, rows_in_area};
-use array_geom::{Chunk, ChunkedArray, frame, margins_of};
+use array_geom::{Chunk, ChunkedArray, frame, grid_of, margins_of};
 use cell_values::{Bounds, ChunkAt, List, Margins, Memory, Row, Schema};
 use chunk_workers::{Crew, Work, over_pieces};
 use logical_plan::{Aggregate, Reach};
@@ -100,6 +100,10 @@ impl Work<ChunkAt, Chunk> for OfArray<'_> {
         × HasFrame of.target.now of.margins.now.items number.items };
 
     ghost gives = { λ of number made. IsPartAt of.target.now of.margins.now.items (window_rows of.reach.now of.aggs.now (cores_of of.array.now)) number made };
+
+    fn size(&self, number: &ChunkAt) -> usize {
+        grid_of(self.target, self.margins, number).volume() as usize
+    }
 
     fn work(&self, number: ChunkAt) -> Result<Chunk, Memory> {
         window_part(

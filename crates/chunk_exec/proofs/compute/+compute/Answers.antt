@@ -1,10 +1,9 @@
-use Rattle.std.proofs.Common.{ℕ, ◌+◌, ◌<◌, ◌≤◌, drop, length, sym, subst, rules, arith}
-use Rattle.std.proofs.lemmas.Grind.{common_steps}
+use Rattle.std.proofs.Common.{◌+◌, ◌<◌, ◌≤◌, drop, length, rules, arith}
 use Rattle.logical_plan.specs.Leaves.{leaves}
 use Rattle.logical_plan.specs.Query.{query_size}
-use Rattle.chunk_source.proofs.ReadLemmas.{on_err}
+use Rattle.chunk_source.proofs.ReadLemmas.{keeps_on, on_err}
 use Rattle.chunk_exec.specs.Computed.{CanCompute}
-use Rattle.chunk_exec.proofs.ComputedLaws.{can_left, can_right, can_source, computed_one, computed_two, count_two, enough_for_both, enough_for_one, front_both, front_left, front_made, front_one, front_right}
+use Rattle.chunk_exec.proofs.ComputedLaws.{can_left, can_right, can_source, computed_one, computed_two, count_two, enough_for_both, enough_for_one, enough_for_right, front_both, front_left, front_made, front_one, front_right}
 use Rattle.chunk_exec.proofs.SourceLaws.{left_is_smaller, right_is_smaller, source_is_smaller}
 use Rattle.chunk_exec.proofs.compute.+compute.Goals as goal
 
@@ -13,25 +12,24 @@ over_one-compute-requires g t c κs within =
     let enough = enough_for_one c.args.next.now c.args.boxes.now c.args.plan.now c.args.from.now c.requires.from c.requires.enough in
     let can : CanCompute (g.S.ChunkSource.state c.args.source.now) c.args.from.now = can_source (g.S.ChunkSource.state c.args.source.now) c.args.plan.now c.args.from.now c.requires.from c.requires.can in
     let less : query_size c.args.from.now < query_size c.args.plan.now = source_is_smaller c.args.plan.now c.args.from.now c.requires.from in
-    first_of (search (rules, can, enough), search (rules, can, enough, less), grind (arith, common_steps, can, enough, less))
+    (omega (arith, less, c.decreases), search (rules, can, enough))
 
 pub over_two-compute-requires : goal.over_two-compute-requires
 over_two-compute-requires g t c κs within =
     let enough = (enough_for_both c.args.next.now c.args.boxes.now c.args.plan.now c.args.left.now c.args.right.now c.requires.both c.requires.enough).0 in
     let can : CanCompute (g.S.ChunkSource.state c.args.source.now) c.args.left.now = can_left (g.S.ChunkSource.state c.args.source.now) c.args.plan.now c.args.left.now c.args.right.now c.requires.both c.requires.can in
     let less : query_size c.args.left.now < query_size c.args.plan.now = left_is_smaller c.args.plan.now c.args.left.now c.args.right.now c.requires.both in
-    first_of (search (rules, can, enough), search (rules, can, enough, less), grind (arith, common_steps, can, enough, less))
+    (omega (arith, less, c.decreases), search (rules, can, enough))
 
 pub over_two-compute-requires-2 : goal.over_two-compute-requires-2
 over_two-compute-requires-2 g t c κs within =
-    let both = (enough_for_both c.args.next.now c.args.boxes.now c.args.plan.now c.args.left.now c.args.right.now c.requires.both c.requires.enough).1 in
     let enough : c.compute.new.next + length (leaves c.args.right.now) ≤ length c.args.boxes.now
-    = subst (λ (n : ℕ). n + length (leaves c.args.right.now) ≤ length c.args.boxes.now) (sym c.in_ok-left.ensures.next) both in
+    = enough_for_right c.args.next.now c.compute.new.next c.args.boxes.now c.args.plan.now c.args.left.now c.args.right.now c.requires.both c.requires.enough c.in_ok-left.ensures.next in
     let mid = g.S.ChunkSource.state c.compute.new.source in
     let can : CanCompute mid c.args.right.now
     = can_right (g.S.ChunkSource.state c.args.source.now) mid c.args.plan.now c.args.left.now c.args.right.now c.requires.both c.in_ok-left.ensures.kept c.requires.can in
     let less : query_size c.args.right.now < query_size c.args.plan.now = right_is_smaller c.args.plan.now c.args.left.now c.args.right.now c.requires.both in
-    first_of (search (rules, can, enough), search (rules, can, enough, less), grind (arith, common_steps, can, enough, less))
+    (omega (arith, less, c.decreases), search (rules, can, enough))
 
 pub over_one-returns-clause-computed : goal.over_one-returns-clause-computed
 over_one-returns-clause-computed g t c =
@@ -77,3 +75,15 @@ over_two-returns-in_err-of_two-clause-front g t c =
     let enough = (enough_for_both c.args.next.now c.args.boxes.now c.args.plan.now c.args.left.now c.args.right.now c.requires.both c.requires.enough).0 in
     on_err c.from_residual-in_err-of_two.result _ (front_both c.args.plan.now c.args.next.now c.args.boxes.now (g.S.ChunkSource.state c.args.source.now) (g.S.ChunkSource.state c.compute-2.new.source) c.compute.new.next (g.S.ChunkSource.state c.compute.new.source)
     c.args.left.now c.args.right.now c.in_ok-left.left c.in_ok-right.right c.requires.both left.kept left.next enough left.computed c.in_ok-right.ensures.computed)
+
+pub over_two-returns-clause-kept : goal.over_two-returns-clause-kept
+over_two-returns-clause-kept g t c =
+    keeps_on (g.S.ChunkSource.state c.args.source.now) (g.S.ChunkSource.state c.compute.new.source) (g.S.ChunkSource.state c.compute-2.new.source) c.in_ok-left.ensures.kept c.in_ok-right.ensures.kept
+
+pub over_two-returns-in_err-right-clause-kept : goal.over_two-returns-in_err-right-clause-kept
+over_two-returns-in_err-right-clause-kept g t c =
+    keeps_on (g.S.ChunkSource.state c.args.source.now) (g.S.ChunkSource.state c.compute.new.source) (g.S.ChunkSource.state c.compute-2.new.source) c.in_ok-left.ensures.kept c.in_err-right.ensures.kept
+
+pub over_two-returns-in_err-of_two-clause-kept : goal.over_two-returns-in_err-of_two-clause-kept
+over_two-returns-in_err-of_two-clause-kept g t c =
+    keeps_on (g.S.ChunkSource.state c.args.source.now) (g.S.ChunkSource.state c.compute.new.source) (g.S.ChunkSource.state c.compute-2.new.source) c.in_ok-left.ensures.kept c.in_ok-right.ensures.kept

@@ -1,18 +1,27 @@
-use Rattle.std.proofs.Common.{length, ap, ◌∙◌, arith}
-use Rattle.leaf_numbers.proofs.SufficientLaws.{whole_needs}
-use Rattle.chunk_exec.proofs.ComputedLaws.{means_if, sound_if}
+use Rattle.chunk_exec.proofs.ExecutedLaws.{asked_if, can_settled, cells_if, front_if, means_if, schema_if, sound_if}
 use Rattle.chunk_exec.proofs.running.execute.Goals as goal
 
-pub compute-requires-clause-enough : goal.compute-requires-clause-enough
-compute-requires-clause-enough g c =
-    let same = c.as_slice.ensures ∙ c.in_ok-boxes.ensures in
-    let many = ap (λ z. length z) same ∙ whole_needs c.args.plan.now in
-    omega (arith, many)
+pub run-answer-requires-clause-can : goal.run-answer-requires-clause-can
+run-answer-requires-clause-can g c κs lives = can_settled c.args.plan.now c.in_ok-settled.settled c.in_ok-settled.ensures (g.S.ChunkSource.state c.args.source.now) c.requires.can
+
+pub returns-clause-schema : goal.returns-clause-schema
+returns-clause-schema g c =
+    schema_if c.args.plan.now c.in_ok-settled.settled c.in_ok-settled.ensures c.run-answer.result (g.S.ChunkSource.state c.args.source.now) (g.S.ChunkSource.state c.run-answer.new.source) c.run-answer.ensures.computed
 
 pub returns-clause-sound : goal.returns-clause-sound
-returns-clause-sound g c = sound_if c.compute.result _ _ _ _ _ c.compute.ensures.computed
+returns-clause-sound g c = sound_if c.run-answer.result _ _ _ _ c.run-answer.ensures.computed
+
+pub returns-clause-cells : goal.returns-clause-cells
+returns-clause-cells g c = cells_if c.run-answer.result _ _ _ _ c.run-answer.ensures.computed
 
 pub returns-clause-means : goal.returns-clause-means
 returns-clause-means g c =
-    means_if c.compute.result c.as_slice.result.now (g.S.ChunkSource.state c.args.source.now) (g.S.ChunkSource.state c.compute.new.source) c.args.plan.now (c.as_slice.ensures ∙ c.in_ok-boxes.ensures) c.requires.can.typed
-    c.compute.ensures.computed
+    means_if c.args.plan.now c.in_ok-settled.settled c.in_ok-settled.ensures c.run-answer.result (g.S.ChunkSource.state c.args.source.now) (g.S.ChunkSource.state c.run-answer.new.source) c.run-answer.ensures.computed
+
+pub returns-clause-asked : goal.returns-clause-asked
+returns-clause-asked g c =
+    asked_if c.args.plan.now c.in_ok-settled.settled c.in_ok-settled.ensures c.run-answer.result (g.S.ChunkSource.state c.args.source.now) (g.S.ChunkSource.state c.run-answer.new.source) c.run-answer.ensures.computed
+
+pub returns-clause-front : goal.returns-clause-front
+returns-clause-front g c =
+    front_if c.args.plan.now c.in_ok-settled.settled c.in_ok-settled.ensures c.run-answer.result (g.S.ChunkSource.state c.args.source.now) (g.S.ChunkSource.state c.run-answer.new.source) c.run-answer.ensures.front
