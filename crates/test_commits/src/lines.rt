@@ -1,9 +1,8 @@
 //! Lines, and what they are answered.
 ghost use Rattle.std.specs.Prelude.{IfOk};
-ghost use Rattle.test_commits.specs.Runs.{IsRun};
+ghost use Rattle.test_steps.specs.Runs.{IsRun};
 
 use crate::bench::Bench;
-use crate::sessions::{Run, Step, answer_to, create_all};
 use anyhow::Result;
 use cell_values::Memory;
 use std::alloc::{AllocError, Global};
@@ -11,6 +10,7 @@ use std::thread::Threads;
 use test_disks::QuietDisk;
 use test_kit::begin_answer;
 use test_readings::{Answer, opened, reaped};
+use test_steps::{Run, Step, answer_to, create_all};
 
 /// Adds how many pages nobody can name, and how many entries and notes there are.
 fn push_counts(out: &mut String, run: &mut Run) -> Result<(), AllocError>
@@ -23,22 +23,6 @@ fn push_counts(out: &mut String, run: &mut Run) -> Result<(), AllocError>
     writeln!(out, "{free} pages free, {entries} entries, {notes} notes")
 }
 
-/// The answer to the words of a line that is a step of a session.
-fn answer_step<R: Threads + Sync>(rt: &R, alloc: Global, run: &mut Run, words: &[&str]) -> Answer
-    requires { IsRun run.old }
-    ensures { IsRun run.new }
-{
-    match words {
-        ["pin", session] => answer_to(rt, alloc, run, session, Step::Pin),
-        ["unpin", session] => answer_to(rt, alloc, run, session, Step::Unpin),
-        ["cells", session, word] => answer_to(rt, alloc, run, session, Step::Cells(word)),
-        ["versions", session, word] => answer_to(rt, alloc, run, session, Step::Versions(word)),
-        ["create", from, to] => create_all(rt, alloc, run, from, to),
-        ["reap"] => reaped(&mut run.store),
-        _ => Answer::Unknown,
-    }
-}
-
 /// The text behind the first two words of a line, each with a space.
 fn text_behind(line: &str) -> &str {
     match line.split_once(' ') {
@@ -48,6 +32,52 @@ fn text_behind(line: &str) -> &str {
         },
         None => "",
     }
+}
+
+/// The session whose step a line is, and the step; none where it is no step of a session.
+fn step_of<'a>(line: &'a str, words: &[&'a str]) -> Option<(&'a str, Step<'a>)> {
+    match words {
+        ["pin", session] => Some((*session, Step::Pin)),
+        ["unpin", session] => Some((*session, Step::Unpin)),
+        ["change", session, ..] => Some((*session, Step::Change(text_behind(line)))),
+        ["cells", session, word] => Some((*session, Step::Cells(*word))),
+        ["versions", session, word] => Some((*session, Step::Versions(*word))),
+        _ => None,
+    }
+}
+
+/// The answer to the words of a line about the whole store.
+fn answer_whole<R: Threads + Sync>(rt: &R, alloc: Global, run: &mut Run, words: &[&str]) -> Answer
+    requires { IsRun run.old }
+    ensures { IsRun run.new }
+{
+    match words {
+        ["create", from, to] => create_all(rt, alloc, run, from, to),
+        ["reap"] => reaped(&mut run.store),
+        _ => Answer::Unknown,
+    }
+}
+
+/// The answer to a line that is a step.
+fn answer_step<R: Threads + Sync>(
+    rt: &R,
+    alloc: Global,
+    run: &mut Run,
+    line: &str,
+    words: &[&str],
+) -> Answer
+    requires { IsRun run.old }
+    ensures { IsRun run.new }
+{
+    match step_of(line, words) {
+        Some((session, step)) => answer_to(rt, alloc, run, session, step),
+        None => answer_whole(rt, alloc, run, words),
+    }
+}
+
+/// Whether the words of a line are about the disk.
+fn are_of_disk(words: &[&str]) -> bool {
+    matches!(words, ["calls"] | ["mark"] | ["fail", ..] | ["bytes", ..])
 }
 
 /// Adds the answer to the words of a line.
@@ -62,14 +92,12 @@ fn push_answer<R: Threads + Sync>(
     requires { IsRun run.old }
     ensures { IsRun run.new }
 {
+    if are_of_disk(words) {
+        return bench.answer(out, words);
+    }
     match words {
-        ["calls"] | ["mark"] | ["fail", ..] | ["bytes", ..] => bench.answer(out, words),
         ["counts"] => Ok(push_counts(out, run)?),
-        ["change", session, ..] => {
-            let text = text_behind(line);
-            answer_to(rt, *out.allocator(), run, session, Step::Change(text)).push(out)
-        }
-        words => answer_step(rt, *out.allocator(), run, words).push(out),
+        _ => answer_step(rt, *out.allocator(), run, line, words).push(out),
     }
 }
 

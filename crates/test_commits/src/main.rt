@@ -10,7 +10,6 @@
 
 mod bench;
 mod lines;
-mod sessions;
 
 use anyhow::Result;
 use bench::Bench;
@@ -45,6 +44,34 @@ fn tell_disk(
     Ok(at)
 }
 
+/// The disk that a line makes; none where it makes none.
+fn bench_of(rt: &impl AllocGlobal, line: &str) -> Result<Option<Bench>> {
+    let words: Vec<&str> = line.split_whitespace().collect(rt.alloc())?;
+    let bench = Bench::of(rt.alloc(), words.as_slice());
+    drop(words);
+    bench
+}
+
+/// Prints a line with its answer, and the lines behind it that are over the disk that it makes. The place of the next one is the answer.
+fn tell_from(
+    rt: &(impl Print + AllocGlobal + Threads + Sync),
+    lines: &[&str],
+    at: usize,
+    line: &str,
+) -> Result<usize> {
+    match bench_of(rt, line)? {
+        Some(mut bench) => {
+            let next = tell_disk(rt, &mut bench, lines, at);
+            drop(bench);
+            next
+        }
+        None => {
+            tell_line(rt, line)?;
+            Ok(at.saturating_add(1))
+        }
+    }
+}
+
 fn main(rt: HostRuntime) -> Result<()> {
     let text = input(&rt)?;
     let lines: Vec<&str> = text.lines().collect(rt.alloc())?;
@@ -53,14 +80,7 @@ fn main(rt: HostRuntime) -> Result<()> {
         if at >= lines.len() {
             break;
         }
-        let words: Vec<&str> = lines[at].split_whitespace().collect(rt.alloc())?;
-        match Bench::of(rt.alloc(), words.as_slice())? {
-            Some(mut bench) => at = tell_disk(&rt, &mut bench, lines.as_slice(), at)?,
-            None => {
-                tell_line(&rt, lines[at])?;
-                at = at.saturating_add(1);
-            }
-        }
+        at = tell_from(&rt, lines.as_slice(), at, lines[at])?;
     }
     Ok(())
 }

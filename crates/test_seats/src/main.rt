@@ -4,14 +4,14 @@
 //! shares it. Two sessions then make so many commits each, the one of A and the other of B, beside a thread that reaps.
 #![tactic(auto)]
 
-mod threads;
+mod stores;
 
 use anyhow::Result;
 use std::sync::Wait;
 use std::thread::Threads;
 use store_opening::Limits;
+use stores::push_threads;
 use test_kit::{begin_answer, input};
-use threads::push_threads;
 
 fn number_of(word: &str) -> u32 {
     word.parse::<u32>().unwrap_or(0)

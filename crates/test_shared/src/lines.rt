@@ -1,10 +1,10 @@
 //! Lines, and what they are answered.
 ghost use Rattle.std.specs.Prelude.{IfOk};
-ghost use Rattle.test_shared.specs.Runs.{IsRun};
+ghost use Rattle.shared_runs.specs.Runs.{IsRun};
 
-use crate::runs::{Run, answer_to, finished, reaped, shared_by_three};
 use anyhow::Result;
 use cell_values::{Bytes, Memory};
+use shared_runs::{Run, answer_to, finished, reaped, shared_by_three};
 use shared_starts::{SilentDisk, Store, opened_over, push_tally, with_change};
 use shared_steps::Answer;
 use shared_visits::Step;
@@ -41,6 +41,18 @@ fn text_behind(line: &str) -> &str {
     }
 }
 
+/// The session whose step a line is, and the step; none where it is no step of a session.
+fn step_of<'a>(line: &'a str, words: &[&'a str]) -> Option<(&'a str, Step<'a>)> {
+    match words {
+        ["pin", session] => Some((*session, Step::Pin)),
+        ["unpin", session] => Some((*session, Step::Unpin)),
+        ["cells", session, word] => Some((*session, Step::Cells(*word))),
+        ["renew", session, count] => Some((*session, Step::Renew(number_of(count)))),
+        ["change", session, ..] => Some((*session, Step::Change(text_behind(line)))),
+        _ => None,
+    }
+}
+
 /// The answer to the words of a line that is a step.
 fn answer_step<R: Threads + Wait + Sync>(
     rt: &R,
@@ -52,18 +64,12 @@ fn answer_step<R: Threads + Wait + Sync>(
     requires { IsRun run.old }
     ensures { IsRun run.new }
 {
-    match words {
-        ["pin", session] => answer_to(rt, alloc, run, session, Step::Pin),
-        ["unpin", session] => answer_to(rt, alloc, run, session, Step::Unpin),
-        ["cells", session, word] => answer_to(rt, alloc, run, session, Step::Cells(word)),
-        ["renew", session, count] => {
-            answer_to(rt, alloc, run, session, Step::Renew(number_of(count)))
-        }
-        ["change", session, ..] => {
-            answer_to(rt, alloc, run, session, Step::Change(text_behind(line)))
-        }
-        ["reap"] => reaped(rt, run),
-        _ => Answer::Told(StoreAnswer::Unknown),
+    match step_of(line, words) {
+        Some((session, step)) => answer_to(rt, alloc, run, session, step),
+        None => match words {
+            ["reap"] => reaped(rt, run),
+            _ => Answer::Told(StoreAnswer::Unknown),
+        },
     }
 }
 

@@ -6,7 +6,6 @@
 #![tactic(auto)]
 
 mod lines;
-mod runs;
 
 use anyhow::Result;
 use lines::tell_line;
