@@ -1,84 +1,49 @@
-//! Runs the script on each line of standard input over streams in memory, and tells what is written, how many bytes the device has
-//! that was opened, and how the run ends.
+//! Runs the script on each line of standard input over streams in memory by `try`, and tells what is written and how the run ends.
 //!
 //! In a script `~` stands for a line feed, and `{127 (}` for 127 of `(`. A script behind `reads: ` is run over a source
-//! whose second read fails, one behind `writes: ` over a sink whose second write fails. One behind `workers: ` is run over a new
-//! database with one worker and over another one with eight, and both replies are told; one behind `csv: ` over a new database,
-//! where arrays are told as CSV. Behind `words: ` stand the words of a command line without a script; behind `init: ` a number of
-//! zero bytes, of the device that `init db` is run over; behind `fails: ` the number, from 0, of the call of an empty device that
-//! fails. A line that begins with `##` is a title, and is printed as it is; each other line is printed behind `> `, above what its
-//! run gives.
+//! whose second read fails, one behind `writes: ` over a sink whose second write fails. A line that begins with `##` is a title, and is
+//! printed as it is; each other line is printed behind `> `, above what its run gives.
 #![tactic(auto)]
 
-mod runs;
 mod streams;
-mod told;
 
+use afl_outside::OpenGate;
 use anyhow::Result;
-use runs::{tell_csv, tell_device, tell_script, tell_words, tell_workers};
 use std::io::BufRead;
 use std::str::from_utf8;
 use std::sync::Wait;
 use std::thread::Threads;
+use streams::shelf_of;
+use test_kit::text_of;
+use test_reports::{report_of, tell_replies};
 
-/// What is asked of a text.
-#[derive(Clone, Copy)]
-enum Form {
-    Script,
-    FailingRead,
-    FailingWrite,
-    Workers,
-    Csv,
-    Words,
-    Device,
-    FailingDevice,
-}
-
-/// What a line asks for, and the text behind the word that asks for it.
-fn form_of(line: &[u8]) -> (Form, &[u8]) {
-    match line {
-        [b'r', b'e', b'a', b'd', b's', b':', b' ', text @ ..] => (Form::FailingRead, text),
-        [b'w', b'r', b'i', b't', b'e', b's', b':', b' ', text @ ..] => (Form::FailingWrite, text),
-        [
-            b'w',
-            b'o',
-            b'r',
-            b'k',
-            b'e',
-            b'r',
-            b's',
-            b':',
-            b' ',
-            text @ ..,
-        ] => (Form::Workers, text),
-        [b'c', b's', b'v', b':', b' ', text @ ..] => (Form::Csv, text),
-        [b'w', b'o', b'r', b'd', b's', b':', text @ ..] => (Form::Words, text),
-        [b'i', b'n', b'i', b't', b':', b' ', text @ ..] => (Form::Device, text),
-        [b'f', b'a', b'i', b'l', b's', b':', b' ', text @ ..] => (Form::FailingDevice, text),
-        text => (Form::Script, text),
-    }
-}
-
-fn number_of(text: &[u8]) -> u16 {
-    from_utf8(text).unwrap_or("").parse().unwrap_or(0)
+/// Runs a script, where the listed reads and writes fail.
+fn tell_script(
+    rt: &(impl Print + AllocGlobal + Threads + Wait + Sync),
+    text: &str,
+    reads: &[u64],
+    writes: &[u64],
+) -> Result<()> {
+    let script = text_of(rt.alloc(), text.as_bytes())?;
+    let shelf = shelf_of(rt.alloc(), script.as_slice(), reads, writes);
+    drop(script);
+    let report = report_of(rt, "try", shelf?, &OpenGate)?;
+    let told = tell_replies(rt, &report);
+    drop(report);
+    told
 }
 
 /// Prints a title, or a line and what its run comes to.
-fn answer(rt: &(impl Print + AllocGlobal + Threads + Wait + Sync), line: &[u8]) -> Result<()> {
-    if let [b'#', b'#', ..] = line {
-        println!(rt; "{}", from_utf8(line).unwrap_or("##"))?;
+fn answer(rt: &(impl Print + AllocGlobal + Threads + Wait + Sync), line: &str) -> Result<()> {
+    if line.starts_with("##") {
+        println!(rt; "{line}")?;
         return Ok(());
     }
-    println!(rt; "> {}", from_utf8(line).unwrap_or("no text"))?;
-    match form_of(line) {
-        (Form::Script, text) => tell_script(rt, text, &[], &[]),
-        (Form::FailingRead, text) => tell_script(rt, text, &[1], &[]),
-        (Form::FailingWrite, text) => tell_script(rt, text, &[], &[1]),
-        (Form::Workers, text) => tell_workers(rt, text),
-        (Form::Csv, text) => tell_csv(rt, text),
-        (Form::Words, text) => tell_words(rt, text),
-        (Form::Device, text) => tell_device(rt, usize::from(number_of(text)), &[]),
-        (Form::FailingDevice, text) => tell_device(rt, 0, &[u64::from(number_of(text))]),
+    println!(rt; "> {line}")?;
+    match line.split_once(": ") {
+        Some(("reads", text)) => tell_script(rt, text, &[1], &[]),
+        Some(("writes", text)) => tell_script(rt, text, &[], &[1]),
+        _ => tell_script(rt, line, &[], &[]),
     }
 }
 
@@ -91,8 +56,8 @@ fn main(rt: HostRuntime) -> Result<()> {
             break;
         }
         match line.as_slice() {
-            [text @ .., b'\n'] => answer(&rt, text)?,
-            text => answer(&rt, text)?,
+            [text @ .., b'\n'] => answer(&rt, from_utf8(text).unwrap_or("no text"))?,
+            text => answer(&rt, from_utf8(text).unwrap_or("no text"))?,
         }
     }
     Ok(())

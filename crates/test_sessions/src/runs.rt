@@ -2,24 +2,16 @@
 
 use crate::order::Ordered;
 use crate::scripts::script_of;
-use afl_in_memory::{MemDisk, MemFile, MemShelf};
-use afl_outside::{Gate, OpenGate};
-use afl_run::{Arg, Report, SessionEnd, notice_line, run};
+use afl_in_memory::{MemFile, MemShelf};
+use afl_outside::OpenGate;
+use afl_run::{Report, SessionEnd};
 use anyhow::Result;
 use cell_values::{Bytes, List, Memory};
 use std::alloc::{AllocError, Global};
-use std::str::from_utf8;
 use std::sync::Wait;
 use std::thread::Threads;
 use std::time::Clock;
-
-fn file_of(alloc: Global, name: &str, content: &[u8]) -> Result<MemFile, Memory> {
-    Ok(MemFile {
-        name: Bytes::from_slice(alloc, name.as_bytes())?,
-        content: Bytes::from_slice(alloc, content)?,
-        fails: List::new(alloc),
-    })
-}
+use test_reports::{file_behind, file_left, file_of, report_of, tell_notice, tell_text};
 
 /// The name of the script of a session.
 fn name_of(session: usize) -> &'static str {
@@ -29,61 +21,56 @@ fn name_of(session: usize) -> &'static str {
     }
 }
 
+/// Adds the script of a session to the files of a shelf.
+fn push_script(
+    files: &mut List<MemFile>,
+    alloc: Global,
+    session: usize,
+    text: &str,
+) -> Result<(), Memory> {
+    let script = script_of(alloc, text)?;
+    let file = file_of(alloc, name_of(session).as_bytes(), script.as_bytes(), &[]);
+    drop(script);
+    files.push(file?)
+}
+
+/// The file `db` and these scripts.
+fn files_of(alloc: Global, file: &[u8], scripts: &[&str]) -> Result<List<MemFile>, Memory> {
+    let mut files = List::new(alloc);
+    files.push(file_of(alloc, b"db", file, &[])?)?;
+    for (session, text) in scripts.iter().enumerate() {
+        push_script(&mut files, alloc, session, text)?;
+    }
+    Ok(files)
+}
+
 /// A shelf with the file `db` and these scripts.
 fn shelf_of(alloc: Global, file: &[u8], scripts: &[&str]) -> Result<MemShelf, Memory> {
-    let mut files = List::new(alloc);
-    files.push(file_of(alloc, "db", file)?)?;
-    for (session, text) in scripts.iter().enumerate() {
-        let script = script_of(alloc, text)?;
-        files.push(file_of(alloc, name_of(session), script.as_bytes())?)?;
-    }
+    let files = files_of(alloc, file, scripts)?;
     Ok(MemShelf::new(files, List::new(alloc), List::new(alloc)))
 }
 
-fn word_of(alloc: Global, text: &str) -> Result<Arg, AllocError> {
-    Ok(Arg::new(String::from_str(alloc, text)?))
-}
-
-fn words_of(alloc: Global, texts: &[&str]) -> Result<Vec<Arg>, AllocError> {
-    let mut words = Vec::new(alloc);
-    for text in texts {
-        words.push(word_of(alloc, text)?)?;
-    }
-    Ok(words)
-}
-
-/// What comes of a command line over a file and these scripts.
-fn report_of<R: AllocGlobal + Threads + Wait + Sync, G: Gate>(
+/// The file of a new database over which this script was run.
+fn file_before<R: AllocGlobal + Threads + Wait + Sync>(
     rt: &R,
-    line: &str,
-    file: &[u8],
+    script: &str,
+) -> Result<Bytes, Memory> {
+    let file = file_behind(rt, "init db", shelf_of(rt.alloc(), b"", &[])?)?;
+    let shelf = shelf_of(rt.alloc(), file.as_slice(), &[script]);
+    drop(file);
+    file_behind(rt, "run db 0", shelf?)
+}
+
+/// A shelf with what a script leaves of a new database, and with these scripts.
+fn shelf_behind<R: AllocGlobal + Threads + Wait + Sync>(
+    rt: &R,
+    before: &str,
     scripts: &[&str],
-    gate: &G,
-) -> Result<Report<MemShelf>> {
-    let alloc = rt.alloc();
-    let texts: Vec<&str> = line.split_whitespace().collect(alloc)?;
-    let words = words_of(alloc, texts.as_slice())?;
-    let shelf = shelf_of(alloc, file, scripts)?;
-    Ok(run(rt, alloc, words.as_slice(), shelf, gate))
-}
-
-/// The file that a device has at the end.
-fn image_of(disk: &MemDisk) -> Result<Bytes, Memory> {
-    disk.image(disk.calls().len() as u64, &[], 0)
-}
-
-/// The file that a run has left.
-fn file_after(alloc: Global, report: &Report<MemShelf>) -> Result<Bytes, Memory> {
-    match &report.disk {
-        Some(disk) => image_of(disk),
-        None => Ok(Bytes::new(alloc)),
-    }
-}
-
-/// The file of a new database.
-fn new_file<R: AllocGlobal + Threads + Wait + Sync>(rt: &R) -> Result<Bytes> {
-    let report = report_of(rt, "init db", b"", &[], &OpenGate)?;
-    Ok(file_after(rt.alloc(), &report)?)
+) -> Result<MemShelf, Memory> {
+    let file = file_before(rt, before)?;
+    let shelf = shelf_of(rt.alloc(), file.as_slice(), scripts);
+    drop(file);
+    shelf
 }
 
 /// What it was that ended a session.
@@ -96,38 +83,40 @@ fn end_word(end: SessionEnd) -> &'static str {
     }
 }
 
-/// Prints what a run has written, and how it ended.
-fn tell_report<R: Print + AllocGlobal>(rt: &R, report: &Report<MemShelf>) -> Result<()> {
+/// Prints what each session of a run has written, and how it ended.
+fn tell_sessions(rt: &impl Print, report: &Report<MemShelf>) -> Result<()> {
     for (session, told) in report.sessions.as_slice().iter().enumerate() {
         println!(rt; "session {session}, {}:", end_word(told.end))?;
-        print!(rt; "{}", from_utf8(told.sink.bytes()).unwrap_or("no text"))?;
+        tell_text(rt, told.sink.bytes())?;
     }
+    Ok(())
+}
+
+/// Prints what a run has written, how it ended, and where it didn't keep its order.
+fn tell_report<R: Print + AllocGlobal>(
+    rt: &R,
+    report: &Report<MemShelf>,
+    is_kept: bool,
+) -> Result<()> {
+    tell_sessions(rt, report)?;
     let entries = report.history.as_slice().len();
     println!(rt;
         "status {}, {entries} entries, {} pages free",
         report.status, report.free_pages
     )?;
-    let line = notice_line(rt.alloc(), &report.notice)?;
-    print!(rt; "{}", from_utf8(line.as_slice()).unwrap_or("no text"))?;
+    tell_notice(rt, report)?;
+    if !is_kept {
+        println!(rt; "not in this order")?;
+    }
     Ok(())
 }
 
 /// Prints what the sessions of a run have written.
 fn tell_texts(rt: &impl Print, report: &Report<MemShelf>) -> Result<()> {
     for told in report.sessions.as_slice() {
-        print!(rt; "{}", from_utf8(told.sink.bytes()).unwrap_or("no text"))?;
+        tell_text(rt, told.sink.bytes())?;
     }
     Ok(())
-}
-
-/// The file that a script leaves, run over a file.
-fn file_behind<R: AllocGlobal + Threads + Wait + Sync>(
-    rt: &R,
-    file: &[u8],
-    script: &str,
-) -> Result<Bytes> {
-    let report = report_of(rt, "run db 0", file, &[script], &OpenGate)?;
-    Ok(file_after(rt.alloc(), &report)?)
 }
 
 /// Runs a script over a file, and prints what it writes.
@@ -137,8 +126,57 @@ fn tell_after<R: Print + AllocGlobal + Threads + Wait + Sync>(
     script: &str,
 ) -> Result<()> {
     println!(rt; "after:")?;
-    let report = report_of(rt, "run db 0", file, &[script], &OpenGate)?;
-    tell_texts(rt, &report)
+    let shelf = shelf_of(rt.alloc(), file, &[script])?;
+    let report = report_of(rt, "run db 0", shelf, &OpenGate)?;
+    let told = tell_texts(rt, &report);
+    drop(report);
+    told
+}
+
+/// Runs a command line over these files, held by the gate, and prints what comes of it. The file that it leaves is the answer.
+fn tell_beside<R: Print + AllocGlobal + Threads + Wait + Clock + Sync>(
+    rt: &R,
+    line: &str,
+    shelf: MemShelf,
+    gate: &Ordered<'_, R>,
+) -> Result<Bytes> {
+    let report = report_of(rt, line, shelf, gate)?;
+    let told = tell_report(rt, &report, gate.is_kept());
+    let left = file_left(rt.alloc(), &report);
+    drop(report);
+    match told {
+        Ok(()) => Ok(left?),
+        Err(cause) => {
+            drop(left);
+            Err(cause)
+        }
+    }
+}
+
+/// The same with these options, in this order.
+fn tell_in_order<R: Print + AllocGlobal + Threads + Wait + Clock + Sync>(
+    rt: &R,
+    options: &str,
+    order: &str,
+    shelf: MemShelf,
+) -> Result<Bytes> {
+    let Ok(gate) = Ordered::new(rt, rt.alloc(), order) else {
+        drop(shelf);
+        return Err(Memory.into());
+    };
+    match format!(in rt.alloc(); "run db {options} 0 1") {
+        Ok(line) => {
+            let left = tell_beside(rt, line.as_str(), shelf, &gate);
+            drop(line);
+            drop(gate);
+            left
+        }
+        Err(AllocError) => {
+            drop(shelf);
+            drop(gate);
+            Err(Memory.into())
+        }
+    }
 }
 
 /// Runs a case: its scripts side by side, in its order, and then the last one.
@@ -150,21 +188,9 @@ pub(crate) fn tell_case<R: Print + AllocGlobal + Threads + Wait + Clock + Sync>(
         println!(rt; "unknown")?;
         return Ok(());
     };
-    let file = new_file(rt)?;
-    let file = file_behind(rt, file.as_slice(), before)?;
-    let gate = Ordered::new(rt, rt.alloc(), order)?;
-    let line = format!(in rt.alloc(); "run db {options} 0 1")?;
-    let report = report_of(
-        rt,
-        line.as_str(),
-        file.as_slice(),
-        &[*first, *second],
-        &gate,
-    )?;
-    tell_report(rt, &report)?;
-    if !gate.is_kept() {
-        println!(rt; "not in this order")?;
-    }
-    let file = file_after(rt.alloc(), &report)?;
-    tell_after(rt, file.as_slice(), after)
+    let shelf = shelf_behind(rt, before, &[*first, *second])?;
+    let left = tell_in_order(rt, options, order, shelf)?;
+    let told = tell_after(rt, left.as_slice(), after);
+    drop(left);
+    told
 }

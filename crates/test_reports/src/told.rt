@@ -1,10 +1,24 @@
 //! What is told of a run.
 
+use crate::files::image_of;
 use afl_in_memory::{MemDisk, MemShelf};
 use afl_run::{Report, SessionEnd, notice_line};
 use anyhow::Result;
-use cell_values::{Bytes, Memory};
 use std::str::from_utf8;
+
+/// Prints bytes that are a text.
+pub fn tell_text(rt: &impl Print, bytes: &[u8]) -> Result<()> {
+    print!(rt; "{}", from_utf8(bytes).unwrap_or("no text"))?;
+    Ok(())
+}
+
+/// Prints the line with which a run ends.
+pub fn tell_notice(rt: &(impl Print + AllocGlobal), report: &Report<MemShelf>) -> Result<()> {
+    let line = notice_line(rt.alloc(), &report.notice)?;
+    let told = tell_text(rt, line.as_slice());
+    drop(line);
+    told
+}
 
 /// What it was that ended a session.
 fn end_word(end: SessionEnd) -> &'static str {
@@ -16,21 +30,18 @@ fn end_word(end: SessionEnd) -> &'static str {
     }
 }
 
-/// The bytes that a device has at the end.
-pub(crate) fn image_of(disk: &MemDisk) -> Result<Bytes, Memory> {
-    disk.image(disk.calls().len() as u64, &[], 0)
-}
-
 /// Prints how many bytes a device has.
 fn tell_length(rt: &impl Print, disk: &MemDisk) -> Result<()> {
     let image = image_of(disk)?;
-    print!(rt; "device of {} bytes, ", image.as_slice().len())?;
+    let length = image.as_slice().len();
+    drop(image);
+    print!(rt; "device of {length} bytes, ")?;
     Ok(())
 }
 
 /// Prints what a session has written, and how it ended.
 fn tell_session(rt: &impl Print, text: &[u8], end: SessionEnd) -> Result<()> {
-    print!(rt; "{}", from_utf8(text).unwrap_or("no text"))?;
+    tell_text(rt, text)?;
     print!(rt; "{}, ", end_word(end))?;
     Ok(())
 }
@@ -49,22 +60,17 @@ fn tell_sessions(rt: &impl Print, report: &Report<MemShelf>) -> Result<()> {
 /// Prints the status and the line of the run.
 fn tell_end(rt: &(impl Print + AllocGlobal), report: &Report<MemShelf>) -> Result<()> {
     println!(rt; "status {}", report.status)?;
-    let line = notice_line(rt.alloc(), &report.notice)?;
-    print!(rt; "{}", from_utf8(line.as_slice()).unwrap_or("no text"))?;
-    Ok(())
+    tell_notice(rt, report)
 }
 
 /// Prints what the sessions have written, how they ended, and the status and line of the run.
-pub(crate) fn tell_replies(
-    rt: &(impl Print + AllocGlobal),
-    report: &Report<MemShelf>,
-) -> Result<()> {
+pub fn tell_replies(rt: &(impl Print + AllocGlobal), report: &Report<MemShelf>) -> Result<()> {
     tell_sessions(rt, report)?;
     tell_end(rt, report)
 }
 
 /// The same, and how many bytes the device has that was opened.
-pub(crate) fn tell(rt: &(impl Print + AllocGlobal), report: &Report<MemShelf>) -> Result<()> {
+pub fn tell(rt: &(impl Print + AllocGlobal), report: &Report<MemShelf>) -> Result<()> {
     tell_sessions(rt, report)?;
     if let Some(disk) = &report.disk {
         tell_length(rt, disk)?;
