@@ -43,8 +43,11 @@ returns-in_err-put_over_target-in-Ok-clause-some g c =
     let old = g.S.ChunkSource.state c.args.source.now in
     let new = g.S.ChunkSource.state c.put_over_target.new.source in
     let some : (rows : List Row) × AsksFront (asked_with rows old (Insert [] c.args.schema.now c.args.plan.now) c.args.target.now) old new
-    = (c.in-Ok.input, front_then c.args.plan.now c.args.target.now c.args.schema.now.dimensions c.in-Ok.input old (g.S.ChunkSource.state c.input_of.new.source) new
-    c.in_ok-input.ensures.kept c.in_ok-input.ensures.asked c.in_err-put_over_target-in-Ok.ensures.front) in
+    = (
+      c.in-Ok.input,
+      front_then c.args.plan.now c.args.target.now c.args.schema.now.dimensions c.in-Ok.input old (g.S.ChunkSource.state c.input_of.new.source) new
+          c.in_ok-input.ensures.kept c.in_ok-input.ensures.asked c.in_err-put_over_target-in-Ok.ensures.front,
+    ) in
     on_err _ _ some
 
 pub returns-in_ok-put_over_target-in-Ok-clause-asked : goal.returns-in_ok-put_over_target-in-Ok-clause-asked
@@ -56,7 +59,9 @@ returns-in_ok-put_over_target-in-Ok-clause-asked g c db tells =
     c.in_ok-input.ensures.kept c.in_ok-input.ensures.asked c.in_ok-put_over_target-in-Ok.ensures.asked)
 
 pub returns-in_ok-put_over_target-in-Ok-clause-only : goal.returns-in_ok-put_over_target-in-Ok-clause-only
-returns-in_ok-put_over_target-in-Ok-clause-only g c =
-    (c.in-Ok.input, asked_then c.args.plan.now c.args.target.now c.args.schema.now.dimensions c.in-Ok.input
-    (g.S.ChunkSource.state c.args.source.now) (g.S.ChunkSource.state c.input_of.new.source) (g.S.ChunkSource.state c.put_over_target.new.source)
-    c.in_ok-input.ensures.kept c.in_ok-input.ensures.asked c.in_ok-put_over_target-in-Ok.ensures.asked)
+returns-in_ok-put_over_target-in-Ok-clause-only g c = (
+  c.in-Ok.input,
+  asked_then c.args.plan.now c.args.target.now c.args.schema.now.dimensions c.in-Ok.input
+      (g.S.ChunkSource.state c.args.source.now) (g.S.ChunkSource.state c.input_of.new.source) (g.S.ChunkSource.state c.put_over_target.new.source)
+      c.in_ok-input.ensures.kept c.in_ok-input.ensures.asked c.in_ok-put_over_target-in-Ok.ensures.asked,
+)
