@@ -10,7 +10,7 @@ use Rattle.logical_plan.specs.Leaves.{leaves}
 use Rattle.logical_plan.specs.Meaning.{Database, version_rows}
 use Rattle.logical_plan.specs.Query.{Query}
 use Rattle.plan_needs.specs.Wanted.{whole_need}
-use Rattle.result_print.specs.Traces.{trace_line}
+use Rattle.plan_traces.specs.Line.{trace_line}
 use Rattle.plan_traces.specs.declared.asking.Asking.{Asking}
 
 -- `trace: A@1 asked 1 of 3`

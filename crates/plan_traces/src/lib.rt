@@ -3,6 +3,7 @@
 
 mod asking;
 mod boxes;
+mod line;
 mod lines;
 
 pub use asking::Asking;

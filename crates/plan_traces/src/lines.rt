@@ -12,10 +12,10 @@ ghost use Rattle.plan_traces.specs.Traced.{AreLinesOf, lines_in, plan_lines};
 
 use crate::asking::{Asking, asking_among};
 use crate::boxes::boxes_of;
+use crate::line::write_line;
 use cell_values::{Bounds, Bytes};
 use chunk_source::{ChunkSource, ExecFault};
 use logical_plan::{Leaf, Plan, reads};
-use result_print::push_trace;
 use std::alloc::Global;
 
 /// Adds the line of a leaf that is read for a box.
@@ -36,7 +36,7 @@ fn push_line<S: ChunkSource>(
 {
     let listed = source.listed(leaf)?;
     let Asking { asked, stored } = asking_among(alloc, leaf, area, listed.as_slice())?;
-    push_trace(lines, &leaf.name, leaf.version, asked, stored)?;
+    write_line(lines, &leaf.name, leaf.version, asked, stored)?;
     Ok(())
 }
 

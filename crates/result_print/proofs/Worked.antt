@@ -1,4 +1,4 @@
--- Arrays as CSV, and the lines that tell what was read.
+-- Arrays as CSV.
 use Rattle.std.proofs.Common.{◌≡◌, ℕ, pos, false, [], ◌∷◌, refl}
 use Rattle.std.specs.Prelude.{codes}
 use Rattle.std.specs.Fmt.{digits}
@@ -11,7 +11,6 @@ use Rattle.cell_values.specs.declared.schema.Kind.{Kind}
 use Rattle.cell_values.specs.declared.schema.Kind.TheVariants.{Int64, Str}
 use Rattle.cell_values.specs.declared.schema.Schema.{Schema}
 use Rattle.result_print.specs.Records.{csv_text}
-use Rattle.result_print.specs.Traces.{trace_line}
 
 abbrev line : Kind → Schema
 line kind = record {
@@ -30,12 +29,3 @@ numbers = refl
 quoted : csv_text (line Str) (row 3 (Text (codes "a,\"b\nc")) ∷ row 4 Null ∷ []) ≡ codes "i,v\n3,\"'a,\"\"b\nc'\"\n4,null\n"
 unfolding digits escaped fields_text is_blank
 quoted = refl
-
-one_of_three : trace_line (codes "A") 1 1 3 ≡ codes "trace: A@1 asked 1 of 3\n"
-unfolding digits
-one_of_three = refl
-
--- of an array without versions
-none_of_none : trace_line (codes "A") 0 0 0 ≡ codes "trace: A@0 asked 0 of 0\n"
-unfolding digits
-none_of_none = refl

@@ -3,4 +3,3 @@ pub mod Lines
 pub mod Listings
 pub mod Records
 pub mod Texts
-pub mod Traces

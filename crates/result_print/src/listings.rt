@@ -1,10 +1,9 @@
-//! The texts of changes and listings, and the lines that tell what was read.
+//! The texts of changes and listings.
 ghost use Rattle.std.specs.Prelude.{◌≡◌, ◌++◌, codes, IfOk, OnOk};
 ghost use Rattle.std.specs.Fmt.{decimal};
 ghost use Rattle.afl_lexer.specs.Spelling.{quoted_text};
 ghost use Rattle.schema_grammar.specs.SchemaBytes.{schema_bytes};
 ghost use Rattle.result_print.specs.Listings.{array_line, list_text, numbered, ok_line, show_text, stored_line, version_line, versions_text};
-ghost use Rattle.result_print.specs.Traces.{trace_line};
 
 use crate::spelling::{write_count, write_text};
 use cell_values::{Bytes, Memory, Name, Schema};
@@ -29,27 +28,6 @@ pub fn stored_line(alloc: Global, name: &Name, number: u32) -> Result<Bytes, Mem
     write_count(&mut line, u64::from(number))?;
     line.push(b'\n')?;
     Ok(line)
-}
-
-/// Adds the line that tells how many of the stored chunks of a version of an array were asked for, as `trace: A@1 asked 1 of 3`.
-pub fn push_trace(
-    out: &mut Bytes,
-    name: &Name,
-    version: u32,
-    asked: u64,
-    stored: u64,
-) -> Result<(), Memory>
-    ensures { OnOk result (out.new ≡ out.old ++ trace_line name.now version asked stored) }
-{
-    out.extend(b"trace: ")?;
-    out.extend(name.as_slice())?;
-    out.push(b'@')?;
-    write_count(out, u64::from(version))?;
-    out.extend(b" asked ")?;
-    write_count(out, asked)?;
-    out.extend(b" of ")?;
-    write_count(out, stored)?;
-    out.push(b'\n')
 }
 
 /// Adds the number of a line, as `{3} `.

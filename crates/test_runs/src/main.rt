@@ -4,7 +4,7 @@
 //! In a script `~` stands for a line feed, and `{127 (}` for 127 of `(`. A script behind `reads: ` is run over a source
 //! whose second read fails, one behind `writes: ` over a sink whose second write fails. One behind `workers: ` is run over a new
 //! database with one worker and over another one with eight, and both replies are told; one behind `csv: ` over a new database,
-//! where arrays are told as CSV. Behind `words: ` stand the words of a command line without a script; behind `init: ` a number of
+//! where arrays are told as CSV, and one behind `trace: ` over one where it is told what was read. Behind `words: ` stand the words of a command line without a script; behind `init: ` a number of
 //! zero bytes, of the device that `init db` is run over; behind `fails: ` the number, from 0, of the call of an empty device that
 //! fails. A line that begins with `##` is a title, and is printed as it is; each other line is printed behind `> `, above what its
 //! run gives.
@@ -15,7 +15,7 @@ mod streams;
 mod told;
 
 use anyhow::Result;
-use runs::{tell_csv, tell_device, tell_script, tell_words, tell_workers};
+use runs::{tell_csv, tell_device, tell_script, tell_trace, tell_words, tell_workers};
 use std::io::BufRead;
 use std::str::from_utf8;
 use std::sync::Wait;
@@ -29,6 +29,7 @@ enum Form {
     FailingWrite,
     Workers,
     Csv,
+    Trace,
     Words,
     Device,
     FailingDevice,
@@ -52,6 +53,7 @@ fn form_of(line: &[u8]) -> (Form, &[u8]) {
             text @ ..,
         ] => (Form::Workers, text),
         [b'c', b's', b'v', b':', b' ', text @ ..] => (Form::Csv, text),
+        [b't', b'r', b'a', b'c', b'e', b':', b' ', text @ ..] => (Form::Trace, text),
         [b'w', b'o', b'r', b'd', b's', b':', text @ ..] => (Form::Words, text),
         [b'i', b'n', b'i', b't', b':', b' ', text @ ..] => (Form::Device, text),
         [b'f', b'a', b'i', b'l', b's', b':', b' ', text @ ..] => (Form::FailingDevice, text),
@@ -76,6 +78,7 @@ fn answer(rt: &(impl Print + AllocGlobal + Threads + Wait + Sync), line: &[u8]) 
         (Form::FailingWrite, text) => tell_script(rt, text, &[], &[1]),
         (Form::Workers, text) => tell_workers(rt, text),
         (Form::Csv, text) => tell_csv(rt, text),
+        (Form::Trace, text) => tell_trace(rt, text),
         (Form::Words, text) => tell_words(rt, text),
         (Form::Device, text) => tell_device(rt, usize::from(number_of(text)), &[]),
         (Form::FailingDevice, text) => tell_device(rt, 0, &[u64::from(number_of(text))]),

@@ -107,3 +107,12 @@ pub(crate) fn tell_csv(
     let script = text_of(rt.alloc(), text)?;
     tell_over(rt, "run db --format csv+ -", script.as_slice())
 }
+
+/// Runs a script over a new database, where it is told what was read.
+pub(crate) fn tell_trace(
+    rt: &(impl Print + AllocGlobal + Threads + Wait + Sync),
+    text: &[u8],
+) -> Result<()> {
+    let script = text_of(rt.alloc(), text)?;
+    tell_over(rt, "run db --trace -", script.as_slice())
+}
