@@ -47,12 +47,12 @@ valid_leaves (aggregated source gs places) typed = valid_leaves source typed.0
 
 -- ---- one more leaf
 
-lines_more : (xs : List Leaf) (as : List Asking) (x : Leaf) (a : Asking) → length as ≡ length xs → lines_of (xs ++ x ∷ []) (as ++ a ∷ []) ≡ lines_of xs as ++ leaf_line x a
+lines_more : (xs : List Leaf) (counts : List Asking) (x : Leaf) (a : Asking) → length counts ≡ length xs → lines_of (xs ++ x ∷ []) (counts ++ a ∷ []) ≡ lines_of xs counts ++ leaf_line x a
 lines_more [] [] x a e = append-nil (leaf_line x a)
-lines_more [] (b ∷ as) x a e = absurd (omega (arith, e))
+lines_more [] (b ∷ counts) x a e = absurd (omega (arith, e))
 lines_more (y ∷ xs) [] x a e = absurd (omega (arith, e))
-lines_more (y ∷ xs) (b ∷ as) x a e =
-    ap (λ (z : List ℕ). leaf_line y b ++ z) (lines_more xs as x a (omega (arith, e))) ∙ sym (append_assoc (leaf_line y b) (lines_of xs as) (leaf_line x a))
+lines_more (y ∷ xs) (b ∷ counts) x a e =
+    ap (λ (z : List ℕ). leaf_line y b ++ z) (lines_more xs counts x a (omega (arith, e))) ∙ sym (append_assoc (leaf_line y b) (lines_of xs counts) (leaf_line x a))
 
 askings_more : (db : Database) (xs : List Leaf) (ys : List Bounds) (x : Leaf) (y : Bounds) → length ys ≡ length xs
     → by_pairs (asking_in db) (xs ++ x ∷ []) (ys ++ y ∷ []) ≡ by_pairs (asking_in db) xs ys ++ asking_in db x y ∷ []
@@ -67,11 +67,11 @@ askings_each db [] (b ∷ ys) e = refl
 askings_each db (a ∷ xs) [] e = absurd (omega (arith, e))
 askings_each db (a ∷ xs) (b ∷ ys) e = ap suc (askings_each db xs ys (omega (arith, e)))
 
-append_each : (as : List Asking) (xs : List Leaf) (a : Asking) (x : Leaf) → length as ≡ length xs → length (as ++ a ∷ []) ≡ length (xs ++ x ∷ [])
+append_each : (counts : List Asking) (xs : List Leaf) (a : Asking) (x : Leaf) → length counts ≡ length xs → length (counts ++ a ∷ []) ≡ length (xs ++ x ∷ [])
 append_each [] [] a x e = refl
 append_each [] (y ∷ xs) a x e = absurd (omega (arith, e))
-append_each (b ∷ as) [] a x e = absurd (omega (arith, e))
-append_each (b ∷ as) (y ∷ xs) a x e = ap suc (append_each as xs a x (omega (arith, e)))
+append_each (b ∷ counts) [] a x e = absurd (omega (arith, e))
+append_each (b ∷ counts) (y ∷ xs) a x e = ap suc (append_each counts xs a x (omega (arith, e)))
 
 -- the line of one leaf
 alone : (leaf : Leaf) (asking : Asking) → lines_of (leaf ∷ []) (asking ∷ []) ≡ leaf_line leaf asking

@@ -167,12 +167,7 @@ fn text_with(
 
 /// The reply that tells what a plan gives, with these lines behind a text.
 #[tactic(auto, using(crate::proofs::PlanReplies::fault_reply, crate::proofs::PlanReplies::rows_reply))]
-fn reply_of(
-    alloc: Global,
-    style: Style,
-    lines: &Bytes,
-    found: PlanArray,
-) -> Result<Reply, Memory>
+fn reply_of(alloc: Global, style: Style, lines: &Bytes, found: PlanArray) -> Result<Reply, Memory>
     requires { HoldsCells found }
     ensures kind { (schema : Schema) → HasSchema schema (rows_held found) → IfOk result (IsTextOrRefusal style lines.now schema) }
     ensures told { (meant : Meant) → IsFound meant (rows_held found) → IfOk result (λ reply. reply ≡ meant_reply style lines.now meant) }
