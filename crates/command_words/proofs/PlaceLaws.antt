@@ -1,5 +1,5 @@
 -- Where a device and scripts stand.
-use Rattle.std.proofs.Common.{◌≡◌, ◌+◌, ◌≤◌, List, [], ◌∷◌, length, drop, ap, ◌∙◌, arith, length-append, drop_at}
+use Rattle.std.proofs.Common.{◌≡◌, ◌+◌, ◌≤◌, List, ◌∷◌, length, drop, ap, ◌∙◌, arith, length-append, drop_at}
 use Rattle.std.specs.Prelude.{slice_get, codes, flat_map}
 use Rattle.command_words.specs.Forms.{Word, setting_words}
 use Rattle.command_words.specs.Laws.{InitsNameTheirDevice, RunsNameTheirScripts, FormsKeepTheirPlaces}
