@@ -9,6 +9,7 @@ use Rattle.logical_plan.specs.declared.names.Names.{Names}
 use Rattle.plan_changes.specs.declared.change.Change.{Change}
 use Rattle.plan_changes.specs.declared.change.Change.TheVariants.{Create, Store, Insert, Remove, RemoveVersions}
 use Rattle.logical_plan.specs.PlanSchema.{schema_of}
+use Rattle.logical_plan.specs.Query.{Query}
 use Rattle.check_rules.specs.Checked.{Breach, Checked}
 use Rattle.afl_types.specs.Checking.{check_of}
 use Rattle.afl_types.specs.declared.statements.checking.Typed.{Typed}
@@ -18,8 +19,8 @@ use Rattle.chunk_source.specs.declared.reading.fault.ExecFault.TheVariants.{Sour
 use Rattle.result_print.specs.declared.refusal.Refusal.{Refusal}
 use Rattle.result_print.specs.declared.refusal.Refusal.TheVariants.{Typing, Cell, Disk, Damaged, Memory}
 use Rattle.statement_replies.specs.declared.replies.Reply.{Reply as Told}
-use Rattle.statement_replies.specs.Kinds.{IsRowsReply}
-use Rattle.statement_replies.specs.Reply.{cell_reply, refused}
+use Rattle.statement_replies.specs.Kinds.{IsRowsReply, IsTextOrRefusal}
+use Rattle.statement_replies.specs.Reply.{cell_reply, refused, traced}
 use Rattle.statement_replies.specs.StatementKinds.{HasChangeKind, HasStatementKind, MayBreak}
 use Rattle.statement_replies.specs.Statements.{Accepted, accepted, without_change}
 use Rattle.statement_replies.specs.declared.style.Style.{Style}
@@ -55,12 +56,15 @@ of_change words names (Insert name schema plan) k = may_break words names (Inser
 of_change words names (Remove name) k = no_change words names (Remove name) k
 of_change words names (RemoveVersions name below) k = no_change words names (RemoveVersions name below) k
 
-of_rows : (style : Style) (words : Told) (schema : Schema) → IsRowsReply style schema words → Words words
-of_rows style words schema (inl (rows, e)) = tells (ap (λ (r : Told). r.refusal) e)
-of_rows style words schema (inr (broken, e)) = fails broken e
+of_text : (style : Style) (lines : List ℕ) (schema : Schema) (words : Told) → IsTextOrRefusal style lines schema words → Words words
+of_text style lines schema words (inl (rows, e)) = tells (ap (λ (r : Told). r.refusal) e)
+of_text style lines schema words (inr (broken, e)) = fails broken e
+
+of_rows : (style : Style) (words : Told) (plan : Query) → IsRowsReply style plan words → Words words
+of_rows style words plan (lines, are, kind) = of_text style (traced style lines) (schema_of plan) words kind
 
 of_kind : (style : Style) (words : Told) (names : Names) (checked : Checked Typed) → HasStatementKind style names checked (without_change words) → Words words
-of_kind style words names (Ok (AQuery plan)) k = of_rows style words (schema_of plan) k.0
+of_kind style words names (Ok (AQuery plan)) k = of_rows style words plan k.0
 of_kind style words names (Ok (AChange change)) k = of_change words names change k
 of_kind style words names (Ok (Versions name)) k = tells (ap (λ (answer : Accepted). answer.reply.refusal) k)
 of_kind style words names (Ok (Show name)) k = tells (ap (λ (answer : Accepted). answer.reply.refusal) k)

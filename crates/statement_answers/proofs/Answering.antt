@@ -148,7 +148,7 @@ over_names style names source text tree (Err fault) told = tt
 
 -- ---- queries
 
-pub query_kind : (style : Style) (names : Names) (plan : Query) (reply : Reply) → IsRowsReply style (schema_of plan) reply → HasOutcomeKind style names (Ok (AQuery plan)) (Replied reply)
+pub query_kind : (style : Style) (names : Names) (plan : Query) (reply : Reply) → IsRowsReply style plan reply → HasOutcomeKind style names (Ok (AQuery plan)) (Replied reply)
 query_kind style names plan reply kind = (kind, refl)
 
 pub query_told : (style : Style) (names : Names) (source : SourceState) (plan : Query) (reply : Reply) → ((rows : Rows) → source.tells rows → reply ≡ plan_reply style rows plan)

@@ -3,4 +3,5 @@ pub mod QueryReplies
 pub mod Standing
 pub mod StatementReplies
 pub mod TextLaws
+pub mod TracedReplies
 mod Worked

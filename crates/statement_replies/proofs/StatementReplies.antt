@@ -4,7 +4,6 @@ use Rattle.cell_values.specs.declared.datum.Broken.{Broken}
 use Rattle.cell_values.specs.declared.name.Span.{Span}
 use Rattle.schema_grammar.specs.declared.kinds.TypeKind.{TypeKind}
 use Rattle.afl_trees.specs.Term.{Term}
-use Rattle.logical_plan.specs.PlanSchema.{schema_of}
 use Rattle.logical_plan.specs.Query.{Query}
 use Rattle.logical_plan.specs.declared.names.Names.{Names}
 use Rattle.plan_changes.specs.Databases.{Database, fault_of_change, names_of, rows_of}
@@ -78,7 +77,7 @@ module _ (style : Style) (names : Names) (stands : Database → Type 0) (named :
   pub of_breach : (span : Span) (kind : TypeKind) (reply : Reply) → check_of tree text names ≡ broken_rule span kind → reply ≡ refused (Typing span kind) → IsReply (without_change reply)
   of_breach span kind reply is e = by_check (broken_rule span kind) (without_change reply) is (ap without_change e) (λ db there. ap without_change e)
 
-  pub of_query : (plan : Query) (reply : Reply) → check_of tree text names ≡ Ok (AQuery plan) → IsRowsReply style (schema_of plan) reply
+  pub of_query : (plan : Query) (reply : Reply) → check_of tree text names ≡ Ok (AQuery plan) → IsRowsReply style plan reply
       → ((db : Database) → stands db → reply ≡ plan_reply style (rows_of db) plan) → IsReply (without_change reply)
   of_query plan reply is kind told = by_check (Ok (AQuery plan)) (without_change reply) is (kind, refl) (λ db there. ap without_change (told db there))
 

@@ -1,6 +1,7 @@
 -- Statements over a database of two arrays: `A`, whose version 3 has the cells 7 and null, and `N`, which takes no null and has no
 -- version.
 use Rattle.std.proofs.Common.{◌≡◌, ℕ, pos, Bool, true, false, Some, List, [], ◌∷◌, refl}
+use Rattle.std.specs.Fmt.{digits}
 use Rattle.std.specs.Prelude.{codes}
 use Rattle.cell_values.specs.declared.datum.Cell.TheVariants.{Full}
 use Rattle.cell_values.specs.declared.datum.Datum.{Datum}
@@ -25,7 +26,10 @@ use Rattle.statement_replies.specs.Statements.{reply_to, text_alone, without_cha
 use Rattle.statement_replies.specs.declared.style.Style.{Style}
 
 abbrev lines : Style
-lines = record { csv = false }
+lines = record { csv = false; trace = false }
+
+abbrev traces : Style
+traces = record { csv = false; trace = true }
 
 abbrev at : ℕ → ℕ → Span
 at a b = record { start = a; end = b }
@@ -64,12 +68,17 @@ abbrev store_in : List ℕ → Term
 store_in target = call (at 0 11) (codes "store") (and_term (name 6 7 (codes "A")) (and_term (name 9 10 target) no_terms))
 
 -- A
-queried : reply_to lines db [] (name 0 1 (codes "A")) ≡ without_change (text_reply lines (line true) rows)
+queried : reply_to lines db [] (name 0 1 (codes "A")) ≡ without_change (text_reply lines [] (line true) rows)
 unfolding query_named change_named
 queried = refl
 
+-- A, and what was read
+queried_traced : reply_to traces db [] (name 0 1 (codes "A")) ≡ without_change (text_reply lines (codes "trace: A@3 asked 1 of 1\n") (line true) rows)
+unfolding query_named change_named digits
+queried_traced = refl
+
 -- A, as CSV
-queried_as_csv : reply_to (record { csv = true }) db [] (name 0 1 (codes "A")) ≡ without_change (text_alone (csv_text (line true) rows))
+queried_as_csv : reply_to (record { csv = true; trace = false }) db [] (name 0 1 (codes "A")) ≡ without_change (text_alone (csv_text (line true) rows))
 unfolding query_named change_named
 queried_as_csv = refl
 

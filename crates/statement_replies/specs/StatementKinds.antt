@@ -3,7 +3,6 @@ use Rattle.std.specs.Prelude.{◌≡◌, ◌⊎◌, ℕ, List, None, Ok, Err, If
 use Rattle.cell_values.specs.declared.datum.Broken.{Broken}
 use Rattle.afl_trees.specs.Term.{Term}
 use Rattle.logical_plan.specs.declared.names.Names.{Names}
-use Rattle.logical_plan.specs.PlanSchema.{schema_of}
 use Rattle.plan_changes.specs.Changes.{has_array}
 use Rattle.plan_changes.specs.Databases.{Database, names_of, rows_of}
 use Rattle.plan_changes.specs.declared.change.Change.{Change}
@@ -32,9 +31,9 @@ HasChangeKind names (Insert name schema plan) answer = MayBreak names (Insert na
 HasChangeKind names (Remove name) answer = answer ≡ accepted names (Remove name)
 HasChangeKind names (RemoveVersions name below) answer = answer ≡ accepted names (RemoveVersions name below)
 
--- a query has some rows of its plan's schema, or the refusal that tells of some cell; a listing has its text
+-- a query has some rows of its plan, or the refusal that tells of some cell; a listing has its text
 abbrev pub HasTypedKind : Style → Names → Typed → Accepted → Type 0
-HasTypedKind style names (AQuery plan) answer = IsRowsReply style (schema_of plan) answer.reply × (answer.change ≡ None)
+HasTypedKind style names (AQuery plan) answer = IsRowsReply style plan answer.reply × (answer.change ≡ None)
 HasTypedKind style names (AChange change) answer = HasChangeKind names change answer
 HasTypedKind style names (Versions name) answer = answer ≡ without_change (versions_reply names name)
 HasTypedKind style names (Show name) answer = answer ≡ without_change (show_reply names name)
