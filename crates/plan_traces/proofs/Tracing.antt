@@ -1,7 +1,7 @@
 -- Lines of leaves, one behind the other.
 use Rattle.std.proofs.Common.{◌≡◌, ◌∙◌, ℕ, zero, suc, ◌+◌, ◌<◌, ◌≤◌, List, [], ◌∷◌, ◌++◌, length, get_or, take, refl, sym, ap, subst, arith, append_assoc}
 use Rattle.std.specs.List.{AllByRecursion}
-use Rattle.std.proofs.lemmas.List.{append-nil, length-take-le, take_more}
+use Rattle.std.proofs.lemmas.List.{append-nil, length-take-le, take_all, take_more}
 use Rattle.cell_values.specs.declared.schema.Bounds.{Bounds}
 use Rattle.cell_values.specs.Schemas.{IsValid}
 use Rattle.array_rows.specs.Boxes.{by_pairs}
@@ -17,7 +17,7 @@ use Rattle.plan_traces.specs.declared.asking.Asking.{Asking}
 use Rattle.plan_traces.specs.Inner.Among.{AddsLines}
 use Rattle.leaf_numbers.proofs.SufficientLaws.{whole_needs}
 use Rattle.plan_needs.specs.Wanted.{whole_need}
-use Rattle.plan_traces.specs.Traced.{AreLinesOf, asking_in, leaf_line, lines_in, lines_of, plan_lines}
+use Rattle.plan_traces.specs.Traced.{AreLinesOf, asking_in, leaf_line, lines_in, lines_of, plan_askings, plan_lines}
 
 -- ---- all leaves of a typed plan are of valid schemas
 
@@ -148,6 +148,13 @@ traced_more first before now all boxes i leaf area start text longer each lt is 
           (fewer before.tells first.tells (leaf ∷ []) (area ∷ []) text longer (λ db t. (h.kept.tells db).1 t) line)));
     }
 
+-- the loop has come to its end
+pub all_traced : (first now : SourceState) (all : List Leaf) (boxes : List Bounds) (i : ℕ) (before text : List ℕ) → length boxes ≡ length all → length all ≤ i
+    → HasTraced first now all boxes i before text → AddsLines first.tells all boxes before text
+all_traced first now all boxes i before text each le h =
+    subst (λ (xs : List Leaf). AddsLines first.tells xs boxes before text) (take_all all i le)
+    (subst (λ (ys : List Bounds). AddsLines first.tells (take i all) ys before text) (take_all boxes i (omega (arith, each, le))) h.lines)
+
 pub at_place : (P : Leaf → Type 0) (all : List Leaf) (i : ℕ) (leaf : Leaf) → i < length all → leaf ≡ get_or all i leaf → AllByRecursion P all → P leaf
 at_place P all i leaf lt is holds = subst P (sym is) (found all i lt holds)
   where
@@ -162,5 +169,15 @@ all_read first now (leaf ∷ all) k reads = (reads_still first now leaf k reads.
 
 -- ---- the lines of a plan
 
+module _ (tells : Database → Type 0) (query : Query) (all : List Leaf) (boxes : List Bounds) (start text : List ℕ) (none : start ≡ []) (these : all ≡ leaves query) where
+  pub lines_alone : AddsLines tells all boxes start text → AreLinesOf (leaves query) text
+  lines_alone a =
+      let is : text ≡ a.lines = a.added ∙ ap (λ (z : List ℕ). z ++ a.lines) none in
+      subst (λ (xs : List Leaf). AreLinesOf xs text) these (subst (AreLinesOf all) (sym is) a.each)
+
+  pub told_alone : boxes ≡ whole_need query → AddsLines tells all boxes start text → (db : Database) → tells db → text ≡ plan_lines db query
+  told_alone needs a db t =
+      a.added ∙ ap (λ (z : List ℕ). z ++ a.lines) none ∙ a.told db t ∙ (λ i. lines_in db (these i) (needs i))
+
 pub plan_lines_are : (db : Database) (query : Query) → AreLinesOf (leaves query) (plan_lines db query)
-plan_lines_are db query = (by_pairs (asking_in db) (leaves query) (whole_need query), askings_each db (leaves query) (whole_need query) (whole_needs query), refl)
+plan_lines_are db query = (plan_askings db query, askings_each db (leaves query) (whole_need query) (whole_needs query), refl)

@@ -1,5 +1,5 @@
 -- The lines that tell what a plan reads: of each leaf, from left to right, how many of its stored chunks are asked for.
-use Rattle.std.specs.Prelude.{◌≡◌, ℕ, List, [], ◌∷◌, ◌++◌, filter, length}
+use Rattle.std.specs.Prelude.{◌≡◌, ℕ, Bool, List, [], ◌∷◌, ◌++◌, filter, length}
 use Rattle.cell_values.specs.declared.schema.Bounds.{Bounds}
 use Rattle.cell_values.specs.declared.schema.Dimension.{Dimension}
 use Rattle.array_rows.specs.Boxes.{by_pairs}
@@ -22,21 +22,28 @@ lines_of [] askings = []
 lines_of (leaf ∷ all) [] = []
 lines_of (leaf ∷ all) (asking ∷ askings) = leaf_line leaf asking ++ lines_of all askings
 
--- of chunks with these numbers those are asked for whose core meets a box
-abbrev pub asking_of : List Dimension → Bounds → List ChunkNumber → Asking
-asking_of dims area chunks = record { asked = length (filter (core_meets dims area) chunks); stored = length chunks }
+-- of chunks with these numbers those are asked for that a test chooses
+abbrev pub asking_where : (ChunkNumber → Bool) → List ChunkNumber → Asking
+asking_where chosen chunks = record { asked = length (filter chosen chunks); stored = length chunks }
 
--- in a database the chunks of a leaf are those whose core holds a cell
+-- in a database the chunks of a leaf are those whose core holds a cell, and those are asked for whose core meets the leaf's box
 abbrev pub asking_in : Database → Leaf → Bounds → Asking
-asking_in db leaf area = asking_of leaf.schema.dimensions area (numbers_of leaf.schema.dimensions (version_rows db leaf.name leaf.version))
+asking_in db leaf area =
+    asking_where (core_meets leaf.schema.dimensions area) (numbers_of leaf.schema.dimensions (version_rows db leaf.name leaf.version))
 
 -- these leaves, each read for its box
+abbrev pub askings_in : Database → List Leaf → List Bounds → List Asking
+askings_in db all boxes = by_pairs (asking_in db) all boxes
+
 abbrev pub lines_in : Database → List Leaf → List Bounds → List ℕ
-lines_in db all boxes = lines_of all (by_pairs (asking_in db) all boxes)
+lines_in db all boxes = lines_of all (askings_in db all boxes)
 
 -- for a whole plan the boxes are those that it needs
+abbrev pub plan_askings : Database → Query → List Asking
+plan_askings db query = askings_in db (leaves query) (whole_need query)
+
 abbrev pub plan_lines : Database → Query → List ℕ
-plan_lines db query = lines_in db (leaves query) (whole_need query)
+plan_lines db query = lines_of (leaves query) (plan_askings db query)
 
 -- whatever the arrays hold: a line for each leaf, with some numbers
 abbrev pub AreLinesOf : List Leaf → List ℕ → Type 0

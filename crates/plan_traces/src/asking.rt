@@ -1,47 +1,50 @@
 //! How many chunks of an array are asked for, and how many it has.
-ghost use Rattle.std.specs.Prelude.{◌≡◌, ◌==◌, filter, length, IfOk};
+ghost use Rattle.std.specs.Prelude.{◌≡◌, IfOk};
+ghost use Rattle.std.specs.List.{count_by};
 ghost use Rattle.cell_values.specs.Schemas.{IsValid};
-ghost use Rattle.plan_traces.specs.Inner.Among.{asking_among};
+ghost use Rattle.plan_needs.specs.Wanted.{wanted_of};
+ghost use Rattle.plan_traces.specs.Counted.{counted, is_sized};
 
 use array_geom::chunks_meeting;
-use cell_values::{Bounds, ChunkAt, Memory};
+use cell_values::{Bounds, ChunkAt, Memory, Schema};
 use logical_plan::Leaf;
 use std::alloc::Global;
 
 /// How many chunks of a version of an array are asked for, and how many it has.
-#[derive(Clone, Copy, Debug)]
+#[derive(Clone, Copy, Debug, PartialEq, Eq)]
 pub struct Asking {
     pub asked: u64,
     pub stored: u64,
 }
 
-/// How many of these numbers have a place for each of so many dimensions.
-fn count_sized(chunks: &[ChunkAt], dimensions: usize) -> u64
-    ensures { result ≡ length (filter (λ at. length at.items == dimensions) chunks.now) }
+/// Whether a chunk's number has a place for each dimension.
+fn is_sized(schema: &Schema, at: &ChunkAt) -> bool
+    ensures { result ≡ is_sized schema.now.dimensions at.now }
 {
-    let mut count = 0;
-    for at in chunks {
-        if at.len() == dimensions {
-            count += 1;
-        }
-    }
-    count
+    at.len() == schema.dimensions.len()
+}
+
+/// How many of these numbers have a place for each dimension.
+pub fn count_chunks(schema: &Schema, chunks: &[ChunkAt]) -> u64
+    ensures { result ≡ count_by (is_sized schema.now.dimensions) chunks.now }
+{
+    chunks.iter().filter(|at| is_sized(schema, *at)).count() as u64
 }
 
 /// How many of the listed chunks of a leaf have a core that meets a box, and how many there are.
-pub(crate) fn asking_among(
+pub(crate) fn asking_for(
     alloc: Global,
     leaf: &Leaf,
     area: &Bounds,
     listed: &[ChunkAt],
 ) -> Result<Asking, Memory>
     requires { IsValid leaf.now.schema }
-    ensures { IfOk result (λ asking. asking ≡ asking_among leaf.now.schema.dimensions area.now listed.now) }
+    ensures { let dims = leaf.now.schema.dimensions in
+        IfOk result (λ asking. asking ≡ counted dims (wanted_of dims area.now listed.now) listed.now) }
 {
     let wanted = chunks_meeting(alloc, &leaf.schema, area, listed)?;
-    let dimensions = leaf.schema.dimensions.len();
     Ok(Asking {
-        asked: count_sized(wanted.as_slice(), dimensions),
-        stored: count_sized(listed, dimensions),
+        asked: count_chunks(&leaf.schema, wanted.as_slice()),
+        stored: count_chunks(&leaf.schema, listed),
     })
 }

@@ -6,5 +6,6 @@ mod boxes;
 mod line;
 mod lines;
 
-pub use asking::Asking;
+pub use asking::{Asking, count_chunks};
+pub use line::write_line;
 pub use lines::plan_lines;

@@ -3,6 +3,7 @@ ghost use Rattle.std.specs.Prelude.{◌≡◌, ◌++◌, OnOk};
 ghost use Rattle.std.specs.Fmt.{decimal};
 ghost use Rattle.plan_traces.specs.Line.{trace_line};
 
+use crate::asking::Asking;
 use cell_values::{Bytes, Memory, Name};
 use itoa::Buffer;
 
@@ -14,23 +15,22 @@ fn write_number(out: &mut Bytes, number: u64) -> Result<(), Memory>
     out.extend(buffer.format(number).as_bytes())
 }
 
-/// Adds how many of the stored chunks of a version of an array were asked for, as `trace: A@1 asked 1 of 3`.
-pub(crate) fn write_line(
+/// Adds the line that tells how many of the stored chunks of a version of an array were asked for, as `trace: A@1 asked 1 of 3`.
+pub fn write_line(
     out: &mut Bytes,
     name: &Name,
     version: u32,
-    asked: u64,
-    stored: u64,
+    asking: Asking,
 ) -> Result<(), Memory>
-    ensures { OnOk result (out.new ≡ out.old ++ trace_line name.now version asked stored) }
+    ensures { OnOk result (out.new ≡ out.old ++ trace_line name.now version asking.asked asking.stored) }
 {
     out.extend(b"trace: ")?;
     out.extend(name.as_slice())?;
     out.push(b'@')?;
     write_number(out, u64::from(version))?;
     out.extend(b" asked ")?;
-    write_number(out, asked)?;
+    write_number(out, asking.asked)?;
     out.extend(b" of ")?;
-    write_number(out, stored)?;
+    write_number(out, asking.stored)?;
     out.push(b'\n')
 }

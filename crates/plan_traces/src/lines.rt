@@ -10,7 +10,7 @@ ghost use Rattle.logical_plan.specs.Typing.{IsTyped};
 ghost use Rattle.plan_traces.specs.Inner.Among.{AddsLines};
 ghost use Rattle.plan_traces.specs.Traced.{AreLinesOf, lines_in, plan_lines};
 
-use crate::asking::{Asking, asking_among};
+use crate::asking::asking_for;
 use crate::boxes::boxes_of;
 use crate::line::write_line;
 use cell_values::{Bounds, Bytes};
@@ -35,9 +35,8 @@ fn push_line<S: ChunkSource>(
     ensures start { S.start source.new ≡ S.start source.old }
 {
     let listed = source.listed(leaf)?;
-    let Asking { asked, stored } = asking_among(alloc, leaf, area, listed.as_slice())?;
-    write_line(lines, &leaf.name, leaf.version, asked, stored)?;
-    Ok(())
+    let asking = asking_for(alloc, leaf, area, listed.as_slice())?;
+    Ok(write_line(lines, &leaf.name, leaf.version, asking)?)
 }
 
 /// Adds the line of each leaf.
