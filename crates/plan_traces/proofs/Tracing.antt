@@ -47,7 +47,7 @@ valid_leaves (aggregated source gs places) typed = valid_leaves source typed.0
 
 -- ---- one more leaf
 
-lines_more : (xs : List Leaf) (counts : List Asking) (x : Leaf) (a : Asking) → length counts ≡ length xs → lines_of (xs ++ x ∷ []) (counts ++ a ∷ []) ≡ lines_of xs counts ++ leaf_line x a
+pub lines_more : (xs : List Leaf) (counts : List Asking) (x : Leaf) (a : Asking) → length counts ≡ length xs → lines_of (xs ++ x ∷ []) (counts ++ a ∷ []) ≡ lines_of xs counts ++ leaf_line x a
 lines_more [] [] x a e = append-nil (leaf_line x a)
 lines_more [] (b ∷ counts) x a e = absurd (omega (arith, e))
 lines_more (y ∷ xs) [] x a e = absurd (omega (arith, e))
@@ -61,13 +61,13 @@ askings_more db [] (b ∷ ys) x y e = absurd (omega (arith, e))
 askings_more db (a ∷ xs) [] x y e = absurd (omega (arith, e))
 askings_more db (a ∷ xs) (b ∷ ys) x y e = ap (λ (z : List Asking). asking_in db a b ∷ z) (askings_more db xs ys x y (omega (arith, e)))
 
-askings_each : (db : Database) (xs : List Leaf) (ys : List Bounds) → length ys ≡ length xs → length (by_pairs (asking_in db) xs ys) ≡ length xs
+pub askings_each : (db : Database) (xs : List Leaf) (ys : List Bounds) → length ys ≡ length xs → length (by_pairs (asking_in db) xs ys) ≡ length xs
 askings_each db [] [] e = refl
 askings_each db [] (b ∷ ys) e = refl
 askings_each db (a ∷ xs) [] e = absurd (omega (arith, e))
 askings_each db (a ∷ xs) (b ∷ ys) e = ap suc (askings_each db xs ys (omega (arith, e)))
 
-append_each : (counts : List Asking) (xs : List Leaf) (a : Asking) (x : Leaf) → length counts ≡ length xs → length (counts ++ a ∷ []) ≡ length (xs ++ x ∷ [])
+pub append_each : (counts : List Asking) (xs : List Leaf) (a : Asking) (x : Leaf) → length counts ≡ length xs → length (counts ++ a ∷ []) ≡ length (xs ++ x ∷ [])
 append_each [] [] a x e = refl
 append_each [] (y ∷ xs) a x e = absurd (omega (arith, e))
 append_each (b ∷ counts) [] a x e = absurd (omega (arith, e))
@@ -179,5 +179,8 @@ module _ (tells : Database → Type 0) (query : Query) (all : List Leaf) (boxes 
   told_alone needs a db t =
       a.added ∙ ap (λ (z : List ℕ). z ++ a.lines) none ∙ a.told db t ∙ (λ i. lines_in db (these i) (needs i))
 
+pub plan_askings_each : (db : Database) (query : Query) → length (plan_askings db query) ≡ length (leaves query)
+plan_askings_each db query = askings_each db (leaves query) (whole_need query) (whole_needs query)
+
 pub plan_lines_are : (db : Database) (query : Query) → AreLinesOf (leaves query) (plan_lines db query)
-plan_lines_are db query = (plan_askings db query, askings_each db (leaves query) (whole_need query) (whole_needs query), refl)
+plan_lines_are db query = (plan_askings db query, plan_askings_each db query, refl)

@@ -1,3 +1,4 @@
+pub mod Lines
 pub mod PlanReplies
 pub mod QueryReplies
 pub mod Standing

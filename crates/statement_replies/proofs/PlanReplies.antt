@@ -1,10 +1,9 @@
 -- The reply to a plan, of which the first fault or the rows are found.
-use Rattle.std.proofs.Common.{◌≡◌, inl, inr, ℕ, suc, Bool, true, false, cond, List, [], ◌∷◌, length, Option, Some, None, Result, Ok, Err, refl, sym, ap, ◌∙◌, subst}
+use Rattle.std.proofs.Common.{◌≡◌, inl, inr, ℕ, List, Option, Some, None, Result, Ok, Err, refl, sym, ap, ◌∙◌, subst}
 use Rattle.cell_values.specs.declared.datum.Broken.{Broken}
 use Rattle.cell_values.specs.declared.datum.Row.{Row}
 use Rattle.cell_values.specs.declared.schema.Schema.{Schema}
 use Rattle.logical_plan.specs.Faults.{fault_of, first_fault}
-use Rattle.logical_plan.specs.declared.parts.Leaf.{Leaf}
 use Rattle.logical_plan.specs.Leaves.{leaves}
 use Rattle.logical_plan.specs.Meaning.{Database, Meant, meaning}
 use Rattle.logical_plan.specs.PlanSchema.{schema_of}
@@ -12,12 +11,11 @@ use Rattle.logical_plan.specs.Query.{Query}
 use Rattle.logical_plan.proofs.SchemaLaws.{meaning_schema}
 use Rattle.plan_rows.specs.declared.answers.rows.PlanRows.TheVariants.{Fault, Rows}
 use Rattle.plan_rows.specs.Found.{IsFound}
-use Rattle.plan_traces.specs.declared.asking.Asking.{Asking}
-use Rattle.plan_traces.specs.Traced.{AreLinesOf, lines_of, plan_lines}
+use Rattle.plan_traces.specs.Traced.{plan_lines}
 use Rattle.plan_traces.proofs.Tracing.{plan_lines_are}
 use Rattle.check_rules.specs.Checked.{Checked}
 use Rattle.check_laws.specs.Queries.{query_of}
-use Rattle.statement_replies.specs.Inner.Lines.{HasLines}
+use Rattle.statement_replies.specs.Lines.{HasLines}
 use Rattle.statement_replies.specs.Kinds.{HasKind, IsRowsReply, IsTextOrRefusal, RepliesHaveKinds}
 use Rattle.statement_replies.specs.Reply.{array_reply, cell_reply, checked_reply, fault_or_text, meant_reply, text_reply, traced}
 use Rattle.statement_replies.specs.declared.replies.Reply.{Reply}
@@ -39,28 +37,7 @@ rows_reply style lines meant schema rows reply found e =
 pub lines_reply : (style : Style) (text lines : List ℕ) (meant : Meant) (reply : Reply) → text ≡ lines → reply ≡ meant_reply style text meant → reply ≡ meant_reply style lines meant
 lines_reply style text lines meant reply same e = e ∙ ap (λ (z : List ℕ). meant_reply style z meant) same
 
--- ---- lines
-
--- there are lines with some numbers
-none_asked : List Leaf → List Asking
-none_asked [] = []
-none_asked (leaf ∷ all) = record { asked = 0; stored = 0 } ∷ none_asked all
-
-none_each : (all : List Leaf) → length (none_asked all) ≡ length all
-unfolding none_asked
-none_each [] = refl
-none_each (leaf ∷ all) = ap suc (none_each all)
-
-pub unwanted : (style : Style) (query : Query) (text : List ℕ) → style.trace ≡ false → text ≡ [] → HasLines style query text
-unwanted style query text none e =
-    let all = leaves query in
-    let lines = lines_of all (none_asked all) in
-    (lines, (none_asked all, none_each all, refl), e ∙ sym (ap (λ (b : Bool). cond b lines []) none))
-
-pub wanted : (style : Style) (query : Query) (text : List ℕ) → style.trace ≡ true → AreLinesOf (leaves query) text → HasLines style query text
-wanted style query text some are = (text, are, sym (ap (λ (b : Bool). cond b text []) some))
-
-pub rows_kind : (style : Style) (query : Query) (text : List ℕ) (reply : Reply) → HasLines style query text → IsTextOrRefusal style text (schema_of query) reply → IsRowsReply style query reply
+pub rows_kind : (style : Style) (query : Query) (text : List ℕ) (reply : Reply) → HasLines style (leaves query) text → IsTextOrRefusal style text (schema_of query) reply → IsRowsReply style query reply
 rows_kind style query text reply (lines, are, is) kind = (lines, are, subst (λ (z : List ℕ). IsTextOrRefusal style z (schema_of query) reply) is kind)
 
 -- ---- kinds

@@ -16,7 +16,7 @@ use Rattle.afl_trees.specs.Term.{Term, reference, text, call, no_terms, and_term
 use Rattle.logical_plan.specs.Query.{Query, scanned}
 use Rattle.logical_plan.specs.declared.names.NameEntry.{NameEntry}
 use Rattle.plan_changes.specs.Databases.{Database}
-use Rattle.plan_changes.specs.declared.change.Change.TheVariants.{Store, Remove}
+use Rattle.plan_changes.specs.declared.change.Change.TheVariants.{Store, Insert, Remove}
 use Rattle.check_rules.specs.Operators.{query_named, change_named}
 use Rattle.result_print.specs.Listings.{list_text, show_text, stored_line, versions_text}
 use Rattle.result_print.specs.Records.{csv_text}
@@ -84,13 +84,25 @@ queried_as_csv = refl
 
 -- store(A, A)
 stored : reply_to lines db [] (store_in (codes "A")) ≡ record { reply = text_alone (stored_line (codes "A") 4); change = Some (Store (codes "A") (line true) plan) }
-unfolding query_named change_named
+unfolding query_named change_named digits
 stored = refl
 
 -- store(A, B)
 stored_anew : reply_to lines db [] (store_in (codes "B")) ≡ record { reply = text_alone (stored_line (codes "B") 1); change = Some (Store (codes "B") (line true) plan) }
-unfolding query_named change_named
+unfolding query_named change_named digits
 stored_anew = refl
+
+-- store(A, A), and what was read
+stored_traced : reply_to traces db [] (store_in (codes "A"))
+    ≡ record { reply = text_alone (codes "ok A@4\ntrace: A@3 asked 1 of 1\n"); change = Some (Store (codes "A") (line true) plan) }
+unfolding query_named change_named digits
+stored_traced = refl
+
+-- insert(A, A), and what was read, the target last
+inserted_traced : reply_to traces db [] (call (at 0 12) (codes "insert") (and_term (name 7 8 (codes "A")) (and_term (name 10 11 (codes "A")) no_terms)))
+    ≡ record { reply = text_alone (codes "ok A@4\ntrace: A@3 asked 1 of 1\ntrace: A@3 asked 1 of 1\n"); change = Some (Insert (codes "A") (line true) plan) }
+unfolding query_named change_named digits
+inserted_traced = refl
 
 -- store(A, N)
 broken : reply_to lines db [] (store_in (codes "N")) ≡ without_change (refused (Cell (record { items = pos 3 ∷ [] }) NullInNotNull))

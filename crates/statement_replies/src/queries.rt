@@ -15,13 +15,12 @@ ghost use Rattle.plan_rows.specs.Held.{HoldsCells, rows_held};
 ghost use Rattle.statement_replies.specs.Kinds.{IsQueryReply, IsRowsReply, IsTextOrRefusal};
 ghost use Rattle.statement_replies.specs.Printed.{printed};
 ghost use Rattle.statement_replies.specs.Reading.{HoldsVersions, asked_for};
-ghost use Rattle.plan_traces.specs.Traced.{plan_lines};
-ghost use Rattle.statement_replies.specs.Inner.Lines.{HasLines};
-ghost use Rattle.statement_replies.specs.Reply.{meant_reply, plan_reply, traced};
+ghost use Rattle.statement_replies.specs.Reply.{meant_reply, plan_reply};
 
 use crate::replies::{Reply, refuse};
 use crate::style::Style;
 use crate::texts::text_of;
+use crate::traces::lines_wanted;
 use afl_outside::Gate;
 use afl_trees::Tree;
 use array_geom::ChunkedArray;
@@ -31,7 +30,6 @@ use check_rules::TypeFault;
 use chunk_source::{ChunkSource, ExecFault};
 use logical_plan::{Names, Plan};
 use plan_rows::{PlanArray, array_of};
-use plan_traces::plan_lines;
 use result_print::Refusal;
 use std::alloc::Global;
 use std::thread::Threads;
@@ -103,28 +101,6 @@ pub fn answer_query<S: ChunkSource, R: Threads + Sync, G: Gate>(
     match array_of(rt, alloc, plan, source, workers, session, gate) {
         Ok(found) => reply_with_lines(alloc, style, plan, source, found),
         Err(fault) => Err(fault),
-    }
-}
-
-/// The lines that tell what a plan reads, where the style wants them.
-fn lines_wanted<S: ChunkSource>(
-    alloc: Global,
-    style: Style,
-    plan: &Plan,
-    source: &mut S,
-) -> Result<Bytes, ExecFault>
-    requires { CanCompute (S.state source.old) plan.now }
-    ensures kind { IfOk result (HasLines style plan.now) }
-    ensures told { IfOk result (λ lines. (db : Database) → (S.state source.old).tells db → lines ≡ traced style (plan_lines db plan.now)) }
-    ensures asked { (S.state source.new).asked ≡ (S.state source.old).asked }
-    ensures kept { Keeps (S.state source.old) (S.state source.new) }
-    ensures cause { Answers (S.state source.old) (S.state source.new) result }
-    ensures start { S.start source.new ≡ S.start source.old }
-{
-    if style.trace {
-        plan_lines(alloc, plan, source)
-    } else {
-        Ok(Bytes::new(alloc))
     }
 }
 
