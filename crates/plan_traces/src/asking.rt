@@ -11,7 +11,7 @@ use logical_plan::Leaf;
 use std::alloc::Global;
 
 /// How many chunks of a version of an array are asked for, and how many it has.
-#[derive(Clone, Copy, Debug, PartialEq, Eq)]
+#[derive(Clone, Copy)]
 pub struct Asking {
     pub asked: u64,
     pub stored: u64,

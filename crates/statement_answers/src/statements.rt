@@ -96,9 +96,9 @@ fn outcome_of_typed<S: ChunkSource, R: Threads + Sync, G: Gate>(
             let_go(plan);
             outcome
         }
-        Typed::Change(change) => {
-            outcome_of_change(rt, alloc, change, names, source, workers, session, gate)
-        }
+        Typed::Change(change) => outcome_of_change(
+            rt, alloc, change, names, source, style, workers, session, gate,
+        ),
         Typed::Versions(name) => Ok(Outcome::Replied(versions_reply(alloc, &name, names)?)),
         Typed::Show(name) => Ok(Outcome::Replied(show_reply(alloc, &name, names)?)),
         Typed::ListArrays => Ok(Outcome::Replied(list_reply(alloc, names)?)),

@@ -1,22 +1,31 @@
--- Lines that stand behind a text, and those of a change.
+-- Lines that stand behind a text, those of a change, and what keeps them.
 use Rattle.std.proofs.Common.{◌≡◌, ℕ, suc, Bool, true, false, cond, List, [], ◌∷◌, ◌++◌, length, Result, Ok, Err, IfOk, refl, sym, ap, ◌∙◌, subst}
+use Rattle.std.specs.List.{AllByRecursion}
+use Rattle.cell_values.specs.declared.schema.Bounds.{Bounds}
 use Rattle.cell_values.specs.declared.schema.Schema.{Schema}
+use Rattle.array_geom.specs.Geometry.{core_meets}
+use Rattle.commit_costs.specs.Costs.{numbers_of}
 use Rattle.logical_plan.specs.declared.names.Names.{Names}
 use Rattle.logical_plan.specs.declared.parts.Leaf.{Leaf}
 use Rattle.logical_plan.specs.Leaves.{leaves}
 use Rattle.logical_plan.specs.Meaning.{Database as Rows}
+use Rattle.logical_plan.specs.Meaning.{version_rows}
 use Rattle.logical_plan.specs.Query.{Query}
-use Rattle.plan_changes.specs.Databases.{Database, names_of, rows_of}
+use Rattle.plan_changes.specs.Changes.{newest_of}
+use Rattle.plan_changes.specs.Databases.{Database, fitted, names_of, newest_rows, rows_if_whole, rows_of}
 use Rattle.plan_changes.specs.declared.change.Change.{Change}
 use Rattle.plan_changes.specs.declared.change.Change.TheVariants.{Create, Store, Insert, Remove, RemoveVersions}
 use Rattle.chunk_source.specs.Source.{SourceState}
 use Rattle.chunk_source.specs.declared.reading.fault.ExecFault.{ExecFault}
 use Rattle.plan_traces.specs.declared.asking.Asking.{Asking}
-use Rattle.plan_traces.specs.Traced.{AreLinesOf, leaf_line, lines_of, plan_askings, plan_lines}
+use Rattle.plan_needs.specs.Wanted.{whole_need}
+use Rattle.plan_traces.specs.Traced.{AreLinesOf, asking_where, askings_in, leaf_line, lines_of, plan_askings, plan_lines}
 use Rattle.plan_traces.proofs.Tracing.{append_each, lines_more, plan_askings_each, plan_lines_are}
-use Rattle.changed_chunks.specs.Targets.{target_asking}
+use Rattle.changed_chunks.specs.Targets.{asking_put, target_asking}
 use Rattle.statement_replies.specs.Lines.{HasLines}
 use Rattle.statement_replies.specs.Reply.{traced}
+use Rattle.statement_replies.specs.StatementKinds.{IsAccepted}
+use Rattle.statement_replies.specs.Statements.{Accepted, change_text, text_alone}
 use Rattle.statement_replies.specs.Traces.{IsTracedIn, askings_by, change_lines, newest_leaf, read_by}
 use Rattle.statement_replies.specs.declared.style.Style.{Style}
 
@@ -130,3 +139,49 @@ change_lines_are db (Insert name schema plan) =
     (askings_by db (Insert name schema plan), append_each (plan_askings (rows_of db) plan) (leaves plan) target leaf (plan_askings_each (rows_of db) plan), refl)
 change_lines_are db (Remove name) = ([], refl, refl)
 change_lines_are db (RemoveVersions name below) = ([], refl, refl)
+
+-- ---- the lines of a change over databases that tell it the same
+
+module _ (a b : Database) where
+  abbrev ReadsAlike : Leaf → Type 0
+  ReadsAlike leaf = version_rows (rows_of a) leaf.name leaf.version ≡ version_rows (rows_of b) leaf.name leaf.version
+
+  askings_stay : (all : List Leaf) (boxes : List Bounds) → AllByRecursion ReadsAlike all → askings_in (rows_of a) all boxes ≡ askings_in (rows_of b) all boxes
+  askings_stay [] boxes same = refl
+  askings_stay (leaf ∷ all) [] same = refl
+  askings_stay (leaf ∷ all) (area ∷ boxes) same =
+      let dims = leaf.schema.dimensions in
+      λ i. asking_where (core_meets dims area) (numbers_of dims (same.0 i)) ∷ askings_stay all boxes same.1 i
+
+  -- each version that its plan reads has the same rows, and an insert's plan and target have
+  abbrev pub AreReadAlike : Change → Type 0
+  AreReadAlike (Create name schema) = Unit {0}
+  AreReadAlike (Store name schema plan) = AllByRecursion ReadsAlike (leaves plan)
+  AreReadAlike (Insert name schema plan) = AllByRecursion ReadsAlike (leaves plan)
+      × (rows_if_whole (fitted schema plan a) ≡ rows_if_whole (fitted schema plan b)) × (newest_rows a name ≡ newest_rows b name)
+      × (newest_of (names_of a).arrays name ≡ newest_of (names_of b).arrays name)
+  AreReadAlike (Remove name) = Unit {0}
+  AreReadAlike (RemoveVersions name below) = Unit {0}
+
+  pub change_lines_stay : (change : Change) → AreReadAlike change → change_lines a change ≡ change_lines b change
+  change_lines_stay (Create name schema) same = refl
+  change_lines_stay (Store name schema plan) same = ap (lines_of (leaves plan)) (askings_stay (leaves plan) (whole_need plan) same)
+  change_lines_stay (Insert name schema plan) (leaves_same, put, old, newest) =
+      λ i. lines_of
+      (leaves plan ++ record { name = name; version = newest i; schema = schema } ∷ [])
+      (askings_stay (leaves plan) (whole_need plan) leaves_same i ++ asking_put schema.dimensions (put i) (old i) ∷ [])
+  change_lines_stay (Remove name) same = refl
+  change_lines_stay (RemoveVersions name below) same = refl
+
+-- ---- replies to a change over names that tell it the same
+
+pub accepted_stays : (style : Style) (a b : Names) (change : Change) (answer : Accepted) → read_by b change ≡ read_by a change → change_text b change ≡ change_text a change
+    → IsAccepted style a change answer → IsAccepted style b change answer
+accepted_stays style a b change answer same_read same_text ((lines, are, is), some) = (
+  (
+    lines,
+    subst (λ (all : List Leaf). AreLinesOf all lines) (sym same_read) are,
+    is ∙ ap (λ (text : List ℕ). text_alone (text ++ traced style lines)) (sym same_text),
+  ),
+  some,
+)
