@@ -43,7 +43,8 @@ pub fn run<F: Shelf, R: Threads + Wait + Sync, G: Gate>(
         → (result.sessions ≡ []) × (result.history ≡ []) × (result.free_pages ≡ 0) × (result.disk ≡ None) }
 
     ensures runs { (workers pages history : ℕ) (printing : Printing) (first : ℕ) (run : IsRun words.now workers pages history printing first)
-        → RunsScripts (record { csv = printing.csv; trace = printing.trace }) F.Device.moment F.S.state F.K.state (F.state shelf) (F.state result.shelf) result.notice result.history result.sessions
+        → RunsScripts (record { csv = printing.csv; trace = printing.trace }) F.Device.moment F.S.state F.K.state
+        (F.state shelf) (F.state result.shelf) result.notice result.history result.sessions
         result.free_pages run.device run.scripts pages history result.disk }
     ensures tries { words.now ≡ codes "try" ∷ []
         → RunsTry sure_disk_moment F.S.state F.K.state (F.state shelf) (F.state result.shelf) result.notice result.history result.sessions result.free_pages }
