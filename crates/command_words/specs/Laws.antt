@@ -19,7 +19,8 @@ InitsNameTheirDevice = (words : List Word) (init : IsInit words) → slice_get w
 
 -- and the scripts are all words from the first one on
 abbrev pub RunsNameTheirScripts : Type 0
-RunsNameTheirScripts = (words : List Word) (workers pages history : ℕ) (printing : Printing) (first : ℕ) (run : IsRun words workers pages history printing first)
+RunsNameTheirScripts = (words : List Word) (workers pages history : ℕ) (printing : Printing) (first : ℕ)
+    → (run : IsRun words workers pages history printing first)
     → (slice_get words 1 ≡ Some run.device) × (drop first words ≡ run.scripts) × (first < length words)
 
 abbrev pub FormsKeepTheirPlaces : Type 0

@@ -87,7 +87,8 @@ fn lines_of_change<S: ChunkSource>(
 ) -> Result<Bytes, ExecFault>
     requires { CanTrace (S.state source.old) change.now }
     ensures each { IfOk result (AreLinesOf (read_by names.now change.now)) }
-    ensures told { IfOk result (λ lines. (db : Database) → IsTracedIn names.now (S.state source.old) change.now target db → lines ≡ change_lines db change.now) }
+    ensures told { IfOk result (λ lines. (db : Database) → IsTracedIn names.now (S.state source.old) change.now target db
+        → lines ≡ change_lines db change.now) }
     ensures asked { (S.state source.new).asked ≡ (S.state source.old).asked }
     ensures kept { Keeps (S.state source.old) (S.state source.new) }
     ensures cause { Answers (S.state source.old) (S.state source.new) result }
