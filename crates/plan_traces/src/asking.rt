@@ -43,8 +43,7 @@ pub(crate) fn asking_for(
         IfOk result (λ asking. asking ≡ counted dims (wanted_of dims area.now listed.now) listed.now) }
 {
     let wanted = chunks_meeting(alloc, &leaf.schema, area, listed)?;
-    Ok(Asking {
-        asked: count_chunks(&leaf.schema, wanted.as_slice()),
-        stored: count_chunks(&leaf.schema, listed),
-    })
+    let asked = count_chunks(&leaf.schema, wanted.as_slice());
+    let stored = count_chunks(&leaf.schema, listed);
+    Ok(Asking { asked, stored })
 }
