@@ -1,5 +1,5 @@
 -- Lines that stand behind a text, those of a change, and what keeps them.
-use Rattle.std.proofs.Common.{◌≡◌, ℕ, suc, Bool, true, false, cond, List, [], ◌∷◌, ◌++◌, length, Result, Ok, Err, IfOk, refl, sym, ap, ◌∙◌, subst}
+use Rattle.std.proofs.Common.{◌≡◌, ℕ, suc, Bool, true, false, cond, List, [], ◌∷◌, ◌++◌, length, Result, Ok, Err, IfOk, OnOk, refl, sym, ap, ◌∙◌, subst}
 use Rattle.std.specs.List.{AllByRecursion}
 use Rattle.cell_values.specs.declared.schema.Bounds.{Bounds}
 use Rattle.cell_values.specs.declared.schema.Schema.{Schema}
@@ -19,6 +19,7 @@ use Rattle.chunk_source.specs.Source.{SourceState}
 use Rattle.chunk_source.specs.declared.reading.fault.ExecFault.{ExecFault}
 use Rattle.plan_traces.specs.declared.asking.Asking.{Asking}
 use Rattle.plan_needs.specs.Wanted.{whole_need}
+use Rattle.plan_traces.specs.Line.{trace_line}
 use Rattle.plan_traces.specs.Traced.{AreLinesOf, asking_where, askings_in, leaf_line, lines_of, plan_askings, plan_lines}
 use Rattle.plan_traces.proofs.Tracing.{append_each, lines_more, plan_askings_each, plan_lines_are}
 use Rattle.changed_chunks.specs.Targets.{asking_put, target_asking}
@@ -72,6 +73,12 @@ module _ {E : Type 0} (answer : Result (List ℕ) E) (style : Style) (some : sty
       of_answer (Err fault) told = tt
 
 -- ---- the lines of an insert
+
+pub newest_line : {T E : Type 0} (answer : Result T E) (names : Names) (name : List ℕ) (version : ℕ) (asking : Asking) (before after : List ℕ) → version ≡ newest_of names.arrays name
+    → OnOk answer (after ≡ before ++ trace_line name version asking.asked asking.stored)
+    → OnOk answer ((schema : Schema) → after ≡ before ++ leaf_line (newest_leaf names name schema) asking)
+newest_line (Ok x) names name version asking before after e is = λ schema. is ∙ ap (λ (v : ℕ). before ++ trace_line name v asking.asked asking.stored) e
+newest_line (Err fault) names name version asking before after e is = tt
 
 module _ (all : List Leaf) (leaf : Leaf) (target : Asking) (lines text : List ℕ) (pushed : text ≡ lines ++ leaf_line leaf target) where
   pub one_more_each : AreLinesOf all lines → AreLinesOf (all ++ leaf ∷ []) text
