@@ -26,8 +26,10 @@ returns-in-Ok-clause-counted g c db there =
     let source = g.S.ChunkSource.state c.args.source.now in
     let change = c.args.change.now in
     let over = told_of c.args.names.now change c.args.name.now c.args.schema.now c.in_ok-target.target c.in_ok-target.ensures c.requires.put source db there in
-    subst (λ made. IfOk made (λ changed. (there : Database) → IsToldOf source change c.in_ok-target.target there → IsTargetAsking there change c.changed.new.asking)) c.in-Ok.is
-    c.in_ok-changed.ensures.counted db over
+    let counted : (d : Database) → IsToldOf source change c.in_ok-target.target d → IsTargetAsking d change c.changed.new.asking
+    = subst (λ made. IfOk made (λ changed. (d : Database) → IsToldOf source change c.in_ok-target.target d → IsTargetAsking d change c.changed.new.asking)) c.in-Ok.is
+    c.in_ok-changed.ensures.counted in
+    counted db over
 
 pub returns-in_err-target-clause-front : goal.returns-in_err-target-clause-front
 returns-in_err-target-clause-front g c =

@@ -26,10 +26,10 @@ returns-in_ok-offered-in-Ok-clause-told g c db there =
     let mid = g.S.ChunkSource.state c.chunks_of.new.source in
     let change = c.args.change.now in
     let target = c.chunks_of.new.asking in
-    let counted : IsTargetAsking db change target
-    = subst (λ made. IfOk made (λ changed. (d : Database) → IsToldBy names old d → IsTargetAsking d change target)) c.in-Ok.is c.in_ok-changed.ensures.counted db there in
+    let counted : (d : Database) → IsToldBy names old d → IsTargetAsking d change target
+    = subst (λ made. IfOk made (λ changed. (d : Database) → IsToldBy names old d → IsTargetAsking d change target)) c.in-Ok.is c.in_ok-changed.ensures.counted in
     offer_told c.args.style names db change c.in-Ok.changed c.in_ok-offered-in-Ok.field-0 there.named (subst (IsMadeIn db change) c.in-Ok.is (c.in_ok-changed.ensures.told db there))
-    c.in_ok-offered-in-Ok.ensures.chunks (c.in_ok-offered-in-Ok.ensures.told db (is_traced names old mid change target db c.in_ok-changed.ensures.kept there counted))
+    c.in_ok-offered-in-Ok.ensures.chunks (c.in_ok-offered-in-Ok.ensures.told db (is_traced names old mid change target db c.in_ok-changed.ensures.kept there (counted db there)))
 
 pub returns-in_ok-faulty-in-Err-clause-kind : goal.returns-in_ok-faulty-in-Err-clause-kind
 returns-in_ok-faulty-in-Err-clause-kind g c =
