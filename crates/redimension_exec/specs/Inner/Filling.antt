@@ -1,5 +1,6 @@
 -- Chunks without margins that hold the rows that landed so far, each in the order in which they came, and what becomes of them.
-use Rattle.std.specs.Prelude.{◌≡◌, ℕ, ◌≤◌, ℤ, true, IsTrue, List, [], ◌∷◌, ◌++◌, length, map, Option, Some, None, Result, Ok, Err, ⊤}
+use Rattle.std.specs.Prelude.{◌≡◌, ℕ, ◌≤◌, ℤ, true, IsTrue, List, [], ◌∷◌, ◌++◌, length, map}
+use Rattle.std.specs.Prelude.{Option, Some, None, Result, Ok, Err, ⊤}
 use Rattle.std.specs.BTreeMap as tree
 use Rattle.std.specs.BTreeMap.{BTreeMap}
 use Rattle.std.specs.List.{AllByRecursion}
@@ -50,7 +51,8 @@ pub record IsHeldAt (target : Schema) (made : List Row) (number : ChunkNumber) (
 
 -- where there is no chunk there is no row
 abbrev pub IsHeld : Schema → List Row → ArrayVec ℕ → Option Chunk → Type 0
-IsHeld target made key None = length key.items ≡ length target.dimensions → within (frame target.dimensions (no_margins target.dimensions) key.items) made ≡ []
+IsHeld target made key None =
+    length key.items ≡ length target.dimensions → within (frame target.dimensions (no_margins target.dimensions) key.items) made ≡ []
 IsHeld target made key (Some chunk) = IsHeldAt target made key.items chunk
 
 -- the chunks hold these rows
@@ -67,7 +69,8 @@ pub record IsTarget (schema : Schema) (margins : List ℕ) (bounds : Bounds) (pl
   pub few : length places ≤ 6
 
 -- one row further, whose new row is told: it lands, drops out or breaks the array
-abbrev pub IsNext : List Origin → Bounds → List Origin → List Row → Row → Step → BTreeMap (ArrayVec ℤ) ℕ → Type 0
+abbrev pub IsNext : List Origin → Bounds → List Origin → List Row → Row → Step
+    → BTreeMap (ArrayVec ℤ) ℕ → Type 0
 IsNext origins bounds values made row (Lands new) counts = IsStep origins bounds values made row None (made ++ new ∷ []) counts
 IsNext origins bounds values made row Drops counts = IsStep origins bounds values made row None made counts
 IsNext origins bounds values made row (Breaks kind) counts = IsStep origins bounds values made row (Some kind) made counts
@@ -78,27 +81,29 @@ LandsInside bounds Drops = ⊤
 LandsInside bounds (Breaks kind) = ⊤
 
 -- one row of the source, whatever was made before, of which these are the counts and the chunks
-pub record IsFilledWith (target : Schema) (origins : List Origin) (bounds : Bounds) (values : List Origin) (made : List Row) (row : Row) (fault : Option FaultKind)
-    (counts : BTreeMap (ArrayVec ℤ) ℕ) (chunks : BTreeMap (ArrayVec ℕ) Chunk) : Type 0 where
+pub record IsFilledWith (target : Schema) (origins : List Origin) (bounds : Bounds) (values : List Origin) (made : List Row) (row : Row)
+    (fault : Option FaultKind) (counts : BTreeMap (ArrayVec ℤ) ℕ) (chunks : BTreeMap (ArrayVec ℕ) Chunk) : Type 0 where
   pub all : List Row
   pub step : IsStep origins bounds values made row fault all counts
   pub held : AreHeld target all chunks
 
-pub record FillOne (target : Schema) (origins : List Origin) (bounds : Bounds) (values : List Origin) (row : Row) (fault : Option FaultKind)
-    (counts : BTreeMap (ArrayVec ℤ) ℕ) (chunks : BTreeMap (ArrayVec ℕ) Chunk) (counts' : BTreeMap (ArrayVec ℤ) ℕ) (chunks' : BTreeMap (ArrayVec ℕ) Chunk) : Type 0 where
+pub record FillOne (target : Schema) (origins : List Origin) (bounds : Bounds) (values : List Origin) (row : Row)
+    (fault : Option FaultKind) (counts : BTreeMap (ArrayVec ℤ) ℕ) (chunks : BTreeMap (ArrayVec ℕ) Chunk)
+    (counts' : BTreeMap (ArrayVec ℤ) ℕ) (chunks' : BTreeMap (ArrayVec ℕ) Chunk) : Type 0 where
   pub of_made : (made : List Row) → AreCountsOf origins (targets_of made) counts → AreHeld target made chunks
       → IsFilledWith target origins bounds values made row fault counts' chunks'
 
 -- rows of the source one after the other: one breaks the array, or the chunks hold what landed of them too
-pub record AreFilled (target : Schema) (origins : List Origin) (bounds : Bounds) (values : List Origin) (made rows : List Row) (broken : Option Broken)
-    (counts : BTreeMap (ArrayVec ℤ) ℕ) (chunks : BTreeMap (ArrayVec ℕ) Chunk) : Type 0 where
+pub record AreFilled (target : Schema) (origins : List Origin) (bounds : Bounds) (values : List Origin) (made rows : List Row)
+    (broken : Option Broken) (counts : BTreeMap (ArrayVec ℤ) ℕ) (chunks : BTreeMap (ArrayVec ℕ) Chunk) : Type 0 where
   pub all : List Row
   pub steps : AreSteps origins bounds values made rows broken all counts
   pub held : AreHeld target all chunks
 
 -- the same whatever was made before, of which these are the counts and the chunks
-pub record Fill (target : Schema) (origins : List Origin) (bounds : Bounds) (values : List Origin) (rows : List Row) (broken : Option Broken)
-    (counts : BTreeMap (ArrayVec ℤ) ℕ) (chunks : BTreeMap (ArrayVec ℕ) Chunk) (counts' : BTreeMap (ArrayVec ℤ) ℕ) (chunks' : BTreeMap (ArrayVec ℕ) Chunk) : Type 0 where
+pub record Fill (target : Schema) (origins : List Origin) (bounds : Bounds) (values : List Origin) (rows : List Row)
+    (broken : Option Broken) (counts : BTreeMap (ArrayVec ℤ) ℕ) (chunks : BTreeMap (ArrayVec ℕ) Chunk)
+    (counts' : BTreeMap (ArrayVec ℤ) ℕ) (chunks' : BTreeMap (ArrayVec ℕ) Chunk) : Type 0 where
   pub of_made : (made : List Row) → AreCountsOf origins (targets_of made) counts → AreHeld target made chunks
       → AreFilled target origins bounds values made rows broken counts' chunks'
 

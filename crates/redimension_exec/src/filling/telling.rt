@@ -114,7 +114,8 @@ pub(crate) fn told_array(
 ) -> Result<ChunkedArray, Memory>
     requires margins { none.now.items ≡ no_margins target.now.dimensions }
     requires rows { CanTell target.now chunks }
-    ensures array { (can : CanTell target.now chunks) → IfOk result (λ array. Is array (record { schema = target.now; rows = Good (told_rows target.now can.made) })) }
+    ensures array { (can : CanTell target.now chunks)
+        → IfOk result (λ array. Is array (record { schema = target.now; rows = Good (told_rows target.now can.made) })) }
     ensures margins { IfOk result (λ array. array.margins.items ≡ overlaps target.now.dimensions) }
 {
     let room = chunks.len();
