@@ -1,11 +1,13 @@
 //! Groups of cells with the states of their aggregates, and the groups of many parts put together.
 
+mod columns;
 mod forming;
 mod groups;
 mod merging;
 mod states;
 mod united;
 
+pub(crate) use columns::states_of_cells;
 pub use forming::{groups_of, one_group};
 pub use groups::{Group, Groups};
 pub use merging::merge_two;
