@@ -41,7 +41,8 @@ pub(crate) fn group_of_columns(
     requires cells { HaveCells schema.now margins.now.items (chunk.now ∷ []) }
     ensures groups { IfOk result (λ found. IfSome found (λ part. AreGroupsOf aggs.now
         (one_set at.now.items (core_of schema.now.dimensions margins.now.items chunk.now)) part.groups)) }
-    ensures cells { IfOk result (λ found. IfSome found (λ part. cells_in part.groups ≤ length (core_of schema.now.dimensions margins.now.items chunk.now))) }
+    ensures cells { IfOk result (λ found. IfSome found (λ part.
+        cells_in part.groups ≤ length (core_of schema.now.dimensions margins.now.items chunk.now))) }
 {
     if !has_none(margins.as_slice()) {
         return Ok(None);

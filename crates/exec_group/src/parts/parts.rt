@@ -75,7 +75,8 @@ fn part_of_columns(
     requires cells { HaveCells schema.now margins.now.items (chunk.now ∷ []) }
     ensures groups { IfOk result (λ found. IfSome found (λ part. AreGroupsOf aggs.now
         (aggregate_sets dims.now (core_of schema.now.dimensions margins.now.items chunk.now)) part.groups)) }
-    ensures cells { IfOk result (λ found. IfSome found (λ part. cells_in part.groups ≤ length (core_of schema.now.dimensions margins.now.items chunk.now))) }
+    ensures cells { IfOk result (λ found. IfSome found (λ part.
+        cells_in part.groups ≤ length (core_of schema.now.dimensions margins.now.items chunk.now))) }
 {
     match dims {
         [] => group_of_columns(schema, margins, chunk, aggs, &zero()),
