@@ -1,11 +1,11 @@
 -- States of cells by their columns, and the cells of chunks without margins.
-use Rattle.std.proofs.Common.{◌≡◌, ℕ, zero, suc, ◌+◌, ◌<◌, ◌≤◌, ◌^◌, ℤ, pos, ◌+ℤ◌, ◌-ℤ◌, ◌≤ℤ◌, Bool, true, false, cond, ◌&&◌, IsTrue, List, [], ◌∷◌, ◌++◌, length, get_or, take, map, Option, Some, None, refl, sym, ap, ◌∙◌, subst, arith}
+use Rattle.std.proofs.Common.{◌≡◌, ℕ, zero, suc, ◌+◌, ◌<◌, ◌≤◌, ◌^◌, ℤ, pos, ◌+ℤ◌, ◌-ℤ◌, ◌≤ℤ◌, Bool, true, false, cond, ◌&&◌, IsTrue, List, [], ◌∷◌, ◌++◌, length, get_or, take, drop, min, ◌-◌, map, Option, Some, None, Result, Ok, Err, refl, sym, ap, ◌∙◌, subst, arith}
 use Rattle.std.proofs.lemmas.Int.{ints, clamps}
-use Rattle.std.proofs.lemmas.List.{length-map, take_all}
+use Rattle.std.proofs.lemmas.List.{drop-map, length-drop, length-map, length-take, map-append, take-map, take_all, take_more}
 use Rattle.std.specs.Int.{int_min}
 use Rattle.std.specs.List.{AllByRecursion}
 use Rattle.std.specs.Ordering.{is_eq}
-use Rattle.std.specs.Prelude.{int_le, slice_index_or}
+use Rattle.std.specs.Prelude.{IfOk, IfSome, int_le, slice_index_or}
 use Rattle.arrayvec.specs.ArrayVec.{ArrayVec}
 use Rattle.cell_values.specs.declared.datum.Cell.{Cell}
 use Rattle.cell_values.specs.declared.datum.Cell.TheVariants.{Full, Doubt}
@@ -34,12 +34,10 @@ use Rattle.agg_states.specs.Stands.{StandsFor}
 use Rattle.agg_states.specs.Inner.Summary.{Summary}
 use Rattle.exec_group.specs.Grouped.{AreGroupsOf, AreStatesOf}
 use Rattle.exec_group.specs.Inner.Columns.{AreStatesOfCells, HasNoMargins, HaveNumbers, StandsForCells}
-use Rattle.exec_group.specs.Inner.Keys.{core_of}
-use Rattle.exec_group.specs.Counts as Counts
-use Rattle.exec_group.specs.Sets.{one_set}
-use Rattle.exec_group.specs.declared.rows.groups.Group.{Group}
-use Rattle.exec_group.proofs.FormLaws.{one_group}
-use Rattle.exec_group.proofs.PartsPartLaws.{core_rises}
+use Rattle.exec_group.specs.Inner.Keys.{aggregate_sets, core_of}
+use Rattle.exec_group.specs.Sets.{AreKeys, one_set}
+use Rattle.exec_group.specs.declared.rows.groups.Groups.{Groups}
+use Rattle.cell_values.specs.declared.memory.Memory.{Memory}
 use Rattle.exec_group.proofs.StateLaws.{next_row, next_states}
 
 -- ---- a cell whose value is a number
@@ -174,31 +172,123 @@ core_cells schema margins chunk z h =
     ap cells_of (all_in_core schema margins chunk z h)
     ∙ cells_again (frame_low schema.dimensions margins chunk.at.items) (frame_lengths schema.dimensions margins) chunk.positions chunk.cells h.placed.all.0.placed.each
 
--- ---- states and groups
+-- ---- ranges of cells
 
 pub as_many_numbers : (place : ℕ) (numbers : List ℤ) (cells : List Cell) → HaveNumbers place numbers cells → length numbers ≡ length cells
 as_many_numbers place numbers cells h = sym (length-map numbers Int) ∙ sym (ap length h) ∙ length-map cells (value_in place)
 
-pub few_numbers : (place : ℕ) (numbers : List ℤ) (cells : List Cell) → HaveNumbers place numbers cells → length cells < 2 ^ 63 → length numbers < 2 ^ 63
-few_numbers place numbers cells h few = let same = as_many_numbers place numbers cells h in omega (arith, same, few)
+pub range_numbers : (place from count : ℕ) (numbers rest part : List ℤ) (cells : List Cell) → HaveNumbers place numbers cells → rest ≡ drop from numbers → part ≡ take count rest
+    → HaveNumbers place part (take count (drop from cells))
+range_numbers place from count numbers rest part cells h e f =
+    sym (take-map (value_in place) count (drop from cells))
+    ∙ ap (take count) (sym (drop-map (value_in place) from cells) ∙ ap (drop from) h ∙ drop-map Int from numbers)
+    ∙ take-map Int count (drop from numbers)
+    ∙ ap (map Int) (ap (take count) (sym e) ∙ sym f)
+
+pub range_length : {A : Type 0} (from count : ℕ) (all rest part : List A) → from + count ≤ length all → rest ≡ drop from all → part ≡ take count rest → length part ≡ count
+range_length from count all rest part l e f =
+    let a : length rest ≡ length all - from = ap length e ∙ length-drop from all in
+    let b : length part ≡ min count (length rest) = ap length f ∙ length-take count rest in
+    omega (arith, l, a, b)
 
 pub next_states_of_cells : (gs : List Aggregate) (i : ℕ) (g : Aggregate) (cells : List Cell) (old new : List Summary) (s : Summary) → i < length gs → g ≡ get_or gs i g
     → AreStatesOfCells (take i gs) cells old → StandsForCells g cells s → new ≡ old ++ s ∷ [] → AreStatesOfCells (take (i + 1) gs) cells new
 next_states_of_cells gs i g cells old new s l e h stands n rows rise same = next_states gs i g rows old new s l e (h rows rise same) (stands rows rise same) n
 
-module _ (schema : Schema) (margins : List ℕ) (chunk : Chunk) where
-  abbrev rows : List Row
-  rows = core_of schema.dimensions margins chunk
+-- ---- groups of ranges
 
-  pub group_of_core : (gs : List Aggregate) (at copied : ArrayVec ℤ) (states : List Summary) (groups : List Group) → HasNoMargins margins → HaveCells schema margins (chunk ∷ []) → AreStatesOfCells gs chunk.cells states
-      → copied ≡ at → groups ≡ [] ++ record { at = copied; states = states } ∷ [] → AreGroupsOf gs (one_set at.items rows) groups
-  group_of_core gs at copied states groups z h all same e =
-      let rise : IsRising rows = core_rises schema margins chunk h in
-      one_group gs at.items rows (record { at = copied; states = states }) groups rise (ap (λ (c : ArrayVec ℤ). c.items) same) (all rows rise (core_cells schema margins chunk z h)) e
+pub if_some : {X E : Type 0} {P Q : X → Type 0} (r : Result (Option X) E) → IfOk r (λ o. IfSome o P) → ((x : X) → P x → Q x) → IfOk r (λ o. IfSome o Q)
+if_some (Ok (Some x)) h f = f x h
+if_some (Ok None) h f = h
+if_some (Err e) h f = h
 
-  pub cells_in_core : (copied : ArrayVec ℤ) (states : List Summary) (groups : List Group) → HasNoMargins margins → HaveCells schema margins (chunk ∷ []) → Counts.cells_of states ≤ length chunk.cells
-      → groups ≡ [] ++ record { at = copied; states = states } ∷ [] → Counts.cells_in groups ≤ length rows
-  cells_in_core copied states groups z h few e =
-      let long : length rows ≡ length chunk.cells = sym (length-map rows (λ (row : Row). row.cell)) ∙ ap length (core_cells schema margins chunk z h) in
-      let held : Counts.cells_in groups ≡ Counts.cells_of states + 0 = ap Counts.cells_in e in
-      omega (arith, long, held, few)
+cells_taken : (n : ℕ) (rows : List Row) → cells_of (take n rows) ≡ take n (cells_of rows)
+cells_taken n rows = sym (take-map (λ (row : Row). row.cell) n rows)
+
+cells_dropped : (n : ℕ) (rows : List Row) → cells_of (drop n rows) ≡ drop n (cells_of rows)
+cells_dropped n rows = sym (drop-map (λ (row : Row). row.cell) n rows)
+
+take_less : {A : Type 0} (n m : ℕ) (xs : List A) → n ≤ m → take n (take m xs) ≡ take n xs
+take_less zero m xs l = refl
+take_less (suc n) zero xs l = absurd (omega (arith, l))
+take_less (suc n) (suc m) [] l = refl
+take_less (suc n) (suc m) (x ∷ xs) l = ap (λ (ys : List _). x ∷ ys) (take_less n m xs (omega (arith, l)))
+
+drop_taken : {A : Type 0} (n m : ℕ) (xs : List A) → drop n (take (n + m) xs) ≡ take m (drop n xs)
+drop_taken zero m xs = ap (λ (k : ℕ). take k xs) (omega arith)
+drop_taken (suc n) m [] = sym (none m)
+  where
+    none : (k : ℕ) → take k [] ≡ []
+    none zero = refl
+    none (suc k) = refl
+drop_taken (suc n) m (x ∷ xs) = ap (λ (k : ℕ). drop (suc n) (take k (x ∷ xs))) (turned n m) ∙ drop_taken n m xs
+  where
+    turned : (n m : ℕ) → suc n + m ≡ suc (n + m)
+    turned n m = omega arith
+
+drop_again : {A : Type 0} (n m : ℕ) (xs : List A) → drop n (drop m xs) ≡ drop (m + n) xs
+drop_again n zero xs = ap (λ (k : ℕ). drop k xs) (omega arith)
+drop_again zero (suc m) [] = ap (λ (k : ℕ). drop k []) (omega arith)
+drop_again (suc n) (suc m) [] = sym (gone (suc m + suc n))
+  where
+    gone : (k : ℕ) → drop k [] ≡ []
+    gone zero = refl
+    gone (suc k) = refl
+drop_again n (suc m) (x ∷ xs) = drop_again n m xs ∙ ap (λ (k : ℕ). drop k (x ∷ xs)) (turned m n)
+  where
+    turned : (m n : ℕ) → suc (m + n) ≡ suc m + n
+    turned m n = omega arith
+
+pub front_cells : (from half count k : ℕ) (rows : List Row) (cells : List Cell) → half ≤ count → k ≡ half → cells_of rows ≡ take count (drop from cells) → cells_of (take half rows) ≡ take k (drop from cells)
+front_cells from half count k rows cells l e same =
+    cells_taken half rows ∙ ap (take half) same ∙ take_less half count (drop from cells) l ∙ ap (λ (n : ℕ). take n (drop from cells)) (sym e)
+
+pub back_cells : (from half count k : ℕ) (rows : List Row) (cells : List Cell) → half + k ≡ count → cells_of rows ≡ take count (drop from cells) → cells_of (drop half rows) ≡ take k (drop (from + half) cells)
+back_cells from half count k rows cells e same =
+    cells_dropped half rows
+    ∙ ap (drop half) (same ∙ ap (λ (n : ℕ). take n (drop from cells)) (sym e))
+    ∙ drop_taken half k (drop from cells)
+    ∙ ap (take k) (drop_again half from cells)
+
+-- ---- keys of places
+
+pub next_place : (f : ℕ → List ℤ) (positions : List ℕ) (i p : ℕ) (keys new : List (ArrayVec ℤ)) (key : ArrayVec ℤ) → i < length positions → p ≡ get_or positions i p → map (λ k. k.items) keys ≡ map f (take i positions)
+    → key.items ≡ f p → new ≡ keys ++ key ∷ [] → map (λ k. k.items) new ≡ map f (take (i + 1) positions)
+next_place f positions i p keys new key l e h own n =
+    ap (map (λ (k : ArrayVec ℤ). k.items)) n
+    ∙ map-append (λ (k : ArrayVec ℤ). k.items) keys (key ∷ [])
+    ∙ (λ j. h j ++ own j ∷ [])
+    ∙ sym (map-append f (take i positions) (p ∷ []))
+    ∙ ap (λ (q : ℕ). map f (take i positions ++ q ∷ [])) e
+    ∙ ap (map f) (sym (take_more positions i p l))
+
+-- the keys of the places are those of the rows there
+pub keys_of_rows : (group : Coordinate → Coordinate) (low : List ℤ) (lengths positions : List ℕ) (cells : List Cell) (keys : List (ArrayVec ℤ)) → length cells ≡ length positions
+    → map (λ key. key.items) keys ≡ map (λ p. group (coordinate_in low lengths p)) positions → AreKeys group keys (rows_in low lengths positions cells)
+keys_of_rows group low lengths positions cells keys l h = h ∙ each positions cells l
+  where
+    each : (ps : List ℕ) (cs : List Cell) → length cs ≡ length ps → map (λ p. group (coordinate_in low lengths p)) ps ≡ map (λ row. group row.at.items) (rows_in low lengths ps cs)
+    each [] cs m = refl
+    each (p ∷ ps) [] m = absurd (omega (arith, m))
+    each (p ∷ ps) (cell ∷ cs) m = ap (λ (zs : List Coordinate). group (coordinate_in low lengths p) ∷ zs) (each ps cs (omega (arith, m)))
+
+-- ---- the groups of a chunk
+
+pub all_of_chunk : {A : Type 0} (n : ℕ) (xs : List A) → n ≡ length xs → take n (drop 0 xs) ≡ xs
+all_of_chunk n xs e = take_all n xs (omega (arith, e))
+
+pub as_many_in_core : (schema : Schema) (margins : List ℕ) (chunk : Chunk) → HasNoMargins margins → HaveCells schema margins (chunk ∷ []) → length (core_of schema.dimensions margins chunk) ≡ length chunk.cells
+as_many_in_core schema margins chunk z h =
+    sym (length-map (core_of schema.dimensions margins chunk) (λ (row : Row). row.cell)) ∙ ap length (core_cells schema margins chunk z h)
+
+-- the keys of the places are those of the core's rows
+pub chunk_keys : (schema : Schema) (margins : List ℕ) (chunk : Chunk) (group : Coordinate → Coordinate) (keys : List (ArrayVec ℤ)) → HasNoMargins margins → HaveCells schema margins (chunk ∷ [])
+    → map (λ key. key.items) keys ≡ map (λ p. group (coordinate_in (frame_low schema.dimensions margins chunk.at.items) (frame_lengths schema.dimensions margins) p)) chunk.positions
+    → AreKeys group keys (core_of schema.dimensions margins chunk)
+chunk_keys schema margins chunk group keys z h e =
+    subst (AreKeys group keys) (sym (all_in_core schema margins chunk z h))
+    (keys_of_rows group (frame_low schema.dimensions margins chunk.at.items) (frame_lengths schema.dimensions margins) chunk.positions chunk.cells keys h.placed.all.0.placed.each e)
+
+pub one_in_core : (gs : List Aggregate) (rows : List Row) (at : ArrayVec ℤ) (r : Result (Option Groups) Memory) → at.items ≡ pos 0 ∷ []
+    → IfOk r (λ found. IfSome found (λ part. AreGroupsOf gs (one_set at.items rows) part.groups)) → IfOk r (λ found. IfSome found (λ part. AreGroupsOf gs (aggregate_sets [] rows) part.groups))
+one_in_core gs rows at r e h = subst (λ (c : Coordinate). IfOk r (λ found. IfSome found (λ part. AreGroupsOf gs (one_set c rows) part.groups))) e h

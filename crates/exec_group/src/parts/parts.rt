@@ -1,5 +1,5 @@
 //! The groups of the cells of rows, and of a chunk's core.
-ghost use Rattle.std.specs.Prelude.{◌≡◌, ◌≤◌, ◌<◌, ◌^◌, ◌∷◌, [], pos, length, IsTrue, IfOk, IfSome};
+ghost use Rattle.std.specs.Prelude.{◌≡◌, ◌≤◌, ◌<◌, ◌^◌, ◌∷◌, [], pos, length, IsTrue, IfOk};
 ghost use Rattle.std.specs.List.{All};
 ghost use Rattle.cell_values.specs.Schemas.{IsValid};
 ghost use Rattle.array_rows.specs.Boxes.{is_inside, bounds_of};
@@ -10,7 +10,7 @@ ghost use Rattle.exec_group.specs.Grouped.{AreGroupsOf};
 ghost use Rattle.exec_group.specs.Inner.Keys.{core_of, aggregate_sets, regrid_sets};
 
 use crate::parts::blocks::block_keys;
-use crate::parts::columns::group_of_columns;
+use crate::parts::columns::part_of_columns;
 use crate::parts::cores::rows_of_core;
 use crate::parts::named::named_keys;
 use crate::rows::{Groups, groups_of, one_group};
@@ -64,27 +64,7 @@ pub fn regrid_groups(
     groups_of(rows.allocator(), aggs, keys.as_slice(), rows.as_slice())
 }
 
-/// The groups of a chunk's core from its columns alone, where there are no names and the columns allow it.
-fn part_of_columns(
-    schema: &Schema,
-    margins: &Margins,
-    chunk: &Chunk,
-    aggs: &[Aggregate],
-    dims: &[u32],
-) -> Result<Option<Groups>, Memory>
-    requires cells { HaveCells schema.now margins.now.items (chunk.now ∷ []) }
-    ensures groups { IfOk result (λ found. IfSome found (λ part. AreGroupsOf aggs.now
-        (aggregate_sets dims.now (core_of schema.now.dimensions margins.now.items chunk.now)) part.groups)) }
-    ensures cells { IfOk result (λ found. IfSome found (λ part.
-        cells_in part.groups ≤ length (core_of schema.now.dimensions margins.now.items chunk.now))) }
-{
-    match dims {
-        [] => group_of_columns(schema, margins, chunk, aggs, &zero()),
-        [_, ..] => Ok(None),
-    }
-}
-
-/// The same from the rows of the chunk's core.
+/// The groups of a chunk's core from its rows.
 fn part_of_rows(
     schema: &Schema,
     margins: &Margins,
