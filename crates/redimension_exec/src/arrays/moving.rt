@@ -9,7 +9,9 @@ ghost use Rattle.redimension_exec.specs.Inner.Bands.{AreBands};
 ghost use Rattle.redimension_exec.specs.Inner.Filling.{Fill, HoldsAll, HoldsLanded, IsTarget, no_margins};
 ghost use Rattle.redimension_exec.specs.Inner.Places.{origin};
 
-use crate::places::{Place, Target, bounds_of, fill_rows, places_of_attributes, places_of_dimensions};
+use crate::places::{
+    Place, Target, bounds_of, fill_rows, places_of_attributes, places_of_dimensions,
+};
 use area_cells::{half_of_bands, rows_of_chunks};
 use array_geom::{Chunk, ChunkedArray};
 use cell_values::{Bounds, Broken, ChunkAt, Coord, List, Margins, Memory, Row, Schema};

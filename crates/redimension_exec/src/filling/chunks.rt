@@ -44,12 +44,7 @@ fn add_cell(chunk: &mut Chunk, place: u64, cell: Cell) -> Result<(), Memory>
 }
 
 /// The chunk of a number with one cell.
-fn first_cell(
-    target: &Schema,
-    number: &ChunkAt,
-    place: u64,
-    cell: Cell,
-) -> Result<Chunk, Memory>
+fn first_cell(target: &Schema, number: &ChunkAt, place: u64, cell: Cell) -> Result<Chunk, Memory>
     ensures { IfOk result (λ chunk. chunk ≡ with_cell (no_cells number.now) place (Some cell)) }
 {
     let mut chunk = Chunk {

@@ -91,7 +91,6 @@ fn told_chunks(
 }
 
 /// The same array with the margins of its schema.
-#[tactic(auto, using(array_geom::proofs::MarginLaws::overlap_each, array_geom::proofs::MarginLaws::overlap_places))]
 fn with_overlaps(target: &Schema, array: ChunkedArray) -> Result<ChunkedArray, Memory>
     requires { (rows : Items Placed) × Is array (record { schema = target.now; rows = Good rows }) }
     ensures array { (rows : Items Placed) → Is array (record { schema = target.now; rows = Good rows })

@@ -1,6 +1,7 @@
 use Rattle.std.proofs.Common.{List, Ok, sym, ◌∙◌, subst}
 use Rattle.cell_values.specs.declared.datum.Row.{Row}
 use Rattle.array_geom.specs.Link.{Is}
+use Rattle.array_geom.proofs.MarginLaws.{overlap_each, overlap_places}
 use Rattle.array_geom.proofs.NumberLaws.{is_equal, same_number}
 use Rattle.chunk_cells.proofs.MergeLaws.{if_ok}
 use Rattle.chunk_cells.proofs.WholeLaws.{have_places}
@@ -12,6 +13,12 @@ margins_of-margins-requires c = c.requires.1.valid
 
 pub into_rows-requires : goal.into_rows-requires
 into_rows-requires c = have_places c.args.array.schema c.args.array c.requires.0 (held_rows c.args.target.now c.args.array c.requires.0 c.requires.1)
+
+pub assemble-requires-clause-margins : goal.assemble-requires-clause-margins
+assemble-requires-clause-margins c = overlap_each c.args.target.now c.margins_of-margins.result.items c.margins_of-margins.ensures
+
+pub assemble-requires-clause-places : goal.assemble-requires-clause-places
+assemble-requires-clause-places c = overlap_places c.args.target.now c.margins_of-margins.result.items c.margins_of-margins.ensures c.requires.1.valid
 
 pub assemble-requires-clause-rows : goal.assemble-requires-clause-rows
 assemble-requires-clause-rows c =
