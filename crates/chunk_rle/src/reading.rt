@@ -1,5 +1,5 @@
 //! Reading a payload, item by item.
-ghost use Rattle.std.specs.Prelude.{◌≡◌, ◌+◌, ◌<◌, ◌≤◌, ◌^◌, IsTrue, IfOk, MatchOption, Some, None};
+ghost use Rattle.std.specs.Prelude.{◌≡◌, ◌+◌, ◌*◌, ◌<◌, ◌≤◌, ◌^◌, length, IsTrue, IfOk, MatchOption, Some, None};
 ghost use Rattle.file_items.specs.Items.{IsRead, repeat};
 ghost use Rattle.chunk_rle.specs.Frames.{frame_in};
 ghost use Rattle.chunk_rle.specs.Inner.Ready.{IsReady};
@@ -12,6 +12,19 @@ use crate::runs::{ChunkRuns, Column, PosRun, Run, Seen};
 use array_geom::{Attribute, Code, Datum, Kind, List};
 use file_items::{Stop, bytes_at, u16_at, u64_at};
 use std::alloc::Global;
+
+/// Room for so many runs, as far as these bytes can hold them: each takes more than eight.
+fn room(count: u64, bytes: &[u8]) -> usize
+    ensures asked { result ≤ count }
+    ensures held { 8 * result ≤ length bytes.now }
+{
+    let held = bytes.len() / 8;
+    if count < held as u64 {
+        count as usize
+    } else {
+        held
+    }
+}
 
 /// The next run of positions, with so many after it.
 #[tactic(auto, unfolding(crate::specs::Table::position_run_at))]
@@ -164,7 +177,7 @@ fn position_runs_from<'a>(
         (repeat (position_run_at (frame_in places.now)) (with_run (frame_in places.now)) count no_positions bytes.now) }
     ensures count { IfOk result (λ x. x.1 ≡ count_positions x.0) }
 {
-    let mut runs = List::new(alloc);
+    let mut runs = List::with_capacity(alloc, room(count, bytes))?;
     let mut seen = Seen {
         least: 0,
         core: false,
@@ -248,7 +261,7 @@ fn runs_from<'a>(
 ) -> Result<(List<Run>, &'a [u8]), Stop>
     ensures { IsRead (λ x. (x.0, x.1.now)) result (repeat (run_at attribute.now n) with_values count no_values bytes.now) }
 {
-    let mut runs = List::new(alloc);
+    let mut runs = List::with_capacity(alloc, room(count, bytes))?;
     let mut total: u64 = 0;
     let mut rest = bytes;
     for index in 0..count {

@@ -9,7 +9,7 @@ use Rattle.chunk_rle.proofs.reading.position_runs_from.Goals as goal
 
 pub returns-in_err-run-clause-read : goal.returns-in_err-run-clause-read
 returns-in_err-run-clause-read c =
-    let p = err_from_is_err_and c.from_residual.result c.from_residual.ensures.1 in
+    let p = err_from_is_err_and c.from_residual-in_err-run.result c.from_residual-in_err-run.ensures.1 in
     rw (p.1, p.2) (stops_here (position_run_at (frame_in c.args.places.now)) (with_run (frame_in c.args.places.now)) c.loop-index.seen c.in_err-run.field-0.0 c.loop-index.runs c.args.count c.loop-index.index (c.args.count - c.loop-index.index - 1) c.loop-index.rest.now
     (repeat (position_run_at (frame_in c.args.places.now)) (with_run (frame_in c.args.places.now)) c.args.count no_positions c.args.bytes.now) c.loop-index-test.true (omega arith) c.in_err-run.ensures.read c.loop-index.invariant.read)
 

@@ -8,7 +8,7 @@ use Rattle.chunk_rle.proofs.reading.runs_from.Goals as goal
 
 pub returns-in_err-run : goal.returns-in_err-run
 returns-in_err-run c =
-    let p = err_from_is_err_and c.from_residual.result c.from_residual.ensures.1 in
+    let p = err_from_is_err_and c.from_residual-in_err-run.result c.from_residual-in_err-run.ensures.1 in
     rw (p.1, p.2) (stops_here (run_at c.args.attribute.now c.args.n) with_values (record { total = c.loop-index.total; last = last_value c.loop-index.runs }) c.in_err-run.field-0.0 c.loop-index.runs c.args.count c.loop-index.index (c.args.count - c.loop-index.index - 1) c.loop-index.rest.now
     (repeat (run_at c.args.attribute.now c.args.n) with_values c.args.count no_values c.args.bytes.now) c.loop-index-test.true (omega arith) c.in_err-run.ensures.read c.loop-index.invariant.read)
 
