@@ -120,7 +120,7 @@ module _ {D S K : Type 0} (style : Style) (moment : D → Moment) (source_state 
 
 -- the replies of a run whose words ask for no other style
 abbrev pub plain : Style
-plain = record { csv = false }
+plain = record { csv = false; trace = false }
 
 module _ {D S K : Type 0} (moment : D → Moment) (source_state : S → SourceState) (sink_state : K → SinkState) (old new : ShelfState)
     (notice : Notice) (history : List Entry) (sessions : List (SessionReport S K)) (free : ℕ) where

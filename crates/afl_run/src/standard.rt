@@ -22,7 +22,10 @@ use std::sync::Wait;
 use std::thread::Threads;
 
 /// How replies are printed where the words don't say so.
-pub(crate) const PLAIN: Style = Style { csv: false };
+pub(crate) const PLAIN: Style = Style {
+    csv: false,
+    trace: false,
+};
 
 const OPTIONS: Options = Options {
     workers: 4,

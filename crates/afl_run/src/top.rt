@@ -1,7 +1,8 @@
 //! The top call.
-ghost use Rattle.std.specs.Prelude.{◌≡◌, ◌<◌, ◌↔◌, ℕ, Bool, [], ◌∷◌, Some, codes, drop, length, slice_get};
+ghost use Rattle.std.specs.Prelude.{◌≡◌, ◌<◌, ◌↔◌, ℕ, [], ◌∷◌, Some, codes, drop, length, slice_get};
 ghost use Rattle.command_words.specs.Faults.{IsFault};
 ghost use Rattle.command_words.specs.Forms.{IsGenerate, IsInit, IsRun};
+ghost use Rattle.command_words.specs.declared.forms.Printing.{Printing};
 ghost use Rattle.session_reports.specs.Notice.{status_of};
 ghost use Rattle.afl_in_memory.specs.InMemory.{sure_source_state};
 ghost use Rattle.afl_in_memory.specs.Inner.Records.{sure_disk_moment};
@@ -15,7 +16,7 @@ use crate::report::{Report, unrun};
 use crate::scripts::run_scripts;
 use crate::standard::run_try;
 use afl_outside::{Gate, Shelf};
-use command_words::{Arg, Form, form_of};
+use command_words::{Arg, Form, Printing, form_of};
 use run_stores::Limits;
 use session_reports::Notice;
 use session_threads::{Options, Style};
@@ -41,8 +42,9 @@ pub fn run<F: Shelf, R: Threads + Wait + Sync, G: Gate>(
     ensures nothing { (word : ℕ) → result.notice ≡ Notice.Usage word
         → (result.sessions ≡ []) × (result.history ≡ []) × (result.free_pages ≡ 0) × (result.disk ≡ None) }
 
-    ensures runs { (workers pages history : ℕ) (csv : Bool) (first : ℕ) (run : IsRun words.now workers pages history csv first)
-        → RunsScripts (record { csv = csv }) F.Device.moment F.S.state F.K.state (F.state shelf) (F.state result.shelf) result.notice result.history result.sessions
+    ensures runs { (workers pages history : ℕ) (printing : Printing) (first : ℕ) (run : IsRun words.now workers pages history printing first)
+        → RunsScripts (record { csv = printing.csv; trace = printing.trace }) F.Device.moment F.S.state F.K.state
+        (F.state shelf) (F.state result.shelf) result.notice result.history result.sessions
         result.free_pages run.device run.scripts pages history result.disk }
     ensures tries { words.now ≡ codes "try" ∷ []
         → RunsTry sure_disk_moment F.S.state F.K.state (F.state shelf) (F.state result.shelf) result.notice result.history result.sessions result.free_pages }
@@ -70,12 +72,13 @@ pub fn run<F: Shelf, R: Threads + Wait + Sync, G: Gate>(
                 workers,
                 pages,
                 history,
-                csv,
+                printing,
                 scripts,
             },
         ) => {
             let limits = Limits { pages, history };
-            let style = Style { csv };
+            let Printing { csv, trace } = printing;
+            let style = Style { csv, trace };
             let options = Options { workers, style };
             let target = word_at(words, device);
             let listed = words_from(words, scripts);

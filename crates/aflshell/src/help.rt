@@ -8,7 +8,7 @@ const HELP: &str = "\
 usage: aflshell try
        aflshell init DB
        aflshell run DB [--workers N] [--pages N] [--history N]
-                [--format csv+] SCRIPT..
+                [--format csv+] [--trace] SCRIPT..
        aflshell generate N [--workers N]
 
   try        answers the statements of standard input on standard output,
@@ -25,6 +25,8 @@ usage: aflshell try
   --pages    at most so many pages of 4096 bytes, 16 to 1048576 (65536)
   --history  at most so many entries of history, 16 to 1048576 (1048576)
   --format   with csv+ each reply to a query is printed as records of CSV
+  --trace    behind the reply to a query, a store or an insert a line tells of
+             each array that it read how many of its chunks were asked for
 
 A statement is an AFL query or a change. A ';' stands between statements, and
 the last one needs none. Types are int64, string and bool.

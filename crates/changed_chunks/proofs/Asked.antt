@@ -18,8 +18,10 @@ use Rattle.chunk_source.specs.declared.sources.asked.Asked.{Asked}
 use Rattle.chunk_source.specs.Source.{AsksFront, Keeps, SourceState, asks, listed}
 use Rattle.chunk_source.proofs.ReadLemmas.{front_after, listed_still}
 use Rattle.chunk_exec.specs.Computed.{asked_for_plan}
+use Rattle.plan_traces.specs.declared.asking.Asking.{Asking}
 use Rattle.changed_chunks.specs.Changing.{AsksOnly, IsToldOf, asked_for, asked_of_all, asked_or_fault, asked_with}
 use Rattle.changed_chunks.specs.Inner.Input.{IsFound}
+use Rattle.changed_chunks.specs.Targets.{asking_put}
 use Rattle.changed_chunks.specs.Wanted.{target_wanted}
 
 module _ (plan : Query) (target : Leaf) (dims : List Dimension) (rows : List Row) where
@@ -64,6 +66,9 @@ module _ (schema : Schema) (plan : Query) (target : Leaf) (old new : SourceState
 
   pub front_there : AsksFront (asked_with input old (Insert [] schema plan) target) old new → AsksFront (asked_of_all db old (Insert [] schema plan) target) old new
   front_there = there (λ rows. AsksFront (asked_with rows old (Insert [] schema plan) target) old new)
+
+  pub counted_there : (asking : Asking) (rows : List Row) → asking ≡ asking_put schema.dimensions input rows → asking ≡ asking_put schema.dimensions (rows_if_whole (fitted schema plan db)) rows
+  counted_there asking rows = there (λ new. asking ≡ asking_put schema.dimensions new rows)
 
 -- ---- a change, of whatever name
 

@@ -1,5 +1,6 @@
 pub mod Asked
 pub mod Chunks
+pub mod Counted
 pub mod Reach
 pub mod Rows
 pub mod Serves

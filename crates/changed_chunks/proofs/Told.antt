@@ -13,12 +13,14 @@ use Rattle.logical_plan.specs.Query.{Query}
 use Rattle.plan_changes.specs.declared.change.Change.{Change}
 use Rattle.plan_changes.specs.declared.change.Change.TheVariants.{Store, Insert}
 use Rattle.plan_changes.specs.Changes.{is_named, newest_of, newest_or}
-use Rattle.plan_changes.specs.Databases.{Database, Stored, Version, entry_of, is_array, names_of, newest_in, newest_rows, rows_in, rows_of, rows_or}
+use Rattle.plan_changes.specs.Databases.{Database, Stored, Version, entry_of, fitted, is_array, names_of, newest_in, newest_rows, rows_if_whole, rows_in, rows_of, rows_or}
 use Rattle.plan_changes.specs.Stored.{IsDatabase, IsStored, RiseBetween}
 use Rattle.plan_changes.proofs.Found.{find_image}
 use Rattle.chunk_source.specs.Source.{SourceState}
 use Rattle.chunk_source.specs.declared.reading.fault.ExecFault.{ExecFault}
+use Rattle.plan_traces.specs.declared.asking.Asking.{Asking}
 use Rattle.changed_chunks.specs.Changing.{IsAnswerOver, IsToldOf}
+use Rattle.changed_chunks.specs.Targets.{IsTargetAsking, asking_put}
 
 -- ---- the newest version
 
@@ -73,3 +75,26 @@ pub inserts_told : (source : SourceState) (change : Change) (target : Leaf) (nam
 inserts_told source change target name schema plan (Ok made) e told =
     subst (λ (z : Change). IsTold source z target made) (sym e) (λ db is. told db is.tells name (newest_told db name target is.database is.newest.0 is.newest.1))
 inserts_told source change target name schema plan (Err fault) e told = tt
+
+-- ---- of an insert's target
+
+abbrev IsCounted : SourceState → Change → Leaf → Asking → Type 0
+IsCounted source change target asking = (db : Database) → IsToldOf source change target db → IsTargetAsking db change asking
+
+pub stores_counted : (source : SourceState) (change : Change) (target : Leaf) (name : List ℕ) (schema : Schema) (plan : Query) (asking : Asking) (answer : Result (Result Changed Broken) ExecFault)
+    → change ≡ Store name schema plan → IfOk answer (λ made. IfOk made (λ changed. IsCounted source change target asking))
+stores_counted source change target name schema plan asking (Ok (Ok changed)) e = subst (λ (z : Change). IsCounted source z target asking) (sym e) (λ db is. tt)
+stores_counted source change target name schema plan asking (Ok (Err broken)) e = tt
+stores_counted source change target name schema plan asking (Err fault) e = tt
+
+pub inserts_counted : (source : SourceState) (change : Change) (target : Leaf) (name : List ℕ) (schema : Schema) (plan : Query) (asking : Asking) (answer : Result (Result Changed Broken) ExecFault)
+    → change ≡ Insert name schema plan
+    → IfOk answer (λ made. IfOk made (λ changed. (db : Database) → source.tells (rows_of db)
+    → asking ≡ asking_put schema.dimensions (rows_if_whole (fitted schema plan db)) (version_rows (rows_of db) target.name target.version)))
+    → IfOk answer (λ made. IfOk made (λ changed. IsCounted source change target asking))
+inserts_counted source change target name schema plan asking (Ok (Ok changed)) e counted =
+    subst (λ (z : Change). IsCounted source z target asking) (sym e) (λ db is.
+    counted db is.tells
+    ∙ ap (asking_put schema.dimensions (rows_if_whole (fitted schema plan db))) (newest_told db name target is.database is.newest.0 is.newest.1))
+inserts_counted source change target name schema plan asking (Ok (Err broken)) e counted = tt
+inserts_counted source change target name schema plan asking (Err fault) e counted = tt

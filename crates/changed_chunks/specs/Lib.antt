@@ -1,3 +1,4 @@
 pub mod Changing
 pub mod Inner
+pub mod Targets
 pub mod Wanted

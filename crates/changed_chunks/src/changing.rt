@@ -6,10 +6,11 @@ ghost use Rattle.chunk_source.specs.Source.{AsksFront, Keeps, Reads};
 ghost use Rattle.chunk_exec.specs.Computed.{asked_for_plan};
 ghost use Rattle.commit_pages.specs.Changes.{AreValid, ComesWith, IsOf};
 ghost use Rattle.logical_plan.specs.Meaning.{version_rows};
-ghost use Rattle.plan_changes.specs.Databases.{Database, newest_rows, rows_of};
+ghost use Rattle.plan_changes.specs.Databases.{Database, fitted, newest_rows, rows_if_whole, rows_of};
 ghost use Rattle.plan_changes.specs.declared.change.Change.TheVariants.{Store, Insert};
 ghost use Rattle.changed_chunks.specs.Changing.{AsksOnly, CanChange, CanStore, IsAnswerOver, IsToldOf};
 ghost use Rattle.changed_chunks.specs.Changing.{asked_for, asked_of_all, asked_or_fault, asked_with};
+ghost use Rattle.changed_chunks.specs.Targets.{IsTargetAsking, asking_put};
 
 use crate::input::input_of;
 use crate::target::put_over_target;
@@ -21,6 +22,7 @@ use chunk_exec::ExecFault;
 use chunk_source::ChunkSource;
 use logical_plan::{Leaf, Plan};
 use plan_changes::Change;
+use plan_traces::Asking;
 use std::alloc::Global;
 use std::thread::Threads;
 
@@ -54,7 +56,7 @@ fn stored<S: ChunkSource, R: Threads + Sync, G: Gate>(
     }
 }
 
-/// The chunks that an insert writes over its target.
+/// The chunks that an insert writes over its target. How many chunks of the target are asked for, and of how many, is put into `asking`.
 fn inserted<S: ChunkSource, R: Threads + Sync, G: Gate>(
     rt: &R,
     alloc: Global,
@@ -62,6 +64,7 @@ fn inserted<S: ChunkSource, R: Threads + Sync, G: Gate>(
     schema: &Schema,
     target: &Leaf,
     source: &mut S,
+    asking: &mut Asking,
     workers: u32,
     session: u32,
     gate: &G,
@@ -76,6 +79,9 @@ fn inserted<S: ChunkSource, R: Threads + Sync, G: Gate>(
     ensures told { IfOk result (λ made. (db : Database) → (S.state source.old).tells (rows_of db)
         → (name : Items ℕ) → version_rows (rows_of db) target.now.name target.now.version ≡ newest_rows db name
         → IsAnswerOver db (Insert name schema.now plan.now) made) }
+    ensures counted { IfOk result (λ made. IfOk made (λ changed. (db : Database) → (S.state source.old).tells (rows_of db)
+        → asking.new ≡ asking_put schema.now.dimensions (rows_if_whole (fitted schema.now plan.now db))
+        (version_rows (rows_of db) target.now.name target.now.version))) }
     ensures asked { let old = S.state source.old in IfOk result (λ made. (db : Database) → old.tells (rows_of db)
         → (S.state source.new).asked ≡ old.asked ++ asked_for db old (Insert [] schema.now plan.now) target.now made) }
     ensures front { let old = S.state source.old in OnErr result ((db : Database) → old.tells (rows_of db)
@@ -89,19 +95,21 @@ fn inserted<S: ChunkSource, R: Threads + Sync, G: Gate>(
     ensures start { S.start source.new ≡ S.start source.old }
 {
     match input_of(rt, alloc, plan, schema, source, workers, session, gate)? {
-        Ok(input) => Ok(Ok(put_over_target(alloc, plan, schema, input, target, source)?)),
+        Ok(input) => Ok(Ok(put_over_target(alloc, plan, schema, input, target, source, asking)?)),
         Err(broken) => Ok(Err(broken)),
     }
 }
 
 /// The chunks that a store or an insert writes, or where and why its plan's array has a fault. An insert's target is the newest
-/// version of its array; a store's isn't looked at. How many workers there are changes nothing.
+/// version of its array; how many of its chunks are asked for, and how many it has, is put into `asking`. A store's target isn't looked
+/// at. How many workers there are changes nothing.
 pub fn changed<S: ChunkSource, R: Threads + Sync, G: Gate>(
     rt: &R,
     alloc: Global,
     change: &Change,
     target: &Leaf,
     source: &mut S,
+    asking: &mut Asking,
     workers: u32,
     session: u32,
     gate: &G,
@@ -112,6 +120,8 @@ pub fn changed<S: ChunkSource, R: Threads + Sync, G: Gate>(
     ensures comes { IfOk result (λ made. IfOk made (λ changed. ComesWith change.now (Some changed))) }
     ensures valid { IfOk result (λ made. IfOk made AreValid) }
     ensures told { IfOk result (λ made. (db : Database) → IsToldOf (S.state source.old) change.now target.now db → IsAnswerOver db change.now made) }
+    ensures counted { IfOk result (λ made. IfOk made (λ changed. (db : Database) → IsToldOf (S.state source.old) change.now target.now db
+        → IsTargetAsking db change.now asking.new)) }
     ensures asked { let old = S.state source.old in
         IfOk result (λ made. (db : Database) → IsToldOf old change.now target.now db
         → (S.state source.new).asked ≡ old.asked ++ asked_for db old change.now target.now made) }
@@ -129,7 +139,7 @@ pub fn changed<S: ChunkSource, R: Threads + Sync, G: Gate>(
         }
         Change::Insert { schema, plan, .. } => {
             inserted(
-                rt, alloc, plan, schema, target, source, workers, session, gate,
+                rt, alloc, plan, schema, target, source, asking, workers, session, gate,
             )
         }
         _ => unreachable!(),

@@ -8,3 +8,4 @@ mod versions;
 mod wanted;
 
 pub use changing::changed;
+pub use plan_traces::Asking;

@@ -9,6 +9,7 @@ ghost use Rattle.logical_plan.specs.Leaves.{leaves};
 ghost use Rattle.logical_plan.specs.Meaning.{Database, version_rows};
 ghost use Rattle.changed_chunks.specs.Inner.Input.{AreStoredChunks, CanBeStored, MayBeStored, stored_rows};
 ghost use Rattle.changed_chunks.specs.Inner.Writes.{IsInsertOf, Serves};
+ghost use Rattle.changed_chunks.specs.Targets.{asking_put};
 ghost use Rattle.changed_chunks.specs.Wanted.{target_wanted};
 
 use crate::versions::{put_over, stored_array};
@@ -17,6 +18,7 @@ use array_geom::{Changed, Chunk, ChunkedArray};
 use cell_values::{ChunkAt, List, Memory, Row, Schema};
 use chunk_source::{ChunkSource, ExecFault};
 use logical_plan::{Leaf, Plan, reads};
+use plan_traces::{Asking, count_chunks};
 use std::alloc::Global;
 
 /// How many leaves a plan has. More than a `u32` counts are as good as no memory.
@@ -57,12 +59,13 @@ fn read_chunks<S: ChunkSource>(
 }
 
 /// Of a leaf's chunks those that are wanted where the rows of an array are put in, each of which is asked for once. What is known of
-/// each holds whatever the source tells.
+/// each holds whatever the source tells. How many are wanted, and of how many, is put into `asking`.
 fn read_wanted<S: ChunkSource>(
     source: &mut S,
     number: u32,
     leaf: &Leaf,
     put: &ChunkedArray,
+    asking: &mut Asking,
 ) -> Result<List<Chunk>, ExecFault>
     requires reads { Reads (S.state source.old) leaf.now }
     requires put { CanBeStored put.now }
@@ -70,6 +73,8 @@ fn read_wanted<S: ChunkSource>(
     ensures stored { IfOk result (AreStoredChunks leaf.now.schema) }
     ensures told { IfOk result (λ chunks. (db : Database) → (S.state source.old).tells db
         → Serves leaf.now.schema (cores_of put.now) (version_rows db leaf.now.name leaf.now.version) (stored_rows leaf.now.schema chunks)) }
+    ensures counted { IfOk result (λ chunks. (db : Database) → (S.state source.old).tells db
+        → asking.new ≡ asking_put leaf.now.schema.dimensions (cores_of put.now) (version_rows db leaf.now.name leaf.now.version)) }
     ensures asked { let old = S.state source.old in OnOk result ((S.state source.new).asked
         ≡ old.asked ++ map (asks number) (target_wanted leaf.now.schema.dimensions (cores_of put.now) (listed old leaf.now))) }
     ensures front { let old = S.state source.old in OnErr result
@@ -78,12 +83,16 @@ fn read_wanted<S: ChunkSource>(
     ensures cause { Answers (S.state source.old) (S.state source.new) result }
     ensures start { S.start source.new ≡ S.start source.old }
 {
-    let stored = source.listed(leaf)?;
-    let wanted = wanted_chunks(put, stored)?;
+    let listed = source.listed(leaf)?;
+    let stored = count_chunks(&leaf.schema, listed.as_slice());
+    let wanted = wanted_chunks(put, listed)?;
+    let asked = count_chunks(&leaf.schema, wanted.as_slice());
+    *asking = Asking { asked, stored };
     read_chunks(source, number, leaf, wanted.as_slice())
 }
 
-/// The chunks that are written where rows are put over the target, which is one more leaf after those of the plan.
+/// The chunks that are written where rows are put over the target, which is one more leaf after those of the plan. How many chunks of
+/// the target are asked for, and of how many, is put into `asking`.
 pub(crate) fn put_over_target<S: ChunkSource>(
     alloc: Global,
     plan: &Plan,
@@ -91,6 +100,7 @@ pub(crate) fn put_over_target<S: ChunkSource>(
     input: List<Row>,
     target: &Leaf,
     source: &mut S,
+    asking: &mut Asking,
 ) -> Result<Changed, ExecFault>
     requires input { MayBeStored schema.now input }
     requires reads { Reads (S.state source.old) target.now }
@@ -99,6 +109,8 @@ pub(crate) fn put_over_target<S: ChunkSource>(
     ensures valid { IfOk result AreValid }
     ensures told { IfOk result (λ changed. (db : Database) → (S.state source.old).tells db
         → IsInsertOf schema.now input (version_rows db target.now.name target.now.version) changed) }
+    ensures counted { IfOk result (λ changed. (db : Database) → (S.state source.old).tells db
+        → asking.new ≡ asking_put schema.now.dimensions input (version_rows db target.now.name target.now.version)) }
     ensures asked { let old = S.state source.old in
         let wanted = target_wanted schema.now.dimensions input (listed old target.now) in
         OnOk result ((S.state source.new).asked ≡ old.asked ++ map (asks (length (leaves plan.now))) wanted) }
@@ -111,6 +123,6 @@ pub(crate) fn put_over_target<S: ChunkSource>(
 {
     let put = stored_array(schema, input)?;
     let number = count_leaves(alloc, plan)?;
-    let old = read_wanted(source, number, target, &put)?;
+    let old = read_wanted(source, number, target, &put, asking)?;
     Ok(put_over(&put, old)?)
 }

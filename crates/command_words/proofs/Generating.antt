@@ -37,8 +37,8 @@ record GenerateTail (words : List Word) (form : Form) : Type 0 where
 generate_tail : (words : List Word) (form : Form) → IsForm (codes "generate" ∷ words) form → GenerateTail words form
 generate_tail words Try is = absurd (unlike (codes "generate") (codes "try") refl (verb_is (codes "generate") words Try is))
 generate_tail words (Init device) is = absurd (unlike (codes "generate") (codes "init") refl (verb_is (codes "generate") words (Init device) is))
-generate_tail words (Run device workers pages history csv scripts) is =
-    absurd (unlike (codes "generate") (codes "run") refl (verb_is (codes "generate") words (Run device workers pages history csv scripts) is))
+generate_tail words (Run device workers pages history printing scripts) is =
+    absurd (unlike (codes "generate") (codes "run") refl (verb_is (codes "generate") words (Run device workers pages history printing scripts) is))
 generate_tail words (Generate number workers) is = record {
   digits = is.digits;
   given = is.given;

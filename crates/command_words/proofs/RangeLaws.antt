@@ -28,7 +28,7 @@ number_in_range option least most other (setting ∷ settings) says within all =
     (λ not_is. number_in_range option least most other settings says within rest)
 
 run_ranges : RunsKeepTheirRanges
-run_ranges words workers pages history csv first run = (
+run_ranges words workers pages history printing first run = (
   subst (IsWithin 1 64) (sym run.workers_given) (number_in_range Workers 1 64 4 run.settings (word_within 1 64) (lit≤ tt, lit≤ tt) run.right),
   subst (IsWithin 16 1048576) (sym run.pages_given) (number_in_range Pages 16 1048576 65536 run.settings (word_within 16 1048576) (lit≤ tt, lit≤ tt) run.right),
   subst (IsWithin 16 1048576) (sym run.history_given) (number_in_range History 16 1048576 1048576 run.settings (word_within 16 1048576) (lit≤ tt, lit≤ tt) run.right),

@@ -1,9 +1,10 @@
 -- The words of a slice, one after the other.
-use Rattle.std.proofs.Common.{◌≡◌, ◌-◌, ◌≤◌, false, cond, Option, Some, Err, List, [], ◌∷◌, length, get_or, take, drop, sym, ap, ◌∙◌, arith, take_all}
+use Rattle.std.proofs.Common.{◌≡◌, ℕ, ◌+◌, ◌-◌, ◌≤◌, true, false, cond, Option, None, Some, Result, Err, List, [], ◌∷◌, length, get_or, take, drop, sym, ap, ◌∙◌, arith, take_all}
+use Rattle.command_words.specs.declared.forms.Form.{Form}
 use Rattle.command_words.specs.declared.settings.RunOption.{RunOption}
 use Rattle.command_words.specs.declared.settings.Settings.{Settings}
-use Rattle.command_words.specs.Forms.{Word, is_dashed}
-use Rattle.command_words.specs.Inner.Reading.{no_settings, next_option, with_said, by_said, by_option, read_scripts, read_settings, read_run}
+use Rattle.command_words.specs.Forms.{Word, is_dashed, is_flag}
+use Rattle.command_words.specs.Inner.Reading.{no_settings, next_option, place_of, with_said, with_trace, by_said, by_option, read_scripts, read_settings, read_run}
 
 -- the words behind the first one, as the code cuts them
 abbrev pub behind : List Word → List Word
@@ -26,16 +27,36 @@ run_first words item tested name settings some is tests plain shows begins =
     same ∙ kept ∙ ap read_run (sym (first_word words item some is))
 
 pub settings_two : (device : Word) (words : List Word) (settings next : Settings) (name shown said told : Word) (option : RunOption)
-    → 1 ≤ length words → name ≡ get_or words 0 name → shown ≡ name → next_option settings shown ≡ Some option
+    → 1 ≤ length words → name ≡ get_or words 0 name → shown ≡ name → next_option settings shown ≡ Some option → is_flag option ≡ false
     → 1 ≤ length (behind words) → said ≡ get_or (behind words) 0 said → told ≡ said → with_said settings option told ≡ Some next
     → read_settings device (behind (behind words)) next ≡ read_settings device words settings
-settings_two device words settings next name shown said told option some first shows chosen more second tells goes =
+settings_two device words settings next name shown said told option some first shows chosen says more second tells goes =
     let rest : List Word = behind (behind words) in
     let split : words ≡ name ∷ said ∷ rest = first_word words name some first ∙ ap (λ (l : List Word). name ∷ l) (first_word (behind words) said more second) in
     let option_is : next_option settings name ≡ Some option = ap (next_option settings) (sym shows) ∙ chosen in
     let next_is : with_said settings option said ≡ Some next = ap (with_said settings option) (sym tells) ∙ goes in
+    let flagged : Result Form ℕ = read_settings device (said ∷ rest) (with_trace settings) in
     let read : read_settings device words settings ≡ read_settings device rest next =
     ap (λ (l : List Word). read_settings device l settings) split
-    ∙ ap (λ (o : Option RunOption). by_option settings o (λ given. with_said settings given said) (read_scripts device settings (name ∷ said ∷ rest)) (read_settings device rest)) option_is
+    ∙ ap (λ (o : Option RunOption). by_option settings o (λ given. with_said settings given said) (read_scripts device settings (name ∷ said ∷ rest)) flagged (read_settings device rest)) option_is
+    ∙ ap (λ b. cond b flagged (by_said settings (with_said settings option said) (read_settings device rest))) says
     ∙ ap (λ (n : Option Settings). by_said settings n (read_settings device rest)) next_is in
     sym read
+
+flag_reads : (device : Word) (rest : List Word) (settings : Settings) (name : Word) (option : RunOption) → next_option settings name ≡ Some option → is_flag option ≡ true
+    → read_settings device (name ∷ rest) settings ≡ read_settings device rest (with_trace settings)
+flag_reads device [] settings name option is flag =
+    ap (λ (o : Option RunOption). by_option settings o (λ given. None) (read_scripts device settings (name ∷ [])) (Err (place_of (with_trace settings))) (λ next. Err (place_of next))) is
+    ∙ ap (λ b. cond b (Err (place_of (with_trace settings))) (Err (place_of settings + 1))) flag
+flag_reads device (said ∷ rest) settings name option is flag =
+    let flagged : Result Form ℕ = read_settings device (said ∷ rest) (with_trace settings) in
+    ap (λ (o : Option RunOption). by_option settings o (λ given. with_said settings given said) (read_scripts device settings (name ∷ said ∷ rest)) flagged (read_settings device rest)) is
+    ∙ ap (λ b. cond b flagged (by_said settings (with_said settings option said) (read_settings device rest))) flag
+
+pub settings_flag : (device : Word) (words : List Word) (settings next : Settings) (name shown : Word) (option : RunOption)
+    → 1 ≤ length words → name ≡ get_or words 0 name → shown ≡ name → next_option settings shown ≡ Some option → is_flag option ≡ true → next ≡ with_trace settings
+    → read_settings device (behind words) next ≡ read_settings device words settings
+settings_flag device words settings next name shown option some first shows chosen flag is =
+    ap (read_settings device (behind words)) is
+    ∙ sym (flag_reads device (behind words) settings name option (ap (next_option settings) (sym shows) ∙ chosen) flag)
+    ∙ sym (ap (λ (l : List Word). read_settings device l settings) (first_word words name some first))

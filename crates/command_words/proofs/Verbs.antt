@@ -7,8 +7,9 @@ use Rattle.std.proofs.lemmas.Bool.{cond_both, or_parts, or_from}
 use Rattle.command_words.specs.declared.forms.Form.{Form}
 use Rattle.command_words.specs.declared.forms.Form.TheVariants.{Try, Init, Run, Generate}
 use Rattle.command_words.specs.declared.settings.RunOption.{RunOption}
-use Rattle.command_words.specs.declared.settings.RunOption.TheVariants.{Pages, History, Workers, Format}
+use Rattle.command_words.specs.declared.settings.RunOption.TheVariants.{Pages, History, Workers, Format, Trace}
 use Rattle.command_words.specs.Forms.{Word, setting_words, is_dashed, IsForm, IsRun}
+use Rattle.command_words.specs.Worked.{plain}
 use Rattle.command_words.specs.Inner.Reading.{no_settings, is_given, read_generate, read_run, read_init, read_try, read_words, read_settings}
 use Rattle.command_words.proofs.Names.{same_bytes}
 use Rattle.command_words.proofs.Places.{Judged, judged_same, judged_step, missing, refused}
@@ -26,14 +27,14 @@ least_init device named = (refl, record { device = device; spelled = refl; named
 only_try : (form : Form) → IsForm (codes "try" ∷ []) form → form ≡ Try
 only_try Try is = refl
 only_try (Init device) is = absurd (unlike (codes "try") (codes "init") refl (verb_is (codes "try") [] (Init device) is))
-only_try (Run device workers pages history csv scripts) is = absurd (unlike (codes "try") (codes "run") refl (verb_is (codes "try") [] (Run device workers pages history csv scripts) is))
+only_try (Run device workers pages history printing scripts) is = absurd (unlike (codes "try") (codes "run") refl (verb_is (codes "try") [] (Run device workers pages history printing scripts) is))
 only_try (Generate number workers) is = absurd (unlike (codes "try") (codes "generate") refl (verb_is (codes "try") [] (Generate number workers) is))
 
 try_alone : (word : Word) (words : List Word) (form : Form) → IsForm (codes "try" ∷ word ∷ words) form → ⊥
 try_alone word words Try is = let none : word ∷ words ≡ [] = same_tail (codes "try") (codes "try") (word ∷ words) [] is in cc
 try_alone word words (Init device) is = unlike (codes "try") (codes "init") refl (verb_is (codes "try") (word ∷ words) (Init device) is)
-try_alone word words (Run device workers pages history csv scripts) is =
-    unlike (codes "try") (codes "run") refl (verb_is (codes "try") (word ∷ words) (Run device workers pages history csv scripts) is)
+try_alone word words (Run device workers pages history printing scripts) is =
+    unlike (codes "try") (codes "run") refl (verb_is (codes "try") (word ∷ words) (Run device workers pages history printing scripts) is)
 try_alone word words (Generate number workers) is = unlike (codes "try") (codes "generate") refl (verb_is (codes "try") (word ∷ words) (Generate number workers) is)
 
 try_judged : (words : List Word) → Judged 1 (λ rest. IsForm (codes "try" ∷ rest)) words (read_try words)
@@ -45,8 +46,8 @@ try_judged (word ∷ words) = refused 1 (λ rest. IsForm (codes "try" ∷ rest))
 init_tail : (words : List Word) (form : Form) → IsForm (codes "init" ∷ words) form → (device : Word) × (words ≡ device ∷ []) × (is_dashed device ≡ false) × (form ≡ Init 1)
 init_tail words Try is = absurd (unlike (codes "init") (codes "try") refl (verb_is (codes "init") words Try is))
 init_tail words (Init device) is = (is.1.device, same_tail (codes "init") (codes "init") words (is.1.device ∷ []) is.1.spelled, is.1.named, ap Init is.0)
-init_tail words (Run device workers pages history csv scripts) is =
-    absurd (unlike (codes "init") (codes "run") refl (verb_is (codes "init") words (Run device workers pages history csv scripts) is))
+init_tail words (Run device workers pages history printing scripts) is =
+    absurd (unlike (codes "init") (codes "run") refl (verb_is (codes "init") words (Run device workers pages history printing scripts) is))
 init_tail words (Generate number workers) is = absurd (unlike (codes "init") (codes "generate") refl (verb_is (codes "init") words (Generate number workers) is))
 
 init_needs : (form : Form) → IsForm (codes "init" ∷ []) form → ⊥
@@ -83,6 +84,7 @@ none_given Pages = refl
 none_given History = refl
 none_given Workers = refl
 none_given Format = refl
+none_given Trace = refl
 
 record RunTail (words : List Word) (form : Form) : Type 0 where
   name : Word
@@ -95,8 +97,8 @@ run_tail : (words : List Word) (form : Form) → IsForm (codes "run" ∷ words) 
 run_tail words Try is = absurd (unlike (codes "run") (codes "try") refl (verb_is (codes "run") words Try is))
 run_tail words (Init device) is = absurd (unlike (codes "run") (codes "init") refl (verb_is (codes "run") words (Init device) is))
 run_tail words (Generate number workers) is = absurd (unlike (codes "run") (codes "generate") refl (verb_is (codes "run") words (Generate number workers) is))
-run_tail words (Run device workers pages history csv scripts) is =
-    let run : IsRun (codes "run" ∷ words) workers pages history csv scripts = is.1 in
+run_tail words (Run device workers pages history printing scripts) is =
+    let run : IsRun (codes "run" ∷ words) workers pages history printing scripts = is.1 in
     let rest : List Word = flat_map setting_words run.settings ++ run.scripts in
     let (plain, others) = or_parts (is_dashed run.device) (list_any is_dashed run.scripts) run.named in
     record {
@@ -112,7 +114,7 @@ run_tail words (Run device workers pages history csv scripts) is =
         once = λ option. let none : count (is_given no_settings option) ≡ 0 = none_given option in omega (arith, run.once option);
         some = run.some;
         good = record { most = run.most; named = others; different = run.different };
-        is = λ i. Run (is.0 i) (run.workers_given i) (run.pages_given i) (run.history_given i) (run.csv_given i) (run.place i);
+        is = λ i. Run (is.0 i) (run.workers_given i) (run.pages_given i) (run.history_given i) (record { csv = run.csv_given i; trace = run.trace_given i }) (run.place i);
       };
     }
 
@@ -134,6 +136,7 @@ tail_run device named words form tail = subst (IsForm (codes "run" ∷ device �
     pages_given = refl;
     history_given = refl;
     csv_given = refl;
+    trace_given = refl;
     place = refl;
   },
 )
@@ -152,7 +155,7 @@ past_device device words form is =
     subst (λ (d : Word). IsTail d no_settings words form) (sym (same_head device run.name words run.rest run.spelled))
     (subst (λ (l : List Word). IsTail run.name no_settings l form) (sym (same_tail device run.name words run.rest run.spelled)) run.behind)
 
-least_run : IsForm (codes "run" ∷ codes "a" ∷ codes "-" ∷ []) (Run 1 4 65536 1048576 false 2)
+least_run : IsForm (codes "run" ∷ codes "a" ∷ codes "-" ∷ []) (Run 1 4 65536 1048576 plain 2)
 least_run = (
   refl,
   record {
@@ -170,15 +173,16 @@ least_run = (
     pages_given = refl;
     history_given = refl;
     csv_given = refl;
+    trace_given = refl;
     place = refl;
   },
 )
 
 run_judged : (words : List Word) → Judged 1 (λ rest. IsForm (codes "run" ∷ rest)) words (read_run words)
-run_judged [] = missing 1 (λ rest. IsForm (codes "run" ∷ rest)) run_needs (codes "a" ∷ codes "-" ∷ []) (Run 1 4 65536 1048576 false 2) least_run
+run_judged [] = missing 1 (λ rest. IsForm (codes "run" ∷ rest)) run_needs (codes "a" ∷ codes "-" ∷ []) (Run 1 4 65536 1048576 plain 2) least_run
 run_judged (device ∷ words) =
     cond_both (is_dashed device) (Err 1) (read_settings device words no_settings) (λ (r : Result Form ℕ). Judged 1 (λ rest. IsForm (codes "run" ∷ rest)) (device ∷ words) r)
-    (λ dashed. refused 1 (λ rest. IsForm (codes "run" ∷ rest)) device words (run_dashed device dashed) (codes "a" ∷ codes "-" ∷ []) (Run 1 4 65536 1048576 false 2) least_run)
+    (λ dashed. refused 1 (λ rest. IsForm (codes "run" ∷ rest)) device words (run_dashed device dashed) (codes "a" ∷ codes "-" ∷ []) (Run 1 4 65536 1048576 plain 2) least_run)
     (λ named. judged_step 1 (λ rest. IsForm (codes "run" ∷ rest)) device words (read_settings device words no_settings)
     (judged_same (IsTail device no_settings) (λ rest. IsForm (codes "run" ∷ device ∷ rest)) (tail_run device named) (past_device device) 2 words (read_settings device words no_settings)
     (settings_judged device words no_settings)))
@@ -189,7 +193,7 @@ no_verb : (verb : Word) → bytes_eq verb (codes "try") ≡ false → bytes_eq v
     → bytes_eq verb (codes "generate") ≡ false → (words : List Word) (form : Form) → IsForm (verb ∷ words) form → ⊥
 no_verb verb a b c d words Try is = unlike verb (codes "try") a (verb_is verb words Try is)
 no_verb verb a b c d words (Init device) is = unlike verb (codes "init") b (verb_is verb words (Init device) is)
-no_verb verb a b c d words (Run device workers pages history csv scripts) is = unlike verb (codes "run") c (verb_is verb words (Run device workers pages history csv scripts) is)
+no_verb verb a b c d words (Run device workers pages history printing scripts) is = unlike verb (codes "run") c (verb_is verb words (Run device workers pages history printing scripts) is)
 no_verb verb a b c d words (Generate number workers) is = unlike verb (codes "generate") d (verb_is verb words (Generate number workers) is)
 
 at_verb : (verb word : Word) → bytes_eq verb word ≡ true → (words : List Word) (result : Result Form ℕ)

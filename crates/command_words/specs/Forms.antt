@@ -1,5 +1,5 @@
 -- The forms of the words of a command line. A word is the list of its bytes.
-use Rattle.std.specs.Prelude.{◌≡◌, ℕ, ◌+◌, ◌*◌, ◌≤◌, Bool, true, false, ◌&&◌, not, nat_le, if◌then◌else◌}
+use Rattle.std.specs.Prelude.{◌≡◌, ℕ, ◌+◌, ◌≤◌, Bool, true, false, ◌&&◌, not, nat_le, if◌then◌else◌}
 use Rattle.std.specs.Prelude.{List, [], ◌∷◌, ◌++◌, length, take, count_by, codes, flat_map, Option, None, Some, IfSome}
 use Rattle.std.specs.List.{list_any, list_all}
 use Rattle.std.specs.Char.{is_ascii_digit}
@@ -7,8 +7,9 @@ use Rattle.std.specs.Str.{bytes_eq}
 use Rattle.std.specs.Str.Parse.{digits_value}
 use Rattle.command_words.specs.declared.forms.Form.{Form}
 use Rattle.command_words.specs.declared.forms.Form.TheVariants.{Try, Init, Run, Generate}
+use Rattle.command_words.specs.declared.forms.Printing.{Printing}
 use Rattle.command_words.specs.declared.settings.RunOption.{RunOption}
-use Rattle.command_words.specs.declared.settings.RunOption.TheVariants.{Pages, History, Workers, Format}
+use Rattle.command_words.specs.declared.settings.RunOption.TheVariants.{Pages, History, Workers, Format, Trace}
 
 abbrev pub Word : Type 0
 Word = List ℕ
@@ -21,7 +22,7 @@ is_dashed word = bytes_eq (take 2 word) (codes "--")
 abbrev pub is_number : Word → Bool
 is_number word = nat_le 1 (length word) && nat_le (length word) 10 && list_all is_ascii_digit word
 
--- An option is two words: its name, and what is said of it.
+-- An option is its name, and behind it what is said of it. Of `--trace` nothing is said.
 pub record Setting : Type 0 where
   pub option : RunOption
   pub said : Word
@@ -31,19 +32,28 @@ option_word Pages = codes "--pages"
 option_word History = codes "--history"
 option_word Workers = codes "--workers"
 option_word Format = codes "--format"
+option_word Trace = codes "--trace"
+
+abbrev pub is_flag : RunOption → Bool
+is_flag Trace = true
+is_flag option = false
+
+abbrev pub said_words : RunOption → Word → List Word
+said_words option said = if is_flag option then [] else said ∷ []
 
 abbrev pub setting_words : Setting → List Word
-setting_words setting = option_word setting.option ∷ setting.said ∷ []
+setting_words setting = option_word setting.option ∷ said_words setting.option setting.said
 
 abbrev pub is_number_within : ℕ → ℕ → Word → Bool
 is_number_within least most word = is_number word && nat_le least (digits_value 10 word) && nat_le (digits_value 10 word) most
 
--- what may be said of an option: a number in its range, or the one format
+-- what may be said of an option: a number in its range, the one format, or nothing
 abbrev pub may_say : RunOption → Word → Bool
 may_say Pages said = is_number_within 16 1048576 said
 may_say History said = is_number_within 16 1048576 said
 may_say Workers said = is_number_within 1 64 said
 may_say Format said = bytes_eq said (codes "csv+")
+may_say Trace said = bytes_eq said []
 
 abbrev pub is_right : Setting → Bool
 is_right setting = may_say setting.option setting.said
@@ -73,8 +83,8 @@ are_different (name ∷ names) = not (list_any (bytes_eq name) names) && are_dif
 abbrev pub is_there : RunOption → List Setting → Bool
 is_there option settings = list_any (λ setting. is_option option setting.option) settings
 
--- `run DB OPTION.. SCRIPT..`: its numbers, whether its arrays are records of CSV, and the place of its first script
-pub record IsRun (words : List Word) (workers pages history : ℕ) (csv : Bool) (first : ℕ) : Type 0 where
+-- `run DB OPTION.. SCRIPT..`: its numbers, what it prints of arrays, and the place of its first script
+pub record IsRun (words : List Word) (workers pages history : ℕ) (printing : Printing) (first : ℕ) : Type 0 where
   pub device : Word
   pub settings : List Setting
   pub scripts : List Word
@@ -88,8 +98,9 @@ pub record IsRun (words : List Word) (workers pages history : ℕ) (csv : Bool) 
   pub workers_given : workers ≡ number_in Workers 4 settings
   pub pages_given : pages ≡ number_in Pages 65536 settings
   pub history_given : history ≡ number_in History 1048576 settings
-  pub csv_given : csv ≡ is_there Format settings
-  pub place : first ≡ 2 + 2 * length settings
+  pub csv_given : printing.csv ≡ is_there Format settings
+  pub trace_given : printing.trace ≡ is_there Trace settings
+  pub place : first ≡ 2 + length (flat_map setting_words settings)
 
 -- `init DB`
 pub record IsInit (words : List Word) : Type 0 where
@@ -124,5 +135,5 @@ pub record IsGenerate (words : List Word) (number workers : ℕ) : Type 0 where
 abbrev pub IsForm : List Word → Form → Type 0
 IsForm words Try = words ≡ codes "try" ∷ []
 IsForm words (Init device) = (device ≡ 1) × IsInit words
-IsForm words (Run device workers pages history csv scripts) = (device ≡ 1) × IsRun words workers pages history csv scripts
+IsForm words (Run device workers pages history printing scripts) = (device ≡ 1) × IsRun words workers pages history printing scripts
 IsForm words (Generate number workers) = IsGenerate words number workers

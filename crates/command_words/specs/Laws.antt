@@ -1,6 +1,7 @@
 -- Laws of forms and faults.
-use Rattle.std.specs.Prelude.{◌≡◌, Bool, ℕ, ◌<◌, ◌≤◌, ◌^◌, Some, List, length, drop, slice_get}
+use Rattle.std.specs.Prelude.{◌≡◌, ℕ, ◌<◌, ◌≤◌, ◌^◌, Some, List, length, drop, slice_get}
 use Rattle.command_words.specs.declared.forms.Form.{Form}
+use Rattle.command_words.specs.declared.forms.Printing.{Printing}
 use Rattle.command_words.specs.Forms.{Word, IsForm, IsGenerate, IsInit, IsRun}
 use Rattle.command_words.specs.Faults.{IsFault}
 
@@ -18,7 +19,8 @@ InitsNameTheirDevice = (words : List Word) (init : IsInit words) → slice_get w
 
 -- and the scripts are all words from the first one on
 abbrev pub RunsNameTheirScripts : Type 0
-RunsNameTheirScripts = (words : List Word) (workers pages history : ℕ) (csv : Bool) (first : ℕ) (run : IsRun words workers pages history csv first)
+RunsNameTheirScripts = (words : List Word) (workers pages history : ℕ) (printing : Printing) (first : ℕ)
+    → (run : IsRun words workers pages history printing first)
     → (slice_get words 1 ≡ Some run.device) × (drop first words ≡ run.scripts) × (first < length words)
 
 abbrev pub FormsKeepTheirPlaces : Type 0
@@ -29,7 +31,7 @@ abbrev pub IsWithin : ℕ → ℕ → ℕ → Type 0
 IsWithin least most number = (least ≤ number) × (number ≤ most)
 
 abbrev pub RunsKeepTheirRanges : Type 0
-RunsKeepTheirRanges = (words : List Word) (workers pages history : ℕ) (csv : Bool) (first : ℕ) → IsRun words workers pages history csv first
+RunsKeepTheirRanges = (words : List Word) (workers pages history : ℕ) (printing : Printing) (first : ℕ) → IsRun words workers pages history printing first
     → IsWithin 1 64 workers × IsWithin 16 1048576 pages × IsWithin 16 1048576 history
 
 abbrev pub GeneratesKeepTheirRanges : Type 0

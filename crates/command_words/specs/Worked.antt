@@ -3,6 +3,7 @@ use Rattle.std.specs.Prelude.{ℕ, false, true, List, [], ◌∷◌, ◌++◌, c
 use Rattle.command_words.specs.Forms.{Word, IsForm}
 use Rattle.command_words.specs.declared.forms.Form.{Form}
 use Rattle.command_words.specs.declared.forms.Form.TheVariants.{Try, Init, Run, Generate}
+use Rattle.command_words.specs.declared.forms.Printing.{Printing}
 use Rattle.command_words.specs.Faults.{IsFault}
 
 pub record Wrong : Type 0 where
@@ -26,6 +27,15 @@ wrong words place = record { words = words; place = place }
 
 abbrev pub right : List Word → Form → Right
 right words form = record { words = words; form = form }
+
+abbrev pub plain : Printing
+plain = record { csv = false; trace = false }
+
+abbrev pub as_csv : Printing
+as_csv = record { csv = true; trace = false }
+
+abbrev pub traced : Printing
+traced = record { csv = false; trace = true }
 
 abbrev pub run_with : List Word → List Word
 run_with words = codes "run" ∷ codes "DB" ∷ words
@@ -63,6 +73,11 @@ wrong_words =
     ∷ wrong (run_with (codes "--format" ∷ codes "csv" ∷ codes "a" ∷ [])) 3
     ∷ wrong (run_with (codes "--format" ∷ codes "csv+" ∷ codes "--format" ∷ codes "csv+" ∷ codes "a" ∷ [])) 4
     ∷ wrong (run_with (codes "--threads" ∷ codes "4" ∷ codes "a" ∷ [])) 2
+    ∷ wrong (run_with (codes "--trace" ∷ [])) 3
+    ∷ wrong (run_with (codes "--trace" ∷ codes "--trace" ∷ codes "a" ∷ [])) 3
+    ∷ wrong (run_with (codes "--trace" ∷ codes "--pages" ∷ [])) 4
+    ∷ wrong (run_with (codes "a" ∷ codes "--trace" ∷ [])) 3
+    ∷ wrong (codes "generate" ∷ codes "7" ∷ codes "--trace" ∷ []) 2
     ∷ wrong (run_with (codes "a" ∷ codes "--pages" ∷ codes "16" ∷ [])) 3
     ∷ wrong (run_with (codes "DB" ∷ [])) 2
     ∷ wrong (run_with (codes "a" ∷ codes "a" ∷ [])) 3
@@ -85,17 +100,21 @@ abbrev pub right_words : List Right
 right_words =
     right (codes "try" ∷ []) Try
     ∷ right (codes "init" ∷ codes "-" ∷ []) (Init 1)
-    ∷ right (run_with (codes "a" ∷ [])) (Run 1 4 65536 1048576 false 2)
-    ∷ right (run_with (codes "-" ∷ [])) (Run 1 4 65536 1048576 false 2)
-    ∷ right (run_with (codes "-" ∷ codes "-.out" ∷ [])) (Run 1 4 65536 1048576 false 2)
-    ∷ right (run_with (codes "DB.out" ∷ [])) (Run 1 4 65536 1048576 false 2)
-    ∷ right (run_with sixteen) (Run 1 4 65536 1048576 false 2)
-    ∷ right (run_with (codes "--pages" ∷ codes "0000000016" ∷ codes "a" ∷ [])) (Run 1 4 16 1048576 false 4)
-    ∷ right (run_with (codes "--history" ∷ codes "1048576" ∷ codes "--pages" ∷ codes "4096" ∷ codes "a" ∷ codes "b" ∷ [])) (Run 1 4 4096 1048576 false 6)
-    ∷ right (run_with (codes "--workers" ∷ codes "64" ∷ codes "--pages" ∷ codes "16" ∷ codes "a" ∷ [])) (Run 1 64 16 1048576 false 6)
-    ∷ right (run_with (codes "--format" ∷ codes "csv+" ∷ codes "a" ∷ [])) (Run 1 4 65536 1048576 true 4)
+    ∷ right (run_with (codes "a" ∷ [])) (Run 1 4 65536 1048576 plain 2)
+    ∷ right (run_with (codes "-" ∷ [])) (Run 1 4 65536 1048576 plain 2)
+    ∷ right (run_with (codes "-" ∷ codes "-.out" ∷ [])) (Run 1 4 65536 1048576 plain 2)
+    ∷ right (run_with (codes "DB.out" ∷ [])) (Run 1 4 65536 1048576 plain 2)
+    ∷ right (run_with sixteen) (Run 1 4 65536 1048576 plain 2)
+    ∷ right (run_with (codes "--pages" ∷ codes "0000000016" ∷ codes "a" ∷ [])) (Run 1 4 16 1048576 plain 4)
+    ∷ right (run_with (codes "--history" ∷ codes "1048576" ∷ codes "--pages" ∷ codes "4096" ∷ codes "a" ∷ codes "b" ∷ [])) (Run 1 4 4096 1048576 plain 6)
+    ∷ right (run_with (codes "--workers" ∷ codes "64" ∷ codes "--pages" ∷ codes "16" ∷ codes "a" ∷ [])) (Run 1 64 16 1048576 plain 6)
+    ∷ right (run_with (codes "--format" ∷ codes "csv+" ∷ codes "a" ∷ [])) (Run 1 4 65536 1048576 as_csv 4)
     ∷ right (run_with (codes "--pages" ∷ codes "16" ∷ codes "--format" ∷ codes "csv+" ∷ codes "--workers" ∷ codes "2" ∷ codes "a" ∷ []))
-    (Run 1 2 16 1048576 true 8)
+    (Run 1 2 16 1048576 as_csv 8)
+    ∷ right (run_with (codes "--trace" ∷ codes "a" ∷ [])) (Run 1 4 65536 1048576 traced 3)
+    ∷ right (run_with (codes "--pages" ∷ codes "16" ∷ codes "--trace" ∷ codes "--workers" ∷ codes "2" ∷ codes "a" ∷ [])) (Run 1 2 16 1048576 traced 7)
+    ∷ right (run_with (codes "--trace" ∷ codes "--format" ∷ codes "csv+" ∷ codes "a" ∷ []))
+    (Run 1 4 65536 1048576 (record { csv = true; trace = true }) 5)
     ∷ right (codes "generate" ∷ codes "7" ∷ []) (Generate 7 4)
     ∷ right (codes "generate" ∷ codes "7" ∷ codes "--workers" ∷ codes "8" ∷ []) (Generate 7 8)
     ∷ right (codes "generate" ∷ codes "4294967295" ∷ []) (Generate 4294967295 4)

@@ -9,6 +9,15 @@ use crate::arg::Arg;
 use crate::scripts::{is_dashed, wrong_script};
 use crate::settings::{MAX_WORKERS, Settings, number_within, script_number};
 
+/// What a run prints of arrays.
+#[derive(Clone, Copy, Debug)]
+pub struct Printing {
+    /// Their cells are records of CSV.
+    pub csv: bool,
+    /// A line tells of each array that was read how many of its chunks were asked for.
+    pub trace: bool,
+}
+
 /// A form of words. Each `device` and `scripts` is a place among the words, from 0.
 #[derive(Clone, Copy, Debug)]
 pub enum Form {
@@ -18,14 +27,13 @@ pub enum Form {
     Init {
         device: usize,
     },
-    /// `run DB OPTION.. SCRIPT..`, with the places of DB and of the first SCRIPT. All words from there on are scripts. Its arrays
-    /// are records of CSV where `csv` says so.
+    /// `run DB OPTION.. SCRIPT..`, with the places of DB and of the first SCRIPT. All words from there on are scripts.
     Run {
         device: usize,
         workers: u32,
         pages: u32,
         history: u32,
-        csv: bool,
+        printing: Printing,
         scripts: usize,
     },
     /// `generate N` or `generate N --workers N`
@@ -107,6 +115,9 @@ fn read_settings(device: &str, words: &[Arg], settings: Settings) -> Result<Form
         [] => Err(settings.place()),
         [name, rest @ ..] => match settings.next_option(name.as_str()) {
             None => read_scripts(device, settings, words),
+            Some(option) if option.is_flag() => {
+                read_settings(device, rest, settings.with_trace())
+            }
             Some(option) => match rest {
                 [] => Err(settings.place() + 1),
                 [said, rest @ ..] => match settings.with(option, said.as_str()) {
@@ -135,7 +146,10 @@ fn run_of(settings: Settings) -> Form
         workers: settings.workers.unwrap_or(DEFAULT_WORKERS),
         pages: settings.pages.unwrap_or(DEFAULT_PAGES),
         history: settings.history.unwrap_or(DEFAULT_HISTORY),
-        csv: settings.csv,
+        printing: Printing {
+            csv: settings.csv,
+            trace: settings.trace,
+        },
         scripts: settings.place() as usize,
     }
 }

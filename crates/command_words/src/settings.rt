@@ -4,7 +4,7 @@ ghost use Rattle.std.specs.Char.{is_ascii_digit};
 ghost use Rattle.std.specs.List.{list_all};
 ghost use Rattle.command_words.specs.Forms.{is_number};
 ghost use Rattle.command_words.specs.Inner.Reading.{next_option, no_settings, number_within, option_of, place_of, script_number};
-ghost use Rattle.command_words.specs.Inner.Reading.{with_history, with_pages, with_said, with_workers, words_of};
+ghost use Rattle.command_words.specs.Inner.Reading.{with_history, with_pages, with_said, with_trace, with_workers, words_of};
 
 pub(crate) const MAX_WORKERS: u32 = 64;
 
@@ -19,6 +19,21 @@ pub(crate) enum RunOption {
     History,
     Workers,
     Format,
+    Trace,
+}
+
+impl RunOption {
+    ghost use Rattle.command_words.specs.Forms.{is_flag};
+
+    /// Whether nothing is said of it.
+    pub(crate) fn is_flag(self) -> bool
+        ensures { result ≡ is_flag self }
+    {
+        match self {
+            RunOption::Trace => true,
+            RunOption::Pages | RunOption::History | RunOption::Workers | RunOption::Format => false,
+        }
+    }
 }
 
 /// What the options so far say.
@@ -28,6 +43,7 @@ pub(crate) struct Settings {
     pub(crate) history: Option<u32>,
     pub(crate) workers: Option<u32>,
     pub(crate) csv: bool,
+    pub(crate) trace: bool,
 }
 
 fn option_of(word: &str) -> Option<RunOption>
@@ -38,11 +54,12 @@ fn option_of(word: &str) -> Option<RunOption>
         "--history" => Some(RunOption::History),
         "--workers" => Some(RunOption::Workers),
         "--format" => Some(RunOption::Format),
+        "--trace" => Some(RunOption::Trace),
         _ => None,
     }
 }
 
-/// The words of an option that is given or not.
+/// The words of an option of two words that is given or not.
 const fn words_of(is_given: bool) -> u32
     ensures { result ≡ words_of is_given }
 {
@@ -60,6 +77,7 @@ impl Settings {
             history: None,
             workers: None,
             csv: false,
+            trace: false,
         }
     }
 
@@ -71,6 +89,7 @@ impl Settings {
             RunOption::History => self.history.is_some(),
             RunOption::Workers => self.workers.is_some(),
             RunOption::Format => self.csv,
+            RunOption::Trace => self.trace,
         }
     }
 
@@ -101,7 +120,17 @@ impl Settings {
         }
     }
 
-    /// These and the option with what is said of it, where that may be said.
+    /// These and `--trace`.
+    pub(crate) fn with_trace(self) -> Settings
+        ensures { result ≡ with_trace self }
+    {
+        Settings {
+            trace: true,
+            ..self
+        }
+    }
+
+    /// These and the option with what is said of it, where that may be said. Nothing is said of `--trace`.
     pub(crate) fn with(self, option: RunOption, said: &str) -> Option<Settings>
         ensures { result ≡ with_said self option said.now }
     {
@@ -110,7 +139,7 @@ impl Settings {
             RunOption::History => self.with_history(number_within(LEAST_SIZE, MOST_SIZE, said)),
             RunOption::Workers => self.with_workers(number_within(1, MAX_WORKERS, said)),
             RunOption::Format if said == "csv+" => Some(Settings { csv: true, ..self }),
-            RunOption::Format => None,
+            RunOption::Format | RunOption::Trace => None,
         }
     }
 
@@ -127,10 +156,11 @@ impl Settings {
     /// The place behind the device and these options.
     pub(crate) fn place(self) -> u32
         ensures place { result ≡ place_of self }
-        ensures near { result ≤ 10 }
+        ensures near { result ≤ 11 }
     {
         let numbers = words_of(self.pages.is_some()) + words_of(self.history.is_some());
-        2 + numbers + words_of(self.workers.is_some()) + words_of(self.csv)
+        let said = numbers + words_of(self.workers.is_some()) + words_of(self.csv);
+        2 + said + u32::from(self.trace)
     }
 }
 

@@ -16,7 +16,7 @@ use Rattle.result_print.specs.declared.refusal.Refusal.{Refusal}
 use Rattle.result_print.specs.declared.refusal.Refusal.TheVariants.{Disk, SequenceEnd, Full, Memory}
 use Rattle.statement_replies.specs.declared.replies.Reply.{Reply as Told}
 use Rattle.statement_replies.specs.Reply.{refused}
-use Rattle.statement_replies.specs.StatementKinds.{HasChangeKind, HasStatementKind, MayBreak}
+use Rattle.statement_replies.specs.StatementKinds.{HasChangeKind, HasStatementKind, IsAccepted, MayBreak}
 use Rattle.statement_replies.specs.Statements.{Accepted}
 use Rattle.statement_replies.specs.declared.style.Style.{Style}
 use Rattle.store_ledger.specs.declared.pinned.Pinned.{Pinned}
@@ -52,21 +52,24 @@ get_seam (x ∷ xs) ys y = get_seam xs ys y
 
 -- ---- a change that is accepted refuses nothing
 
-may_refuse : (names : Names) (change : Change) (words : Told) → MayBreak names change (record { reply = words; change = Some change }) → words.refusal ≡ None
-may_refuse names change words (inl e) = ap (λ (answer : Accepted). answer.reply.refusal) e
-may_refuse names change words (inr (broken, e)) = absurd (none-some change (sym (ap (λ (answer : Accepted). answer.change) e)))
+refuses_nothing : (style : Style) (names : Names) (change : Change) (words : Told) → IsAccepted style names change (record { reply = words; change = Some change }) → words.refusal ≡ None
+refuses_nothing style names change words ((lines, are, e), some) = ap (λ (reply : Told). reply.refusal) e
 
-accepts : (names : Names) (change : Change) (words : Told) → HasChangeKind names change (record { reply = words; change = Some change }) → words.refusal ≡ None
-accepts names (Create name schema) words e = ap (λ (answer : Accepted). answer.reply.refusal) e
-accepts names (Store name schema plan) words e = may_refuse names (Store name schema plan) words e
-accepts names (Insert name schema plan) words e = may_refuse names (Insert name schema plan) words e
-accepts names (Remove name) words e = ap (λ (answer : Accepted). answer.reply.refusal) e
-accepts names (RemoveVersions name below) words e = ap (λ (answer : Accepted). answer.reply.refusal) e
+may_refuse : (style : Style) (names : Names) (change : Change) (words : Told) → MayBreak style names change (record { reply = words; change = Some change }) → words.refusal ≡ None
+may_refuse style names change words (inl is) = refuses_nothing style names change words is
+may_refuse style names change words (inr (broken, e)) = absurd (none-some change (sym (ap (λ (answer : Accepted). answer.change) e)))
+
+accepts : (style : Style) (names : Names) (change : Change) (words : Told) → HasChangeKind style names change (record { reply = words; change = Some change }) → words.refusal ≡ None
+accepts style names (Create name schema) words is = refuses_nothing style names (Create name schema) words is
+accepts style names (Store name schema plan) words is = may_refuse style names (Store name schema plan) words is
+accepts style names (Insert name schema plan) words is = may_refuse style names (Insert name schema plan) words is
+accepts style names (Remove name) words is = refuses_nothing style names (Remove name) words is
+accepts style names (RemoveVersions name below) words is = refuses_nothing style names (RemoveVersions name below) words is
 
 said_accepts : {D : Type 0} (style : Style) (moment : D → Moment) (start : Start D) (events : List Event) (text : List ℕ) (tree : Term) (place : ℕ) (change : Change) (words : Told) →
     SaysChange style moment start events text tree place change → Says style moment start events text tree place (record { reply = words; change = Some change }) → words.refusal ≡ None
 said_accepts style moment start events text tree place change words says said =
-    accepts (names_before start events place) change words
+    accepts style (names_before start events place) change words
     (subst (λ c. HasStatementKind style (names_before start events place) c (record { reply = words; change = Some change })) says.typed said.kind)
 
 -- under the pin the statement was the change

@@ -55,21 +55,21 @@ use Rattle.session_answers.specs.Reads.{asked_at, counted, rows_put_at, source_a
 
 -- ---- an accepted statement reads all that it may read
 
-not_broken : (names : Names) (change : Change) (words : Told) → MayBreak names change (without_change words) → words.refusal ≡ None → ⊥
-not_broken names change words (inl e) accepts = none-some change (ap (λ (answer : Accepted). answer.change) e)
-not_broken names change words (inr (broken, e)) accepts = none-some _ (sym accepts ∙ ap (λ (answer : Accepted). answer.reply.refusal) e)
+not_broken : (style : Style) (names : Names) (change : Change) (words : Told) → MayBreak style names change (without_change words) → words.refusal ≡ None → ⊥
+not_broken style names change words (inl is) accepts = none-some change is.1
+not_broken style names change words (inr (broken, e)) accepts = none-some _ (sym accepts ∙ ap (λ (answer : Accepted). answer.reply.refusal) e)
 
-not_accepted : (names : Names) (change : Change) (words : Told) → HasChangeKind names change (without_change words) → words.refusal ≡ None → ⊥
-not_accepted names (Create name schema) words e accepts = none-some (Create name schema) (ap (λ (answer : Accepted). answer.change) e)
-not_accepted names (Store name schema plan) words k accepts = not_broken names (Store name schema plan) words k accepts
-not_accepted names (Insert name schema plan) words k accepts = not_broken names (Insert name schema plan) words k accepts
-not_accepted names (Remove name) words e accepts = none-some (Remove name) (ap (λ (answer : Accepted). answer.change) e)
-not_accepted names (RemoveVersions name below) words e accepts = none-some (RemoveVersions name below) (ap (λ (answer : Accepted). answer.change) e)
+not_accepted : (style : Style) (names : Names) (change : Change) (words : Told) → HasChangeKind style names change (without_change words) → words.refusal ≡ None → ⊥
+not_accepted style names (Create name schema) words is accepts = none-some (Create name schema) is.1
+not_accepted style names (Store name schema plan) words k accepts = not_broken style names (Store name schema plan) words k accepts
+not_accepted style names (Insert name schema plan) words k accepts = not_broken style names (Insert name schema plan) words k accepts
+not_accepted style names (Remove name) words is accepts = none-some (Remove name) is.1
+not_accepted style names (RemoveVersions name below) words is accepts = none-some (RemoveVersions name below) is.1
 
 replied_asks : (style : Style) (rows : List Row) (source : SourceState) (names : Names) (checked : Checked Typed) (words : Told) → HasStatementKind style names checked (without_change words) →
     words.refusal ≡ None → asked_for rows source names checked (Replied words) ≡ all_asked rows source names checked
 replied_asks style rows source names (Ok (AQuery plan)) words k accepts = refl
-replied_asks style rows source names (Ok (AChange change)) words k accepts = absurd (not_accepted names change words k accepts)
+replied_asks style rows source names (Ok (AChange change)) words k accepts = absurd (not_accepted style names change words k accepts)
 replied_asks style rows source names (Ok (Versions name)) words k accepts = refl
 replied_asks style rows source names (Ok (Show name)) words k accepts = refl
 replied_asks style rows source names (Ok ListArrays) words k accepts = refl

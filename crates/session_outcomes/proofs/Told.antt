@@ -9,6 +9,7 @@ use Rattle.logical_plan.specs.declared.names.Names.{Names}
 use Rattle.plan_changes.specs.declared.change.Change.{Change}
 use Rattle.plan_changes.specs.declared.change.Change.TheVariants.{Create, Store, Insert, Remove, RemoveVersions}
 use Rattle.logical_plan.specs.PlanSchema.{schema_of}
+use Rattle.logical_plan.specs.Query.{Query}
 use Rattle.check_rules.specs.Checked.{Breach, Checked}
 use Rattle.afl_types.specs.Checking.{check_of}
 use Rattle.afl_types.specs.declared.statements.checking.Typed.{Typed}
@@ -18,10 +19,10 @@ use Rattle.chunk_source.specs.declared.reading.fault.ExecFault.TheVariants.{Sour
 use Rattle.result_print.specs.declared.refusal.Refusal.{Refusal}
 use Rattle.result_print.specs.declared.refusal.Refusal.TheVariants.{Typing, Cell, Disk, Damaged, Memory}
 use Rattle.statement_replies.specs.declared.replies.Reply.{Reply as Told}
-use Rattle.statement_replies.specs.Kinds.{IsRowsReply}
-use Rattle.statement_replies.specs.Reply.{cell_reply, refused}
-use Rattle.statement_replies.specs.StatementKinds.{HasChangeKind, HasStatementKind, MayBreak}
-use Rattle.statement_replies.specs.Statements.{Accepted, accepted, without_change}
+use Rattle.statement_replies.specs.Kinds.{IsRowsReply, IsTextOrRefusal}
+use Rattle.statement_replies.specs.Reply.{cell_reply, refused, traced}
+use Rattle.statement_replies.specs.StatementKinds.{HasChangeKind, HasStatementKind, IsAccepted, MayBreak}
+use Rattle.statement_replies.specs.Statements.{Accepted, without_change}
 use Rattle.statement_replies.specs.declared.style.Style.{Style}
 use Rattle.store_state.specs.declared.event.Event.{Event}
 use Rattle.session_sources.specs.Start.{Start}
@@ -38,30 +39,33 @@ data Words (words : Told) : Type 0 where
   breaks : (breach : Breach) → words ≡ refused (Typing breach.span breach.kind) → Words words
   fails : (broken : Broken) → words ≡ cell_reply broken → Words words
 
-no_change : (words : Told) (names : Names) (change : Change) → without_change words ≡ accepted names change → Words words
-no_change words names change e = absurd (none-some change (ap (λ (answer : Accepted). answer.change) e))
+no_change : (style : Style) (words : Told) (names : Names) (change : Change) → IsAccepted style names change (without_change words) → Words words
+no_change style words names change is = absurd (none-some change is.1)
 
 said_words : (words other : Told) → without_change words ≡ without_change other → words ≡ other
 said_words words other e = ap (λ (answer : Accepted). answer.reply) e
 
-may_break : (words : Told) (names : Names) (change : Change) → MayBreak names change (without_change words) → Words words
-may_break words names change (inl e) = no_change words names change e
-may_break words names change (inr (broken, e)) = fails broken (said_words words (cell_reply broken) e)
+may_break : (style : Style) (words : Told) (names : Names) (change : Change) → MayBreak style names change (without_change words) → Words words
+may_break style words names change (inl is) = no_change style words names change is
+may_break style words names change (inr (broken, e)) = fails broken (said_words words (cell_reply broken) e)
 
-of_change : (words : Told) (names : Names) (change : Change) → HasChangeKind names change (without_change words) → Words words
-of_change words names (Create name schema) k = no_change words names (Create name schema) k
-of_change words names (Store name schema plan) k = may_break words names (Store name schema plan) k
-of_change words names (Insert name schema plan) k = may_break words names (Insert name schema plan) k
-of_change words names (Remove name) k = no_change words names (Remove name) k
-of_change words names (RemoveVersions name below) k = no_change words names (RemoveVersions name below) k
+of_change : (style : Style) (words : Told) (names : Names) (change : Change) → HasChangeKind style names change (without_change words) → Words words
+of_change style words names (Create name schema) k = no_change style words names (Create name schema) k
+of_change style words names (Store name schema plan) k = may_break style words names (Store name schema plan) k
+of_change style words names (Insert name schema plan) k = may_break style words names (Insert name schema plan) k
+of_change style words names (Remove name) k = no_change style words names (Remove name) k
+of_change style words names (RemoveVersions name below) k = no_change style words names (RemoveVersions name below) k
 
-of_rows : (style : Style) (words : Told) (schema : Schema) → IsRowsReply style schema words → Words words
-of_rows style words schema (inl (rows, e)) = tells (ap (λ (r : Told). r.refusal) e)
-of_rows style words schema (inr (broken, e)) = fails broken e
+of_text : (style : Style) (lines : List ℕ) (schema : Schema) (words : Told) → IsTextOrRefusal style lines schema words → Words words
+of_text style lines schema words (inl (rows, e)) = tells (ap (λ (r : Told). r.refusal) e)
+of_text style lines schema words (inr (broken, e)) = fails broken e
+
+of_rows : (style : Style) (words : Told) (plan : Query) → IsRowsReply style plan words → Words words
+of_rows style words plan (lines, are, kind) = of_text style (traced style lines) (schema_of plan) words kind
 
 of_kind : (style : Style) (words : Told) (names : Names) (checked : Checked Typed) → HasStatementKind style names checked (without_change words) → Words words
-of_kind style words names (Ok (AQuery plan)) k = of_rows style words (schema_of plan) k.0
-of_kind style words names (Ok (AChange change)) k = of_change words names change k
+of_kind style words names (Ok (AQuery plan)) k = of_rows style words plan k.0
+of_kind style words names (Ok (AChange change)) k = of_change style words names change k
 of_kind style words names (Ok (Versions name)) k = tells (ap (λ (answer : Accepted). answer.reply.refusal) k)
 of_kind style words names (Ok (Show name)) k = tells (ap (λ (answer : Accepted). answer.reply.refusal) k)
 of_kind style words names (Ok ListArrays) k = tells (ap (λ (answer : Accepted). answer.reply.refusal) k)

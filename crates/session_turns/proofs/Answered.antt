@@ -354,7 +354,7 @@ module _ {D : Type 0} (style : Style) (moment : D → Moment) (session : ℕ) (o
       made_answer =
           answered style moment began session pin (events s) (events n) text tree reply keeps.extends since_made until_made
           (making change) (tries change ∷ makes change ∷ []) (tried_acts (commit_event ∷ []) made.tried) refl
-          None (ap (λ (w : Told). w.refusal) tells.0 ∙ ap (λ (w : Told). w.refusal) read.comes.kind.2) tt
+          None (ap (λ (w : Told). w.refusal) tells.0 ∙ ap (λ (w : Told). w.refusal) read.comes.kind.2.2) tt
           (λ own noted. ((made.used, entered), says_made, room_made))
 
     -- it was not

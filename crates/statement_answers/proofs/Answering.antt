@@ -124,19 +124,6 @@ module _ (names : Names) (a b : Checked Typed) (same : a ≡ b) where
       → OnErr answer (ForRowsPut names old a (λ rows. AsksFront (all_asked rows old names a) old new))
   front_over old new answer front = subst (λ (c : Checked Typed). OnErr answer (ForRowsPut names old c (λ rows. AsksFront (all_asked rows old names c) old new))) (sym same) front
 
--- ---- what holds in each style
-
-pub in_style : (IsOutcome : Style → Outcome → Type 0) (style : Style) (answer : Result Outcome ExecFault) → IfOk answer (λ outcome. (s : Style) → IsOutcome s outcome)
-    → IfOk answer (IsOutcome style)
-in_style IsOutcome style (Ok outcome) each = each style
-in_style IsOutcome style (Err fault) each = tt
-
-pub told_in : (style : Style) (names : Names) (source : SourceState) (change : Change) (answer : Result Outcome ExecFault)
-    → IfOk answer (λ outcome. (s : Style) (db : Database) → IsToldBy names source db → IsOutcomeOf db (reply_to_typed s db (AChange change)) outcome)
-    → IfOk answer (λ outcome. (db : Database) → IsToldBy names source db → IsOutcomeOf db (reply_to_typed style db (AChange change)) outcome)
-told_in style names source change =
-    in_style (λ s outcome. (db : Database) → IsToldBy names source db → IsOutcomeOf db (reply_to_typed s db (AChange change)) outcome) style
-
 -- ---- the reply over each database of these names
 
 pub over_names : (style : Style) (names : Names) (source : SourceState) (text : List ℕ) (tree : Term) (answer : Result Outcome ExecFault)
@@ -148,7 +135,7 @@ over_names style names source text tree (Err fault) told = tt
 
 -- ---- queries
 
-pub query_kind : (style : Style) (names : Names) (plan : Query) (reply : Reply) → IsRowsReply style (schema_of plan) reply → HasOutcomeKind style names (Ok (AQuery plan)) (Replied reply)
+pub query_kind : (style : Style) (names : Names) (plan : Query) (reply : Reply) → IsRowsReply style plan reply → HasOutcomeKind style names (Ok (AQuery plan)) (Replied reply)
 query_kind style names plan reply kind = (kind, refl)
 
 pub query_told : (style : Style) (names : Names) (source : SourceState) (plan : Query) (reply : Reply) → ((rows : Rows) → source.tells rows → reply ≡ plan_reply style rows plan)

@@ -18,9 +18,10 @@ use Rattle.chunk_source.specs.Source.{SourceState, AsksFront}
 use Rattle.chunk_source.proofs.ReadLemmas.{asked_all, asked_none}
 use Rattle.changed_chunks.specs.Changing.{AsksOnly, IsToldOf, asked_for as asked_in, asked_of_all, asked_of_plan, asked_or_fault, asked_with, rows_put}
 use Rattle.statement_replies.specs.declared.replies.Reply.{Reply}
+use Rattle.statement_replies.specs.Traces.{newest_leaf}
 use Rattle.statement_answers.specs.declared.outcome.Outcome.TheVariants.{Replied}
 use Rattle.statement_answers.specs.Inner.Made.{IsPutUnder, asked_made}
-use Rattle.statement_answers.specs.Outcomes.{ForRowsPut, all_asked, all_of_change, asked_for, newest_leaf}
+use Rattle.statement_answers.specs.Outcomes.{ForRowsPut, all_asked, all_of_change, asked_for}
 use Rattle.statement_answers.proofs.Targets.{told_of}
 
 -- ---- for whichever rows
@@ -85,6 +86,12 @@ pub none_made : (names : Names) (source : SourceState) (change : Change) → ((r
     → ForRowsPut names source (Ok (AChange change)) (λ rows. source.asked ≡ source.asked ++ all_of_change rows source names change)
 none_made names source change none =
     for_each names source (Ok (AChange change)) _ (λ rows. sym (append-nil source.asked) ∙ ap (λ (all : List Asked). source.asked ++ all) (sym (none rows)))
+
+-- nothing is asked for behind it
+pub asked_still : (names : Names) (old mid new : SourceState) (change : Change) (made : Result (Option Changed) Broken) → new.asked ≡ mid.asked
+    → ForRowsPut names old (Ok (AChange change)) (λ rows. mid.asked ≡ old.asked ++ asked_made rows old names change made)
+    → ForRowsPut names old (Ok (AChange change)) (λ rows. new.asked ≡ old.asked ++ asked_made rows old names change made)
+asked_still names old mid new change made same = for_same names old (Ok (AChange change)) _ _ (λ rows asked. same ∙ asked)
 
 -- ---- what was asked for where its reply found no memory
 

@@ -15,7 +15,8 @@ use Rattle.afl_types.specs.declared.statements.checking.Typed.TheVariants.{Query
 use Rattle.chunk_source.specs.Source.{SourceState, asks, listed}
 use Rattle.chunk_exec.specs.Computed.{asked_for_plan, asked_in_boxes}
 use Rattle.changed_chunks.specs.Wanted.{target_wanted}
-use Rattle.statement_answers.specs.Outcomes.{all_asked, all_of_change, newest_leaf}
+use Rattle.statement_replies.specs.Traces.{newest_leaf}
+use Rattle.statement_answers.specs.Outcomes.{all_asked, all_of_change}
 
 module _ (rows : List Row) (a b : SourceState) (same : (leaf : Leaf) → listed a leaf ≡ listed b leaf) where
   boxes_decide : (number : ℕ) (all : List Leaf) (boxes : List Bounds) → asked_in_boxes a number all boxes ≡ asked_in_boxes b number all boxes

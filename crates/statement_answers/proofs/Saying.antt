@@ -22,7 +22,7 @@ use Rattle.afl_types.specs.declared.statements.checking.Typed.TheVariants.{Query
 use Rattle.result_print.specs.declared.refusal.Refusal.{Refusal}
 use Rattle.result_print.specs.declared.refusal.Refusal.TheVariants.{Cell, Typing}
 use Rattle.statement_replies.specs.Reply.{refused}
-use Rattle.statement_replies.specs.StatementKinds.{HasChangeKind, HasStatementKind, MayBreak}
+use Rattle.statement_replies.specs.StatementKinds.{HasChangeKind, HasStatementKind, IsAccepted, MayBreak}
 use Rattle.statement_replies.specs.Statements.{Accepted, without_change}
 use Rattle.statement_replies.specs.declared.replies.Reply.{Reply}
 use Rattle.statement_replies.specs.declared.style.Style.{Style}
@@ -65,23 +65,23 @@ abbrev IsRefusal : Reply → Type 0
 IsRefusal reply = (refusal : Refusal) × (reply ≡ refused refusal)
 
 -- an answer without a change is none that accepts one
-none_accepted : (change : Change) (reply : Reply) (answer : Accepted) → without_change reply ≡ answer → answer.change ≡ Some change → IsRefusal reply
-none_accepted change reply answer same some = absurd (let no : None ≡ Some change = ap (λ (a : Accepted). a.change) same ∙ some in cc)
+none_accepted : (style : Style) (names : Names) (change : Change) (reply : Reply) → IsAccepted style names change (without_change reply) → IsRefusal reply
+none_accepted style names change reply is = absurd (let no : None ≡ Some change = is.1 in cc)
 
-may_refuse : (names : Names) (change : Change) (reply : Reply) → MayBreak names change (without_change reply) → IsRefusal reply
-may_refuse names change reply (inl same) = none_accepted change reply _ same refl
-may_refuse names change reply (inr fault) = (Cell fault.0.at fault.0.kind, ap (λ (a : Accepted). a.reply) fault.1)
+may_refuse : (style : Style) (names : Names) (change : Change) (reply : Reply) → MayBreak style names change (without_change reply) → IsRefusal reply
+may_refuse style names change reply (inl is) = none_accepted style names change reply is
+may_refuse style names change reply (inr fault) = (Cell fault.0.at fault.0.kind, ap (λ (a : Accepted). a.reply) fault.1)
 
-change_refused : (names : Names) (change : Change) (reply : Reply) → HasChangeKind names change (without_change reply) → IsRefusal reply
-change_refused names (Create name schema) reply same = none_accepted (Create name schema) reply _ same refl
-change_refused names (Store name schema plan) reply kind = may_refuse names (Store name schema plan) reply kind
-change_refused names (Insert name schema plan) reply kind = may_refuse names (Insert name schema plan) reply kind
-change_refused names (Remove name) reply same = none_accepted (Remove name) reply _ same refl
-change_refused names (RemoveVersions name below) reply same = none_accepted (RemoveVersions name below) reply _ same refl
+change_refused : (style : Style) (names : Names) (change : Change) (reply : Reply) → HasChangeKind style names change (without_change reply) → IsRefusal reply
+change_refused style names (Create name schema) reply is = none_accepted style names (Create name schema) reply is
+change_refused style names (Store name schema plan) reply kind = may_refuse style names (Store name schema plan) reply kind
+change_refused style names (Insert name schema plan) reply kind = may_refuse style names (Insert name schema plan) reply kind
+change_refused style names (Remove name) reply is = none_accepted style names (Remove name) reply is
+change_refused style names (RemoveVersions name below) reply is = none_accepted style names (RemoveVersions name below) reply is
 
 reply_refused : (style : Style) (names : Names) (reply : Reply) (checked : Checked Typed) → IfOk checked (Has a_change) → HasStatementKind style names checked (without_change reply) → IsRefusal reply
 reply_refused style names reply (Ok (AQuery plan)) form kind = absurd (let no : a_query ≡ a_change = form in cc)
-reply_refused style names reply (Ok (AChange change)) form kind = change_refused names change reply kind
+reply_refused style names reply (Ok (AChange change)) form kind = change_refused style names change reply kind
 reply_refused style names reply (Ok (Versions name)) form kind = absurd (let no : a_listing ≡ a_change = form in cc)
 reply_refused style names reply (Ok (Show name)) form kind = absurd (let no : a_listing ≡ a_change = form in cc)
 reply_refused style names reply (Ok ListArrays) form kind = absurd (let no : a_listing ≡ a_change = form in cc)

@@ -21,11 +21,13 @@ use Rattle.check_queries.proofs.Small.{entry_valid}
 use Rattle.check_laws.proofs.Agreeing.{any_is_found, is_some}
 use Rattle.check_laws.proofs.StoredNames.{schemas_valid}
 use Rattle.chunk_exec.specs.Computed.{CanCompute}
-use Rattle.chunk_source.specs.Source.{SourceState, Reads}
+use Rattle.chunk_source.specs.Source.{Keeps, SourceState, Reads}
 use Rattle.changed_chunks.specs.Changing.{CanChange, IsTargetIn, IsToldOf}
 use Rattle.statement_replies.specs.Reading.{HoldsVersions}
+use Rattle.statement_replies.specs.Traces.{CanTrace, newest_leaf}
+use Rattle.statement_replies.proofs.TracedReplies.{can_still}
 use Rattle.statement_answers.specs.Inner.Made.{IsPutUnder}
-use Rattle.statement_answers.specs.Outcomes.{IsToldBy, newest_leaf}
+use Rattle.statement_answers.specs.Outcomes.{IsToldBy}
 
 -- ---- the last of some versions is one of them
 
@@ -59,6 +61,14 @@ module _ (names : Names) (source : SourceState) (holds : HoldsVersions names sou
   -- a plan that is typed over the names
   pub computed : (plan : Query) → IsTypedOver names plan → CanCompute source plan
   computed plan over = record { typed = over.typed; reads = all_read (leaves plan) over.reads }
+
+  -- its plan can be computed over what the source is later
+  pub can_trace : (later : SourceState) (change : Change) → Keeps source later → IsTypedFor names change → CanTrace later change
+  can_trace later (Create name schema) kept typed = tt
+  can_trace later (Store name schema plan) kept typed = can_still source later plan kept (computed plan typed.1.0)
+  can_trace later (Insert name schema plan) kept typed = can_still source later plan kept (computed plan typed.1.0)
+  can_trace later (Remove name) kept typed = tt
+  can_trace later (RemoveVersions name below) kept typed = tt
 
   module _ (stored : AreStored names) (name : List ℕ) (schema : Schema) (plan : Query) where
     -- into an array that stands

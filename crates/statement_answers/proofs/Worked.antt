@@ -1,6 +1,6 @@
 -- Statements over stored arrays: their forms, a change that is one over some names and breaks a rule over others, and an outcome in a
 -- database that a source tells.
-use Rattle.std.proofs.Common.{◌≡◌, ℕ, pos, true, None, Ok, List, [], ◌∷◌, refl, arith}
+use Rattle.std.proofs.Common.{◌≡◌, ℕ, pos, Bool, true, false, None, Some, Ok, List, [], ◌∷◌, refl, ap, sym, arith}
 use Rattle.std.specs.Prelude.{codes}
 use Rattle.cell_values.specs.declared.name.Span.{Span}
 use Rattle.cell_values.specs.declared.datum.Cell.TheVariants.{Full}
@@ -23,9 +23,9 @@ use Rattle.afl_types.specs.Checking.{check_of}
 use Rattle.afl_types.specs.declared.statements.checking.Typed.TheVariants.{Change as AChange, Versions}
 use Rattle.chunk_source.specs.Source.{SourceState, asks}
 use Rattle.result_print.specs.declared.refusal.Refusal.TheVariants.{Typing}
-use Rattle.statement_replies.specs.Reply.{refused}
+use Rattle.statement_replies.specs.Reply.{refused, traced}
 use Rattle.statement_replies.specs.declared.replies.Reply.{Reply}
-use Rattle.statement_replies.specs.Statements.{reply_to, text_alone}
+use Rattle.statement_replies.specs.Statements.{change_reply, reply_to, text_alone}
 use Rattle.statement_replies.specs.declared.style.Style.{Style}
 use Rattle.statement_answers.specs.declared.outcome.Outcome.{Outcome}
 use Rattle.statement_answers.specs.declared.outcome.Outcome.TheVariants.{Replied, Changes}
@@ -146,10 +146,18 @@ removal = call (record { start = 0; end = 9 }) (codes "remove") (and_term (refer
 abbrev outcome : Outcome
 outcome = Changes (Remove (codes "A")) None (text_alone (codes "ok\n"))
 
+-- no lines stand behind it, whether they are wanted or not
+no_lines : (wanted : Bool) → traced (record { csv = false; trace = wanted }) [] ≡ []
+no_lines true = refl
+no_lines false = refl
+
+told_alone : (style : Style) → text_alone (codes "ok\n") ≡ change_reply (names_of db) (traced style []) (Remove (codes "A"))
+told_alone style = ap (λ (lines : List ℕ). change_reply (names_of db) lines (Remove (codes "A"))) (sym (no_lines style.trace))
+
 kind : (style : Style) → HasOutcomeKind style (names_of db) (check_of removal [] (names_of db)) outcome
 unfolding query_named change_named
-kind style = (refl, record { named = refl; typed = (refl, tt); comes = refl; valid = tt }, refl)
+kind style = (refl, record { named = refl; typed = (refl, tt); comes = refl; valid = tt }, ([], ([], refl, refl), told_alone style))
 
 is_outcome : (style : Style) → IsOutcomeOf db (reply_to style db [] removal) outcome
 unfolding query_named change_named
-is_outcome style = (refl, record { stores = tt; whole = refl; chunks = tt })
+is_outcome style = (ap (λ (reply : Reply). record { reply = reply; change = Some (Remove (codes "A")) }) (sym (told_alone style)), record { stores = tt; whole = refl; chunks = tt })

@@ -1,13 +1,10 @@
 -- What comes of a statement over the arrays of a source: a reply, or a change that may be committed.
 use Rattle.std.specs.Prelude.{◌≡◌, ℕ, List, [], Option, None, Some, Ok, Err, IfSome}
 use Rattle.cell_values.specs.declared.datum.Row.{Row}
-use Rattle.cell_values.specs.declared.schema.Schema.{Schema}
 use Rattle.array_geom.specs.declared.chunk.Changed.{Changed}
 use Rattle.logical_plan.specs.declared.names.Names.{Names}
-use Rattle.logical_plan.specs.declared.parts.Leaf.{Leaf}
 use Rattle.plan_changes.specs.declared.change.Change.{Change}
 use Rattle.plan_changes.specs.declared.change.Change.TheVariants.{Create, Store, Insert, Remove, RemoveVersions}
-use Rattle.plan_changes.specs.Changes.{newest_of}
 use Rattle.plan_changes.specs.Databases.{Database, fault_of_change, names_of, rows_of}
 use Rattle.plan_changes.specs.Kept.{StoresArray}
 use Rattle.plan_changes.specs.Stored.{HasItsNames, IsDatabase}
@@ -22,8 +19,9 @@ use Rattle.chunk_source.specs.Source.{SourceState}
 use Rattle.chunk_exec.specs.Computed.{asked_for_plan}
 use Rattle.commit_pages.specs.Changes.{AreValid, ComesWith, IsChangeOf}
 use Rattle.changed_chunks.specs.Changing.{asked_of_plan, asked_with, rows_put}
-use Rattle.statement_replies.specs.StatementKinds.{HasStatementKind}
-use Rattle.statement_replies.specs.Statements.{Accepted, change_reply, without_change}
+use Rattle.statement_replies.specs.StatementKinds.{HasStatementKind, IsChangeReply}
+use Rattle.statement_replies.specs.Statements.{Accepted, without_change}
+use Rattle.statement_replies.specs.Traces.{newest_leaf}
 use Rattle.statement_replies.specs.declared.style.Style.{Style}
 use Rattle.statement_answers.specs.declared.outcome.Outcome.{Outcome}
 use Rattle.statement_answers.specs.declared.outcome.Outcome.TheVariants.{Replied, Changes}
@@ -41,7 +39,7 @@ pub record MayBeCommitted (names : Names) (change : Change) (changed : Option Ch
 abbrev pub HasOutcomeKind : Style → Names → Checked Typed → Outcome → Type 0
 HasOutcomeKind style names checked (Replied reply) = HasStatementKind style names checked (without_change reply)
 HasOutcomeKind style names checked (Changes change changed reply) =
-    (checked ≡ Ok (AChange change)) × MayBeCommitted names change changed × (reply ≡ change_reply names change)
+    (checked ≡ Ok (AChange change)) × MayBeCommitted names change changed × IsChangeReply style names change reply
 
 -- a statement breaks no rule
 abbrev pub IsAllowed : Checked Typed → Type 0
@@ -73,10 +71,6 @@ IsOutcomeOf db answer (Replied reply) = answer ≡ without_change reply
 IsOutcomeOf db answer (Changes change changed reply) = (answer ≡ record { reply = reply; change = Some change }) × IsMadeOf db change changed
 
 -- ---- what is asked for
-
--- the newest version of an array by these names, version 0 where there is none
-abbrev pub newest_leaf : Names → List ℕ → Schema → Leaf
-newest_leaf names name schema = record { name = name; version = newest_of names.arrays name; schema = schema }
 
 -- the rows that a statement puts in, in a database, where it is a change
 abbrev pub rows_put_by : Database → Checked Typed → List Row

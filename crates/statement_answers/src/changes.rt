@@ -5,24 +5,26 @@ ghost use Rattle.chunk_source.specs.Source.{AsksFront, Keeps};
 ghost use Rattle.plan_changes.specs.Databases.{Database};
 ghost use Rattle.plan_changes.specs.Stored.{AreStored};
 ghost use Rattle.plan_changes.specs.Typed.{IsTypedFor};
+ghost use Rattle.changed_chunks.specs.Targets.{IsTargetAsking};
 ghost use Rattle.afl_types.specs.declared.statements.checking.Typed.TheVariants.{Change as AChange};
 ghost use Rattle.statement_replies.specs.Reading.{HoldsVersions};
-ghost use Rattle.statement_replies.specs.Reply.{cell_reply};
+ghost use Rattle.statement_replies.specs.Reply.{cell_reply, traced};
+ghost use Rattle.statement_replies.specs.StatementKinds.{IsChangeReply};
 ghost use Rattle.statement_replies.specs.Statements.{change_reply, reply_to_typed};
-ghost use Rattle.statement_replies.specs.declared.style.Style.{Style};
+ghost use Rattle.statement_replies.specs.Traces.{CanTrace, IsTracedIn, change_lines, newest_leaf};
 ghost use Rattle.statement_answers.specs.Inner.Made.{HasChunks, IsMadeIn, IsPutUnder, asked_made, outcome_with};
-ghost use Rattle.statement_answers.specs.Outcomes.{ForRowsPut, HasOutcomeKind, IsOutcomeOf, IsToldBy, all_of_change, asked_by_change, newest_leaf};
+ghost use Rattle.statement_answers.specs.Outcomes.{ForRowsPut, HasOutcomeKind, IsOutcomeOf, IsToldBy, all_of_change, asked_by_change};
 
 use crate::outcome::{Offer, Outcome, outcome_with};
 use afl_outside::Gate;
 use array_geom::Changed;
 use cell_values::{Broken, Memory, Name, Schema};
-use changed_chunks::changed;
+use changed_chunks::{Asking, changed};
 use chunk_source::{ChunkSource, ExecFault};
 use logical_plan::{Leaf, Names};
 use plan_changes::{Change, has_its_names, let_go_change, newest_of};
 use result_print::Refusal;
-use statement_replies::{Reply, accepted_line, refuse};
+use statement_replies::{Reply, Style, accepted_reply, change_lines, refuse};
 use std::alloc::Global;
 use std::thread::Threads;
 
@@ -37,7 +39,8 @@ fn newest_leaf(names: &Names, name: &Name, schema: &Schema) -> Result<Leaf, Memo
     })
 }
 
-/// The chunks of a change that puts a version under this name, with this schema, or its fault.
+/// The chunks of a change that puts a version under this name, with this schema, or its fault. How many chunks of an insert's target are
+/// asked for, and of how many, is put into `asking`.
 fn chunks_put<S: ChunkSource, R: Threads + Sync, G: Gate>(
     rt: &R,
     alloc: Global,
@@ -46,6 +49,7 @@ fn chunks_put<S: ChunkSource, R: Threads + Sync, G: Gate>(
     schema: &Schema,
     names: &Names,
     source: &mut S,
+    asking: &mut Asking,
     workers: u32,
     session: u32,
     gate: &G,
@@ -58,6 +62,8 @@ fn chunks_put<S: ChunkSource, R: Threads + Sync, G: Gate>(
     requires workers { (1 ≤ workers) × (workers ≤ 64) }
     ensures kind { IfOk result (HasChunks change.now) }
     ensures told { IfOk result (λ made. (db : Database) → IsToldBy names.now (S.state source.old) db → IsMadeIn db change.now made) }
+    ensures counted { IfOk result (λ made. IfOk made (λ changed. (db : Database) → IsToldBy names.now (S.state source.old) db
+        → IsTargetAsking db change.now asking.new)) }
     ensures asked { let old = S.state source.old in
         IfOk result (λ made. ForRowsPut names.now old (Good (AChange change.now)) (λ rows.
         (S.state source.new).asked ≡ old.asked ++ asked_made rows old names.now change.now made)) }
@@ -69,19 +75,23 @@ fn chunks_put<S: ChunkSource, R: Threads + Sync, G: Gate>(
     ensures start { S.start source.new ≡ S.start source.old }
 {
     let target = newest_leaf(names, name, schema)?;
-    match changed(rt, alloc, change, &target, source, workers, session, gate)? {
+    match changed(
+        rt, alloc, change, &target, source, asking, workers, session, gate,
+    )? {
         Ok(changed) => Ok(Ok(Some(changed))),
         Err(broken) => Ok(Err(broken)),
     }
 }
 
-/// The chunks that come with a change, or its fault.
+/// The chunks that come with a change, or its fault. How many chunks of an insert's target are asked for, and of how many, is put into
+/// `asking`.
 fn chunks_of<S: ChunkSource, R: Threads + Sync, G: Gate>(
     rt: &R,
     alloc: Global,
     change: &Change,
     names: &Names,
     source: &mut S,
+    asking: &mut Asking,
     workers: u32,
     session: u32,
     gate: &G,
@@ -93,6 +103,8 @@ fn chunks_of<S: ChunkSource, R: Threads + Sync, G: Gate>(
     requires workers { (1 ≤ workers) × (workers ≤ 64) }
     ensures kind { IfOk result (HasChunks change.now) }
     ensures told { IfOk result (λ made. (db : Database) → IsToldBy names.now (S.state source.old) db → IsMadeIn db change.now made) }
+    ensures counted { IfOk result (λ made. IfOk made (λ changed. (db : Database) → IsToldBy names.now (S.state source.old) db
+        → IsTargetAsking db change.now asking.new)) }
     ensures asked { let old = S.state source.old in
         IfOk result (λ made. ForRowsPut names.now old (Good (AChange change.now)) (λ rows.
         (S.state source.new).asked ≡ old.asked ++ asked_made rows old names.now change.now made)) }
@@ -105,10 +117,10 @@ fn chunks_of<S: ChunkSource, R: Threads + Sync, G: Gate>(
 {
     match change {
         Change::Store { name, schema, .. } => chunks_put(
-            rt, alloc, change, name, schema, names, source, workers, session, gate,
+            rt, alloc, change, name, schema, names, source, asking, workers, session, gate,
         ),
         Change::Insert { name, schema, .. } => chunks_put(
-            rt, alloc, change, name, schema, names, source, workers, session, gate,
+            rt, alloc, change, name, schema, names, source, asking, workers, session, gate,
         ),
         Change::Create { .. } => Ok(Ok(None)),
         Change::Remove { .. } => Ok(Ok(None)),
@@ -116,18 +128,55 @@ fn chunks_of<S: ChunkSource, R: Threads + Sync, G: Gate>(
     }
 }
 
-/// A change with these chunks is offered.
-fn offered(
+/// The reply to a change that is accepted, where so many chunks of an insert's target are asked for.
+fn reply_of_change<S: ChunkSource>(
     alloc: Global,
+    style: Style,
     change: &Change,
     names: &Names,
-    changed: Option<Changed>,
-) -> Result<Offer, Memory>
-    ensures chunks { IfOk result (λ offer. offer.changed ≡ changed) }
-    ensures reply { IfOk result (λ offer. offer.reply ≡ change_reply names.now change.now) }
+    source: &mut S,
+    target: Asking,
+) -> Result<Reply, ExecFault>
+    requires { CanTrace (S.state source.old) change.now }
+    ensures kind { IfOk result (IsChangeReply style names.now change.now) }
+    ensures told { IfOk result (λ reply. (db : Database) → IsTracedIn names.now (S.state source.old) change.now target db
+        → reply ≡ change_reply names.now (traced style (change_lines db change.now)) change.now) }
+    ensures asked { (S.state source.new).asked ≡ (S.state source.old).asked }
+    ensures kept { Keeps (S.state source.old) (S.state source.new) }
+    ensures cause { Answers (S.state source.old) (S.state source.new) result }
+    ensures start { S.start source.new ≡ S.start source.old }
 {
-    let reply = accepted_line(alloc, change, names)?;
-    Ok(Offer { changed, reply })
+    let lines = change_lines(alloc, style, change, names, source, target)?;
+    Ok(accepted_reply(alloc, change, names, &lines)?)
+}
+
+/// A change with these chunks is offered, where so many chunks of an insert's target are asked for.
+fn offered<S: ChunkSource>(
+    alloc: Global,
+    style: Style,
+    change: &Change,
+    names: &Names,
+    source: &mut S,
+    target: Asking,
+    changed: Option<Changed>,
+) -> Result<Offer, ExecFault>
+    requires { CanTrace (S.state source.old) change.now }
+    ensures chunks { IfOk result (λ offer. offer.changed ≡ changed) }
+    ensures kind { IfOk result (λ offer. IsChangeReply style names.now change.now offer.reply) }
+    ensures told { IfOk result (λ offer. (db : Database) → IsTracedIn names.now (S.state source.old) change.now target db
+        → offer.reply ≡ change_reply names.now (traced style (change_lines db change.now)) change.now) }
+    ensures asked { (S.state source.new).asked ≡ (S.state source.old).asked }
+    ensures kept { Keeps (S.state source.old) (S.state source.new) }
+    ensures cause { Answers (S.state source.old) (S.state source.new) result }
+    ensures start { S.start source.new ≡ S.start source.old }
+{
+    match reply_of_change(alloc, style, change, names, source, target) {
+        Ok(reply) => Ok(Offer { changed, reply }),
+        Err(fault) => {
+            drop(changed);
+            Err(fault)
+        }
+    }
 }
 
 /// The refusal that tells of a cell.
@@ -138,13 +187,14 @@ fn faulty(alloc: Global, broken: Broken) -> Result<Reply, Memory>
     refuse(alloc, Refusal::Cell { at, kind })
 }
 
-/// What a change is answered, in each style: it is offered for a commit, or refused.
+/// What a change is answered in a style: it is offered for a commit, or refused.
 fn offer_of<S: ChunkSource, R: Threads + Sync, G: Gate>(
     rt: &R,
     alloc: Global,
     change: &Change,
     names: &Names,
     source: &mut S,
+    style: Style,
     workers: u32,
     session: u32,
     gate: &G,
@@ -154,8 +204,8 @@ fn offer_of<S: ChunkSource, R: Threads + Sync, G: Gate>(
     requires typed { IsTypedFor names.now change.now }
     requires holds { HoldsVersions names.now (S.state source.old) }
     requires workers { (1 ≤ workers) × (workers ≤ 64) }
-    ensures kind { IfOk result (λ offer. (style : Style) → HasOutcomeKind style names.now (Good (AChange change.now)) (outcome_with change.now offer)) }
-    ensures told { IfOk result (λ offer. (style : Style) (db : Database) → IsToldBy names.now (S.state source.old) db
+    ensures kind { IfOk result (λ offer. HasOutcomeKind style names.now (Good (AChange change.now)) (outcome_with change.now offer)) }
+    ensures told { IfOk result (λ offer. (db : Database) → IsToldBy names.now (S.state source.old) db
         → IsOutcomeOf db (reply_to_typed style db (AChange change.now)) (outcome_with change.now offer)) }
     ensures asked { let old = S.state source.old in
         IfOk result (λ offer. ForRowsPut names.now old (Good (AChange change.now)) (λ rows.
@@ -168,19 +218,34 @@ fn offer_of<S: ChunkSource, R: Threads + Sync, G: Gate>(
     ensures start { S.start source.new ≡ S.start source.old }
 {
     has_its_names(change);
-    match chunks_of(rt, alloc, change, names, source, workers, session, gate)? {
-        Ok(changed) => Ok(Ok(offered(alloc, change, names, changed)?)),
+    let mut target = Asking {
+        asked: 0,
+        stored: 0,
+    };
+    match chunks_of(
+        rt,
+        alloc,
+        change,
+        names,
+        source,
+        &mut target,
+        workers,
+        session,
+        gate,
+    )? {
+        Ok(changed) => Ok(Ok(offered(alloc, style, change, names, source, target, changed)?)),
         Err(broken) => Ok(Err(faulty(alloc, broken)?)),
     }
 }
 
-/// What comes of a change, in each style.
+/// What comes of a change, in a style.
 pub(crate) fn outcome_of_change<S: ChunkSource, R: Threads + Sync, G: Gate>(
     rt: &R,
     alloc: Global,
     change: Change,
     names: &Names,
     source: &mut S,
+    style: Style,
     workers: u32,
     session: u32,
     gate: &G,
@@ -190,8 +255,8 @@ pub(crate) fn outcome_of_change<S: ChunkSource, R: Threads + Sync, G: Gate>(
     requires typed { IsTypedFor names.now change }
     requires holds { HoldsVersions names.now (S.state source.old) }
     requires workers { (1 ≤ workers) × (workers ≤ 64) }
-    ensures kind { IfOk result (λ outcome. (style : Style) → HasOutcomeKind style names.now (Good (AChange change)) outcome) }
-    ensures told { IfOk result (λ outcome. (style : Style) (db : Database) → IsToldBy names.now (S.state source.old) db
+    ensures kind { IfOk result (HasOutcomeKind style names.now (Good (AChange change))) }
+    ensures told { IfOk result (λ outcome. (db : Database) → IsToldBy names.now (S.state source.old) db
         → IsOutcomeOf db (reply_to_typed style db (AChange change)) outcome) }
     ensures asked { let old = S.state source.old in
         IfOk result (λ outcome. ForRowsPut names.now old (Good (AChange change)) (λ rows.
@@ -203,7 +268,9 @@ pub(crate) fn outcome_of_change<S: ChunkSource, R: Threads + Sync, G: Gate>(
     ensures cause { Answers (S.state source.old) (S.state source.new) result }
     ensures start { S.start source.new ≡ S.start source.old }
 {
-    match offer_of(rt, alloc, &change, names, source, workers, session, gate) {
+    match offer_of(
+        rt, alloc, &change, names, source, style, workers, session, gate,
+    ) {
         Ok(offer) => Ok(outcome_with(change, offer)),
         Err(fault) => {
             let_go_change(change);

@@ -77,7 +77,8 @@ fn outcome_of_typed<S: ChunkSource, R: Threads + Sync, G: Gate>(
     requires holds { HoldsVersions names.now (S.state source.old) }
     requires workers { (1 ≤ workers) × (workers ≤ 64) }
     ensures kind { IfOk result (HasOutcomeKind style names.now (Good typed)) }
-    ensures told { IfOk result (λ outcome. (db : Database) → IsToldBy names.now (S.state source.old) db → IsOutcomeOf db (reply_to_typed style db typed) outcome) }
+    ensures told { IfOk result (λ outcome. (db : Database) → IsToldBy names.now (S.state source.old) db
+        → IsOutcomeOf db (reply_to_typed style db typed) outcome) }
     ensures asked { let old = S.state source.old in
         IfOk result (λ outcome. ForRowsPut names.now old (Good typed) (λ rows.
         (S.state source.new).asked ≡ old.asked ++ asked_for rows old names.now (Good typed) outcome)) }
@@ -96,9 +97,9 @@ fn outcome_of_typed<S: ChunkSource, R: Threads + Sync, G: Gate>(
             let_go(plan);
             outcome
         }
-        Typed::Change(change) => {
-            outcome_of_change(rt, alloc, change, names, source, workers, session, gate)
-        }
+        Typed::Change(change) => outcome_of_change(
+            rt, alloc, change, names, source, style, workers, session, gate,
+        ),
         Typed::Versions(name) => Ok(Outcome::Replied(versions_reply(alloc, &name, names)?)),
         Typed::Show(name) => Ok(Outcome::Replied(show_reply(alloc, &name, names)?)),
         Typed::ListArrays => Ok(Outcome::Replied(list_reply(alloc, names)?)),

@@ -9,7 +9,6 @@ use Rattle.logical_plan.specs.declared.names.Names.{Names}
 use Rattle.logical_plan.specs.declared.parts.Leaf.{Leaf}
 use Rattle.logical_plan.specs.Leaves.{leaves}
 use Rattle.logical_plan.specs.Meaning.{Database}
-use Rattle.logical_plan.specs.PlanSchema.{schema_of}
 use Rattle.logical_plan.specs.Query.{Query}
 use Rattle.plan_changes.specs.Typed.{IsVersionOf}
 use Rattle.check_exprs.specs.Laws.{leaves_fit}
@@ -43,13 +42,13 @@ module _ (names : Names) (source : SourceState) (holds : HoldsVersions names sou
 
 -- where checking answers a plan, and where it answers the first rule that is broken
 module _ (style : Style) (names : Names) (tells : Database → Type 0) (tree : Term) where
-  pub of_plan : (plan : Query) (reply : Reply) → query_of names.arrays tree ≡ Ok plan → IsRowsReply style (schema_of plan) reply → ((db : Database) → tells db → reply ≡ plan_reply style db plan) → IsQueryReply style names tells tree reply
+  pub of_plan : (plan : Query) (reply : Reply) → query_of names.arrays tree ≡ Ok plan → IsRowsReply style plan reply → ((db : Database) → tells db → reply ≡ plan_reply style db plan) → IsQueryReply style names tells tree reply
   of_plan plan reply is kind told = record {
     kind = subst (λ (c : Checked Query). HasKind style c reply) (sym is) kind;
     told = λ db t. told db t ∙ ap (checked_reply style db) (sym is);
   }
 
-  pub plan_answer : {E : Type 0} (answer : Result Reply E) (plan : Query) → query_of names.arrays tree ≡ Ok plan → IfOk answer (IsRowsReply style (schema_of plan)) → IfOk answer (λ reply. (db : Database) → tells db → reply ≡ plan_reply style db plan)
+  pub plan_answer : {E : Type 0} (answer : Result Reply E) (plan : Query) → query_of names.arrays tree ≡ Ok plan → IfOk answer (IsRowsReply style plan) → IfOk answer (λ reply. (db : Database) → tells db → reply ≡ plan_reply style db plan)
       → IfOk answer (IsQueryReply style names tells tree)
   plan_answer (Ok reply) plan is kind told = of_plan plan reply is kind told
   plan_answer (Err fault) plan is kind told = tt

@@ -4,7 +4,6 @@ use Rattle.cell_values.specs.declared.datum.Broken.{Broken}
 use Rattle.cell_values.specs.declared.name.Span.{Span}
 use Rattle.schema_grammar.specs.declared.kinds.TypeKind.{TypeKind}
 use Rattle.afl_trees.specs.Term.{Term}
-use Rattle.logical_plan.specs.PlanSchema.{schema_of}
 use Rattle.logical_plan.specs.Query.{Query}
 use Rattle.logical_plan.specs.declared.names.Names.{Names}
 use Rattle.plan_changes.specs.Databases.{Database, fault_of_change, names_of, rows_of}
@@ -19,29 +18,36 @@ use Rattle.check_laws.specs.Typed.{Typed}
 use Rattle.check_laws.specs.Typed.TheVariants.{Query as AQuery, Change as AChange, Versions, Show, ListArrays}
 use Rattle.result_print.specs.declared.refusal.Refusal.TheVariants.{Typing}
 use Rattle.statement_replies.specs.Kinds.{IsRowsReply}
-use Rattle.statement_replies.specs.Reply.{cell_reply, checked_reply, plan_reply, refused}
-use Rattle.statement_replies.specs.StatementKinds.{HasChangeKind, HasStatementKind, HasTypedKind, IsStatementReply, MayBreak, QueriesHaveTheirReplies, RepliesHaveStatementKinds}
+use Rattle.statement_replies.specs.Reply.{checked_reply, plan_reply, refused, traced}
+use Rattle.statement_replies.specs.StatementKinds.{HasChangeKind, HasStatementKind, HasTypedKind, IsAccepted, IsStatementReply, MayBreak, QueriesHaveTheirReplies, RepliesHaveStatementKinds}
 use Rattle.statement_replies.specs.Statements.{Accepted, accepted, changed_or_broken, list_reply, reply_to_checked, reply_to_typed, show_reply, versions_reply, without_change}
 use Rattle.statement_replies.specs.declared.replies.Reply.{Reply}
+use Rattle.statement_replies.specs.Traces.{change_lines}
 use Rattle.statement_replies.specs.declared.style.Style.{Style}
+use Rattle.statement_replies.proofs.Lines.{change_lines_are}
 use Rattle.statement_replies.proofs.PlanReplies.{checked_kind}
 
 -- ---- kinds
 
-may_break : (names : Names) (change : Change) (o : Option Broken) → MayBreak names change (changed_or_broken names change o)
-may_break names change (Some broken) = inr (broken, refl)
-may_break names change None = inl refl
+accepted_kind : (style : Style) (db : Database) (change : Change) → IsAccepted style (names_of db) change (accepted (names_of db) (traced style (change_lines db change)) change)
+accepted_kind style db change = ((change_lines db change, change_lines_are db change, refl), refl)
 
-change_kind : (db : Database) (change : Change) → HasChangeKind (names_of db) change (changed_or_broken (names_of db) change (fault_of_change db change))
-change_kind db (Create name schema) = refl
-change_kind db (Store name schema plan) = may_break (names_of db) (Store name schema plan) (fault_of_change db (Store name schema plan))
-change_kind db (Insert name schema plan) = may_break (names_of db) (Insert name schema plan) (fault_of_change db (Insert name schema plan))
-change_kind db (Remove name) = refl
-change_kind db (RemoveVersions name below) = refl
+may_break : (style : Style) (db : Database) (change : Change) (o : Option Broken)
+    → MayBreak style (names_of db) change (changed_or_broken (names_of db) (traced style (change_lines db change)) change o)
+may_break style db change (Some broken) = inr (broken, refl)
+may_break style db change None = inl (accepted_kind style db change)
+
+change_kind : (style : Style) (db : Database) (change : Change)
+    → HasChangeKind style (names_of db) change (changed_or_broken (names_of db) (traced style (change_lines db change)) change (fault_of_change db change))
+change_kind style db (Create name schema) = accepted_kind style db (Create name schema)
+change_kind style db (Store name schema plan) = may_break style db (Store name schema plan) (fault_of_change db (Store name schema plan))
+change_kind style db (Insert name schema plan) = may_break style db (Insert name schema plan) (fault_of_change db (Insert name schema plan))
+change_kind style db (Remove name) = accepted_kind style db (Remove name)
+change_kind style db (RemoveVersions name below) = accepted_kind style db (RemoveVersions name below)
 
 typed_kind : (style : Style) (db : Database) (typed : Typed) → HasTypedKind style (names_of db) typed (reply_to_typed style db typed)
 typed_kind style db (AQuery plan) = (checked_kind style (rows_of db) (Ok plan), refl)
-typed_kind style db (AChange change) = change_kind db change
+typed_kind style db (AChange change) = change_kind style db change
 typed_kind style db (Versions name) = refl
 typed_kind style db (Show name) = refl
 typed_kind style db ListArrays = refl
@@ -78,7 +84,7 @@ module _ (style : Style) (names : Names) (stands : Database → Type 0) (named :
   pub of_breach : (span : Span) (kind : TypeKind) (reply : Reply) → check_of tree text names ≡ broken_rule span kind → reply ≡ refused (Typing span kind) → IsReply (without_change reply)
   of_breach span kind reply is e = by_check (broken_rule span kind) (without_change reply) is (ap without_change e) (λ db there. ap without_change e)
 
-  pub of_query : (plan : Query) (reply : Reply) → check_of tree text names ≡ Ok (AQuery plan) → IsRowsReply style (schema_of plan) reply
+  pub of_query : (plan : Query) (reply : Reply) → check_of tree text names ≡ Ok (AQuery plan) → IsRowsReply style plan reply
       → ((db : Database) → stands db → reply ≡ plan_reply style (rows_of db) plan) → IsReply (without_change reply)
   of_query plan reply is kind told = by_check (Ok (AQuery plan)) (without_change reply) is (kind, refl) (λ db there. ap without_change (told db there))
 
@@ -92,23 +98,3 @@ module _ (style : Style) (names : Names) (stands : Database → Type 0) (named :
 
   pub of_list : (reply : Reply) → check_of tree text names ≡ Ok ListArrays → reply ≡ list_reply names → IsReply (without_change reply)
   of_list reply is e = by_check (Ok ListArrays) (without_change reply) is (ap without_change e) (λ db there. ap without_change (e ∙ ap list_reply (sym (named db there))))
-
-  -- of a change whose plan's array has a fault, in each database that may stand the same one
-  pub of_fault : (change : Change) (broken : Broken) (reply : Reply) → check_of tree text names ≡ Ok (AChange change) → HasChangeKind names change (without_change (cell_reply broken)) → reply ≡ cell_reply broken
-      → ((db : Database) → stands db → fault_of_change db change ≡ Some broken) → IsReply (without_change reply)
-  of_fault change broken reply is kind e found =
-      subst (λ (r : Reply). IsReply (without_change r)) (sym e)
-      (by_check (Ok (AChange change)) (without_change (cell_reply broken)) is kind (λ db there. ap (changed_or_broken (names_of db) change) (sym (found db there))))
-
-  -- of a change that has none
-  pub of_accepted : (change : Change) → check_of tree text names ≡ Ok (AChange change) → ((db : Database) → stands db → fault_of_change db change ≡ None) → IsReply (accepted names change)
-  of_accepted change is none =
-      by_check (Ok (AChange change)) (accepted names change) is (accepted_kind change) (λ db there.
-      ap (λ n. accepted n change) (sym (named db there)) ∙ ap (changed_or_broken (names_of db) change) (sym (none db there)))
-    where
-      accepted_kind : (c : Change) → HasChangeKind names c (accepted names c)
-      accepted_kind (Create name schema) = refl
-      accepted_kind (Store name schema plan) = inl refl
-      accepted_kind (Insert name schema plan) = inl refl
-      accepted_kind (Remove name) = refl
-      accepted_kind (RemoveVersions name below) = refl

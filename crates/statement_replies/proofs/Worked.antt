@@ -1,6 +1,7 @@
 -- Statements over a database of two arrays: `A`, whose version 3 has the cells 7 and null, and `N`, which takes no null and has no
 -- version.
-use Rattle.std.proofs.Common.{◌≡◌, ℕ, pos, Bool, true, false, Some, List, [], ◌∷◌, refl}
+use Rattle.std.proofs.Common.{◌≡◌, ℕ, pos, Bool, true, false, Some, List, [], ◌∷◌, ◌++◌, refl}
+use Rattle.std.specs.Fmt.{digits}
 use Rattle.std.specs.Prelude.{codes}
 use Rattle.cell_values.specs.declared.datum.Cell.TheVariants.{Full}
 use Rattle.cell_values.specs.declared.datum.Datum.{Datum}
@@ -15,7 +16,7 @@ use Rattle.afl_trees.specs.Term.{Term, reference, text, call, no_terms, and_term
 use Rattle.logical_plan.specs.Query.{Query, scanned}
 use Rattle.logical_plan.specs.declared.names.NameEntry.{NameEntry}
 use Rattle.plan_changes.specs.Databases.{Database}
-use Rattle.plan_changes.specs.declared.change.Change.TheVariants.{Store, Remove}
+use Rattle.plan_changes.specs.declared.change.Change.TheVariants.{Store, Insert, Remove}
 use Rattle.check_rules.specs.Operators.{query_named, change_named}
 use Rattle.result_print.specs.Listings.{list_text, show_text, stored_line, versions_text}
 use Rattle.result_print.specs.Records.{csv_text}
@@ -25,7 +26,10 @@ use Rattle.statement_replies.specs.Statements.{reply_to, text_alone, without_cha
 use Rattle.statement_replies.specs.declared.style.Style.{Style}
 
 abbrev lines : Style
-lines = record { csv = false }
+lines = record { csv = false; trace = false }
+
+abbrev traces : Style
+traces = record { csv = false; trace = true }
 
 abbrev at : ℕ → ℕ → Span
 at a b = record { start = a; end = b }
@@ -64,24 +68,41 @@ abbrev store_in : List ℕ → Term
 store_in target = call (at 0 11) (codes "store") (and_term (name 6 7 (codes "A")) (and_term (name 9 10 target) no_terms))
 
 -- A
-queried : reply_to lines db [] (name 0 1 (codes "A")) ≡ without_change (text_reply lines (line true) rows)
+queried : reply_to lines db [] (name 0 1 (codes "A")) ≡ without_change (text_reply lines [] (line true) rows)
 unfolding query_named change_named
 queried = refl
 
+-- A, and what was read
+queried_traced : reply_to traces db [] (name 0 1 (codes "A")) ≡ without_change (text_reply lines (codes "trace: A@3 asked 1 of 1\n") (line true) rows)
+unfolding query_named change_named digits
+queried_traced = refl
+
 -- A, as CSV
-queried_as_csv : reply_to (record { csv = true }) db [] (name 0 1 (codes "A")) ≡ without_change (text_alone (csv_text (line true) rows))
+queried_as_csv : reply_to (record { csv = true; trace = false }) db [] (name 0 1 (codes "A")) ≡ without_change (text_alone (csv_text (line true) rows ++ []))
 unfolding query_named change_named
 queried_as_csv = refl
 
 -- store(A, A)
 stored : reply_to lines db [] (store_in (codes "A")) ≡ record { reply = text_alone (stored_line (codes "A") 4); change = Some (Store (codes "A") (line true) plan) }
-unfolding query_named change_named
+unfolding query_named change_named digits
 stored = refl
 
 -- store(A, B)
 stored_anew : reply_to lines db [] (store_in (codes "B")) ≡ record { reply = text_alone (stored_line (codes "B") 1); change = Some (Store (codes "B") (line true) plan) }
-unfolding query_named change_named
+unfolding query_named change_named digits
 stored_anew = refl
+
+-- store(A, A), and what was read
+stored_traced : reply_to traces db [] (store_in (codes "A"))
+    ≡ record { reply = text_alone (codes "ok A@4\ntrace: A@3 asked 1 of 1\n"); change = Some (Store (codes "A") (line true) plan) }
+unfolding query_named change_named digits
+stored_traced = refl
+
+-- insert(A, A), and what was read, the target last
+inserted_traced : reply_to traces db [] (call (at 0 12) (codes "insert") (and_term (name 7 8 (codes "A")) (and_term (name 10 11 (codes "A")) no_terms)))
+    ≡ record { reply = text_alone (codes "ok A@4\ntrace: A@3 asked 1 of 1\ntrace: A@3 asked 1 of 1\n"); change = Some (Insert (codes "A") (line true) plan) }
+unfolding query_named change_named digits
+inserted_traced = refl
 
 -- store(A, N)
 broken : reply_to lines db [] (store_in (codes "N")) ≡ without_change (refused (Cell (record { items = pos 3 ∷ [] }) NullInNotNull))

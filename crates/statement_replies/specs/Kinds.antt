@@ -1,27 +1,36 @@
 -- What the names of the stored arrays alone tell of the reply to a query, whatever the arrays hold.
-use Rattle.std.specs.Prelude.{◌≡◌, ◌⊎◌, List, Ok, Err}
+use Rattle.std.specs.Prelude.{◌≡◌, ◌⊎◌, ℕ, List, Ok, Err}
 use Rattle.cell_values.specs.declared.datum.Broken.{Broken}
 use Rattle.cell_values.specs.declared.datum.Row.{Row}
 use Rattle.cell_values.specs.declared.schema.Schema.{Schema}
 use Rattle.afl_trees.specs.Term.{Term}
 use Rattle.logical_plan.specs.declared.names.Names.{Names}
+use Rattle.logical_plan.specs.Leaves.{leaves}
 use Rattle.logical_plan.specs.Meaning.{Database}
 use Rattle.logical_plan.specs.PlanSchema.{schema_of}
 use Rattle.logical_plan.specs.Query.{Query}
+use Rattle.plan_traces.specs.Traced.{AreLinesOf}
 use Rattle.check_rules.specs.Checked.{Checked}
 use Rattle.check_laws.specs.Queries.{query_of}
 use Rattle.result_print.specs.declared.refusal.Refusal.TheVariants.{Typing}
-use Rattle.statement_replies.specs.Reply.{cell_reply, query_reply, refused, text_reply}
+use Rattle.statement_replies.specs.Reply.{cell_reply, query_reply, refused, text_reply, traced}
 use Rattle.statement_replies.specs.declared.replies.Reply.{Reply}
 use Rattle.statement_replies.specs.declared.style.Style.{Style}
 
--- the text of some rows of this schema, or the refusal that tells of some cell
-abbrev pub IsRowsReply : Style → Schema → Reply → Type 0
-IsRowsReply style schema reply = ((rows : List Row) × (reply ≡ text_reply style schema rows)) ⊎ ((broken : Broken) × (reply ≡ cell_reply broken))
+-- the text of some rows of this schema with these lines behind it, or the refusal that tells of some cell
+abbrev pub IsTextOrRefusal : Style → List ℕ → Schema → Reply → Type 0
+IsTextOrRefusal style lines schema reply =
+    ((rows : List Row) × (reply ≡ text_reply style lines schema rows)) ⊎ ((broken : Broken) × (reply ≡ cell_reply broken))
 
--- a rule that is broken is told, and else rows of the plan's schema are
+-- that of a plan: the rows are of its schema, and where lines of what was read are wanted, there is one for each of its leaves, with some
+-- numbers
+abbrev pub IsRowsReply : Style → Query → Reply → Type 0
+IsRowsReply style query reply =
+    (lines : List ℕ) × AreLinesOf (leaves query) lines × IsTextOrRefusal style (traced style lines) (schema_of query) reply
+
+-- a rule that is broken is told, and else rows of the plan are
 abbrev pub HasKind : Style → Checked Query → Reply → Type 0
-HasKind style (Ok query) reply = IsRowsReply style (schema_of query) reply
+HasKind style (Ok query) reply = IsRowsReply style query reply
 HasKind style (Err breach) reply = reply ≡ refused (Typing breach.span breach.kind)
 
 -- The reply to the tree of a query over a source: of this kind always, and in each database that the source tells the reply there.

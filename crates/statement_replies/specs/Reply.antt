@@ -2,8 +2,9 @@
 --
 -- A statement that is too long is told its number of bytes. Where its text stops to be the front of a statement, it is told the
 -- place and why. Else it has a tree. That of a query is checked over the names of the stored arrays, and told the first rule that it
--- breaks. Else it is a plan, and answered by its array's first fault, if there is one, else by the array's text.
-use Rattle.std.specs.Prelude.{◌≡◌, ◌⊎◌, ℕ, List, Option, Some, None, Result, Ok, Err}
+-- breaks. Else it is a plan, and answered by its array's first fault, if there is one, else by the array's text. Where lines of what
+-- was read are wanted, they stand behind the text.
+use Rattle.std.specs.Prelude.{◌≡◌, ◌⊎◌, ◌++◌, ℕ, if◌then◌else◌, List, [], Option, Some, None, Result, Ok, Err}
 use Rattle.cell_values.specs.declared.datum.Broken.{Broken}
 use Rattle.cell_values.specs.declared.datum.Row.{Row}
 use Rattle.cell_values.specs.declared.schema.Schema.{Schema}
@@ -14,6 +15,7 @@ use Rattle.logical_plan.specs.declared.names.Names.{Names}
 use Rattle.logical_plan.specs.Query.{Query}
 use Rattle.logical_plan.specs.Faults.{first_fault}
 use Rattle.logical_plan.specs.Meaning.{Database, Meant, meaning}
+use Rattle.plan_traces.specs.Traced.{plan_lines}
 use Rattle.check_rules.specs.Checked.{Checked}
 use Rattle.check_laws.specs.Queries.{query_of}
 use Rattle.result_print.specs.Lines.{line_of_refusal}
@@ -39,26 +41,30 @@ too_long bytes = refused (TooLong bytes)
 abbrev pub cell_reply : Broken → Reply
 cell_reply broken = refused (Cell broken.at broken.kind)
 
--- the text of an array
-abbrev pub text_reply : Style → Schema → List Row → Reply
-text_reply style schema rows = record { text = printed style schema rows; refusal = None }
+-- the lines that tell what was read, where the style wants them
+abbrev pub traced : Style → List ℕ → List ℕ
+traced style lines = if style.trace then lines else []
+
+-- the text of an array, and lines behind it
+abbrev pub text_reply : Style → List ℕ → Schema → List Row → Reply
+text_reply style lines schema rows = record { text = printed style schema rows ++ lines; refusal = None }
 
 -- the fault, or else the text
-abbrev pub fault_or_text : Style → Option Broken → Schema → List Row → Reply
-fault_or_text style (Some fault) schema rows = cell_reply fault
-fault_or_text style None schema rows = text_reply style schema rows
+abbrev pub fault_or_text : Style → List ℕ → Option Broken → Schema → List Row → Reply
+fault_or_text style lines (Some fault) schema rows = cell_reply fault
+fault_or_text style lines None schema rows = text_reply style lines schema rows
 
 -- the first fault of an array, or its text
-abbrev pub array_reply : Style → Schema → Result (List Row) Broken → Reply
-array_reply style schema (Ok rows) = fault_or_text style (first_fault rows) schema rows
-array_reply style schema (Err broken) = cell_reply broken
+abbrev pub array_reply : Style → List ℕ → Schema → Result (List Row) Broken → Reply
+array_reply style lines schema (Ok rows) = fault_or_text style lines (first_fault rows) schema rows
+array_reply style lines schema (Err broken) = cell_reply broken
 
-abbrev pub meant_reply : Style → Meant → Reply
-meant_reply style array = array_reply style array.schema array.rows
+abbrev pub meant_reply : Style → List ℕ → Meant → Reply
+meant_reply style lines array = array_reply style lines array.schema array.rows
 
 -- the reply to a plan
 abbrev pub plan_reply : Style → Database → Query → Reply
-plan_reply style db query = meant_reply style (meaning db query)
+plan_reply style db query = meant_reply style (traced style (plan_lines db query)) (meaning db query)
 
 -- the reply to a query that was checked
 abbrev pub checked_reply : Style → Database → Checked Query → Reply

@@ -1,13 +1,13 @@
 -- What the names of the stored arrays alone tell of what a statement is answered, whatever the arrays hold.
-use Rattle.std.specs.Prelude.{◌≡◌, ◌⊎◌, ℕ, List, None, Ok, Err, IfOk, IsTrue}
+use Rattle.std.specs.Prelude.{◌≡◌, ◌⊎◌, ℕ, List, None, Some, Ok, Err, IfOk, IsTrue}
 use Rattle.cell_values.specs.declared.datum.Broken.{Broken}
 use Rattle.afl_trees.specs.Term.{Term}
 use Rattle.logical_plan.specs.declared.names.Names.{Names}
-use Rattle.logical_plan.specs.PlanSchema.{schema_of}
 use Rattle.plan_changes.specs.Changes.{has_array}
 use Rattle.plan_changes.specs.Databases.{Database, names_of, rows_of}
 use Rattle.plan_changes.specs.declared.change.Change.{Change}
 use Rattle.plan_changes.specs.declared.change.Change.TheVariants.{Create, Store, Insert, Remove, RemoveVersions}
+use Rattle.plan_traces.specs.Traced.{AreLinesOf}
 use Rattle.check_rules.specs.Checked.{Checked}
 use Rattle.check_laws.specs.Queries.{query_of}
 use Rattle.check_laws.specs.Checking.{check_of}
@@ -16,26 +16,36 @@ use Rattle.check_laws.specs.Typed.{Typed}
 use Rattle.check_laws.specs.Typed.TheVariants.{Query as AQuery, Change as AChange, Versions, Show, ListArrays}
 use Rattle.result_print.specs.declared.refusal.Refusal.TheVariants.{Typing}
 use Rattle.statement_replies.specs.Kinds.{IsRowsReply}
-use Rattle.statement_replies.specs.Reply.{cell_reply, query_reply, refused}
-use Rattle.statement_replies.specs.Statements.{Accepted, accepted, list_reply, reply_to, show_reply, versions_reply, without_change}
+use Rattle.statement_replies.specs.Reply.{cell_reply, query_reply, refused, traced}
+use Rattle.statement_replies.specs.Statements.{Accepted, change_reply, list_reply, reply_to, show_reply, versions_reply, without_change}
+use Rattle.statement_replies.specs.Traces.{read_by}
+use Rattle.statement_replies.specs.declared.replies.Reply.{Reply}
 use Rattle.statement_replies.specs.declared.style.Style.{Style}
 
+-- the text of a change, and where lines of what was read are wanted, one for each array that it reads, with some numbers
+abbrev pub IsChangeReply : Style → Names → Change → Reply → Type 0
+IsChangeReply style names change reply =
+    (lines : List ℕ) × AreLinesOf (read_by names change) lines × (reply ≡ change_reply names (traced style lines) change)
+
+abbrev pub IsAccepted : Style → Names → Change → Accepted → Type 0
+IsAccepted style names change answer = IsChangeReply style names change answer.reply × (answer.change ≡ Some change)
+
 -- the change, or the refusal that tells of some cell
-abbrev pub MayBreak : Names → Change → Accepted → Type 0
-MayBreak names change answer = (answer ≡ accepted names change) ⊎ ((broken : Broken) × (answer ≡ without_change (cell_reply broken)))
+abbrev pub MayBreak : Style → Names → Change → Accepted → Type 0
+MayBreak style names change answer = IsAccepted style names change answer ⊎ ((broken : Broken) × (answer ≡ without_change (cell_reply broken)))
 
 -- only the array of a plan has cells that may not be computed
-abbrev pub HasChangeKind : Names → Change → Accepted → Type 0
-HasChangeKind names (Create name schema) answer = answer ≡ accepted names (Create name schema)
-HasChangeKind names (Store name schema plan) answer = MayBreak names (Store name schema plan) answer
-HasChangeKind names (Insert name schema plan) answer = MayBreak names (Insert name schema plan) answer
-HasChangeKind names (Remove name) answer = answer ≡ accepted names (Remove name)
-HasChangeKind names (RemoveVersions name below) answer = answer ≡ accepted names (RemoveVersions name below)
+abbrev pub HasChangeKind : Style → Names → Change → Accepted → Type 0
+HasChangeKind style names (Create name schema) answer = IsAccepted style names (Create name schema) answer
+HasChangeKind style names (Store name schema plan) answer = MayBreak style names (Store name schema plan) answer
+HasChangeKind style names (Insert name schema plan) answer = MayBreak style names (Insert name schema plan) answer
+HasChangeKind style names (Remove name) answer = IsAccepted style names (Remove name) answer
+HasChangeKind style names (RemoveVersions name below) answer = IsAccepted style names (RemoveVersions name below) answer
 
--- a query has some rows of its plan's schema, or the refusal that tells of some cell; a listing has its text
+-- a query has some rows of its plan, or the refusal that tells of some cell; a listing has its text
 abbrev pub HasTypedKind : Style → Names → Typed → Accepted → Type 0
-HasTypedKind style names (AQuery plan) answer = IsRowsReply style (schema_of plan) answer.reply × (answer.change ≡ None)
-HasTypedKind style names (AChange change) answer = HasChangeKind names change answer
+HasTypedKind style names (AQuery plan) answer = IsRowsReply style plan answer.reply × (answer.change ≡ None)
+HasTypedKind style names (AChange change) answer = HasChangeKind style names change answer
 HasTypedKind style names (Versions name) answer = answer ≡ without_change (versions_reply names name)
 HasTypedKind style names (Show name) answer = answer ≡ without_change (show_reply names name)
 HasTypedKind style names ListArrays answer = answer ≡ without_change (list_reply names)

@@ -1,8 +1,9 @@
 -- What a statement over a database is answered.
 --
 -- A statement that breaks a rule is told it, and a query has its reply. A listing is answered by its text over the names of the
--- stored arrays. A change is refused for its fault, if it has one, and is accepted else.
-use Rattle.std.specs.Prelude.{ℕ, List, [], Option, Some, None, Ok, Err}
+-- stored arrays. A change is refused for its fault, if it has one, and is accepted else. Where lines of what was read are wanted, they
+-- stand behind the text of a query's array and of a change.
+use Rattle.std.specs.Prelude.{ℕ, List, [], ◌++◌, Option, Some, None, Ok, Err}
 use Rattle.cell_values.specs.declared.datum.Broken.{Broken}
 use Rattle.afl_trees.specs.Term.{Term}
 use Rattle.logical_plan.specs.declared.names.NameEntry.{NameEntry}
@@ -17,7 +18,8 @@ use Rattle.check_laws.specs.Typed.{Typed}
 use Rattle.check_laws.specs.Typed.TheVariants.{Query as AQuery, Change as AChange, Versions, Show, ListArrays}
 use Rattle.result_print.specs.Listings.{list_text, ok_line, show_text, stored_line, versions_text}
 use Rattle.result_print.specs.declared.refusal.Refusal.TheVariants.{Typing}
-use Rattle.statement_replies.specs.Reply.{cell_reply, plan_reply, refused}
+use Rattle.statement_replies.specs.Reply.{cell_reply, plan_reply, refused, traced}
+use Rattle.statement_replies.specs.Traces.{change_lines}
 use Rattle.statement_replies.specs.declared.replies.Reply.{Reply}
 use Rattle.statement_replies.specs.declared.style.Style.{Style}
 
@@ -59,22 +61,23 @@ change_text names (Insert name schema plan) = stored_line name (next_of names.ar
 change_text names (Remove name) = ok_line
 change_text names (RemoveVersions name below) = ok_line
 
-abbrev pub change_reply : Names → Change → Reply
-change_reply names change = text_alone (change_text names change)
+-- the text, and lines behind it
+abbrev pub change_reply : Names → List ℕ → Change → Reply
+change_reply names lines change = text_alone (change_text names change ++ lines)
 
-abbrev pub accepted : Names → Change → Accepted
-accepted names change = record { reply = change_reply names change; change = Some change }
+abbrev pub accepted : Names → List ℕ → Change → Accepted
+accepted names lines change = record { reply = change_reply names lines change; change = Some change }
 
 -- its fault, or else the change
-abbrev pub changed_or_broken : Names → Change → Option Broken → Accepted
-changed_or_broken names change (Some broken) = without_change (cell_reply broken)
-changed_or_broken names change None = accepted names change
+abbrev pub changed_or_broken : Names → List ℕ → Change → Option Broken → Accepted
+changed_or_broken names lines change (Some broken) = without_change (cell_reply broken)
+changed_or_broken names lines change None = accepted names lines change
 
 -- ---- statements
 
 abbrev pub reply_to_typed : Style → Database → Typed → Accepted
 reply_to_typed style db (AQuery plan) = without_change (plan_reply style (rows_of db) plan)
-reply_to_typed style db (AChange change) = changed_or_broken (names_of db) change (fault_of_change db change)
+reply_to_typed style db (AChange change) = changed_or_broken (names_of db) (traced style (change_lines db change)) change (fault_of_change db change)
 reply_to_typed style db (Versions name) = without_change (versions_reply (names_of db) name)
 reply_to_typed style db (Show name) = without_change (show_reply (names_of db) name)
 reply_to_typed style db ListArrays = without_change (list_reply (names_of db))

@@ -7,12 +7,14 @@ mod queries;
 mod replies;
 mod style;
 mod texts;
+mod traces;
 
 pub use laws::{
     listed_arrays_stand, queries_have_their_replies, replies_have_kinds,
     replies_have_statement_kinds,
 };
-pub use listings::{accepted_line, list_reply, show_reply, versions_reply};
+pub use listings::{accepted_reply, list_reply, show_reply, versions_reply};
 pub use queries::{answer_query, reply_to_query};
 pub use replies::{Reply, refuse};
 pub use style::Style;
+pub use traces::change_lines;

@@ -2,7 +2,7 @@
 ghost use Rattle.std.specs.Prelude.{◌≡◌, IfOk, IsTrue};
 ghost use Rattle.plan_changes.specs.Changes.{has_array, next_of};
 ghost use Rattle.result_print.specs.Listings.{stored_line};
-ghost use Rattle.statement_replies.specs.Statements.{change_reply, list_reply, show_reply, text_alone, versions_reply};
+ghost use Rattle.statement_replies.specs.Statements.{change_reply, change_text, list_reply, show_reply, text_alone, versions_reply};
 
 use crate::replies::Reply;
 use cell_values::{Bytes, Memory, Name};
@@ -52,23 +52,37 @@ pub fn list_reply(alloc: Global, names: &Names) -> Result<Reply, Memory>
     Ok(told(list_text(alloc, names)?))
 }
 
-/// The reply to a change that stores one more version of an array.
-fn stored_reply(alloc: Global, name: &Name, names: &Names) -> Result<Reply, Memory>
-    ensures { IfOk result (λ reply. reply ≡ text_alone (stored_line name.now (next_of names.now.arrays name.now))) }
+/// The text of a change that stores one more version of an array.
+fn stored_text(alloc: Global, name: &Name, names: &Names) -> Result<Bytes, Memory>
+    ensures { IfOk result (λ text. text ≡ stored_line name.now (next_of names.now.arrays name.now)) }
 {
     let number = next_of(&names.arrays, name);
-    Ok(told(stored_line(alloc, name, number)?))
+    stored_line(alloc, name, number)
 }
 
-/// The reply to a change that is accepted over the names before it. A new version is told with its number.
-pub fn accepted_line(alloc: Global, change: &Change, names: &Names) -> Result<Reply, Memory>
-    ensures { IfOk result (λ reply. reply ≡ change_reply names.now change.now) }
+/// The text of a change over the names before it. A new version is told with its number.
+fn change_text(alloc: Global, change: &Change, names: &Names) -> Result<Bytes, Memory>
+    ensures { IfOk result (λ text. text ≡ change_text names.now change.now) }
 {
     match change {
-        Change::Store { name, .. } => stored_reply(alloc, name, names),
-        Change::Insert { name, .. } => stored_reply(alloc, name, names),
+        Change::Store { name, .. } => stored_text(alloc, name, names),
+        Change::Insert { name, .. } => stored_text(alloc, name, names),
         Change::Create { .. } | Change::Remove { .. } | Change::RemoveVersions { .. } => {
-            Ok(told(ok_line(alloc)?))
+            ok_line(alloc)
         }
     }
+}
+
+/// The reply to a change that is accepted over the names before it, with these lines behind its text.
+pub fn accepted_reply(
+    alloc: Global,
+    change: &Change,
+    names: &Names,
+    lines: &Bytes,
+) -> Result<Reply, Memory>
+    ensures { IfOk result (λ reply. reply ≡ change_reply names.now lines.now change.now) }
+{
+    let mut text = change_text(alloc, change, names)?;
+    text.extend(lines.as_slice())?;
+    Ok(told(text))
 }

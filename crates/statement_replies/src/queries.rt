@@ -1,26 +1,31 @@
 //! Replies to queries.
 ghost use Rattle.std.specs.Prelude.{◌≡◌, ◌≤◌, ◌++◌, None, IfOk, OnOk, OnErr, IsTrue};
 ghost use Rattle.cell_values.specs.declared.schema.Schema.{Schema};
+ghost use Rattle.array_parts.specs.Cores.{HaveCells, cores_of};
 ghost use Rattle.check_exprs.specs.Laws.{leaves_fit};
 ghost use Rattle.check_laws.specs.Arrays.{AreValid};
 ghost use Rattle.check_laws.specs.Queries.{query_of};
-ghost use Rattle.logical_plan.specs.Meaning.{Database, Meant};
+ghost use Rattle.logical_plan.specs.Meaning.{Database, Meant, meaning};
 ghost use Rattle.logical_plan.specs.PlanSchema.{schema_of};
 ghost use Rattle.chunk_source.specs.Faults.{Answers};
 ghost use Rattle.chunk_source.specs.Source.{AsksFront, Keeps};
 ghost use Rattle.plan_rows.specs.Computed.{CanCompute, asked_for_plan};
 ghost use Rattle.plan_rows.specs.Found.{HasSchema, IsFound};
 ghost use Rattle.plan_rows.specs.Held.{HoldsCells, rows_held};
-ghost use Rattle.statement_replies.specs.Kinds.{IsQueryReply, IsRowsReply};
+ghost use Rattle.result_print.specs.declared.refusal.Refusal.TheVariants.{Cell};
+ghost use Rattle.statement_replies.specs.Kinds.{IsQueryReply, IsRowsReply, IsTextOrRefusal};
+ghost use Rattle.statement_replies.specs.Printed.{printed};
 ghost use Rattle.statement_replies.specs.Reading.{HoldsVersions, asked_for};
 ghost use Rattle.statement_replies.specs.Reply.{meant_reply, plan_reply};
 
 use crate::replies::{Reply, refuse};
 use crate::style::Style;
 use crate::texts::text_of;
+use crate::traces::lines_wanted;
 use afl_outside::Gate;
 use afl_trees::Tree;
-use cell_values::{Broken, Memory};
+use array_geom::ChunkedArray;
+use cell_values::{Broken, Bytes, Memory, copy_coord};
 use check_laws::query_plan;
 use check_rules::TypeFault;
 use chunk_source::{ChunkSource, ExecFault};
@@ -72,7 +77,7 @@ pub fn reply_to_query<S: ChunkSource, R: Threads + Sync, G: Gate>(
 }
 
 /// The reply to a query's plan, over the arrays of a source that has the versions which it reads: its array's first fault, or else
-/// its array's text in this style.
+/// its array's text in this style, and behind it a line for each leaf where the style wants them.
 pub fn answer_query<S: ChunkSource, R: Threads + Sync, G: Gate>(
     rt: &R,
     alloc: Global,
@@ -86,7 +91,7 @@ pub fn answer_query<S: ChunkSource, R: Threads + Sync, G: Gate>(
     requires undamaged { (S.state source.old).damaged ≡ None }
     requires can { CanCompute (S.state source.old) plan.now }
     requires workers { (1 ≤ workers) × (workers ≤ 64) }
-    ensures kind { IfOk result (IsRowsReply style (schema_of plan.now)) }
+    ensures kind { IfOk result (IsRowsReply style plan.now) }
     ensures told { IfOk result (λ reply. (db : Database) → (S.state source.old).tells db → reply ≡ plan_reply style db plan.now) }
     ensures asked { OnOk result ((S.state source.new).asked ≡ (S.state source.old).asked ++ asked_for_plan (S.state source.old) plan.now) }
     ensures front { let old = S.state source.old in OnErr result (AsksFront (asked_for_plan old plan.now) old (S.state source.new)) }
@@ -95,25 +100,73 @@ pub fn answer_query<S: ChunkSource, R: Threads + Sync, G: Gate>(
     ensures start { S.start source.new ≡ S.start source.old }
 {
     match array_of(rt, alloc, plan, source, workers, session, gate) {
-        Ok(found) => match reply_of(alloc, style, found) {
-            Ok(reply) => Ok(reply),
-            Err(Memory) => Err(ExecFault::Memory),
-        },
+        Ok(found) => {
+            let answer = reply_with_lines(alloc, style, plan, source, &found);
+            drop(found);
+            answer
+        }
         Err(fault) => Err(fault),
     }
 }
 
-/// The reply that tells what a plan gives.
+/// The reply that tells what a plan gives, and what it reads where the style wants that.
+fn reply_with_lines<S: ChunkSource>(
+    alloc: Global,
+    style: Style,
+    plan: &Plan,
+    source: &mut S,
+    found: &PlanArray,
+) -> Result<Reply, ExecFault>
+    requires can { CanCompute (S.state source.old) plan.now }
+    requires cells { HoldsCells found.now }
+    ensures kind { HasSchema (schema_of plan.now) (rows_held found.now) → IfOk result (IsRowsReply style plan.now) }
+    ensures told { IfOk result (λ reply. (db : Database) → (S.state source.old).tells db → IsFound (meaning db plan.now) (rows_held found.now)
+        → reply ≡ plan_reply style db plan.now) }
+    ensures asked { (S.state source.new).asked ≡ (S.state source.old).asked }
+    ensures kept { Keeps (S.state source.old) (S.state source.new) }
+    ensures cause { Answers (S.state source.old) (S.state source.new) result }
+    ensures start { S.start source.new ≡ S.start source.old }
+{
+    let lines = lines_wanted(alloc, style, plan, source)?;
+    Ok(reply_of(alloc, style, &lines, found)?)
+}
+
+/// The text of an array, and these lines behind it.
+fn text_with(
+    alloc: Global,
+    style: Style,
+    lines: &Bytes,
+    array: &ChunkedArray,
+) -> Result<Bytes, Memory>
+    requires { HaveCells array.now.schema array.now.margins.items array.now.chunks }
+    ensures { IfOk result (λ text. text ≡ printed style array.now.schema (cores_of array.now) ++ lines.now) }
+{
+    let mut text = text_of(alloc, style, array)?;
+    text.extend(lines.as_slice())?;
+    Ok(text)
+}
+
+/// Why an array that is broken is refused.
+fn cell_refusal(broken: &Broken) -> Refusal
+    ensures { result ≡ Cell broken.now.at broken.now.kind }
+{
+    Refusal::Cell {
+        at: copy_coord(&broken.at),
+        kind: broken.kind,
+    }
+}
+
+/// The reply that tells what a plan gives, with these lines behind a text.
 #[tactic(auto, using(crate::proofs::PlanReplies::fault_reply, crate::proofs::PlanReplies::rows_reply))]
-fn reply_of(alloc: Global, style: Style, found: PlanArray) -> Result<Reply, Memory>
-    requires { HoldsCells found }
-    ensures kind { (schema : Schema) → HasSchema schema (rows_held found) → IfOk result (IsRowsReply style schema) }
-    ensures told { (meant : Meant) → IsFound meant (rows_held found) → IfOk result (λ reply. reply ≡ meant_reply style meant) }
+fn reply_of(alloc: Global, style: Style, lines: &Bytes, found: &PlanArray) -> Result<Reply, Memory>
+    requires { HoldsCells found.now }
+    ensures kind { (schema : Schema) → HasSchema schema (rows_held found.now) → IfOk result (IsTextOrRefusal style lines.now schema) }
+    ensures told { (meant : Meant) → IsFound meant (rows_held found.now) → IfOk result (λ reply. reply ≡ meant_reply style lines.now meant) }
 {
     match found {
-        PlanArray::Fault(Broken { at, kind }) => refuse(alloc, Refusal::Cell { at, kind }),
+        PlanArray::Fault(broken) => refuse(alloc, cell_refusal(broken)),
         PlanArray::Whole(array) => Ok(Reply {
-            text: text_of(alloc, style, &array)?,
+            text: text_with(alloc, style, lines, array)?,
             refusal: None,
         }),
     }

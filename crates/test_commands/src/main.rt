@@ -3,15 +3,16 @@
 //! Behind `words: ` stand the words of a command line without a script; behind `init: ` a number of zero bytes, of the device that
 //! `init db` is run over; behind `fails: ` the number, from 0, of the call of an empty device that fails. A script behind `workers: ` is
 //! run over a new database with one worker and over another one with eight, and both replies are told; one behind `csv: ` over a new
-//! database, where arrays are told as CSV. In a script `~` stands for a line feed, and `{127 (}` for 127 of `(`. A line that begins with
-//! `##` is a title, and is printed as it is; each other line is printed behind `> `, above what its run gives.
+//! database, where arrays are told as CSV, and one behind `trace: ` over one where it is told what was read. In a script `~` stands for
+//! a line feed, and `{127 (}` for 127 of `(`. A line that begins with `##` is a title, and is printed as it is; each other line is
+//! printed behind `> `, above what its run gives.
 #![tactic(auto)]
 
 mod files;
 mod runs;
 
 use anyhow::Result;
-use runs::{tell_csv, tell_device, tell_words, tell_workers};
+use runs::{tell_csv, tell_device, tell_trace, tell_words, tell_workers};
 use std::sync::Wait;
 use std::thread::Threads;
 use test_kit::{begin_answer, input};
@@ -29,6 +30,7 @@ fn tell_run(
     match word {
         "workers" => tell_workers(rt, text),
         "csv" => tell_csv(rt, text),
+        "trace" => tell_trace(rt, text),
         "words" => tell_words(rt, text),
         "init" => tell_device(rt, usize::from(number_of(text)), &[]),
         "fails" => tell_device(rt, 0, &[u64::from(number_of(text))]),

@@ -91,3 +91,14 @@ pub(crate) fn tell_csv(
     drop(script);
     told
 }
+
+/// Runs a script over a new database, where it is told what was read.
+pub(crate) fn tell_trace(
+    rt: &(impl Print + AllocGlobal + Threads + Wait + Sync),
+    text: &str,
+) -> Result<()> {
+    let script = text_of(rt.alloc(), text.as_bytes())?;
+    let told = tell_script(rt, "run db --trace -", &script);
+    drop(script);
+    told
+}

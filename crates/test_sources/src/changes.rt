@@ -14,7 +14,7 @@ use crate::show::{push_asked, push_broken, push_cause, push_chunks, push_faults}
 use afl_outside::OpenGate;
 use array_geom::Changed;
 use cell_values::{CompareOp, Datum, Memory};
-use changed_chunks::changed;
+use changed_chunks::{Asking, changed};
 use chunk_source::ChunkSource;
 use expr_nulls::{ArithOp, TypedExpr};
 use logical_plan::{Leaf, Plan};
@@ -148,12 +148,17 @@ fn push_made<S: ChunkSource, R: Threads + Sync>(
     requires undamaged { (S.state source.old).damaged ≡ None }
     requires can { CanChange (S.state source.old) change.now target.now }
 {
+    let mut asking = Asking {
+        asked: 0,
+        stored: 0,
+    };
     match changed(
         rt,
         *out.allocator(),
         change,
         target,
         source,
+        &mut asking,
         1,
         0,
         &OpenGate,

@@ -10,7 +10,7 @@ use crate::answers::Answer;
 use afl_outside::OpenGate;
 use array_geom::Changed;
 use cell_values::{Broken, List, Memory, Name, Schema};
-use changed_chunks::changed;
+use changed_chunks::{Asking, changed};
 use chunk_source::{ExecFault, SureChunks};
 use logical_plan::{Leaf, Names, Plan, reads};
 use plan_changes::Change;
@@ -56,7 +56,21 @@ fn chunks_over_none<R: Threads + Sync>(
     ensures valid { IfOk result (λ some. IfSome some AreValid) }
 {
     let mut source = SureChunks::new(List::new(alloc));
-    match changed(rt, alloc, change, target, &mut source, 1, 0, &OpenGate) {
+    let mut asking = Asking {
+        asked: 0,
+        stored: 0,
+    };
+    match changed(
+        rt,
+        alloc,
+        change,
+        target,
+        &mut source,
+        &mut asking,
+        1,
+        0,
+        &OpenGate,
+    ) {
         Ok(Ok(changed)) => Ok(Some(changed)),
         Ok(Err(broken)) => Err(refused(broken)),
         Err(ExecFault::Memory) => Err(Answer::Memory),

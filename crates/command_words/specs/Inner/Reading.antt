@@ -7,18 +7,19 @@ use Rattle.std.specs.Str.Parse.{digits_value}
 use Rattle.command_words.specs.declared.forms.Form.{Form}
 use Rattle.command_words.specs.declared.forms.Form.TheVariants.{Try, Init, Run, Generate}
 use Rattle.command_words.specs.declared.settings.RunOption.{RunOption}
-use Rattle.command_words.specs.declared.settings.RunOption.TheVariants.{Pages, History, Workers, Format}
+use Rattle.command_words.specs.declared.settings.RunOption.TheVariants.{Pages, History, Workers, Format, Trace}
 use Rattle.command_words.specs.declared.settings.Settings.{Settings}
-use Rattle.command_words.specs.Forms.{Word, is_dashed, is_number_within, is_script_number}
+use Rattle.command_words.specs.Forms.{Word, is_dashed, is_flag, is_number_within, is_script_number}
 
 abbrev pub is_given : Settings → RunOption → Bool
 is_given settings Pages = is_some settings.pages
 is_given settings History = is_some settings.history
 is_given settings Workers = is_some settings.workers
 is_given settings Format = settings.csv
+is_given settings Trace = settings.trace
 
 abbrev pub no_settings : Settings
-no_settings = record { pages = None; history = None; workers = None; csv = false }
+no_settings = record { pages = None; history = None; workers = None; csv = false; trace = false }
 
 -- the number that the word is, in this range
 abbrev pub number_within : ℕ → ℕ → Word → Option ℕ
@@ -42,14 +43,27 @@ with_said settings Pages said = with_pages settings (number_within 16 1048576 sa
 with_said settings History said = with_history settings (number_within 16 1048576 said)
 with_said settings Workers said = with_workers settings (number_within 1 64 said)
 with_said settings Format said = if bytes_eq said (codes "csv+") then Some (record settings { csv = true }) else None
+with_said settings Trace said = None
 
+-- these settings and `--trace`, of which nothing is said
+abbrev pub with_trace : Settings → Settings
+with_trace settings = record settings { trace = true }
+
+-- the words of an option of two words
 abbrev pub words_of : Bool → ℕ
 words_of false = 0
 words_of true = 2
 
+-- the word of an option that is its name alone
+abbrev pub flag_of : Bool → ℕ
+flag_of false = 0
+flag_of true = 1
+
 -- the place behind the device and the options so far
 abbrev pub place_of : Settings → ℕ
-place_of settings = 2 + words_of (is_some settings.pages) + words_of (is_some settings.history) + words_of (is_some settings.workers) + words_of settings.csv
+place_of settings =
+    2 + (words_of (is_some settings.pages) + words_of (is_some settings.history) + words_of (is_some settings.workers) + words_of settings.csv)
+    + flag_of settings.trace
 
 abbrev pub option_of : Word → Option RunOption
 option_of word =
@@ -57,6 +71,7 @@ option_of word =
     else if bytes_eq word (codes "--history") then Some History
     else if bytes_eq word (codes "--workers") then Some Workers
     else if bytes_eq word (codes "--format") then Some Format
+    else if bytes_eq word (codes "--trace") then Some Trace
     else None
 
 abbrev pub if_new : Settings → Option RunOption → Option RunOption
@@ -88,7 +103,9 @@ wrong_from device before (word ∷ words) =
     if can_stand device before word then wrong_from device (before ++ word ∷ []) words else Some (length before)
 
 abbrev pub run_of : Settings → Form
-run_of settings = Run 1 (unwrap_or settings.workers 4) (unwrap_or settings.pages 65536) (unwrap_or settings.history 1048576) settings.csv (place_of settings)
+run_of settings =
+    Run 1 (unwrap_or settings.workers 4) (unwrap_or settings.pages 65536) (unwrap_or settings.history 1048576)
+    (record { csv = settings.csv; trace = settings.trace }) (place_of settings)
 
 abbrev pub scripts_outcome : Settings → Option ℕ → Result Form ℕ
 scripts_outcome settings None = Ok (run_of settings)
@@ -101,18 +118,20 @@ abbrev pub by_said : Settings → Option Settings → (Settings → Result Form 
 by_said settings None rest = Err (place_of settings + 1)
 by_said settings (Some next) rest = rest next
 
-abbrev pub by_option : Settings → Option RunOption → (RunOption → Option Settings) → Result Form ℕ → (Settings → Result Form ℕ) → Result Form ℕ
-by_option settings None said scripts rest = scripts
-by_option settings (Some option) said scripts rest = by_said settings (said option) rest
+-- the next word is no option, or is one of which nothing is said, or one with what is said of it
+abbrev pub by_option : Settings → Option RunOption → (RunOption → Option Settings) → Result Form ℕ → Result Form ℕ → (Settings → Result Form ℕ) → Result Form ℕ
+by_option settings None said scripts traced rest = scripts
+by_option settings (Some option) said scripts traced rest = if is_flag option then traced else by_said settings (said option) rest
 
 -- the words behind the device and the options so far
 abbrev pub read_settings : Word → List Word → Settings → Result Form ℕ
 read_settings device [] settings = Err (place_of settings)
 read_settings device (word ∷ []) settings =
-    by_option settings (next_option settings word) (λ option. None) (read_scripts device settings (word ∷ [])) (λ next. Err (place_of next))
+    by_option settings (next_option settings word) (λ option. None) (read_scripts device settings (word ∷ []))
+    (Err (place_of (with_trace settings))) (λ next. Err (place_of next))
 read_settings device (word ∷ said ∷ words) settings =
     by_option settings (next_option settings word) (λ option. with_said settings option said) (read_scripts device settings (word ∷ said ∷ words))
-    (read_settings device words)
+    (read_settings device (said ∷ words) (with_trace settings)) (read_settings device words)
 
 abbrev pub read_run : List Word → Result Form ℕ
 read_run [] = Err 1

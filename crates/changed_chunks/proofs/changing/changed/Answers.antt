@@ -1,5 +1,5 @@
 use Rattle.changed_chunks.proofs.Asked.{insert_asked, insert_front, insert_only, store_asked, store_front, store_only}
-use Rattle.changed_chunks.proofs.Told.{inserts_told, stores_told}
+use Rattle.changed_chunks.proofs.Told.{inserts_counted, inserts_told, stores_counted, stores_told}
 use Rattle.changed_chunks.proofs.changing.changed.Goals as goal
 
 pub returns-in-Store-clause-told : goal.returns-in-Store-clause-told
@@ -9,6 +9,15 @@ returns-in-Store-clause-told g c =
 pub returns-in-Insert-clause-told : goal.returns-in-Insert-clause-told
 returns-in-Insert-clause-told g c =
     inserts_told (g.S.ChunkSource.state c.args.source.now) c.args.change.now c.args.target.now c.in-Insert.name c.in-Insert.schema c.in-Insert.plan c.inserted.result c.in-Insert.is c.inserted.ensures.told
+
+pub returns-in-Store-clause-counted : goal.returns-in-Store-clause-counted
+returns-in-Store-clause-counted g c =
+    stores_counted (g.S.ChunkSource.state c.args.source.now) c.args.change.now c.args.target.now c.in-Store.name c.in-Store.schema c.in-Store.plan c.args.asking.now c.stored.result c.in-Store.is
+
+pub returns-in-Insert-clause-counted : goal.returns-in-Insert-clause-counted
+returns-in-Insert-clause-counted g c =
+    inserts_counted (g.S.ChunkSource.state c.args.source.now) c.args.change.now c.args.target.now c.in-Insert.name c.in-Insert.schema c.in-Insert.plan c.inserted.new.asking c.inserted.result c.in-Insert.is
+    c.inserted.ensures.counted
 
 pub returns-in-Store-clause-asked : goal.returns-in-Store-clause-asked
 returns-in-Store-clause-asked g c =

@@ -1,11 +1,12 @@
 use Rattle.std.proofs.Common.{List, []}
 use Rattle.cell_values.specs.declared.datum.Row.{Row}
 use Rattle.plan_changes.specs.declared.change.Change.TheVariants.{Insert}
+use Rattle.logical_plan.specs.Meaning.{version_rows}
 use Rattle.plan_changes.specs.Databases.{Database, fitted, rows_if_whole, rows_of}
 use Rattle.chunk_source.specs.Source.{AsksFront}
 use Rattle.chunk_source.proofs.ReadLemmas.{on_err}
 use Rattle.changed_chunks.specs.Changing.{asked_of_all, asked_with}
-use Rattle.changed_chunks.proofs.Asked.{asked_then, asked_there, front_plan, front_then, front_there}
+use Rattle.changed_chunks.proofs.Asked.{asked_then, asked_there, counted_there, front_plan, front_then, front_there}
 use Rattle.changed_chunks.proofs.changing.inserted.Goals as goal
 
 pub returns-in_err-input-clause-front : goal.returns-in_err-input-clause-front
@@ -65,3 +66,12 @@ returns-in_ok-put_over_target-in-Ok-clause-only g c = (
       (g.S.ChunkSource.state c.args.source.now) (g.S.ChunkSource.state c.input_of.new.source) (g.S.ChunkSource.state c.put_over_target.new.source)
       c.in_ok-input.ensures.kept c.in_ok-input.ensures.asked c.in_ok-put_over_target-in-Ok.ensures.asked,
 )
+
+pub returns-in_ok-put_over_target-in-Ok-clause-counted : goal.returns-in_ok-put_over_target-in-Ok-clause-counted
+returns-in_ok-put_over_target-in-Ok-clause-counted g c db tells =
+    let old = g.S.ChunkSource.state c.args.source.now in
+    let new = g.S.ChunkSource.state c.put_over_target.new.source in
+    let target = c.args.target.now in
+    counted_there c.args.schema.now c.args.plan.now target old new c.in-Ok.input db c.in_ok-input.field-0 c.in-Ok.is (c.in_ok-input.ensures.found db tells)
+    c.put_over_target.new.asking (version_rows (rows_of db) target.name target.version)
+    (c.in_ok-put_over_target-in-Ok.ensures.counted (rows_of db) ((c.in_ok-input.ensures.kept.tells (rows_of db)).1 tells))

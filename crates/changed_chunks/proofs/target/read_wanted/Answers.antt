@@ -9,42 +9,50 @@ use Rattle.leaf_parts.proofs.ReadLaws.{wanted_among}
 use Rattle.changed_chunks.specs.Wanted.{is_wanted, target_wanted}
 use Rattle.changed_chunks.proofs.Asked.{asked_listed, front_listed}
 use Rattle.changed_chunks.proofs.Chunks.{read_stored}
+use Rattle.changed_chunks.proofs.Counted.{asking_told, whatever}
 use Rattle.changed_chunks.proofs.Serves.{read_serves}
 use Rattle.changed_chunks.proofs.target.read_wanted.Goals as goal
 
 pub read_chunks-requires-clause-listed : goal.read_chunks-requires-clause-listed
 read_chunks-requires-clause-listed g c =
     wanted_among (g.S.ChunkSource.state c.args.source.now) (g.S.ChunkSource.state c.listed.new.self) c.args.leaf.now
-    (λ at. is_wanted c.args.put.now.schema.dimensions (cores_of c.args.put.now) at.items) c.in_ok-stored.stored c.as_slice.result.now
-    c.in_ok-stored.ensures.kept c.in_ok-stored.ensures.listed (c.as_slice.ensures ∙ c.in_ok-wanted.ensures)
+    (λ at. is_wanted c.args.put.now.schema.dimensions (cores_of c.args.put.now) at.items) c.in_ok-listed.listed c.as_slice-3.result.now
+    c.in_ok-listed.ensures.kept c.in_ok-listed.ensures.listed (c.as_slice-3.ensures ∙ c.in_ok-wanted.ensures)
 
 pub returns-clause-stored : goal.returns-clause-stored
-returns-clause-stored g c = read_stored c.args.leaf.now c.as_slice.result.now c.read_chunks.result (subst IsValid c.requires.schema c.requires.put.holds.rows_of.valid) c.read_chunks.ensures.stored
+returns-clause-stored g c = read_stored c.args.leaf.now c.as_slice-3.result.now c.read_chunks.result (subst IsValid c.requires.schema c.requires.put.holds.rows_of.valid) c.read_chunks.ensures.stored
 
 pub returns-clause-told : goal.returns-clause-told
 returns-clause-told g c =
     let valid : IsValid c.args.leaf.now.schema = subst IsValid c.requires.schema c.requires.put.holds.rows_of.valid in
-    let are = read_stored c.args.leaf.now c.as_slice.result.now c.read_chunks.result valid c.read_chunks.ensures.stored in
-    read_serves (g.S.ChunkSource.state c.args.source.now) (g.S.ChunkSource.state c.listed.new.self) c.args.leaf.now (cores_of c.args.put.now) c.in_ok-stored.stored c.as_slice.result.now c.read_chunks.result
-    (c.as_slice.ensures ∙ c.in_ok-wanted.ensures ∙ ap (λ (z : Schema). target_wanted z.dimensions (cores_of c.args.put.now) c.in_ok-stored.stored) c.requires.schema)
-    c.in_ok-stored.ensures.kept (λ db t. c.in_ok-stored.ensures.told db t valid) c.read_chunks.ensures.stored are c.read_chunks.ensures.told
+    let are = read_stored c.args.leaf.now c.as_slice-3.result.now c.read_chunks.result valid c.read_chunks.ensures.stored in
+    read_serves (g.S.ChunkSource.state c.args.source.now) (g.S.ChunkSource.state c.listed.new.self) c.args.leaf.now (cores_of c.args.put.now) c.in_ok-listed.listed c.as_slice-3.result.now c.read_chunks.result
+    (c.as_slice-3.ensures ∙ c.in_ok-wanted.ensures ∙ ap (λ (z : Schema). target_wanted z.dimensions (cores_of c.args.put.now) c.in_ok-listed.listed) c.requires.schema)
+    c.in_ok-listed.ensures.kept (λ db t. c.in_ok-listed.ensures.told db t valid) c.read_chunks.ensures.stored are c.read_chunks.ensures.told
+
+pub returns-clause-counted : goal.returns-clause-counted
+returns-clause-counted g c =
+    whatever c.read_chunks.result _
+    (λ chunks db tells. asking_told db c.args.leaf.now c.args.put.now.schema (cores_of c.args.put.now) c.in_ok-listed.listed c.in_ok-wanted.wanted c.as_slice.result.now c.as_slice-2.result.now
+    c.count_chunks-asked.result c.count_chunks-stored.result c.requires.schema c.requires.put.holds.rows_of.valid c.in_ok-wanted.ensures c.as_slice.ensures c.as_slice-2.ensures
+    c.count_chunks-asked.ensures c.count_chunks-stored.ensures c.in_ok-listed.ensures.rising (c.in_ok-listed.ensures.told db tells))
 
 pub returns-clause-asked : goal.returns-clause-asked
 returns-clause-asked g c =
-    asked_listed c.read_chunks.result c.args.number (g.S.ChunkSource.state c.args.source.now) (g.S.ChunkSource.state c.listed.new.self) (g.S.ChunkSource.state c.read_chunks.new.source) c.as_slice.result.now
+    asked_listed c.read_chunks.result c.args.number (g.S.ChunkSource.state c.args.source.now) (g.S.ChunkSource.state c.listed.new.self) (g.S.ChunkSource.state c.read_chunks.new.source) c.as_slice-3.result.now
     (target_wanted c.args.leaf.now.schema.dimensions (cores_of c.args.put.now) (listed (g.S.ChunkSource.state c.args.source.now) c.args.leaf.now))
-    (c.as_slice.ensures ∙ c.in_ok-wanted.ensures ∙ (λ i. target_wanted (c.requires.schema i).dimensions (cores_of c.args.put.now) (c.in_ok-stored.ensures.listed i)))
-    c.in_ok-stored.ensures.asked c.read_chunks.ensures.asked
+    (c.as_slice-3.ensures ∙ c.in_ok-wanted.ensures ∙ (λ i. target_wanted (c.requires.schema i).dimensions (cores_of c.args.put.now) (c.in_ok-listed.ensures.listed i)))
+    c.in_ok-listed.ensures.asked c.read_chunks.ensures.asked
 
 pub returns-clause-front : goal.returns-clause-front
 returns-clause-front g c =
-    front_listed c.read_chunks.result c.args.number (g.S.ChunkSource.state c.args.source.now) (g.S.ChunkSource.state c.listed.new.self) (g.S.ChunkSource.state c.read_chunks.new.source) c.as_slice.result.now
+    front_listed c.read_chunks.result c.args.number (g.S.ChunkSource.state c.args.source.now) (g.S.ChunkSource.state c.listed.new.self) (g.S.ChunkSource.state c.read_chunks.new.source) c.as_slice-3.result.now
     (target_wanted c.args.leaf.now.schema.dimensions (cores_of c.args.put.now) (listed (g.S.ChunkSource.state c.args.source.now) c.args.leaf.now))
-    (c.as_slice.ensures ∙ c.in_ok-wanted.ensures ∙ (λ i. target_wanted (c.requires.schema i).dimensions (cores_of c.args.put.now) (c.in_ok-stored.ensures.listed i)))
-    c.in_ok-stored.ensures.asked c.read_chunks.ensures.front
+    (c.as_slice-3.ensures ∙ c.in_ok-wanted.ensures ∙ (λ i. target_wanted (c.requires.schema i).dimensions (cores_of c.args.put.now) (c.in_ok-listed.ensures.listed i)))
+    c.in_ok-listed.ensures.asked c.read_chunks.ensures.front
 
-pub returns-in_err-stored-clause-front : goal.returns-in_err-stored-clause-front
-returns-in_err-stored-clause-front g c = on_err _ _ (asked_none _ _ _ c.in_err-stored.ensures.asked)
+pub returns-in_err-listed-clause-front : goal.returns-in_err-listed-clause-front
+returns-in_err-listed-clause-front g c = on_err _ _ (asked_none _ _ _ c.in_err-listed.ensures.asked)
 
 pub returns-in_err-wanted-clause-front : goal.returns-in_err-wanted-clause-front
-returns-in_err-wanted-clause-front g c = on_err _ _ (asked_none _ _ _ c.in_ok-stored.ensures.asked)
+returns-in_err-wanted-clause-front g c = on_err _ _ (asked_none _ _ _ c.in_ok-listed.ensures.asked)

@@ -1,10 +1,13 @@
-use Rattle.std.proofs.Common.{◌<◌, ◌≤◌, ◌-◌, ◌^◌, refl, inl, inr, [], ◌∷◌, sym, arith}
+use Rattle.std.proofs.Common.{◌≡◌, ℕ, ◌<◌, ◌≤◌, ◌-◌, ◌^◌, Bool, true, false, refl, inl, inr, List, [], ◌∷◌, ◌++◌, ap, sym, arith}
 use Rattle.std.specs.Prelude.{codes}
 use Rattle.std.proofs.lemmas.Bool.{true≢false}
 use Rattle.afl_types.specs.declared.statements.checking.Typed.TheVariants.{Change as AChange}
 use Rattle.check_rules.specs.Operators.{query_named, change_named}
 use Rattle.plan_changes.specs.declared.change.Change.TheVariants.{Remove}
 use Rattle.plan_changes.specs.Databases.{Database}
+use Rattle.statement_replies.specs.Reply.{traced}
+use Rattle.statement_replies.specs.Statements.{text_alone}
+use Rattle.statement_replies.specs.declared.style.Style.{Style}
 use Rattle.store_state.specs.Standings.{BeganAs}
 use Rattle.told_stores.specs.Worked.{worked_leaf}
 use Rattle.session_replies.specs.WorkedReplies.{unknown_moment}
@@ -27,12 +30,20 @@ all_four = omega arith
 next_number : 2 < 2 ^ 64 - 1
 next_number = omega arith
 
+-- no lines stand behind the removal, whether they are wanted or not
+no_lines : (wanted : Bool) → traced (record { csv = false; trace = wanted }) [] ≡ []
+no_lines true = refl
+no_lines false = refl
+
+removal_told : (style : Style) → text_alone (codes "ok\n") ≡ text_alone (codes "ok\n" ++ traced style [])
+removal_told style = ap (λ (lines : List ℕ). text_alone (codes "ok\n" ++ lines)) (sym (no_lines style.trace))
+
 pub returns : goal.returns
 unfolding query_named change_named
 returns c style = record {
   removed = (
     (record { version = []; catalogue = 5 ∷ 6 ∷ [] }, record { is = refl; later = one_of_two }),
-    record { kind = refl; told = λ db began. absurd (unknown db began) },
+    record { kind = (([], ([], refl, refl), removal_told style), refl); told = λ db began. absurd (unknown db began) },
     record { next = next_number; fits = record { count = 0; needed = λ db began. absurd (unknown db began); fits = omega arith } },
   );
   refused = (

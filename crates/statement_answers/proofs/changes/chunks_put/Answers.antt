@@ -1,7 +1,9 @@
-use Rattle.std.proofs.Common.{◌≡◌, ◌++◌, Ok, refl, subst}
+use Rattle.std.proofs.Common.{◌≡◌, ◌++◌, Ok, IfOk, refl, subst}
 use Rattle.afl_types.specs.declared.statements.checking.Typed.TheVariants.{Change as AChange}
 use Rattle.chunk_source.proofs.ReadLemmas.{on_err}
-use Rattle.changed_chunks.specs.Changing.{IsAnswerOver}
+use Rattle.plan_changes.specs.Databases.{Database}
+use Rattle.changed_chunks.specs.Changing.{IsAnswerOver, IsToldOf}
+use Rattle.changed_chunks.specs.Targets.{IsTargetAsking}
 use Rattle.statement_answers.specs.Inner.Made.{asked_made}
 use Rattle.statement_answers.specs.Outcomes.{ForRowsPut}
 use Rattle.statement_answers.proofs.Asking.{none_asked, put_asked, put_front, with_chunks}
@@ -18,6 +20,16 @@ returns-in-Ok-clause-told g c db there =
     let source = g.S.ChunkSource.state c.args.source.now in
     let over = told_of c.args.names.now c.args.change.now c.args.name.now c.args.schema.now c.in_ok-target.target c.in_ok-target.ensures c.requires.put source db there in
     some_made db c.args.change.now c.in-Ok.changed (subst (IsAnswerOver db c.args.change.now) c.in-Ok.is (c.in_ok-changed.ensures.told db over))
+
+pub returns-in-Ok-clause-counted : goal.returns-in-Ok-clause-counted
+returns-in-Ok-clause-counted g c db there =
+    let source = g.S.ChunkSource.state c.args.source.now in
+    let change = c.args.change.now in
+    let over = told_of c.args.names.now change c.args.name.now c.args.schema.now c.in_ok-target.target c.in_ok-target.ensures c.requires.put source db there in
+    let counted : (d : Database) → IsToldOf source change c.in_ok-target.target d → IsTargetAsking d change c.changed.new.asking
+    = subst (λ made. IfOk made (λ changed. (d : Database) → IsToldOf source change c.in_ok-target.target d → IsTargetAsking d change c.changed.new.asking)) c.in-Ok.is
+    c.in_ok-changed.ensures.counted in
+    counted db over
 
 pub returns-in_err-target-clause-front : goal.returns-in_err-target-clause-front
 returns-in_err-target-clause-front g c =

@@ -6,12 +6,12 @@ use Rattle.statement_answers.proofs.Answering.{good}
 use Rattle.statement_answers.proofs.changes.outcome_of_change.Goals as goal
 
 pub returns-in-Ok-clause-kind : goal.returns-in-Ok-clause-kind
-returns-in-Ok-clause-kind g c style =
-    subst (HasOutcomeKind style c.args.names.now (good (AChange c.args.change))) (sym c.outcome_with.ensures) (c.in-Ok.ensures.kind style)
+returns-in-Ok-clause-kind g c =
+    subst (HasOutcomeKind c.args.style c.args.names.now (good (AChange c.args.change))) (sym c.outcome_with.ensures) c.in-Ok.ensures.kind
 
 pub returns-in-Ok-clause-told : goal.returns-in-Ok-clause-told
-returns-in-Ok-clause-told g c style db there =
-    subst (IsOutcomeOf db (reply_to_typed style db (AChange c.args.change))) (sym c.outcome_with.ensures) (c.in-Ok.ensures.told style db there)
+returns-in-Ok-clause-told g c db there =
+    subst (IsOutcomeOf db (reply_to_typed c.args.style db (AChange c.args.change))) (sym c.outcome_with.ensures) (c.in-Ok.ensures.told db there)
 
 pub returns-in-Ok-clause-asked : goal.returns-in-Ok-clause-asked
 returns-in-Ok-clause-asked g c =

@@ -5,8 +5,8 @@ use Rattle.chunk_source.proofs.ReadLemmas.{on_err}
 use Rattle.statement_replies.specs.Statements.{list_reply, show_reply, versions_reply, without_change}
 use Rattle.statement_answers.specs.declared.outcome.Outcome.TheVariants.{Replied}
 use Rattle.statement_answers.specs.Inner.Made.{CanAnswer}
-use Rattle.statement_answers.specs.Outcomes.{HasOutcomeKind, asked_for}
-use Rattle.statement_answers.proofs.Answering.{asked_over, front_over, good, in_style, kind_over, listing_told, told_in, told_over}
+use Rattle.statement_answers.specs.Outcomes.{asked_for}
+use Rattle.statement_answers.proofs.Answering.{asked_over, front_over, good, kind_over, listing_told, told_over}
 use Rattle.statement_answers.proofs.Asking.{none_asked, nothing_asked}
 use Rattle.statement_answers.proofs.statements.outcome_of_typed.Goals as goal
 
@@ -45,14 +45,12 @@ returns-in-Query-clause-front g c =
 pub returns-in-Change-clause-kind : goal.returns-in-Change-clause-kind
 returns-in-Change-clause-kind g c =
     kind_over c.args.names.now (good c.args.typed) (good (AChange c.in-Change.change)) (ap good c.in-Change.is) c.args.style
-    c.outcome_of_change.result
-    (in_style (λ s outcome. HasOutcomeKind s c.args.names.now (good (AChange c.in-Change.change)) outcome) c.args.style c.outcome_of_change.result c.outcome_of_change.ensures.kind)
+    c.outcome_of_change.result c.outcome_of_change.ensures.kind
 
 pub returns-in-Change-clause-told : goal.returns-in-Change-clause-told
 returns-in-Change-clause-told g c =
     told_over c.args.names.now (good c.args.typed) (good (AChange c.in-Change.change)) (ap good c.in-Change.is) c.args.style (g.S.ChunkSource.state c.args.source.now)
-    c.outcome_of_change.result
-    (told_in c.args.style c.args.names.now (g.S.ChunkSource.state c.args.source.now) c.in-Change.change c.outcome_of_change.result c.outcome_of_change.ensures.told)
+    c.outcome_of_change.result c.outcome_of_change.ensures.told
 
 pub returns-in-Change-clause-asked : goal.returns-in-Change-clause-asked
 returns-in-Change-clause-asked g c =

@@ -1,9 +1,20 @@
-use Rattle.logical_plan.specs.PlanSchema.{schema_of}
-use Rattle.chunk_source.proofs.ReadLemmas.{asked_all}
+use Rattle.std.proofs.Common.{◌∙◌}
+use Rattle.chunk_source.proofs.ReadLemmas.{asked_all, on_err}
+use Rattle.plan_rows.specs.Held.{rows_held}
+use Rattle.statement_replies.proofs.TracedReplies.{can_still, told_before}
 use Rattle.statement_replies.proofs.queries.answer_query.Goals as goal
 
-pub returns-in-Ok-reply_of-clause-kind : goal.returns-in-Ok-reply_of-clause-kind
-returns-in-Ok-reply_of-clause-kind g c = c.in-Ok-reply_of.ensures.kind (schema_of c.args.plan.now) c.in-Ok.ensures.schema
+pub reply_with_lines-answer-requires-clause-can : goal.reply_with_lines-answer-requires-clause-can
+reply_with_lines-answer-requires-clause-can g c =
+    can_still (g.S.ChunkSource.state c.args.source.now) (g.S.ChunkSource.state c.array_of.new.source) c.args.plan.now c.array_of.ensures.kept c.requires.can
 
-pub returns-in-Err-reply_of-clause-front : goal.returns-in-Err-reply_of-clause-front
-returns-in-Err-reply_of-clause-front g c = asked_all _ _ _ c.in-Ok.ensures.asked
+pub returns-in-Ok-clause-kind : goal.returns-in-Ok-clause-kind
+returns-in-Ok-clause-kind g c = c.reply_with_lines-answer.ensures.kind c.in-Ok.ensures.schema
+
+pub returns-in-Ok-clause-told : goal.returns-in-Ok-clause-told
+returns-in-Ok-clause-told g c =
+    told_before c.reply_with_lines-answer.result (g.S.ChunkSource.state c.args.source.now) (g.S.ChunkSource.state c.array_of.new.source) c.args.style c.args.plan.now (rows_held c.in-Ok.found) c.array_of.ensures.kept
+    c.reply_with_lines-answer.ensures.told c.in-Ok.ensures.found
+
+pub returns-in-Ok-clause-front : goal.returns-in-Ok-clause-front
+returns-in-Ok-clause-front g c = on_err _ _ (asked_all _ _ _ (c.reply_with_lines-answer.ensures.asked ∙ c.in-Ok.ensures.asked))

@@ -1,0 +1,29 @@
+-- How many chunks of its target an insert asks for, and how many the target has.
+use Rattle.std.specs.Prelude.{◌≡◌, ℕ, List}
+use Rattle.cell_values.specs.declared.datum.Row.{Row}
+use Rattle.cell_values.specs.declared.schema.Dimension.{Dimension}
+use Rattle.cell_values.specs.declared.schema.Schema.{Schema}
+use Rattle.commit_costs.specs.Costs.{numbers_of}
+use Rattle.logical_plan.specs.Query.{Query}
+use Rattle.plan_changes.specs.declared.change.Change.{Change}
+use Rattle.plan_changes.specs.declared.change.Change.TheVariants.{Create, Store, Insert, Remove, RemoveVersions}
+use Rattle.plan_changes.specs.Databases.{Database, fitted, newest_rows, rows_if_whole}
+use Rattle.plan_traces.specs.declared.asking.Asking.{Asking}
+use Rattle.plan_traces.specs.Traced.{asking_where}
+use Rattle.changed_chunks.specs.Wanted.{is_wanted}
+
+-- where rows are put into those of a version, whose chunks are those whose core holds a row
+abbrev pub asking_put : List Dimension → List Row → List Row → Asking
+asking_put dims new old = asking_where (is_wanted dims new) (numbers_of dims old)
+
+-- in a database the rows of the plan's array are put into those of the newest version
+abbrev pub target_asking : Database → List ℕ → Schema → Query → Asking
+target_asking db name schema plan = asking_put schema.dimensions (rows_if_whole (fitted schema plan db)) (newest_rows db name)
+
+-- no other change has a target
+abbrev pub IsTargetAsking : Database → Change → Asking → Type 0
+IsTargetAsking db (Create name schema) asking = Unit {0}
+IsTargetAsking db (Store name schema plan) asking = Unit {0}
+IsTargetAsking db (Insert name schema plan) asking = asking ≡ target_asking db name schema plan
+IsTargetAsking db (Remove name) asking = Unit {0}
+IsTargetAsking db (RemoveVersions name below) asking = Unit {0}

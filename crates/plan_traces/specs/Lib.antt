@@ -1,0 +1,4 @@
+pub mod Counted
+pub mod Inner
+pub mod Line
+pub mod Traced

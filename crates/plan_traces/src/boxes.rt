@@ -1,0 +1,31 @@
+//! The boxes of its leaves that a plan needs for all its result.
+ghost use Rattle.std.specs.Prelude.{◌≡◌, IfOk};
+ghost use Rattle.cell_values.specs.Schemas.{IsValid};
+ghost use Rattle.array_rows.specs.Boxes.{bounds_of};
+ghost use Rattle.logical_plan.specs.Typing.{IsTyped};
+ghost use Rattle.plan_needs.specs.Wanted.{whole_need};
+
+use cell_values::{Bounds, List, Memory, Schema};
+use logical_plan::Plan;
+use plan_needs::need;
+use plan_schemas::schema_of;
+use redimension_exec::bounds_of;
+use std::alloc::Global;
+
+#[tactic(auto, using(array_geom::proofs::MarginLaws::few_dimensions))]
+fn bounds(schema: &Schema) -> Bounds
+    requires { IsValid schema.now }
+    ensures { result ≡ bounds_of schema.now.dimensions }
+{
+    bounds_of(schema.dimensions.as_slice())
+}
+
+/// One for each leaf of a typed plan, from left to right.
+#[tactic(auto, using(logical_plan::proofs::SchemaLaws::typed_valid))]
+pub(crate) fn boxes_of(alloc: Global, plan: &Plan) -> Result<List<Bounds>, Memory>
+    requires { IsTyped plan.now }
+    ensures { IfOk result (λ boxes. boxes ≡ whole_need plan.now) }
+{
+    let schema = schema_of(alloc, plan)?;
+    need(alloc, plan, &bounds(&schema))
+}

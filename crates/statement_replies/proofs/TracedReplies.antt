@@ -1,0 +1,26 @@
+-- Replies behind what was read for them.
+use Rattle.std.proofs.Common.{◌≡◌, List, Result, Ok, Err, IfOk}
+use Rattle.std.specs.List.{AllByRecursion}
+use Rattle.logical_plan.specs.Leaves.{leaves}
+use Rattle.logical_plan.specs.Meaning.{Database, meaning}
+use Rattle.logical_plan.specs.Query.{Query}
+use Rattle.chunk_source.specs.Source.{Keeps, SourceState}
+use Rattle.plan_rows.specs.Computed.{CanCompute}
+use Rattle.plan_rows.specs.Found.{IsFound}
+use Rattle.plan_rows.specs.declared.answers.rows.PlanRows.{PlanRows}
+use Rattle.plan_traces.proofs.Tracing.{all_read}
+use Rattle.statement_replies.specs.Reply.{plan_reply}
+use Rattle.statement_replies.specs.declared.replies.Reply.{Reply}
+use Rattle.statement_replies.specs.declared.style.Style.{Style}
+
+-- a plan can be computed as before
+pub can_still : (old mid : SourceState) (plan : Query) → Keeps old mid → CanCompute old plan → CanCompute mid plan
+can_still old mid plan kept can = record { typed = can.typed; reads = all_read old mid (leaves plan) kept can.reads }
+
+-- what a later state tells an earlier one told
+pub told_before : {E : Type 0} (answer : Result Reply E) (old mid : SourceState) (style : Style) (plan : Query) (found : PlanRows) → Keeps old mid
+    → IfOk answer (λ reply. (db : Database) → mid.tells db → IsFound (meaning db plan) found → reply ≡ plan_reply style db plan)
+    → ((db : Database) → old.tells db → IsFound (meaning db plan) found)
+    → IfOk answer (λ reply. (db : Database) → old.tells db → reply ≡ plan_reply style db plan)
+told_before (Ok reply) old mid style plan found kept told is = λ db t. told db ((kept.tells db).1 t) (is db t)
+told_before (Err fault) old mid style plan found kept told is = tt
