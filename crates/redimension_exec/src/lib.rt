@@ -2,6 +2,7 @@
 #![tactic(auto)]
 
 mod arrays;
+mod filling;
 mod landings;
 mod places;
 
