@@ -1,5 +1,4 @@
 pub mod BlockLaws
-pub mod ColumnLaws
 mod CoreSets
 pub mod FormLaws
 pub mod GroupLaws

@@ -1,4 +1,3 @@
-pub mod Columns
 pub mod Keys
 pub mod Merged
 pub mod Merging

@@ -1,7 +1,6 @@
 //! Aggregates of groups of cells, chunk by chunk.
 
 mod blocks;
-mod columns;
 mod cores;
 mod merged;
 mod named;
