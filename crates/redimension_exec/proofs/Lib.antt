@@ -1,9 +1,7 @@
 pub mod ArraysGatherLaws
 pub mod BandGroups
 pub mod CountLaws
-pub mod FillLaws
 pub mod GroupLaws
-pub mod HoldLaws
 pub mod LandedLaws
 pub mod LandingLaws
 pub mod LandingsGatherLaws
@@ -13,6 +11,5 @@ pub mod SortLaws
 pub mod StateLaws
 pub mod StepLaws
 pub mod TakenLaws
-pub mod TellLaws
 pub mod ValueLaws
 mod WorkedTargets

@@ -108,7 +108,7 @@ module _ (origins : List Origin) (bounds : Bounds) (values : List Origin) where
     counts_of = steps.counts_of;
   }
 
-  pub both_steps : (made front back all made' made'' : List Row) (counts counts' : BTreeMap (ArrayVec ℤ) ℕ) (broken : Option Broken) → all ≡ front ++ back
+  both_steps : (made front back all made' made'' : List Row) (counts counts' : BTreeMap (ArrayVec ℤ) ℕ) (broken : Option Broken) → all ≡ front ++ back
       → AreSteps origins bounds values made front None made' counts → AreSteps origins bounds values made' back broken made'' counts' → AreSteps origins bounds values made all broken made'' counts'
   both_steps made front back all made' made'' counts counts' broken e steps more_steps = record {
     same = λ more. in_two made front back all more e ∙ steps.same (back ++ more) ∙ more_steps.same more;

@@ -1,6 +1,5 @@
 pub mod Bands
 pub mod Counting
-pub mod Filling
 pub mod Grouping
 pub mod Places
 pub mod Sorting

@@ -2,7 +2,6 @@
 #![tactic(auto)]
 
 mod arrays;
-mod filling;
 mod landings;
 mod places;
 

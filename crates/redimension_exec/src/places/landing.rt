@@ -1,11 +1,8 @@
 //! Rows moved to their targets one after the other.
-ghost use Rattle.std.specs.Prelude.{◌≡◌, ◌≤◌, List as Items, [], true, map, length, IsTrue, IfOk, IfSome};
-ghost use Rattle.cell_values.specs.declared.datum.Row.{Row as Placed};
-ghost use Rattle.array_rows.specs.Boxes.{is_inside};
+ghost use Rattle.std.specs.Prelude.{◌≡◌, ◌≤◌, List as Items, [], true, map, length, IfOk};
 ghost use Rattle.array_rows.specs.Rows.{Coordinate};
 ghost use Rattle.logical_plan.specs.Redimension.{landed, carried};
 ghost use Rattle.redimension_exec.specs.Inner.Counting.{AreCountsOf, HasLows};
-ghost use Rattle.redimension_exec.specs.Inner.Filling.{IsNext, LandsInside};
 ghost use Rattle.redimension_exec.specs.Inner.Places.{origin};
 ghost use Rattle.redimension_exec.specs.Inner.Steps.{AreSteps, IsPlaced, IsLanded, IsStep, continued, targets_of};
 
@@ -24,8 +21,7 @@ fn place(
 ) -> Result<Result<Coord, FaultKind>, Memory>
     requires each { length first.now.items ≡ length places.now }
     requires lows { HasLows (map origin places.now) first.now.items }
-    ensures inside { IfOk result (λ placed. IfOk placed (λ at. IsTrue (is_inside bounds.now at.items))) }
-    ensures placed { (taken : Items Coordinate) → AreCountsOf (map origin places.now) taken counts.old
+    ensures { (taken : Items Coordinate) → AreCountsOf (map origin places.now) taken counts.old
         → IfOk result (λ placed. IsPlaced (map origin places.now) bounds.now taken first.now.items placed counts.new) }
 {
     let key = uncounted(places, first);
@@ -49,8 +45,7 @@ fn land(
     row: &Row,
 ) -> Result<Result<Option<Coord>, FaultKind>, Memory>
     requires { length places.now ≤ 6 }
-    ensures inside { IfOk result (λ landed. IfOk landed (λ o. IfSome o (λ at. IsTrue (is_inside bounds.now at.items)))) }
-    ensures landed { (taken : Items Coordinate) → AreCountsOf (map origin places.now) taken counts.old
+    ensures { (taken : Items Coordinate) → AreCountsOf (map origin places.now) taken counts.old
         → IfOk result (λ landed. IsLanded (map origin places.now) bounds.now taken row.now.at.items row.now.cell landed counts.new) }
 {
     match first_numbers(places, row) {
@@ -74,36 +69,6 @@ fn carried(values: &[Place], at: Coord, row: &Row) -> Result<Row, Memory>
     Ok(Row { at, cell })
 }
 
-/// What becomes of one row: a row at its target, nothing, or why it breaks the array.
-#[derive(Drop)]
-pub(crate) enum Step {
-    Lands(Row),
-    Drops,
-    Breaks(FaultKind),
-}
-
-pub(crate) fn next_of(
-    places: &[Place],
-    bounds: &Bounds,
-    values: &[Place],
-    counts: &mut BTreeMap<Coord, u64>,
-    row: &Row,
-) -> Result<Step, Memory>
-    requires { length places.now ≤ 6 }
-    ensures inside { IfOk result (LandsInside bounds.now) }
-    ensures next { IfOk result (λ step. (made : Items Placed) → AreCountsOf (map origin places.now) (targets_of made) counts.old
-        → IsNext (map origin places.now) bounds.now (map origin values.now) made row.now step counts.new) }
-{
-    match land(places, bounds, counts, row)? {
-        Err(kind) => Ok(Step::Breaks(kind)),
-        Ok(None) => Ok(Step::Drops),
-        Ok(Some(at)) => {
-            let new = carried(values, at, row)?;
-            Ok(Step::Lands(new))
-        }
-    }
-}
-
 /// Adds what one row makes, or says why it breaks the array.
 fn land_next(
     places: &[Place],
@@ -117,12 +82,11 @@ fn land_next(
     requires counts { AreCountsOf (map origin places.now) (targets_of made.old) counts.old }
     ensures { IfOk result (λ fault. IsStep (map origin places.now) bounds.now (map origin values.now) made.old row.now fault made.new counts.new) }
 {
-    let step = next_of(places, bounds, values, counts, row)?;
-    match step {
-        Step::Breaks(kind) => Ok(Some(kind)),
-        Step::Drops => Ok(None),
-        Step::Lands(new) => {
-            made.push(new)?;
+    match land(places, bounds, counts, row)? {
+        Err(kind) => Ok(Some(kind)),
+        Ok(None) => Ok(None),
+        Ok(Some(at)) => {
+            made.push(carried(values, at, row)?)?;
             Ok(None)
         }
     }

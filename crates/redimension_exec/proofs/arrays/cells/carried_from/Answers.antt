@@ -1,8 +1,8 @@
 use Rattle.area_cells.proofs.PieceLaws.{rise_in_cores}
-use Rattle.redimension_exec.proofs.arrays.cells.filled_from.Goals as goal
+use Rattle.redimension_exec.proofs.arrays.cells.carried_from.Goals as goal
 
-pub filled_in_bands-requires-clause-bands : goal.filled_in_bands-requires-clause-bands
-filled_in_bands-requires-clause-bands c =
+pub carried_in_bands-requires-clause-bands : goal.carried_in_bands-requires-clause-bands
+carried_in_bands-requires-clause-bands c =
     let array = c.args.array in
     record {
       some = c.has_bands.ensures.some c.if-has_bands.true;
