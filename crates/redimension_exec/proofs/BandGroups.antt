@@ -135,10 +135,9 @@ pub cut_rows : (dims : List Dimension) (margins : List ℕ) (n : ℕ) (chunks fr
     → core_rows dims margins chunks ≡ core_rows dims margins front ++ core_rows dims margins back
 cut_rows dims margins n chunks front back e f b = e ∙ (λ i. core_rows dims margins (sym f i) ++ core_rows dims margins (sym b i))
 
-pub front_bands : (source : Schema) (margins : List ℕ) (n : ℕ) (chunks front back : List Chunk) → AreBands source margins chunks → 0 < n → n < length chunks
-    → core_rows source.dimensions margins chunks ≡ core_rows source.dimensions margins front ++ core_rows source.dimensions margins back → front ≡ take n chunks → AreBands source margins front
-front_bands source margins n chunks front back are some less split is =
-    let sum = ap length split ∙ length-append (core_rows source.dimensions margins front) (core_rows source.dimensions margins back) in
+pub front_of : (source : Schema) (margins : List ℕ) (n : ℕ) (chunks front : List Chunk) → AreBands source margins chunks → 0 < n → n < length chunks
+    → length (core_rows source.dimensions margins front) ≤ length (core_rows source.dimensions margins chunks) → front ≡ take n chunks → AreBands source margins front
+front_of source margins n chunks front are some less few is =
     let counted = are.counted in
     let long = ap length is ∙ length-take n chunks in
     record {
@@ -146,13 +145,12 @@ front_bands source margins n chunks front back are some less split is =
       places = places_take source margins n chunks front is are.places;
       cores = subst (CoresRise source.dimensions margins) (sym is) (cores_take source.dimensions margins n chunks are.cores);
       rise = subst (λ (cs : List Chunk). NumbersRise (numbers cs)) (sym is) (rise_take n chunks are.rise);
-      counted = omega (arith, sum, counted);
+      counted = omega (arith, few, counted);
     }
 
-pub back_bands : (source : Schema) (margins : List ℕ) (n : ℕ) (chunks front back : List Chunk) → AreBands source margins chunks → n < length chunks
-    → core_rows source.dimensions margins chunks ≡ core_rows source.dimensions margins front ++ core_rows source.dimensions margins back → back ≡ drop n chunks → AreBands source margins back
-back_bands source margins n chunks front back are less split is =
-    let sum = ap length split ∙ length-append (core_rows source.dimensions margins front) (core_rows source.dimensions margins back) in
+pub back_of : (source : Schema) (margins : List ℕ) (n : ℕ) (chunks back : List Chunk) → AreBands source margins chunks → n < length chunks
+    → length (core_rows source.dimensions margins back) ≤ length (core_rows source.dimensions margins chunks) → back ≡ drop n chunks → AreBands source margins back
+back_of source margins n chunks back are less few is =
     let counted = are.counted in
     let long = ap length is ∙ length-drop n chunks in
     record {
@@ -160,8 +158,20 @@ back_bands source margins n chunks front back are less split is =
       places = places_drop source margins n chunks back is are.places;
       cores = subst (CoresRise source.dimensions margins) (sym is) (cores_drop source.dimensions margins n chunks are.cores);
       rise = subst (λ (cs : List Chunk). NumbersRise (numbers cs)) (sym is) (rise_drop n chunks are.rise);
-      counted = omega (arith, sum, counted);
+      counted = omega (arith, few, counted);
     }
+
+pub front_bands : (source : Schema) (margins : List ℕ) (n : ℕ) (chunks front back : List Chunk) → AreBands source margins chunks → 0 < n → n < length chunks
+    → core_rows source.dimensions margins chunks ≡ core_rows source.dimensions margins front ++ core_rows source.dimensions margins back → front ≡ take n chunks → AreBands source margins front
+front_bands source margins n chunks front back are some less split is =
+    let sum = ap length split ∙ length-append (core_rows source.dimensions margins front) (core_rows source.dimensions margins back) in
+    front_of source margins n chunks front are some less (omega (arith, sum)) is
+
+pub back_bands : (source : Schema) (margins : List ℕ) (n : ℕ) (chunks front back : List Chunk) → AreBands source margins chunks → n < length chunks
+    → core_rows source.dimensions margins chunks ≡ core_rows source.dimensions margins front ++ core_rows source.dimensions margins back → back ≡ drop n chunks → AreBands source margins back
+back_bands source margins n chunks front back are less split is =
+    let sum = ap length split ∙ length-append (core_rows source.dimensions margins front) (core_rows source.dimensions margins back) in
+    back_of source margins n chunks back are less (omega (arith, sum)) is
 
 module _ (whole front back : List Row) (split : whole ≡ front ++ back) where
   module _ (left right : Groups) (made_left made_right : Result Groups Broken) (is_left : made_left ≡ Ok left) (is_right : made_right ≡ Ok right)

@@ -28,7 +28,7 @@ use Rattle.redimension_exec.proofs.LandingLaws.{first_length}
 use Rattle.redimension_exec.proofs.TakenLaws.{up_none}
 
 module _ (origins : List Origin) (bounds : Bounds) (plain : has_counted origins ≡ false) where
-  landing_free : (a b : List Coordinate) (c : Coordinate) (cell : Cell) → landing_of origins bounds false a c cell ≡ landing_of origins bounds false b c cell
+  pub landing_free : (a b : List Coordinate) (c : Coordinate) (cell : Cell) → landing_of origins bounds false a c cell ≡ landing_of origins bounds false b c cell
   landing_free a b c (Doubt kind) = refl
   landing_free a b c (Full vs) =
       let first : Coordinate = first_numbers origins c (Full vs) in

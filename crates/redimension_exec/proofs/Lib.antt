@@ -1,5 +1,6 @@
 pub mod ArraysGatherLaws
 pub mod BandGroups
+pub mod ChunkLaws
 pub mod CountLaws
 pub mod GroupLaws
 pub mod LandedLaws

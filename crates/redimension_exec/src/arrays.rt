@@ -4,6 +4,7 @@ mod arrays;
 mod bands;
 mod building;
 mod cells;
+mod chunks;
 mod gathering;
 mod groups;
 mod moving;

@@ -27,7 +27,7 @@ pub(crate) fn has_bands(array: &ChunkedArray) -> bool
 }
 
 /// The groups of what lands of the cores of chunks, from all their rows.
-fn groups_in_band(
+pub(crate) fn groups_in_band(
     source: &Schema,
     target: &Schema,
     aggregates: &[Aggregate],

@@ -8,7 +8,7 @@ ghost use Rattle.array_parts.specs.Cores.{HaveCells, cores_of};
 ghost use Rattle.logical_plan.specs.Redimension.{gathered_rows, origin_of};
 ghost use Rattle.logical_plan.specs.Typing.{redimensions};
 
-use crate::arrays::bands::groups_in_bands;
+use crate::arrays::chunks::groups_of_cores;
 use crate::arrays::groups::groups_landed;
 use crate::arrays::ordering::aggregates_named;
 use array_geom::ChunkedArray;
@@ -44,7 +44,7 @@ pub(crate) fn gathered_rows(
     }
 }
 
-/// The same of the rows of an array's cores, band by band.
+/// The same of the rows of an array's cores, chunk by chunk, or band by band where a row breaks the array.
 #[tactic(auto, using(crate::proofs::MeantLaws::few_dimensions))]
 pub(crate) fn gathered_in_bands(
     array: &ChunkedArray,
@@ -63,7 +63,7 @@ pub(crate) fn gathered_in_bands(
     ensures rows { IfOk result (λ made. IfOk made (AreRowsOf target.now)) }
 {
     let ordered = aggregates_named(&target.attributes, aggregates)?;
-    match groups_in_bands(
+    match groups_of_cores(
         &array.schema,
         target,
         ordered.as_slice(),

@@ -14,11 +14,11 @@ use Rattle.redimension_exec.proofs.ArraysGatherLaws.{few_in, gathered_are, gathe
 use Rattle.redimension_exec.proofs.OrderLaws.{gathers}
 use Rattle.redimension_exec.proofs.arrays.gathering.gathered_in_bands.Goals as goal
 
-pub groups_in_bands-requires-clause-plain : goal.groups_in_bands-requires-clause-plain
-groups_in_bands-requires-clause-plain c = (gathers c.args.array.now.schema c.args.target.now c.args.aggregates.now c.requires.some c.requires.typed).plain
+pub groups_of_cores-requires-clause-plain : goal.groups_of_cores-requires-clause-plain
+groups_of_cores-requires-clause-plain c = (gathers c.args.array.now.schema c.args.target.now c.args.aggregates.now c.requires.some c.requires.typed).plain
 
-pub groups_in_bands-requires-clause-bands : goal.groups_in_bands-requires-clause-bands
-groups_in_bands-requires-clause-bands c =
+pub groups_of_cores-requires-clause-bands : goal.groups_of_cores-requires-clause-bands
+groups_of_cores-requires-clause-bands c =
     let array = c.args.array.now in
     subst (AreBands array.schema array.margins.items) (sym c.as_slice-2.ensures) (record {
       some = c.requires.chunks;
