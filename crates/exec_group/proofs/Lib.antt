@@ -1,4 +1,5 @@
 pub mod BlockLaws
+pub mod ColumnLaws
 mod CoreSets
 pub mod FormLaws
 pub mod GroupLaws

@@ -6,7 +6,7 @@ ghost use Rattle.exec_group.specs.Sets.{AreKeys};
 use cell_values::{Coord, List, Memory, Row, number_at};
 
 /// The numbers of a coordinate in these dimensions.
-fn named_key(dims: &[u32], at: &Coord) -> Coord
+pub(crate) fn named_key(dims: &[u32], at: &Coord) -> Coord
     requires { length dims.now ≤ 6 }
     ensures { result.items ≡ numbers_at dims.now at.now.items }
 {

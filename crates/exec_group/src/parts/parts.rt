@@ -10,6 +10,7 @@ ghost use Rattle.exec_group.specs.Grouped.{AreGroupsOf};
 ghost use Rattle.exec_group.specs.Inner.Keys.{core_of, aggregate_sets, regrid_sets};
 
 use crate::parts::blocks::block_keys;
+use crate::parts::columns::part_of_columns;
 use crate::parts::cores::rows_of_core;
 use crate::parts::named::named_keys;
 use crate::rows::{Groups, groups_of, one_group};
@@ -63,8 +64,8 @@ pub fn regrid_groups(
     groups_of(rows.allocator(), aggs, keys.as_slice(), rows.as_slice())
 }
 
-/// The groups of the cells of a chunk's core that agree in the named dimensions. Without names all are in one group at 0.
-pub fn aggregate_part(
+/// The groups of a chunk's core from its rows.
+fn part_of_rows(
     schema: &Schema,
     margins: &Margins,
     chunk: Chunk,
@@ -78,6 +79,28 @@ pub fn aggregate_part(
 {
     let rows = rows_of_core(schema, margins, chunk)?;
     aggregate_groups(&rows, aggs, dims)
+}
+
+/// The groups of the cells of a chunk's core that agree in the named dimensions. Without names all are in one group at 0.
+pub fn aggregate_part(
+    schema: &Schema,
+    margins: &Margins,
+    chunk: Chunk,
+    aggs: &[Aggregate],
+    dims: &[u32],
+) -> Result<Groups, Memory>
+    requires cells { HaveCells schema.now margins.now.items (chunk ∷ []) }
+    requires names { length dims.now ≤ 6 }
+    ensures groups { IfOk result (λ part. AreGroupsOf aggs.now (aggregate_sets dims.now (core_of schema.now.dimensions margins.now.items chunk)) part.groups) }
+    ensures cells { IfOk result (λ part. cells_in part.groups ≤ length (core_of schema.now.dimensions margins.now.items chunk)) }
+{
+    match part_of_columns(schema, margins, &chunk, aggs, dims)? {
+        Some(groups) => {
+            drop(chunk);
+            Ok(groups)
+        }
+        None => part_of_rows(schema, margins, chunk, aggs, dims),
+    }
 }
 
 /// The groups of the cells of a chunk's core by blocks, which are counted from the low bounds of the array.

@@ -27,7 +27,8 @@ fn groups_in_chunk(
     requires bands { AreBands source.now margins.now.items chunks.now }
     ensures groups { IfOk result (λ found. IfSome found (λ groups. AreGroupsLanded aggregates.now (map (origin_of source.now) target.now.dimensions)
         (bounds_of target.now.dimensions) (core_rows source.now.dimensions margins.now.items chunks.now) (Good groups))) }
-    ensures cells { IfOk result (λ found. IfSome found (λ groups. cells_in groups.groups ≤ length (core_rows source.now.dimensions margins.now.items chunks.now))) }
+    ensures cells { IfOk result (λ found. IfSome found (λ groups.
+        cells_in groups.groups ≤ length (core_rows source.now.dimensions margins.now.items chunks.now))) }
 {
     match groups_in_band(source, target, aggregates, margins, chunks)? {
         Err(_) => Ok(None),
@@ -48,7 +49,8 @@ fn groups_in_chunks(
     requires bands { AreBands source.now margins.now.items chunks.now }
     ensures groups { IfOk result (λ found. IfSome found (λ groups. AreGroupsLanded aggregates.now (map (origin_of source.now) target.now.dimensions)
         (bounds_of target.now.dimensions) (core_rows source.now.dimensions margins.now.items chunks.now) (Good groups))) }
-    ensures cells { IfOk result (λ found. IfSome found (λ groups. cells_in groups.groups ≤ length (core_rows source.now.dimensions margins.now.items chunks.now))) }
+    ensures cells { IfOk result (λ found. IfSome found (λ groups.
+        cells_in groups.groups ≤ length (core_rows source.now.dimensions margins.now.items chunks.now))) }
 {
     let half = chunks.len() / 2;
     if half == 0 {
