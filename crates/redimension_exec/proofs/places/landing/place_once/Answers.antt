@@ -1,0 +1,9 @@
+use Rattle.std.proofs.Common.{map, refl, sym, ◌∙◌, ◌<◌, ◌≤◌, arith}
+use Rattle.std.proofs.lemmas.List.{length-map}
+use Rattle.redimension_exec.specs.Inner.Places.{origin}
+use Rattle.redimension_exec.proofs.TakenLaws.{plain_beyond, plain_free, plain_taken}
+use Rattle.redimension_exec.proofs.places.landing.place_once.Goals as goal
+
+pub returns-in-None-clause-placed : goal.returns-in-None-clause-placed
+returns-in-None-clause-placed c =
+    plain_beyond (map origin c.args.places.now) c.args.bounds.now c.args.counts.now c.args.first.now.items c.requires.plain (c.requires.each ∙ sym (length-map c.args.places.now origin)) c.requires.lows (c.in-None.ensures.outside refl)
