@@ -5,6 +5,7 @@ use Rattle.std.proofs.lemmas.List.{append-nil, length-map}
 use Rattle.std.proofs.lemmas.Nat.{mul-le}
 use Rattle.std.specs.BTreeMap as tree
 use Rattle.std.specs.BTreeMap.{BTreeMap, Updates}
+use Rattle.std.specs.Option.{unwrap_or}
 use Rattle.std.specs.Int.{int_min}
 use Rattle.std.specs.Ordering.{is_eq}
 use Rattle.std.specs.Prelude.{int_le}
@@ -24,12 +25,13 @@ use Rattle.array_geom.specs.Link.{IsPart, number_order}
 use Rattle.array_geom.proofs.CoreLaws.{chunk_has_core, core_has, core_in_frame}
 use Rattle.array_geom.proofs.MarginLaws.{overlap_places}
 use Rattle.array_geom.proofs.NearLemmas.{valid_placed}
-use Rattle.array_geom.proofs.NumberLaws.{same_number}
+use Rattle.array_geom.proofs.NumberLaws.{is_equal, same_number}
 use Rattle.array_geom.proofs.TestLaws.{and_parts, and_both, le_test, le_from_test}
 use Rattle.array_parts.specs.Made.{with_cell}
 use Rattle.chunk_cells.proofs.CellLaws.{in_own_core, within-more}
 use Rattle.chunk_cells.proofs.PartLaws.{skips, takes}
-use Rattle.redimension_exec.specs.Inner.Filling.{AreHeld, IsHeld, IsHeldAt, by_number, no_cells, no_margins}
+use Rattle.redimension_exec.specs.Inner.Filling.{AreIn, IsHeld, IsHeldAt, by_number, chunk_at, no_cells, no_margins}
+use Rattle.redimension_exec.specs.declared.filling.chunks.Filled.{Filled}
 
 -- ---- frames without margins
 
@@ -130,25 +132,49 @@ module _ (target : Schema) (made : List Row) (row : Row) (number : ArrayVec ℕ)
         ∙ other_frame target key.items row.at.items valid (long_as_core target.dimensions key.items h.framed.core) inside (ap (λ (k : ChunkNumber). is_eq (number_order k key.items)) (sym own) ∙ n) in
         record { at = h.at; framed = h.framed; part = (skips target (no_margins target.dimensions) row chunk outside).part made h.part }
 
-    module _ (old new : BTreeMap (ArrayVec ℕ) Chunk) (chunk : Chunk) (u : Updates by_number old new number (Some chunk)) (holds : AreHeld target made old) where
-      each_key : IsHeldAt target (made ++ row ∷ []) number.items chunk → AreHeld target (made ++ row ∷ []) new
-      each_key held key = subst (IsHeld target (made ++ row ∷ []) key) (sym (u.0 key)) (cases (by_number number key) refl)
+    -- the chunk that stands at the number, or the first one there
+    held_here : (o : Option Chunk) → IsHeld target made number o → IsHeldAt target made number.items (unwrap_or o (no_cells number))
+    held_here (Some found) h = h
+    held_here None h = record {
+      at = refl;
+      framed = own_framed;
+      part = record { each = refl; in_frame = tt; cells = sym (h (long_as_core target.dimensions number.items own_framed.core)) };
+    }
+
+    module _ (old new : Filled) (chunk last : Chunk) (holds : AreIn target made old) (here : chunk ≡ unwrap_or (chunk_at old.last old.others number) (no_cells number))
+        (filled : last ≡ with_cell chunk place (Some row.cell)) (others : (key : ArrayVec ℕ) → is_eq (by_number number key) ≡ false → tree.get by_number new.others key ≡ chunk_at old.last old.others key) where
+      last_holds : IsHeldAt target (made ++ row ∷ []) number.items last
+      last_holds =
+          let held = subst (IsHeldAt target made number.items) (sym here) (held_here (chunk_at old.last old.others number) (holds number)) in
+          with_row chunk last held.at filled held.part
+
+      each_key : (key : ArrayVec ℕ) → IsHeld target (made ++ row ∷ []) key (chunk_at (Some last) new.others key)
+      each_key key = cases (by_number last.at key) (ap (λ (k : ChunkNumber). number_order k key.items) last_holds.at)
         where
-          cases : (o : Ordering) → by_number number key ≡ o → IsHeld target (made ++ row ∷ []) key (cond (is_eq o) (Some chunk) (tree.get by_number old key))
-          cases Less e = held_on key (tree.get by_number old key) (ap is_eq e) (holds key)
-          cases Greater e = held_on key (tree.get by_number old key) (ap is_eq e) (holds key)
-          cases Equal e = subst (λ (k : ChunkNumber). IsHeldAt target (made ++ row ∷ []) k chunk) (same_number number.items key.items e) held
+          apart : is_eq (by_number number key) ≡ false → IsHeld target (made ++ row ∷ []) key (tree.get by_number new.others key)
+          apart n = subst (IsHeld target (made ++ row ∷ []) key) (sym (others key n)) (held_on key (chunk_at old.last old.others key) n (holds key))
 
-      pub held_found : (found : Chunk) → Some found ≡ tree.get by_number old number → chunk ≡ with_cell found place (Some row.cell) → AreHeld target (made ++ row ∷ []) new
-      held_found found e w =
-          let held : IsHeldAt target made number.items found = subst (IsHeld target made number) (sym e) (holds number) in
-          each_key (with_row found chunk held.at w held.part)
+          cases : (o : Ordering) → o ≡ by_number number key → IsHeld target (made ++ row ∷ []) key (cond (is_eq o) (Some last) (tree.get by_number new.others key))
+          cases Less e = apart (ap is_eq (sym e))
+          cases Greater e = apart (ap is_eq (sym e))
+          cases Equal e = subst (λ (k : ChunkNumber). IsHeldAt target (made ++ row ∷ []) k last) (same_number number.items key.items (sym e)) last_holds
 
-      pub held_first : None ≡ tree.get by_number old number → chunk ≡ with_cell (no_cells number) place (Some row.cell) → AreHeld target (made ++ row ∷ []) new
-      held_first e w =
-          let none : IsHeld target made number None = subst (IsHeld target made number) (sym e) (holds number) in
-          each_key (with_row (no_cells number) chunk refl w (record {
-            each = refl;
-            in_frame = tt;
-            cells = sym (none (long_as_core target.dimensions number.items own_framed.core));
-          }))
+      pub held_more : new.last ≡ Some last → AreIn target (made ++ row ∷ []) new
+      held_more e key = subst (λ (o : Option Chunk). IsHeld target (made ++ row ∷ []) key (chunk_at o new.others key)) (sym e) (each_key key)
+
+-- ---- a chunk beside the others
+
+-- the last chunk stands where its number leads
+pub found_last : (last : Chunk) (others : BTreeMap (ArrayVec ℕ) Chunk) (number : ArrayVec ℕ) → is_eq (by_number last.at number) ≡ true → chunk_at (Some last) others number ≡ Some last
+found_last last others number e = λ i. cond (e i) (Some last) (tree.get by_number others number)
+
+pub others_last : (last : Chunk) (others : BTreeMap (ArrayVec ℕ) Chunk) (number key : ArrayVec ℕ) → is_eq (by_number last.at number) ≡ true → is_eq (by_number number key) ≡ false
+    → tree.get by_number others key ≡ chunk_at (Some last) others key
+others_last last others number key e n =
+    let same : last.at.items ≡ number.items = same_number last.at.items number.items (is_equal (by_number last.at number) e) in
+    λ i. cond ((sym n ∙ ap (λ (k : ChunkNumber). is_eq (number_order k key.items)) (sym same)) i) (Some last) (tree.get by_number others key)
+
+-- where the last chunk is put among the others, it is found there
+pub put_back : (last : Chunk) (others all : BTreeMap (ArrayVec ℕ) Chunk) (number : ArrayVec ℕ) → number ≡ last.at → Updates by_number others all number (Some last) → (key : ArrayVec ℕ)
+    → tree.get by_number all key ≡ chunk_at (Some last) others key
+put_back last others all number e u key = u.0 key ∙ (λ i. cond (is_eq (by_number (e i) key)) (Some last) (tree.get by_number others key))

@@ -3,5 +3,5 @@
 mod chunks;
 mod telling;
 
-pub(crate) use chunks::{fill, no_margins};
+pub(crate) use chunks::{Filled, fill, no_margins};
 pub(crate) use telling::told_array;

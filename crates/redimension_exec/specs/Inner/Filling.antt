@@ -1,9 +1,10 @@
 -- Chunks without margins that hold the rows that landed so far, each in the order in which they came, and what becomes of them.
-use Rattle.std.specs.Prelude.{◌≡◌, ℕ, ◌≤◌, ℤ, true, IsTrue, List, [], ◌∷◌, ◌++◌, length, map}
+use Rattle.std.specs.Prelude.{◌≡◌, ℕ, ◌≤◌, ℤ, true, cond, IsTrue, List, [], ◌∷◌, ◌++◌, length, map}
 use Rattle.std.specs.Prelude.{Option, Some, None, Result, Ok, Err, ⊤}
 use Rattle.std.specs.BTreeMap as tree
 use Rattle.std.specs.BTreeMap.{BTreeMap}
 use Rattle.std.specs.List.{AllByRecursion}
+use Rattle.std.specs.Ordering.{is_eq}
 use Rattle.std.specs.declared.cmp.Ordering.{Ordering}
 use Rattle.arrayvec.specs.ArrayVec.{ArrayVec}
 use Rattle.cell_values.specs.declared.datum.Broken.{Broken}
@@ -23,6 +24,7 @@ use Rattle.array_parts.specs.Made.{IsPlaced}
 use Rattle.chunk_cells.specs.Fitted.{HasValues}
 use Rattle.logical_plan.specs.CellOps.{fit_rows}
 use Rattle.logical_plan.specs.Redimension.{Origin, landed, origin_of, value_origin}
+use Rattle.redimension_exec.specs.declared.filling.chunks.Filled.{Filled}
 use Rattle.redimension_exec.specs.declared.places.landing.Step.{Step}
 use Rattle.redimension_exec.specs.declared.places.landing.Step.TheVariants.{Lands, Drops, Breaks}
 use Rattle.redimension_exec.specs.declared.places.places.Place.{Place}
@@ -59,6 +61,15 @@ IsHeld target made key (Some chunk) = IsHeldAt target made key.items chunk
 abbrev pub AreHeld : Schema → List Row → BTreeMap (ArrayVec ℕ) Chunk → Type 0
 AreHeld target made chunks = (key : ArrayVec ℕ) → IsHeld target made key (tree.get by_number chunks key)
 
+-- the chunk of that number, where one stands beside the others
+abbrev pub chunk_at : Option Chunk → BTreeMap (ArrayVec ℕ) Chunk → ArrayVec ℕ → Option Chunk
+chunk_at None others key = tree.get by_number others key
+chunk_at (Some last) others key = cond (is_eq (by_number last.at key)) (Some last) (tree.get by_number others key)
+
+-- the same chunks, of which one stands beside the others
+abbrev pub AreIn : Schema → List Row → Filled → Type 0
+AreIn target made filled = (key : ArrayVec ℕ) → IsHeld target made key (chunk_at filled.last filled.others key)
+
 -- ---- rows that land
 
 -- a schema, no margins, the bounds, and at most six places
@@ -82,29 +93,29 @@ LandsInside bounds (Breaks kind) = ⊤
 
 -- one row of the source, whatever was made before, of which these are the counts and the chunks
 pub record IsFilledWith (target : Schema) (origins : List Origin) (bounds : Bounds) (values : List Origin) (made : List Row) (row : Row)
-    (fault : Option FaultKind) (counts : BTreeMap (ArrayVec ℤ) ℕ) (chunks : BTreeMap (ArrayVec ℕ) Chunk) : Type 0 where
+    (fault : Option FaultKind) (counts : BTreeMap (ArrayVec ℤ) ℕ) (chunks : Filled) : Type 0 where
   pub all : List Row
   pub step : IsStep origins bounds values made row fault all counts
-  pub held : AreHeld target all chunks
+  pub held : AreIn target all chunks
 
 pub record FillOne (target : Schema) (origins : List Origin) (bounds : Bounds) (values : List Origin) (row : Row)
-    (fault : Option FaultKind) (counts : BTreeMap (ArrayVec ℤ) ℕ) (chunks : BTreeMap (ArrayVec ℕ) Chunk)
-    (counts' : BTreeMap (ArrayVec ℤ) ℕ) (chunks' : BTreeMap (ArrayVec ℕ) Chunk) : Type 0 where
-  pub of_made : (made : List Row) → AreCountsOf origins (targets_of made) counts → AreHeld target made chunks
+    (fault : Option FaultKind) (counts : BTreeMap (ArrayVec ℤ) ℕ) (chunks : Filled)
+    (counts' : BTreeMap (ArrayVec ℤ) ℕ) (chunks' : Filled) : Type 0 where
+  pub of_made : (made : List Row) → AreCountsOf origins (targets_of made) counts → AreIn target made chunks
       → IsFilledWith target origins bounds values made row fault counts' chunks'
 
 -- rows of the source one after the other: one breaks the array, or the chunks hold what landed of them too
 pub record AreFilled (target : Schema) (origins : List Origin) (bounds : Bounds) (values : List Origin) (made rows : List Row)
-    (broken : Option Broken) (counts : BTreeMap (ArrayVec ℤ) ℕ) (chunks : BTreeMap (ArrayVec ℕ) Chunk) : Type 0 where
+    (broken : Option Broken) (counts : BTreeMap (ArrayVec ℤ) ℕ) (chunks : Filled) : Type 0 where
   pub all : List Row
   pub steps : AreSteps origins bounds values made rows broken all counts
-  pub held : AreHeld target all chunks
+  pub held : AreIn target all chunks
 
 -- the same whatever was made before, of which these are the counts and the chunks
 pub record Fill (target : Schema) (origins : List Origin) (bounds : Bounds) (values : List Origin) (rows : List Row)
-    (broken : Option Broken) (counts : BTreeMap (ArrayVec ℤ) ℕ) (chunks : BTreeMap (ArrayVec ℕ) Chunk)
-    (counts' : BTreeMap (ArrayVec ℤ) ℕ) (chunks' : BTreeMap (ArrayVec ℕ) Chunk) : Type 0 where
-  pub of_made : (made : List Row) → AreCountsOf origins (targets_of made) counts → AreHeld target made chunks
+    (broken : Option Broken) (counts : BTreeMap (ArrayVec ℤ) ℕ) (chunks : Filled)
+    (counts' : BTreeMap (ArrayVec ℤ) ℕ) (chunks' : Filled) : Type 0 where
+  pub of_made : (made : List Row) → AreCountsOf origins (targets_of made) counts → AreIn target made chunks
       → AreFilled target origins bounds values made rows broken counts' chunks'
 
 -- all rows of a source: the first that breaks the target, or chunks that hold what landed

@@ -9,6 +9,7 @@ ghost use Rattle.redimension_exec.specs.Inner.Bands.{AreBands};
 ghost use Rattle.redimension_exec.specs.Inner.Filling.{Fill, HoldsAll, HoldsLanded, IsTarget, no_margins};
 ghost use Rattle.redimension_exec.specs.Inner.Places.{origin};
 
+use crate::filling::Filled;
 use crate::places::{
     Place, Target, bounds_of, fill_rows, places_of_attributes, places_of_dimensions,
 };
@@ -24,15 +25,15 @@ fn fill_band(
     chunks: &[Chunk],
     to: &Target<'_>,
     counts: &mut BTreeMap<Coord, u64>,
-    held: &mut BTreeMap<ChunkAt, Chunk>,
+    filled: &mut Filled,
 ) -> Result<Option<Broken>, Memory>
     requires bands { AreBands source.now margins.now.items chunks.now }
     requires target { IsTarget to.now.schema.now to.now.none.now.items to.now.bounds.now to.now.places.now }
     ensures { IfOk result (λ broken. Fill to.now.schema.now (map origin to.now.places.now) to.now.bounds.now (map origin to.now.values.now)
-        (core_rows source.now.dimensions margins.now.items chunks.now) broken counts.old held.old counts.new held.new) }
+        (core_rows source.now.dimensions margins.now.items chunks.now) broken counts.old filled.old counts.new filled.new) }
 {
     let rows = rows_of_chunks(source, margins, chunks)?;
-    fill_rows(to, counts, held, &rows)
+    fill_rows(to, counts, filled, &rows)
 }
 
 /// The same, half by half until a band is left.
@@ -42,21 +43,21 @@ fn fill_bands(
     chunks: &[Chunk],
     to: &Target<'_>,
     counts: &mut BTreeMap<Coord, u64>,
-    held: &mut BTreeMap<ChunkAt, Chunk>,
+    filled: &mut Filled,
 ) -> Result<Option<Broken>, Memory>
     requires bands { AreBands source.now margins.now.items chunks.now }
     requires target { IsTarget to.now.schema.now to.now.none.now.items to.now.bounds.now to.now.places.now }
     ensures { IfOk result (λ broken. Fill to.now.schema.now (map origin to.now.places.now) to.now.bounds.now (map origin to.now.values.now)
-        (core_rows source.now.dimensions margins.now.items chunks.now) broken counts.old held.old counts.new held.new) }
+        (core_rows source.now.dimensions margins.now.items chunks.now) broken counts.old filled.old counts.new filled.new) }
 {
     let half = half_of_bands(source, chunks);
     if half == chunks.len() {
-        return fill_band(source, margins, chunks, to, counts, held);
+        return fill_band(source, margins, chunks, to, counts, filled);
     }
     let (front, back) = chunks.split_at(half);
-    match fill_bands(source, margins, front, to, counts, held)? {
+    match fill_bands(source, margins, front, to, counts, filled)? {
         Some(broken) => Ok(Some(broken)),
-        None => fill_bands(source, margins, back, to, counts, held),
+        None => fill_bands(source, margins, back, to, counts, filled),
     }
 }
 
@@ -96,17 +97,20 @@ fn filled_by(
     ensures { IfOk result (HoldsAll to.now.schema.now (map origin to.now.places.now) to.now.bounds.now (map origin to.now.values.now) (cores_of array.now)) }
 {
     let mut counts = BTreeMap::new(array.chunks.allocator());
-    let mut held = BTreeMap::new(array.chunks.allocator());
+    let mut filled = Filled::new(array.chunks.allocator());
     match fill_bands(
         &array.schema,
         &array.margins,
         array.chunks.as_slice(),
         to,
         &mut counts,
-        &mut held,
+        &mut filled,
     )? {
         Some(broken) => Ok(Err(broken)),
-        None => Ok(Ok(held)),
+        None => {
+            let chunks = filled.finish()?;
+            Ok(Ok(chunks))
+        }
     }
 }
 
@@ -119,10 +123,13 @@ fn filled_with(
     ensures { IfOk result (HoldsAll to.now.schema.now (map origin to.now.places.now) to.now.bounds.now (map origin to.now.values.now) rows.now) }
 {
     let mut counts = BTreeMap::new(rows.allocator());
-    let mut held = BTreeMap::new(rows.allocator());
-    match fill_rows(to, &mut counts, &mut held, rows)? {
+    let mut filled = Filled::new(rows.allocator());
+    match fill_rows(to, &mut counts, &mut filled, rows)? {
         Some(broken) => Ok(Err(broken)),
-        None => Ok(Ok(held)),
+        None => {
+            let chunks = filled.finish()?;
+            Ok(Ok(chunks))
+        }
     }
 }
 

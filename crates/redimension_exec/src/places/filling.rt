@@ -3,12 +3,11 @@ ghost use Rattle.std.specs.Prelude.{map, IfOk};
 ghost use Rattle.redimension_exec.specs.Inner.Filling.{Fill, FillOne, IsTarget};
 ghost use Rattle.redimension_exec.specs.Inner.Places.{origin};
 
-use crate::filling::fill;
+use crate::filling::{Filled, fill};
 use crate::places::landing::{Step, next_of};
 use crate::places::places::Place;
-use array_geom::Chunk;
 use cell_values::{
-    Bounds, Broken, ChunkAt, Coord, FaultKind, List, Margins, Memory, Row, Schema, copy_coord,
+    Bounds, Broken, Coord, FaultKind, List, Margins, Memory, Row, Schema, copy_coord,
 };
 use std::collections::BTreeMap;
 
@@ -26,19 +25,19 @@ pub(crate) struct Target<'a> {
 fn fill_next(
     to: &Target<'_>,
     counts: &mut BTreeMap<Coord, u64>,
-    chunks: &mut BTreeMap<ChunkAt, Chunk>,
+    filled: &mut Filled,
     row: &Row,
 ) -> Result<Option<FaultKind>, Memory>
     requires { IsTarget to.now.schema.now to.now.none.now.items to.now.bounds.now to.now.places.now }
     ensures { IfOk result (λ fault. FillOne to.now.schema.now (map origin to.now.places.now) to.now.bounds.now (map origin to.now.values.now) row.now fault
-        counts.old chunks.old counts.new chunks.new) }
+        counts.old filled.old counts.new filled.new) }
 {
     let step = next_of(to.places, to.bounds, to.values, counts, row)?;
     match step {
         Step::Breaks(kind) => Ok(Some(kind)),
         Step::Drops => Ok(None),
         Step::Lands(new) => {
-            fill(to.schema, to.none, chunks, new)?;
+            fill(to.schema, to.none, filled, new)?;
             Ok(None)
         }
     }
@@ -48,15 +47,15 @@ fn fill_next(
 pub(crate) fn fill_rows(
     to: &Target<'_>,
     counts: &mut BTreeMap<Coord, u64>,
-    chunks: &mut BTreeMap<ChunkAt, Chunk>,
+    filled: &mut Filled,
     rows: &List<Row>,
 ) -> Result<Option<Broken>, Memory>
     requires { IsTarget to.now.schema.now to.now.none.now.items to.now.bounds.now to.now.places.now }
     ensures { IfOk result (λ broken. Fill to.now.schema.now (map origin to.now.places.now) to.now.bounds.now (map origin to.now.values.now) rows.now broken
-        counts.old chunks.old counts.new chunks.new) }
+        counts.old filled.old counts.new filled.new) }
 {
     for row in rows.as_slice() {
-        if let Some(kind) = fill_next(to, counts, chunks, row)? {
+        if let Some(kind) = fill_next(to, counts, filled, row)? {
             return Ok(Some(Broken {
                 at: copy_coord(&row.at),
                 kind,

@@ -47,7 +47,7 @@ returns-in-Some t c =
     let to = c.args.to.now in
     let split = cut_rows source.dimensions margins c.half_of_bands-half.result chunks front back (c.half_of_bands-half.ensures.rows margins) c.split_at.ensures.front c.split_at.ensures.back in
     fill_front to.schema.now (map origin to.places.now) to.bounds.now (map origin to.values.now) (core_rows source.dimensions margins front) (core_rows source.dimensions margins back) (core_rows source.dimensions margins chunks)
-    c.args.counts.now c.fill_bands.new.counts c.args.held.now c.fill_bands.new.held c.in-Some.broken split (rw c.in-Some.is at c.in_ok-broken.ensures)
+    c.args.counts.now c.fill_bands.new.counts c.args.filled.now c.fill_bands.new.filled c.in-Some.broken split (rw c.in-Some.is at c.in_ok-broken.ensures)
 
 pub returns-in-None : goal.returns-in-None
 returns-in-None t c =
@@ -59,5 +59,5 @@ returns-in-None t c =
     let to = c.args.to.now in
     let split = cut_rows source.dimensions margins c.half_of_bands-half.result chunks front back (c.half_of_bands-half.ensures.rows margins) c.split_at.ensures.front c.split_at.ensures.back in
     fill_both to.schema.now (map origin to.places.now) to.bounds.now (map origin to.values.now) (core_rows source.dimensions margins front) (core_rows source.dimensions margins back) (core_rows source.dimensions margins chunks)
-    c.args.counts.now c.fill_bands.new.counts c.fill_bands-in-None.new.counts c.args.held.now c.fill_bands.new.held c.fill_bands-in-None.new.held c.fill_bands-in-None.result split
+    c.args.counts.now c.fill_bands.new.counts c.fill_bands-in-None.new.counts c.args.filled.now c.fill_bands.new.filled c.fill_bands-in-None.new.filled c.fill_bands-in-None.result split
     (rw c.in-None.is at c.in_ok-broken.ensures) c.fill_bands-in-None.ensures

@@ -17,16 +17,17 @@ pub returns-in-Some : goal.returns-in-Some
 returns-in-Some c =
     let array = c.args.array.now in
     let to = c.args.to.now in
-    all_break to.schema.now (map origin to.places.now) to.bounds.now (map origin to.values.now) (cores_of array) c.new-counts.result c.fill_bands.new.counts c.new-held.result c.fill_bands.new.held c.in-Some.broken
-    c.new-counts.ensures.empty c.new-held.ensures.empty
+    all_break to.schema.now (map origin to.places.now) to.bounds.now (map origin to.values.now) (cores_of array) c.new-counts.result c.fill_bands.new.counts c.new-filled.result c.fill_bands.new.filled c.in-Some.broken
+    c.new-counts.ensures.empty c.new-filled.ensures
     (subst (λ (chunks : List Chunk). Fill to.schema.now (map origin to.places.now) to.bounds.now (map origin to.values.now) (core_rows array.schema.dimensions array.margins.items chunks) (Some c.in-Some.broken)
-    c.new-counts.result c.new-held.result c.fill_bands.new.counts c.fill_bands.new.held) c.as_slice.ensures (rw c.in-Some.is at c.in_ok-broken.ensures))
+    c.new-counts.result c.new-filled.result c.fill_bands.new.counts c.fill_bands.new.filled) c.as_slice.ensures (rw c.in-Some.is at c.in_ok-broken.ensures))
 
-pub returns : goal.returns
-returns c =
+pub returns-in_ok-chunks-in-None : goal.returns-in_ok-chunks-in-None
+returns-in_ok-chunks-in-None c =
     let array = c.args.array.now in
     let to = c.args.to.now in
-    all_land to.schema.now (map origin to.places.now) to.bounds.now (map origin to.values.now) (cores_of array) c.new-counts.result c.fill_bands.new.counts c.new-held.result c.fill_bands.new.held
-    c.new-counts.ensures.empty c.new-held.ensures.empty
+    all_land to.schema.now (map origin to.places.now) to.bounds.now (map origin to.values.now) (cores_of array) c.new-counts.result c.fill_bands.new.counts c.new-filled.result c.fill_bands.new.filled c.in_ok-chunks-in-None.chunks
+    c.new-counts.ensures.empty c.new-filled.ensures
     (subst (λ (chunks : List Chunk). Fill to.schema.now (map origin to.places.now) to.bounds.now (map origin to.values.now) (core_rows array.schema.dimensions array.margins.items chunks) None
-    c.new-counts.result c.new-held.result c.fill_bands.new.counts c.fill_bands.new.held) c.as_slice.ensures (rw c.in-None.is at c.in_ok-broken.ensures))
+    c.new-counts.result c.new-filled.result c.fill_bands.new.counts c.fill_bands.new.filled) c.as_slice.ensures (rw c.in-None.is at c.in_ok-broken.ensures))
+    c.in_ok-chunks-in-None.ensures

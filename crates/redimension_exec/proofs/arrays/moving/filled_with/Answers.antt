@@ -6,11 +6,11 @@ use Rattle.redimension_exec.proofs.arrays.moving.filled_with.Goals as goal
 pub returns-in-Some : goal.returns-in-Some
 returns-in-Some c =
     let to = c.args.to.now in
-    all_break to.schema.now (map origin to.places.now) to.bounds.now (map origin to.values.now) c.args.rows.now c.new-counts.result c.fill_rows.new.counts c.new-held.result c.fill_rows.new.chunks c.in-Some.broken
-    c.new-counts.ensures.empty c.new-held.ensures.empty (rw c.in-Some.is at c.in_ok-broken.ensures)
+    all_break to.schema.now (map origin to.places.now) to.bounds.now (map origin to.values.now) c.args.rows.now c.new-counts.result c.fill_rows.new.counts c.new-filled.result c.fill_rows.new.filled c.in-Some.broken
+    c.new-counts.ensures.empty c.new-filled.ensures (rw c.in-Some.is at c.in_ok-broken.ensures)
 
-pub returns : goal.returns
-returns c =
+pub returns-in_ok-chunks-in-None : goal.returns-in_ok-chunks-in-None
+returns-in_ok-chunks-in-None c =
     let to = c.args.to.now in
-    all_land to.schema.now (map origin to.places.now) to.bounds.now (map origin to.values.now) c.args.rows.now c.new-counts.result c.fill_rows.new.counts c.new-held.result c.fill_rows.new.chunks
-    c.new-counts.ensures.empty c.new-held.ensures.empty (rw c.in-None.is at c.in_ok-broken.ensures)
+    all_land to.schema.now (map origin to.places.now) to.bounds.now (map origin to.values.now) c.args.rows.now c.new-counts.result c.fill_rows.new.counts c.new-filled.result c.fill_rows.new.filled c.in_ok-chunks-in-None.chunks
+    c.new-counts.ensures.empty c.new-filled.ensures (rw c.in-None.is at c.in_ok-broken.ensures) c.in_ok-chunks-in-None.ensures
