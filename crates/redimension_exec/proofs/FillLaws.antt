@@ -1,8 +1,9 @@
 -- Rows moved one after the other into chunks.
-use Rattle.std.proofs.Common.{◌≡◌, ℕ, ℤ, true, List, [], ◌∷◌, ◌++◌, map, Option, Some, None, Result, Ok, Err, refl, sym, ap, ◌∙◌, subst}
+use Rattle.std.proofs.Common.{◌≡◌, ℕ, ◌+◌, ◌<◌, ℤ, true, List, [], ◌∷◌, ◌++◌, length, drop, map, Option, Some, None, Result, Ok, Err, refl, sym, ap, ◌∙◌, subst}
+use Rattle.std.proofs.lemmas.List.{drop_more}
 use Rattle.std.specs.BTreeMap as tree
 use Rattle.std.specs.BTreeMap.{BTreeMap, IsEmpty}
-use Rattle.std.specs.Prelude.{IfOk}
+use Rattle.std.specs.Prelude.{IfOk, slice_index_or}
 use Rattle.arrayvec.specs.ArrayVec.{ArrayVec}
 use Rattle.cell_values.specs.declared.datum.Broken.{Broken}
 use Rattle.cell_values.specs.declared.datum.FaultKind.{FaultKind}
@@ -43,6 +44,9 @@ module _ (target : Schema) (origins : List Origin) (bounds : Bounds) (values : L
   }
 
   -- ---- rows one after the other
+
+  pub row_next : (rows : List Row) (i : ℕ) (row : Row) → i < length rows → row ≡ slice_index_or rows i row → drop i rows ≡ row ∷ drop (i + 1) rows
+  row_next rows i row l e = drop_more rows i row l ∙ ap (λ (r : Row). r ∷ drop (i + 1) rows) (sym e)
 
   pub record IsFarWith (made all left : List Row) (counts : BTreeMap (ArrayVec ℤ) ℕ) (chunks : Filled) : Type 0 where
     pub now : List Row

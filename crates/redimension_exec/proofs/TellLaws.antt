@@ -118,12 +118,12 @@ module _ (target : Schema) (margins : List ℕ) (made : List Row) (chunk : Chunk
   told_values attributes rows sorted a e s =
       let area : Bounds = frame target.dimensions margins chunk.at.items in
       let same : sorted ≡ within area (in_order made) = s ∙ ap in_order (e ∙ can.part.cells) ∙ sym (within-in_order area made) in
-      subst (λ (as : List Attribute). AllByRecursion (λ row. HasValues as row.cell) sorted) (sym a)
+      subst (λ (attrs : List Attribute). AllByRecursion (λ row. HasValues attrs row.cell) sorted) (sym a)
       (subst (AllByRecursion (λ row. HasValues target.attributes row.cell)) (sym same) (all_kept (λ row. HasValues target.attributes row.cell) (λ row. is_inside area row.at.items) (in_order made) can.values))
 
   pub told_here : (attributes : List Attribute) (rows sorted told : List Row) → attributes ≡ target.attributes → rows ≡ chunk_rows target.dimensions margins chunk → sorted ≡ in_order rows → told ≡ fit_rows attributes sorted
       → told ≡ told_rows target (chunk_rows target.dimensions margins chunk)
-  told_here attributes rows sorted told a e s t = t ∙ ap (λ (as : List Attribute). fit_rows as sorted) a ∙ ap (fit_rows target.attributes) (s ∙ ap in_order e)
+  told_here attributes rows sorted told a e s t = t ∙ ap (λ (attrs : List Attribute). fit_rows attrs sorted) a ∙ ap (fit_rows target.attributes) (s ∙ ap in_order e)
 
   pub told_inside : (number : ArrayVec ℕ) (told : List Row) → number ≡ chunk.at → told ≡ told_rows target (chunk_rows target.dimensions margins chunk)
       → AllByRecursion (λ row. is_inside (frame target.dimensions margins number.items) row.at.items ≡ true) told

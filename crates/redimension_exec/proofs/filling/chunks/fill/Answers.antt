@@ -20,4 +20,4 @@ returns c = λ made h.
     let target = c.args.target.now in
     held_more target made c.args.row c.chunk_of-number.result c.requires.valid c.requires.inside c.chunk_of-number.ensures c.position-place.result
     (c.position-place.ensures.value ∙ ap (λ (ms : List ℕ). position_of target.dimensions ms c.chunk_of-number.result.items c.args.row.at.items) c.requires.margins)
-    c.args.filled.now _ c.in_ok-chunk.chunk c.add_cell.new.chunk h c.in_ok-chunk.ensures.chunk c.in_ok-add_cell.ensures c.in_ok-chunk.ensures.others refl
+    c.args.filled.now (record { last = Some c.add_cell.new.chunk; others = c.chunk_for.new.filled.others }) c.in_ok-chunk.chunk c.add_cell.new.chunk h c.in_ok-chunk.ensures.chunk c.in_ok-add_cell.ensures c.in_ok-chunk.ensures.others refl
