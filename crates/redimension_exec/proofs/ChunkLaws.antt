@@ -1,18 +1,17 @@
 -- The groups of what lands of the cores of some chunks and of others: no coordinate lies in both.
-use Rattle.std.proofs.Common.{◌≡◌, ℕ, suc, ◌+◌, ◌<◌, ◌≤◌, Bool, true, false, cond, ◌&&◌, List, [], ◌∷◌, ◌++◌, map, filter, length, take, drop, Option, Some, None, Result, Ok, Err, refl, sym, ap, ◌∙◌, subst, arith}
+use Rattle.std.proofs.Common.{◌≡◌, ℕ, ◌+◌, ◌<◌, ◌≤◌, Bool, true, false, cond, List, [], ◌∷◌, ◌++◌, map, filter, length, take, drop, Option, Some, None, Result, Ok, refl, sym, ap, ◌∙◌, subst, arith}
 use Rattle.std.proofs.lemmas.Cmp.{tied_itself}
-use Rattle.std.proofs.lemmas.List.{length-append, length-drop, length-take}
+use Rattle.std.proofs.lemmas.List.{length-append}
 use Rattle.std.specs.List.{AllByRecursion}
 use Rattle.std.specs.Option.{option_or}
 use Rattle.std.specs.Ordering.{is_eq, ordering_reverse}
-use Rattle.std.specs.Prelude.{IfOk, int_le, ⊤}
+use Rattle.std.specs.Prelude.{IfOk, ⊤}
 use Rattle.std.specs.declared.cmp.Ordering.{Ordering}
 use Rattle.std.specs.declared.cmp.Ordering.TheVariants.{Less, Equal, Greater}
 use Rattle.cell_values.specs.declared.datum.Cell.{Cell}
 use Rattle.cell_values.specs.declared.datum.Row.{Row}
 use Rattle.cell_values.specs.declared.memory.Memory.{Memory}
 use Rattle.cell_values.specs.declared.schema.Bounds.{Bounds}
-use Rattle.cell_values.specs.declared.schema.Dimension.{Dimension}
 use Rattle.cell_values.specs.declared.schema.Schema.{Schema}
 use Rattle.cell_values.specs.Schemas.{IsValid}
 use Rattle.array_rows.specs.Boxes.{is_inside, within}
@@ -20,10 +19,9 @@ use Rattle.array_rows.specs.Rows.{Coordinate, IsBefore, IsRising, cell_at, put_a
 use Rattle.array_rows.proofs.RowsLemmas.{IsBefore-trans, row_major_total}
 use Rattle.array_rows.proofs.RowSets.{IsRising-put_all, cell_at-put_all, cell_at-within}
 use Rattle.array_geom.specs.declared.chunk.Chunk.{Chunk}
-use Rattle.array_geom.specs.Geometry.{ChunkNumber, core, first_in, has_core}
+use Rattle.array_geom.specs.Geometry.{ChunkNumber, core}
 use Rattle.array_geom.specs.Link.{NumbersRise, chunk_rows, core_rows, number_order, numbers}
 use Rattle.array_geom.proofs.LawProofs.{cores_lie_apart}
-use Rattle.array_geom.proofs.TestLaws.{and_parts}
 use Rattle.array_parts.specs.Placed.{HasPlaces}
 use Rattle.chunk_cells.proofs.MergeLaws.{IsRising-core_rows, put_all-none}
 use Rattle.chunk_cells.proofs.NumberLaws.{number_order_total}

@@ -1,5 +1,5 @@
 -- Rows moved one after the other into chunks.
-use Rattle.std.proofs.Common.{◌≡◌, ℕ, ◌+◌, ◌<◌, ℤ, true, List, [], ◌∷◌, ◌++◌, length, drop, map, Option, Some, None, Result, Ok, Err, refl, sym, ap, ◌∙◌, subst}
+use Rattle.std.proofs.Common.{◌≡◌, ℕ, ◌+◌, ◌<◌, ℤ, List, [], ◌∷◌, ◌++◌, length, drop, Option, Some, None, Result, Ok, Err, refl, sym, ap, ◌∙◌, subst}
 use Rattle.std.proofs.lemmas.List.{drop_more}
 use Rattle.std.specs.BTreeMap as tree
 use Rattle.std.specs.BTreeMap.{BTreeMap, IsEmpty}
@@ -12,10 +12,10 @@ use Rattle.cell_values.specs.declared.memory.Memory.{Memory}
 use Rattle.cell_values.specs.declared.schema.Bounds.{Bounds}
 use Rattle.cell_values.specs.declared.schema.Schema.{Schema}
 use Rattle.array_geom.specs.declared.chunk.Chunk.{Chunk}
-use Rattle.logical_plan.specs.Redimension.{Origin, landed}
+use Rattle.logical_plan.specs.Redimension.{Origin}
 use Rattle.redimension_exec.specs.Inner.Counting.{AreCountsOf}
-use Rattle.redimension_exec.specs.Inner.Filling.{AreFilled, AreIn, Fill, FillOne, HoldsAll, IsFilledWith, IsHeld, IsNext, by_number, chunk_at}
-use Rattle.redimension_exec.specs.Inner.Steps.{IsStep, continued, targets_of}
+use Rattle.redimension_exec.specs.Inner.Filling.{AreIn, Fill, FillOne, HoldsAll, IsHeld, IsNext, by_number, chunk_at}
+use Rattle.redimension_exec.specs.Inner.Steps.{targets_of}
 use Rattle.redimension_exec.specs.declared.filling.chunks.Filled.{Filled}
 use Rattle.redimension_exec.specs.declared.places.landing.Step.{Step}
 use Rattle.redimension_exec.specs.declared.places.landing.Step.TheVariants.{Lands, Drops, Breaks}

@@ -16,11 +16,10 @@ use Rattle.cell_values.specs.declared.datum.Cell.{Cell}
 use Rattle.cell_values.specs.declared.datum.Row.{Row}
 use Rattle.cell_values.specs.declared.schema.Attribute.{Attribute}
 use Rattle.cell_values.specs.declared.schema.Bounds.{Bounds}
-use Rattle.cell_values.specs.declared.schema.Dimension.{Dimension}
 use Rattle.cell_values.specs.declared.schema.Schema.{Schema}
 use Rattle.array_rows.specs.Arrays.{AreRowsOf}
 use Rattle.array_rows.specs.Boxes.{is_inside, within}
-use Rattle.array_rows.specs.Rows.{Coordinate, in_order, row_major}
+use Rattle.array_rows.specs.Rows.{in_order, row_major}
 use Rattle.array_rows.proofs.RowSets.{IsRising-in_order, IsRising-rows_where, cell_at-in_order, cell_at-within}
 use Rattle.array_rows.proofs.RowsLemmas.{same_rows, within-cell_wise}
 use Rattle.array_geom.specs.declared.chunk.Chunk.{Chunk}
@@ -30,7 +29,6 @@ use Rattle.array_geom.specs.Link.{HoldsRows, Is, IsPart, NumbersRise, chunk_rows
 use Rattle.array_geom.proofs.CoreLaws.{core_in_frame}
 use Rattle.array_geom.proofs.LinkLaws.{within-within}
 use Rattle.array_geom.proofs.NumberLaws.{same_number}
-use Rattle.array_parts.specs.Made.{IsPlaced}
 use Rattle.array_parts.specs.Parts.{AreParts}
 use Rattle.array_parts.specs.Placed.{HasPlaces, HavePlaces}
 use Rattle.array_parts.proofs.PartLemmas.{all_kept}
@@ -39,7 +37,7 @@ use Rattle.chunk_cells.specs.Fitted.{HasValues}
 use Rattle.chunk_cells.proofs.FitLaws.{fitted_rows, have_values}
 use Rattle.chunk_cells.proofs.NumberLaws.{number_order_total}
 use Rattle.logical_plan.specs.CellOps.{fit_cell, fit_rows}
-use Rattle.redimension_exec.specs.Inner.Filling.{AreHeld, CanBeTold, CanTell, IsHeld, IsHeldAt, IsToldOf, by_number, no_margins, told_rows}
+use Rattle.redimension_exec.specs.Inner.Filling.{CanBeTold, CanTell, IsHeld, IsHeldAt, IsToldOf, by_number, no_margins, told_rows}
 use Rattle.redimension_exec.specs.Inner.Sorting.{AreDifferent}
 use Rattle.redimension_exec.proofs.HoldLaws.{each_none, long_as_core, places_none}
 

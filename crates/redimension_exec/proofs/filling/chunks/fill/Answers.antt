@@ -1,7 +1,6 @@
-use Rattle.std.proofs.Common.{◌≡◌, ℕ, List, [], Some, refl, sym, ap, ◌∙◌, subst}
+use Rattle.std.proofs.Common.{ℕ, List, [], Some, refl, sym, ap, ◌∙◌, subst}
 use Rattle.array_geom.specs.Geometry.{HasFrame, frame, position_of}
 use Rattle.array_rows.specs.Boxes.{is_inside}
-use Rattle.redimension_exec.specs.Inner.Filling.{no_margins}
 use Rattle.redimension_exec.proofs.HoldLaws.{held_more, own_framed, own_inside}
 use Rattle.redimension_exec.proofs.filling.chunks.fill.Goals as goal
 

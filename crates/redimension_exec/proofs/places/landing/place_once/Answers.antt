@@ -1,4 +1,4 @@
-use Rattle.std.proofs.Common.{map, refl, sym, ◌∙◌, ◌<◌, ◌≤◌, arith}
+use Rattle.std.proofs.Common.{map, refl, sym, ◌∙◌, arith}
 use Rattle.std.proofs.lemmas.List.{length-map}
 use Rattle.redimension_exec.specs.Inner.Places.{origin}
 use Rattle.redimension_exec.proofs.TakenLaws.{plain_beyond, plain_free, plain_taken}
