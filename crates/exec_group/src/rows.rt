@@ -4,9 +4,11 @@ mod forming;
 mod groups;
 mod merging;
 mod states;
+mod tree;
 mod united;
 
 pub use forming::{groups_of, one_group};
 pub use groups::{Group, Groups};
 pub use merging::merge_two;
+pub use tree::{groups_in, take_rows};
 pub use united::merge_all;

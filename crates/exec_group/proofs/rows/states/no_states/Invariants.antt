@@ -1,7 +1,7 @@
 use Rattle.std.proofs.Common.{[], take, ◌≤◌}
 use Rattle.exec_group.specs.Counts.{cells_of}
 use Rattle.exec_group.specs.Grouped.{AreStatesOf}
-use Rattle.redimension_exec.proofs.landings.states.no_states.Given as goal
+use Rattle.exec_group.proofs.rows.states.no_states.Given as goal
 
 abbrev pub invariant-loop-aggregate : goal.invariant-loop-aggregate
 invariant-loop-aggregate l = record {

@@ -1,6 +1,6 @@
 use Rattle.std.proofs.Common.{[], refl}
 use Rattle.exec_group.proofs.StateLaws.{next_states, next_cells}
-use Rattle.redimension_exec.proofs.landings.states.no_states.Goals as goal
+use Rattle.exec_group.proofs.rows.states.no_states.Goals as goal
 
 pub loop-aggregate-preserved : goal.loop-aggregate-preserved
 loop-aggregate-preserved c = record {
