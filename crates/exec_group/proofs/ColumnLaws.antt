@@ -1,7 +1,7 @@
--- States of cells by their columns, range by range.
-use Rattle.std.proofs.Common.{◌≡◌, ℕ, zero, suc, ◌+◌, ◌<◌, ◌≤◌, ℤ, pos, true, List, [], ◌∷◌, ◌++◌, length, get_or, take, drop, min, ◌-◌, ◌==◌, map, Option, Some, None, Result, Ok, Err, refl, sym, ap, ◌∙◌, subst, arith}
-use Rattle.std.proofs.lemmas.List.{drop-drop, drop-map, drop-take, length-drop, length-map, length-take, take-map, take-take, take_all}
-use Rattle.std.specs.Prelude.{IfOk, IfSome, slice_index_or}
+-- States of cells by their columns.
+use Rattle.std.proofs.Common.{◌≡◌, ℕ, zero, suc, ◌+◌, ◌<◌, ◌≤◌, ℤ, pos, List, [], ◌∷◌, ◌++◌, length, get_or, take, ◌-◌, map, None, refl, sym, ap, ◌∙◌, subst, arith}
+use Rattle.std.proofs.lemmas.List.{length-map, take_all}
+use Rattle.std.specs.Prelude.{slice_index_or}
 use Rattle.cell_values.specs.declared.datum.Cell.{Cell}
 use Rattle.cell_values.specs.declared.datum.Cell.TheVariants.{Full, Doubt}
 use Rattle.cell_values.specs.declared.datum.Datum.{Datum}
@@ -87,52 +87,11 @@ numbers_done g numbers i cells state l h stands rows rise same =
     sizes =
         sym (length-map rows (λ (row : Row). row.cell)) ∙ ap length same ∙ sym (length-map cells (value_in g.attribute)) ∙ ap length h ∙ length-map numbers Int
 
--- ---- ranges of cells
+-- ---- the states of cells
 
 pub as_many_numbers : (place : ℕ) (numbers : List ℤ) (cells : List Cell) → HaveNumbers place numbers cells → length numbers ≡ length cells
 as_many_numbers place numbers cells h = sym (length-map numbers Int) ∙ sym (ap length h) ∙ length-map cells (value_in place)
 
-pub range_numbers : (place from count : ℕ) (numbers rest part : List ℤ) (cells : List Cell) → HaveNumbers place numbers cells → rest ≡ drop from numbers → part ≡ take count rest
-    → HaveNumbers place part (take count (drop from cells))
-range_numbers place from count numbers rest part cells h e f =
-    sym (take-map (value_in place) count (drop from cells))
-    ∙ ap (take count) (sym (drop-map (value_in place) from cells) ∙ ap (drop from) h ∙ drop-map Int from numbers)
-    ∙ take-map Int count (drop from numbers)
-    ∙ ap (map Int) (ap (take count) (sym e) ∙ sym f)
-
-pub range_length : {A : Type 0} (from count : ℕ) (all rest part : List A) → from + count ≤ length all → rest ≡ drop from all → part ≡ take count rest → length part ≡ count
-range_length from count all rest part l e f =
-    let a : length rest ≡ length all - from = ap length e ∙ length-drop from all in
-    let b : length part ≡ min count (length rest) = ap length f ∙ length-take count rest in
-    omega (arith, l, a, b)
-
 pub next_states_of_cells : (gs : List Aggregate) (i : ℕ) (g : Aggregate) (cells : List Cell) (old new : List Summary) (s : Summary) → i < length gs → g ≡ get_or gs i g
     → AreStatesOfCells (take i gs) cells old → StandsForCells g cells s → new ≡ old ++ s ∷ [] → AreStatesOfCells (take (i + 1) gs) cells new
 next_states_of_cells gs i g cells old new s l e h stands n rows rise same = next_states gs i g rows old new s l e (h rows rise same) (stands rows rise same) n
-
--- ---- groups of ranges
-
-pub no_keys : (n : ℕ) → true ≡ (n == 0) → n ≡ 0
-no_keys n e = grind (arith, e)
-
-pub if_some : {X E : Type 0} {P Q : X → Type 0} (r : Result (Option X) E) → IfOk r (λ o. IfSome o P) → ((x : X) → P x → Q x) → IfOk r (λ o. IfSome o Q)
-if_some (Ok (Some x)) h f = f x h
-if_some (Ok None) h f = h
-if_some (Err e) h f = h
-
-cells_taken : (n : ℕ) (rows : List Row) → cells_of (take n rows) ≡ take n (cells_of rows)
-cells_taken n rows = sym (take-map (λ (row : Row). row.cell) n rows)
-
-cells_dropped : (n : ℕ) (rows : List Row) → cells_of (drop n rows) ≡ drop n (cells_of rows)
-cells_dropped n rows = sym (drop-map (λ (row : Row). row.cell) n rows)
-
-pub front_cells : (from half count k : ℕ) (rows : List Row) (cells : List Cell) → half ≤ count → k ≡ half → cells_of rows ≡ take count (drop from cells) → cells_of (take half rows) ≡ take k (drop from cells)
-front_cells from half count k rows cells l e same =
-    cells_taken half rows ∙ ap (take half) same ∙ take-take half count (drop from cells) l ∙ ap (λ (n : ℕ). take n (drop from cells)) (sym e)
-
-pub back_cells : (from half count k : ℕ) (rows : List Row) (cells : List Cell) → half + k ≡ count → cells_of rows ≡ take count (drop from cells) → cells_of (drop half rows) ≡ take k (drop (from + half) cells)
-back_cells from half count k rows cells e same =
-    cells_dropped half rows
-    ∙ ap (drop half) (same ∙ ap (λ (n : ℕ). take n (drop from cells)) (sym e))
-    ∙ drop-take half k (drop from cells)
-    ∙ ap (take k) (drop-drop half from cells)

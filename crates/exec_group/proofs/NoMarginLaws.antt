@@ -1,11 +1,10 @@
--- The cells of chunks without margins, and the groups that their places have.
-use Rattle.std.proofs.Common.{◌≡◌, ℕ, ◌+◌, ◌<◌, ◌≤◌, ℤ, pos, ◌+ℤ◌, ◌-ℤ◌, ◌≤ℤ◌, Bool, true, cond, ◌&&◌, IsTrue, List, [], ◌∷◌, ◌++◌, length, get_or, take, drop, ◌-◌, map, Option, Result, refl, sym, ap, ◌∙◌, subst, arith}
+-- The cells of chunks without margins.
+use Rattle.std.proofs.Common.{◌≡◌, ℕ, ◌+◌, ◌<◌, ◌≤◌, ℤ, pos, ◌+ℤ◌, ◌-ℤ◌, ◌≤ℤ◌, Bool, true, cond, ◌&&◌, IsTrue, List, [], ◌∷◌, length, get_or, take, drop, ◌-◌, Option, Result, refl, sym, ap, ◌∙◌, subst, arith}
 use Rattle.std.proofs.lemmas.Int.{ints, clamps}
-use Rattle.std.proofs.lemmas.List.{length-map, map-append, take_all, take_more, take_rest}
+use Rattle.std.proofs.lemmas.List.{length-map, take_rest}
 use Rattle.std.specs.Int.{int_min}
 use Rattle.std.specs.List.{AllByRecursion}
 use Rattle.std.specs.Prelude.{IfOk, IfSome, int_le}
-use Rattle.arrayvec.specs.ArrayVec.{ArrayVec}
 use Rattle.cell_values.specs.declared.datum.Cell.{Cell}
 use Rattle.cell_values.specs.declared.datum.Row.{Row}
 use Rattle.cell_values.specs.declared.schema.Bounds.{Bounds}
@@ -21,17 +20,13 @@ use Rattle.array_geom.proofs.PlaceLaws.{coordinate_in_grid, frame_is_grid}
 use Rattle.array_geom.proofs.TestLaws.{and_parts, and_both, le_test, le_from_test}
 use Rattle.array_parts.specs.Cores.{HaveCells}
 use Rattle.logical_plan.specs.declared.parts.Aggregate.{Aggregate}
-use Rattle.logical_plan.specs.BoxOps.{numbers_at}
 use Rattle.logical_plan.specs.Groups.{cells_of}
 use Rattle.exec_group.specs.Grouped.{AreGroupsOf}
 use Rattle.exec_group.specs.Inner.Columns.{HasNoMargins}
 use Rattle.exec_group.specs.Inner.Keys.{aggregate_sets, core_of}
-use Rattle.exec_group.specs.Sets.{AreKeys, one_set, sets_by}
+use Rattle.exec_group.specs.Sets.{one_set}
 use Rattle.exec_group.specs.declared.rows.groups.Groups.{Groups}
 use Rattle.cell_values.specs.declared.memory.Memory.{Memory}
-use Rattle.exec_group.proofs.KeyLaws.{each_key}
-
--- ---- chunks without margins
 
 -- the first margin is none, and so are the others
 pub none_more : (margins : List ℕ) (others : Bool) → 1 ≤ length margins → get_or margins 0 0 ≡ 0 → (IsTrue others → HasNoMargins (take (length margins - 1) (drop 1 margins))) → IsTrue others → HasNoMargins margins
@@ -96,63 +91,12 @@ core_cells schema margins chunk z h =
     ap cells_of (all_in_core schema margins chunk z h)
     ∙ cells_again (frame_low schema.dimensions margins chunk.at.items) (frame_lengths schema.dimensions margins) chunk.positions chunk.cells h.placed.all.0.placed.each
 
--- ---- keys of places
-
-pub next_place : (f : ℕ → List ℤ) (positions : List ℕ) (i p : ℕ) (keys new : List (ArrayVec ℤ)) (key : ArrayVec ℤ) → i < length positions → p ≡ get_or positions i 0 → map (λ k. k.items) keys ≡ map f (take i positions)
-    → key.items ≡ f p → new ≡ keys ++ key ∷ [] → map (λ k. k.items) new ≡ map f (take (i + 1) positions)
-next_place f positions i p keys new key l e h own n =
-    ap (map (λ (k : ArrayVec ℤ). k.items)) n
-    ∙ map-append (λ (k : ArrayVec ℤ). k.items) keys (key ∷ [])
-    ∙ (λ j. h j ++ own j ∷ [])
-    ∙ sym (map-append f (take i positions) (p ∷ []))
-    ∙ ap (λ (q : ℕ). map f (take i positions ++ q ∷ [])) e
-    ∙ ap (map f) (sym (take_more positions i 0 l))
-
--- the keys of the places are those of the rows there
-pub keys_of_rows : (group : Coordinate → Coordinate) (low : List ℤ) (lengths positions : List ℕ) (cells : List Cell) (keys : List (ArrayVec ℤ)) → length cells ≡ length positions
-    → map (λ key. key.items) keys ≡ map (λ p. group (coordinate_in low lengths p)) positions → AreKeys group keys (rows_in low lengths positions cells)
-keys_of_rows group low lengths positions cells keys l h = h ∙ each positions cells l
-  where
-    each : (ps : List ℕ) (cs : List Cell) → length cs ≡ length ps → map (λ p. group (coordinate_in low lengths p)) ps ≡ map (λ row. group row.at.items) (rows_in low lengths ps cs)
-    each [] cs m = refl
-    each (p ∷ ps) [] m = absurd (omega (arith, m))
-    each (p ∷ ps) (cell ∷ cs) m = ap (λ (zs : List Coordinate). group (coordinate_in low lengths p) ∷ zs) (each ps cs (omega (arith, m)))
-
--- ---- the groups of a chunk
-
-pub all_of_chunk : {A : Type 0} (n : ℕ) (xs : List A) → n ≡ length xs → take n (drop 0 xs) ≡ xs
-all_of_chunk n xs e = take_all n xs (omega (arith, e))
-
 pub as_many_in_core : (schema : Schema) (margins : List ℕ) (chunk : Chunk) → HasNoMargins margins → HaveCells schema margins (chunk ∷ []) → length (core_of schema.dimensions margins chunk) ≡ length chunk.cells
 as_many_in_core schema margins chunk z h =
     sym (length-map (core_of schema.dimensions margins chunk) (λ (row : Row). row.cell)) ∙ ap length (core_cells schema margins chunk z h)
 
--- the keys of the places are those of the core's rows
-pub chunk_keys : (schema : Schema) (margins : List ℕ) (chunk : Chunk) (group : Coordinate → Coordinate) (keys : List (ArrayVec ℤ)) (low : List ℤ) (lengths : List ℕ) → HasNoMargins margins → HaveCells schema margins (chunk ∷ [])
-    → low ≡ frame_low schema.dimensions margins chunk.at.items → lengths ≡ frame_lengths schema.dimensions margins
-    → map (λ key. key.items) keys ≡ map (λ p. group (coordinate_in low lengths p)) chunk.positions
-    → AreKeys group keys (core_of schema.dimensions margins chunk)
-chunk_keys schema margins chunk group keys low lengths z h from long e =
-    subst (AreKeys group keys) (sym (all_in_core schema margins chunk z h))
-    (keys_of_rows group (frame_low schema.dimensions margins chunk.at.items) (frame_lengths schema.dimensions margins) chunk.positions chunk.cells keys h.placed.all.0.placed.each
-    (e ∙ (λ i. map (λ (p : ℕ). group (coordinate_in (from i) (long i) p)) chunk.positions)))
-
-pub as_many_keys : (schema : Schema) (margins : List ℕ) (chunk : Chunk) (group : Coordinate → Coordinate) (keys slice : List (ArrayVec ℤ)) (low : List ℤ) (lengths : List ℕ) → HasNoMargins margins → HaveCells schema margins (chunk ∷ [])
-    → low ≡ frame_low schema.dimensions margins chunk.at.items → lengths ≡ frame_lengths schema.dimensions margins
-    → map (λ key. key.items) keys ≡ map (λ p. group (coordinate_in low lengths p)) chunk.positions → slice ≡ keys
-    → length slice ≡ length chunk.cells
-as_many_keys schema margins chunk group keys slice low lengths z h from long e same =
-    ap length same
-    ∙ each_key group keys (core_of schema.dimensions margins chunk) (chunk_keys schema margins chunk group keys low lengths z h from long e)
-    ∙ as_many_in_core schema margins chunk z h
-
--- without names all cells of the core are in one group, else those that agree in the named dimensions
-pub one_in_core : (places : List ℕ) (gs : List Aggregate) (rows : List Row) (at : ArrayVec ℤ) (r : Result (Option Groups) Memory) → length places < 1 → at.items ≡ pos 0 ∷ []
-    → IfOk r (λ found. IfSome found (λ part. AreGroupsOf gs (one_set at.items rows) part.groups)) → IfOk r (λ found. IfSome found (λ part. AreGroupsOf gs (aggregate_sets places rows) part.groups))
-one_in_core [] gs rows at r l e h = subst (λ (c : Coordinate). IfOk r (λ found. IfSome found (λ part. AreGroupsOf gs (one_set c rows) part.groups))) e h
-one_in_core (place ∷ places) gs rows at r l e h = absurd (omega (arith, l))
-
-pub named_in_core : (places : List ℕ) (gs : List Aggregate) (rows : List Row) (r : Result (Option Groups) Memory) → 1 ≤ length places
-    → IfOk r (λ found. IfSome found (λ part. AreGroupsOf gs (sets_by (numbers_at places) rows) part.groups)) → IfOk r (λ found. IfSome found (λ part. AreGroupsOf gs (aggregate_sets places rows) part.groups))
-named_in_core [] gs rows r l h = absurd (omega (arith, l))
-named_in_core (place ∷ places) gs rows r l h = h
+-- without names all cells of the core are in one group
+pub one_in_core : (places : List ℕ) (gs : List Aggregate) (rows : List Row) (r : Result (Option Groups) Memory) → length places < 1
+    → IfOk r (λ found. IfSome found (λ part. AreGroupsOf gs (one_set (pos 0 ∷ []) rows) part.groups)) → IfOk r (λ found. IfSome found (λ part. AreGroupsOf gs (aggregate_sets places rows) part.groups))
+one_in_core [] gs rows r l h = h
+one_in_core (place ∷ places) gs rows r l h = absurd (omega (arith, l))

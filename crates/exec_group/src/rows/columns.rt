@@ -1,12 +1,18 @@
-//! The states of aggregates for cells whose values stand in columns of numbers: no cell is looked at alone.
-ghost use Rattle.std.specs.Prelude.{◌≡◌, ◌+◌, ◌^◌, ◌<◌, ◌≤◌, List as Items, length, take, drop, IfOk, IfSome};
+//! The group of all cells whose values stand in columns of numbers: no cell is looked at alone.
+ghost use Rattle.std.specs.Prelude.{◌≡◌, ◌^◌, ◌<◌, ◌≤◌, List as Items, length, IfOk, IfSome};
 ghost use Rattle.cell_values.specs.declared.datum.Cell.{Cell};
-ghost use Rattle.exec_group.specs.Counts.{cells_of};
+ghost use Rattle.cell_values.specs.declared.datum.Row.{Row};
+ghost use Rattle.array_rows.specs.Rows.{IsRising};
+ghost use Rattle.logical_plan.specs.Groups.{cells_of as cells_of_rows};
+ghost use Rattle.exec_group.specs.Counts.{cells_in, cells_of};
+ghost use Rattle.exec_group.specs.Grouped.{AreGroupsOf};
 ghost use Rattle.exec_group.specs.Inner.Columns.{AreStatesOfCells, HaveNumbers, StandsForCells};
+ghost use Rattle.exec_group.specs.Sets.{one_set};
 
+use crate::rows::groups::{Group, Groups};
 use agg_states::AggState;
 use cell_columns::Cells;
-use cell_values::{List, Memory};
+use cell_values::{Coord, List, Memory, copy_coord};
 use logical_plan::Aggregate;
 use std::alloc::Global;
 
@@ -22,47 +28,60 @@ fn state_of_numbers(aggregate: &Aggregate, numbers: &[i64]) -> AggState
     state
 }
 
-/// The state of an aggregate for so many cells from a place on, if their values of its attribute are kept as numbers.
-fn state_of_range(
-    aggregate: &Aggregate,
-    cells: &Cells,
-    from: usize,
-    count: usize,
-) -> Option<AggState>
+/// The state of an aggregate for cells, if their values of its attribute are kept as numbers.
+fn state_of_column(aggregate: &Aggregate, cells: &Cells) -> Option<AggState>
     requires few { length cells.now < 2 ^ 63 }
-    requires within { from + count ≤ length cells.now }
-    ensures stands { IfSome result (StandsForCells aggregate.now (take count (drop from cells.now))) }
-    ensures cells { IfSome result (λ state. state.cells ≡ count) }
+    ensures stands { IfSome result (StandsForCells aggregate.now cells.now) }
+    ensures cells { IfSome result (λ state. state.cells ≡ length cells.now) }
 {
     match cells.numbers(aggregate.attribute as usize) {
-        Some(numbers) => {
-            let (_, rest) = numbers.split_at(from);
-            let (part, _) = rest.split_at(count);
-            Some(state_of_numbers(aggregate, part))
-        }
+        Some(numbers) => Some(state_of_numbers(aggregate, numbers)),
         None => None,
     }
 }
 
-/// The state of each aggregate for so many cells from a place on, if the values of each are kept as numbers.
-pub(crate) fn states_of_range(
+/// The state of each aggregate for cells, if the values of each are kept as numbers.
+fn states_of_columns(
     alloc: Global,
     aggregates: &[Aggregate],
     cells: &Cells,
-    from: usize,
-    count: usize,
 ) -> Result<Option<List<AggState>>, Memory>
     requires few { length cells.now < 2 ^ 63 }
-    requires within { from + count ≤ length cells.now }
-    ensures states { IfOk result (λ found. IfSome found (AreStatesOfCells aggregates.now (take count (drop from cells.now)))) }
-    ensures cells { IfOk result (λ found. IfSome found (λ states. cells_of states ≤ count)) }
+    ensures states { IfOk result (λ found. IfSome found (AreStatesOfCells aggregates.now cells.now)) }
+    ensures cells { IfOk result (λ found. IfSome found (λ states. cells_of states ≤ length cells.now)) }
 {
     let mut states = List::with_capacity(alloc, aggregates.len())?;
     for aggregate in aggregates {
-        let Some(state) = state_of_range(aggregate, cells, from, count) else {
+        let Some(state) = state_of_column(aggregate, cells) else {
             return Ok(None);
         };
         states.push(state)?;
     }
     Ok(Some(states))
+}
+
+/// All cells in one group at a coordinate, if the values of each aggregate are kept as numbers.
+pub(crate) fn one_of_columns(
+    alloc: Global,
+    aggregates: &[Aggregate],
+    at: &Coord,
+    cells: &Cells,
+) -> Result<Option<Groups>, Memory>
+    requires few { length cells.now < 2 ^ 63 }
+    ensures groups { (rows : Items Row) → IsRising rows → cells_of_rows rows ≡ cells.now
+        → IfOk result (λ found. IfSome found (λ part. AreGroupsOf aggregates.now (one_set at.now.items rows) part.groups)) }
+    ensures cells { IfOk result (λ found. IfSome found (λ part. cells_in part.groups ≤ length cells.now)) }
+{
+    let found = states_of_columns(alloc, aggregates, cells)?;
+    match found {
+        None => Ok(None),
+        Some(states) => {
+            let mut groups = List::new(alloc);
+            groups.push(Group {
+                at: copy_coord(at),
+                states,
+            })?;
+            Ok(Some(Groups { groups }))
+        }
+    }
 }

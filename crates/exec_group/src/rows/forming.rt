@@ -34,7 +34,7 @@ pub fn one_group(
 }
 
 /// Whether all coordinates are this one.
-pub(crate) fn are_at(at: &Coord, keys: &[Coord]) -> bool
+fn are_at(at: &Coord, keys: &[Coord]) -> bool
     ensures { result ≡ are_at at.now.items keys.now }
 {
     keys.iter()

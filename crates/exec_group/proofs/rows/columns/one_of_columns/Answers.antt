@@ -2,7 +2,7 @@ use Rattle.std.proofs.Common.{ℤ, List, [], ◌∷◌, ◌++◌, ap, ◌∙◌}
 use Rattle.arrayvec.specs.ArrayVec.{ArrayVec}
 use Rattle.exec_group.specs.declared.rows.groups.Group.{Group}
 use Rattle.exec_group.proofs.FormLaws.{one_group}
-use Rattle.exec_group.proofs.rows.ranges.one_range.Goals as goal
+use Rattle.exec_group.proofs.rows.columns.one_of_columns.Goals as goal
 
 pub returns-in_ok-push-in-Some-clause-groups : goal.returns-in_ok-push-in-Some-clause-groups
 returns-in_ok-push-in-Some-clause-groups c = λ rows rise same.
