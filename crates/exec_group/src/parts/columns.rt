@@ -26,11 +26,7 @@ fn are_few(cells: &Cells) -> bool
 }
 
 /// Whether each place is in a box.
-fn places_inside(
-    grid: &Grid,
-    area: &Bounds,
-    positions: &List<u64>,
-) -> Result<List<bool>, Memory>
+fn places_inside(grid: &Grid, area: &Bounds, positions: &List<u64>) -> Result<List<bool>, Memory>
     requires grid { IsGrid grid.now }
     requires inside { AllByRecursion (λ p. p < volume grid.now.lengths.items) positions.now }
     ensures { IfOk result (λ inside. inside ≡ map (λ p. is_inside area.now (coordinate_in grid.now.low.items grid.now.lengths.items p)) positions.now) }
