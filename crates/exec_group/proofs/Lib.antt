@@ -1,11 +1,13 @@
 pub mod BlockLaws
-mod CoreSets
+pub mod ColumnLaws
+pub mod CoreSets
 pub mod FormLaws
 pub mod GroupLaws
 pub mod InsideLaws
 pub mod KeyLaws
 pub mod KindLaws
 pub mod MergeLaws
+pub mod NoMarginLaws
 pub mod PartsPartLaws
 mod PiecesPartLaws
 pub mod RowLemmas

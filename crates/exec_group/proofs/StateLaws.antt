@@ -23,13 +23,17 @@ next_rising rows i row r l e =
     subst IsRising (take_more rows i row l ∙ ap (λ (x : Row). take i rows ++ x ∷ []) (sym e))
     (rising_left (take (i + 1) rows) (drop (i + 1) rows) (subst IsRising (sym (take-append-drop (i + 1) rows)) r))
 
+pub next_row : (g : Aggregate) (rows : List Row) (i : ℕ) (row : Row) (s t : Summary) → IsRising rows → i < length rows → row ≡ get_or rows i row → StandsFor g (take i rows) s
+    → ((some : List Row) → StandsFor g some s → cell_at some row.at.items ≡ None → StandsFor g (put_row row some) t) → StandsFor g (take (i + 1) rows) t
+next_row g rows i row s t r l e stands takes =
+    let next = next_rising rows i row r l e in
+    subst (λ (some : List Row). StandsFor g some t) (put_last (take i rows) row next ∙ ap (λ (x : Row). take i rows ++ x ∷ []) e ∙ sym (take_more rows i row l))
+    (takes (take i rows) stands (free_last (take i rows) row next))
+
 pub next_state : (g : Aggregate) (rows : List Row) (i : ℕ) (row : Row) (s t : Summary) → IsRising rows → i < length rows → row ≡ get_or rows i row → StandsFor g (take i rows) s
     → ((h : Aggregate) (some : List Row) → StandsFor h some s → h.attribute ≡ g.attribute → cell_at some row.at.items ≡ None → StandsFor h (put_row (placed row.at.items row.cell) some) t)
     → StandsFor g (take (i + 1) rows) t
-next_state g rows i row s t r l e stands takes =
-    let next = next_rising rows i row r l e in
-    subst (λ (some : List Row). StandsFor g some t) (put_last (take i rows) row next ∙ ap (λ (x : Row). take i rows ++ x ∷ []) e ∙ sym (take_more rows i row l))
-    (takes g (take i rows) stands refl (free_last (take i rows) row next))
+next_state g rows i row s t r l e stands takes = next_row g rows i row s t r l e stands (λ some stand empty. takes g some stand refl empty)
 
 -- ---- one state after the other
 
