@@ -13,5 +13,6 @@ mod PiecesPartLaws
 pub mod RowLemmas
 pub mod RowsPartLaws
 pub mod StateLaws
+pub mod TakenLaws
 pub mod ToldLaws
 pub mod WholeLaws
