@@ -1,5 +1,6 @@
 pub mod BlockLaws
 pub mod ColumnLaws
+pub mod CoreColumnLaws
 pub mod CoreSets
 pub mod FormLaws
 pub mod GroupLaws
@@ -7,7 +8,6 @@ pub mod InsideLaws
 pub mod KeyLaws
 pub mod KindLaws
 pub mod MergeLaws
-pub mod NoMarginLaws
 pub mod PartsPartLaws
 mod PiecesPartLaws
 pub mod RowLemmas

@@ -4,12 +4,11 @@ use Rattle.std.proofs.lemmas.List.{append-nil, map-append, reverse-append}
 use Rattle.std.specs.BTreeMap.{BTreeMap, IsEmpty, is_at}
 use Rattle.std.specs.Map.{lookup}
 use Rattle.std.specs.Option.{unwrap_or}
-use Rattle.std.specs.Prelude.{IfOk, reverse}
+use Rattle.std.specs.Prelude.{reverse}
 use Rattle.arrayvec.specs.ArrayVec.{ArrayVec}
 use Rattle.cell_values.specs.declared.datum.Broken.{Broken}
 use Rattle.cell_values.specs.declared.datum.FaultKind.{FaultKind}
 use Rattle.cell_values.specs.declared.datum.Row.{Row}
-use Rattle.cell_values.specs.declared.memory.Memory.{Memory}
 use Rattle.cell_values.specs.declared.schema.Bounds.{Bounds}
 use Rattle.array_rows.specs.Rows.{Coordinate}
 use Rattle.logical_plan.specs.Faults.{if_whole}
@@ -108,17 +107,12 @@ module _ (origins : List Origin) (bounds : Bounds) (values : List Origin) where
     counts_of = steps.counts_of;
   }
 
-  both_steps : (made front back all made' made'' : List Row) (counts counts' : BTreeMap (ArrayVec ℤ) ℕ) (broken : Option Broken) → all ≡ front ++ back
+  pub both_steps : (made front back all made' made'' : List Row) (counts counts' : BTreeMap (ArrayVec ℤ) ℕ) (broken : Option Broken) → all ≡ front ++ back
       → AreSteps origins bounds values made front None made' counts → AreSteps origins bounds values made' back broken made'' counts' → AreSteps origins bounds values made all broken made'' counts'
   both_steps made front back all made' made'' counts counts' broken e steps more_steps = record {
     same = λ more. in_two made front back all more e ∙ steps.same (back ++ more) ∙ more_steps.same more;
     counts_of = more_steps.counts_of;
   }
-
-  pub both_land : (made front back all made' made'' : List Row) (counts counts' : BTreeMap (ArrayVec ℤ) ℕ) (r : Result (Option Broken) Memory) → all ≡ front ++ back
-      → AreSteps origins bounds values made front None made' counts → IfOk r (λ broken. AreSteps origins bounds values made' back broken made'' counts') → IfOk r (λ broken. AreSteps origins bounds values made all broken made'' counts')
-  both_land made front back all made' made'' counts counts' (Ok broken) e steps more_steps = both_steps made front back all made' made'' counts counts' broken e steps more_steps
-  both_land made front back all made' made'' counts counts' (Err memory) e steps more_steps = tt
 
   -- ---- all rows
 

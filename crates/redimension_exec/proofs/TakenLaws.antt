@@ -1,5 +1,5 @@
 -- Whether a target was taken before.
-use Rattle.std.proofs.Common.{◌≡◌, ℕ, ◌+◌, ◌≤◌, ℤ, Bool, true, false, cond, ◌||◌, List, [], ◌∷◌, length, filter, refl, sym, ap, ◌∙◌, subst, arith}
+use Rattle.std.proofs.Common.{◌≡◌, ℕ, ◌+◌, ◌<◌, ◌≤◌, ℤ, Bool, true, false, cond, ◌||◌, List, [], ◌∷◌, length, filter, refl, sym, ap, ◌∙◌, subst, arith}
 use Rattle.std.specs.BTreeMap as tree
 use Rattle.std.specs.BTreeMap.{BTreeMap, Updates}
 use Rattle.std.specs.List.{list_any}
@@ -14,7 +14,7 @@ use Rattle.array_rows.specs.Rows.{Coordinate, row_major}
 use Rattle.array_rows.proofs.RowsLemmas.{row_major_exact, same_coordinate}
 use Rattle.logical_plan.specs.Redimension.{Origin, from_dimension, from_attribute, counted, counted_places, counted_up, alike_so_far, landing_at, breaks, lands}
 use Rattle.redimension_exec.specs.Inner.Counting.{by_numbers, has_counted, uncounted, HasLows, landed_with, AreNumbered, AreCountsOf}
-use Rattle.redimension_exec.proofs.CountLaws.{alike_is, counts_each, is_equal, same_number, uncounted_none, uncounted_up}
+use Rattle.redimension_exec.proofs.CountLaws.{alike_is, and_false, counts_each, is_equal, same_number, uncounted_none, uncounted_up}
 
 -- some item passes a test exactly where more than none of them do
 any_counted : {A : Type 0} (p : A → Bool) (xs : List A) → list_any p xs ≡ nat_lt 0 (length (filter p xs))
@@ -86,11 +86,7 @@ pub taken_by_count : (origins : List Origin) (taken : List Coordinate) (c : Coor
 taken_by_count origins taken c n l lows num e = cases (has_counted origins) refl
   where
     cases : (h : Bool) → has_counted origins ≡ h → list_any (λ t. is_eq (row_major t (counted_up origins n c))) taken ≡ (nat_lt 0 n && not h)
-    cases true h = none_taken origins taken c n h l lows num (omega (arith, e)) ∙ sym (never (nat_lt 0 n))
-      where
-        never : (b : Bool) → (b && false) ≡ false
-        never true = refl
-        never false = refl
+    cases true h = none_taken origins taken c n h l lows num (omega (arith, e)) ∙ sym (and_false (nat_lt 0 n) (not true) refl)
     cases false h =
         (λ i. list_any (λ t. is_eq (row_major t (up_none origins n c h l i))) taken)
         ∙ taken_as_counted origins taken c h l num
@@ -162,3 +158,34 @@ module _ (origins : List Origin) (bounds : Bounds) (counts : BTreeMap (ArrayVec 
         → (landing_at bounds true taken (counted_up origins (alike_so_far (counted_places origins 0) taken first) first) ≡ lands at) × AreCountsOf origins (at ∷ taken) new
     place_free again new update taken are =
         (takes_place origins bounds taken first n l lows are.numbered (number taken are) within again ∙ ap lands (sym made), counted_more origins taken counts new key first at n are l lows k e made update)
+
+-- synthetic numbers keep the targets apart
+pub kept_apart : (origins : List Origin) (n : ℕ) → has_counted origins ≡ true → (nat_lt 0 n && not (has_counted origins)) ≡ false
+kept_apart origins n h = (λ i. nat_lt 0 n && not (h i)) ∙ and_false (nat_lt 0 n) (not true) refl
+
+-- ---- the same without synthetic dimensions, where the numbers are the target
+
+module _ (origins : List Origin) (bounds : Bounds) (counts : BTreeMap (ArrayVec ℤ) ℕ) (first : Coordinate) (plain : has_counted origins ≡ false) (l : length first ≡ length origins) (lows : HasLows origins first) where
+  same_up : (n m : ℕ) → counted_up origins n first ≡ counted_up origins m first
+  same_up n m = up_none origins n first plain l ∙ sym (up_none origins m first plain l)
+
+  pub plain_beyond : is_inside bounds (counted_up origins 0 first) ≡ false → (taken : List Coordinate) → AreCountsOf origins taken counts
+      → landing_at bounds true taken (counted_up origins (alike_so_far (counted_places origins 0) taken first) first) ≡ breaks OutOfBounds
+  plain_beyond out =
+      let key : ArrayVec ℤ = record { items = uncounted origins first } in
+      let n : ℕ = unwrap_or (tree.get by_numbers counts key) 0 in
+      place_beyond origins bounds counts first key n refl refl (ap (is_inside bounds) (same_up n 0) ∙ out)
+
+  module _ (key : ArrayVec ℤ) (n : ℕ) (k : key.items ≡ uncounted origins first) (e : n ≡ unwrap_or (tree.get by_numbers counts key) 0) (at : Coordinate) (made : at ≡ counted_up origins 0 first)
+      (inside : is_inside bounds at ≡ true) where
+    pub plain_taken : 0 < n → (taken : List Coordinate) → AreCountsOf origins taken counts
+        → landing_at bounds true taken (counted_up origins (alike_so_far (counted_places origins 0) taken first) first) ≡ breaks Collision
+    plain_taken some =
+        let again : nat_lt 0 n ≡ true = grind (arith, some) in
+        place_taken origins bounds counts first key n k e l lows at (made ∙ same_up 0 n) inside (λ i. again i && not (plain i))
+
+    pub plain_free : n ≤ 0 → (new : BTreeMap (ArrayVec ℤ) ℕ) → Updates by_numbers counts new key (Some 1) → (taken : List Coordinate) → AreCountsOf origins taken counts
+        → (landing_at bounds true taken (counted_up origins (alike_so_far (counted_places origins 0) taken first) first) ≡ lands at) × AreCountsOf origins (at ∷ taken) new
+    plain_free none new update =
+        let zero_of : 0 ≡ n = omega (arith, none) in
+        place_free origins bounds counts first key 0 k (zero_of ∙ e) l lows at made inside (λ i. false && not (plain i)) new update

@@ -1,5 +1,6 @@
 pub mod Bands
 pub mod Counting
+pub mod Filling
 pub mod Grouping
 pub mod Places
 pub mod Sorting

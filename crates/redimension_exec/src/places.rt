@@ -1,14 +1,15 @@
 //! Rows moved to coordinates that their values give.
 
-mod carrying;
+mod bounds;
 mod counting;
+mod filling;
 mod landing;
 mod numbers;
 mod ordering;
 mod places;
 
-pub use carrying::{bounds_of, carried_rows};
-pub(crate) use landing::land_rows;
+pub use bounds::bounds_of;
+pub(crate) use filling::{Target, fill_rows};
 pub use numbers::first_numbers;
 pub(crate) use ordering::in_order;
 pub use places::{Place, places_of_attributes, places_of_dimensions};

@@ -87,7 +87,7 @@ pub fn aggregate_part(
     ensures groups { IfOk result (λ part. AreGroupsOf aggs.now (aggregate_sets dims.now (core_of schema.now.dimensions margins.now.items chunk)) part.groups) }
     ensures cells { IfOk result (λ part. cells_in part.groups ≤ length (core_of schema.now.dimensions margins.now.items chunk)) }
 {
-    let found = part_of_columns(margins, &chunk, aggs, dims)?;
+    let found = part_of_columns(schema, margins, &chunk, aggs, dims)?;
     match found {
         Some(groups) => {
             drop(chunk);

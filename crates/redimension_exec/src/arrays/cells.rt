@@ -1,68 +1,53 @@
 //! Redimensions without aggregates.
-ghost use Rattle.std.specs.Prelude.{◌≡◌, ◌≤◌, [], None, length, map, IsTrue, IfOk};
+ghost use Rattle.std.specs.Prelude.{◌≡◌, [], None, IsTrue, IfOk};
 ghost use Rattle.cell_values.specs.Schemas.{IsValid};
-ghost use Rattle.array_rows.specs.Boxes.{bounds_of};
 ghost use Rattle.array_parts.specs.Cores.{HasCells, HaveCells, cores_of, meant_by_cores};
 ghost use Rattle.array_geom.specs.Geometry.{overlaps};
 ghost use Rattle.array_geom.specs.Link.{Is};
 ghost use Rattle.logical_plan.specs.Meaning.{redimensioned_from};
-ghost use Rattle.logical_plan.specs.Redimension.{carried_rows, origin_of, value_origin};
 ghost use Rattle.logical_plan.specs.Typing.{redimensions};
-ghost use Rattle.redimension_exec.specs.Inner.Bands.{AreBands};
+ghost use Rattle.redimension_exec.specs.Inner.Filling.{HoldsLanded, no_margins};
 
 use crate::arrays::bands::has_bands;
-use crate::arrays::building::{broken_target, fitted_array};
-use crate::arrays::moving::landed_in_bands;
-use crate::places::{carried_rows, in_order};
-use array_geom::ChunkedArray;
-use cell_values::{Broken, List, Memory, Row, Schema};
+use crate::arrays::building::broken_target;
+use crate::arrays::moving::{filled_from_rows, filled_in_bands};
+use crate::filling::{no_margins, told_array};
+use array_geom::{Chunk, ChunkedArray};
+use cell_values::{Broken, ChunkAt, Margins, Memory, Schema};
 use exec_group::rows_of_cores;
+use std::collections::BTreeMap;
 
-/// The rows of an array's cores at the target's coordinates, or the first one that breaks the result, from all rows.
-#[tactic(auto, using(crate::proofs::MeantLaws::few_dimensions))]
-fn carried_from_all(
+/// The target's chunks with what lands of an array's cores, or the first row that breaks the target, from all rows.
+fn filled_from_all(
     array: ChunkedArray,
     target: &Schema,
-) -> Result<Result<List<Row>, Broken>, Memory>
+    none: &Margins,
+) -> Result<Result<BTreeMap<ChunkAt, Chunk>, Broken>, Memory>
     requires cells { HaveCells array.schema array.margins.items array.chunks }
     requires valid { IsValid target.now }
-    ensures { IfOk result (λ made. made ≡ carried_rows (map (origin_of array.schema) target.now.dimensions)
-        (bounds_of target.now.dimensions) (map (value_origin array.schema) target.now.attributes) (cores_of array)) }
+    requires margins { none.now.items ≡ no_margins target.now.dimensions }
+    ensures { IfOk result (HoldsLanded array.schema target.now (cores_of array)) }
 {
     let source = array.schema.copy()?;
     let rows = rows_of_cores(array)?;
-    carried_rows(&source, target, &rows)
-}
-
-/// The same band by band.
-#[tactic(auto, using(crate::proofs::MeantLaws::few_dimensions))]
-fn carried_in_bands(
-    array: ChunkedArray,
-    target: &Schema,
-) -> Result<Result<List<Row>, Broken>, Memory>
-    requires bands { AreBands array.schema array.margins.items array.chunks }
-    requires valid { IsValid target.now }
-    ensures { IfOk result (λ made. made ≡ carried_rows (map (origin_of array.schema) target.now.dimensions)
-        (bounds_of target.now.dimensions) (map (value_origin array.schema) target.now.attributes) (cores_of array)) }
-{
-    let landed = landed_in_bands(array, target)?;
-    match landed {
-        Ok(made) => Ok(Ok(in_order(made)?)),
-        Err(broken) => Ok(Err(broken)),
-    }
+    filled_from_rows(&source, target, none, &rows)
 }
 
 /// The same, band by band where the array has bands.
-fn carried_from(array: ChunkedArray, target: &Schema) -> Result<Result<List<Row>, Broken>, Memory>
+fn filled_from(
+    array: ChunkedArray,
+    target: &Schema,
+    none: &Margins,
+) -> Result<Result<BTreeMap<ChunkAt, Chunk>, Broken>, Memory>
     requires cells { HaveCells array.schema array.margins.items array.chunks }
     requires valid { IsValid target.now }
-    ensures { IfOk result (λ made. made ≡ carried_rows (map (origin_of array.schema) target.now.dimensions)
-        (bounds_of target.now.dimensions) (map (value_origin array.schema) target.now.attributes) (cores_of array)) }
+    requires margins { none.now.items ≡ no_margins target.now.dimensions }
+    ensures { IfOk result (HoldsLanded array.schema target.now (cores_of array)) }
 {
     if has_bands(&array) {
-        carried_in_bands(array, target)
+        filled_in_bands(array, target, none)
     } else {
-        carried_from_all(array, target)
+        filled_from_all(array, target, none)
     }
 }
 
@@ -75,8 +60,9 @@ fn of_whole(array: ChunkedArray, target: &Schema) -> Result<ChunkedArray, Memory
     ensures array { IfOk result (λ made. Is made (redimensioned_from target.now [] (meant_by_cores array))) }
     ensures margins { IfOk result (λ made. made.margins.items ≡ overlaps target.now.dimensions) }
 {
-    match carried_from(array, target)? {
-        Ok(rows) => fitted_array(target, rows),
+    let none = no_margins(target);
+    match filled_from(array, target, &none)? {
+        Ok(chunks) => told_array(target, &none, chunks),
         Err(broken) => broken_target(target, &broken),
     }
 }

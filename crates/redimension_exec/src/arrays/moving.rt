@@ -1,124 +1,196 @@
-//! Rows moved to their targets band by band, so that the source's rows of one band are there at a time.
-ghost use Rattle.std.specs.Prelude.{◌≡◌, ◌≤◌, [], true, length, map, IfOk};
+//! Rows moved into the chunks of a target band by band, so that the source's rows of one band are there at a time.
+ghost use Rattle.std.specs.Prelude.{◌≡◌, ◌≤◌, length, map, IfOk};
+ghost use Rattle.cell_values.specs.Schemas.{IsValid};
 ghost use Rattle.array_rows.specs.Boxes.{bounds_of};
 ghost use Rattle.array_geom.specs.Link.{core_rows};
 ghost use Rattle.array_parts.specs.Cores.{cores_of};
-ghost use Rattle.logical_plan.specs.Redimension.{landed, origin_of, value_origin};
+ghost use Rattle.logical_plan.specs.Redimension.{origin_of, value_origin};
 ghost use Rattle.redimension_exec.specs.Inner.Bands.{AreBands};
-ghost use Rattle.redimension_exec.specs.Inner.Counting.{AreCountsOf};
+ghost use Rattle.redimension_exec.specs.Inner.Filling.{Fill, HoldsAll, HoldsLanded, IsTarget, no_margins};
 ghost use Rattle.redimension_exec.specs.Inner.Places.{origin};
-ghost use Rattle.redimension_exec.specs.Inner.Steps.{AreSteps, continued, targets_of};
 
-use crate::places::{Place, bounds_of, land_rows, places_of_attributes, places_of_dimensions};
+use crate::filling::Filled;
+use crate::places::{
+    Place, Target, bounds_of, fill_rows, places_of_attributes, places_of_dimensions,
+};
 use area_cells::{half_of_bands, rows_of_chunks};
 use array_geom::{Chunk, ChunkedArray};
-use cell_values::{Bounds, Broken, Coord, List, Margins, Memory, Row, Schema};
+use cell_values::{Bounds, Broken, ChunkAt, Coord, List, Margins, Memory, Row, Schema};
 use std::collections::BTreeMap;
 
-/// Adds what the rows of the cores of chunks make, or says which of them is the first that breaks the array.
-fn land_band(
+/// Puts what the rows of the cores of chunks make into the target's chunks, or says which of the rows is the first that breaks it.
+fn fill_band(
     source: &Schema,
     margins: &Margins,
     chunks: &[Chunk],
-    places: &[Place],
-    bounds: &Bounds,
-    values: &[Place],
+    to: &Target<'_>,
     counts: &mut BTreeMap<Coord, u64>,
-    made: &mut List<Row>,
+    filled: &mut Filled,
 ) -> Result<Option<Broken>, Memory>
-    requires few { length places.now ≤ 6 }
     requires bands { AreBands source.now margins.now.items chunks.now }
-    requires counts { AreCountsOf (map origin places.now) (targets_of made.old) counts.old }
-    ensures { IfOk result (λ broken. AreSteps (map origin places.now) bounds.now (map origin values.now) made.old
-        (core_rows source.now.dimensions margins.now.items chunks.now) broken made.new counts.new) }
+    requires target { IsTarget to.now.schema.now to.now.none.now.items to.now.bounds.now to.now.places.now }
+    ensures { IfOk result (λ broken. Fill to.now.schema.now (map origin to.now.places.now) to.now.bounds.now (map origin to.now.values.now)
+        (core_rows source.now.dimensions margins.now.items chunks.now) broken counts.old filled.old counts.new filled.new) }
 {
     let rows = rows_of_chunks(source, margins, chunks)?;
-    land_rows(places, bounds, values, counts, made, &rows)
+    fill_rows(to, counts, filled, &rows)
 }
 
 /// The same, half by half until a band is left.
-fn land_bands(
+fn fill_bands(
     source: &Schema,
     margins: &Margins,
     chunks: &[Chunk],
-    places: &[Place],
-    bounds: &Bounds,
-    values: &[Place],
+    to: &Target<'_>,
     counts: &mut BTreeMap<Coord, u64>,
-    made: &mut List<Row>,
+    filled: &mut Filled,
 ) -> Result<Option<Broken>, Memory>
-    requires few { length places.now ≤ 6 }
     requires bands { AreBands source.now margins.now.items chunks.now }
-    requires counts { AreCountsOf (map origin places.now) (targets_of made.old) counts.old }
-    ensures { IfOk result (λ broken. AreSteps (map origin places.now) bounds.now (map origin values.now) made.old
-        (core_rows source.now.dimensions margins.now.items chunks.now) broken made.new counts.new) }
+    requires target { IsTarget to.now.schema.now to.now.none.now.items to.now.bounds.now to.now.places.now }
+    ensures { IfOk result (λ broken. Fill to.now.schema.now (map origin to.now.places.now) to.now.bounds.now (map origin to.now.values.now)
+        (core_rows source.now.dimensions margins.now.items chunks.now) broken counts.old filled.old counts.new filled.new) }
 {
     let half = half_of_bands(source, chunks);
     if half == chunks.len() {
-        return land_band(
-            source, margins, chunks, places, bounds, values, counts, made,
-        );
+        return fill_band(source, margins, chunks, to, counts, filled);
     }
     let (front, back) = chunks.split_at(half);
-    match land_bands(source, margins, front, places, bounds, values, counts, made)? {
+    match fill_bands(source, margins, front, to, counts, filled)? {
         Some(broken) => Ok(Some(broken)),
-        None => land_bands(source, margins, back, places, bounds, values, counts, made),
+        None => fill_bands(source, margins, back, to, counts, filled),
     }
 }
 
-/// The rows of an array's cores at these targets, in their own order, or the first one that breaks the result.
-fn landed_by(
+/// Where the numbers and the values of a target's cells come from, and its bounds.
+#[derive(Drop)]
+struct Origins {
+    places: List<Place>,
+    values: List<Place>,
+    bounds: Bounds,
+}
+
+#[tactic(auto, using(crate::proofs::MeantLaws::few_dimensions))]
+fn origins_of(source: &Schema, target: &Schema) -> Result<Origins, Memory>
+    requires { IsValid target.now }
+    ensures few { IfOk result (λ origins. length origins.places ≤ 6) }
+    ensures places { IfOk result (λ origins. map origin origins.places ≡ map (origin_of source.now) target.now.dimensions) }
+    ensures values { IfOk result (λ origins. map origin origins.values ≡ map (value_origin source.now) target.now.attributes) }
+    ensures bounds { IfOk result (λ origins. origins.bounds ≡ bounds_of target.now.dimensions) }
+{
+    let dimensions = target.dimensions.as_slice();
+    let places = places_of_dimensions(source, dimensions)?;
+    let values = places_of_attributes(source, target.attributes.as_slice())?;
+    Ok(Origins {
+        places,
+        values,
+        bounds: bounds_of(dimensions),
+    })
+}
+
+/// The target's chunks with what lands of the rows of an array's cores, or the first row that breaks the target.
+fn filled_by(
     array: &ChunkedArray,
-    places: &[Place],
-    bounds: &Bounds,
-    values: &[Place],
-) -> Result<Result<List<Row>, Broken>, Memory>
-    requires few { length places.now ≤ 6 }
+    to: &Target<'_>,
+) -> Result<Result<BTreeMap<ChunkAt, Chunk>, Broken>, Memory>
     requires bands { AreBands array.now.schema array.now.margins.items array.now.chunks }
-    ensures { IfOk result (λ made. made ≡ continued (map origin values.now) [] (landed (map origin places.now) bounds.now true (cores_of array.now) [])) }
+    requires target { IsTarget to.now.schema.now to.now.none.now.items to.now.bounds.now to.now.places.now }
+    ensures { IfOk result (HoldsAll to.now.schema.now (map origin to.now.places.now) to.now.bounds.now (map origin to.now.values.now) (cores_of array.now)) }
 {
     let mut counts = BTreeMap::new(array.chunks.allocator());
-    let mut made = array.chunks.another();
-    match land_bands(
+    let mut filled = Filled::new(array.chunks.allocator());
+    match fill_bands(
         &array.schema,
         &array.margins,
         array.chunks.as_slice(),
-        places,
-        bounds,
-        values,
+        to,
         &mut counts,
-        &mut made,
+        &mut filled,
     )? {
         Some(broken) => Ok(Err(broken)),
-        None => Ok(Ok(made)),
+        None => {
+            let chunks = filled.finish()?;
+            Ok(Ok(chunks))
+        }
     }
 }
 
-/// The rows of an array's cores at the target's coordinates, in their own order, or the first one that breaks the result.
-fn landed_from(array: &ChunkedArray, target: &Schema) -> Result<Result<List<Row>, Broken>, Memory>
-    requires few { length target.now.dimensions ≤ 6 }
-    requires bands { AreBands array.now.schema array.now.margins.items array.now.chunks }
-    ensures { IfOk result (λ made. made ≡ continued (map (value_origin array.now.schema) target.now.attributes) []
-        (landed (map (origin_of array.now.schema) target.now.dimensions) (bounds_of target.now.dimensions) true (cores_of array.now) [])) }
+/// The same of rows.
+fn filled_with(
+    to: &Target<'_>,
+    rows: &List<Row>,
+) -> Result<Result<BTreeMap<ChunkAt, Chunk>, Broken>, Memory>
+    requires { IsTarget to.now.schema.now to.now.none.now.items to.now.bounds.now to.now.places.now }
+    ensures { IfOk result (HoldsAll to.now.schema.now (map origin to.now.places.now) to.now.bounds.now (map origin to.now.values.now) rows.now) }
 {
-    let dimensions = target.dimensions.as_slice();
-    let places = places_of_dimensions(&array.schema, dimensions)?;
-    let values = places_of_attributes(&array.schema, target.attributes.as_slice())?;
-    let bounds = bounds_of(dimensions);
-    landed_by(array, places.as_slice(), &bounds, values.as_slice())
+    let mut counts = BTreeMap::new(rows.allocator());
+    let mut filled = Filled::new(rows.allocator());
+    match fill_rows(to, &mut counts, &mut filled, rows)? {
+        Some(broken) => Ok(Err(broken)),
+        None => {
+            let chunks = filled.finish()?;
+            Ok(Ok(chunks))
+        }
+    }
 }
 
-/// The same. The array is let go.
-pub(crate) fn landed_in_bands(
+fn filled_from(
+    array: &ChunkedArray,
+    target: &Schema,
+    none: &Margins,
+) -> Result<Result<BTreeMap<ChunkAt, Chunk>, Broken>, Memory>
+    requires valid { IsValid target.now }
+    requires margins { none.now.items ≡ no_margins target.now.dimensions }
+    requires bands { AreBands array.now.schema array.now.margins.items array.now.chunks }
+    ensures { IfOk result (HoldsLanded array.now.schema target.now (cores_of array.now)) }
+{
+    let origins = origins_of(&array.schema, target)?;
+    let to = Target {
+        schema: target,
+        none,
+        bounds: &origins.bounds,
+        places: origins.places.as_slice(),
+        values: origins.values.as_slice(),
+    };
+    let filled = filled_by(array, &to)?;
+    Ok(filled)
+}
+
+/// The target's chunks, without margins, with what lands of the rows of an array's cores, or the first row that breaks the target.
+/// The array is let go.
+pub(crate) fn filled_in_bands(
     array: ChunkedArray,
     target: &Schema,
-) -> Result<Result<List<Row>, Broken>, Memory>
-    requires few { length target.now.dimensions ≤ 6 }
+    none: &Margins,
+) -> Result<Result<BTreeMap<ChunkAt, Chunk>, Broken>, Memory>
+    requires valid { IsValid target.now }
+    requires margins { none.now.items ≡ no_margins target.now.dimensions }
     requires bands { AreBands array.schema array.margins.items array.chunks }
-    ensures { IfOk result (λ made. made ≡ continued (map (value_origin array.schema) target.now.attributes) []
-        (landed (map (origin_of array.schema) target.now.dimensions) (bounds_of target.now.dimensions) true (cores_of array) [])) }
+    ensures { IfOk result (HoldsLanded array.schema target.now (cores_of array)) }
 {
-    let landed = landed_from(&array, target);
+    let filled = filled_from(&array, target, none);
     drop(array);
-    landed
+    filled
+}
+
+/// The same of rows.
+pub(crate) fn filled_from_rows(
+    source: &Schema,
+    target: &Schema,
+    none: &Margins,
+    rows: &List<Row>,
+) -> Result<Result<BTreeMap<ChunkAt, Chunk>, Broken>, Memory>
+    requires valid { IsValid target.now }
+    requires margins { none.now.items ≡ no_margins target.now.dimensions }
+    ensures { IfOk result (HoldsLanded source.now target.now rows.now) }
+{
+    let origins = origins_of(source, target)?;
+    let to = Target {
+        schema: target,
+        none,
+        bounds: &origins.bounds,
+        places: origins.places.as_slice(),
+        values: origins.values.as_slice(),
+    };
+    let filled = filled_with(&to, rows)?;
+    Ok(filled)
 }

@@ -1,6 +1,6 @@
 //! How many cells landed before with the same numbers.
-ghost use Rattle.std.specs.Prelude.{◌≡◌, ◌+◌, ◌≤◌, ◌++◌, ◌<◌, ◌∷◌, ◌+ℤ◌, ◌&&◌, not, [], pos, int_le};
-ghost use Rattle.std.specs.Prelude.{nat_lt, Some, None, length, map, false, IsTrue, OnOk, IfSome};
+ghost use Rattle.std.specs.Prelude.{◌≡◌, ◌+◌, ◌≤◌, ◌++◌, ◌<◌, ◌∷◌, ◌+ℤ◌, ◌&&◌, [], pos, int_le};
+ghost use Rattle.std.specs.Prelude.{Some, None, length, map, false, IsTrue, IfOk, OnOk, IfSome};
 ghost use Rattle.std.specs.BTreeMap as tree;
 ghost use Rattle.std.specs.BTreeMap.{Updates};
 ghost use Rattle.std.specs.Option.{unwrap_or};
@@ -24,7 +24,7 @@ fn is_counted(place: &Place) -> bool
 }
 
 /// Whether some dimension is synthetic.
-fn has_counted(places: &[Place]) -> bool
+pub(crate) fn has_counted(places: &[Place]) -> bool
     ensures { result ≡ has_counted (map origin places.now) }
 {
     match places {
@@ -163,13 +163,6 @@ pub(crate) fn target_within(
     }
 }
 
-/// Whether a cell comes to a place that is taken: one came before, and no synthetic number keeps the two apart.
-pub(crate) fn collides(places: &[Place], count: u64) -> bool
-    ensures { result ≡ (nat_lt 0 count && not (has_counted (map origin places.now))) }
-{
-    count > 0 && !has_counted(places)
-}
-
 /// How many cells came before with these numbers.
 pub(crate) fn count_of(counts: &BTreeMap<Coord, u64>, key: &Coord) -> u64
     ensures { result ≡ unwrap_or (tree.get by_numbers counts.now key.now) 0 }
@@ -194,5 +187,16 @@ pub(crate) fn count_one(
             Ok(())
         }
         None => Err(Memory),
+    }
+}
+
+/// Takes the place of these numbers, and says how many cells came before with them. Only that one came is kept.
+pub(crate) fn take_place(counts: &mut BTreeMap<Coord, u64>, key: Coord) -> Result<u64, Memory>
+    ensures before { IfOk result (λ before. before ≡ unwrap_or (tree.get by_numbers counts.old key) 0) }
+    ensures counts { OnOk result (Updates by_numbers counts.old counts.new key (Some 1)) }
+{
+    match counts.insert(key, 1)? {
+        Some(before) => Ok(before),
+        None => Ok(0),
     }
 }
