@@ -1,12 +1,15 @@
-//! Tells how catalogues are read and spelled, what a file keeps, and what entries make of names, pins and pages.
+//! Tells how catalogues are read and spelled, what a file keeps, what entries make of names, pins and pages, and what changes make of the
+//! catalogue.
 //!
-//! Standard input has tables, each behind a line that begins with `###` and tells what its lines are; the entries are a worked list, and
-//! have no lines. In a table a line that begins with `##` is a title, and is printed as it is; each other line is printed behind `> `, above
-//! its answer.
+//! Standard input has tables, each behind a line that begins with `###` and tells what its lines are; the entries and the changes
+//! are worked lists, and have no lines. In a table a line that begins with `##` is a title, and is printed as it is; each other
+//! line is printed behind `> `, above its answer.
 #![tactic(auto)]
 
 mod bytes;
 mod catalogs;
+mod changes;
+mod changing;
 mod digits;
 mod directories;
 mod entries;
@@ -15,9 +18,11 @@ mod opens;
 mod spelled;
 mod steps;
 mod tell;
+mod vectors;
 mod worked;
 
 use anyhow::Result;
+use changes::tell_changes;
 use kept::tell_kept;
 use spelled::tell_spelled;
 use steps::{tell_first, tell_worked};
@@ -43,6 +48,7 @@ fn tell_part(rt: &(impl Print + AllocGlobal), part: &str) -> Result<()> {
         "catalogues" => tell_spelled(rt, text),
         "files" => tell_kept(rt, text),
         "entries" => tell_entries(rt),
+        "changes" => tell_changes(rt),
         _ => Ok(()),
     }
 }

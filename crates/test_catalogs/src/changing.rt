@@ -1,6 +1,6 @@
 //! The worked catalogue and its changes, as values.
 ghost use Rattle.std.specs.Prelude.{◌≡◌, [], ◌∷◌, IfOk};
-ghost use Rattle.test_changes.specs.Worked.{worked_schema, blob_in, worked_catalog, stored_in, worked_insert, worked_create, worked_remove, worked_cut};
+ghost use Rattle.test_catalogs.specs.Worked.{worked_schema, blob_in, worked_catalog, stored_in, worked_insert, worked_create, worked_remove, worked_cut};
 
 use cell_values::{Attribute, Dimension, Kind, List, Memory, Name, Schema};
 use logical_plan::{NameEntry, Plan};

@@ -1,16 +1,16 @@
+//! Changes of each kind: the bytes of their records, and those of the catalogue after them.
 ghost use Rattle.std.specs.Prelude.{◌≡◌, IsTrue, Some, None};
 ghost use Rattle.plan_changes.specs.Allowed.{names_allow};
 ghost use Rattle.version_catalog.specs.Catalogs.{names_in};
 ghost use Rattle.catalog_changes.specs.Changed.{has_its_directory};
 ghost use Rattle.version_catalog.specs.declared.rules.catalog.BlobAt.{BlobAt as ABlob};
-ghost use Rattle.test_changes.specs.Worked.{worked_catalog};
+ghost use Rattle.test_catalogs.specs.Worked.{worked_catalog};
 
+use crate::changing::{blob, catalog, create, cut, insert, remove, store};
 use crate::vectors::*;
-use crate::worked::{blob, catalog, create, cut, insert, remove, store};
 use catalog_changes::*;
 use cell_values::{Bytes, Memory};
 use plan_changes::Change;
-use std::test::*;
 use version_catalog::{BlobAt, Catalog, *};
 
 /// The bytes of a change's record.
@@ -141,10 +141,24 @@ fn are_as_written(catalog: &Catalog) -> Result<[bool; 7], Memory>
     ])
 }
 
-#[test]
-fn each_kind_of_change_has_its_record(rt: HostRuntime) -> Result<(), Memory> {
+/// What is compared, in this order.
+const KINDS: [&str; 7] = [
+    "the catalogue",
+    "an array that is created",
+    "a first version",
+    "a next version",
+    "an insert",
+    "an array that is removed",
+    "versions that are removed",
+];
+
+/// Prints of each kind of change whether its record, and the catalogue behind it, have the bytes that were spelled by hand.
+pub(crate) fn tell_changes(rt: &(impl Print + AllocGlobal)) -> anyhow::Result<()> {
     let catalog = catalog(rt.alloc())?;
-    let told = are_as_written(&catalog)?;
-    assert!(rt; told.as_slice() == [true; 7].as_slice());
+    let told = are_as_written(&catalog);
+    drop(catalog);
+    for (kind, is_same) in KINDS.iter().zip(told?.iter()) {
+        println!(rt; "{kind}: {is_same}")?;
+    }
     Ok(())
 }

@@ -6,7 +6,7 @@ use Rattle.version_catalog.specs.declared.rules.catalog.BlobAt.{BlobAt}
 use Rattle.version_catalog.specs.declared.rules.catalog.Catalog.{Catalog}
 use Rattle.version_catalog.specs.Catalogs.{names_in}
 use Rattle.catalog_changes.specs.Changed.{has_its_directory}
-use Rattle.test_changes.specs.Worked.{worked_catalog}
+use Rattle.test_catalogs.specs.Worked.{worked_catalog}
 
 pub allows_as : (catalog : Catalog) (change known : Change) → catalog ≡ worked_catalog → change ≡ known → IsTrue (names_allow (names_in worked_catalog) known) → IsTrue (names_allow (names_in catalog) change)
 allows_as catalog change known c e ok =
