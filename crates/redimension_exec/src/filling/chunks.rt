@@ -83,11 +83,7 @@ fn put_back(
 }
 
 /// Takes out the chunk of a number, which has no cells if there is none.
-fn take_out(
-    target: &Schema,
-    chunks: &mut BTreeMap<ChunkAt, Chunk>,
-    number: &ChunkAt,
-) -> Chunk
+fn take_out(target: &Schema, chunks: &mut BTreeMap<ChunkAt, Chunk>, number: &ChunkAt) -> Chunk
     ensures chunk { result ≡ unwrap_or (tree.get by_number chunks.old number.now) (no_cells number.now) }
     ensures others { (key : Numbers ℕ) → is_eq (by_number number.now key) ≡ false → tree.get by_number chunks.new key ≡ tree.get by_number chunks.old key }
 {
