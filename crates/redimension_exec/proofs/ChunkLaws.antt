@@ -44,6 +44,7 @@ use Rattle.exec_group.proofs.RowLemmas.{both_apart}
 use Rattle.redimension_exec.specs.Inner.Bands.{AreBands}
 use Rattle.redimension_exec.specs.Inner.Counting.{has_counted}
 use Rattle.redimension_exec.specs.Inner.Grouping.{AreGroupsLanded, landed_sets}
+use Rattle.redimension_exec.proofs.HoldLaws.{long_as_core}
 use Rattle.redimension_exec.proofs.BandGroups.{back_of, front_of}
 use Rattle.redimension_exec.proofs.LandedLaws.{whole_of}
 use Rattle.redimension_exec.proofs.LandingsGatherLaws.{if_ok, landing_free}
@@ -250,12 +251,6 @@ module _ (gs : List Aggregate) (origins : List Origin) (bounds : Bounds) (plain 
   put_landed merged are = (all_of_both.0, all_of_both.1, same_sets gs (both_sets (landed_sets of_a.0) (landed_sets of_b.0)) (landed_sets all_of_both.0) merged.groups same_at are)
 
 -- ---- cores of different chunks
-
-pub long_as_core : (dims : List Dimension) (k : ChunkNumber) → has_core dims k ≡ true → length k ≡ length dims
-long_as_core [] [] e = refl
-long_as_core [] (q ∷ k) e = cc
-long_as_core (d ∷ dims) [] e = cc
-long_as_core (d ∷ dims) (q ∷ k) e = ap suc (long_as_core dims k (and_parts (int_le (first_in d q) d.hi) (has_core dims k) e).1)
 
 other_core : (schema : Schema) (k l : ChunkNumber) → IsValid schema → length k ≡ length schema.dimensions → length l ≡ length schema.dimensions → number_order k l ≡ Less
     → (c : Coordinate) → is_inside (core schema.dimensions k) c ≡ true → is_inside (core schema.dimensions l) c ≡ false

@@ -9,8 +9,8 @@ returns-in-Some c =
     all_break to.schema.now (map origin to.places.now) to.bounds.now (map origin to.values.now) c.args.rows.now c.new-counts.result c.fill_rows.new.counts c.new-filled.result c.fill_rows.new.filled c.in-Some.broken
     c.new-counts.ensures.empty c.new-filled.ensures (rw c.in-Some.is at c.in_ok-broken.ensures)
 
-pub returns-in_ok-chunks-in-None : goal.returns-in_ok-chunks-in-None
-returns-in_ok-chunks-in-None c =
+pub returns : goal.returns
+returns c =
     let to = c.args.to.now in
     all_land to.schema.now (map origin to.places.now) to.bounds.now (map origin to.values.now) c.args.rows.now c.new-counts.result c.fill_rows.new.counts c.new-filled.result c.fill_rows.new.filled c.in_ok-chunks-in-None.chunks
     c.new-counts.ensures.empty c.new-filled.ensures (rw c.in-None.is at c.in_ok-broken.ensures) c.in_ok-chunks-in-None.ensures

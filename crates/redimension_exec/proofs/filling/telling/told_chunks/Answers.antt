@@ -18,8 +18,8 @@ pub telling-preserved : goal.telling-preserved
 telling-preserved c =
     let so = c.telling.invariant in (
       so.0,
-      tell_next c.args.target.now c.args.margins.now.items so.0 (values_of c.args.chunks.entries) c.telling.told c.push.new.self c.telling.chunks.entries c.pop_first.new.self.entries c.in-Some._number c.in-Some.chunk c.in_ok-next-in-Some.next
-          c.in-Some.ensures.removal c.in_ok-next-in-Some.ensures c.in_ok-push-in-Some.ensures.ok so.1,
+      tell_next c.args.target.now c.args.margins.now.items so.0 (values_of c.args.chunks.entries) c.telling.told c.push.new.self c.telling.chunks.entries c.pop_first.new.self.entries c.in-Some._number c.in-Some.chunk c.in_ok-next.next
+          c.in-Some.ensures.removal c.in_ok-next.ensures c.in_ok-push.ensures.ok so.1,
     )
 
 pub returns : goal.returns
