@@ -2,7 +2,6 @@
 use Rattle.std.proofs.Common.{◌≡◌, ◌∙◌, ℕ, zero, suc, ◌+◌, ◌<◌, ◌≤◌, List, [], ◌∷◌, ◌++◌, length, get_or, take, refl, sym, ap, subst, arith, append_assoc}
 use Rattle.std.specs.List.{AllByRecursion}
 use Rattle.std.proofs.lemmas.List.{append-nil, length-take-le, take_all, take_more}
-use Rattle.arrayvec.specs.ArrayVec.{ArrayVec}
 use Rattle.array_geom.specs.Geometry.{core_meets}
 use Rattle.cell_values.specs.declared.schema.Bounds.{Bounds}
 use Rattle.cell_values.specs.Schemas.{IsValid}
@@ -126,8 +125,7 @@ nothing_traced first all boxes text = record { kept = keeps_still first; damaged
 -- what is kept has the same lines
 pub asking_still : (a b : SourceState) → Keeps a b → asking_over b ≡ asking_over a
 asking_still a b k =
-    ap (λ (chunks : List ℕ → ℕ → List (ArrayVec ℕ)) (leaf : Leaf) (area : Bounds). asking_where
-    (core_meets leaf.schema.dimensions area) (chunks_among leaf.schema.dimensions (version_chunks chunks leaf.name leaf.version))) k.chunks
+    λ i leaf area. asking_where (core_meets leaf.schema.dimensions area) (chunks_among leaf.schema.dimensions (version_chunks (k.chunks i) leaf.name leaf.version))
 
 adds_before : (a b : SourceState) (all : List Leaf) (boxes : List Bounds) (before after : List ℕ) → Keeps a b → AddsLines b all boxes before after → AddsLines a all boxes before after
 adds_before a b all boxes before after k adds = record {
