@@ -1,7 +1,7 @@
 //! What a cell adds to a state, and what two states have together.
 ghost use Rattle.std.specs.Prelude.{◌≡◌, ◌^◌, ◌<◌, slice_index_or, OnOk, OnErr};
 ghost use Rattle.std.specs.Option.{option_map};
-ghost use Rattle.cell_values.specs.declared.datum.Datum.TheVariants.{Null};
+ghost use Rattle.cell_values.specs.declared.datum.Datum.TheVariants.{Int, Null};
 ghost use Rattle.logical_plan.specs.Groups.{attribute_of, bad_kind, fault_for, number_of};
 ghost use Rattle.agg_states.specs.Best.{beats, text_of, value_order};
 ghost use Rattle.agg_states.specs.Merged.{earlier, count_of, wins, best_with, better, total_or_null, outcome};
@@ -118,6 +118,16 @@ pub(crate) fn keep_best(
         *best = Some(value.copy()?);
     }
     Ok(())
+}
+
+/// The same for a number, which takes no memory.
+pub(crate) fn keep_number(function: AggFunction, number: i64, best: &mut Option<Datum>)
+    ensures { best.new ≡ best_with function (Int number) best.old }
+{
+    let value = Datum::Int(number);
+    if wins(function, &value, best) {
+        *best = Some(value);
+    }
 }
 
 /// The best of the values of two sets.

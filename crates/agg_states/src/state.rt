@@ -1,18 +1,19 @@
 //! The state of an aggregate.
 ghost use Rattle.std.specs.Prelude.{◌≡◌, ◌+◌, ◌^◌, ◌<◌, List as Items, [], None, IsTrue, OnOk, OnErr};
 ghost use Rattle.std.specs.List.{AllByRecursion};
+ghost use Rattle.cell_values.specs.declared.datum.Datum.TheVariants.{Int};
 ghost use Rattle.cell_values.specs.declared.datum.Row.{Row};
 ghost use Rattle.cell_values.specs.declared.schema.Attribute.{Attribute};
 ghost use Rattle.cell_values.specs.Cells.{IsCellOf};
 ghost use Rattle.array_rows.specs.Rows.{placed, cell_at, put_row, put_all};
 ghost use Rattle.logical_plan.specs.declared.parts.Aggregate.{Aggregate};
-ghost use Rattle.logical_plan.specs.Groups.{cells_of, aggregate_of};
+ghost use Rattle.logical_plan.specs.Groups.{cells_of, aggregate_of, attribute_of, fault_for};
 ghost use Rattle.logical_plan.specs.Typing.{is_aggregate_of};
 ghost use Rattle.agg_states.specs.Stands.{StandsFor, AreApart};
 
 use crate::parts::{
-    better_of, count_of, earlier_of, fault_in, keep_best, number_of, outcome, placed_fault,
-    value_in,
+    better_of, count_of, earlier_of, fault_in, keep_best, keep_number, number_of, outcome,
+    placed_fault, value_in,
 };
 use cell_values::{Broken, Cell, Coord, Datum, Memory};
 use logical_plan::AggFunction;
@@ -82,6 +83,20 @@ impl AggState {
         self.values += count_of(value);
         self.total += number_of(value) as i128;
         Ok(())
+    }
+
+    /// Adds a cell at a coordinate at which none was taken, whose value of the attribute is this number. Where the cell stands
+    /// need not be known, since it has no fault for the aggregate.
+    pub fn take_number(&mut self, number: i64)
+        requires room { self.old.cells + 1 < 2 ^ 63 }
+        ensures stands { (g : Aggregate) (rows : Items Row) (new : Row) → StandsFor g rows self.old → attribute_of g.attribute new.cell ≡ Int number
+            → fault_for g.function g.attribute new.cell ≡ None → cell_at rows new.at.items ≡ None → StandsFor g (put_row new rows) self.new }
+        ensures cells { self.new.cells ≡ self.old.cells + 1 }
+    {
+        keep_number(self.function, number, &mut self.best);
+        self.cells += 1;
+        self.values += 1;
+        self.total += number as i128;
     }
 
     /// The state of the cells of both, which have no coordinate in common.

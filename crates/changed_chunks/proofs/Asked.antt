@@ -1,5 +1,5 @@
 -- What is asked for: the chunks of a plan's leaves, and then those of a target.
-use Rattle.std.proofs.Common.{◌≡◌, ℕ, List, [], ◌++◌, length, map, Result, Ok, Err, OnErr, sym, ap, ◌∙◌, subst, append_assoc}
+use Rattle.std.proofs.Common.{◌≡◌, ℕ, List, [], ◌++◌, length, map, Option, Result, Ok, Err, OnErr, sym, ap, ◌∙◌, subst, append_assoc}
 use Rattle.std.specs.Prelude.{IfOk, OnOk}
 use Rattle.arrayvec.specs.ArrayVec.{ArrayVec}
 use Rattle.cell_values.specs.declared.datum.Broken.{Broken}
@@ -19,10 +19,11 @@ use Rattle.chunk_source.specs.Source.{AsksFront, Keeps, SourceState, asks, liste
 use Rattle.chunk_source.proofs.ReadLemmas.{front_after, listed_still}
 use Rattle.chunk_exec.specs.Computed.{asked_for_plan}
 use Rattle.plan_traces.specs.declared.asking.Asking.{Asking}
-use Rattle.changed_chunks.specs.Changing.{AsksOnly, IsToldOf, asked_for, asked_of_all, asked_or_fault, asked_with}
+use Rattle.changed_chunks.specs.Changing.{AsksOnly, IsToldOf, asked_for, asked_of_all, asked_or_fault, asked_with, rows_without_fault, unless_fault}
 use Rattle.changed_chunks.specs.Inner.Input.{IsFound}
-use Rattle.changed_chunks.specs.Targets.{asking_put}
+use Rattle.changed_chunks.specs.Targets.{asking_over, asking_put}
 use Rattle.changed_chunks.specs.Wanted.{target_wanted}
+use Rattle.changed_chunks.proofs.Counted.{asking_among}
 
 module _ (plan : Query) (target : Leaf) (dims : List Dimension) (rows : List Row) where
   abbrev behind : SourceState → List Asked
@@ -31,6 +32,9 @@ module _ (plan : Query) (target : Leaf) (dims : List Dimension) (rows : List Row
   module _ (old mid new : SourceState) (kept : Keeps old mid) (before : mid.asked ≡ old.asked ++ asked_for_plan old plan) where
     same_behind : behind mid ≡ behind old
     same_behind = ap (λ (z : List (ArrayVec ℕ)). map (asks (length (leaves plan))) (target_wanted dims rows z)) (listed_still old mid target kept)
+
+    pub counted_then : (asking : Asking) → asking ≡ asking_over mid rows target → asking ≡ asking_over old rows target
+    counted_then asking is = is ∙ ap (asking_among target rows) (listed_still old mid target kept)
 
     pub asked_then : new.asked ≡ mid.asked ++ behind mid → new.asked ≡ old.asked ++ (asked_for_plan old plan ++ behind old)
     asked_then after = after ∙ (λ i. before i ++ same_behind i) ∙ append_assoc old.asked (asked_for_plan old plan) (behind old)
@@ -55,11 +59,18 @@ module _ (plan : Query) (target : Leaf) (dims : List Dimension) (rows : List Row
 -- ---- an insert, in a database where its plan's rows are those that are put in
 
 module _ (schema : Schema) (plan : Query) (target : Leaf) (old new : SourceState) (input : List Row) (db : Database) (some : Result (List Row) Broken) (is : some ≡ Ok input) (finds : IsFound (fitted schema plan db) some) where
-  found : fitted schema plan db ≡ Ok input
-  found = let f : IsFound (fitted schema plan db) (Ok input) = subst (IsFound (fitted schema plan db)) is finds in f.0
+  found : IsFound (fitted schema plan db) (Ok input)
+  found = subst (IsFound (fitted schema plan db)) is finds
 
-  there : (P : List Row → Type 0) → P input → P (rows_if_whole (fitted schema plan db))
-  there P p = subst P (sym (ap rows_if_whole found)) p
+  same_rows : rows_if_whole (fitted schema plan db) ≡ input
+  same_rows = ap rows_if_whole found.0
+
+  -- there is no fault
+  same_put : rows_without_fault (fitted schema plan db) ≡ input
+  same_put = ap (λ (fault : Option Broken). unless_fault fault (rows_if_whole (fitted schema plan db))) found.1 ∙ same_rows
+
+  there : (P : List Row → Type 0) → P input → P (rows_without_fault (fitted schema plan db))
+  there P p = subst P (sym same_put) p
 
   pub asked_there : new.asked ≡ old.asked ++ asked_with input old (Insert [] schema plan) target → new.asked ≡ old.asked ++ asked_of_all db old (Insert [] schema plan) target
   asked_there = there (λ rows. new.asked ≡ old.asked ++ asked_with rows old (Insert [] schema plan) target)
@@ -68,7 +79,7 @@ module _ (schema : Schema) (plan : Query) (target : Leaf) (old new : SourceState
   front_there = there (λ rows. AsksFront (asked_with rows old (Insert [] schema plan) target) old new)
 
   pub counted_there : (asking : Asking) (rows : List Row) → asking ≡ asking_put schema.dimensions input rows → asking ≡ asking_put schema.dimensions (rows_if_whole (fitted schema plan db)) rows
-  counted_there asking rows = there (λ new. asking ≡ asking_put schema.dimensions new rows)
+  counted_there asking rows = subst (λ (new : List Row). asking ≡ asking_put schema.dimensions new rows) (sym same_rows)
 
 -- ---- a change, of whatever name
 
@@ -88,11 +99,11 @@ module _ (change : Change) (target : Leaf) (name : List ℕ) (schema : Schema) (
   store_front (Ok made) e front = tt
   store_front (Err fault) e front = subst (λ (z : Change). FrontTold z (Err fault)) (sym e) (λ db is. front)
 
-  pub store_only : (answer : Result (Result Changed Broken) ExecFault) → change ≡ Store name schema plan → OnOk answer (new.asked ≡ old.asked ++ asked_for_plan old plan)
-      → OnErr answer (AsksFront (asked_for_plan old plan) old new) → AsksOnly old new change target answer
-  store_only (Ok (Ok changed)) e asked front = subst (λ (z : Change). AsksOnly old new z target (Ok (Ok changed))) (sym e) ([], asked)
-  store_only (Ok (Err broken)) e asked front = subst (λ (z : Change). AsksOnly old new z target (Ok (Err broken))) (sym e) ([], asked)
-  store_only (Err fault) e asked front = subst (λ (z : Change). AsksOnly old new z target (Err fault)) (sym e) ([], front)
+  pub store_only : (asking : Asking) (answer : Result (Result Changed Broken) ExecFault) → change ≡ Store name schema plan → OnOk answer (new.asked ≡ old.asked ++ asked_for_plan old plan)
+      → OnErr answer (AsksFront (asked_for_plan old plan) old new) → AsksOnly old new change target asking answer
+  store_only asking (Ok (Ok changed)) e asked front = subst (λ (z : Change). AsksOnly old new z target asking (Ok (Ok changed))) (sym e) ([], asked, tt)
+  store_only asking (Ok (Err broken)) e asked front = subst (λ (z : Change). AsksOnly old new z target asking (Ok (Err broken))) (sym e) ([], asked, tt)
+  store_only asking (Err fault) e asked front = subst (λ (z : Change). AsksOnly old new z target asking (Err fault)) (sym e) ([], front)
 
   pub insert_asked : (answer : Result (Result Changed Broken) ExecFault) → change ≡ Insert name schema plan
       → IfOk answer (λ some. (db : Database) → old.tells (rows_of db) → new.asked ≡ old.asked ++ asked_for db old (Insert [] schema plan) target some) → AsksTold change answer
@@ -105,12 +116,13 @@ module _ (change : Change) (target : Leaf) (name : List ℕ) (schema : Schema) (
   insert_front (Ok made) e front = tt
   insert_front (Err fault) e front = subst (λ (z : Change). FrontTold z (Err fault)) (sym e) (λ db is. front db is.tells)
 
-  pub insert_only : (answer : Result (Result Changed Broken) ExecFault) → change ≡ Insert name schema plan
-      → IfOk answer (λ made. (rows : List Row) × (new.asked ≡ old.asked ++ asked_or_fault rows old (Insert [] schema plan) target made))
-      → OnErr answer ((rows : List Row) × AsksFront (asked_with rows old (Insert [] schema plan) target) old new) → AsksOnly old new change target answer
-  insert_only (Ok (Ok changed)) e only some = subst (λ (z : Change). AsksOnly old new z target (Ok (Ok changed))) (sym e) only
-  insert_only (Ok (Err broken)) e only some = subst (λ (z : Change). AsksOnly old new z target (Ok (Err broken))) (sym e) only
-  insert_only (Err fault) e only some = subst (λ (z : Change). AsksOnly old new z target (Err fault)) (sym e) some
+  pub insert_only : (asking : Asking) (answer : Result (Result Changed Broken) ExecFault) → change ≡ Insert name schema plan
+      → IfOk answer (λ made. (rows : List Row) × (new.asked ≡ old.asked ++ asked_or_fault rows old (Insert [] schema plan) target made)
+      × IfOk made (λ changed. asking ≡ asking_over old rows target))
+      → OnErr answer ((rows : List Row) × AsksFront (asked_with rows old (Insert [] schema plan) target) old new) → AsksOnly old new change target asking answer
+  insert_only asking (Ok (Ok changed)) e only some = subst (λ (z : Change). AsksOnly old new z target asking (Ok (Ok changed))) (sym e) only
+  insert_only asking (Ok (Err broken)) e only some = subst (λ (z : Change). AsksOnly old new z target asking (Ok (Err broken))) (sym e) only
+  insert_only asking (Err fault) e only some = subst (λ (z : Change). AsksOnly old new z target asking (Err fault)) (sym e) some
 
 -- ---- a list of chunks that is asked for
 

@@ -1,5 +1,5 @@
 -- Chunks as they are stored, and those of them that a test keeps.
-use Rattle.std.proofs.Common.{◌≡◌, ℕ, ℤ, Bool, true, false, cond, ◌&&◌, ◌||◌, List, [], ◌∷◌, ◌++◌, filter, None, Result, Ok, Err, refl, sym, ap, ◌∙◌, subst}
+use Rattle.std.proofs.Common.{◌≡◌, ℕ, ℤ, Bool, true, false, cond, ◌&&◌, ◌||◌, List, [], ◌∷◌, ◌++◌, filter, Result, Ok, Err, refl, sym, ap, ◌∙◌, subst}
 use Rattle.std.specs.Prelude.{IfOk}
 use Rattle.std.specs.List.{AllByRecursion, AllZip}
 use Rattle.std.specs.Ordering.{is_eq}
@@ -20,24 +20,21 @@ use Rattle.array_rows.specs.Boxes.{is_inside}
 use Rattle.array_rows.specs.Rows.{put_all, put_by, put_row, row_major}
 use Rattle.array_rows.proofs.RowsLemmas.{cond_out}
 use Rattle.array_geom.specs.declared.chunk.Chunk.{Chunk}
-use Rattle.array_geom.specs.declared.chunk.ChunkedArray.{ChunkedArray}
 use Rattle.array_geom.specs.Chunks.{IsChunk}
 use Rattle.array_geom.specs.Geometry.{ChunkNumber, core, frame_low, frame_lengths, overlaps}
 use Rattle.array_geom.specs.Link.{NumbersRise, chunk_rows, core_rows, is_listed, number_order, numbers, rows_in}
-use Rattle.array_geom.proofs.LinkLaws.{chunks_have_their_rows}
 use Rattle.array_geom.proofs.NumberLaws.{is_equal, same_number}
 use Rattle.array_parts.proofs.PartLemmas.{all_kept}
 use Rattle.array_parts.proofs.PlaceRows.{valid_chunks_have_cells}
 use Rattle.chunk_rle.specs.Stored.{IsStored, IsStoredCell, is_stored}
 use Rattle.logical_plan.specs.declared.parts.Leaf.{Leaf}
-use Rattle.logical_plan.specs.Meaning.{Database, version_rows}
 use Rattle.logical_plan.specs.Typing.{AreSound, is_sound, may_all_stand, may_stand}
 use Rattle.plan_changes.proofs.NamesOf.{map_filter}
 use Rattle.chunk_source.specs.Laws.{HasSoundCells}
 use Rattle.chunk_source.specs.Source.{IsStored as IsRead}
 use Rattle.chunk_source.specs.declared.reading.fault.ExecFault.{ExecFault}
 use Rattle.chunk_source.proofs.ReadingLeafLaws.{are_valid, have_places}
-use Rattle.changed_chunks.specs.Inner.Input.{AreStoredChunks, stored_rows}
+use Rattle.changed_chunks.specs.Inner.Input.{AreStoredChunks}
 
 -- ---- sound cells of a schema are those that are stored
 

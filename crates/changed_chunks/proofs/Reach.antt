@@ -1,5 +1,5 @@
 -- A chunk is wanted where a row that is put in lies in its reach: the box of all frames that meet its core.
-use Rattle.std.proofs.Common.{◌≡◌, ℕ, zero, suc, ◌+◌, ◌-◌, ◌*◌, ◌/◌, ◌<◌, ◌≤◌, ℤ, pos, ◌+ℤ◌, ◌-ℤ◌, ◌≤ℤ◌, Bool, true, false, cond, ◌&&◌, ◌||◌, List, [], ◌∷◌, ◌++◌, length, map, filter, ◌⊎◌, inl, inr, refl, sym, ap, ◌∙◌, arith}
+use Rattle.std.proofs.Common.{◌≡◌, ℕ, zero, suc, ◌+◌, ◌-◌, ◌*◌, ◌/◌, ◌<◌, ◌≤◌, ℤ, pos, ◌+ℤ◌, ◌-ℤ◌, ◌≤ℤ◌, Bool, true, false, cond, ◌&&◌, ◌||◌, List, [], ◌∷◌, length, map, filter, ◌⊎◌, inl, inr, refl, sym, ap, ◌∙◌, arith}
 use Rattle.std.specs.Prelude.{int_le, unsigned_abs}
 use Rattle.std.specs.Int.{int_min, int_max}
 use Rattle.std.specs.List.{AllByRecursion, flat_map, list_any}
@@ -11,7 +11,7 @@ use Rattle.cell_values.specs.declared.datum.Row.{Row}
 use Rattle.cell_values.specs.declared.schema.Bounds.{Bounds}
 use Rattle.cell_values.specs.declared.schema.Dimension.{Dimension}
 use Rattle.cell_values.specs.declared.schema.Schema.{Schema}
-use Rattle.array_rows.specs.Boxes.{bounds_of, is_between, is_inside, within}
+use Rattle.array_rows.specs.Boxes.{bounds_of, is_inside, within}
 use Rattle.array_rows.specs.Rows.{Coordinate}
 use Rattle.array_rows.proofs.RowsLemmas.{cond_out}
 use Rattle.array_geom.specs.Geometry.{ChunkNumber, HasFrame, chunk_of, core_meets, first_in, frame, has_core, last_in, overlaps}

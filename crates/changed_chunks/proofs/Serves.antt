@@ -1,5 +1,5 @@
 -- The rows of the wanted chunks serve as well as all: in the frames of the chunks that an insert writes they are the same.
-use Rattle.std.proofs.Common.{◌≡◌, ℕ, suc, Bool, true, false, cond, ◌&&◌, ◌||◌, List, [], ◌∷◌, length, filter, map, Option, Some, None, Result, Ok, Err, refl, sym, ap, ◌∙◌, subst}
+use Rattle.std.proofs.Common.{◌≡◌, ℕ, suc, Bool, true, false, cond, ◌&&◌, ◌||◌, List, [], ◌∷◌, length, filter, Option, Some, None, Result, Ok, Err, refl, sym, ap, ◌∙◌, subst}
 use Rattle.std.specs.Prelude.{IfOk}
 use Rattle.std.specs.List.{AllByRecursion, AllZip, list_any}
 use Rattle.std.specs.Ordering.{is_eq}
@@ -35,7 +35,7 @@ use Rattle.logical_plan.specs.Meaning.{Database, version_rows}
 use Rattle.plan_changes.proofs.NamesOf.{map_filter}
 use Rattle.plan_needs.proofs.AlikeScans.{chunk_meets}
 use Rattle.chunk_source.specs.declared.reading.fault.ExecFault.{ExecFault}
-use Rattle.chunk_source.specs.Source.{AreNumbersIn, HasArray, IsChunkIn, Keeps, SourceState, numbers_of}
+use Rattle.chunk_source.specs.Source.{HasArray, IsChunkIn, Keeps, SourceState, numbers_of}
 use Rattle.chunk_source.specs.Source.{IsStored as IsRead}
 use Rattle.chunk_source.proofs.ReadingLeafLaws.{each_overlap}
 use Rattle.changed_chunks.specs.Inner.Input.{AreStoredChunks, MayBeStored, stored_rows}

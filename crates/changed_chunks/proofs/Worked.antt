@@ -2,17 +2,23 @@
 use Rattle.std.proofs.Common.{◌≡◌, ℕ, pos, List, [], ◌∷◌, Some, None, Ok, refl, inr, arith}
 use Rattle.std.specs.Prelude.{codes}
 use Rattle.arrayvec.specs.ArrayVec.{ArrayVec}
+use Rattle.cell_values.specs.declared.datum.Cell.TheVariants.{Full}
+use Rattle.cell_values.specs.declared.datum.Datum.TheVariants.{Bad}
+use Rattle.cell_values.specs.declared.datum.FaultKind.TheVariants.{Overflow}
 use Rattle.cell_values.specs.declared.schema.Dimension.{Dimension}
 use Rattle.array_rows.specs.Arrays.{AreRowsOf}
+use Rattle.array_rows.specs.Rows.{placed}
 use Rattle.logical_plan.specs.declared.parts.Leaf.{Leaf}
 use Rattle.logical_plan.specs.Typing.{AreSound}
+use Rattle.plan_changes.specs.declared.change.Change.{Change}
+use Rattle.plan_changes.specs.declared.change.Change.TheVariants.{Insert}
 use Rattle.plan_changes.specs.Databases.{rows_of}
 use Rattle.plan_changes.specs.Stored.{IsDatabase}
 use Rattle.chunk_source.specs.Source.{SourceState}
-use Rattle.commit_costs.specs.Inner.Examples.{schema, cell_at, stored, insert_at}
+use Rattle.commit_costs.specs.Inner.Examples.{schema, cell_at, stored, insert_at, rows_at}
 use Rattle.commit_costs.proofs.Sharing.{four_rows}
 use Rattle.commit_pages.specs.Inner.Example.{four, changed}
-use Rattle.changed_chunks.specs.Changing.{CanChange, IsToldOf, asked_for}
+use Rattle.changed_chunks.specs.Changing.{CanChange, IsToldOf, asked_for, asked_of_all}
 use Rattle.changed_chunks.specs.Wanted.{target_wanted}
 
 abbrev source : SourceState
@@ -62,6 +68,14 @@ told = record { database = database; tells = refl; newest = (refl, refl) }
 -- the plan reads no array, so the target has the number 0. The frame of the second chunk alone holds the cell that is put in
 asked : asked_for (stored 0) source (insert_at 0 2) target (Ok changed) ≡ record { leaf = 0; at = record { items = 1 ∷ [] } } ∷ []
 asked = refl
+
+-- a cell with a fault at the same place
+abbrev faulty : Change
+faulty = Insert (codes "A") (schema 0) (rows_at 0 (placed (pos 2 ∷ []) (Full (Bad Overflow ∷ [])) ∷ []))
+
+-- nothing of its target may be asked for, whether the call fails or not
+none_asked : asked_of_all (stored 0) source faulty target ≡ []
+none_asked = refl
 
 -- ---- `[i=0:5,2,1]`, whose three chunks are stored
 

@@ -1,10 +1,11 @@
 -- Changes that store the array of a plan: what is asked of them, what is read for them, and the answer to them.
-use Rattle.std.specs.Prelude.{◌≡◌, List, [], ◌++◌, length, map, Option, Some, Result, Ok, Err}
+use Rattle.std.specs.Prelude.{◌≡◌, List, [], ◌++◌, length, map, Option, None, Some, Result, Ok, Err, IfOk}
 use Rattle.cell_values.specs.declared.datum.Broken.{Broken}
 use Rattle.cell_values.specs.declared.datum.Row.{Row}
 use Rattle.cell_values.specs.declared.schema.Schema.{Schema}
 use Rattle.cell_values.specs.Schemas.{IsValid}
 use Rattle.array_geom.specs.declared.chunk.Changed.{Changed}
+use Rattle.logical_plan.specs.Faults.{fault_of}
 use Rattle.logical_plan.specs.declared.names.NameEntry.{NameEntry}
 use Rattle.logical_plan.specs.declared.parts.Leaf.{Leaf}
 use Rattle.logical_plan.specs.Leaves.{leaves}
@@ -21,6 +22,8 @@ use Rattle.chunk_source.specs.declared.sources.asked.Asked.{Asked}
 use Rattle.chunk_source.specs.Source.{AsksFront, SourceState, Reads, asks, listed}
 use Rattle.chunk_exec.specs.Computed.{CanCompute, asked_for_plan}
 use Rattle.commit_pages.specs.Changes.{IsChangeOf}
+use Rattle.plan_traces.specs.declared.asking.Asking.{Asking}
+use Rattle.changed_chunks.specs.Targets.{IsAskingOver}
 use Rattle.changed_chunks.specs.Wanted.{target_wanted}
 
 -- a plan that can be computed over the source, and a valid schema under which typing lets its array be stored
@@ -61,11 +64,19 @@ abbrev pub asked_or_fault : List Row → SourceState → Change → Leaf → Res
 asked_or_fault rows source change target (Ok changed) = asked_with rows source change target
 asked_or_fault rows source change target (Err broken) = asked_of_plan source change
 
+-- of an array with a fault no row is put in
+abbrev pub unless_fault : Option Broken → List Row → List Row
+unless_fault None rows = rows
+unless_fault (Some broken) rows = []
+
+abbrev pub rows_without_fault : Result (List Row) Broken → List Row
+rows_without_fault array = unless_fault (fault_of array) (rows_if_whole array)
+
 -- the rows that a change puts in, in a database
 abbrev pub rows_put : Database → Change → List Row
 rows_put db (Create name schema) = []
-rows_put db (Store name schema plan) = rows_if_whole (fitted schema plan db)
-rows_put db (Insert name schema plan) = rows_if_whole (fitted schema plan db)
+rows_put db (Store name schema plan) = rows_without_fault (fitted schema plan db)
+rows_put db (Insert name schema plan) = rows_without_fault (fitted schema plan db)
 rows_put db (Remove name) = []
 rows_put db (RemoveVersions name below) = []
 
@@ -77,10 +88,12 @@ abbrev pub asked_for : Database → SourceState → Change → Leaf → Result C
 asked_for db source change target made = asked_or_fault (rows_put db change) source change target made
 
 -- Whatever the source tells: the chunks that the plan needs, and behind them listed chunks of the target alone, each once, which are
--- those wanted for some rows. Where the call fails, some first ones of such chunks.
-abbrev pub AsksOnly : SourceState → SourceState → Change → Leaf → Result (Result Changed Broken) ExecFault → Type 0
-AsksOnly old new change target (Ok made) = (rows : List Row) × (new.asked ≡ old.asked ++ asked_or_fault rows old change target made)
-AsksOnly old new change target (Err fault) = (rows : List Row) × AsksFront (asked_with rows old change target) old new
+-- those wanted for some rows; and it is told how many these are, and how many are listed. Where the call fails, some first ones of such
+-- chunks.
+abbrev pub AsksOnly : SourceState → SourceState → Change → Leaf → Asking → Result (Result Changed Broken) ExecFault → Type 0
+AsksOnly old new change target asking (Ok made) = (rows : List Row) × (new.asked ≡ old.asked ++ asked_or_fault rows old change target made)
+    × IfOk made (λ changed. IsAskingOver old change rows target asking)
+AsksOnly old new change target asking (Err fault) = (rows : List Row) × AsksFront (asked_with rows old change target) old new
 
 -- ---- the answer
 

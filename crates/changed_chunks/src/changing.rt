@@ -10,7 +10,7 @@ ghost use Rattle.plan_changes.specs.Databases.{Database, fitted, newest_rows, ro
 ghost use Rattle.plan_changes.specs.declared.change.Change.TheVariants.{Store, Insert};
 ghost use Rattle.changed_chunks.specs.Changing.{AsksOnly, CanChange, CanStore, IsAnswerOver, IsToldOf};
 ghost use Rattle.changed_chunks.specs.Changing.{asked_for, asked_of_all, asked_or_fault, asked_with};
-ghost use Rattle.changed_chunks.specs.Targets.{IsTargetAsking, asking_put};
+ghost use Rattle.changed_chunks.specs.Targets.{IsTargetAsking, asking_over, asking_put};
 
 use crate::input::input_of;
 use crate::target::put_over_target;
@@ -87,7 +87,8 @@ fn inserted<S: ChunkSource, R: Threads + Sync, G: Gate>(
     ensures front { let old = S.state source.old in OnErr result ((db : Database) → old.tells (rows_of db)
         → AsksFront (asked_of_all db old (Insert [] schema.now plan.now) target.now) old (S.state source.new)) }
     ensures only { let old = S.state source.old in IfOk result (λ made. (rows : Items Placed)
-        × ((S.state source.new).asked ≡ old.asked ++ asked_or_fault rows old (Insert [] schema.now plan.now) target.now made)) }
+        × ((S.state source.new).asked ≡ old.asked ++ asked_or_fault rows old (Insert [] schema.now plan.now) target.now made)
+        × IfOk made (λ changed. asking.new ≡ asking_over old rows target.now)) }
     ensures some { let old = S.state source.old in OnErr result ((rows : Items Placed)
         × AsksFront (asked_with rows old (Insert [] schema.now plan.now) target.now) old (S.state source.new)) }
     ensures kept { Keeps (S.state source.old) (S.state source.new) }
@@ -128,7 +129,7 @@ pub fn changed<S: ChunkSource, R: Threads + Sync, G: Gate>(
     ensures front { let old = S.state source.old in
         OnErr result ((db : Database) → IsToldOf old change.now target.now db
         → AsksFront (asked_of_all db old change.now target.now) old (S.state source.new)) }
-    ensures only { AsksOnly (S.state source.old) (S.state source.new) change.now target.now result }
+    ensures only { AsksOnly (S.state source.old) (S.state source.new) change.now target.now asking.new result }
     ensures kept { Keeps (S.state source.old) (S.state source.new) }
     ensures cause { Answers (S.state source.old) (S.state source.new) result }
     ensures start { S.start source.new ≡ S.start source.old }

@@ -1,5 +1,5 @@
 //! What an insert reads of its target, and the rows put over it.
-ghost use Rattle.std.specs.Prelude.{◌≡◌, ◌++◌, List as Items, false, length, map, IfOk, OnOk, OnErr, IsTrue};
+ghost use Rattle.std.specs.Prelude.{◌≡◌, ◌++◌, false, length, map, IfOk, OnOk, OnErr, IsTrue};
 ghost use Rattle.std.specs.List.{AllByRecursion, AllZip};
 ghost use Rattle.array_parts.specs.Cores.{cores_of};
 ghost use Rattle.chunk_source.specs.Faults.{Answers};
@@ -9,7 +9,7 @@ ghost use Rattle.logical_plan.specs.Leaves.{leaves};
 ghost use Rattle.logical_plan.specs.Meaning.{Database, version_rows};
 ghost use Rattle.changed_chunks.specs.Inner.Input.{AreStoredChunks, CanBeStored, MayBeStored, stored_rows};
 ghost use Rattle.changed_chunks.specs.Inner.Writes.{IsInsertOf, Serves};
-ghost use Rattle.changed_chunks.specs.Targets.{asking_put};
+ghost use Rattle.changed_chunks.specs.Targets.{asking_over, asking_put};
 ghost use Rattle.changed_chunks.specs.Wanted.{target_wanted};
 
 use crate::versions::{put_over, stored_array};
@@ -75,6 +75,7 @@ fn read_wanted<S: ChunkSource>(
         → Serves leaf.now.schema (cores_of put.now) (version_rows db leaf.now.name leaf.now.version) (stored_rows leaf.now.schema chunks)) }
     ensures counted { IfOk result (λ chunks. (db : Database) → (S.state source.old).tells db
         → asking.new ≡ asking_put leaf.now.schema.dimensions (cores_of put.now) (version_rows db leaf.now.name leaf.now.version)) }
+    ensures over { IfOk result (λ chunks. asking.new ≡ asking_over (S.state source.old) (cores_of put.now) leaf.now) }
     ensures asked { let old = S.state source.old in OnOk result ((S.state source.new).asked
         ≡ old.asked ++ map (asks number) (target_wanted leaf.now.schema.dimensions (cores_of put.now) (listed old leaf.now))) }
     ensures front { let old = S.state source.old in OnErr result
@@ -111,6 +112,7 @@ pub(crate) fn put_over_target<S: ChunkSource>(
         → IsInsertOf schema.now input (version_rows db target.now.name target.now.version) changed) }
     ensures counted { IfOk result (λ changed. (db : Database) → (S.state source.old).tells db
         → asking.new ≡ asking_put schema.now.dimensions input (version_rows db target.now.name target.now.version)) }
+    ensures over { IfOk result (λ changed. asking.new ≡ asking_over (S.state source.old) input target.now) }
     ensures asked { let old = S.state source.old in
         let wanted = target_wanted schema.now.dimensions input (listed old target.now) in
         OnOk result ((S.state source.new).asked ≡ old.asked ++ map (asks (length (leaves plan.now))) wanted) }

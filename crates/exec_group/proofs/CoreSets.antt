@@ -34,7 +34,7 @@ use Rattle.exec_group.specs.Inner.Parts.{sets_of, block_sets_of, has_parts}
 use Rattle.exec_group.specs.Sets.{both, all_sets, sets_by, unless_empty, IsApart, AreApartSets, AreAllApart, one_set}
 use Rattle.logical_plan.specs.Groups.{group_at}
 
-some_put : (x : Row) (rows : List Row) → unless_empty (put_row x rows) ≡ Some (put_row x rows)
+pub some_put : (x : Row) (rows : List Row) → unless_empty (put_row x rows) ≡ Some (put_row x rows)
 some_put x [] = refl
 some_put x (row ∷ rows) = cases (row_major x.at.items row.at.items)
   where
@@ -43,7 +43,7 @@ some_put x (row ∷ rows) = cases (row_major x.at.items row.at.items)
     cases Equal = refl
     cases Greater = refl
 
-both_of : (a b : List Row) → IsRising a → both (unless_empty a) (unless_empty b) ≡ unless_empty (put_all a b)
+pub both_of : (a b : List Row) → IsRising a → both (unless_empty a) (unless_empty b) ≡ unless_empty (put_all a b)
 both_of [] b r = refl
 both_of (x ∷ a) [] r = ap unless_empty (sym (put_all-none (x ∷ a) r))
 both_of (x ∷ a) (y ∷ b) r = sym (some_put x (put_all a (y ∷ b)))
@@ -100,7 +100,7 @@ where_apart test (row ∷ a) b h = keep (test row.at.items) (none_where test b r
     keep true n r = (n, r)
     keep false n r = r
 
-sets_apart : (a b : List Row) → AreApart a b → IsApart (unless_empty a) (unless_empty b)
+pub sets_apart : (a b : List Row) → AreApart a b → IsApart (unless_empty a) (unless_empty b)
 sets_apart [] b h = tt
 sets_apart (x ∷ a) [] h = tt
 sets_apart (x ∷ a) (y ∷ b) h = h

@@ -1,5 +1,7 @@
 pub mod BlockLaws
-mod CoreSets
+pub mod ColumnLaws
+pub mod CoreColumnLaws
+pub mod CoreSets
 pub mod FormLaws
 pub mod GroupLaws
 pub mod InsideLaws
@@ -11,5 +13,6 @@ mod PiecesPartLaws
 pub mod RowLemmas
 pub mod RowsPartLaws
 pub mod StateLaws
+pub mod TakenLaws
 pub mod ToldLaws
 pub mod WholeLaws

@@ -46,7 +46,7 @@ pub rising_right : (a b : List Row) → IsRising (a ++ b) → IsRising b
 rising_right [] b r = r
 rising_right (x ∷ a) b r = rising_right a b r.1
 
-put_before : (x : Row) (rows : List Row) → IsBefore x.at.items rows → put_row x rows ≡ x ∷ rows
+pub put_before : (x : Row) (rows : List Row) → IsBefore x.at.items rows → put_row x rows ≡ x ∷ rows
 put_before x [] h = refl
 put_before x (y ∷ rows) h = ap (λ (o : Ordering). put_by o x y rows (put_row x rows)) h.0
 
@@ -61,7 +61,7 @@ joined_apart (x ∷ a) b r = (none_at_bound x.at.items b (all_right (λ (row : R
 
 -- ---- sets that are apart
 
-all_put_row : (P : Row → Type 0) (new : Row) (rows : List Row) → P new → AllByRecursion P rows → AllByRecursion P (put_row new rows)
+pub all_put_row : (P : Row → Type 0) (new : Row) (rows : List Row) → P new → AllByRecursion P rows → AllByRecursion P (put_row new rows)
 all_put_row P new [] p a = (p, tt)
 all_put_row P new (row ∷ rows) p a = cases (row_major new.at.items row.at.items) (all_put_row P new rows p a.1)
   where
@@ -70,7 +70,7 @@ all_put_row P new (row ∷ rows) p a = cases (row_major new.at.items row.at.item
     cases Equal r = (p, a.1)
     cases Greater r = (a.0, r)
 
-all_put_all : (P : Row → Type 0) (a b : List Row) → AllByRecursion P a → AllByRecursion P b → AllByRecursion P (put_all a b)
+pub all_put_all : (P : Row → Type 0) (a b : List Row) → AllByRecursion P a → AllByRecursion P b → AllByRecursion P (put_all a b)
 all_put_all P [] b p q = q
 all_put_all P (row ∷ a) b p q = all_put_row P row (put_all a b) p.0 (all_put_all P a b p.1 q)
 

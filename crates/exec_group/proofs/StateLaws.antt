@@ -1,10 +1,10 @@
 -- The states of the cells of rows, and of two sets of cells.
-use Rattle.std.proofs.Common.{◌≡◌, ℕ, ◌+◌, ◌<◌, ◌≤◌, max, List, [], ◌∷◌, ◌++◌, length, get_or, take, drop, Option, Some, None, refl, sym, ap, ◌∙◌, subst, arith, length-append}
-use Rattle.std.proofs.lemmas.List.{take_more, take-append-drop}
+use Rattle.std.proofs.Common.{◌≡◌, ℕ, ◌+◌, ◌<◌, ◌≤◌, max, List, [], ◌∷◌, ◌++◌, length, get_or, take, Option, Some, None, sym, ap, ◌∙◌, subst, arith, length-append}
+use Rattle.std.proofs.lemmas.List.{take_more}
 use Rattle.std.proofs.lemmas.Slice.Zip.{AllZip-long}
 use Rattle.std.specs.List.{AllZip}
 use Rattle.cell_values.specs.declared.datum.Row.{Row}
-use Rattle.array_rows.specs.Rows.{IsRising, placed, cell_at, put_row, put_all}
+use Rattle.array_rows.specs.Rows.{put_all}
 use Rattle.array_rows.proofs.RowSets.{IsRising-put_all}
 use Rattle.logical_plan.specs.declared.parts.Aggregate.{Aggregate}
 use Rattle.agg_states.specs.Stands.{StandsFor, AreApart}
@@ -13,27 +13,10 @@ use Rattle.exec_group.specs.Counts.{cells_of}
 use Rattle.exec_group.specs.Grouped.{AreStatesOf, IsGroupOf}
 use Rattle.exec_group.specs.Inner.Merged.{IsBoth, AreBoth, AreBothOf, IsBothAt}
 use Rattle.exec_group.specs.Sets.{both, IsApart}
-use Rattle.exec_group.proofs.RowLemmas.{put_last, free_last, rising_left}
-
--- ---- a state that takes one row after the other
-
--- the rows up to the next one rise
-next_rising : (rows : List Row) (i : ℕ) (row : Row) → IsRising rows → i < length rows → row ≡ get_or rows i row → IsRising (take i rows ++ row ∷ [])
-next_rising rows i row r l e =
-    subst IsRising (take_more rows i row l ∙ ap (λ (x : Row). take i rows ++ x ∷ []) (sym e))
-    (rising_left (take (i + 1) rows) (drop (i + 1) rows) (subst IsRising (sym (take-append-drop (i + 1) rows)) r))
-
-pub next_state : (g : Aggregate) (rows : List Row) (i : ℕ) (row : Row) (s t : Summary) → IsRising rows → i < length rows → row ≡ get_or rows i row → StandsFor g (take i rows) s
-    → ((h : Aggregate) (some : List Row) → StandsFor h some s → h.attribute ≡ g.attribute → cell_at some row.at.items ≡ None → StandsFor h (put_row (placed row.at.items row.cell) some) t)
-    → StandsFor g (take (i + 1) rows) t
-next_state g rows i row s t r l e stands takes =
-    let next = next_rising rows i row r l e in
-    subst (λ (some : List Row). StandsFor g some t) (put_last (take i rows) row next ∙ ap (λ (x : Row). take i rows ++ x ∷ []) e ∙ sym (take_more rows i row l))
-    (takes g (take i rows) stands refl (free_last (take i rows) row next))
 
 -- ---- one state after the other
 
-zip_push : {A B : Type 0} (R : A → B → Type 0) (xs : List A) (ys : List B) (x : A) (y : B) → AllZip R xs ys → R x y → AllZip R (xs ++ x ∷ []) (ys ++ y ∷ [])
+pub zip_push : {A B : Type 0} (R : A → B → Type 0) (xs : List A) (ys : List B) (x : A) (y : B) → AllZip R xs ys → R x y → AllZip R (xs ++ x ∷ []) (ys ++ y ∷ [])
 zip_push R [] [] x y h r = (r, tt)
 zip_push R [] (b ∷ ys) x y h r = absurd h
 zip_push R (a ∷ xs) [] x y h r = absurd h

@@ -3,4 +3,5 @@ pub mod Grouped
 pub mod Inner
 pub mod Meant
 pub mod Sets
+pub mod Taken
 pub mod Told

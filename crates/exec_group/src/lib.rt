@@ -11,4 +11,4 @@ pub use parts::{
     told_array,
 };
 pub use pieces::{aggregate, regrid};
-pub use rows::{Group, Groups, groups_of, merge_all, merge_two, one_group};
+pub use rows::{Group, Groups, groups_in, groups_of, merge_all, merge_two, one_group, take_rows};

@@ -1,6 +1,7 @@
 //! Aggregates of groups of cells, chunk by chunk.
 
 mod blocks;
+mod columns;
 mod cores;
 mod merged;
 mod named;

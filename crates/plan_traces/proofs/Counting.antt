@@ -17,11 +17,10 @@ use Rattle.commit_costs.specs.Costs.{numbers_of}
 use Rattle.commit_costs.proofs.Orders.{AreSized, NoneTwice, all_sized, each_once, none_twice, numbers_listed, same_total, total}
 use Rattle.logical_plan.specs.declared.parts.Leaf.{Leaf}
 use Rattle.logical_plan.specs.Meaning.{Database, version_rows}
-use Rattle.plan_needs.specs.Wanted.{wanted_of}
 use Rattle.chunk_source.specs.Source.{AreNumbersIn, HasArray}
 use Rattle.chunk_source.specs.Source.{numbers_of as items_of}
 use Rattle.plan_traces.specs.declared.asking.Asking.{Asking}
-use Rattle.plan_traces.specs.Counted.{counted, is_sized}
+use Rattle.plan_traces.specs.Listed.{chunks_among, is_sized}
 use Rattle.plan_traces.specs.Traced.{asking_in, asking_where}
 
 -- ---- listed numbers with a place for each dimension
@@ -110,6 +109,18 @@ chosen_sized dims t (x ∷ xs) = by_tests (t x.items) (is_sized dims x) refl ref
     by_tests false false e f later =
         subst (λ (d : Bool). length (sized dims (filter (λ at. t at.items) xs)) ≡ total (one_if t) (items_of (cond d (x ∷ sized dims xs) (sized dims xs)))) (sym f) later
 
+abbrev these : ℕ → ℕ → Asking
+these asked stored = record { asked = asked; stored = stored }
+
+-- counts over numbers are those over the chunks among them, whichever test chooses those that are wanted
+pub asking_counted : (dims : List Dimension) (chosen : ChunkNumber → Bool) (xs : List (ArrayVec ℕ)) (asked stored : ℕ) → asked ≡ count_by (is_sized dims) (filter (λ at. chosen at.items) xs) → stored ≡ count_by (is_sized dims) xs
+    → these asked stored ≡ asking_where chosen (chunks_among dims xs)
+asking_counted dims chosen xs asked stored a s =
+    let wanted : asked ≡ length (filter chosen (chunks_among dims xs))
+    = a ∙ sym (length-filter (is_sized dims) (filter (λ at. chosen at.items) xs)) ∙ chosen_sized dims chosen xs ∙ sym (chosen_total chosen (chunks_among dims xs)) in
+    let all : stored ≡ length (chunks_among dims xs) = s ∙ sym (length-filter (is_sized dims) xs) ∙ one_of_each (sized dims xs) ∙ sym (one_each (chunks_among dims xs)) in
+    λ i. these (wanted i) (all i)
+
 -- ---- the chunks of a version
 
 module _ (db : Database) (leaf : Leaf) (chunks : List (ArrayVec ℕ)) where
@@ -128,22 +139,15 @@ module _ (db : Database) (leaf : Leaf) (chunks : List (ArrayVec ℕ)) where
 
   -- whichever test chooses those that are wanted
   pub told_where : (chosen : ChunkNumber → Bool) → IsValid leaf.schema → NumbersRise (items_of chunks) → AreNumbersIn db leaf chunks
-      → counted dims (filter (λ at. chosen at.items) chunks) chunks ≡ asking_where chosen (numbers_of dims rows)
+      → asking_where chosen (chunks_among dims chunks) ≡ asking_where chosen (numbers_of dims rows)
   told_where chosen valid rise told =
       let has : HasArray leaf rows chunks = told valid in
-      let asked : count_by (is_sized dims) (filter (λ at. chosen at.items) chunks) ≡ length (filter chosen (numbers_of dims rows))
-      = sym (length-filter (is_sized dims) (filter (λ at. chosen at.items) chunks)) ∙ chosen_sized dims chosen chunks
-      ∙ same_sum (one_if chosen) rise has ∙ sym (chosen_total chosen (numbers_of dims rows)) in
-      let stored : count_by (is_sized dims) chunks ≡ length (numbers_of dims rows)
-      = sym (length-filter (is_sized dims) chunks) ∙ one_of_each (sized dims chunks) ∙ same_sum (λ k. 1) rise has ∙ sym (one_each (numbers_of dims rows)) in
-      λ i. record { asked = asked i; stored = stored i }
+      let asked : length (filter chosen (chunks_among dims chunks)) ≡ length (filter chosen (numbers_of dims rows))
+      = chosen_total chosen (chunks_among dims chunks) ∙ same_sum (one_if chosen) rise has ∙ sym (chosen_total chosen (numbers_of dims rows)) in
+      let stored : length (chunks_among dims chunks) ≡ length (numbers_of dims rows)
+      = one_each (chunks_among dims chunks) ∙ same_sum (λ k. 1) rise has ∙ sym (one_each (numbers_of dims rows)) in
+      λ i. these (asked i) (stored i)
 
   pub told_asking : (area : Bounds) → IsValid leaf.schema → NumbersRise (items_of chunks) → AreNumbersIn db leaf chunks
-      → counted dims (wanted_of dims area chunks) chunks ≡ asking_in db leaf area
+      → asking_where (core_meets dims area) (chunks_among dims chunks) ≡ asking_in db leaf area
   told_asking area valid rise told = told_where (core_meets dims area) valid rise told
-
-  -- the same of a slice of them
-  pub asking_told : (area : Bounds) (slice : List (ArrayVec ℕ)) (asking : Asking) → asking ≡ counted dims (wanted_of dims area slice) slice → slice ≡ chunks
-      → IsValid leaf.schema → NumbersRise (items_of chunks) → AreNumbersIn db leaf chunks → asking ≡ asking_in db leaf area
-  asking_told area slice asking is same valid rise told =
-      is ∙ ap (λ (z : List (ArrayVec ℕ)). counted dims (wanted_of dims area z) z) same ∙ told_asking area valid rise told

@@ -1,4 +1,4 @@
-pub mod Counted
 pub mod Inner
 pub mod Line
+pub mod Listed
 pub mod Traced

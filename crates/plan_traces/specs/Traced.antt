@@ -8,8 +8,10 @@ use Rattle.logical_plan.specs.declared.parts.Leaf.{Leaf}
 use Rattle.logical_plan.specs.Leaves.{leaves}
 use Rattle.logical_plan.specs.Meaning.{Database, version_rows}
 use Rattle.logical_plan.specs.Query.{Query}
+use Rattle.chunk_source.specs.Source.{SourceState}
 use Rattle.plan_needs.specs.Wanted.{whole_need}
 use Rattle.plan_traces.specs.Line.{trace_line}
+use Rattle.plan_traces.specs.Listed.{listed_chunks}
 use Rattle.plan_traces.specs.declared.asking.Asking.{Asking}
 
 -- `trace: A@1 asked 1 of 3`
@@ -25,25 +27,37 @@ lines_of (leaf ∷ all) (asking ∷ askings) = leaf_line leaf asking ++ lines_of
 abbrev pub asking_where : (ChunkNumber → Bool) → List ChunkNumber → Asking
 asking_where chosen chunks = record { asked = length (filter chosen chunks); stored = length chunks }
 
--- in a database the chunks of a leaf are those whose core holds a cell, and those are asked for whose core meets the leaf's box
+-- ---- over a source
+
+-- the chunks of a leaf are those that the source lists, and those are asked for whose core meets the leaf's box
+abbrev pub asking_over : SourceState → Leaf → Bounds → Asking
+asking_over source leaf area = asking_where (core_meets leaf.schema.dimensions area) (listed_chunks source leaf)
+
+-- for a whole plan the boxes are those that it needs
+abbrev pub askings_over : SourceState → Query → List Asking
+askings_over source query = by_pairs (asking_over source) (leaves query) (whole_need query)
+
+abbrev pub lines_over : SourceState → Query → List ℕ
+lines_over source query = lines_of (leaves query) (askings_over source query)
+
+-- ---- in a database
+
+-- the chunks of a leaf are those whose core holds a cell
 abbrev pub asking_in : Database → Leaf → Bounds → Asking
 asking_in db leaf area =
     asking_where (core_meets leaf.schema.dimensions area) (numbers_of leaf.schema.dimensions (version_rows db leaf.name leaf.version))
 
--- these leaves, each read for its box
 abbrev pub askings_in : Database → List Leaf → List Bounds → List Asking
 askings_in db all boxes = by_pairs (asking_in db) all boxes
 
-abbrev pub lines_in : Database → List Leaf → List Bounds → List ℕ
-lines_in db all boxes = lines_of all (askings_in db all boxes)
-
--- for a whole plan the boxes are those that it needs
 abbrev pub plan_askings : Database → Query → List Asking
 plan_askings db query = askings_in db (leaves query) (whole_need query)
 
 abbrev pub plan_lines : Database → Query → List ℕ
 plan_lines db query = lines_of (leaves query) (plan_askings db query)
 
--- whatever the arrays hold: a line for each leaf, with some numbers
+-- ---- whatever is listed
+
+-- a line for each leaf, with some numbers
 abbrev pub AreLinesOf : List Leaf → List ℕ → Type 0
 AreLinesOf all lines = (askings : List Asking) × (length askings ≡ length all) × (lines ≡ lines_of all askings)

@@ -1,9 +1,10 @@
 //! How many chunks of an array are asked for, and how many it has.
 ghost use Rattle.std.specs.Prelude.{◌≡◌, IfOk};
 ghost use Rattle.std.specs.List.{count_by};
+ghost use Rattle.array_geom.specs.Geometry.{core_meets};
 ghost use Rattle.cell_values.specs.Schemas.{IsValid};
-ghost use Rattle.plan_needs.specs.Wanted.{wanted_of};
-ghost use Rattle.plan_traces.specs.Counted.{counted, is_sized};
+ghost use Rattle.plan_traces.specs.Listed.{chunks_among, is_sized};
+ghost use Rattle.plan_traces.specs.Traced.{asking_where};
 
 use array_geom::chunks_meeting;
 use cell_values::{Bounds, ChunkAt, Memory, Schema};
@@ -31,7 +32,7 @@ pub fn count_chunks(schema: &Schema, chunks: &[ChunkAt]) -> u64
     chunks.iter().filter(|at| is_sized(schema, *at)).count() as u64
 }
 
-/// How many of the listed chunks of a leaf have a core that meets a box, and how many there are.
+/// How many of the listed chunks of a leaf have a core that meets a box, and how many there are. Numbers of another size are no chunk's.
 pub(crate) fn asking_for(
     alloc: Global,
     leaf: &Leaf,
@@ -40,7 +41,7 @@ pub(crate) fn asking_for(
 ) -> Result<Asking, Memory>
     requires { IsValid leaf.now.schema }
     ensures { let dims = leaf.now.schema.dimensions in
-        IfOk result (λ asking. asking ≡ counted dims (wanted_of dims area.now listed.now) listed.now) }
+        IfOk result (λ asking. asking ≡ asking_where (core_meets dims area.now) (chunks_among dims listed.now)) }
 {
     let wanted = chunks_meeting(alloc, &leaf.schema, area, listed)?;
     let asked = count_chunks(&leaf.schema, wanted.as_slice());

@@ -1,5 +1,5 @@
 //! A line for each leaf of a plan.
-ghost use Rattle.std.specs.Prelude.{◌≡◌, [], ◌∷◌, ◌++◌, length, IfOk, OnOk};
+ghost use Rattle.std.specs.Prelude.{◌≡◌, [], ◌∷◌, length, IfOk, OnOk};
 ghost use Rattle.std.specs.List.{AllByRecursion};
 ghost use Rattle.cell_values.specs.Schemas.{IsValid};
 ghost use Rattle.chunk_source.specs.Faults.{Answers};
@@ -8,7 +8,7 @@ ghost use Rattle.logical_plan.specs.Leaves.{leaves};
 ghost use Rattle.logical_plan.specs.Meaning.{Database};
 ghost use Rattle.logical_plan.specs.Typing.{IsTyped};
 ghost use Rattle.plan_traces.specs.Inner.Among.{AddsLines};
-ghost use Rattle.plan_traces.specs.Traced.{AreLinesOf, lines_in, plan_lines};
+ghost use Rattle.plan_traces.specs.Traced.{lines_over, plan_lines};
 
 use crate::asking::asking_for;
 use crate::boxes::boxes_of;
@@ -28,7 +28,7 @@ fn push_line<S: ChunkSource>(
 ) -> Result<(), ExecFault>
     requires reads { Reads (S.state source.old) leaf.now }
     requires valid { IsValid leaf.now.schema }
-    ensures line { OnOk result (AddsLines (S.state source.old).tells (leaf.now ∷ []) (area.now ∷ []) lines.old lines.new) }
+    ensures line { OnOk result (AddsLines (S.state source.old) (leaf.now ∷ []) (area.now ∷ []) lines.old lines.new) }
     ensures asked { (S.state source.new).asked ≡ (S.state source.old).asked }
     ensures kept { Keeps (S.state source.old) (S.state source.new) }
     ensures cause { Answers (S.state source.old) (S.state source.new) result }
@@ -50,7 +50,7 @@ fn push_lines<S: ChunkSource>(
     requires reads { AllByRecursion (Reads (S.state source.old)) leaves.now }
     requires valid { AllByRecursion (λ leaf. IsValid leaf.schema) leaves.now }
     requires each { length boxes.now ≡ length leaves.now }
-    ensures lines { OnOk result (AddsLines (S.state source.old).tells leaves.now boxes.now lines.old lines.new) }
+    ensures lines { OnOk result (AddsLines (S.state source.old) leaves.now boxes.now lines.old lines.new) }
     ensures asked { (S.state source.new).asked ≡ (S.state source.old).asked }
     ensures kept { Keeps (S.state source.old) (S.state source.new) }
     ensures cause { Answers (S.state source.old) (S.state source.new) result }
@@ -62,7 +62,8 @@ fn push_lines<S: ChunkSource>(
     Ok(())
 }
 
-/// What a plan reads of the arrays of a source: a line for each leaf, from left to right. No chunk is asked for.
+/// What a plan reads of the arrays of a source: a line for each leaf, from left to right, with as many chunks as the source lists, and
+/// as the plan asks for of them. No chunk is asked for here.
 pub fn plan_lines<S: ChunkSource>(
     alloc: Global,
     plan: &Plan,
@@ -70,7 +71,7 @@ pub fn plan_lines<S: ChunkSource>(
 ) -> Result<Bytes, ExecFault>
     requires typed { IsTyped plan.now }
     requires reads { AllByRecursion (Reads (S.state source.old)) (leaves plan.now) }
-    ensures each { IfOk result (AreLinesOf (leaves plan.now)) }
+    ensures over { IfOk result (λ lines. lines ≡ lines_over (S.state source.old) plan.now) }
     ensures told { IfOk result (λ lines. (db : Database) → (S.state source.old).tells db → lines ≡ plan_lines db plan.now) }
     ensures asked { (S.state source.new).asked ≡ (S.state source.old).asked }
     ensures kept { Keeps (S.state source.old) (S.state source.new) }

@@ -1,6 +1,5 @@
 //! Rows that land where several may land at one coordinate.
 
 mod gathering;
-mod states;
 
 pub(crate) use gathering::groups_from;

@@ -31,7 +31,8 @@ use Rattle.chunk_exec.specs.Computed.{CanCompute}
 use Rattle.chunk_source.specs.Source.{SourceState, AsksFront}
 use Rattle.chunk_source.specs.declared.reading.fault.ExecFault.{ExecFault}
 use Rattle.chunk_source.specs.declared.reading.fault.ExecFault.TheVariants.{Source, Damaged, Memory}
-use Rattle.statement_replies.specs.Kinds.{IsRowsReply}
+use Rattle.statement_replies.specs.Kinds.{IsRowsOver}
+use Rattle.statement_replies.proofs.PlanReplies.{rows_kind}
 use Rattle.statement_replies.specs.Reading.{HoldsVersions}
 use Rattle.statement_replies.specs.Reply.{plan_reply}
 use Rattle.statement_replies.specs.StatementKinds.{NamesWhatStands}
@@ -135,8 +136,8 @@ over_names style names source text tree (Err fault) told = tt
 
 -- ---- queries
 
-pub query_kind : (style : Style) (names : Names) (plan : Query) (reply : Reply) → IsRowsReply style plan reply → HasOutcomeKind style names (Ok (AQuery plan)) (Replied reply)
-query_kind style names plan reply kind = (kind, refl)
+pub query_kind : (style : Style) (names : Names) (source : SourceState) (plan : Query) (reply : Reply) → IsRowsOver source style plan reply → HasOutcomeKind style names (Ok (AQuery plan)) (Replied reply)
+query_kind style names source plan reply kind = (rows_kind source style plan reply kind, refl)
 
 pub query_told : (style : Style) (names : Names) (source : SourceState) (plan : Query) (reply : Reply) → ((rows : Rows) → source.tells rows → reply ≡ plan_reply style rows plan)
     → (db : Database) → IsToldBy names source db → reply_to_typed style db (AQuery plan) ≡ without_change reply

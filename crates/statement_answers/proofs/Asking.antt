@@ -16,6 +16,7 @@ use Rattle.afl_types.specs.declared.statements.checking.Typed.TheVariants.{Chang
 use Rattle.chunk_source.specs.declared.sources.asked.Asked.{Asked}
 use Rattle.chunk_source.specs.Source.{SourceState, AsksFront}
 use Rattle.chunk_source.proofs.ReadLemmas.{asked_all, asked_none}
+use Rattle.plan_traces.specs.declared.asking.Asking.{Asking}
 use Rattle.changed_chunks.specs.Changing.{AsksOnly, IsToldOf, asked_for as asked_in, asked_of_all, asked_of_plan, asked_or_fault, asked_with, rows_put}
 use Rattle.statement_replies.specs.declared.replies.Reply.{Reply}
 use Rattle.statement_replies.specs.Traces.{newest_leaf}
@@ -67,11 +68,11 @@ module _ (names : Names) (change : Change) (name : List ℕ) (schema : Schema) (
   of_made (Ok changed) rows = of_target change put rows
   of_made (Err broken) rows = refl
 
-  pub put_asked : (made : Result Changed Broken) → ((db : Database) → IsToldOf old change target db → new.asked ≡ old.asked ++ asked_in db old change target made)
-      → AsksOnly old new change target (Ok made) → Puts (λ rows. new.asked ≡ old.asked ++ asked_made rows old names change (with_chunks made))
-  put_asked made told only = record {
+  pub put_asked : (asking : Asking) (made : Result Changed Broken) → ((db : Database) → IsToldOf old change target db → new.asked ≡ old.asked ++ asked_in db old change target made)
+      → AsksOnly old new change target asking (Ok made) → Puts (λ rows. new.asked ≡ old.asked ++ asked_made rows old names change (with_chunks made))
+  put_asked asking made told only = record {
     told = λ db there. told db (told_of names change name schema target is put old db there) ∙ ap (λ (all : List Asked). old.asked ++ all) (of_made made (rows_put db change));
-    some = (only.0, only.1 ∙ ap (λ (all : List Asked). old.asked ++ all) (of_made made only.0));
+    some = (only.0, only.1.0 ∙ ap (λ (all : List Asked). old.asked ++ all) (of_made made only.0));
   }
 
   pub put_front : ((db : Database) → IsToldOf old change target db → AsksFront (asked_of_all db old change target) old new)

@@ -1,5 +1,5 @@
 -- Lines that stand behind a text, those of a change, and what keeps them.
-use Rattle.std.proofs.Common.{◌≡◌, ℕ, suc, Bool, true, false, cond, List, [], ◌∷◌, ◌++◌, length, Result, Ok, Err, IfOk, OnOk, refl, sym, ap, ◌∙◌, subst}
+use Rattle.std.proofs.Common.{◌≡◌, ℕ, Bool, true, false, cond, List, [], ◌∷◌, ◌++◌, length, Result, Ok, Err, IfOk, OnOk, refl, sym, ap, ◌∙◌, subst}
 use Rattle.std.specs.List.{AllByRecursion}
 use Rattle.cell_values.specs.declared.schema.Bounds.{Bounds}
 use Rattle.cell_values.specs.declared.schema.Schema.{Schema}
@@ -19,27 +19,16 @@ use Rattle.chunk_source.specs.declared.reading.fault.ExecFault.{ExecFault}
 use Rattle.plan_traces.specs.declared.asking.Asking.{Asking}
 use Rattle.plan_needs.specs.Wanted.{whole_need}
 use Rattle.plan_traces.specs.Line.{trace_line}
-use Rattle.plan_traces.specs.Traced.{AreLinesOf, asking_where, askings_in, leaf_line, lines_of, plan_askings, plan_lines}
-use Rattle.plan_traces.proofs.Tracing.{append_each, lines_more, plan_askings_each, plan_lines_are}
+use Rattle.plan_traces.specs.Traced.{AreLinesOf, asking_where, askings_in, askings_over, leaf_line, lines_of, lines_over, plan_askings, plan_lines}
+use Rattle.plan_traces.proofs.Tracing.{append_each, askings_over_each, lines_more, plan_askings_each, plan_lines_are}
 use Rattle.changed_chunks.specs.Targets.{asking_put, target_asking}
-use Rattle.statement_replies.specs.Lines.{HasLines}
 use Rattle.statement_replies.specs.Reply.{traced}
 use Rattle.statement_replies.specs.StatementKinds.{IsAccepted}
 use Rattle.statement_replies.specs.Statements.{Accepted, change_text, text_alone}
-use Rattle.statement_replies.specs.Traces.{IsTracedIn, askings_by, change_lines, newest_leaf, read_by}
+use Rattle.statement_replies.specs.Traces.{IsTracedIn, askings_by, change_askings_over, change_lines, change_lines_over, newest_leaf, read_by}
 use Rattle.statement_replies.specs.declared.style.Style.{Style}
 
 -- ---- lines that are wanted, or not
-
--- there are lines with some numbers
-none_asked : List Leaf → List Asking
-none_asked [] = []
-none_asked (leaf ∷ all) = record { asked = 0; stored = 0 } ∷ none_asked all
-
-none_each : (all : List Leaf) → length (none_asked all) ≡ length all
-unfolding none_asked
-none_each [] = refl
-none_each (leaf ∷ all) = ap suc (none_each all)
 
 untraced : (style : Style) (lines : List ℕ) → style.trace ≡ false → traced style lines ≡ []
 untraced style lines none = ap (λ (b : Bool). cond b lines []) none
@@ -47,21 +36,16 @@ untraced style lines none = ap (λ (b : Bool). cond b lines []) none
 is_traced : (style : Style) (lines : List ℕ) → style.trace ≡ true → traced style lines ≡ lines
 is_traced style lines some = ap (λ (b : Bool). cond b lines []) some
 
-pub unwanted : (style : Style) (all : List Leaf) (text : List ℕ) → style.trace ≡ false → text ≡ [] → HasLines style all text
-unwanted style all text none e =
-    let lines = lines_of all (none_asked all) in
-    (lines, (none_asked all, none_each all, refl), e ∙ sym (untraced style lines none))
-
-pub none_told : (style : Style) (lines text : List ℕ) → style.trace ≡ false → text ≡ [] → text ≡ traced style lines
-none_told style lines text none e = e ∙ sym (untraced style lines none)
+pub unwanted : (style : Style) (lines text : List ℕ) → style.trace ≡ false → text ≡ [] → text ≡ traced style lines
+unwanted style lines text none e = e ∙ sym (untraced style lines none)
 
 module _ {E : Type 0} (answer : Result (List ℕ) E) (style : Style) (some : style.trace ≡ true) where
-  pub wanted : (all : List Leaf) → IfOk answer (AreLinesOf all) → IfOk answer (HasLines style all)
-  wanted all are = of_answer answer are
+  pub wanted : (lines : List ℕ) → IfOk answer (λ text. text ≡ lines) → IfOk answer (λ text. text ≡ traced style lines)
+  wanted lines is = of_answer answer is
     where
-      of_answer : (a : Result (List ℕ) E) → IfOk a (AreLinesOf all) → IfOk a (HasLines style all)
-      of_answer (Ok text) are = (text, are, sym (is_traced style text some))
-      of_answer (Err fault) are = tt
+      of_answer : (r : Result (List ℕ) E) → IfOk r (λ text. text ≡ lines) → IfOk r (λ text. text ≡ traced style lines)
+      of_answer (Ok text) is = is ∙ sym (is_traced style lines some)
+      of_answer (Err fault) is = tt
 
   pub wanted_told : {A : Type 0} (Tells : A → Type 0) (lines : A → List ℕ) → IfOk answer (λ text. (a : A) → Tells a → text ≡ lines a)
       → IfOk answer (λ text. (a : A) → Tells a → text ≡ traced style (lines a))
@@ -79,18 +63,16 @@ pub newest_line : {T E : Type 0} (answer : Result T E) (names : Names) (name : L
 newest_line (Ok x) names name version asking before after e is = λ schema. is ∙ ap (λ (v : ℕ). before ++ trace_line name v asking.asked asking.stored) e
 newest_line (Err fault) names name version asking before after e is = tt
 
-module _ (all : List Leaf) (leaf : Leaf) (target : Asking) (lines text : List ℕ) (pushed : text ≡ lines ++ leaf_line leaf target) where
-  pub one_more_each : AreLinesOf all lines → AreLinesOf (all ++ leaf ∷ []) text
-  one_more_each (counts, each, is) = (
-    counts ++ target ∷ [],
-    append_each counts all target leaf each,
-    pushed ∙ ap (λ (z : List ℕ). z ++ leaf_line leaf target) is ∙ sym (lines_more all counts leaf target each),
-  )
+-- one more line behind those of a plan
+module _ (plan : Query) (leaf : Leaf) (target : Asking) (lines text : List ℕ) (pushed : text ≡ lines ++ leaf_line leaf target) where
+  one_more : (counts : List Asking) → length counts ≡ length (leaves plan) → lines ≡ lines_of (leaves plan) counts → text ≡ lines_of (leaves plan ++ leaf ∷ []) (counts ++ target ∷ [])
+  one_more counts each is = pushed ∙ ap (λ (z : List ℕ). z ++ leaf_line leaf target) is ∙ sym (lines_more (leaves plan) counts leaf target each)
 
-pub one_more_told : (plan : Query) (leaf : Leaf) (target : Asking) (lines text : List ℕ) (rows : Rows) → text ≡ lines ++ leaf_line leaf target → lines ≡ plan_lines rows plan
-    → text ≡ lines_of (leaves plan ++ leaf ∷ []) (plan_askings rows plan ++ target ∷ [])
-one_more_told plan leaf target lines text rows pushed is =
-    pushed ∙ ap (λ (z : List ℕ). z ++ leaf_line leaf target) is ∙ sym (lines_more (leaves plan) (plan_askings rows plan) leaf target (plan_askings_each rows plan))
+  pub one_more_over : (source : SourceState) → lines ≡ lines_over source plan → text ≡ lines_of (leaves plan ++ leaf ∷ []) (askings_over source plan ++ target ∷ [])
+  one_more_over source = one_more (askings_over source plan) (askings_over_each source plan)
+
+  pub one_more_told : (rows : Rows) → lines ≡ plan_lines rows plan → text ≡ lines_of (leaves plan ++ leaf ∷ []) (plan_askings rows plan ++ target ∷ [])
+  one_more_told rows = one_more (plan_askings rows plan) (plan_askings_each rows plan)
 
 -- ---- the lines of a change over a source
 
@@ -98,9 +80,12 @@ module _ (names : Names) (source : SourceState) (change : Change) (target : Aski
   abbrev IsTold : Change → List ℕ → Type 0
   IsTold made text = (db : Database) → IsTracedIn names source made target db → text ≡ change_lines db made
 
+  abbrev IsOver : Change → List ℕ → Type 0
+  IsOver made text = text ≡ change_lines_over names source target made
+
   module _ (name : List ℕ) (schema : Schema) (plan : Query) (answer : Result (List ℕ) ExecFault) where
-    pub store_each : change ≡ Store name schema plan → IfOk answer (AreLinesOf (leaves plan)) → IfOk answer (AreLinesOf (read_by names change))
-    store_each e are = subst (λ (z : Change). IfOk answer (AreLinesOf (read_by names z))) (sym e) are
+    pub store_over : change ≡ Store name schema plan → IfOk answer (λ lines. lines ≡ lines_over source plan) → IfOk answer (IsOver change)
+    store_over e = subst (λ (z : Change). IfOk answer (IsOver z)) (sym e)
 
     pub store_told : change ≡ Store name schema plan → IfOk answer (λ lines. (rows : Rows) → source.tells rows → lines ≡ plan_lines rows plan) → IfOk answer (IsTold change)
     store_told e told = subst (λ (z : Change). IfOk answer (IsTold z)) (sym e) (of_answer answer told)
@@ -109,14 +94,16 @@ module _ (names : Names) (source : SourceState) (change : Change) (target : Aski
         of_answer (Ok text) told = λ db is. told (rows_of db) is.tells
         of_answer (Err fault) told = tt
 
-    pub insert_each : change ≡ Insert name schema plan → IfOk answer (λ lines. (other : Schema) → AreLinesOf (leaves plan ++ newest_leaf names name other ∷ []) lines)
-        → IfOk answer (AreLinesOf (read_by names change))
-    insert_each e are = subst (λ (z : Change). IfOk answer (AreLinesOf (read_by names z))) (sym e) (of_answer answer are)
+    pub insert_over : change ≡ Insert name schema plan
+        → IfOk answer (λ lines. (other : Schema) → lines ≡ lines_of (leaves plan ++ newest_leaf names name other ∷ []) (askings_over source plan ++ target ∷ []))
+        → IfOk answer (IsOver change)
+    insert_over e is = subst (λ (z : Change). IfOk answer (IsOver z)) (sym e) (of_answer answer is)
       where
-        of_answer : (a : Result (List ℕ) ExecFault) → IfOk a (λ lines. (other : Schema) → AreLinesOf (leaves plan ++ newest_leaf names name other ∷ []) lines)
-            → IfOk a (AreLinesOf (leaves plan ++ newest_leaf names name schema ∷ []))
-        of_answer (Ok text) are = are schema
-        of_answer (Err fault) are = tt
+        of_answer : (a : Result (List ℕ) ExecFault)
+            → IfOk a (λ lines. (other : Schema) → lines ≡ lines_of (leaves plan ++ newest_leaf names name other ∷ []) (askings_over source plan ++ target ∷ []))
+            → IfOk a (IsOver (Insert name schema plan))
+        of_answer (Ok text) is = is schema
+        of_answer (Err fault) is = tt
 
     pub insert_told : change ≡ Insert name schema plan
         → IfOk answer (λ lines. (rows : Rows) → source.tells rows → (other : Schema)
@@ -131,8 +118,16 @@ module _ (names : Names) (source : SourceState) (change : Change) (target : Aski
             ∙ (λ i. lines_of (leaves plan ++ newest_leaf (sym is.named i) name schema ∷ []) (plan_askings (rows_of db) plan ++ is.counted i ∷ []))
         of_answer (Err fault) told = tt
 
-  pub no_lines_each : (text : List ℕ) → read_by names change ≡ [] → text ≡ [] → AreLinesOf (read_by names change) text
-  no_lines_each text none e = subst (λ (all : List Leaf). AreLinesOf all text) (sym none) ([], refl, e)
+  -- each array that is read has a number of chunks that are asked for
+  askings_are : (made : Change) → length (change_askings_over source target made) ≡ length (read_by names made)
+  askings_are (Create name schema) = refl
+  askings_are (Store name schema plan) = askings_over_each source plan
+  askings_are (Insert name schema plan) = append_each (askings_over source plan) (leaves plan) target (newest_leaf names name schema) (askings_over_each source plan)
+  askings_are (Remove name) = refl
+  askings_are (RemoveVersions name below) = refl
+
+  pub lines_are : AreLinesOf (read_by names change) (change_lines_over names source target change)
+  lines_are = (change_askings_over source target change, askings_are change, refl)
 
 -- ---- the lines of a change in a database
 

@@ -4,19 +4,18 @@ use Rattle.cell_values.specs.declared.datum.Broken.{Broken}
 use Rattle.cell_values.specs.declared.datum.Row.{Row}
 use Rattle.cell_values.specs.declared.schema.Schema.{Schema}
 use Rattle.logical_plan.specs.Faults.{fault_of, first_fault}
-use Rattle.logical_plan.specs.Leaves.{leaves}
 use Rattle.logical_plan.specs.Meaning.{Database, Meant, meaning}
 use Rattle.logical_plan.specs.PlanSchema.{schema_of}
 use Rattle.logical_plan.specs.Query.{Query}
 use Rattle.logical_plan.proofs.SchemaLaws.{meaning_schema}
 use Rattle.plan_rows.specs.declared.answers.rows.PlanRows.TheVariants.{Fault, Rows}
 use Rattle.plan_rows.specs.Found.{IsFound}
-use Rattle.plan_traces.specs.Traced.{plan_lines}
-use Rattle.plan_traces.proofs.Tracing.{plan_lines_are}
+use Rattle.chunk_source.specs.Source.{SourceState}
+use Rattle.plan_traces.specs.Traced.{lines_over, plan_lines}
+use Rattle.plan_traces.proofs.Tracing.{lines_over_are, plan_lines_are}
 use Rattle.check_rules.specs.Checked.{Checked}
 use Rattle.check_laws.specs.Queries.{query_of}
-use Rattle.statement_replies.specs.Lines.{HasLines}
-use Rattle.statement_replies.specs.Kinds.{HasKind, IsRowsReply, IsTextOrRefusal, RepliesHaveKinds}
+use Rattle.statement_replies.specs.Kinds.{HasKind, IsRowsOver, IsRowsReply, IsTextOrRefusal, RepliesHaveKinds}
 use Rattle.statement_replies.specs.Reply.{array_reply, cell_reply, checked_reply, fault_or_text, meant_reply, text_reply, traced}
 use Rattle.statement_replies.specs.declared.replies.Reply.{Reply}
 use Rattle.statement_replies.specs.declared.style.Style.{Style}
@@ -37,8 +36,13 @@ rows_reply style lines meant schema rows reply found e =
 pub lines_reply : (style : Style) (text lines : List ℕ) (meant : Meant) (reply : Reply) → text ≡ lines → reply ≡ meant_reply style text meant → reply ≡ meant_reply style lines meant
 lines_reply style text lines meant reply same e = e ∙ ap (λ (z : List ℕ). meant_reply style z meant) same
 
-pub rows_kind : (style : Style) (query : Query) (text : List ℕ) (reply : Reply) → HasLines style (leaves query) text → IsTextOrRefusal style text (schema_of query) reply → IsRowsReply style query reply
-rows_kind style query text reply (lines, are, is) kind = (lines, are, subst (λ (z : List ℕ). IsTextOrRefusal style z (schema_of query) reply) is kind)
+pub rows_over : (source : SourceState) (style : Style) (query : Query) (text : List ℕ) (reply : Reply) → text ≡ traced style (lines_over source query) → IsTextOrRefusal style text (schema_of query) reply
+    → IsRowsOver source style query reply
+rows_over source style query text reply is = subst (λ (z : List ℕ). IsTextOrRefusal style z (schema_of query) reply) is
+
+-- what a source lists has some numbers
+pub rows_kind : (source : SourceState) (style : Style) (query : Query) (reply : Reply) → IsRowsOver source style query reply → IsRowsReply style query reply
+rows_kind source style query reply kind = (lines_over source query, lines_over_are source query, kind)
 
 -- ---- kinds
 

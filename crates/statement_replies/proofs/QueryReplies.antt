@@ -22,7 +22,7 @@ use Rattle.check_laws.specs.Queries.{query_of}
 use Rattle.result_print.specs.declared.refusal.Refusal.TheVariants.{Typing}
 use Rattle.chunk_source.specs.Source.{SourceState, AsksFront, Reads}
 use Rattle.plan_rows.specs.Computed.{CanCompute, asked_for_plan}
-use Rattle.statement_replies.specs.Kinds.{HasKind, IsQueryReply, IsRowsReply}
+use Rattle.statement_replies.specs.Kinds.{HasKindOver, IsQueryReply, IsRowsOver}
 use Rattle.statement_replies.specs.Reading.{HoldsVersions, asked_for}
 use Rattle.statement_replies.specs.Reply.{checked_reply, plan_reply, refused}
 use Rattle.statement_replies.specs.declared.replies.Reply.{Reply}
@@ -41,21 +41,22 @@ module _ (names : Names) (source : SourceState) (holds : HoldsVersions names sou
   }
 
 -- where checking answers a plan, and where it answers the first rule that is broken
-module _ (style : Style) (names : Names) (tells : Database → Type 0) (tree : Term) where
-  pub of_plan : (plan : Query) (reply : Reply) → query_of names.arrays tree ≡ Ok plan → IsRowsReply style plan reply → ((db : Database) → tells db → reply ≡ plan_reply style db plan) → IsQueryReply style names tells tree reply
+module _ (style : Style) (names : Names) (source : SourceState) (tree : Term) where
+  pub of_plan : (plan : Query) (reply : Reply) → query_of names.arrays tree ≡ Ok plan → IsRowsOver source style plan reply → ((db : Database) → source.tells db → reply ≡ plan_reply style db plan)
+      → IsQueryReply style names source tree reply
   of_plan plan reply is kind told = record {
-    kind = subst (λ (c : Checked Query). HasKind style c reply) (sym is) kind;
+    kind = subst (λ (c : Checked Query). HasKindOver source style c reply) (sym is) kind;
     told = λ db t. told db t ∙ ap (checked_reply style db) (sym is);
   }
 
-  pub plan_answer : {E : Type 0} (answer : Result Reply E) (plan : Query) → query_of names.arrays tree ≡ Ok plan → IfOk answer (IsRowsReply style plan) → IfOk answer (λ reply. (db : Database) → tells db → reply ≡ plan_reply style db plan)
-      → IfOk answer (IsQueryReply style names tells tree)
+  pub plan_answer : {E : Type 0} (answer : Result Reply E) (plan : Query) → query_of names.arrays tree ≡ Ok plan → IfOk answer (IsRowsOver source style plan) → IfOk answer (λ reply. (db : Database) → source.tells db → reply ≡ plan_reply style db plan)
+      → IfOk answer (IsQueryReply style names source tree)
   plan_answer (Ok reply) plan is kind told = of_plan plan reply is kind told
   plan_answer (Err fault) plan is kind told = tt
 
-  pub of_breach : (span : Span) (kind : TypeKind) (reply : Reply) → query_of names.arrays tree ≡ broken span kind → reply ≡ refused (Typing span kind) → IsQueryReply style names tells tree reply
+  pub of_breach : (span : Span) (kind : TypeKind) (reply : Reply) → query_of names.arrays tree ≡ broken span kind → reply ≡ refused (Typing span kind) → IsQueryReply style names source tree reply
   of_breach span kind reply is e = record {
-    kind = subst (λ (c : Checked Query). HasKind style c reply) (sym is) e;
+    kind = subst (λ (c : Checked Query). HasKindOver source style c reply) (sym is) e;
     told = λ db t. e ∙ ap (checked_reply style db) (sym is);
   }
 

@@ -1,6 +1,5 @@
 -- Replies behind what was read for them.
-use Rattle.std.proofs.Common.{◌≡◌, List, Result, Ok, Err, IfOk}
-use Rattle.std.specs.List.{AllByRecursion}
+use Rattle.std.proofs.Common.{◌≡◌, ℕ, List, Result, Ok, Err, IfOk, subst}
 use Rattle.logical_plan.specs.Leaves.{leaves}
 use Rattle.logical_plan.specs.Meaning.{Database, meaning}
 use Rattle.logical_plan.specs.Query.{Query}
@@ -8,14 +7,20 @@ use Rattle.chunk_source.specs.Source.{Keeps, SourceState}
 use Rattle.plan_rows.specs.Computed.{CanCompute}
 use Rattle.plan_rows.specs.Found.{IsFound}
 use Rattle.plan_rows.specs.declared.answers.rows.PlanRows.{PlanRows}
-use Rattle.plan_traces.proofs.Tracing.{all_read}
-use Rattle.statement_replies.specs.Reply.{plan_reply}
+use Rattle.logical_plan.specs.PlanSchema.{schema_of}
+use Rattle.plan_traces.proofs.Tracing.{all_read, lines_still}
+use Rattle.statement_replies.specs.Kinds.{IsRowsOver, IsTextOrRefusal}
+use Rattle.statement_replies.specs.Reply.{plan_reply, traced}
 use Rattle.statement_replies.specs.declared.replies.Reply.{Reply}
 use Rattle.statement_replies.specs.declared.style.Style.{Style}
 
 -- a plan can be computed as before
 pub can_still : (old mid : SourceState) (plan : Query) → Keeps old mid → CanCompute old plan → CanCompute mid plan
 can_still old mid plan kept can = record { typed = can.typed; reads = all_read old mid (leaves plan) kept can.reads }
+
+-- what a later state lists an earlier one listed
+pub over_before : {E : Type 0} (answer : Result Reply E) (old mid : SourceState) (style : Style) (plan : Query) → Keeps old mid → IfOk answer (IsRowsOver mid style plan) → IfOk answer (IsRowsOver old style plan)
+over_before answer old mid style plan kept = subst (λ (lines : List ℕ). IfOk answer (IsTextOrRefusal style (traced style lines) (schema_of plan))) (lines_still old mid plan kept)
 
 -- what a later state tells an earlier one told
 pub told_before : {E : Type 0} (answer : Result Reply E) (old mid : SourceState) (style : Style) (plan : Query) (found : PlanRows) → Keeps old mid

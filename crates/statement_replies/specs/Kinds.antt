@@ -9,7 +9,8 @@ use Rattle.logical_plan.specs.Leaves.{leaves}
 use Rattle.logical_plan.specs.Meaning.{Database}
 use Rattle.logical_plan.specs.PlanSchema.{schema_of}
 use Rattle.logical_plan.specs.Query.{Query}
-use Rattle.plan_traces.specs.Traced.{AreLinesOf}
+use Rattle.chunk_source.specs.Source.{SourceState}
+use Rattle.plan_traces.specs.Traced.{AreLinesOf, lines_over}
 use Rattle.check_rules.specs.Checked.{Checked}
 use Rattle.check_laws.specs.Queries.{query_of}
 use Rattle.result_print.specs.declared.refusal.Refusal.TheVariants.{Typing}
@@ -28,15 +29,23 @@ abbrev pub IsRowsReply : Style → Query → Reply → Type 0
 IsRowsReply style query reply =
     (lines : List ℕ) × AreLinesOf (leaves query) lines × IsTextOrRefusal style (traced style lines) (schema_of query) reply
 
+-- over a source these are the lines of what it lists
+abbrev pub IsRowsOver : SourceState → Style → Query → Reply → Type 0
+IsRowsOver source style query reply = IsTextOrRefusal style (traced style (lines_over source query)) (schema_of query) reply
+
 -- a rule that is broken is told, and else rows of the plan are
 abbrev pub HasKind : Style → Checked Query → Reply → Type 0
 HasKind style (Ok query) reply = IsRowsReply style query reply
 HasKind style (Err breach) reply = reply ≡ refused (Typing breach.span breach.kind)
 
+abbrev pub HasKindOver : SourceState → Style → Checked Query → Reply → Type 0
+HasKindOver source style (Ok query) reply = IsRowsOver source style query reply
+HasKindOver source style (Err breach) reply = reply ≡ refused (Typing breach.span breach.kind)
+
 -- The reply to the tree of a query over a source: of this kind always, and in each database that the source tells the reply there.
-pub record IsQueryReply (style : Style) (names : Names) (tells : Database → Type 0) (tree : Term) (reply : Reply) : Type 0 where
-  pub kind : HasKind style (query_of names.arrays tree) reply
-  pub told : (db : Database) → tells db → reply ≡ query_reply style names db tree
+pub record IsQueryReply (style : Style) (names : Names) (source : SourceState) (tree : Term) (reply : Reply) : Type 0 where
+  pub kind : HasKindOver source style (query_of names.arrays tree) reply
+  pub told : (db : Database) → source.tells db → reply ≡ query_reply style names db tree
 
 -- a reply over a database is of that kind
 abbrev pub RepliesHaveKinds : Type 0

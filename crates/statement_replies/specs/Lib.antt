@@ -1,6 +1,5 @@
 pub mod Inner
 pub mod Kinds
-pub mod Lines
 pub mod Printed
 pub mod Reading
 pub mod Reply

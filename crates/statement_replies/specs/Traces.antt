@@ -9,7 +9,7 @@ use Rattle.plan_changes.specs.Databases.{Database, names_of, rows_of}
 use Rattle.plan_changes.specs.declared.change.Change.{Change}
 use Rattle.plan_changes.specs.declared.change.Change.TheVariants.{Create, Store, Insert, Remove, RemoveVersions}
 use Rattle.plan_traces.specs.declared.asking.Asking.{Asking}
-use Rattle.plan_traces.specs.Traced.{lines_of, plan_askings}
+use Rattle.plan_traces.specs.Traced.{askings_over, lines_of, plan_askings}
 use Rattle.changed_chunks.specs.Targets.{IsTargetAsking, target_asking}
 use Rattle.chunk_source.specs.Source.{SourceState}
 use Rattle.plan_rows.specs.Computed.{CanCompute}
@@ -26,6 +26,8 @@ read_by names (Insert name schema plan) = leaves plan ++ newest_leaf names name 
 read_by names (Remove name) = []
 read_by names (RemoveVersions name below) = []
 
+-- ---- in a database
+
 -- how many chunks of each it asks for
 abbrev pub askings_by : Database → Change → List Asking
 askings_by db (Create name schema) = []
@@ -38,6 +40,17 @@ abbrev pub change_lines : Database → Change → List ℕ
 change_lines db change = lines_of (read_by (names_of db) change) (askings_by db change)
 
 -- ---- over a source
+
+-- where so many chunks of an insert's target are asked for
+abbrev pub change_askings_over : SourceState → Asking → Change → List Asking
+change_askings_over source target (Create name schema) = []
+change_askings_over source target (Store name schema plan) = askings_over source plan
+change_askings_over source target (Insert name schema plan) = askings_over source plan ++ target ∷ []
+change_askings_over source target (Remove name) = []
+change_askings_over source target (RemoveVersions name below) = []
+
+abbrev pub change_lines_over : Names → SourceState → Asking → Change → List ℕ
+change_lines_over names source target change = lines_of (read_by names change) (change_askings_over source target change)
 
 -- the plan of a change can be computed
 abbrev pub CanTrace : SourceState → Change → Type 0

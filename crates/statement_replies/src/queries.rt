@@ -13,7 +13,7 @@ ghost use Rattle.plan_rows.specs.Computed.{CanCompute, asked_for_plan};
 ghost use Rattle.plan_rows.specs.Found.{HasSchema, IsFound};
 ghost use Rattle.plan_rows.specs.Held.{HoldsCells, rows_held};
 ghost use Rattle.result_print.specs.declared.refusal.Refusal.TheVariants.{Cell};
-ghost use Rattle.statement_replies.specs.Kinds.{IsQueryReply, IsRowsReply, IsTextOrRefusal};
+ghost use Rattle.statement_replies.specs.Kinds.{IsQueryReply, IsRowsOver, IsTextOrRefusal};
 ghost use Rattle.statement_replies.specs.Printed.{printed};
 ghost use Rattle.statement_replies.specs.Reading.{HoldsVersions, asked_for};
 ghost use Rattle.statement_replies.specs.Reply.{meant_reply, plan_reply};
@@ -54,7 +54,7 @@ pub fn reply_to_query<S: ChunkSource, R: Threads + Sync, G: Gate>(
     requires valid { AreValid names.now.arrays }
     requires holds { HoldsVersions names.now (S.state source.old) }
     requires workers { (1 ≤ workers) × (workers ≤ 64) }
-    ensures reply { IfOk result (IsQueryReply style names.now (S.state source.old).tells tree.now) }
+    ensures reply { IfOk result (IsQueryReply style names.now (S.state source.old) tree.now) }
     ensures asked { let old = S.state source.old in
         let all = asked_for old (query_of names.now.arrays tree.now) in
         OnOk result ((S.state source.new).asked ≡ old.asked ++ all) }
@@ -91,7 +91,7 @@ pub fn answer_query<S: ChunkSource, R: Threads + Sync, G: Gate>(
     requires undamaged { (S.state source.old).damaged ≡ None }
     requires can { CanCompute (S.state source.old) plan.now }
     requires workers { (1 ≤ workers) × (workers ≤ 64) }
-    ensures kind { IfOk result (IsRowsReply style plan.now) }
+    ensures kind { IfOk result (IsRowsOver (S.state source.old) style plan.now) }
     ensures told { IfOk result (λ reply. (db : Database) → (S.state source.old).tells db → reply ≡ plan_reply style db plan.now) }
     ensures asked { OnOk result ((S.state source.new).asked ≡ (S.state source.old).asked ++ asked_for_plan (S.state source.old) plan.now) }
     ensures front { let old = S.state source.old in OnErr result (AsksFront (asked_for_plan old plan.now) old (S.state source.new)) }
@@ -119,7 +119,7 @@ fn reply_with_lines<S: ChunkSource>(
 ) -> Result<Reply, ExecFault>
     requires can { CanCompute (S.state source.old) plan.now }
     requires cells { HoldsCells found.now }
-    ensures kind { HasSchema (schema_of plan.now) (rows_held found.now) → IfOk result (IsRowsReply style plan.now) }
+    ensures kind { HasSchema (schema_of plan.now) (rows_held found.now) → IfOk result (IsRowsOver (S.state source.old) style plan.now) }
     ensures told { IfOk result (λ reply. (db : Database) → (S.state source.old).tells db → IsFound (meaning db plan.now) (rows_held found.now)
         → reply ≡ plan_reply style db plan.now) }
     ensures asked { (S.state source.new).asked ≡ (S.state source.old).asked }

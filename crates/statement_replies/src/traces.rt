@@ -7,10 +7,9 @@ ghost use Rattle.logical_plan.specs.Leaves.{leaves};
 ghost use Rattle.logical_plan.specs.Meaning.{Database as Rows};
 ghost use Rattle.plan_changes.specs.Databases.{Database};
 ghost use Rattle.plan_rows.specs.Computed.{CanCompute};
-ghost use Rattle.plan_traces.specs.Traced.{AreLinesOf, leaf_line, lines_of, plan_askings, plan_lines};
-ghost use Rattle.statement_replies.specs.Lines.{HasLines};
+ghost use Rattle.plan_traces.specs.Traced.{askings_over, leaf_line, lines_of, lines_over, plan_askings, plan_lines};
 ghost use Rattle.statement_replies.specs.Reply.{traced};
-ghost use Rattle.statement_replies.specs.Traces.{CanTrace, IsTracedIn, change_lines, newest_leaf, read_by};
+ghost use Rattle.statement_replies.specs.Traces.{CanTrace, IsTracedIn, change_lines, change_lines_over, newest_leaf};
 
 use crate::style::Style;
 use cell_values::{Bytes, Memory, Name};
@@ -28,7 +27,7 @@ pub(crate) fn lines_wanted<S: ChunkSource>(
     source: &mut S,
 ) -> Result<Bytes, ExecFault>
     requires { CanCompute (S.state source.old) plan.now }
-    ensures kind { IfOk result (HasLines style (leaves plan.now)) }
+    ensures over { IfOk result (λ lines. lines ≡ traced style (lines_over (S.state source.old) plan.now)) }
     ensures told { IfOk result (λ lines. (rows : Rows) → (S.state source.old).tells rows → lines ≡ traced style (plan_lines rows plan.now)) }
     ensures asked { (S.state source.new).asked ≡ (S.state source.old).asked }
     ensures kept { Keeps (S.state source.old) (S.state source.new) }
@@ -59,7 +58,8 @@ fn insert_lines<S: ChunkSource>(
     target: Asking,
 ) -> Result<Bytes, ExecFault>
     requires { CanCompute (S.state source.old) plan.now }
-    ensures each { IfOk result (λ lines. (schema : Schema) → AreLinesOf (leaves plan.now ++ newest_leaf names.now name.now schema ∷ []) lines) }
+    ensures over { IfOk result (λ lines. (schema : Schema)
+        → lines ≡ lines_of (leaves plan.now ++ newest_leaf names.now name.now schema ∷ []) (askings_over (S.state source.old) plan.now ++ target ∷ [])) }
     ensures told { IfOk result (λ lines. (rows : Rows) → (S.state source.old).tells rows → (schema : Schema)
         → lines ≡ lines_of (leaves plan.now ++ newest_leaf names.now name.now schema ∷ []) (plan_askings rows plan.now ++ target ∷ [])) }
     ensures asked { (S.state source.new).asked ≡ (S.state source.old).asked }
@@ -81,7 +81,7 @@ fn lines_of_change<S: ChunkSource>(
     target: Asking,
 ) -> Result<Bytes, ExecFault>
     requires { CanTrace (S.state source.old) change.now }
-    ensures each { IfOk result (AreLinesOf (read_by names.now change.now)) }
+    ensures over { IfOk result (λ lines. lines ≡ change_lines_over names.now (S.state source.old) target change.now) }
     ensures told { IfOk result (λ lines. (db : Database) → IsTracedIn names.now (S.state source.old) change.now target db
         → lines ≡ change_lines db change.now) }
     ensures asked { (S.state source.new).asked ≡ (S.state source.old).asked }
@@ -111,7 +111,7 @@ pub fn change_lines<S: ChunkSource>(
     target: Asking,
 ) -> Result<Bytes, ExecFault>
     requires { CanTrace (S.state source.old) change.now }
-    ensures kind { IfOk result (HasLines style (read_by names.now change.now)) }
+    ensures over { IfOk result (λ lines. lines ≡ traced style (change_lines_over names.now (S.state source.old) target change.now)) }
     ensures told { IfOk result (λ lines. (db : Database) → IsTracedIn names.now (S.state source.old) change.now target db
         → lines ≡ traced style (change_lines db change.now)) }
     ensures asked { (S.state source.new).asked ≡ (S.state source.old).asked }

@@ -1,72 +1,62 @@
-//! Tells for each line of standard input how catalogues, their records and directories are read and spelled.
+//! Tells how catalogues are read and spelled, what a file keeps, what entries make of names, pins and pages, and what changes make of the
+//! catalogue.
 //!
-//! `bytes 0100` says which bytes the lines behind it speak of. `catalogue`, `record` and `directory 2`, for chunks of two
-//! dimensions, are answered by the spelling of what these bytes are read as, or by the place of their first wrong item; words
-//! behind them change the bytes for that line: `4:0` is byte 4 as 0, `..43` the first 43 bytes, and `+0` one byte more.
-//! `cuts` tells the first wrong item of each shorter front of the catalogue. `allows 040141` tells whether the catalogue
-//! allows a record, `after 040141` the catalogue after it, and `replace 2 0000` the directory with the entries of another
-//! one. `many 1024` makes so many arrays of the catalogue's first one, under names that rise.
+//! Standard input has tables, each behind a line that begins with `###` and tells what its lines are; the entries and the changes
+//! are worked lists, and have no lines. In a table a line that begins with `##` is a title, and is printed as it is; each other
+//! line is printed behind `> `, above its answer.
 #![tactic(auto)]
 
+mod bytes;
 mod catalogs;
+mod changes;
+mod changing;
 mod digits;
 mod directories;
+mod entries;
+mod kept;
+mod opens;
+mod spelled;
+mod steps;
+mod tell;
+mod vectors;
+mod worked;
 
 use anyhow::Result;
-use catalogs::{push_after, push_allowed, push_catalog, push_cuts, push_record};
-use cell_values::Bytes;
-use digits::{bytes_in, changed, many};
-use directories::{push_directory, push_replaced};
+use changes::tell_changes;
+use kept::tell_kept;
+use spelled::tell_spelled;
+use steps::{tell_first, tell_worked};
+use tell::tell_core;
+use test_kit::input;
+use worked::start;
 
-/// Adds the answer to the words of a line.
-fn push_told(out: &mut String, bytes: &Bytes, words: &[&str]) -> Result<()> {
-    match words {
-        ["catalogue", changes @ ..] => push_catalog(out, &changed(bytes, changes)?),
-        ["cuts"] => push_cuts(out, bytes),
-        ["record", changes @ ..] => push_record(out, &changed(bytes, changes)?),
-        ["directory", dims, changes @ ..] => push_directory(out, dims, &changed(bytes, changes)?),
-        ["allows", digits] => push_allowed(out, bytes, digits),
-        ["after", digits] => push_after(out, bytes, digits),
-        ["replace", dims, digits] => push_replaced(out, dims, bytes, digits),
+/// Prints what each of the worked entries makes of names, pins and pages.
+fn tell_entries(rt: &(impl Print + AllocGlobal)) -> Result<()> {
+    let base = start(rt.alloc())?;
+    tell_core(rt, &base)?;
+    tell_worked(rt, &base)?;
+    tell_first(rt, &base)
+}
+
+/// Prints the title of a table, and what comes of its lines.
+fn tell_part(rt: &(impl Print + AllocGlobal), part: &str) -> Result<()> {
+    let Some((title, text)) = part.split_once('\n') else {
+        return Ok(());
+    };
+    println!(rt; "### {title}")?;
+    match title {
+        "catalogues" => tell_spelled(rt, text),
+        "files" => tell_kept(rt, text),
+        "entries" => tell_entries(rt),
+        "changes" => tell_changes(rt),
         _ => Ok(()),
     }
 }
 
-/// Prints a line, and its answer.
-fn answer(
-    rt: &(impl Print + AllocGlobal),
-    bytes: &Bytes,
-    line: &str,
-    words: &[&str],
-) -> Result<()> {
-    let mut told = String::new(rt.alloc());
-    push_told(&mut told, bytes, words)?;
-    println!(rt; "> {line}\n{told}")?;
-    Ok(())
-}
-
-/// Prints a line, and its answer. A title, or a line that says which bytes there are, has none.
-fn tell(rt: &(impl Print + AllocGlobal), bytes: &mut Bytes, line: &str) -> Result<()> {
-    let words: Vec<&str> = line.split_whitespace().collect(rt.alloc())?;
-    match words.as_slice() {
-        ["##", ..] => println!(rt; "{line}")?,
-        ["bytes", digits, changes @ ..] => {
-            println!(rt; "> {line}")?;
-            *bytes = changed(&bytes_in(rt.alloc(), digits)?, changes)?;
-        }
-        ["many", count] => {
-            println!(rt; "> {line}")?;
-            *bytes = many(bytes, count)?;
-        }
-        words => answer(rt, bytes, line, words)?,
-    }
-    Ok(())
-}
-
 fn main(rt: HostRuntime) -> Result<()> {
-    let mut bytes = Bytes::new(rt.alloc());
-    for line in rt.lines(rt.alloc()) {
-        tell(&rt, &mut bytes, line?.as_str())?;
+    let text = input(&rt)?;
+    for part in text.split("### ") {
+        tell_part(&rt, part)?;
     }
     Ok(())
 }

@@ -1,8 +1,9 @@
 //! Lines, and what they are answered.
 ghost use Rattle.std.specs.Prelude.{IfOk};
-ghost use Rattle.test_steps.specs.Runs.{IsRun};
+ghost use Rattle.test_commits.specs.Runs.{IsRun};
 
 use crate::bench::Bench;
+use crate::sessions::{Run, Step, answer_to, create_all};
 use anyhow::Result;
 use cell_values::Memory;
 use std::alloc::{AllocError, Global};
@@ -10,7 +11,6 @@ use std::thread::Threads;
 use test_disks::QuietDisk;
 use test_kit::begin_answer;
 use test_readings::{Answer, opened, reaped};
-use test_steps::{Run, Step, answer_to, create_all};
 
 /// Adds how many pages nobody can name, and how many entries and notes there are.
 fn push_counts(out: &mut String, run: &mut Run) -> Result<(), AllocError>

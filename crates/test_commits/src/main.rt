@@ -1,86 +1,40 @@
-//! Runs the steps that the lines of standard input are over a store in memory.
+//! Runs steps of two sessions over a store in memory, and commits with each call of the disk failing in turn.
 //!
-//! `new 64 100` makes an empty database of so many pages, whose history may have so many entries, and opens it; `format1 64 100` one of
-//! format 1. `open` closes the store and opens it again over what the disk holds. `pin 0`, `unpin 0`, `change 0 TEXT`, `cells 0 A@1` and
-//! `versions 0 A` are steps of a session, 0 or 1; `create 5 9` are a pin of session 0, a
-//! change that creates `A5`, and an unpin, and so on up to `A8`.
-//! `reap` and `counts` are about all. `calls` tells what the disk's calls since the last such line, or `mark`, cost, `fail 3` that the third
-//! call from now fails, and `bytes 512 8` which bytes stand at a place.
+//! Standard input has tables, each behind a line that begins with `###` and tells what its lines are: steps of sessions; or none, where
+//! each commit is made with each call of the disk failing in turn, and it is printed what is answered and what a stop leaves: behind each
+//! write and each sync every image is opened as a store and read whole.
 #![tactic(auto)]
 
 mod bench;
+mod cases;
 mod lines;
+mod moments;
+mod runs;
+mod sessions;
 
 use anyhow::Result;
-use bench::Bench;
-use lines::tell_store;
+use cases::tell_cases;
+use runs::tell_runs;
 use std::thread::Threads;
 use test_kit::input;
 
-/// Prints a line that isn't about a store that is open.
-fn tell_line(rt: &impl Print, line: &str) -> Result<()> {
-    println!(rt; "{line}")?;
-    Ok(())
-}
-
-/// Prints the lines from one on with their answers, as long as they are over one disk. The place of the next one is the answer.
-fn tell_disk(
-    rt: &(impl Print + AllocGlobal + Threads + Sync),
-    bench: &mut Bench,
-    lines: &[&str],
-    from: usize,
-) -> Result<usize> {
-    let mut at = from;
-    for _ in from..lines.len() {
-        if at >= lines.len() {
-            break;
-        }
-        let line = lines[at];
-        if at > from && line != "open" {
-            break;
-        }
-        at = tell_store(rt, bench, lines, at.saturating_add(1), line)?;
-    }
-    Ok(at)
-}
-
-/// The disk that a line makes; none where it makes none.
-fn bench_of(rt: &impl AllocGlobal, line: &str) -> Result<Option<Bench>> {
-    let words: Vec<&str> = line.split_whitespace().collect(rt.alloc())?;
-    let bench = Bench::of(rt.alloc(), words.as_slice());
-    drop(words);
-    bench
-}
-
-/// Prints a line with its answer, and the lines behind it that are over the disk that it makes. The place of the next one is the answer.
-fn tell_from(
-    rt: &(impl Print + AllocGlobal + Threads + Sync),
-    lines: &[&str],
-    at: usize,
-    line: &str,
-) -> Result<usize> {
-    match bench_of(rt, line)? {
-        Some(mut bench) => {
-            let next = tell_disk(rt, &mut bench, lines, at);
-            drop(bench);
-            next
-        }
-        None => {
-            tell_line(rt, line)?;
-            Ok(at.saturating_add(1))
-        }
+/// Prints the title of a table, and what comes of its lines.
+fn tell_part(rt: &(impl Print + AllocGlobal + Threads + Sync), part: &str) -> Result<()> {
+    let Some((title, text)) = part.split_once('\n') else {
+        return Ok(());
+    };
+    println!(rt; "### {title}")?;
+    match title {
+        "steps" => tell_runs(rt, text),
+        "stops" => tell_cases(rt),
+        _ => Ok(()),
     }
 }
 
 fn main(rt: HostRuntime) -> Result<()> {
     let text = input(&rt)?;
-    let lines: Vec<&str> = text.lines().collect(rt.alloc())?;
-    let mut at = 0;
-    for _ in 0..lines.len() {
-        if at >= lines.len() {
-            break;
-        }
-        at = tell_from(&rt, lines.as_slice(), at, lines[at])?;
+    for part in text.split("### ") {
+        tell_part(&rt, part)?;
     }
     Ok(())
 }

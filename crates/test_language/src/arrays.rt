@@ -1,7 +1,6 @@
 //! The texts of an array.
 
 use crate::schemas::schema_in;
-use anyhow::Result;
 use cell_values::{Bytes, Cell, Datum, List, Memory, Row, coord_of};
 use result_print::{csv_plus, dcsv};
 use std::alloc::Global;
@@ -28,7 +27,7 @@ fn rows_in(alloc: Global, text: &str) -> Result<List<Row>, Memory> {
 }
 
 /// Adds both texts of the array of these cells.
-pub(crate) fn push_cells(out: &mut String, text: &str) -> Result<()> {
+pub(crate) fn push_cells(out: &mut String, text: &str) -> Result<(), Memory> {
     let alloc = *out.allocator();
     let Some(schema) = schema_in(alloc, b"<v:string>[i=0:*,10,0]") else {
         return Ok(());

@@ -1,11 +1,11 @@
 //! The pieces of a script.
 
 use afl_lexer::{SplitStep, Splitter};
-use anyhow::Result;
+use cell_values::Memory;
 use test_kit::push_text;
 
 /// Adds what was told of a piece that ended: the step, where the piece starts and ends, and its bytes.
-fn push_piece(out: &mut String, step: SplitStep, splitter: &Splitter) -> Result<()> {
+fn push_piece(out: &mut String, step: SplitStep, splitter: &Splitter) -> Result<(), Memory> {
     let (start, end, bytes) = splitter.piece();
     match step {
         SplitStep::Piece => out.push_str("piece")?,
@@ -20,7 +20,7 @@ fn push_piece(out: &mut String, step: SplitStep, splitter: &Splitter) -> Result<
 }
 
 /// Adds the pieces of a script, each with its place and a `|` behind it.
-pub(crate) fn push_pieces(out: &mut String, script: &[u8]) -> Result<()> {
+pub(crate) fn push_pieces(out: &mut String, script: &[u8]) -> Result<(), Memory> {
     let mut splitter = Splitter::new(*out.allocator())?;
     for &byte in script {
         let step = splitter.push(byte);

@@ -1,7 +1,6 @@
 //! The texts of changes, listings and refusals.
 
 use crate::schemas::schema_in;
-use anyhow::Result;
 use cell_values::{Bytes, List, Memory, Name};
 use logical_plan::{NameEntry, Names};
 use result_print::{
@@ -38,7 +37,7 @@ fn array_in(alloc: Global, text: &str) -> Option<NameEntry> {
     })
 }
 
-fn push_entry(out: &mut String, entry: &NameEntry) -> Result<()> {
+fn push_entry(out: &mut String, entry: &NameEntry) -> Result<(), Memory> {
     let alloc = *out.allocator();
     push_text(out, show_text(alloc, entry)?.as_slice())?;
     push_text(out, versions_text(alloc, entry)?.as_slice())?;
@@ -48,7 +47,7 @@ fn push_entry(out: &mut String, entry: &NameEntry) -> Result<()> {
 }
 
 /// Adds what is told of the array of a text.
-pub(crate) fn push_array(out: &mut String, text: &str) -> Result<()> {
+pub(crate) fn push_array(out: &mut String, text: &str) -> Result<(), Memory> {
     match array_in(*out.allocator(), text) {
         Some(entry) => push_entry(out, &entry),
         None => {
@@ -70,7 +69,7 @@ fn arrays_in(alloc: Global, text: &str) -> Result<List<NameEntry>, Memory> {
 }
 
 /// Adds the list of the arrays of a text.
-pub(crate) fn push_list(out: &mut String, text: &str) -> Result<()> {
+pub(crate) fn push_list(out: &mut String, text: &str) -> Result<(), Memory> {
     let alloc = *out.allocator();
     let names = Names {
         arrays: arrays_in(alloc, text)?,
@@ -106,7 +105,7 @@ fn refusal_in(text: &str) -> Refusal {
 }
 
 /// Adds the line of the refusal of a text.
-pub(crate) fn push_refusal(out: &mut String, text: &str) -> Result<()> {
+pub(crate) fn push_refusal(out: &mut String, text: &str) -> Result<(), Memory> {
     let line = refusal_line(*out.allocator(), &refusal_in(text))?;
     push_text(out, line.as_slice())?;
     Ok(())

@@ -2,7 +2,6 @@
 ghost use Rattle.std.specs.Prelude.{◌≤◌, length};
 
 use afl_lexer::tokens;
-use anyhow::Result;
 use cell_values::{Bytes, Memory, Schema};
 use schema_grammar::{
     SchemaFault, SchemaText, ShapeFault, TypeKind, meaning, print_shape, schema_text, shape,
@@ -45,7 +44,7 @@ fn rule_text(kind: TypeKind) -> &'static str {
     }
 }
 
-fn push_stop(out: &mut String, fault: ShapeFault) -> Result<()> {
+fn push_stop(out: &mut String, fault: ShapeFault) -> Result<(), Memory> {
     match fault {
         ShapeFault::Unexpected { token } => write!(out, "stop at token {token}")?,
         ShapeFault::Memory => out.push_str("no tokens")?,
@@ -62,14 +61,14 @@ fn copied_text(alloc: Global, schema: &Schema) -> Result<Bytes, Memory> {
 }
 
 /// Adds a copy of a schema.
-fn push_copied(out: &mut String, schema: &Schema) -> Result<()> {
+fn push_copied(out: &mut String, schema: &Schema) -> Result<(), Memory> {
     let text = copied_text(*out.allocator(), schema)?;
     push_text(out, text.as_slice())?;
     Ok(())
 }
 
 /// Adds the schema that a syntax tree means, or the first rule that it breaks with the place.
-fn push_meaning(out: &mut String, text: &[u8], shape: &SchemaText) -> Result<()> {
+fn push_meaning(out: &mut String, text: &[u8], shape: &SchemaText) -> Result<(), Memory> {
     match meaning(*out.allocator(), text, shape) {
         Ok(schema) => push_copied(out, &schema),
         Err(SchemaFault::Rule { span, kind }) => {
@@ -84,7 +83,7 @@ fn push_meaning(out: &mut String, text: &[u8], shape: &SchemaText) -> Result<()>
 }
 
 /// Adds what the schema that begins at a token means, and the token behind it.
-pub(crate) fn push_schema(out: &mut String, text: &[u8], from: usize) -> Result<()>
+pub(crate) fn push_schema(out: &mut String, text: &[u8], from: usize) -> Result<(), Memory>
     requires { length text.now ≤ 1048576 }
 {
     match read(*out.allocator(), text, from) {
@@ -98,14 +97,14 @@ pub(crate) fn push_schema(out: &mut String, text: &[u8], from: usize) -> Result<
 }
 
 /// Adds a copy of a syntax tree.
-fn push_shape(out: &mut String, shape: &SchemaText) -> Result<()> {
+fn push_shape(out: &mut String, shape: &SchemaText) -> Result<(), Memory> {
     let copy = shape.copy()?;
     push_text(out, print_shape(*out.allocator(), &copy)?.as_slice())?;
     Ok(())
 }
 
 /// Adds the schema as a text writes it.
-pub(crate) fn push_tree(out: &mut String, text: &[u8]) -> Result<()>
+pub(crate) fn push_tree(out: &mut String, text: &[u8]) -> Result<(), Memory>
     requires { length text.now ≤ 1048576 }
 {
     match read(*out.allocator(), text, 0) {

@@ -5,7 +5,7 @@ ghost use Rattle.afl_lexer.specs.Tokens.{IsTokenOf};
 use afl_lexer::{
     LexFault, LexKind, Symbol, Token, TokenKind, Word, name_value, text_value, tokens,
 };
-use anyhow::Result;
+use cell_values::Memory;
 use test_kit::push_text;
 
 fn word_text(word: Word) -> &'static str {
@@ -58,7 +58,7 @@ fn fault_text(kind: LexKind) -> &'static str {
 }
 
 /// Adds what a token stands for.
-fn push_meaning(out: &mut String, text: &[u8], token: &Token) -> Result<()>
+fn push_meaning(out: &mut String, text: &[u8], token: &Token) -> Result<(), Memory>
     requires { IsTokenOf text.now token.now }
 {
     let alloc = *out.allocator();
@@ -78,7 +78,7 @@ fn push_meaning(out: &mut String, text: &[u8], token: &Token) -> Result<()>
 }
 
 /// Adds the tokens of a text, each with its place, or where and why it stops to have any.
-pub(crate) fn push_tokens(out: &mut String, text: &[u8]) -> Result<()>
+pub(crate) fn push_tokens(out: &mut String, text: &[u8]) -> Result<(), Memory>
     requires { length text.now ≤ 1048576 }
 {
     match tokens(*out.allocator(), text) {

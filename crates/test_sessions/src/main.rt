@@ -1,46 +1,140 @@
-//! Sessions side by side over one database in memory, each on a thread of its own, held at points of theirs so that their steps come in a
-//! given order.
+//! Runs the program's top call over files in memory, and the sessions below it, and tells what is written and how each run ends.
 //!
-//! A line has six parts with ` | ` between them: the options of `run`; the order; a script that is run before; the scripts of sessions 0 and 1;
-//! and a script that is run after them. Each of the three runs reopens the file that the one before has left.
-//!
-//! The order is a list of stops, as `0p2`: session 0 comes to its statement 2, before its pin (`s`), behind it (`p`), or with its result
-//! computed (`c`); or, as `0w2`, to piece 2 of the work on a statement. A session or a worker that comes to a stop which is named goes on
-//! once all stops before it in the list are behind their sessions. A stop that is named twice is reached at the first place, and left at
-//! the second. Where a session is held too long all stops are let go; it is told where the order wasn't kept. In a script `{3 show(A#);}`
-//! is that text three times, with 0 to 2 for `#`. A line that begins with `##` is a title.
+//! Standard input has tables, each behind a line that begins with `###` and tells what its lines are. In a table a line that begins with
+//! `##` is a title, and is printed as it is; each other line is printed behind `> `, above what comes of it.
 #![tactic(auto)]
 
-mod order;
-mod runs;
-mod scripts;
+mod bells;
+mod commands;
+mod logs;
+mod reports;
+mod seats;
+mod sessions;
+mod steps;
+mod tally;
+mod tries;
 
 use anyhow::Result;
-use runs::tell_case;
+use bells::tell_bells;
+use commands::tell_command;
+use logs::tell_entries;
+use seats::tell_seats;
+use sessions::tell_sessions;
 use std::sync::Wait;
 use std::thread::Threads;
 use std::time::Clock;
+use steps::tell_shared;
+use tally::tell_turns;
 use test_kit::{begin_answer, input};
+use tries::tell_try;
 
-/// Prints a line with what comes of it.
-fn tell_line<R: Print + AllocGlobal + Threads + Wait + Clock + Sync>(
+/// What a line of a table is.
+#[derive(Clone, Copy)]
+enum Kind {
+    Script,
+    Command,
+    Sessions,
+    Seats,
+}
+
+/// A table of cases.
+#[derive(Clone, Copy)]
+enum Table {
+    Lines(Kind),
+    Steps,
+    Turns,
+}
+
+/// The table below a title.
+fn table_of(title: &str) -> Option<Table> {
+    match title {
+        "scripts" => Some(Table::Lines(Kind::Script)),
+        "command lines" => Some(Table::Lines(Kind::Command)),
+        "sessions side by side" => Some(Table::Lines(Kind::Sessions)),
+        "sessions on threads" => Some(Table::Lines(Kind::Seats)),
+        "steps of three sessions" => Some(Table::Steps),
+        "turns" => Some(Table::Turns),
+        _ => None,
+    }
+}
+
+/// Prints a line. Whether it is to be answered is the answer.
+fn begin(rt: &(impl Print + AllocGlobal), line: &str) -> Result<bool> {
+    let mut out = String::new(rt.alloc());
+    let is_case = begin_answer(&mut out, line);
+    let printed = print!(rt; "{out}");
+    drop(out);
+    printed?;
+    Ok(is_case?)
+}
+
+/// Prints what comes of a line.
+fn tell_case<R: Print + AllocGlobal + Threads + Wait + Clock + Sync>(
     rt: &R,
+    kind: Kind,
     line: &str,
 ) -> Result<()> {
-    let mut out = String::new(rt.alloc());
-    let is_case = begin_answer(&mut out, line)?;
-    print!(rt; "{out}")?;
-    if is_case {
-        let parts: Vec<&str> = line.split('|').map(|part| part.trim()).collect(rt.alloc())?;
-        tell_case(rt, parts.as_slice())?;
+    match kind {
+        Kind::Script => tell_try(rt, line),
+        Kind::Command => tell_command(rt, line),
+        Kind::Sessions => tell_sessions(rt, line),
+        Kind::Seats => tell_seats(rt, line),
+    }
+}
+
+/// Prints each line, and what comes of it.
+fn tell_lines<R: Print + AllocGlobal + Threads + Wait + Clock + Sync>(
+    rt: &R,
+    kind: Kind,
+    text: &str,
+) -> Result<()> {
+    for line in text.lines() {
+        if begin(rt, line)? {
+            tell_case(rt, kind, line)?;
+        }
     }
     Ok(())
 }
 
+/// Prints what comes of threads that take turns, and of a bell.
+fn tell_threads(rt: &(impl Print + AllocGlobal + Threads + Wait + Sync)) -> Result<()> {
+    tell_turns(rt)?;
+    tell_entries(rt)?;
+    tell_bells(rt)
+}
+
+/// Prints what comes of a table.
+fn tell_table<R: Print + AllocGlobal + Threads + Wait + Clock + Sync>(
+    rt: &R,
+    table: Table,
+    text: &str,
+) -> Result<()> {
+    match table {
+        Table::Lines(kind) => tell_lines(rt, kind, text),
+        Table::Steps => tell_shared(rt, text),
+        Table::Turns => tell_threads(rt),
+    }
+}
+
+/// Prints the title of a table, and what comes of its lines.
+fn tell_part<R: Print + AllocGlobal + Threads + Wait + Clock + Sync>(
+    rt: &R,
+    part: &str,
+) -> Result<()> {
+    let Some((title, text)) = part.split_once('\n') else {
+        return Ok(());
+    };
+    println!(rt; "### {title}")?;
+    match table_of(title) {
+        Some(table) => tell_table(rt, table, text),
+        None => Ok(()),
+    }
+}
+
 fn main(rt: HostRuntime) -> Result<()> {
     let text = input(&rt)?;
-    for line in text.lines() {
-        tell_line(&rt, line)?;
+    for part in text.split("### ") {
+        tell_part(&rt, part)?;
     }
     Ok(())
 }

@@ -1,7 +1,7 @@
 //! A list, its calls, and what was taken from it.
 
 use cell_values::{Bytes, Memory};
-use std::alloc::Global;
+use std::alloc::{AllocError, Global};
 use std::cmp::Ordering;
 use test_kit::{number_in, push_text};
 
@@ -54,59 +54,94 @@ impl Lists {
         }
     }
 
-    /// Does a call, and adds the item that it gives, if it gives one.
-    fn call(&mut self, out: &mut String, words: &[&str]) -> Result<(), Memory> {
-        match words {
-            ["begin", room] => self.begin(place_in(room))?,
-            ["extend", text] => self.list.extend(text.as_bytes())?,
-            ["push", byte] => self.list.push(byte_of(byte))?,
-            ["insert", at, byte] => self.insert(place_in(at), byte_of(byte))?,
-            ["remove", at] => self.remove(place_in(at)),
-            ["set", at, byte] => self.set(place_in(at), byte_of(byte)),
-            ["append"] => self.list.append(self.taken.copy()?)?,
-            ["truncate", count] => self.list.truncate(place_in(count)),
-            ["clear"] => self.list.clear(),
-            ["copy"] => self.taken = self.list.copy()?,
-            ["take"] => self.taken = self.list.take(),
-            ["get", at] => push_item(out, self.list.get(place_in(at)).copied())?,
-            ["pop"] => push_item(out, self.list.pop())?,
+    /// Does a call without operands, and adds the item that it gives, if it gives one.
+    fn call_plain(&mut self, out: &mut String, word: &str) -> Result<(), Memory> {
+        match word {
+            "append" => self.list.append(self.taken.copy()?)?,
+            "clear" => self.list.clear(),
+            "copy" => self.taken = self.list.copy()?,
+            "take" => self.taken = self.list.take(),
+            "pop" => push_item(out, self.list.pop())?,
             _ => {}
         }
         Ok(())
     }
 
-    /// Adds the list, how many bytes it has and the largest, and how it stands to what was taken.
-    fn push_state(&self, out: &mut String) -> Result<(), Memory> {
-        out.push('\'')?;
-        push_text(out, self.list.as_slice())?;
-        write!(out, "' of {}", self.list.len())?;
-        if let Some(most) = self.list.iter().copied().max() {
-            out.push_str(", largest ")?;
-            push_text(out, &[most])?;
+    /// Does a call with one operand, and adds the item that it gives, if it gives one.
+    fn call_with(&mut self, out: &mut String, word: &str, operand: &str) -> Result<(), Memory> {
+        match word {
+            "begin" => self.begin(place_in(operand))?,
+            "extend" => self.list.extend(operand.as_bytes())?,
+            "push" => self.list.push(byte_of(operand))?,
+            "remove" => self.remove(place_in(operand)),
+            "truncate" => self.list.truncate(place_in(operand)),
+            "get" => push_item(out, self.list.get(place_in(operand)).copied())?,
+            _ => {}
         }
-        out.push_str(match self.list.cmp(&self.taken) {
-            Ordering::Less => ", less than '",
-            Ordering::Equal => ", equal to '",
-            Ordering::Greater => ", more than '",
-        })?;
-        push_text(out, self.taken.as_slice())?;
-        out.push('\'')?;
         Ok(())
+    }
+
+    /// Does a call with a place and a byte.
+    fn call_at(&mut self, word: &str, at: &str, byte: &str) -> Result<(), Memory> {
+        match word {
+            "insert" => self.insert(place_in(at), byte_of(byte)),
+            _ => {
+                self.set(place_in(at), byte_of(byte));
+                Ok(())
+            }
+        }
+    }
+
+    /// Does a call, and adds the item that it gives, if it gives one.
+    fn call(&mut self, out: &mut String, words: &[&str]) -> Result<(), Memory> {
+        match words {
+            [word] => self.call_plain(out, word),
+            [word, operand] => self.call_with(out, word, operand),
+            [word, at, byte] => self.call_at(word, at, byte),
+            _ => Ok(()),
+        }
+    }
+
+    /// Adds the list, how many bytes it has and the largest, and how it stands to what was taken.
+    fn push_state(&self, out: &mut String) -> Result<(), AllocError> {
+        push_list(out, self.list.as_slice())?;
+        out.push_str(standing(self.list.cmp(&self.taken)))?;
+        push_text(out, self.taken.as_slice())?;
+        out.push('\'')
     }
 
     /// Does a call, and adds what it gives and leaves.
     pub(crate) fn push_call(&mut self, out: &mut String, words: &[&str]) -> Result<(), Memory> {
         self.call(out, words)?;
-        self.push_state(out)
+        Ok(self.push_state(out)?)
+    }
+}
+
+/// Adds bytes, how many there are and the largest.
+fn push_list(out: &mut String, list: &[u8]) -> Result<(), AllocError> {
+    out.push('\'')?;
+    push_text(out, list)?;
+    write!(out, "' of {}", list.len())?;
+    if let Some(most) = list.iter().copied().max() {
+        out.push_str(", largest ")?;
+        push_text(out, &[most])?;
+    }
+    Ok(())
+}
+
+fn standing(order: Ordering) -> &'static str {
+    match order {
+        Ordering::Less => ", less than '",
+        Ordering::Equal => ", equal to '",
+        Ordering::Greater => ", more than '",
     }
 }
 
 /// Adds an item of a list.
-fn push_item(out: &mut String, item: Option<u8>) -> Result<(), Memory> {
+fn push_item(out: &mut String, item: Option<u8>) -> Result<(), AllocError> {
     match item {
         Some(byte) => push_text(out, &[byte])?,
         None => out.push_str("nothing")?,
     }
-    out.push_str(" from ")?;
-    Ok(())
+    out.push_str(" from ")
 }

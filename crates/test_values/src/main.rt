@@ -1,78 +1,111 @@
-//! Tells for each line of standard input, a call on values and its operands, what it gives.
+//! Tells for each line of standard input what calls on values, chunks, aggregates and objects in memory give.
 //!
-//! `2 - 5` and `not ?7` are calls of the value table, `name a1` and `code 7` ask for a name and a code. `row`, `bounds` and
-//! `broken` copy what they are given, `order`, `same` and `box` compare coordinates. A line `list ..` calls one list, which
-//! the next such line finds as it was left. In a line `{64 n}` stands for 64 of `n`.
+//! Standard input has tables, each behind a line that begins with `###` and tells what its lines are. In a table a line that begins with
+//! `##` is a title, and is printed as it is; each other line is printed behind `> `, above its answer.
 #![tactic(auto)]
 
+mod aggregates;
+mod calls;
+mod chunks;
+mod coordinates;
+mod disks;
 mod lists;
+mod objects;
+mod payloads;
 mod places;
-mod table;
+mod shelves;
+mod show;
+mod streams;
+mod values;
 
-use anyhow::Result;
-use cell_values::{Bytes, Code, Memory, Name};
+use afl_outside::{Gate, OpenGate, Point};
+use aggregates::push_aggregate_line;
+use cell_values::Memory;
+use chunks::push_chunk_line;
 use lists::Lists;
-use places::{push_bounds, push_box, push_broken, push_order, push_row, push_same};
-use std::str::from_utf8;
-use table::{push_one, push_two};
-use test_kit::{push_text, text_of};
+use objects::push_object_line;
+use std::io;
+use test_kit::{begin_answer, input};
+use values::push_value_line;
 
-/// Adds the name that a text is.
-fn push_name(out: &mut String, text: &str) -> Result<(), Memory> {
-    match Name::new(Bytes::from_slice(*out.allocator(), text.as_bytes())?) {
-        Some(name) => push_text(out, name.as_slice())?,
-        None => out.push_str("no name")?,
+/// A table of cases.
+#[derive(Clone, Copy)]
+enum Table {
+    Values,
+    Chunks,
+    Aggregates,
+    Objects,
+}
+
+/// The table below a title.
+fn table_of(title: &str) -> Option<Table> {
+    match title {
+        "values" => Some(Table::Values),
+        "chunks" => Some(Table::Chunks),
+        "aggregates" => Some(Table::Aggregates),
+        "objects in memory" => Some(Table::Objects),
+        _ => None,
+    }
+}
+
+/// Adds the answer to a line.
+fn push_answer(
+    out: &mut String,
+    table: Table,
+    lists: &mut Lists,
+    line: &str,
+) -> Result<(), Memory> {
+    match table {
+        Table::Values => push_value_line(out, lists, line),
+        Table::Chunks => push_chunk_line(out, line),
+        Table::Aggregates => push_aggregate_line(out, line),
+        Table::Objects => push_object_line(out, line),
+    }
+}
+
+/// Adds each line with its answer.
+fn push_lines(out: &mut String, table: Table, lists: &mut Lists, text: &str) -> Result<(), Memory> {
+    for line in text.lines() {
+        if begin_answer(out, line)? {
+            push_answer(out, table, lists, line)?;
+        }
     }
     Ok(())
 }
 
-/// Adds the code of a number.
-fn push_code(out: &mut String, digits: &str) -> Result<(), Memory> {
-    match Code::new(digits.parse::<u8>().unwrap_or(0)) {
-        Some(code) => write!(out, "code {}", code.number())?,
-        None => out.push_str("no code")?,
-    }
-    Ok(())
+/// Adds the lines of a table with their answers.
+fn push_table(out: &mut String, table: Table, text: &str) -> Result<(), Memory> {
+    let mut lists = Lists::new(*out.allocator());
+    let told = push_lines(out, table, &mut lists, text);
+    drop(lists);
+    told
 }
 
-/// Adds the answer to the words of a line.
-fn push_answer(out: &mut String, lists: &mut Lists, words: &[&str]) -> Result<(), Memory> {
-    match words {
-        ["list", call @ ..] => lists.push_call(out, call),
-        ["name"] => push_name(out, ""),
-        ["name", text] => push_name(out, text),
-        ["code", digits] => push_code(out, digits),
-        ["row", at, values @ ..] => push_row(out, at, values),
-        ["bounds", lo, hi] => push_bounds(out, lo, hi),
-        ["broken", at, kind] => push_broken(out, at, kind),
-        ["order", one, other] => push_order(out, one, other),
-        ["same", one, other] => push_same(out, one, other),
-        ["box", lo, hi, at] => push_box(out, lo, hi, at),
-        [op, a] => push_one(out, op, a),
-        [a, op, b] => push_two(out, a, op, b),
-        _ => Ok(()),
-    }
-}
-
-/// Prints a title, or a line and its answer.
-fn tell(rt: &(impl Print + AllocGlobal), lists: &mut Lists, line: &str) -> Result<()> {
-    if line.starts_with("##") {
-        println!(rt; "{line}")?;
+/// Adds the title of a table, and its lines with their answers.
+fn push_part(out: &mut String, part: &str) -> Result<(), Memory> {
+    let Some((title, text)) = part.split_once('\n') else {
         return Ok(());
+    };
+    writeln!(out, "### {title}")?;
+    match table_of(title) {
+        Some(table) => push_table(out, table, text),
+        None => Ok(()),
     }
-    let text = text_of(rt.alloc(), line.as_bytes())?;
-    let text = from_utf8(text.as_slice()).unwrap_or("");
-    let words: Vec<&str> = text.split_whitespace().collect(rt.alloc())?;
-    let mut answer = String::new(rt.alloc());
-    push_answer(&mut answer, lists, words.as_slice())?;
-    println!(rt; "> {line}\n{answer}")?;
+}
+
+fn push_parts(out: &mut String, text: &str) -> Result<(), Memory> {
+    for part in text.split("### ") {
+        push_part(out, part)?;
+    }
     Ok(())
 }
 
-fn main(rt: HostRuntime) -> Result<()> {
-    let mut lists = Lists::new(rt.alloc());
-    for line in rt.lines(rt.alloc()) {
-        tell(&rt, &mut lists, line?.as_str())?;
+fn main(rt: HostRuntime) -> io::Result<()> {
+    OpenGate.pass(0, Point::Statement(0));
+    let text = input(&rt)?;
+    let mut out = String::new(rt.alloc());
+    match push_parts(&mut out, text.as_str()) {
+        Ok(()) => print!(rt; "{out}"),
+        Err(Memory) => println!(rt; "no memory"),
     }
-    Ok(())
 }

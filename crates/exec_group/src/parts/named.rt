@@ -1,9 +1,16 @@
 //! The groups of cells that agree in some dimensions.
-ghost use Rattle.std.specs.Prelude.{◌≡◌, ◌≤◌, pos, length, slice_index_or, IfOk};
+ghost use Rattle.std.specs.Prelude.{◌≡◌, ◌≤◌, ◌∷◌, [], pos, length, slice_index_or, IfOk};
 ghost use Rattle.logical_plan.specs.BoxOps.{numbers_at};
 ghost use Rattle.exec_group.specs.Sets.{AreKeys};
 
-use cell_values::{Coord, List, Memory, Row, number_at};
+use cell_values::{Coord, List, Memory, Row, coord_of, number_at};
+
+/// The coordinate of the one group of all cells.
+pub(crate) fn zero() -> Coord
+    ensures { result.items ≡ pos 0 ∷ [] }
+{
+    coord_of(&[0])
+}
 
 /// The numbers of a coordinate in these dimensions.
 fn named_key(dims: &[u32], at: &Coord) -> Coord

@@ -1,5 +1,5 @@
 //! The groups of the cells of rows, and of a chunk's core.
-ghost use Rattle.std.specs.Prelude.{◌≡◌, ◌≤◌, ◌<◌, ◌^◌, ◌∷◌, [], pos, length, IsTrue, IfOk};
+ghost use Rattle.std.specs.Prelude.{◌≡◌, ◌≤◌, ◌<◌, ◌^◌, ◌∷◌, [], length, IsTrue, IfOk};
 ghost use Rattle.std.specs.List.{All};
 ghost use Rattle.cell_values.specs.Schemas.{IsValid};
 ghost use Rattle.array_rows.specs.Boxes.{is_inside, bounds_of};
@@ -10,19 +10,13 @@ ghost use Rattle.exec_group.specs.Grouped.{AreGroupsOf};
 ghost use Rattle.exec_group.specs.Inner.Keys.{core_of, aggregate_sets, regrid_sets};
 
 use crate::parts::blocks::block_keys;
+use crate::parts::columns::part_of_columns;
 use crate::parts::cores::rows_of_core;
-use crate::parts::named::named_keys;
+use crate::parts::named::{named_keys, zero};
 use crate::rows::{Groups, groups_of, one_group};
 use array_geom::Chunk;
-use cell_values::{Coord, List, Margins, Memory, Row, Schema, coord_of};
+use cell_values::{List, Margins, Memory, Row, Schema};
 use logical_plan::Aggregate;
-
-/// The coordinate of the one group of all cells.
-fn zero() -> Coord
-    ensures { result.items ≡ pos 0 ∷ [] }
-{
-    coord_of(&[0])
-}
 
 /// The groups of cells that agree in the named dimensions. Without names all are in one group at 0.
 pub fn aggregate_groups(
@@ -63,8 +57,8 @@ pub fn regrid_groups(
     groups_of(rows.allocator(), aggs, keys.as_slice(), rows.as_slice())
 }
 
-/// The groups of the cells of a chunk's core that agree in the named dimensions. Without names all are in one group at 0.
-pub fn aggregate_part(
+/// The groups of a chunk's core from its rows.
+fn part_of_rows(
     schema: &Schema,
     margins: &Margins,
     chunk: Chunk,
@@ -78,6 +72,29 @@ pub fn aggregate_part(
 {
     let rows = rows_of_core(schema, margins, chunk)?;
     aggregate_groups(&rows, aggs, dims)
+}
+
+/// The groups of the cells of a chunk's core that agree in the named dimensions. Without names all are in one group at 0.
+pub fn aggregate_part(
+    schema: &Schema,
+    margins: &Margins,
+    chunk: Chunk,
+    aggs: &[Aggregate],
+    dims: &[u32],
+) -> Result<Groups, Memory>
+    requires cells { HaveCells schema.now margins.now.items (chunk ∷ []) }
+    requires names { length dims.now ≤ 6 }
+    ensures groups { IfOk result (λ part. AreGroupsOf aggs.now (aggregate_sets dims.now (core_of schema.now.dimensions margins.now.items chunk)) part.groups) }
+    ensures cells { IfOk result (λ part. cells_in part.groups ≤ length (core_of schema.now.dimensions margins.now.items chunk)) }
+{
+    let found = part_of_columns(schema, margins, &chunk, aggs, dims)?;
+    match found {
+        Some(groups) => {
+            drop(chunk);
+            Ok(groups)
+        }
+        None => part_of_rows(schema, margins, chunk, aggs, dims),
+    }
 }
 
 /// The groups of the cells of a chunk's core by blocks, which are counted from the low bounds of the array.

@@ -1,6 +1,5 @@
 -- States of the cells that landed at each coordinate, which take one row after the other.
-use Rattle.std.specs.Prelude.{◌≡◌, ℕ, ◌+◌, ℤ, false, List, [], ◌∷◌, ◌++◌, map, Option, Some, None, Ok, Err}
-use Rattle.std.specs.BTreeMap as tree
+use Rattle.std.specs.Prelude.{◌≡◌, ℤ, false, List, [], ◌∷◌, ◌++◌, map, Option, Some, None, Ok, Err}
 use Rattle.std.specs.BTreeMap.{BTreeMap}
 use Rattle.arrayvec.specs.ArrayVec.{ArrayVec}
 use Rattle.cell_values.specs.declared.datum.Broken.{Broken}
@@ -10,10 +9,7 @@ use Rattle.array_rows.specs.Rows.{IsRising}
 use Rattle.logical_plan.specs.declared.parts.Aggregate.{Aggregate}
 use Rattle.logical_plan.specs.Redimension.{Origin, Landed, landed}
 use Rattle.agg_states.specs.Inner.Summary.{Summary}
-use Rattle.exec_group.specs.declared.rows.groups.Group.{Group}
-use Rattle.exec_group.specs.Counts.{cells_of}
-use Rattle.exec_group.specs.Grouped.{IsGroupOf}
-use Rattle.redimension_exec.specs.Inner.Counting.{by_numbers}
+use Rattle.exec_group.specs.Taken.{KeepsGroups}
 use Rattle.redimension_exec.specs.Inner.Grouping.{landed_sets}
 
 -- the rows of those that landed
@@ -22,16 +18,7 @@ rows_in all = map (λ l. l.1) all
 
 -- where cells landed there are their states, and nowhere else
 abbrev pub HoldsStates : List Aggregate → List Landed → BTreeMap (ArrayVec ℤ) (List Summary) → Type 0
-HoldsStates gs all groups = (key : ArrayVec ℤ) → IsGroupOf gs (landed_sets all key.items) (tree.get by_numbers groups key)
-
--- how many cells the states stand for
-abbrev pub cells_kept : List (ArrayVec ℤ × List Summary) → ℕ
-cells_kept [] = 0
-cells_kept (e ∷ entries) = cells_of e.1 + cells_kept entries
-
--- the group of a coordinate's states
-abbrev pub group_of : (ArrayVec ℤ × List Summary) → Group
-group_of e = record { at = e.0; states = e.1 }
+HoldsStates gs all groups = KeepsGroups gs (landed_sets all) groups
 
 -- one row further: it breaks the array, or the states are those with what lands of it
 abbrev pub IsTaken : List Aggregate → List Origin → Bounds → Row → Option Broken

@@ -2,20 +2,21 @@
 ghost use Rattle.std.specs.Prelude.{◌≡◌, ◌+◌, ◌<◌, ◌^◌, ◌≤◌, false, length, map, IfOk};
 ghost use Rattle.array_rows.specs.Rows.{IsRising};
 ghost use Rattle.exec_group.specs.Counts.{cells_in};
+ghost use Rattle.exec_group.specs.Taken.{cells_kept};
 ghost use Rattle.redimension_exec.specs.Inner.Counting.{has_counted};
 ghost use Rattle.redimension_exec.specs.Inner.Grouping.{AreGroupsLanded};
 ghost use Rattle.redimension_exec.specs.Inner.Places.{origin};
-ghost use Rattle.redimension_exec.specs.Inner.Taking.{IsTaken, cells_kept};
+ghost use Rattle.redimension_exec.specs.Inner.Taking.{IsTaken};
 
-use crate::landings::states::{groups_in, take_at};
 use crate::places::{Place, first_numbers};
 use agg_states::AggState;
 use array_rows::is_in_box;
 use cell_values::{Bounds, Broken, Coord, FaultKind, List, Memory, Row, copy_coord};
-use exec_group::Groups;
+use exec_group::{Groups, groups_in, take_rows};
 use logical_plan::Aggregate;
 use std::alloc::Global;
 use std::collections::BTreeMap;
+use std::slice::from_ref;
 
 fn broken_at(row: &Row, kind: FaultKind) -> Broken
     ensures { result ≡ record { at = row.now.at; kind = kind } }
@@ -48,7 +49,7 @@ fn take_next(
             if !is_in_box(bounds, &at) {
                 return Ok(Some(broken_at(row, FaultKind::OutOfBounds)));
             }
-            take_at(groups, alloc, aggregates, at, row)?;
+            take_rows(groups, alloc, aggregates, &at, from_ref(row))?;
             Ok(None)
         }
     }

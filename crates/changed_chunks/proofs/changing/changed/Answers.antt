@@ -29,7 +29,8 @@ returns-in-Store-clause-front g c =
 
 pub returns-in-Store-clause-only : goal.returns-in-Store-clause-only
 returns-in-Store-clause-only g c =
-    store_only c.args.change.now c.args.target.now c.in-Store.name c.in-Store.schema c.in-Store.plan (g.S.ChunkSource.state c.args.source.now) (g.S.ChunkSource.state c.stored.new.source) c.stored.result c.in-Store.is c.stored.ensures.asked c.stored.ensures.front
+    store_only c.args.change.now c.args.target.now c.in-Store.name c.in-Store.schema c.in-Store.plan (g.S.ChunkSource.state c.args.source.now) (g.S.ChunkSource.state c.stored.new.source)
+    c.args.asking.now c.stored.result c.in-Store.is c.stored.ensures.asked c.stored.ensures.front
 
 pub returns-in-Insert-clause-asked : goal.returns-in-Insert-clause-asked
 returns-in-Insert-clause-asked g c =
@@ -41,4 +42,5 @@ returns-in-Insert-clause-front g c =
 
 pub returns-in-Insert-clause-only : goal.returns-in-Insert-clause-only
 returns-in-Insert-clause-only g c =
-    insert_only c.args.change.now c.args.target.now c.in-Insert.name c.in-Insert.schema c.in-Insert.plan (g.S.ChunkSource.state c.args.source.now) (g.S.ChunkSource.state c.inserted.new.source) c.inserted.result c.in-Insert.is c.inserted.ensures.only c.inserted.ensures.some
+    insert_only c.args.change.now c.args.target.now c.in-Insert.name c.in-Insert.schema c.in-Insert.plan (g.S.ChunkSource.state c.args.source.now) (g.S.ChunkSource.state c.inserted.new.source)
+    c.inserted.new.asking c.inserted.result c.in-Insert.is c.inserted.ensures.only c.inserted.ensures.some

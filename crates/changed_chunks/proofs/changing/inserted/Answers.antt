@@ -2,11 +2,11 @@ use Rattle.std.proofs.Common.{List, []}
 use Rattle.cell_values.specs.declared.datum.Row.{Row}
 use Rattle.plan_changes.specs.declared.change.Change.TheVariants.{Insert}
 use Rattle.logical_plan.specs.Meaning.{version_rows}
-use Rattle.plan_changes.specs.Databases.{Database, fitted, rows_if_whole, rows_of}
+use Rattle.plan_changes.specs.Databases.{Database, fitted, rows_of}
 use Rattle.chunk_source.specs.Source.{AsksFront}
 use Rattle.chunk_source.proofs.ReadLemmas.{on_err}
-use Rattle.changed_chunks.specs.Changing.{asked_of_all, asked_with}
-use Rattle.changed_chunks.proofs.Asked.{asked_then, asked_there, counted_there, front_plan, front_then, front_there}
+use Rattle.changed_chunks.specs.Changing.{asked_of_all, asked_with, rows_without_fault}
+use Rattle.changed_chunks.proofs.Asked.{asked_then, asked_there, counted_then, counted_there, front_plan, front_then, front_there}
 use Rattle.changed_chunks.proofs.changing.inserted.Goals as goal
 
 pub returns-in_err-input-clause-front : goal.returns-in_err-input-clause-front
@@ -16,7 +16,7 @@ returns-in_err-input-clause-front g c =
     let schema = c.args.schema.now in
     let plan = c.args.plan.now in
     let front : (db : Database) → old.tells (rows_of db) → AsksFront (asked_of_all db old (Insert [] schema plan) c.args.target.now) old new
-    = λ db tells. front_plan plan c.args.target.now schema.dimensions (rows_if_whole (fitted schema plan db)) old new c.in_err-input.ensures.front in
+    = λ db tells. front_plan plan c.args.target.now schema.dimensions (rows_without_fault (fitted schema plan db)) old new c.in_err-input.ensures.front in
     on_err _ _ front
 
 pub returns-in_err-input-clause-some : goal.returns-in_err-input-clause-some
@@ -60,12 +60,22 @@ returns-in_ok-put_over_target-in-Ok-clause-asked g c db tells =
     c.in_ok-input.ensures.kept c.in_ok-input.ensures.asked c.in_ok-put_over_target-in-Ok.ensures.asked)
 
 pub returns-in_ok-put_over_target-in-Ok-clause-only : goal.returns-in_ok-put_over_target-in-Ok-clause-only
-returns-in_ok-put_over_target-in-Ok-clause-only g c = (
-  c.in-Ok.input,
-  asked_then c.args.plan.now c.args.target.now c.args.schema.now.dimensions c.in-Ok.input
-      (g.S.ChunkSource.state c.args.source.now) (g.S.ChunkSource.state c.input_of.new.source) (g.S.ChunkSource.state c.put_over_target.new.source)
-      c.in_ok-input.ensures.kept c.in_ok-input.ensures.asked c.in_ok-put_over_target-in-Ok.ensures.asked,
-)
+returns-in_ok-put_over_target-in-Ok-clause-only g c =
+    let plan = c.args.plan.now in
+    let target = c.args.target.now in
+    let old = g.S.ChunkSource.state c.args.source.now in
+    let mid = g.S.ChunkSource.state c.input_of.new.source in
+    let new = g.S.ChunkSource.state c.put_over_target.new.source in
+    let dims = c.args.schema.now.dimensions in
+    let kept = c.in_ok-input.ensures.kept in
+    let before = c.in_ok-input.ensures.asked in (
+      c.in-Ok.input,
+      asked_then plan target dims c.in-Ok.input old mid new kept before c.in_ok-put_over_target-in-Ok.ensures.asked,
+      counted_then plan target dims c.in-Ok.input old mid new kept before c.put_over_target.new.asking c.in_ok-put_over_target-in-Ok.ensures.over,
+    )
+
+pub returns-in-Err-clause-only : goal.returns-in-Err-clause-only
+returns-in-Err-clause-only g c = ([], c.in_ok-input.ensures.asked, tt)
 
 pub returns-in_ok-put_over_target-in-Ok-clause-counted : goal.returns-in_ok-put_over_target-in-Ok-clause-counted
 returns-in_ok-put_over_target-in-Ok-clause-counted g c db tells =

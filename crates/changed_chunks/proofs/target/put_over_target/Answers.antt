@@ -1,6 +1,7 @@
-use Rattle.std.proofs.Common.{◌∙◌}
+use Rattle.std.proofs.Common.{List, ap, ◌∙◌}
+use Rattle.cell_values.specs.declared.datum.Row.{Row}
 use Rattle.logical_plan.specs.Meaning.{version_rows}
-use Rattle.changed_chunks.specs.Targets.{asking_put}
+use Rattle.changed_chunks.specs.Targets.{asking_over, asking_put}
 use Rattle.changed_chunks.proofs.Written.{over_told}
 use Rattle.changed_chunks.proofs.target.put_over_target.Goals as goal
 
@@ -13,3 +14,7 @@ pub returns-clause-counted : goal.returns-clause-counted
 returns-clause-counted g c db tells =
     c.in_ok-old.ensures.counted db tells
     ∙ (λ i. asking_put (c.requires.schema i).dimensions (c.in_ok-put.ensures.rows i) (version_rows db c.args.target.now.name c.args.target.now.version))
+
+pub returns-clause-over : goal.returns-clause-over
+returns-clause-over g c =
+    c.in_ok-old.ensures.over ∙ ap (λ (rows : List Row). asking_over (g.S.ChunkSource.state c.args.source.now) rows c.args.target.now) c.in_ok-put.ensures.rows

@@ -1,5 +1,4 @@
-use Rattle.std.proofs.Common.{◌≡◌, ℕ, List, ap, ◌∙◌, subst}
-use Rattle.arrayvec.specs.ArrayVec.{ArrayVec}
+use Rattle.std.proofs.Common.{ap, ◌∙◌, subst}
 use Rattle.cell_values.specs.declared.schema.Schema.{Schema}
 use Rattle.cell_values.specs.Schemas.{IsValid}
 use Rattle.array_parts.specs.Cores.{cores_of}
@@ -9,7 +8,7 @@ use Rattle.leaf_parts.proofs.ReadLaws.{wanted_among}
 use Rattle.changed_chunks.specs.Wanted.{is_wanted, target_wanted}
 use Rattle.changed_chunks.proofs.Asked.{asked_listed, front_listed}
 use Rattle.changed_chunks.proofs.Chunks.{read_stored}
-use Rattle.changed_chunks.proofs.Counted.{asking_told, whatever}
+use Rattle.changed_chunks.proofs.Counted.{asking_is, asking_listed, asking_told, whatever}
 use Rattle.changed_chunks.proofs.Serves.{read_serves}
 use Rattle.changed_chunks.proofs.target.read_wanted.Goals as goal
 
@@ -32,10 +31,23 @@ returns-clause-told g c =
 
 pub returns-clause-counted : goal.returns-clause-counted
 returns-clause-counted g c =
+    let leaf = c.args.leaf.now in
+    let rows = cores_of c.args.put.now in
     whatever c.read_chunks.result _
-    (λ chunks db tells. asking_told db c.args.leaf.now c.args.put.now.schema (cores_of c.args.put.now) c.in_ok-listed.listed c.in_ok-wanted.wanted c.as_slice.result.now c.as_slice-2.result.now
-    c.count_chunks-asked.result c.count_chunks-stored.result c.requires.schema c.requires.put.holds.rows_of.valid c.in_ok-wanted.ensures c.as_slice.ensures c.as_slice-2.ensures
-    c.count_chunks-asked.ensures c.count_chunks-stored.ensures c.in_ok-listed.ensures.rising (c.in_ok-listed.ensures.told db tells))
+    (λ chunks db tells. asking_told leaf rows c.in_ok-listed.listed _
+    (asking_is leaf c.args.put.now.schema rows c.in_ok-listed.listed c.in_ok-wanted.wanted c.as_slice.result.now c.as_slice-2.result.now c.count_chunks-asked.result c.count_chunks-stored.result
+    c.requires.schema c.in_ok-wanted.ensures c.as_slice.ensures c.as_slice-2.ensures c.count_chunks-asked.ensures c.count_chunks-stored.ensures)
+    db (subst IsValid c.requires.schema c.requires.put.holds.rows_of.valid) c.in_ok-listed.ensures.rising (c.in_ok-listed.ensures.told db tells))
+
+pub returns-clause-over : goal.returns-clause-over
+returns-clause-over g c =
+    let leaf = c.args.leaf.now in
+    let rows = cores_of c.args.put.now in
+    whatever c.read_chunks.result _
+    (λ chunks. asking_listed leaf rows c.in_ok-listed.listed _
+    (asking_is leaf c.args.put.now.schema rows c.in_ok-listed.listed c.in_ok-wanted.wanted c.as_slice.result.now c.as_slice-2.result.now c.count_chunks-asked.result c.count_chunks-stored.result
+    c.requires.schema c.in_ok-wanted.ensures c.as_slice.ensures c.as_slice-2.ensures c.count_chunks-asked.ensures c.count_chunks-stored.ensures)
+    (g.S.ChunkSource.state c.args.source.now) c.in_ok-listed.ensures.listed)
 
 pub returns-clause-asked : goal.returns-clause-asked
 returns-clause-asked g c =

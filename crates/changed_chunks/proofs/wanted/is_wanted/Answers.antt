@@ -1,6 +1,5 @@
 use Rattle.std.proofs.Common.{◌≡◌, true, sym, ◌∙◌}
 use Rattle.array_geom.specs.Geometry.{has_core}
-use Rattle.array_parts.specs.Cores.{cores_of}
 use Rattle.changed_chunks.proofs.Written.{is_wanted_there, same_answer}
 use Rattle.changed_chunks.proofs.wanted.is_wanted.Goals as goal
 

@@ -5,7 +5,7 @@ use Rattle.cell_values.specs.declared.schema.Bounds.{Bounds}
 use Rattle.chunk_source.specs.Source.{Reads}
 use Rattle.logical_plan.specs.declared.parts.Leaf.{Leaf}
 use Rattle.leaf_numbers.proofs.SufficientLaws.{whole_needs}
-use Rattle.plan_traces.proofs.Tracing.{lines_alone, told_alone, valid_leaves}
+use Rattle.plan_traces.proofs.Tracing.{over_alone, told_alone, valid_leaves}
 use Rattle.plan_traces.proofs.lines.plan_lines.Goals as goal
 
 pub push_lines-requires-clause-reads : goal.push_lines-requires-clause-reads
@@ -21,12 +21,12 @@ push_lines-requires-clause-each g c =
     ap (λ (boxes : List Bounds). length boxes) (c.as_slice-2.ensures ∙ c.in_ok-boxes.ensures) ∙ whole_needs c.args.plan.now
     ∙ sym (ap (λ (all : List Leaf). length all) (c.as_slice.ensures ∙ c.in_ok-leaves.ensures))
 
-pub returns-clause-each : goal.returns-clause-each
-returns-clause-each g c =
-    lines_alone (g.S.ChunkSource.state c.args.source.now).tells c.args.plan.now c.as_slice.result.now c.as_slice-2.result.now _ _ c.new-lines.ensures
-    (c.as_slice.ensures ∙ c.in_ok-leaves.ensures) c.in_ok-push_lines.ensures.lines
+pub returns-clause-over : goal.returns-clause-over
+returns-clause-over g c =
+    over_alone (g.S.ChunkSource.state c.args.source.now) c.args.plan.now c.as_slice.result.now c.as_slice-2.result.now _ _ c.new-lines.ensures
+    (c.as_slice.ensures ∙ c.in_ok-leaves.ensures) (c.as_slice-2.ensures ∙ c.in_ok-boxes.ensures) c.in_ok-push_lines.ensures.lines
 
 pub returns-clause-told : goal.returns-clause-told
-returns-clause-told g c db tells =
-    told_alone (g.S.ChunkSource.state c.args.source.now).tells c.args.plan.now c.as_slice.result.now c.as_slice-2.result.now _ _ c.new-lines.ensures
-    (c.as_slice.ensures ∙ c.in_ok-leaves.ensures) (c.as_slice-2.ensures ∙ c.in_ok-boxes.ensures) c.in_ok-push_lines.ensures.lines db tells
+returns-clause-told g c =
+    told_alone (g.S.ChunkSource.state c.args.source.now) c.args.plan.now c.as_slice.result.now c.as_slice-2.result.now _ _ c.new-lines.ensures
+    (c.as_slice.ensures ∙ c.in_ok-leaves.ensures) (c.as_slice-2.ensures ∙ c.in_ok-boxes.ensures) c.in_ok-push_lines.ensures.lines

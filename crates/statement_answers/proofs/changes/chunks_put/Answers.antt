@@ -46,4 +46,4 @@ returns-in-Ok-clause-asked g c =
     let new = g.S.ChunkSource.state c.changed.new.source in
     subst (λ made. ForRowsPut c.args.names.now old (Ok (AChange c.args.change.now)) (λ rows. new.asked ≡ old.asked ++ asked_made rows old c.args.names.now c.args.change.now (with_chunks made))) c.in-Ok.is
     (put_asked c.args.names.now c.args.change.now c.args.name.now c.args.schema.now c.in_ok-target.target c.in_ok-target.ensures c.requires.put old new
-    c.in_ok-changed.field-0 c.in_ok-changed.ensures.asked c.in_ok-changed.ensures.only)
+    c.changed.new.asking c.in_ok-changed.field-0 c.in_ok-changed.ensures.asked c.in_ok-changed.ensures.only)

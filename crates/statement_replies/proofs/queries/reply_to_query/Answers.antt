@@ -15,7 +15,7 @@ answer_query-answer-requires-clause-can g c κs within =
 
 pub returns-in-Ok-clause-reply : goal.returns-in-Ok-clause-reply
 returns-in-Ok-clause-reply g c =
-    plan_answer c.args.style c.args.names.now (g.S.ChunkSource.state c.args.source.now).tells c.args.tree.now c.answer_query-answer.result c.in-Ok.plan c.in-Ok.ensures c.answer_query-answer.ensures.kind c.answer_query-answer.ensures.told
+    plan_answer c.args.style c.args.names.now (g.S.ChunkSource.state c.args.source.now) c.args.tree.now c.answer_query-answer.result c.in-Ok.plan c.in-Ok.ensures c.answer_query-answer.ensures.kind c.answer_query-answer.ensures.told
 
 pub returns-in-Ok-clause-asked : goal.returns-in-Ok-clause-asked
 returns-in-Ok-clause-asked g c =
@@ -32,7 +32,7 @@ returns-in_ok-refuse-in-Err-Rule-clause-reply g c =
     let checked = query_of c.args.names.now.arrays c.args.tree.now in
     let rule = c.in-Err-Rule in
     let is : checked ≡ refused rule.span rule.kind = subst (λ (f : TypeFault). Answers {A = Query} (Err f) checked) rule.field-0-is rule.ensures in
-    of_breach c.args.style c.args.names.now (g.S.ChunkSource.state c.args.source.now).tells c.args.tree.now rule.span rule.kind c.in_ok-refuse-in-Err-Rule.field-0 is
+    of_breach c.args.style c.args.names.now (g.S.ChunkSource.state c.args.source.now) c.args.tree.now rule.span rule.kind c.in_ok-refuse-in-Err-Rule.field-0 is
     (c.in_ok-refuse-in-Err-Rule.ensures ∙ (λ i. told (Typing (rule.span-is i) (rule.kind-is i))))
 
 pub returns-in_ok-refuse-in-Err-Rule-clause-asked : goal.returns-in_ok-refuse-in-Err-Rule-clause-asked

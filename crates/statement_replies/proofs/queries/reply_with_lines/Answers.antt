@@ -2,12 +2,13 @@ use Rattle.logical_plan.specs.Meaning.{meaning}
 use Rattle.logical_plan.specs.PlanSchema.{schema_of}
 use Rattle.plan_traces.specs.Traced.{plan_lines}
 use Rattle.statement_replies.specs.Reply.{traced}
-use Rattle.statement_replies.proofs.PlanReplies.{lines_reply, rows_kind}
+use Rattle.statement_replies.proofs.PlanReplies.{lines_reply, rows_over}
 use Rattle.statement_replies.proofs.queries.reply_with_lines.Goals as goal
 
 pub returns-clause-kind : goal.returns-clause-kind
 returns-clause-kind g c schema =
-    rows_kind c.args.style c.args.plan.now c.in_ok-lines.lines c.in_ok-reply_of.field-0 c.in_ok-lines.ensures.kind (c.in_ok-reply_of.ensures.kind (schema_of c.args.plan.now) schema)
+    rows_over (g.S.ChunkSource.state c.args.source.now) c.args.style c.args.plan.now c.in_ok-lines.lines c.in_ok-reply_of.field-0 c.in_ok-lines.ensures.over
+    (c.in_ok-reply_of.ensures.kind (schema_of c.args.plan.now) schema)
 
 pub returns-clause-told : goal.returns-clause-told
 returns-clause-told g c db tells found =

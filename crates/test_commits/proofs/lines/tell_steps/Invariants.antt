@@ -1,4 +1,4 @@
-use Rattle.test_steps.specs.Runs.{IsRun}
+use Rattle.test_commits.specs.Runs.{IsRun}
 use Rattle.test_commits.proofs.lines.tell_steps.Given as goal
 
 abbrev pub invariant-loop-at : goal.invariant-loop-at

@@ -1,6 +1,6 @@
 use Rattle.std.proofs.Common.{length}
 use Rattle.std.specs.Map.{values_of}
-use Rattle.redimension_exec.proofs.StateLaws.{none_left}
+use Rattle.exec_group.proofs.TakenLaws.{none_left}
 use Rattle.redimension_exec.proofs.TellLaws.{can_next, tell_first, tell_last, tell_next}
 use Rattle.redimension_exec.proofs.filling.telling.told_chunks.Goals as goal
 

@@ -1,0 +1,82 @@
+//! The group of all cells of a chunk's core, from its columns: no list of values is made for a cell.
+ghost use Rattle.std.specs.Prelude.{◌≡◌, ◌≤◌, ◌<◌, ◌^◌, ◌∷◌, [], pos, map, length, IsTrue, IfOk, IfSome};
+ghost use Rattle.std.specs.List.{AllByRecursion};
+ghost use Rattle.array_rows.specs.Boxes.{is_inside};
+ghost use Rattle.array_geom.specs.Geometry.{coordinate_in, volume};
+ghost use Rattle.array_geom.specs.Inner.Ranges.{IsGrid};
+ghost use Rattle.array_parts.specs.Cores.{HaveCells};
+ghost use Rattle.exec_group.specs.Counts.{cells_in};
+ghost use Rattle.exec_group.specs.Grouped.{AreGroupsOf};
+ghost use Rattle.exec_group.specs.Inner.Keys.{aggregate_sets, core_of};
+ghost use Rattle.exec_group.specs.Sets.{one_set};
+
+use crate::parts::named::zero;
+use crate::rows::{Groups, one_of_columns};
+use array_geom::{Chunk, Grid, core_box, grid_of};
+use array_rows::is_in_box;
+use cell_columns::Cells;
+use cell_values::{Bounds, List, Margins, Memory, Schema};
+use logical_plan::Aggregate;
+
+/// Whether cells can be counted.
+fn are_few(cells: &Cells) -> bool
+    ensures { IsTrue result → length cells.now < 2 ^ 63 }
+{
+    cells.len() < 1 << 63
+}
+
+/// Whether each place is in a box.
+fn places_inside(grid: &Grid, area: &Bounds, positions: &List<u64>) -> Result<List<bool>, Memory>
+    requires grid { IsGrid grid.now }
+    requires inside { AllByRecursion (λ p. p < volume grid.now.lengths.items) positions.now }
+    ensures { IfOk result (λ inside. inside ≡ map (λ p. is_inside area.now (coordinate_in grid.now.low.items grid.now.lengths.items p)) positions.now) }
+{
+    let mut inside = List::with_capacity(positions.allocator(), positions.len())?;
+    for position in positions.as_slice() {
+        inside.push(is_in_box(area, &grid.place(*position)))?;
+    }
+    Ok(inside)
+}
+
+/// The one group of all cells of a chunk's core, where all values of each aggregate are kept as numbers.
+fn group_of_core(
+    schema: &Schema,
+    margins: &Margins,
+    chunk: &Chunk,
+    aggs: &[Aggregate],
+) -> Result<Option<Groups>, Memory>
+    requires { HaveCells schema.now margins.now.items (chunk.now ∷ []) }
+    ensures groups { IfOk result (λ found. IfSome found (λ part.
+        AreGroupsOf aggs.now (one_set (pos 0 ∷ []) (core_of schema.now.dimensions margins.now.items chunk.now)) part.groups)) }
+    ensures cells { IfOk result (λ found. IfSome found (λ part.
+        cells_in part.groups ≤ length (core_of schema.now.dimensions margins.now.items chunk.now))) }
+{
+    if !are_few(&chunk.cells) {
+        return Ok(None);
+    }
+    let grid = grid_of(schema, margins, &chunk.at);
+    let core = core_box(schema, &chunk.at);
+    let inside = places_inside(&grid, &core, &chunk.positions)?;
+    let alloc = chunk.positions.allocator();
+    one_of_columns(alloc, aggs, &zero(), &chunk.cells, inside.as_slice())
+}
+
+/// The groups of a chunk's core from its columns, where no dimension is named.
+pub(crate) fn part_of_columns(
+    schema: &Schema,
+    margins: &Margins,
+    chunk: &Chunk,
+    aggs: &[Aggregate],
+    dims: &[u32],
+) -> Result<Option<Groups>, Memory>
+    requires { HaveCells schema.now margins.now.items (chunk.now ∷ []) }
+    ensures groups { IfOk result (λ found. IfSome found (λ part.
+        AreGroupsOf aggs.now (aggregate_sets dims.now (core_of schema.now.dimensions margins.now.items chunk.now)) part.groups)) }
+    ensures cells { IfOk result (λ found. IfSome found (λ part.
+        cells_in part.groups ≤ length (core_of schema.now.dimensions margins.now.items chunk.now))) }
+{
+    match dims {
+        [] => group_of_core(schema, margins, chunk, aggs),
+        [_, ..] => Ok(None),
+    }
+}

@@ -1,5 +1,0 @@
-use Rattle.std.proofs.Common.{length}
-use Rattle.redimension_exec.proofs.landings.states.+with_row.Given as goal
-
-abbrev pub decreases-with_row : goal.decreases-with_row
-decreases-with_row l = length l.states

@@ -1,0 +1,164 @@
+//! Changes of each kind: the bytes of their records, and those of the catalogue after them.
+ghost use Rattle.std.specs.Prelude.{◌≡◌, IsTrue, Some, None};
+ghost use Rattle.plan_changes.specs.Allowed.{names_allow};
+ghost use Rattle.version_catalog.specs.Catalogs.{names_in};
+ghost use Rattle.catalog_changes.specs.Changed.{has_its_directory};
+ghost use Rattle.version_catalog.specs.declared.rules.catalog.BlobAt.{BlobAt as ABlob};
+ghost use Rattle.test_catalogs.specs.Worked.{worked_catalog};
+
+use crate::changing::{blob, catalog, create, cut, insert, remove, store};
+use crate::vectors::*;
+use catalog_changes::*;
+use cell_values::{Bytes, Memory};
+use plan_changes::Change;
+use version_catalog::{BlobAt, Catalog, *};
+
+/// The bytes of a change's record.
+fn recorded(catalog: &Catalog, change: &Change, directory: Option<BlobAt>) -> Result<Bytes, Memory>
+    requires names { IsTrue (names_allow (names_in catalog.now) change.now) }
+    requires directory { IsTrue (has_its_directory change.now directory) }
+{
+    let entry = record_of(catalog, change, directory)?;
+    let bytes = encode_record(catalog.arrays.allocator(), &entry);
+    drop(entry);
+    bytes
+}
+
+/// The bytes of the catalogue after a change.
+fn changed(catalog: &Catalog, change: &Change, directory: Option<BlobAt>) -> Result<Bytes, Memory>
+    requires names { IsTrue (names_allow (names_in catalog.now) change.now) }
+    requires directory { IsTrue (has_its_directory change.now directory) }
+{
+    let after = with_change(catalog, change, directory)?;
+    encode_catalog(catalog.arrays.allocator(), &after)
+}
+
+/// Whether a change without a directory has this record, and leaves this catalogue.
+fn makes(catalog: &Catalog, change: &Change, record: &[u8], after: &[u8]) -> Result<bool, Memory>
+    requires names { IsTrue (names_allow (names_in catalog.now) change.now) }
+    requires directory { IsTrue (has_its_directory change.now None) }
+{
+    let entry = recorded(catalog, change, None)?;
+    let bytes = changed(catalog, change, None)?;
+    Ok(entry.as_slice() == record && bytes.as_slice() == after)
+}
+
+/// The same of a change with a directory of 8 bytes in page 9.
+fn writes(catalog: &Catalog, change: &Change, record: &[u8], after: &[u8]) -> Result<bool, Memory>
+    requires names { IsTrue (names_allow (names_in catalog.now) change.now) }
+    requires directory { (directory : ABlob) → IsTrue (has_its_directory change.now (Some directory)) }
+{
+    let alloc = catalog.arrays.allocator();
+    let entry = recorded(catalog, change, Some(blob(alloc, 8, 9)?))?;
+    let bytes = changed(catalog, change, Some(blob(alloc, 8, 9)?))?;
+    Ok(entry.as_slice() == record && bytes.as_slice() == after)
+}
+
+/// The same, and the change goes: by `drop`, whose proof is one for all, and not at the end of a scope, where it would be
+/// proved in each.
+fn is_made(catalog: &Catalog, change: Change, record: &[u8], after: &[u8]) -> Result<bool, Memory>
+    requires names { IsTrue (names_allow (names_in catalog.now) change) }
+    requires directory { IsTrue (has_its_directory change None) }
+{
+    let told = makes(catalog, &change, record, after);
+    drop(change);
+    told
+}
+
+fn is_written(
+    catalog: &Catalog,
+    change: Change,
+    record: &[u8],
+    after: &[u8],
+) -> Result<bool, Memory>
+    requires names { IsTrue (names_allow (names_in catalog.now) change) }
+    requires directory { (directory : ABlob) → IsTrue (has_its_directory change (Some directory)) }
+{
+    let told = writes(catalog, &change, record, after);
+    drop(change);
+    told
+}
+
+fn is_start(catalog: &Catalog) -> Result<bool, Memory> {
+    let bytes = encode_catalog(catalog.arrays.allocator(), catalog)?;
+    Ok(bytes.as_slice() == START.as_slice())
+}
+
+fn is_created(catalog: &Catalog) -> Result<bool, Memory>
+    requires { catalog.now ≡ worked_catalog }
+{
+    let change = create(catalog.arrays.allocator())?;
+    is_made(catalog, change, &CREATE_RECORD, &CREATED)
+}
+
+fn is_stored_first(catalog: &Catalog) -> Result<bool, Memory>
+    requires { catalog.now ≡ worked_catalog }
+{
+    let change = store(catalog.arrays.allocator(), b'B')?;
+    is_written(catalog, change, &FIRST_RECORD, &STORED)
+}
+
+fn is_stored_next(catalog: &Catalog) -> Result<bool, Memory>
+    requires { catalog.now ≡ worked_catalog }
+{
+    let change = store(catalog.arrays.allocator(), b'A')?;
+    is_written(catalog, change, &NEXT_RECORD, &NEXT)
+}
+
+fn is_inserted(catalog: &Catalog) -> Result<bool, Memory>
+    requires { catalog.now ≡ worked_catalog }
+{
+    let change = insert(catalog.arrays.allocator())?;
+    is_written(catalog, change, &NEXT_RECORD, &NEXT)
+}
+
+fn is_removed(catalog: &Catalog) -> Result<bool, Memory>
+    requires { catalog.now ≡ worked_catalog }
+{
+    let change = remove(catalog.arrays.allocator())?;
+    is_made(catalog, change, &REMOVE_RECORD, &REMOVED)
+}
+
+fn is_cut(catalog: &Catalog) -> Result<bool, Memory>
+    requires { catalog.now ≡ worked_catalog }
+{
+    let change = cut(catalog.arrays.allocator())?;
+    is_made(catalog, change, &CUT_RECORD, &CUT)
+}
+
+/// Whether the catalogue has its bytes, and each kind of change its record and its catalogue.
+fn are_as_written(catalog: &Catalog) -> Result<[bool; 7], Memory>
+    requires { catalog.now ≡ worked_catalog }
+{
+    Ok([
+        is_start(catalog)?,
+        is_created(catalog)?,
+        is_stored_first(catalog)?,
+        is_stored_next(catalog)?,
+        is_inserted(catalog)?,
+        is_removed(catalog)?,
+        is_cut(catalog)?,
+    ])
+}
+
+/// What is compared, in this order.
+const KINDS: [&str; 7] = [
+    "the catalogue",
+    "an array that is created",
+    "a first version",
+    "a next version",
+    "an insert",
+    "an array that is removed",
+    "versions that are removed",
+];
+
+/// Prints of each kind of change whether its record, and the catalogue behind it, have the bytes that were spelled by hand.
+pub(crate) fn tell_changes(rt: &(impl Print + AllocGlobal)) -> anyhow::Result<()> {
+    let catalog = catalog(rt.alloc())?;
+    let told = are_as_written(&catalog);
+    drop(catalog);
+    for (kind, is_same) in KINDS.iter().zip(told?.iter()) {
+        println!(rt; "{kind}: {is_same}")?;
+    }
+    Ok(())
+}

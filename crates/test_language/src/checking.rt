@@ -1,0 +1,96 @@
+//! What checking makes of a statement over a few stored arrays: the versions that it reads and the schema of what it gives, the change or
+//! listing that it is, or the first rule that it breaks with the place.
+//!
+//! Behind `#full `, `#last ` and `#none ` a statement is checked over other arrays: as many as there may be, and an array with a number
+//! for one more version or for none.
+ghost use Rattle.check_queries.specs.Arrays.{AreValid};
+
+use crate::stored::{Arrays, names};
+use crate::told::push_typed;
+use afl_parser::parse;
+use afl_trees::{Tree, let_go_tree};
+use afl_types::{TypeFault, check, let_go_typed};
+use cell_values::{Memory, Span};
+use logical_plan::Names;
+use result_print::{Refusal, refusal_line};
+use schema_grammar::TypeKind;
+use std::str::from_utf8;
+
+/// How many bytes a statement may have.
+const LIMIT: usize = 1_048_576;
+
+/// Adds the rule that a statement breaks, with the place.
+fn push_fault(out: &mut String, span: Span, kind: TypeKind) -> Result<(), Memory> {
+    let line = refusal_line(*out.allocator(), &Refusal::Typing { span, kind })?;
+    let text = match line.as_slice() {
+        [text @ .., b'\n'] => text,
+        text => text,
+    };
+    let told = out.push_str(from_utf8(text).unwrap_or("no text"));
+    drop(line);
+    Ok(told?)
+}
+
+/// Adds what checking answers to a tree.
+fn push_checked(out: &mut String, text: &[u8], tree: &Tree, names: &Names) -> Result<(), Memory>
+    requires { AreValid names.now.arrays }
+{
+    match check(*out.allocator(), tree, text, names) {
+        Ok(typed) => {
+            let told = push_typed(out, &typed);
+            let_go_typed(typed);
+            told
+        }
+        Err(TypeFault::Rule { span, kind }) => push_fault(out, span, kind),
+        Err(TypeFault::Memory) => Ok(out.push_str("no memory")?),
+    }
+}
+
+/// Adds what checking answers to a statement.
+fn push_statement(out: &mut String, text: &[u8], names: &Names) -> Result<(), Memory>
+    requires { AreValid names.now.arrays }
+{
+    if text.len() > LIMIT {
+        return Ok(out.push_str("too long")?);
+    }
+    match parse(*out.allocator(), text) {
+        Ok(tree) => {
+            let told = push_checked(out, text, &tree, names);
+            let_go_tree(tree);
+            told
+        }
+        Err(_) => Ok(out.push_str("no statement")?),
+    }
+}
+
+/// Adds what checking answers to a statement over some of the arrays.
+fn push_over(out: &mut String, text: &[u8], arrays: Arrays) -> Result<(), Memory> {
+    match names(*out.allocator(), arrays) {
+        Some(names) => {
+            let told = push_statement(out, text, &names);
+            drop(names);
+            told
+        }
+        None => Ok(out.push_str("no arrays")?),
+    }
+}
+
+/// The statement of a line, and the arrays that it is checked over.
+fn statement_in(line: &[u8]) -> (Arrays, &[u8]) {
+    if let Some(text) = line.strip_prefix(b"#full ".as_slice()) {
+        (Arrays::Full, text)
+    } else if let Some(text) = line.strip_prefix(b"#last ".as_slice()) {
+        (Arrays::OneVersion, text)
+    } else if let Some(text) = line.strip_prefix(b"#none ".as_slice()) {
+        (Arrays::NoVersion, text)
+    } else {
+        (Arrays::Few, line)
+    }
+}
+
+/// Adds what checking answers to the statement of a line.
+pub(crate) fn push_checked_line(out: &mut String, line: &[u8]) -> Result<(), Memory> {
+    let (arrays, text) = statement_in(line);
+    push_over(out, text, arrays)?;
+    Ok(out.push('\n')?)
+}

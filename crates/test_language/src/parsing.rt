@@ -1,0 +1,97 @@
+//! Whether a text is a statement, or where and why it stops to be the front of one.
+//!
+//! In a line `~` stands for a line feed, and `{127 (}` for 127 of `(`. A line that begins with `tree: ` is answered by the
+//! outline of the tree of the statement behind that word, and one that begins with `print: ` by its printed form.
+
+use crate::outline::write_outline;
+use afl_parser::{ParseFault, parse};
+use afl_trees::{Tree, let_go_tree, print};
+use cell_values::Memory;
+use std::alloc::{AllocError, Global};
+use std::str::from_utf8;
+use test_kit::text_of;
+
+/// How many bytes a statement may have.
+const LIMIT: usize = 1_048_576;
+
+/// What is told of a statement.
+#[derive(Clone, Copy)]
+enum Form {
+    Word,
+    Outline,
+    Print,
+}
+
+/// What a line asks for, and the text behind the word that asks for it.
+fn form_of(line: &[u8]) -> (Form, &[u8]) {
+    if let Some(text) = line.strip_prefix(b"tree: ".as_slice()) {
+        (Form::Outline, text)
+    } else if let Some(text) = line.strip_prefix(b"print: ".as_slice()) {
+        (Form::Print, text)
+    } else {
+        (Form::Word, line)
+    }
+}
+
+/// Whether a copy of the tree is printed as the tree is.
+fn is_copied(alloc: Global, tree: &Tree, printed: &[u8]) -> Result<bool, Memory> {
+    let copy = tree.copy()?;
+    let again = print(alloc, &copy);
+    let_go_tree(copy);
+    Ok(again?.as_slice() == printed)
+}
+
+fn push_copied(out: &mut String, tree: &Tree, printed: &[u8]) -> Result<(), Memory> {
+    if is_copied(*out.allocator(), tree, printed)? {
+        Ok(out.push_str(from_utf8(printed).unwrap_or("no text"))?)
+    } else {
+        Ok(out.push_str("another copy")?)
+    }
+}
+
+fn push_printed(out: &mut String, tree: &Tree) -> Result<(), Memory> {
+    let printed = print(*out.allocator(), tree)?;
+    let told = push_copied(out, tree, printed.as_slice());
+    drop(printed);
+    told
+}
+
+fn push_tree(out: &mut String, form: Form, tree: &Tree) -> Result<(), Memory> {
+    match form {
+        Form::Word => Ok(out.push_str("ok")?),
+        Form::Outline => Ok(write_outline(tree, out)?),
+        Form::Print => push_printed(out, tree),
+    }
+}
+
+fn push_fault(out: &mut String, fault: ParseFault) -> Result<(), AllocError> {
+    match fault {
+        ParseFault::At { at, kind } => write!(out, "at {at}: {kind:?}"),
+        ParseFault::Memory => out.push_str("no memory"),
+    }
+}
+
+/// Adds what the parser answers to a text.
+fn push_parsed(out: &mut String, form: Form, text: &[u8]) -> Result<(), Memory> {
+    if text.len() > LIMIT {
+        return Ok(out.push_str("too long")?);
+    }
+    match parse(*out.allocator(), text) {
+        Ok(tree) => {
+            let told = push_tree(out, form, &tree);
+            let_go_tree(tree);
+            told
+        }
+        Err(fault) => Ok(push_fault(out, fault)?),
+    }
+}
+
+/// Adds what the parser answers to the text that a line stands for.
+pub(crate) fn push_parsed_line(out: &mut String, line: &[u8]) -> Result<(), Memory> {
+    let (form, rest) = form_of(line);
+    let text = text_of(*out.allocator(), rest)?;
+    let told = push_parsed(out, form, text.as_slice());
+    drop(text);
+    told?;
+    Ok(out.push('\n')?)
+}

@@ -1,0 +1,82 @@
+//! The tokens of a text, the pieces of a script or the schema that a text has, or where and why it has none.
+//!
+//! In a line `{64 n}` stands for 64 of `n`, and `^0a` for the byte of that number. `tokens TEXT` is answered by each token
+//! with its place, `split TEXT` by each piece of a script, `schema 1 TEXT` by the schema that begins at token 1, and
+//! `tree TEXT` by the schema as it is written. `array A 4 1,3 SCHEMA`, an array with its next number and its versions, is
+//! answered by the texts of `show` and `versions`, of a store and of another change, `list` and such arrays with `|` between
+//! by their list, and `refusal full 3 1` by the refusal's line. `cells TEXT` is answered by both texts of an array whose cells
+//! are the parts of the text between each `|`.
+
+use crate::arrays::push_cells;
+use crate::pieces::push_pieces;
+use crate::replies::{push_array, push_list, push_refusal};
+use crate::schemas::{push_schema, push_tree};
+use crate::tokens::push_tokens;
+use cell_values::{Bytes, Memory};
+use std::alloc::Global;
+use std::str::from_utf8;
+use test_kit::{bytes_of, text_of};
+
+/// How many bytes a statement may have.
+const LIMIT: usize = 1_048_576;
+
+/// The bytes that a text without repeats stands for.
+fn bytes_in(alloc: Global, text: &Bytes) -> Result<Bytes, Memory> {
+    bytes_of(alloc, from_utf8(text.as_slice()).unwrap_or(""))
+}
+
+/// The bytes that a line stands for.
+fn script_of(alloc: Global, line: &str) -> Result<Bytes, Memory> {
+    let text = text_of(alloc, line.as_bytes())?;
+    let bytes = bytes_in(alloc, &text);
+    drop(text);
+    bytes
+}
+
+/// Adds the tokens or the schema of a text.
+fn push_read(out: &mut String, word: &str, text: &[u8]) -> Result<(), Memory> {
+    if text.len() > LIMIT {
+        out.push_str("too long")?;
+        return Ok(());
+    }
+    match word {
+        "tokens" => push_tokens(out, text),
+        "tree" => push_tree(out, text),
+        from => push_schema(out, text, from.parse::<usize>().unwrap_or(0)),
+    }
+}
+
+/// Adds what the bytes are told to be that a line stands for.
+fn push_bytes(out: &mut String, word: &str, line: &str) -> Result<(), Memory> {
+    let script = script_of(*out.allocator(), line)?;
+    let told = match word {
+        "split" => push_pieces(out, script.as_slice()),
+        "cells" => push_cells(out, from_utf8(script.as_slice()).unwrap_or("")),
+        word => push_read(out, word, script.as_slice()),
+    };
+    drop(script);
+    told
+}
+
+/// Adds the answer to a word, and to what stands behind it.
+fn push_named(out: &mut String, word: &str, rest: &str) -> Result<(), Memory> {
+    match word {
+        "schema" => {
+            let (from, text) = rest.split_once(' ').unwrap_or((rest, ""));
+            push_bytes(out, from, text)
+        }
+        "array" => push_array(out, rest),
+        "list" => push_list(out, rest),
+        "refusal" => push_refusal(out, rest),
+        word => push_bytes(out, word, rest),
+    }
+}
+
+/// Adds a line and its answer.
+pub(crate) fn push_text_line(out: &mut String, line: &str) -> Result<(), Memory> {
+    writeln!(out, "> {line}")?;
+    if let Some((word, rest)) = line.split_once(' ') {
+        push_named(out, word, rest)?;
+    }
+    Ok(out.push('\n')?)
+}

@@ -1,0 +1,76 @@
+//! Runs of command lines.
+
+use crate::commands::files::{database_of, device_of, empty_script};
+use crate::reports::{file_behind, report_of, tell, tell_replies};
+use afl_in_memory::MemShelf;
+use afl_outside::OpenGate;
+use afl_run::Report;
+use anyhow::Result;
+use cell_values::{Bytes, Memory};
+use std::sync::Wait;
+use std::thread::Threads;
+use test_kit::text_of;
+
+/// Runs a command line over these files, and tells all that comes of it.
+fn tell_over(
+    rt: &(impl Print + AllocGlobal + Threads + Wait + Sync),
+    line: &str,
+    shelf: MemShelf,
+) -> Result<()> {
+    let report = report_of(rt, line, shelf, &OpenGate)?;
+    let told = tell(rt, &report);
+    drop(report);
+    told
+}
+
+/// Runs these words over an empty script.
+pub(crate) fn tell_words(
+    rt: &(impl Print + AllocGlobal + Threads + Wait + Sync),
+    words: &str,
+) -> Result<()> {
+    tell_over(rt, words, empty_script(rt.alloc())?)
+}
+
+/// Runs `init db` over a device of so many zero bytes, whose listed calls fail.
+pub(crate) fn tell_device(
+    rt: &(impl Print + AllocGlobal + Threads + Wait + Sync),
+    length: usize,
+    fails: &[u64],
+) -> Result<()> {
+    tell_over(rt, "init db", device_of(rt.alloc(), length, fails)?)
+}
+
+/// A new database, and a script as standard input.
+fn new_database(
+    rt: &(impl AllocGlobal + Threads + Wait + Sync),
+    script: &[u8],
+) -> Result<MemShelf, Memory> {
+    let database = file_behind(rt, "init db", device_of(rt.alloc(), 0, &[])?)?;
+    let shelf = database_of(rt.alloc(), database.as_slice(), script);
+    drop(database);
+    shelf
+}
+
+/// What comes of a command line over a new database and a script.
+fn report_behind(
+    rt: &(impl AllocGlobal + Threads + Wait + Sync),
+    line: &str,
+    script: &Bytes,
+) -> Result<Report<MemShelf>, Memory> {
+    report_of(rt, line, new_database(rt, script.as_slice())?, &OpenGate)
+}
+
+/// Runs a command line over a new database, with the script that a text stands for, and tells the replies.
+pub(crate) fn tell_script(
+    rt: &(impl Print + AllocGlobal + Threads + Wait + Sync),
+    line: &str,
+    text: &str,
+) -> Result<()> {
+    let script = text_of(rt.alloc(), text.as_bytes())?;
+    let report = report_behind(rt, line, &script);
+    drop(script);
+    let report = report?;
+    let told = tell_replies(rt, &report);
+    drop(report);
+    told
+}

@@ -1,0 +1,81 @@
+//! What aggregates of a few cells give.
+//!
+//! `aggregate sum 1:5 | 0:null` takes two sets of places into two states, merges them and tells the aggregate.
+ghost use Rattle.std.specs.Prelude.{◌+◌, ◌≤◌, length, IfOk};
+
+use agg_states::AggState;
+use cell_values::{Memory, coord_of};
+use logical_plan::AggFunction;
+use std::alloc::Global;
+use test_kit::{cell_of, place_in, push_datum};
+
+/// How many places a part has at most.
+const LIMIT: usize = 100;
+
+fn function_of(word: &str) -> AggFunction {
+    match word {
+        "sum" => AggFunction::Sum,
+        "count" => AggFunction::Count,
+        "count(*)" => AggFunction::CountAll,
+        "min" => AggFunction::Min,
+        _ => AggFunction::Max,
+    }
+}
+
+/// The words before a `|`, and those behind it.
+fn parts_of<'a>(words: &'a [&'a str]) -> (&'a [&'a str], &'a [&'a str]) {
+    match words.iter().position(|word| *word == "|") {
+        Some(place) => (&words[..place], &words[place + 1..]),
+        None => (words, &[]),
+    }
+}
+
+/// Takes a place, whose cell has the value behind another.
+fn take_place(state: &mut AggState, alloc: Global, word: &str) -> Result<(), Memory>
+    requires { state.old.cells ≤ 100 }
+    ensures { IfOk result (λ done. state.new.cells ≤ state.old.cells + 1) }
+{
+    let (at, held) = place_in(word);
+    let cell = cell_of(alloc, &["true"], held)?;
+    state.take(&coord_of(&[at]), &cell, 1)
+}
+
+fn taken(alloc: Global, function: AggFunction, words: &[&str]) -> Result<AggState, Memory>
+    requires { length words.now ≤ 100 }
+    ensures { IfOk result (λ state. state.cells ≤ 100) }
+{
+    let mut state = AggState::empty(function);
+    for word in words {
+        take_place(&mut state, alloc, word)?;
+    }
+    Ok(state)
+}
+
+/// Adds the aggregate of two parts, the first of which is taken first.
+fn push_aggregate(out: &mut String, function: &str, words: &[&str]) -> Result<(), Memory> {
+    let alloc = *out.allocator();
+    let (first, second) = parts_of(words);
+    if first.len() <= LIMIT && second.len() <= LIMIT {
+        let first = taken(alloc, function_of(function), first)?;
+        let second = taken(alloc, function_of(function), second)?;
+        push_datum(out, &first.merge(second).finish())?;
+    }
+    out.push('\n')?;
+    Ok(())
+}
+
+/// Adds the answer to the words of a line.
+fn push_words(out: &mut String, words: &[&str]) -> Result<(), Memory> {
+    match words {
+        [_, function, places @ ..] => push_aggregate(out, function, places),
+        _ => Ok(()),
+    }
+}
+
+/// Adds the answer to a line.
+pub(crate) fn push_aggregate_line(out: &mut String, line: &str) -> Result<(), Memory> {
+    let words: Vec<&str> = line.split_whitespace().collect(*out.allocator())?;
+    let told = push_words(out, words.as_slice());
+    drop(words);
+    told
+}
