@@ -80,7 +80,7 @@ pub landed_breaks : (array : ChunkedArray) (target : Schema) (broken : Broken) �
 landed_breaks array target broken e =
     broken_whole (map (origin_of array.schema) target.dimensions) (bounds_of target.dimensions) (map (value_origin array.schema) target.attributes) (cores_of array) broken e
 
-pub can_tell : (array : ChunkedArray) (target : Schema) (chunks : BTreeMap (ArrayVec ℕ) Chunk) → HaveCells array.schema array.margins.items array.chunks → IsValid target → IsTrue (redimensions array.schema target [])
+abbrev pub can_tell : (array : ChunkedArray) (target : Schema) (chunks : BTreeMap (ArrayVec ℕ) Chunk) → HaveCells array.schema array.margins.items array.chunks → IsValid target → IsTrue (redimensions array.schema target [])
     → HoldsLanded array.schema target (cores_of array) (Ok chunks) → CanTell target chunks
 can_tell array target chunks cells valid typed held = record {
   made = held.0;

@@ -22,8 +22,8 @@ returns-in-Some c =
     (subst (λ (chunks : List Chunk). Fill to.schema.now (map origin to.places.now) to.bounds.now (map origin to.values.now) (core_rows array.schema.dimensions array.margins.items chunks) (Some c.in-Some.broken)
     c.new-counts.result c.new-filled.result c.fill_bands.new.counts c.fill_bands.new.filled) c.as_slice.ensures (rw c.in-Some.is at c.in_ok-broken.ensures))
 
-pub returns-in_ok-chunks-in-None : goal.returns-in_ok-chunks-in-None
-returns-in_ok-chunks-in-None c =
+pub returns : goal.returns
+returns c =
     let array = c.args.array.now in
     let to = c.args.to.now in
     all_land to.schema.now (map origin to.places.now) to.bounds.now (map origin to.values.now) (cores_of array) c.new-counts.result c.fill_bands.new.counts c.new-filled.result c.fill_bands.new.filled c.in_ok-chunks-in-None.chunks
