@@ -157,7 +157,8 @@ pub(crate) fn tell_changes(rt: &(impl Print + AllocGlobal)) -> anyhow::Result<()
     let catalog = catalog(rt.alloc())?;
     let told = are_as_written(&catalog);
     drop(catalog);
-    for (kind, is_same) in KINDS.iter().zip(told?.iter()) {
+    let told = told?;
+    for (kind, is_same) in KINDS.as_slice().iter().zip(told.as_slice()) {
         println!(rt; "{kind}: {is_same}")?;
     }
     Ok(())
