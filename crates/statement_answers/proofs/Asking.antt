@@ -72,7 +72,7 @@ module _ (names : Names) (change : Change) (name : List ℕ) (schema : Schema) (
       → AsksOnly old new change target asking (Ok made) → Puts (λ rows. new.asked ≡ old.asked ++ asked_made rows old names change (with_chunks made))
   put_asked asking made told only = record {
     told = λ db there. told db (told_of names change name schema target is put old db there) ∙ ap (λ (all : List Asked). old.asked ++ all) (of_made made (rows_put db change));
-    some = (only.0, only.1.0 ∙ ap (λ (all : List Asked). old.asked ++ all) (of_made made only.0));
+    some = (only.0, only.1 ∙ ap (λ (all : List Asked). old.asked ++ all) (of_made made only.0));
   }
 
   pub put_front : ((db : Database) → IsToldOf old change target db → AsksFront (asked_of_all db old change target) old new)

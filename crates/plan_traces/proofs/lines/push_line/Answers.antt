@@ -1,9 +1,8 @@
-use Rattle.std.proofs.Common.{◌≡◌, List, ℕ, ap, ◌∙◌}
+use Rattle.std.proofs.Common.{List, ℕ, ap, ◌∙◌}
 use Rattle.arrayvec.specs.ArrayVec.{ArrayVec}
 use Rattle.array_geom.specs.Geometry.{core_meets}
 use Rattle.plan_traces.specs.Listed.{chunks_among}
 use Rattle.plan_traces.specs.Traced.{asking_where}
-use Rattle.plan_traces.specs.declared.asking.Asking.{Asking}
 use Rattle.plan_traces.proofs.Counting.{told_asking}
 use Rattle.plan_traces.proofs.Tracing.{adds_one}
 use Rattle.plan_traces.proofs.lines.push_line.Goals as goal
@@ -12,8 +11,8 @@ pub returns-clause-line : goal.returns-clause-line
 returns-clause-line g c =
     let leaf = c.args.leaf.now in
     let area = c.args.area.now in
-    let of_numbers : List (ArrayVec ℕ) → Asking = λ numbers. asking_where (core_meets leaf.schema.dimensions area) (chunks_among leaf.schema.dimensions numbers) in
-    let asks : c.in_ok-asking.asking ≡ of_numbers c.in_ok-listed.listed = c.in_ok-asking.ensures ∙ ap of_numbers c.as_slice.ensures in
+    let dims = leaf.schema.dimensions in
+    let asks = c.in_ok-asking.ensures ∙ ap (λ (z : List (ArrayVec ℕ)). asking_where (core_meets dims area) (chunks_among dims z)) c.as_slice.ensures in
     adds_one (g.S.ChunkSource.state c.args.source.now) leaf area c.args.lines.now c.write_line.new.out c.in_ok-asking.asking c.in_ok-write_line.ensures
-    (asks ∙ ap of_numbers c.in_ok-listed.ensures.listed)
+    (asks ∙ ap (λ (z : List (ArrayVec ℕ)). asking_where (core_meets dims area) (chunks_among dims z)) c.in_ok-listed.ensures.listed)
     (λ db tells. asks ∙ told_asking db leaf c.in_ok-listed.listed area c.requires.valid c.in_ok-listed.ensures.rising (c.in_ok-listed.ensures.told db tells))
