@@ -13,7 +13,7 @@ use Rattle.afl_trees.specs.Term.{Term}
 use Rattle.turn_lock.specs.Owners.{is_owned_by}
 use Rattle.result_print.specs.declared.refusal.Refusal.{Refusal}
 use Rattle.result_print.specs.declared.refusal.Refusal.TheVariants as refusals
-use Rattle.statement_replies.specs.declared.replies.Reply.{Reply as Words}
+use Rattle.statement_replies.specs.declared.replies.replies.Reply.{Reply as Words}
 use Rattle.store_ledger.specs.declared.note.Note.{Note}
 use Rattle.store_ledger.specs.declared.note.NoteKind.TheVariants.{Fault}
 use Rattle.store_ledger.specs.Ledger.{IsLedger, is_fault}

@@ -2,14 +2,14 @@
 use Rattle.std.proofs.Common.{◌≡◌, ℕ, List, [], ◌∷◌, ◌++◌, length, Result, Ok, Err, IfOk, OnErr, MatchResult, refl, sym, subst, append-nil}
 use Rattle.afl_outside.specs.declared.source.Failed.{Failed}
 use Rattle.afl_outside.specs.Disk.{Moment}
-use Rattle.commit_writes.specs.declared.stopped.Stopped.{Stopped}
+use Rattle.page_file.specs.declared.commits.stopped.Stopped.{Stopped}
 use Rattle.store_ledger.specs.Ledger.{LedgerState, with_fault}
 use Rattle.store_opening.specs.Event.{Event}
 use Rattle.store_opening.specs.Event.TheVariants.{Acknowledged}
 use Rattle.store_opening.specs.Calls.{NotesFault}
 use Rattle.store_opening.specs.Events.{events}
 use Rattle.store_opening.specs.Standings.{Standing}
-use Rattle.prepared_commits.specs.declared.prepared.Prepared.{Prepared}
+use Rattle.prepared_commits.specs.declared.commits.prepared.Prepared.{Prepared}
 use Rattle.store_sealing.specs.Steps.{entry_of, made_by, sealed, sealed_ledger, stopped}
 use Rattle.array_store.specs.Growth.{AddsEvents, AddsFault, IsCounted, fault_events}
 use Rattle.array_store.specs.Sealing.{AddsCommit}

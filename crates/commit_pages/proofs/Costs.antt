@@ -30,18 +30,18 @@ use Rattle.plan_changes.specs.Query.{Query}
 use Rattle.plan_changes.specs.declared.change.Change.{Change}
 use Rattle.plan_changes.specs.declared.change.Change.TheVariants.{Create, Store, Insert, Remove, RemoveVersions}
 use Rattle.plan_changes.specs.Databases.{Database, fitted, new_rows, newest_rows, rows_if_whole}
-use Rattle.file_laws.specs.Catalog.{Catalog}
-use Rattle.file_laws.specs.Standing.{stored_chunk}
-use Rattle.file_laws.proofs.Counts.{counts_agree}
-use Rattle.file_laws.proofs.Payloads.{part_stored}
-use Rattle.file_laws.proofs.StoredLaws.{beside_stay}
+use Rattle.file_meaning.specs.Catalog.{Catalog}
+use Rattle.file_meaning.specs.Standing.{stored_chunk}
+use Rattle.file_meaning.proofs.Counts.{counts_agree}
+use Rattle.file_meaning.proofs.Payloads.{part_stored}
+use Rattle.file_meaning.proofs.FileStored.{beside_stay}
 use Rattle.commit_costs.specs.Costs.{payload_length, payload_pages, directory_for, new_version_pages, record_pages, catalogue_pages}
 use Rattle.commit_costs.specs.Costs.{directory_of as cost_directory}
 use Rattle.commit_costs.specs.Lengths.{AreAlike, AreBothAlike, AreListed, HasItsLength, meets}
 use Rattle.commit_costs.proofs.Catalogs.{record_pages_are_told, catalogue_pages_are_told}
 use Rattle.commit_costs.proofs.Lengths.{directory_bytes as cost_bytes}
 use Rattle.commit_costs.proofs.Orders.{stored_pages, written_pages}
-use Rattle.commit_writes.specs.Commits.{pages_of}
+use Rattle.page_file.specs.Commits.{pages_of}
 use Rattle.commit_pages.specs.Versions.{blob_count, blob_at, drafted, draft, draft_of, draft_at, entry_of, entries_of, directory_of, directory_bytes, version_needs}
 use Rattle.commit_pages.specs.Changes.{AreValid, IsChangeOf}
 use Rattle.commit_pages.specs.Commits.{record_needs, base_needs, record_bytes, catalog_bytes, chain_count}

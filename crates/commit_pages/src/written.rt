@@ -10,8 +10,8 @@ ghost use Rattle.commit_pages.specs.Versions.{blob_count, placed, all_placed, dr
 use array_geom::{Changed, Chunk};
 use cell_values::{Bytes, ChunkAt, List, Memory, Schema, copy_numbers};
 use commit_costs::encode;
-use commit_writes::Placed;
 use page_chain::{blob_pages, chain_pages};
+use page_file::Placed;
 use std::alloc::Global;
 
 /// The chunks that a change writes: their numbers, and their payloads in as many pages as these need.

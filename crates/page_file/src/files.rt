@@ -1,7 +1,16 @@
-//! A database's file: its current root, its log, and the slot that a commit is to open.
+//! A database's file: it is made, opened, read and written, slot by slot.
 
-mod blobs;
-mod file;
+mod files;
+mod making;
+mod opening;
+mod sealing;
+mod writing;
 
-pub use file::PageFile;
-pub use page_chain::{BlobFault, OpenCause};
+pub use files::{BlobFault, OpenCause, PageFile};
+pub use making::{InitFault, init};
+pub use opening::open_slots;
+pub use sealing::{
+    puts_are_writes, record_opened, record_sealed, record_written, root_opened, root_sealed,
+    root_written,
+};
+pub use writing::{write_blob, write_chain};

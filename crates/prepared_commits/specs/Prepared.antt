@@ -24,14 +24,14 @@ use Rattle.event_core.specs.Replay.{core_at}
 use Rattle.store_state.specs.Ledger.{has_room, history, is_noted, is_tried}
 use Rattle.store_versions.specs.Rows.{IsReadyFor}
 use Rattle.store_state.specs.Costs.{cost_from}
-use Rattle.commit_writes.specs.Commits.{IsBlobSized, IsChainSized}
+use Rattle.page_file.specs.Commits.{IsBlobSized, IsChainSized}
 use Rattle.store_state.specs.Laid.{Laid}
 use Rattle.store_state.specs.Changes.{ComesWith, AreValid, IsChangeOf}
 use Rattle.store_state.specs.declared.parts.StoreParts.{StoreParts}
 use Rattle.store_state.specs.At.{keeping, standing}
 use Rattle.store_state.specs.Standings.{Standing, BeganAs, WasTriedBy, base_of}
 use Rattle.store_state.specs.Inner.Keeping.{Keeping, IsDirectoryOf}
-use Rattle.prepared_commits.specs.declared.prepared.Prepared.{Prepared}
+use Rattle.prepared_commits.specs.declared.commits.prepared.Prepared.{Prepared}
 use Rattle.prepared_commits.specs.Needs.{IsLaidBy, all_pages, next_sequence}
 
 -- a change that may be made of a database, and the chunks that it writes

@@ -13,20 +13,19 @@ use Rattle.logical_plan.specs.Query.{Query}
 use Rattle.plan_changes.specs.Typed.{IsVersionOf}
 use Rattle.check_exprs.specs.Laws.{leaves_fit}
 use Rattle.check_sources.specs.Stored.{entry_named}
-use Rattle.check_rules.specs.Checked.{Checked}
-use Rattle.check_rules.specs.Checked.{refused as broken}
-use Rattle.check_laws.proofs.ReadVersions.{plan_reads}
-use Rattle.check_laws.proofs.TypedQueries.{checked_typed}
-use Rattle.check_laws.specs.Arrays.{AreValid}
-use Rattle.check_laws.specs.Queries.{query_of}
+use Rattle.check_rules.specs.Checked.{Checked, refused as broken}
+use Rattle.afl_types.proofs.ReadVersions.{plan_reads}
+use Rattle.afl_types.proofs.TypedQueries.{checked_typed}
+use Rattle.afl_types.specs.Arrays.{AreValid}
+use Rattle.afl_types.specs.Queries.{query_of}
 use Rattle.result_print.specs.declared.refusal.Refusal.TheVariants.{Typing}
 use Rattle.chunk_source.specs.Source.{SourceState, AsksFront, Reads}
 use Rattle.plan_rows.specs.Computed.{CanCompute, asked_for_plan}
 use Rattle.statement_replies.specs.Kinds.{HasKindOver, IsQueryReply, IsRowsOver}
 use Rattle.statement_replies.specs.Reading.{HoldsVersions, asked_for}
 use Rattle.statement_replies.specs.Reply.{checked_reply, plan_reply, refused}
-use Rattle.statement_replies.specs.declared.replies.Reply.{Reply}
-use Rattle.statement_replies.specs.declared.style.Style.{Style}
+use Rattle.statement_replies.specs.declared.replies.replies.Reply.{Reply}
+use Rattle.statement_replies.specs.declared.replies.style.Style.{Style}
 
 -- a checked plan can be computed over a source that has the versions of its names
 module _ (names : Names) (source : SourceState) (holds : HoldsVersions names source) where

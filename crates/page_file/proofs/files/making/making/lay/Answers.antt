@@ -1,0 +1,14 @@
+use Rattle.std.proofs.Common.{ℕ, List, [], ◌∷◌, subst}
+use Rattle.page_slots.specs.Disk.{written}
+use Rattle.page_slots.proofs.PutLemmas.{goes_twice}
+use Rattle.page_file.specs.Inner.Laid.{Lays, laid, head_bytes}
+use Rattle.page_file.proofs.Steps.{lays_on}
+use Rattle.page_file.proofs.files.making.making.lay.Goals as goal
+
+pub returns-in-Ok-write_at-2-clause-laid : goal.returns-in-Ok-write_at-2-clause-laid
+unfolding laid
+returns-in-Ok-write_at-2-clause-laid g c =
+    lays_on (g.D.Disk.moment c.args.disk.now).state (g.D.Disk.moment c.write_at-2.new.self).state (g.D.Disk.moment c.write_at-3.new.self).state (λ (x : List ℕ). written 0 head_bytes (written 12287 (0 ∷ []) x)) (λ (x : List ℕ). written 520 c.args.body.now x)
+    (goes_twice (g.D.Disk.moment c.args.disk.now).state (g.D.Disk.moment c.write_at.new.self).state (g.D.Disk.moment c.write_at-2.new.self).state c.in-Ok.ensures.same c.in-Ok-write_at.ensures.same)
+    (lays_on (g.D.Disk.moment c.args.disk.now).state (g.D.Disk.moment c.write_at.new.self).state (g.D.Disk.moment c.write_at-2.new.self).state (λ (x : List ℕ). written 12287 (0 ∷ []) x) (λ (x : List ℕ). written 0 head_bytes x) c.in-Ok.ensures.same c.in-Ok.ensures.written c.in-Ok-write_at.ensures.written)
+    (subst (λ (at : ℕ). Lays (λ (x : List ℕ). written at c.args.body.now x) (g.D.Disk.moment c.write_at-2.new.self).state (g.D.Disk.moment c.write_at-3.new.self).state) c.body.ensures c.in-Ok-write_at-2.ensures.written)
