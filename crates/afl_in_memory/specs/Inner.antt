@@ -1,2 +1,0 @@
-pub mod Overlay
-pub mod Records

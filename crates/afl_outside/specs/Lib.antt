@@ -1,7 +1,0 @@
-pub mod Counts
-pub mod Disk
-pub mod Lemmas
-pub mod Shelf
-pub mod Sink
-pub mod Source
-pub mod Turns

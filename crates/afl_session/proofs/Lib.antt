@@ -1,4 +1,0 @@
-pub mod Ending
-pub mod InHistories
-pub mod ServingLemmas
-pub mod TooLong

@@ -1,3 +1,0 @@
-pub mod PrintedAgain
-pub mod PrintedParts
-pub mod Printing

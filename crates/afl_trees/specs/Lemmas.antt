@@ -1,2 +1,0 @@
-pub mod TermCode
-pub mod TreeFalls

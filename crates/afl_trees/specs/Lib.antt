@@ -1,9 +1,0 @@
-pub use Rattle.schema_grammar.specs.declared.kinds.SchemaFault
-pub use Rattle.schema_grammar.specs.declared.kinds.TypeKind
-pub use Rattle.schema_grammar.specs.declared.shape_text.SchemaText
-pub mod Grammar
-pub mod Inner
-pub mod Lemmas
-pub mod Print
-pub mod Statement
-pub mod Term

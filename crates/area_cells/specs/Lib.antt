@@ -1,4 +1,0 @@
-pub use Rattle.chunk_cells.specs.Whole
-pub mod Cut
-pub mod Inner
-pub mod Pieces

@@ -1,5 +1,0 @@
-use Rattle.std.proofs.Common.{length}
-use Rattle.array_geom.proofs.boxes.+push_greater.Given as goal
-
-abbrev pub decreases-push_greater : goal.decreases-push_greater
-decreases-push_greater l = length l.a.now

@@ -1,3 +1,0 @@
-pub mod RowSets
-pub mod RowsLemmas
-pub mod Witness

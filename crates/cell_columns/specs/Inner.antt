@@ -1,2 +1,0 @@
-pub mod CellsIn
-pub mod Held

@@ -1,4 +1,0 @@
-pub mod Changing
-pub mod Inner
-pub mod Targets
-pub mod Wanted

@@ -1,5 +1,0 @@
-use Rattle.std.proofs.Common.{length}
-use Rattle.check_cellwise.proofs.boxes.area.+push_lows.Given as goal
-
-abbrev pub decreases-push_lows : goal.decreases-push_lows
-decreases-push_lows l = length l.dimensions.now

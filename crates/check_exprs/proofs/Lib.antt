@@ -1,4 +1,0 @@
-pub mod InnerFaults
-pub mod KindLemmas
-pub mod Operands
-mod WorkedExpressions

@@ -1,7 +1,0 @@
-pub mod AggregateSort
-pub mod Aggregates
-pub mod Blocks
-pub mod Groups
-pub mod Names
-pub mod Numbers
-pub mod Windows

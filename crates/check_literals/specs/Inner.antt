@@ -1,2 +1,0 @@
-pub mod Lexed
-pub mod Reader

@@ -1,2 +1,0 @@
-pub mod Build
-pub mod Stored

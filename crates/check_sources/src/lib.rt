@@ -1,8 +1,0 @@
-//! Queries that read no other query: builds, literals, and stored arrays.
-#![tactic(auto)]
-
-mod build;
-mod stored;
-
-pub use build::{build_call, meant};
-pub use stored::{referred, scan_call};

@@ -1,8 +1,0 @@
-use Rattle.std.specs.Vec.Iter.{into_iter_items}
-use Rattle.chunk_cells.proofs.CoreSteps.{step}
-use Rattle.chunk_cells.proofs.reading.cores.core_cells.Goals as goal
-
-pub loop-position-preserved : goal.loop-position-preserved
-loop-position-preserved c =
-    step c.core_box-core.result c.grid_of-grid.result.low.items c.grid_of-grid.result.lengths.items c.loop-position.rows c.push_core.new.rows c.loop-position.position-index (into_iter_items c.loop-position.cells) (into_iter_items c.push_core.new.cells) c.as_slice-position-items.result.now c.args.chunk.cells
-    c.loop-position-test.true c.loop-position.invariant c.in_ok-push_core.ensures.rows c.in_ok-push_core.ensures.left

@@ -1,5 +1,0 @@
-pub mod Merging
-pub mod Near
-pub mod Numbers
-pub mod Over
-pub mod Reach

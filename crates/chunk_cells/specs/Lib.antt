@@ -1,4 +1,0 @@
-pub mod Fitted
-pub mod Frames
-pub mod Inner
-pub mod Whole

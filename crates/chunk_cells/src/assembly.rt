@@ -1,8 +1,0 @@
-//! Arrays in chunks, made of the rows of their cells.
-
-mod arrays;
-mod near;
-mod numbers;
-mod parts;
-
-pub use arrays::assemble;

@@ -1,4 +1,0 @@
-mod ComputedLaws
-mod ExecutedLaws
-mod OperatorLaws
-mod SourceLaws

@@ -1,7 +1,0 @@
-//! Stored arrays, read from a source of chunks.
-
-mod fault;
-mod leaf;
-
-pub use fault::ExecFault;
-pub use leaf::read_leaf;

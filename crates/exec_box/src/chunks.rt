@@ -1,5 +1,0 @@
-//! Arrays cut to boxes.
-
-mod between;
-
-pub use between::between_chunk;

@@ -1,5 +1,0 @@
-//! The rows of a `build`: an expression's value at each coordinate.
-
-mod build;
-
-pub use build::built_rows;

@@ -1,6 +1,0 @@
-use Rattle.logical_plan.specs.CellOps.{apply_cell}
-use Rattle.array_parts.proofs.PartLemmas.{changes_are_local}
-use Rattle.exec_cellwise.proofs.arrays.arrays.apply.Goals as goal
-
-pub over_array-requires-clause-local : goal.over_array-requires-clause-local
-over_array-requires-clause-local g c κs lives = changes_are_local (apply_cell c.args.values.now)

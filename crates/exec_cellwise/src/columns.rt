@@ -1,6 +1,0 @@
-//! What a walk over columns finds of an expression.
-
-mod smalls;
-mod walking;
-
-pub use walking::walk;

@@ -1,5 +1,0 @@
-pub mod Columns
-pub mod Keys
-pub mod Merged
-pub mod Merging
-pub mod Parts

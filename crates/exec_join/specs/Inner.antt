@@ -1,4 +1,0 @@
-pub mod Beside
-pub mod Cross
-pub mod Partners
-pub mod Pieces

@@ -1,2 +1,0 @@
-pub mod ExprView
-pub mod Seen

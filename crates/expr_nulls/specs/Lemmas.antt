@@ -1,2 +1,0 @@
-pub mod ExprCode
-pub mod ExprFalls

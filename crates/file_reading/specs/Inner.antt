@@ -1,4 +1,0 @@
-pub mod Found
-pub mod Log
-pub mod Rows
-pub mod Taken

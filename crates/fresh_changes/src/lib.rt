@@ -1,9 +1,0 @@
-//! Whether a change that was computed at a pin may be committed now.
-#![tactic(auto)]
-
-mod fresh;
-mod laws;
-mod names;
-
-pub use fresh::is_fresh;
-pub use laws::fresh_changes_are_left;

@@ -1,4 +1,0 @@
-pub mod Inner
-pub mod Known
-pub mod Laws
-pub mod Read

@@ -1,2 +1,0 @@
-pub mod QueryCode
-pub mod QueryFalls

@@ -1,4 +1,0 @@
-pub mod Chains
-pub mod Inner
-pub mod Links
-pub mod Pages

@@ -1,2 +1,0 @@
-pub mod Aims
-pub mod Laid

@@ -1,5 +1,0 @@
-use Rattle.std.proofs.Common.{length}
-use Rattle.plan_changes.proofs.alike.+same_bounds.Given as goal
-
-abbrev pub decreases-same_bounds : goal.decreases-same_bounds
-decreases-same_bounds l = length l.a.now

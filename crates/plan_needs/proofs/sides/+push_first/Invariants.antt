@@ -1,5 +1,0 @@
-use Rattle.std.proofs.Common.{length}
-use Rattle.plan_needs.proofs.sides.+push_first.Given as goal
-
-abbrev pub decreases-push_first : goal.decreases-push_first
-decreases-push_first l = length l.sides.now

@@ -1,6 +1,0 @@
-pub mod Needs
-pub mod Sides
-pub mod Stretches
-pub mod Sufficient
-pub mod Target
-pub mod Wanted

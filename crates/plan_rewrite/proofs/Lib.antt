@@ -1,9 +1,0 @@
-pub mod BoxSteps
-pub mod ItemPlaces
-pub mod ProjectSteps
-pub mod SameLaws
-pub mod Settling
-pub mod Steps
-pub mod ValidLess
-pub mod Widths
-mod WorkedRewrites

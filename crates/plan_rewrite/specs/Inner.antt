@@ -1,4 +1,0 @@
-pub mod Pending
-pub mod Settling
-pub mod Trimmed
-pub mod Wide

@@ -1,5 +1,0 @@
-//! The rows of plans.
-
-mod rows;
-
-pub use rows::{PlanArray, PlanRows, array_of, rows_of};

@@ -1,5 +1,0 @@
-//! The first fault of an array in chunks.
-
-mod first;
-
-pub use first::first_fault;

@@ -1,2 +1,0 @@
-pub use Rattle.logical_plan.specs.PlanSchema
-pub use Rattle.logical_plan.specs.Query

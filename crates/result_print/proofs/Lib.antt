@@ -1,4 +1,0 @@
-pub mod Alike
-mod Joined
-mod Numbered
-mod Worked

@@ -1,5 +1,0 @@
-pub mod Inner
-pub mod Lines
-pub mod Listings
-pub mod Records
-pub mod Texts

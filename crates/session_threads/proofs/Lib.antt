@@ -1,5 +1,0 @@
-pub use Rattle.afl_session.proofs.InHistories
-pub use Rattle.snapshot_manager.proofs.Telling
-pub mod Crossing
-pub mod Desks
-pub mod Reaps

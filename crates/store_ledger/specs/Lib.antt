@@ -1,5 +1,0 @@
-pub use Rattle.lean_core.specs.States
-pub use Rattle.lean_core.specs.declared.pin.LeanPin
-pub mod Inner
-pub mod Laws
-pub mod Ledger

@@ -1,2 +1,0 @@
-pub use Rattle.prepared_parts.specs.Parts
-pub mod Left

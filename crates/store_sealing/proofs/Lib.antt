@@ -1,3 +1,0 @@
-pub mod Came
-pub mod Pages
-pub mod Sealed

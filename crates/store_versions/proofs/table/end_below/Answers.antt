@@ -1,6 +1,0 @@
-use Rattle.store_versions.specs.Rows.{ended, is_row_below}
-use Rattle.event_laws.proofs.Maps.{map_step}
-use Rattle.store_versions.proofs.table.end_below.Goals as goal
-
-pub loop-row-preserved : goal.loop-row-preserved
-loop-row-preserved c = map_step (ended (is_row_below c.args.name.now c.args.below) c.args.place) _ c.args.rows.now _ c.row-item.result _ c.loop-row-test.true c.loop-row.invariant c.end_below.ensures

@@ -1,3 +1,0 @@
-pub mod Executed
-pub mod Made
-pub mod Stored

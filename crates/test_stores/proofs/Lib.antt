@@ -1,4 +1,0 @@
-pub mod Holding
-pub mod Checking
-pub mod Committing
-pub mod Making

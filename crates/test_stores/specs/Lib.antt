@@ -1,4 +1,0 @@
-pub mod Chunks
-pub mod Holds
-pub mod Offers
-pub mod Statements

@@ -1,7 +1,0 @@
-//! The catalogue of the stored arrays, and the records of its changes.
-
-mod catalog;
-mod catalog_record;
-
-pub use catalog::{BlobAt, Catalog, CatalogArray};
-pub use catalog_record::CatalogRecord;

@@ -1,7 +1,0 @@
-pub mod ArraysWindowLaws
-pub mod ChunksWindowLaws
-pub mod FollowLaws
-pub mod PartLaws
-pub mod PieceLaws
-pub mod RunLaws
-pub mod StateLaws

@@ -1,5 +1,0 @@
-use Rattle.std.proofs.Common.{length}
-use Rattle.window_overlap.proofs.chunks.corners.+push_raised.Given as goal
-
-abbrev pub decreases-push_raised : goal.decreases-push_raised
-decreases-push_raised l = length l.at.now

@@ -1,4 +1,0 @@
-pub mod Cores
-pub mod Inner
-pub mod Meant
-pub mod Reaches

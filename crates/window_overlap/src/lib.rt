@@ -1,8 +1,0 @@
-//! `window`: the windows of rows, and of a whole array.
-#![tactic(auto)]
-
-mod arrays;
-mod chunks;
-
-pub use arrays::window;
-pub use chunks::windows_of_rows;
