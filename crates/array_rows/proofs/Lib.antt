@@ -1,3 +1,7 @@
+pub mod ColumnLaws
+pub mod FaultLaws
+pub mod FormLaws
+pub mod RowLaws
 pub mod RowSets
 pub mod RowsLemmas
 pub mod Witness

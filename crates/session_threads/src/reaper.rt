@@ -6,13 +6,13 @@ ghost use Rattle.session_threads.specs.Inner.Desks.{AllWorked, IsReaper, IsWaiti
 use crate::desk::{Desk, work_all};
 use afl_outside::{Disk, Gate, Sink, Source};
 use afl_session::Options;
-use reap_bell::Ring;
 use snapshot_manager::{Seat, Shared};
 use std::alloc::Global;
 use std::snapshot::Snapshot;
 use std::sync::Wait;
 use std::thread;
 use std::thread::{Promise, Threads};
+use turn_lock::Ring;
 
 /// Reaps once. Where no memory is found for that, the pages wait for a later reap, or for the next opening of the file.
 pub(crate) fn reap_once<D: Disk, R: Wait>(rt: &R, shared: &Shared<D>, seat: &mut Seat<D>)
@@ -37,10 +37,22 @@ fn keep<D: Disk, R: Wait>(rt: &R, shared: &Shared<D>, mut seat: Seat<D>) -> Seat
 }
 
 /// The seat that the reaper gives back is that of the same session, and has done nothing but reap.
-#[derive(Drop)]
 struct SeatBack<D: Disk> {
     shared: Snapshot<Shared<D>>,
     seat: Snapshot<Seat<D>>,
+}
+
+impl<D: Disk> Drop for SeatBack<D> {
+    fn drop(self) {
+        let SeatBack { shared, seat } = self;
+        let_go_seen(shared);
+        let_go_seen(seat);
+    }
+}
+
+/// Lets go what was seen. It may be anything, so that nothing of a store has to be let go for it.
+fn let_go_seen<T>(seen: Snapshot<T>) {
+    drop(seen);
 }
 
 impl<D: Disk> Promise<Seat<D>> for SeatBack<D> {

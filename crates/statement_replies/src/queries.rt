@@ -3,8 +3,8 @@ ghost use Rattle.std.specs.Prelude.{◌≡◌, ◌≤◌, ◌++◌, None, IfOk, 
 ghost use Rattle.cell_values.specs.declared.schema.Schema.{Schema};
 ghost use Rattle.array_parts.specs.Cores.{HaveCells, cores_of};
 ghost use Rattle.check_exprs.specs.Laws.{leaves_fit};
-ghost use Rattle.check_laws.specs.Arrays.{AreValid};
-ghost use Rattle.check_laws.specs.Queries.{query_of};
+ghost use Rattle.afl_types.specs.Arrays.{AreValid};
+ghost use Rattle.afl_types.specs.Queries.{query_of};
 ghost use Rattle.logical_plan.specs.Meaning.{Database, Meant, meaning};
 ghost use Rattle.logical_plan.specs.PlanSchema.{schema_of};
 ghost use Rattle.chunk_source.specs.Faults.{Answers};
@@ -24,12 +24,12 @@ use crate::texts::text_of;
 use crate::traces::lines_wanted;
 use afl_outside::Gate;
 use afl_trees::Tree;
+use afl_types::query_plan;
 use array_geom::ChunkedArray;
 use cell_values::{Broken, Bytes, Memory, copy_coord};
-use check_laws::query_plan;
 use check_rules::TypeFault;
 use chunk_source::{ChunkSource, ExecFault};
-use logical_plan::{Names, Plan};
+use logical_plan::{Names, Plan, let_go};
 use plan_rows::{PlanArray, array_of};
 use result_print::Refusal;
 use std::alloc::Global;
@@ -68,7 +68,7 @@ pub fn reply_to_query<S: ChunkSource, R: Threads + Sync, G: Gate>(
     match query_plan(alloc, tree, text, names) {
         Ok(plan) => {
             let answer = answer_query(rt, alloc, &plan, source, style, workers, session, gate);
-            drop(plan);
+            let_go(plan);
             answer
         }
         Err(TypeFault::Rule { span, kind }) => Ok(refuse(alloc, Refusal::Typing { span, kind })?),

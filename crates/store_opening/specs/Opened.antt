@@ -2,22 +2,22 @@
 use Rattle.std.specs.Prelude.{◌≡◌, ℕ, List, [], map, None, IfSome, IsTrue}
 use Rattle.afl_outside.specs.Counts.{Rose}
 use Rattle.afl_outside.specs.Disk.{DiskState, Moment, Only}
-use Rattle.page_layout.specs.Opens.{OpensAs}
+use Rattle.page_slots.specs.Opens.{OpensAs}
 use Rattle.page_chain.specs.Inner.Runs.{OnlyReads}
 use Rattle.page_chain.specs.declared.fault.OpenCause.{OpenCause}
 use Rattle.page_chain.specs.declared.fault.OpenCause.TheVariants.{Disk, NotDatabase, Memory}
 use Rattle.page_slots.specs.Puts.{OnlySyncs}
 use Rattle.version_catalog.specs.Catalogs.{names_in}
 use Rattle.file_meaning.specs.Opening.{IsWrongAt, Opens}
-use Rattle.file_meaning.specs.declared.found.Found.{Found}
-use Rattle.store_bases.specs.Bases.{base_core}
+use Rattle.file_meaning.specs.declared.meaning.found.Found.{Found}
+use Rattle.store_opening.specs.Bases.{base_core}
 use Rattle.store_versions.specs.Rows.{first_rows}
 use Rattle.store_versions.specs.Seen.{version_of}
 use Rattle.store_versions.specs.Versions.{MadeVersion}
 use Rattle.store_state.specs.declared.parts.StoreParts.{StoreParts}
 use Rattle.store_state.specs.At.{standing}
 use Rattle.store_state.specs.Standings.{Standing}
-use Rattle.store_opening.specs.declared.opening.Limits.{Limits}
+use Rattle.store_opening.specs.declared.opening.opening.Limits.{Limits}
 
 -- a store to which nothing came yet, within its limits
 pub record IsNew {D : Type 0} (limits : Limits) (s : Standing D) : Type 0 where

@@ -3,7 +3,7 @@ ghost use Rattle.std.specs.Prelude.{◌≡◌, ◌≢◌, ◌≤◌, ◌⊎◌, 
 ghost use Rattle.std.specs.Option.{option_copied};
 ghost use Rattle.afl_outside.specs.Counts.{Rose};
 ghost use Rattle.page_chain.specs.Inner.Runs.{OnlyReads};
-ghost use Rattle.file_laws.specs.Source.{is_among, IsChunkIn, IsStored};
+ghost use Rattle.file_meaning.specs.Source.{is_among, IsChunkIn, IsStored};
 ghost use Rattle.plan_changes.specs.Databases.{Database, rows_of};
 ghost use Rattle.event_core.specs.Allowed.{is_pinned};
 ghost use Rattle.event_core.specs.History.{names_at};

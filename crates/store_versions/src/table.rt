@@ -11,8 +11,7 @@ use crate::first::first_rows;
 use crate::{ReadyVersion, Room, VersionRow};
 use cell_values::{List, Memory, Name};
 use chunk_map::Directory;
-use event_laws::{Change, Names};
-use lean_core::LeanPin;
+use lean_core::{Change, LeanPin, Names};
 
 /// The versions that the present or an open pin may see, in the order in which they came.
 #[derive(Drop)]

@@ -17,19 +17,19 @@ use Rattle.store_ledger.specs.declared.pinned.Pinned.{Pinned}
 use Rattle.store_ledger.specs.declared.pinned.PinFault.{PinFault}
 use Rattle.store_ledger.specs.Ledger.{IsLedger, IsOpenPin, IsRefused, LedgerState, has_room, history, is_fault, is_noted, reap_comes}
 use Rattle.store_ledger.proofs.Keeping.{pinned_of}
-use Rattle.fresh_commits.specs.Event.{Event}
-use Rattle.fresh_commits.specs.Event.TheVariants.{Entered}
-use Rattle.fresh_commits.specs.ReadFault.{ReadFault}
-use Rattle.fresh_commits.specs.StoreParts.{StoreParts}
-use Rattle.fresh_commits.specs.At.{standing}
-use Rattle.fresh_commits.specs.Calls.{IsUnread, NotesFault, chunks_at, history_at, payload_at}
-use Rattle.fresh_commits.specs.Events.{events, owner_of}
-use Rattle.fresh_commits.specs.Standings.{BeganAs, Standing}
-use Rattle.store_commits.specs.Start.{Start}
-use Rattle.store_commits.specs.Growth.{AddsEvents, AddsFault, IsCounted, fault_events}
-use Rattle.store_commits.specs.Starts.{start_of}
-use Rattle.store_commits.proofs.Added.{if_ok, on_ok}
-use Rattle.store_commits.proofs.Ended.{fault_seen}
+use Rattle.fresh_changes.specs.Event.{Event}
+use Rattle.fresh_changes.specs.Event.TheVariants.{Entered}
+use Rattle.fresh_changes.specs.ReadFault.{ReadFault}
+use Rattle.fresh_changes.specs.StoreParts.{StoreParts}
+use Rattle.fresh_changes.specs.At.{standing}
+use Rattle.fresh_changes.specs.Calls.{IsUnread, NotesFault, chunks_at, history_at, payload_at}
+use Rattle.fresh_changes.specs.Events.{events, owner_of}
+use Rattle.fresh_changes.specs.Standings.{BeganAs, Standing}
+use Rattle.array_store.specs.declared.start.Start.{Start}
+use Rattle.array_store.specs.Growth.{AddsEvents, AddsFault, IsCounted, fault_events}
+use Rattle.array_store.specs.Starts.{start_of}
+use Rattle.array_store.proofs.Added.{if_ok, on_ok}
+use Rattle.told_stores.proofs.Ended.{fault_seen}
 use Rattle.told_stores.specs.Faults.{IsUnreadUnder}
 use Rattle.told_stores.specs.Laws.{IsToldWhole}
 use Rattle.told_stores.specs.Told.{IsTold, entries_in, is_sealed, ledger_of, told}

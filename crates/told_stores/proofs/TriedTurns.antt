@@ -22,29 +22,29 @@ use Rattle.event_core.specs.Bases.{sequence_at}
 use Rattle.event_core.specs.Cells.{at}
 use Rattle.event_core.specs.History.{History, names_at, pin_before, up_to}
 use Rattle.event_core.proofs.Tests.{both_not}
-use Rattle.event_laws.specs.Pins.{PlaceTells}
-use Rattle.event_laws.proofs.Pins.{places_tell_pins}
-use Rattle.store_commits.specs.Fresh.{IsFresh}
-use Rattle.fresh_commits.specs.Fresh.{FreshChangesAreTyped}
-use Rattle.fresh_commits.specs.Laws.{FreshChangesMayBeMade}
+use Rattle.lean_core.specs.Pins.{PlaceTells}
+use Rattle.lean_core.proofs.Pins.{places_tell_pins}
+use Rattle.array_store.specs.Fresh.{IsFresh}
+use Rattle.fresh_changes.specs.FreshLaws.{FreshChangesAreTyped}
+use Rattle.fresh_changes.specs.Laws.{FreshChangesMayBeMade}
 use Rattle.store_ledger.specs.declared.pinned.Pinned.{Pinned}
 use Rattle.store_ledger.specs.Ledger.{LedgerState, IsOpenPin, history, is_fault, is_noted, is_tried}
-use Rattle.fresh_commits.specs.Event.{Event}
-use Rattle.fresh_commits.specs.Event.TheVariants.{Acknowledged, Entered}
-use Rattle.fresh_commits.specs.StoreParts.{StoreParts}
-use Rattle.fresh_commits.specs.At.{standing}
-use Rattle.fresh_commits.specs.Calls.{database_with, history_at}
-use Rattle.fresh_commits.specs.Events.{events, owner_of}
-use Rattle.fresh_commits.specs.Standings.{BeganAs, Standing, base_of}
-use Rattle.fresh_commits.specs.Prepared.{IsAsked, MayBeMade}
-use Rattle.store_commits.specs.Parts.{IsFull}
-use Rattle.store_commits.specs.Start.{Start}
-use Rattle.store_commits.specs.Growth.{tried_events}
-use Rattle.store_commits.specs.Starts.{start_of}
-use Rattle.store_commits.specs.declared.fault.CommitFault.{CommitFault}
-use Rattle.store_commits.specs.declared.fault.CommitFault.TheVariants as faults
-use Rattle.store_commits.specs.Causes.{FitsAfter, IsNeeded, IsUncommitted, unused_after}
-use Rattle.store_commits.specs.Tried.{AddsSealed, AddsTried, IsFaultOrNone}
+use Rattle.fresh_changes.specs.Event.{Event}
+use Rattle.fresh_changes.specs.Event.TheVariants.{Acknowledged, Entered}
+use Rattle.fresh_changes.specs.StoreParts.{StoreParts}
+use Rattle.fresh_changes.specs.At.{standing}
+use Rattle.fresh_changes.specs.Calls.{database_with, history_at}
+use Rattle.fresh_changes.specs.Events.{events, owner_of}
+use Rattle.fresh_changes.specs.Standings.{BeganAs, Standing, base_of}
+use Rattle.fresh_changes.specs.Prepared.{IsAsked, MayBeMade}
+use Rattle.array_store.specs.Parts.{IsFull}
+use Rattle.array_store.specs.declared.start.Start.{Start}
+use Rattle.array_store.specs.Growth.{tried_events}
+use Rattle.array_store.specs.Starts.{start_of}
+use Rattle.told_stores.specs.declared.commits.fault.CommitFault.{CommitFault}
+use Rattle.told_stores.specs.declared.commits.fault.CommitFault.TheVariants as faults
+use Rattle.told_stores.specs.Causes.{FitsAfter, IsNeeded, IsUncommitted, unused_after}
+use Rattle.told_stores.specs.Tried.{AddsSealed, AddsTried, IsFaultOrNone}
 use Rattle.told_stores.specs.Tries.{AreOfTry, MakesCommit, MakesHere, TriesCommit, TriesHere, is_fresh_since}
 use Rattle.told_stores.specs.Told.{IsTold, entries_in, ledger_of, told}
 use Rattle.told_stores.specs.Turns.{Adds, found_before, leaves_pin_of}

@@ -1,5 +1,0 @@
-use Rattle.shared_runs.specs.Runs.{IsRun}
-use Rattle.test_sessions.proofs.steps.tell_steps.Given as goal
-
-abbrev pub invariant-loop-at : goal.invariant-loop-at
-invariant-loop-at g l = IsRun l.run
