@@ -5,7 +5,7 @@ use Rattle.afl_outside.specs.Disk.{DiskGoesOn, IsNewDisk, Moment, Only}
 use Rattle.afl_outside.specs.Shelf.{LeavesOthers, ShelfState}
 use Rattle.page_file.specs.Start.{IsEmptyDatabase}
 use Rattle.page_slots.specs.Puts.{OnlySyncs}
-use Rattle.file_laws.proofs.Made.{made_stands}
+use Rattle.file_meaning.proofs.Made.{made_stands}
 use Rattle.run_opening.specs.Names.{Word}
 use Rattle.run_opening.specs.Opened.{FailsToOpenDevice, IsOpenedDevice, LeavesUnasked}
 use Rattle.session_reports.specs.declared.notices.Notice.{Notice}

@@ -7,7 +7,7 @@ use Rattle.afl_outside.specs.Sink.{SinkState}
 use Rattle.afl_outside.specs.Shelf.{ShelfState}
 use Rattle.afl_in_memory.specs.Inner.Records.{SureBytes, sure_disk_moment}
 use Rattle.run_stores.specs.Starts.{start_of}
-use Rattle.file_laws.proofs.Made.{made_stands, opened_is}
+use Rattle.file_meaning.proofs.Made.{made_stands, opened_is}
 use Rattle.file_meaning.specs.Opening.{IsWrongAt}
 use Rattle.page_file.specs.Start.{IsEmptyDatabase}
 use Rattle.plan_changes.specs.Databases.{Database}

@@ -3,7 +3,7 @@ ghost use Rattle.std.specs.Prelude.{◌≡◌, ◌≤◌, ◌⊎◌, ℕ, [], �
 ghost use Rattle.afl_lexer.specs.Inner.Standing.{StandsAfter};
 ghost use Rattle.afl_in_memory.specs.InMemory.{sure_source_state, unread};
 ghost use Rattle.afl_in_memory.specs.Inner.Records.{SureBytes, sure_disk_moment};
-ghost use Rattle.generated_script.specs.Script.{script};
+ghost use Rattle.command_words.specs.Script.{script};
 ghost use Rattle.session_reports.specs.Notice.{status_of};
 ghost use Rattle.store_state.specs.Standings.{Standing};
 ghost use Rattle.afl_run.specs.Generate.{RunsGenerate, listed};
@@ -18,7 +18,7 @@ use afl_in_memory::{SureDisk, SureSource};
 use afl_lexer::Splitter;
 use afl_outside::{Gate, Shelf, Sink};
 use cell_values::{List, Memory};
-use generated_script::script_of;
+use command_words::script_of;
 use run_opening::open_reply;
 use run_stores::StoreRun;
 use session_reports::{Notice, Streams, status};

@@ -2,11 +2,11 @@
 ghost use Rattle.std.specs.Prelude.{◌≡◌, ◌<◌, ◌↔◌, ℕ, [], ◌∷◌, Some, codes, drop, length, slice_get};
 ghost use Rattle.command_words.specs.Faults.{IsFault};
 ghost use Rattle.command_words.specs.Forms.{IsGenerate, IsInit, IsRun};
-ghost use Rattle.command_words.specs.declared.forms.Printing.{Printing};
+ghost use Rattle.command_words.specs.declared.words.forms.Printing.{Printing};
 ghost use Rattle.session_reports.specs.Notice.{status_of};
 ghost use Rattle.afl_in_memory.specs.InMemory.{sure_source_state};
 ghost use Rattle.afl_in_memory.specs.Inner.Records.{sure_disk_moment};
-ghost use Rattle.generated_script.specs.Script.{script};
+ghost use Rattle.command_words.specs.Script.{script};
 ghost use Rattle.afl_run.specs.Generate.{RunsGenerate};
 ghost use Rattle.afl_run.specs.Run.{MakesDatabase, RunsScripts, RunsTry};
 

@@ -8,20 +8,20 @@ use Rattle.afl_outside.specs.Disk.{Moment}
 use Rattle.afl_outside.specs.Source.{SourceState}
 use Rattle.afl_outside.specs.Sink.{SinkState}
 use Rattle.event_core.specs.declared.entry.Entry.TheVariants.{Pin}
-use Rattle.session_answers.specs.Acts.{Course, nothing, looking, trying, making}
-use Rattle.session_answers.specs.Answered.{BeganAt, IsAnswered}
-use Rattle.session_answers.specs.Event.{Event}
-use Rattle.session_answers.specs.Replies.{IsToldFor}
-use Rattle.session_answers.specs.Reply.{Reply}
-use Rattle.session_answers.specs.Start.{Start}
-use Rattle.session_answers.specs.Style.{Style}
-use Rattle.session_answers.specs.Told.{entries_in, is_sealed}
-use Rattle.session_answers.proofs.Staying.{entered_later, no_room_later, replies_stay}
+use Rattle.afl_session.specs.Acts.{Course, nothing, looking, trying, making}
+use Rattle.afl_session.specs.Answered.{BeganAt, IsAnswered}
+use Rattle.store_state.specs.declared.event.Event.{Event}
+use Rattle.afl_session.specs.Replies.{IsToldFor}
+use Rattle.afl_session.specs.declared.replies.reply.Reply.{Reply}
+use Rattle.session_sources.specs.Start.{Start}
+use Rattle.statement_replies.specs.declared.style.Style.{Style}
+use Rattle.session_sources.specs.Told.{entries_in, is_sealed}
+use Rattle.afl_session.proofs.Staying.{entered_later, no_room_later, replies_stay}
 use Rattle.session_reports.specs.declared.reports.Mark.{Mark}
 use Rattle.session_reports.specs.declared.reports.SessionEnd.{SessionEnd}
 use Rattle.session_reports.specs.declared.reports.SessionEnd.TheVariants as ends
 use Rattle.afl_session.specs.Histories.{AnswersTextIn, IsAnsweredIn, IsMarkedIn}
-use Rattle.afl_session.specs.Laws.{MarksStay, SessionsStay}
+use Rattle.afl_session.specs.ScriptsLaws.{MarksStay, SessionsStay}
 use Rattle.afl_session.specs.Marked.{AnswersText, IsMarked, IsReplyOf, reply_told}
 use Rattle.afl_session.specs.Session.{AnswerRule, AnswersAll, AnswersFront, AreAnswered, LeavesOne, Replies, Serves, decided}
 

@@ -15,18 +15,18 @@ use Rattle.result_print.specs.declared.refusal.Refusal.{Refusal}
 use Rattle.result_print.specs.declared.refusal.Refusal.TheVariants as refusals
 use Rattle.statement_replies.specs.Reply.{memory_line}
 use Rattle.statement_replies.specs.declared.replies.Reply.{Reply as Words}
-use Rattle.session_answers.specs.Event.{Event}
-use Rattle.session_answers.specs.Replies.{HasLine}
-use Rattle.session_answers.specs.Reply.{Reply}
-use Rattle.session_answers.specs.Start.{Start}
-use Rattle.session_answers.specs.Style.{Style}
+use Rattle.store_state.specs.declared.event.Event.{Event}
+use Rattle.afl_session.specs.Replies.{HasLine}
+use Rattle.afl_session.specs.declared.replies.reply.Reply.{Reply}
+use Rattle.session_sources.specs.Start.{Start}
+use Rattle.statement_replies.specs.declared.style.Style.{Style}
 use Rattle.session_reports.specs.Outcomes.{is_want}
 use Rattle.afl_session.specs.Inner.Serving.{GoesOn, HasAnswered, HasStopped, Reached, mark_at, place_after, statement_at}
 use Rattle.afl_session.specs.Marked.{AnswersText, IsMarked, IsReplyOf, reply_told, written_for}
 use Rattle.afl_session.specs.Session.{AnswerRule, AreAnswered}
 use Rattle.session_reports.specs.declared.reports.Mark.{Mark}
-use Rattle.afl_session.specs.declared.streams.Stopped.{Stopped}
-use Rattle.afl_session.specs.declared.streams.Stopped.TheVariants.{Fault, Memory}
+use Rattle.afl_session.specs.declared.scripts.streams.Stopped.{Stopped}
+use Rattle.afl_session.specs.declared.scripts.streams.Stopped.TheVariants.{Fault, Memory}
 
 -- ---- marks
 

@@ -2,10 +2,10 @@
 use Rattle.std.proofs.Common.{◌≡◌, ◌∙◌, ◌≤◌, ℕ, List, length, inl, inr, ap, sym, subst, arith}
 use Rattle.result_print.specs.declared.refusal.Refusal.TheVariants.{TooLong}
 use Rattle.statement_replies.specs.Reply.{too_long}
-use Rattle.session_answers.specs.Event.{Event}
-use Rattle.session_answers.specs.Refusals.{RefusesAt}
-use Rattle.session_answers.specs.Reply.{Reply}
-use Rattle.session_answers.specs.Told.{entries_in}
+use Rattle.store_state.specs.declared.event.Event.{Event}
+use Rattle.afl_session.specs.Refusals.{RefusesAt}
+use Rattle.afl_session.specs.declared.replies.reply.Reply.{Reply}
+use Rattle.session_sources.specs.Told.{entries_in}
 use Rattle.afl_session.specs.Marked.{IsTooLongReply}
 
 -- by its number of bytes, the place of the last reply, and how many entries were seen, as they were found

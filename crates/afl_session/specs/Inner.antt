@@ -1,1 +1,4 @@
 pub mod Serving
+pub mod Steps
+pub mod Tree
+pub mod Turns

@@ -1,12 +1,22 @@
-//! A session over a store that is shared: the statements of a script, answered in order.
+//! A session over a shared store: from the bytes of its script to the texts of its replies, each told at its place in the store's history.
 #![tactic(auto)]
 
-mod laws;
-mod session;
-mod statements;
-mod streams;
+mod answers;
+mod outcomes;
+mod replies;
+mod scripts;
+mod turns;
 
-pub use laws::marks_stay;
-pub use session::serve;
-pub use session_answers::{Options, Reply, Style, answer};
-pub use session_reports::{Mark, SessionEnd, SessionReport};
+pub use answers::answer;
+pub use outcomes::{
+    failures_are_noted, fresh_changes_are_left, outcomes_are_said, readings_are_told,
+    replies_are_told,
+};
+pub use replies::{
+    Reply, a_damaged_page_is_told, at_place, fresh_changes_are_said, pins_are_entered, refusal_at,
+    refusal_or_want, replies_stay, some_replies_are_told, uncommitted, unread, want,
+};
+pub use scripts::{marks_stay, serve};
+pub use session_reports::SessionReport;
+pub use statement_replies::Style;
+pub use turns::{Options, answer_held};

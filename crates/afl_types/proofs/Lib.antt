@@ -1,10 +1,18 @@
-pub use Rattle.check_queries.proofs.Holding
-pub use Rattle.check_queries.proofs.NoQuery
-pub use Rattle.check_queries.proofs.PartsFit
-pub use Rattle.check_queries.proofs.SchemasFit
-pub use Rattle.check_queries.proofs.Small
+pub mod Agreeing
 pub mod Arguments
+pub mod CreatedPlaces
+pub mod ParsedLeaves
 pub mod Parts
+pub mod ReadVersions
+pub mod RowsFit
+pub mod Saying
+pub mod StoredNames
 pub mod Targets
-mod Worked
+pub mod TypedChanges
+pub mod TypedGroups
+pub mod TypedJoins
+pub mod TypedMoves
+pub mod TypedQueries
+mod WorkedLaws
 mod WorkedStatements
+mod WorkedTypes

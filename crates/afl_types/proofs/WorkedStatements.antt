@@ -12,7 +12,7 @@ use Rattle.check_rules.specs.Checked.{refused}
 use Rattle.check_rules.specs.Operators.{query_named, change_named}
 use Rattle.check_queries.specs.Stored.{leaf_of}
 use Rattle.afl_types.specs.Statements.{statement_of}
-use Rattle.afl_types.specs.declared.statements.checking.Typed.TheVariants.{Query as AQuery, Change as AChange, Versions, Show, ListArrays}
+use Rattle.afl_types.specs.declared.types.statements.checking.Typed.TheVariants.{Query as AQuery, Change as AChange, Versions, Show, ListArrays}
 
 abbrev at : ℕ → ℕ → Span
 at a b = record { start = a; end = b }

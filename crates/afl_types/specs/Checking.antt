@@ -5,7 +5,7 @@ use Rattle.logical_plan.specs.declared.names.Names.{Names}
 use Rattle.check_rules.specs.Checked.{Checked}
 pub use Rattle.check_queries.specs.Arrays.{AreValid}
 use Rattle.afl_types.specs.Statements.{statement_of}
-use Rattle.afl_types.specs.declared.statements.checking.Typed.{Typed}
+use Rattle.afl_types.specs.declared.types.statements.checking.Typed.{Typed}
 
 -- a tree of a text
 abbrev pub check_of : Term → List ℕ → Names → Checked Typed

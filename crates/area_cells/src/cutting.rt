@@ -1,7 +1,7 @@
 //! The cells of a chunk in a box.
 ghost use Rattle.std.specs.Prelude.{◌≡◌, ◌<◌, [], Some, length, slice_index_or, OnOk, IfOk};
 ghost use Rattle.cell_values.specs.declared.datum.Cell.TheVariants.{Full};
-ghost use Rattle.cell_columns.specs.Inner.CellsIn.{cells_in};
+ghost use Rattle.array_rows.specs.Inner.CellsIn.{cells_in};
 ghost use Rattle.array_rows.specs.Boxes.{within};
 ghost use Rattle.array_geom.specs.Geometry.{HasFrame, coordinate_in, volume};
 ghost use Rattle.array_geom.specs.Inner.Ranges.{IsGrid};
@@ -9,8 +9,7 @@ ghost use Rattle.array_parts.specs.Made.{IsPlaced, IsMadeBy, with_cell};
 ghost use Rattle.area_cells.specs.Cut.{cell_inside};
 
 use array_geom::{Chunk, Grid, grid_of};
-use array_rows::is_in_box;
-use cell_columns::Form;
+use array_rows::{Form, is_in_box};
 use cell_values::{Bounds, Margins, Memory, Schema, copy_numbers};
 
 /// Adds a cell of these.

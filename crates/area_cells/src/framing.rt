@@ -14,7 +14,7 @@ ghost use Rattle.area_cells.specs.Inner.Filled.{IsFilled};
 
 use array_geom::{Chunk, ChunkedArray, Grid, grid_of};
 use array_parts::with_cells;
-use cell_columns::Cells;
+use array_rows::Cells;
 use cell_values::{ChunkAt, List, Margins, Memory, Row, Schema, copy_numbers};
 
 /// Adds the cell of a row, whose coordinate has a place in the grid.

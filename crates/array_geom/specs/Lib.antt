@@ -7,12 +7,12 @@ pub use Rattle.array_rows.specs.Cells
 pub use Rattle.array_rows.specs.Cellwise
 pub use Rattle.array_rows.specs.Datum
 pub use Rattle.array_rows.specs.Dimension
+pub use Rattle.array_rows.specs.Inner.CellsIn
 pub use Rattle.array_rows.specs.Kind
 pub use Rattle.array_rows.specs.Rows
 pub use Rattle.array_rows.specs.Schema
 pub use Rattle.array_rows.specs.Schemas
 pub use Rattle.array_rows.specs.Table
-pub use Rattle.cell_columns.specs.Inner.CellsIn
 pub mod Areas
 pub mod Chunks
 pub mod Geometry

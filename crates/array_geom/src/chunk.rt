@@ -1,8 +1,7 @@
 //! Chunks, and arrays that are made of them.
 ghost use Rattle.std.specs.Prelude.{◌≡◌, IfOk};
 
-use array_rows::{Broken, ChunkAt, Copies, List, Margins, Memory, Schema, copy_numbers};
-use cell_columns::Cells;
+use array_rows::{Broken, Cells, ChunkAt, Copies, List, Margins, Memory, Schema, copy_numbers};
 
 /// The cells of a chunk's core and of its margins, by their rising positions in the chunk's frame.
 #[derive(Drop)]

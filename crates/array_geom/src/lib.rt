@@ -10,11 +10,10 @@ mod laws;
 mod margins;
 
 pub use array_rows::{
-    Attribute, Bounds, Bytes, Cell, ChunkAt, Code, Coord, Datum, Dimension, Kind, List, Memory,
-    Schema, copy_numbers,
+    Attribute, Bounds, Bytes, Cell, Cells, ChunkAt, Code, Coord, Datum, Dimension, Form, Kind, List,
+    Memory, Rows, Schema, copy_numbers,
 };
 pub use boxes::Boxes;
-pub use cell_columns::{Cells, Form, Rows};
 pub use chunk::{Changed, Chunk, ChunkedArray};
 pub use cores::{chunk_of, chunks_meeting, core_box, has_core};
 pub use frames::{frame, grid_of, place, position};

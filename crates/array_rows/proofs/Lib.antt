@@ -1,3 +1,6 @@
+pub mod ColumnLaws
+pub mod FaultLaws
+pub mod RowLaws
 pub mod RowSets
 pub mod RowsLemmas
 pub mod Witness

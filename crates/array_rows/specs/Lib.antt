@@ -12,6 +12,10 @@ pub use Rattle.cell_values.specs.declared.schema.Kind
 pub use Rattle.cell_values.specs.declared.schema.Schema
 pub mod Arrays
 pub mod Boxes
+pub mod CellFaults
 pub mod Cellwise
+pub mod Inner
 pub mod Laws
 pub mod Rows
+pub mod RowsIn
+pub mod Seen

@@ -1,12 +1,12 @@
-//! The cells of an array as rows in row-major order: look-ups, parts, unions and changes of them, and their laws.
+//! The cells of an array: rows in row-major order and their laws, and cells in columns that contracts see as a list.
 #![tactic(auto)]
 
-mod boxes;
-mod laws;
+mod columns;
+mod rows;
 
-pub use boxes::is_in_box;
 pub use cell_values::{
     Attribute, Bounds, Broken, Bytes, Cell, ChunkAt, Code, Coord, Copies, Datum, Dimension, Kind,
     List, Margins, Memory, Schema, copy_numbers,
 };
-pub use laws::{cells_at_coordinates, rows_rise, same_cells_are_same_rows};
+pub use columns::{Cells, Column, Form, Rows, Small, fault_of_cell, fault_of_value, small_value};
+pub use rows::{cells_at_coordinates, is_in_box, rows_rise, same_cells_are_same_rows};

@@ -9,7 +9,7 @@ use Rattle.store_opening.specs.Event.TheVariants.{Acknowledged}
 use Rattle.store_opening.specs.Calls.{NotesFault}
 use Rattle.store_opening.specs.Events.{events}
 use Rattle.store_opening.specs.Standings.{Standing}
-use Rattle.prepared_commits.specs.declared.prepared.Prepared.{Prepared}
+use Rattle.prepared_commits.specs.declared.commits.prepared.Prepared.{Prepared}
 use Rattle.store_sealing.specs.Steps.{entry_of, made_by, sealed, sealed_ledger, stopped}
 use Rattle.array_store.specs.Growth.{AddsEvents, AddsFault, IsCounted, fault_events}
 use Rattle.array_store.specs.Sealing.{AddsCommit}

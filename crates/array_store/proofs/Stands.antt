@@ -12,7 +12,7 @@ use Rattle.event_core.specs.Cells.{at}
 use Rattle.store_opening.specs.StoreParts.{StoreParts}
 use Rattle.store_opening.specs.At.{AreParts, standing}
 use Rattle.store_opening.specs.Standings.{Standing, BeganAs, StandsFor, database_at}
-use Rattle.prepared_commits.specs.declared.prepared.Prepared.{Prepared}
+use Rattle.prepared_commits.specs.declared.commits.prepared.Prepared.{Prepared}
 use Rattle.store_sealing.specs.Steps.{sealed, stopped}
 use Rattle.store_opening.specs.declared.opening.Limits.{Limits}
 use Rattle.store_opening.specs.Opened.{IsNew}

@@ -11,8 +11,8 @@ use Rattle.store_opening.specs.Event.{Event}
 use Rattle.store_opening.specs.Event.TheVariants.{Entered, Noted}
 use Rattle.store_opening.specs.Events.{events}
 use Rattle.store_opening.specs.Standings.{Standing, with_notes}
-use Rattle.prepared_commits.specs.declared.fault.PrepareFault.{PrepareFault}
-use Rattle.prepared_commits.specs.declared.fault.PrepareFault.TheVariants.{SequenceEnd, Full, Memory}
+use Rattle.prepared_commits.specs.declared.commits.fault.PrepareFault.{PrepareFault}
+use Rattle.prepared_commits.specs.declared.commits.fault.PrepareFault.TheVariants.{SequenceEnd, Full, Memory}
 use Rattle.store_preparing.specs.Parts.{is_short}
 use Rattle.store_preparing.specs.Left.{IsLeft, reaped_if, tried_now}
 use Rattle.array_store.specs.Growth.{AddsEvents, IsCounted, tried_events}

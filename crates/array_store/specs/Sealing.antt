@@ -4,7 +4,7 @@ use Rattle.afl_outside.specs.Counts.{Rose}
 use Rattle.afl_outside.specs.Disk.{Moment}
 use Rattle.store_opening.specs.Event.TheVariants.{Acknowledged}
 use Rattle.store_opening.specs.Standings.{Standing}
-use Rattle.prepared_commits.specs.declared.prepared.Prepared.{Prepared}
+use Rattle.prepared_commits.specs.declared.commits.prepared.Prepared.{Prepared}
 use Rattle.store_sealing.specs.Steps.{entry_of, made_by, sealed_ledger}
 use Rattle.array_store.specs.Growth.{AddsEvents, fault_events}
 

@@ -18,7 +18,7 @@ use Rattle.chunk_source.specs.declared.sources.asked.Asked.{Asked}
 use Rattle.chunk_source.specs.Source.{AsksFront, Keeps, SourceState, asks, listed}
 use Rattle.chunk_source.proofs.ReadLemmas.{front_after, listed_still}
 use Rattle.chunk_exec.specs.Computed.{asked_for_plan}
-use Rattle.plan_traces.specs.declared.asking.Asking.{Asking}
+use Rattle.changed_chunks.specs.declared.traces.asking.Asking.{Asking}
 use Rattle.changed_chunks.specs.Changing.{AsksOnly, IsToldOf, asked_for, asked_of_all, asked_or_fault, asked_with, rows_without_fault, unless_fault}
 use Rattle.changed_chunks.specs.Inner.Input.{IsFound}
 use Rattle.changed_chunks.specs.Targets.{asking_over, asking_put}

@@ -10,10 +10,10 @@ use Rattle.array_geom.specs.Link.{NumbersRise}
 use Rattle.logical_plan.specs.declared.parts.Leaf.{Leaf}
 use Rattle.logical_plan.specs.Meaning.{Database, version_rows}
 use Rattle.chunk_source.specs.Source.{AreNumbersIn, SourceState, listed, numbers_of}
-use Rattle.plan_traces.specs.declared.asking.Asking.{Asking}
-use Rattle.plan_traces.specs.Listed.{chunks_among, is_sized}
-use Rattle.plan_traces.specs.Traced.{asking_where}
-use Rattle.plan_traces.proofs.Counting.{asking_counted, told_where}
+use Rattle.changed_chunks.specs.declared.traces.asking.Asking.{Asking}
+use Rattle.changed_chunks.specs.Listed.{chunks_among, is_sized}
+use Rattle.changed_chunks.specs.Traced.{asking_where}
+use Rattle.changed_chunks.proofs.Counting.{asking_counted, told_where}
 use Rattle.changed_chunks.specs.Targets.{asking_over, asking_put}
 use Rattle.changed_chunks.specs.Wanted.{is_wanted, target_wanted}
 

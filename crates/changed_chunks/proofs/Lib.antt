@@ -1,9 +1,12 @@
 pub mod Asked
-pub mod Chunks
+pub mod ChunkLaws
+mod ChunksWorked
 pub mod Counted
+pub mod Counting
 pub mod Reach
 pub mod Rows
 pub mod Serves
 pub mod Told
-mod Worked
+mod TracesWorked
+pub mod Tracing
 pub mod Written

@@ -35,13 +35,12 @@ use Rattle.logical_plan.specs.Meaning.{Database, version_rows}
 use Rattle.plan_changes.proofs.NamesOf.{map_filter}
 use Rattle.plan_needs.proofs.AlikeScans.{chunk_meets}
 use Rattle.chunk_source.specs.declared.reading.fault.ExecFault.{ExecFault}
-use Rattle.chunk_source.specs.Source.{HasArray, IsChunkIn, Keeps, SourceState, numbers_of}
-use Rattle.chunk_source.specs.Source.{IsStored as IsRead}
+use Rattle.chunk_source.specs.Source.{HasArray, IsChunkIn, Keeps, SourceState, numbers_of, IsStored as IsRead}
 use Rattle.chunk_source.proofs.ReadingLeafLaws.{each_overlap}
 use Rattle.changed_chunks.specs.Inner.Input.{AreStoredChunks, MayBeStored, stored_rows}
 use Rattle.changed_chunks.specs.Inner.Writes.{IsInsertOf, Serves}
 use Rattle.changed_chunks.specs.Wanted.{all_numbers, is_wanted, target_wanted, touched}
-use Rattle.changed_chunks.proofs.Chunks.{listed_kept, put_each}
+use Rattle.changed_chunks.proofs.ChunkLaws.{listed_kept, put_each}
 use Rattle.changed_chunks.proofs.Reach.{any_filter, any_number}
 
 -- ---- the cells of the cores of parts

@@ -18,7 +18,7 @@ use Rattle.plan_changes.specs.Stored.{IsDatabase, IsStored, RiseBetween}
 use Rattle.plan_changes.proofs.Found.{find_image}
 use Rattle.chunk_source.specs.Source.{SourceState}
 use Rattle.chunk_source.specs.declared.reading.fault.ExecFault.{ExecFault}
-use Rattle.plan_traces.specs.declared.asking.Asking.{Asking}
+use Rattle.changed_chunks.specs.declared.traces.asking.Asking.{Asking}
 use Rattle.changed_chunks.specs.Changing.{IsAnswerOver, IsToldOf}
 use Rattle.changed_chunks.specs.Targets.{IsTargetAsking, asking_put}
 

@@ -38,7 +38,7 @@ use Rattle.changed_chunks.specs.Inner.Input.{AreStoredChunks, CanBeStored, MayBe
 use Rattle.changed_chunks.specs.Inner.Reach.{reach}
 use Rattle.changed_chunks.specs.Inner.Writes.{IsInsertOf, IsStoreOf, Serves}
 use Rattle.changed_chunks.specs.Wanted.{is_wanted, touched}
-use Rattle.changed_chunks.proofs.Chunks.{all_both, kept_listed, kept_rise, sound_cores, stored_chunks}
+use Rattle.changed_chunks.proofs.ChunkLaws.{all_both, kept_listed, kept_rise, sound_cores, stored_chunks}
 use Rattle.changed_chunks.proofs.Reach.{wanted_in_reach}
 use Rattle.changed_chunks.proofs.Serves.{written_over}
 

@@ -22,7 +22,7 @@ use Rattle.chunk_source.specs.declared.sources.asked.Asked.{Asked}
 use Rattle.chunk_source.specs.Source.{AsksFront, SourceState, Reads, asks, listed}
 use Rattle.chunk_exec.specs.Computed.{CanCompute, asked_for_plan}
 use Rattle.commit_pages.specs.Changes.{IsChangeOf}
-use Rattle.plan_traces.specs.declared.asking.Asking.{Asking}
+use Rattle.changed_chunks.specs.declared.traces.asking.Asking.{Asking}
 use Rattle.changed_chunks.specs.Targets.{IsAskingOver}
 use Rattle.changed_chunks.specs.Wanted.{target_wanted}
 

@@ -1,3 +1,4 @@
+pub mod Among
 pub mod Input
 pub mod Reach
 pub mod Writes

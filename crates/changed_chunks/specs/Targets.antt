@@ -10,9 +10,9 @@ use Rattle.plan_changes.specs.declared.change.Change.{Change}
 use Rattle.plan_changes.specs.declared.change.Change.TheVariants.{Create, Store, Insert, Remove, RemoveVersions}
 use Rattle.plan_changes.specs.Databases.{Database, fitted, newest_rows, rows_if_whole}
 use Rattle.chunk_source.specs.Source.{SourceState}
-use Rattle.plan_traces.specs.declared.asking.Asking.{Asking}
-use Rattle.plan_traces.specs.Listed.{listed_chunks}
-use Rattle.plan_traces.specs.Traced.{asking_where}
+use Rattle.changed_chunks.specs.declared.traces.asking.Asking.{Asking}
+use Rattle.changed_chunks.specs.Listed.{listed_chunks}
+use Rattle.changed_chunks.specs.Traced.{asking_where}
 use Rattle.changed_chunks.specs.Wanted.{is_wanted}
 
 -- ---- over a source

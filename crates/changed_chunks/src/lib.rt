@@ -1,11 +1,8 @@
-//! The chunks that a change writes.
+//! The chunks that a change writes, and the lines that tell how many stored chunks a plan asks for.
 #![tactic(auto)]
 
-mod changing;
-mod input;
-mod target;
-mod versions;
-mod wanted;
+mod chunks;
+mod traces;
 
-pub use changing::changed;
-pub use plan_traces::Asking;
+pub use chunks::changed;
+pub use traces::{Asking, count_chunks, plan_lines, write_line};

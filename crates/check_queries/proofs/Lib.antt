@@ -1,6 +1,6 @@
 pub use Rattle.check_joins.proofs.SchemasFit
-pub use Rattle.check_redimension.proofs.Holding
-pub use Rattle.check_redimension.proofs.PartsFit
+pub use Rattle.check_sources.proofs.Holding
+pub use Rattle.check_sources.proofs.PartsFit
 pub mod NoQuery
 pub mod Small
 pub mod Sources

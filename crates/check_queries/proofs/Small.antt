@@ -18,8 +18,8 @@ use Rattle.check_rules.proofs.RulesHolding.{demanded, thens, of_answer}
 use Rattle.check_rules.specs.NewSchema.{of_new_schema}
 use Rattle.check_rules.specs.Sorts.{to_list}
 use Rattle.check_rules.proofs.OperatorsHolding.{IsWithin, new_holds}
-use Rattle.check_redimension.specs.Stored.{entry_named}
-use Rattle.check_redimension.proofs.Holding.{build_holds, referred_holds, scan_holds}
+use Rattle.check_sources.specs.Stored.{entry_named}
+use Rattle.check_sources.proofs.Holding.{build_holds, referred_holds, scan_holds}
 use Rattle.check_cellwise.proofs.CellsHolding.{filter_holds, apply_holds, project_holds}
 use Rattle.check_cellwise.specs.Boxes.{box_of}
 use Rattle.check_cellwise.proofs.BoxesHolding.{between_holds, subarray_holds, slice_holds}
@@ -39,8 +39,8 @@ use Rattle.check_joins.specs.Groups.{aggregate_parts}
 use Rattle.check_joins.specs.Windows.{window_parts}
 use Rattle.check_joins.specs.Crosses.{cross_parts}
 use Rattle.check_joins.specs.JoinSchemas.{joined_schema}
-use Rattle.check_redimension.specs.Redimension.{redimension_parts}
-use Rattle.check_redimension.proofs.PartsFit.{MovedFit, redimension_fits}
+use Rattle.check_sources.specs.Redimension.{redimension_parts}
+use Rattle.check_sources.proofs.PartsFit.{MovedFit, redimension_fits}
 use Rattle.check_queries.proofs.NoQuery.{nested_holds}
 
 pub small_valid : (s : Schema) → IsValid s → IsSmall s

@@ -13,7 +13,7 @@ use Rattle.logical_plan.specs.declared.names.NameEntry.{NameEntry}
 use Rattle.schema_grammar.specs.Rules.{schema_of}
 use Rattle.check_rules.specs.Checked.{refused}
 use Rattle.check_rules.specs.Operators.{query_named, change_named}
-use Rattle.check_redimension.specs.Stored.{leaf_of}
+use Rattle.check_sources.specs.Stored.{leaf_of}
 use Rattle.check_queries.specs.Content.{content_span}
 use Rattle.check_queries.specs.Queries.{query_of}
 

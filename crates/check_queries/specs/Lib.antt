@@ -1,8 +1,8 @@
 pub use Rattle.check_joins.specs.Crosses
 pub use Rattle.check_joins.specs.JoinSchemas
-pub use Rattle.check_redimension.specs.Build
-pub use Rattle.check_redimension.specs.Redimension
-pub use Rattle.check_redimension.specs.Stored
+pub use Rattle.check_sources.specs.Build
+pub use Rattle.check_sources.specs.Redimension
+pub use Rattle.check_sources.specs.Stored
 pub mod Arrays
 pub mod Calls
 pub mod Content

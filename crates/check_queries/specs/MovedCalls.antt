@@ -5,7 +5,7 @@ use Rattle.afl_trees.specs.Term.{Term}
 use Rattle.logical_plan.specs.PlanSchema.{schema_of}
 use Rattle.logical_plan.specs.Query.{Query, redimensioned}
 use Rattle.check_rules.specs.Checked.{Checked, then}
-use Rattle.check_redimension.specs.Redimension.{redimension_parts}
+use Rattle.check_sources.specs.Redimension.{redimension_parts}
 
 abbrev pub redimension_call : Span → Query → List Term → Checked Query
 redimension_call s source arguments = then (redimension_parts s (schema_of source) arguments) (λ p. Ok (redimensioned source p.schema p.aggregates))

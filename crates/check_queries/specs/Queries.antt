@@ -11,8 +11,8 @@ use Rattle.logical_plan.specs.declared.names.NameEntry.{NameEntry}
 use Rattle.check_rules.specs.Checked.{Checked, refused, demand, then}
 use Rattle.check_rules.specs.Operators.{operator_named}
 use Rattle.check_rules.specs.Sorts.{to_list}
-use Rattle.check_redimension.specs.Build.{build_call}
-use Rattle.check_redimension.specs.Stored.{referred, scan_call}
+use Rattle.check_sources.specs.Build.{build_call}
+use Rattle.check_sources.specs.Stored.{referred, scan_call}
 use Rattle.check_queries.specs.Calls.{call_of, fits_count, fits_two, ruled, ruled_two}
 use Rattle.check_queries.specs.Content.{content_span}
 use Rattle.check_queries.specs.Nested.{nested}

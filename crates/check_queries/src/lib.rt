@@ -10,5 +10,5 @@ mod nested;
 mod query;
 
 pub use call::{Call, OverSource, OverTwo};
-pub use check_redimension::meant;
+pub use check_sources::meant;
 pub use query::query_plan;

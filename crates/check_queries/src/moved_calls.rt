@@ -2,13 +2,13 @@
 ghost use Rattle.std.specs.Prelude.{◌≤◌, length};
 ghost use Rattle.logical_plan.specs.PlanSchema.{schema_of};
 ghost use Rattle.check_rules.specs.Checked.{Answers};
-ghost use Rattle.check_redimension.specs.Redimension.{redimension_parts};
+ghost use Rattle.check_sources.specs.Redimension.{redimension_parts};
 ghost use Rattle.check_queries.specs.MovedCalls.{redimension_call};
 
 use afl_trees::Tree;
 use cell_values::Span;
-use check_redimension::{Redimensioned, redimension_parts};
 use check_rules::{TypeFault, shape_of};
+use check_sources::{Redimensioned, redimension_parts};
 use logical_plan::{Plan, let_go};
 use std::alloc::Global;
 

@@ -1,2 +1,4 @@
 pub mod Build
+pub mod Redimension
 pub mod Stored
+pub mod Targets

@@ -1,8 +1,8 @@
-//! Queries that read no other query: builds, literals, and stored arrays.
+//! Queries that read no other query: builds, literals and stored arrays; and the parts of `redimension` besides its source.
 #![tactic(auto)]
 
-mod build;
-mod stored;
+mod redimension;
+mod sources;
 
-pub use build::{build_call, meant};
-pub use stored::{referred, scan_call};
+pub use redimension::{Redimensioned, redimension_parts};
+pub use sources::{build_call, meant, referred, scan_call};

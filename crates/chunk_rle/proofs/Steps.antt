@@ -6,7 +6,7 @@ use Rattle.std.proofs.lemmas.List.{append-nil, map-append, nil_from_length, leng
 use Rattle.array_geom.specs.Datum.{Datum}
 use Rattle.array_geom.specs.Cell.{Cell}
 use Rattle.array_geom.specs.Cell.TheVariants.{Full}
-use Rattle.cell_columns.specs.RowsIn.{rows_in}
+use Rattle.array_rows.specs.RowsIn.{rows_in}
 use Rattle.chunk_rle.specs.declared.runs.PosRun.{PosRun}
 use Rattle.chunk_rle.specs.declared.runs.Run.{Run}
 use Rattle.chunk_rle.specs.declared.runs.Column.{Column}

@@ -5,7 +5,7 @@ ghost use Rattle.array_geom.specs.Schemas.{IsValid};
 ghost use Rattle.array_geom.specs.Schema.{Schema as ASchema};
 ghost use Rattle.array_geom.specs.Geometry.{has_core};
 ghost use Rattle.array_geom.specs.declared.chunk.Chunk.{Chunk as AChunk};
-ghost use Rattle.cell_columns.specs.RowsIn.{AreLong};
+ghost use Rattle.array_rows.specs.RowsIn.{AreLong};
 ghost use Rattle.chunk_rle.specs.Chunks.{spelling, all_values, chunk_of, chunk_payload};
 ghost use Rattle.chunk_rle.specs.Decoding.{Answers, Told};
 ghost use Rattle.chunk_rle.specs.Frames.{frame_in, frame_of};

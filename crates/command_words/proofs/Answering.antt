@@ -1,12 +1,12 @@
 -- What is read is the answer: the only form, or the only place.
 use Rattle.std.proofs.Common.{◌≡◌, ◌↔◌, ℕ, ◌+◌, ◌<◌, ◌≤◌, Result, Ok, Err, List, [], ◌∷◌, ◌++◌, length, take, drop, refl, sym, ap, subst, ◌∙◌, arith, add-one, append_assoc, take-append-drop, take-take, ◌⊎◌, inl, inr}
 use Rattle.std.proofs.lemmas.Bool.{cases_order}
-use Rattle.command_words.specs.declared.forms.Form.{Form}
+use Rattle.command_words.specs.declared.words.forms.Form.{Form}
 use Rattle.command_words.specs.Forms.{Word, IsForm}
 use Rattle.command_words.specs.Faults.{GoesOn, IsFault}
 use Rattle.command_words.specs.Inner.Reading.{read_words}
 use Rattle.command_words.specs.Laws.{FormsAreUnique, FaultsAreUnique}
-use Rattle.command_words.specs.Worked.{Wrong, AreFaults, Right, AreForms, WorkedWords, wrong_words, right_words}
+use Rattle.command_words.specs.WordsWorked.{Wrong, AreFaults, Right, AreForms, WorkedWords, wrong_words, right_words}
 use Rattle.command_words.proofs.Places.{Judged, FaultIn}
 use Rattle.command_words.proofs.Verbs.{words_judged}
 

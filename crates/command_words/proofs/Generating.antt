@@ -4,9 +4,9 @@ use Rattle.std.specs.Prelude.{codes}
 use Rattle.std.specs.Str.{bytes_eq}
 use Rattle.std.specs.Str.Parse.{digits_value}
 use Rattle.std.proofs.lemmas.Bool.{cond_both}
-use Rattle.command_words.specs.declared.forms.Form.{Form}
-use Rattle.command_words.specs.declared.forms.Form.TheVariants.{Try, Init, Run, Generate}
-use Rattle.command_words.specs.declared.settings.RunOption.TheVariants.{Workers}
+use Rattle.command_words.specs.declared.words.forms.Form.{Form}
+use Rattle.command_words.specs.declared.words.forms.Form.TheVariants.{Try, Init, Run, Generate}
+use Rattle.command_words.specs.declared.words.settings.RunOption.TheVariants.{Workers}
 use Rattle.command_words.specs.Forms.{Word, IsForm, is_script_number, may_say, workers_said, workers_words}
 use Rattle.command_words.specs.Inner.Reading.{by_script_number, by_workers, number_within, read_generate, read_workers, script_number}
 use Rattle.command_words.proofs.Names.{same_bytes}

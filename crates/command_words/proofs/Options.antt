@@ -6,11 +6,11 @@ use Rattle.std.specs.Str.{bytes_eq}
 use Rattle.std.specs.Str.Parse.{digits_value}
 use Rattle.std.proofs.lemmas.Bool.{and_parts, and_from, or_parts, cond_both}
 use Rattle.std.proofs.lemmas.List.Sums.{sum_by-cons}
-use Rattle.command_words.specs.declared.forms.Form.{Form}
-use Rattle.command_words.specs.declared.forms.Form.TheVariants.{Run}
-use Rattle.command_words.specs.declared.settings.RunOption.{RunOption}
-use Rattle.command_words.specs.declared.settings.RunOption.TheVariants.{Pages, History, Workers, Format, Trace}
-use Rattle.command_words.specs.declared.settings.Settings.{Settings}
+use Rattle.command_words.specs.declared.words.forms.Form.{Form}
+use Rattle.command_words.specs.declared.words.forms.Form.TheVariants.{Run}
+use Rattle.command_words.specs.declared.words.settings.RunOption.{RunOption}
+use Rattle.command_words.specs.declared.words.settings.RunOption.TheVariants.{Pages, History, Workers, Format, Trace}
+use Rattle.command_words.specs.declared.words.settings.Settings.{Settings}
 use Rattle.command_words.specs.Forms.{Word, Setting, is_dashed, is_flag, option_word, said_words, setting_words, may_say, is_right, is_option, is_there, number_in}
 use Rattle.command_words.specs.Inner.Reading.{is_given, flag_of, words_of, place_of, if_new, next_option, run_of}
 use Rattle.command_words.proofs.Names.{Good, same_bytes, bytes_eq-self}

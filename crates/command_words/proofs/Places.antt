@@ -1,6 +1,6 @@
 -- Where words leave a relation between words and forms, word by word.
 use Rattle.std.proofs.Common.{◌≡◌, ℕ, suc, ◌+◌, ◌<◌, ◌≤◌, List, [], ◌∷◌, ◌++◌, length, take, Result, Ok, Err, arith}
-use Rattle.command_words.specs.declared.forms.Form.{Form}
+use Rattle.command_words.specs.declared.words.forms.Form.{Form}
 use Rattle.command_words.specs.Forms.{Word}
 
 abbrev pub GoesOnIn : (List Word → Form → Type 0) → List Word → Type 0

@@ -3,8 +3,8 @@ use Rattle.std.proofs.Common.{◌≡◌, ℕ, ◌≤◌, true, ◌&&◌, Option,
 use Rattle.std.specs.List.{list_all}
 use Rattle.std.specs.Str.Parse.{digits_value}
 use Rattle.std.proofs.lemmas.Bool.{and_parts, leb-true, cond_both}
-use Rattle.command_words.specs.declared.settings.RunOption.{RunOption}
-use Rattle.command_words.specs.declared.settings.RunOption.TheVariants.{Pages, History, Workers}
+use Rattle.command_words.specs.declared.words.settings.RunOption.{RunOption}
+use Rattle.command_words.specs.declared.words.settings.RunOption.TheVariants.{Pages, History, Workers}
 use Rattle.command_words.specs.Forms.{Word, Setting, is_number, is_number_within, may_say, is_right, is_option, option_word, number_in, workers_said}
 use Rattle.command_words.specs.Laws.{IsWithin, RunsKeepTheirRanges, GeneratesKeepTheirRanges, FormsKeepTheirRanges}
 use Rattle.command_words.proofs.Names.{same_bytes}

@@ -4,10 +4,10 @@ use Rattle.std.specs.Prelude.{codes, flat_map}
 use Rattle.std.specs.Str.{bytes_eq}
 use Rattle.std.specs.Str.Parse.{digits_value}
 use Rattle.std.proofs.lemmas.Bool.{cond_both}
-use Rattle.command_words.specs.declared.forms.Form.{Form}
-use Rattle.command_words.specs.declared.settings.RunOption.{RunOption}
-use Rattle.command_words.specs.declared.settings.RunOption.TheVariants.{Pages, History, Workers, Format, Trace}
-use Rattle.command_words.specs.declared.settings.Settings.{Settings}
+use Rattle.command_words.specs.declared.words.forms.Form.{Form}
+use Rattle.command_words.specs.declared.words.settings.RunOption.{RunOption}
+use Rattle.command_words.specs.declared.words.settings.RunOption.TheVariants.{Pages, History, Workers, Format, Trace}
+use Rattle.command_words.specs.declared.words.settings.Settings.{Settings}
 use Rattle.command_words.specs.Forms.{Word, Setting, is_flag, said_words, setting_words, is_number_within, may_say, option_word}
 use Rattle.command_words.specs.Inner.Reading.{number_within, with_pages, with_history, with_workers, with_said, with_trace, place_of, next_option, run_of, by_said, by_option, read_scripts, read_settings}
 use Rattle.command_words.proofs.Names.{no_scripts, fresh, good_fresh}

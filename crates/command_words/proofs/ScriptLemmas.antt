@@ -1,8 +1,8 @@
 -- The words behind the options: scripts, or where they stop being ones.
 use Rattle.std.proofs.Common.{◌≡◌, ℕ, ◌+◌, ◌≤◌, Option, Some, Result, Ok, List, [], ◌∷◌, ◌++◌, length, refl, sym, subst, ◌∙◌, arith, append_assoc, append-nil, length-append, true≢false, lit≤}
 use Rattle.std.proofs.lemmas.Bool.{cond_both}
-use Rattle.command_words.specs.declared.forms.Form.{Form}
-use Rattle.command_words.specs.declared.settings.Settings.{Settings}
+use Rattle.command_words.specs.declared.words.forms.Form.{Form}
+use Rattle.command_words.specs.declared.words.settings.Settings.{Settings}
 use Rattle.command_words.specs.Forms.{Word}
 use Rattle.command_words.specs.Inner.Reading.{can_stand, wrong_from, run_of, place_of, scripts_outcome}
 use Rattle.command_words.proofs.Names.{Good, good_next, good_stands, fresh, good_fresh}

@@ -1,8 +1,8 @@
 -- The words of a slice, one after the other.
 use Rattle.std.proofs.Common.{◌≡◌, ℕ, ◌+◌, ◌-◌, ◌≤◌, true, false, cond, Option, None, Some, Result, Err, List, [], ◌∷◌, length, get_or, take, drop, sym, ap, ◌∙◌, arith, take_all}
-use Rattle.command_words.specs.declared.forms.Form.{Form}
-use Rattle.command_words.specs.declared.settings.RunOption.{RunOption}
-use Rattle.command_words.specs.declared.settings.Settings.{Settings}
+use Rattle.command_words.specs.declared.words.forms.Form.{Form}
+use Rattle.command_words.specs.declared.words.settings.RunOption.{RunOption}
+use Rattle.command_words.specs.declared.words.settings.Settings.{Settings}
 use Rattle.command_words.specs.Forms.{Word, is_dashed, is_flag}
 use Rattle.command_words.specs.Inner.Reading.{no_settings, next_option, place_of, with_said, with_trace, by_said, by_option, read_scripts, read_settings, read_run}
 

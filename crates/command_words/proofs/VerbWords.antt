@@ -1,8 +1,8 @@
 -- The first word of a form.
 use Rattle.std.proofs.Common.{◌≡◌, List, [], ◌∷◌, ◌++◌}
 use Rattle.std.specs.Prelude.{codes, flat_map}
-use Rattle.command_words.specs.declared.forms.Form.{Form}
-use Rattle.command_words.specs.declared.forms.Form.TheVariants.{Try, Init, Run, Generate}
+use Rattle.command_words.specs.declared.words.forms.Form.{Form}
+use Rattle.command_words.specs.declared.words.forms.Form.TheVariants.{Try, Init, Run, Generate}
 use Rattle.command_words.specs.Forms.{Word, setting_words, workers_words, IsForm}
 use Rattle.command_words.proofs.Heads.{same_head}
 

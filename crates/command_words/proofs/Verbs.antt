@@ -4,12 +4,12 @@ use Rattle.std.specs.Prelude.{codes, flat_map}
 use Rattle.std.specs.List.{list_any}
 use Rattle.std.specs.Str.{bytes_eq}
 use Rattle.std.proofs.lemmas.Bool.{cond_both, or_parts, or_from}
-use Rattle.command_words.specs.declared.forms.Form.{Form}
-use Rattle.command_words.specs.declared.forms.Form.TheVariants.{Try, Init, Run, Generate}
-use Rattle.command_words.specs.declared.settings.RunOption.{RunOption}
-use Rattle.command_words.specs.declared.settings.RunOption.TheVariants.{Pages, History, Workers, Format, Trace}
+use Rattle.command_words.specs.declared.words.forms.Form.{Form}
+use Rattle.command_words.specs.declared.words.forms.Form.TheVariants.{Try, Init, Run, Generate}
+use Rattle.command_words.specs.declared.words.settings.RunOption.{RunOption}
+use Rattle.command_words.specs.declared.words.settings.RunOption.TheVariants.{Pages, History, Workers, Format, Trace}
 use Rattle.command_words.specs.Forms.{Word, setting_words, is_dashed, IsForm, IsRun}
-use Rattle.command_words.specs.Worked.{plain}
+use Rattle.command_words.specs.WordsWorked.{plain}
 use Rattle.command_words.specs.Inner.Reading.{no_settings, is_given, read_generate, read_run, read_init, read_try, read_words, read_settings}
 use Rattle.command_words.proofs.Names.{same_bytes}
 use Rattle.command_words.proofs.Places.{Judged, judged_same, judged_step, missing, refused}

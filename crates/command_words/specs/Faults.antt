@@ -1,6 +1,6 @@
 -- The place where words leave the forms.
 use Rattle.std.specs.Prelude.{ℕ, ◌+◌, ◌<◌, ◌≤◌, List, ◌++◌, length, take}
-use Rattle.command_words.specs.declared.forms.Form.{Form}
+use Rattle.command_words.specs.declared.words.forms.Form.{Form}
 use Rattle.command_words.specs.Forms.{Word, IsForm}
 
 -- with some words behind them, these have a form

@@ -1,7 +1,7 @@
 -- Laws of forms and faults.
 use Rattle.std.specs.Prelude.{◌≡◌, ℕ, ◌<◌, ◌≤◌, ◌^◌, Some, List, length, drop, slice_get}
-use Rattle.command_words.specs.declared.forms.Form.{Form}
-use Rattle.command_words.specs.declared.forms.Printing.{Printing}
+use Rattle.command_words.specs.declared.words.forms.Form.{Form}
+use Rattle.command_words.specs.declared.words.forms.Printing.{Printing}
 use Rattle.command_words.specs.Forms.{Word, IsForm, IsGenerate, IsInit, IsRun}
 use Rattle.command_words.specs.Faults.{IsFault}
 

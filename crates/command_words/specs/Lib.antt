@@ -2,4 +2,6 @@ pub mod Faults
 pub mod Forms
 pub mod Inner
 pub mod Laws
-pub mod Worked
+pub mod Script
+pub mod ScriptWorked
+pub mod WordsWorked

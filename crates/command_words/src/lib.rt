@@ -1,15 +1,11 @@
-//! The words of the command line: the forms that they may have, and where they leave them.
+//! The words of the command line, their forms, and the script that `generate` runs.
 #![tactic(auto)]
 
-mod arg;
-mod forms;
-mod laws;
-mod scripts;
-mod settings;
+mod script;
+mod words;
 
-pub use arg::Arg;
-pub use forms::{Form, Printing, form_of};
-pub use laws::{
-    faults_are_unique, forms_are_unique, forms_keep_their_places, forms_keep_their_ranges,
-    worked_words,
+pub use script::{script_of, worked_script};
+pub use words::{
+    Arg, Form, Printing, faults_are_unique, form_of, forms_are_unique, forms_keep_their_places,
+    forms_keep_their_ranges, worked_words,
 };

@@ -1,7 +1,7 @@
 -- The chain of a commit behind the blobs of its version.
 use Rattle.std.proofs.Common.{◌≡◌, ◌∙◌, IfSome, ℕ, ◌+◌, ◌-◌, ◌<◌, Bool, true, false, cond, List, [], ◌∷◌, ◌++◌, length, take, drop, Option, Some, None, refl, sym, ap, subst, arith}
 use Rattle.std.specs.Int.{w32, to_le_bytes}
-use Rattle.std.specs.List.{AllByRecursion, flat_map}
+use Rattle.std.specs.List.{AllByRecursion, flat_map, AllZip}
 use Rattle.std.specs.Option.{is_some}
 use Rattle.std.proofs.lemmas.List.{length-append, length-drop, length-take-le, take-append-drop}
 use Rattle.chunk_map.specs.declared.directory.Directory.{Directory}
@@ -11,19 +11,18 @@ use Rattle.cell_values.specs.declared.schema.Schema.{Schema}
 use Rattle.plan_changes.specs.declared.change.Change.{Change}
 use Rattle.plan_changes.specs.declared.change.Change.TheVariants.{Create, Store, Insert, Remove, RemoveVersions}
 use Rattle.plan_changes.specs.Changes.{has_array}
-use Rattle.file_laws.specs.BlobAt.{BlobAt}
-use Rattle.file_laws.specs.CatalogArray.{CatalogArray}
-use Rattle.file_laws.specs.Catalog.{Catalog}
-use Rattle.file_laws.specs.CatalogRecord.TheVariants as entries
-use Rattle.file_laws.specs.Spelling.{spell_record, spell_array, spelling}
-use Rattle.file_laws.specs.Changed.{has_its_directory, record_for, after_change}
-use Rattle.file_laws.specs.Records.{entries_of}
+use Rattle.file_meaning.specs.BlobAt.{BlobAt}
+use Rattle.file_meaning.specs.CatalogArray.{CatalogArray}
+use Rattle.file_meaning.specs.Catalog.{Catalog}
+use Rattle.file_meaning.specs.CatalogRecord.TheVariants as entries
+use Rattle.file_meaning.specs.Spelling.{spell_record, spell_array, spelling}
+use Rattle.file_meaning.specs.Changed.{has_its_directory, record_for, after_change}
+use Rattle.file_meaning.specs.Records.{entries_of}
 use Rattle.commit_costs.specs.Apart.{makes_version}
 use Rattle.commit_costs.specs.Lengths.{AreAlike, AreAlikeArrays, AreBothAlike}
 use Rattle.commit_costs.proofs.Lengths.{records_read_no_page, catalogs_read_no_page, changes_keep_alike}
 use Rattle.commit_costs.specs.Costs.{record_length}
 use Rattle.commit_writes.specs.Commits.{pages_of, commit_pages, IsBlobSized, IsChainSized}
-use Rattle.std.specs.List.{AllZip}
 use Rattle.commit_pages.specs.declared.written.Written.{Written}
 use Rattle.commit_pages.specs.declared.version.NewVersion.{NewVersion}
 use Rattle.commit_pages.specs.Versions.{version_in, new_version, version_needs, draft_at, IsWritten}

@@ -30,11 +30,11 @@ use Rattle.plan_changes.specs.Query.{Query}
 use Rattle.plan_changes.specs.declared.change.Change.{Change}
 use Rattle.plan_changes.specs.declared.change.Change.TheVariants.{Create, Store, Insert, Remove, RemoveVersions}
 use Rattle.plan_changes.specs.Databases.{Database, fitted, new_rows, newest_rows, rows_if_whole}
-use Rattle.file_laws.specs.Catalog.{Catalog}
-use Rattle.file_laws.specs.Standing.{stored_chunk}
-use Rattle.file_laws.proofs.Counts.{counts_agree}
-use Rattle.file_laws.proofs.Payloads.{part_stored}
-use Rattle.file_laws.proofs.StoredLaws.{beside_stay}
+use Rattle.file_meaning.specs.Catalog.{Catalog}
+use Rattle.file_meaning.specs.Standing.{stored_chunk}
+use Rattle.file_meaning.proofs.Counts.{counts_agree}
+use Rattle.file_meaning.proofs.Payloads.{part_stored}
+use Rattle.file_meaning.proofs.FileStored.{beside_stay}
 use Rattle.commit_costs.specs.Costs.{payload_length, payload_pages, directory_for, new_version_pages, record_pages, catalogue_pages}
 use Rattle.commit_costs.specs.Costs.{directory_of as cost_directory}
 use Rattle.commit_costs.specs.Lengths.{AreAlike, AreBothAlike, AreListed, HasItsLength, meets}

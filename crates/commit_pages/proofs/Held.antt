@@ -21,7 +21,7 @@ use Rattle.commit_costs.specs.Chunks.{spelling as payload_spelling}
 use Rattle.plan_changes.specs.Query.{Query}
 use Rattle.plan_changes.specs.declared.change.Change.TheVariants.{Create, Store, Insert, Remove, RemoveVersions}
 use Rattle.plan_changes.specs.Databases.{Database, fitted, new_rows, newest_rows, rows_if_whole}
-use Rattle.file_laws.specs.Standing.{HoldsPart, HoldsVersion}
+use Rattle.file_meaning.specs.Standing.{HoldsPart, HoldsVersion}
 use Rattle.commit_writes.specs.declared.placed.Placed.{Placed}
 use Rattle.commit_writes.specs.Commits.{pages_of, HoldsBlobs}
 use Rattle.commit_pages.specs.declared.written.Written.{Written}

@@ -12,7 +12,7 @@ use Rattle.commit_costs.specs.Chunks.{spelling}
 use Rattle.commit_costs.specs.Stored.{IsStored}
 use Rattle.page_chain.specs.Pages.{page_size, blob}
 use Rattle.page_chain.proofs.PageLaws.{blob_read}
-use Rattle.file_laws.proofs.Payloads.{part_stored, spelled_is_read}
+use Rattle.file_meaning.proofs.Payloads.{part_stored, spelled_is_read}
 use Rattle.commit_writes.specs.Commits.{pages_of, HoldsBlobs}
 use Rattle.commit_pages.specs.Laws.{IsThere, WrittenAreThere}
 use Rattle.commit_pages.specs.Versions.{blob_count, all_placed, drafted, entry_of}

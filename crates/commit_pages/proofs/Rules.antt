@@ -25,9 +25,9 @@ use Rattle.commit_costs.specs.Chunks.{spelling as payload_spelling, as_runs}
 use Rattle.commit_costs.specs.Spelling.{spell_runs, spell_position_run, spell_column}
 use Rattle.commit_costs.specs.Stored.{IsStored}
 use Rattle.file_items.specs.Pages.{LieIn}
-use Rattle.file_laws.proofs.Counts.{counts_agree}
-use Rattle.file_laws.specs.BlobAt.{BlobAt}
-use Rattle.file_laws.specs.Changed.{IsItsBlob}
+use Rattle.file_meaning.proofs.Counts.{counts_agree}
+use Rattle.file_meaning.specs.BlobAt.{BlobAt}
+use Rattle.file_meaning.specs.Changed.{IsItsBlob}
 use Rattle.commit_writes.specs.declared.placed.Placed.{Placed}
 use Rattle.commit_writes.specs.Commits.{pages_of, IsBlobSized}
 use Rattle.commit_pages.specs.declared.written.Written.{Written}
@@ -38,7 +38,7 @@ use Rattle.commit_pages.specs.declared.laid.Laid.{Laid}
 use Rattle.commit_pages.specs.declared.version.NewVersion.{NewVersion}
 use Rattle.page_chain.specs.Pages.{page_size, pages_for}
 use Rattle.plan_changes.specs.declared.change.Change.{Change}
-use Rattle.file_laws.specs.Catalog.{Catalog}
+use Rattle.file_meaning.specs.Catalog.{Catalog}
 use Rattle.commit_pages.proofs.Blobs.{both_fit, length_placed, sized_placed}
 use Rattle.commit_pages.proofs.Costs.{core_length}
 use Rattle.commit_pages.proofs.Directories.{entries_rise, stores_list_theirs, inserts_replace}

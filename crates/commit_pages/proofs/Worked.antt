@@ -10,15 +10,15 @@ use Rattle.commit_costs.specs.Chunks.{spelling as payload_spelling}
 use Rattle.commit_costs.specs.Spelling.{spell_runs, spell_value}
 use Rattle.commit_costs.specs.Table.{is_same}
 use Rattle.chunk_map.specs.Spelling.{spelling as directory_spelling, spell_entry}
-use Rattle.file_laws.specs.Spelling.{spell_blob, spell_record}
+use Rattle.file_meaning.specs.Spelling.{spell_blob, spell_record}
 use Rattle.file_items.specs.Spelling.{spell_name}
 use Rattle.page_chain.specs.Pages.{page_size}
 use Rattle.plan_changes.specs.Typing.{AreSound}
 use Rattle.plan_changes.specs.Databases.{names_of}
 use Rattle.plan_changes.specs.Stored.{IsDatabase}
 use Rattle.plan_changes.specs.Typed.{IsTypedFor}
-use Rattle.file_laws.proofs.Payloads.{stored_part}
-use Rattle.file_laws.proofs.StoredLaws.{is_stored_chunk}
+use Rattle.file_meaning.proofs.Payloads.{stored_part}
+use Rattle.file_meaning.proofs.FileStored.{is_stored_chunk}
 use Rattle.commit_costs.specs.Costs.{catalog_of}
 use Rattle.commit_costs.specs.Inner.Examples.{schema, cell_at, stored, insert_at}
 use Rattle.commit_costs.specs.Lengths.{AreAlikeCatalogs, meets}

@@ -5,11 +5,11 @@ use Rattle.chunk_map.specs.declared.directory.Directory.{Directory}
 use Rattle.page_chain.specs.Pages.{page_size, pages_for}
 use Rattle.page_chain.specs.Chains.{content_size}
 use Rattle.plan_changes.specs.declared.change.Change.{Change}
-use Rattle.file_laws.specs.BlobAt.{BlobAt}
-use Rattle.file_laws.specs.Catalog.{Catalog}
-use Rattle.file_laws.specs.CatalogRecord.{CatalogRecord}
-use Rattle.file_laws.specs.Spelling.{spell_record, spelling}
-use Rattle.file_laws.specs.Changed.{after_change, record_for}
+use Rattle.file_meaning.specs.BlobAt.{BlobAt}
+use Rattle.file_meaning.specs.Catalog.{Catalog}
+use Rattle.file_meaning.specs.CatalogRecord.{CatalogRecord}
+use Rattle.file_meaning.specs.Spelling.{spell_record, spelling}
+use Rattle.file_meaning.specs.Changed.{after_change, record_for}
 use Rattle.commit_writes.specs.declared.placed.Placed.{Placed}
 use Rattle.commit_writes.specs.Commits.{pages_of}
 use Rattle.commit_pages.specs.declared.written.Written.{Written}

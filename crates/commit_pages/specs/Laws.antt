@@ -20,8 +20,8 @@ use Rattle.plan_changes.specs.Changes.{name_of}
 use Rattle.plan_changes.specs.Databases.{Database, names_of, new_rows, newest_rows}
 use Rattle.plan_changes.specs.Stored.{IsDatabase}
 use Rattle.plan_changes.specs.Typed.{IsTypedFor}
-use Rattle.file_laws.specs.BlobAt.{BlobAt}
-use Rattle.file_laws.specs.Catalog.{Catalog}
+use Rattle.file_meaning.specs.BlobAt.{BlobAt}
+use Rattle.file_meaning.specs.Catalog.{Catalog}
 use Rattle.version_reaper.specs.PageSets.{holds}
 use Rattle.commit_costs.specs.VersionPages.{VersionPages}
 use Rattle.commit_costs.specs.Allowed.{are_different}
@@ -29,7 +29,7 @@ use Rattle.commit_costs.specs.Apart.{makes_version}
 use Rattle.commit_costs.specs.Bases.{records_at}
 use Rattle.commit_costs.specs.History.{History}
 use Rattle.commit_costs.specs.Pages.{fresh_of, is_newest}
-use Rattle.file_laws.specs.Standing.{HoldsPart, HoldsVersion}
+use Rattle.file_meaning.specs.Standing.{HoldsPart, HoldsVersion}
 use Rattle.commit_costs.specs.Costs.{catalog_of, has_log_room, cost_from}
 use Rattle.commit_costs.specs.Lengths.{AreAlikeCatalogs, AreListed, HasItsLength}
 use Rattle.commit_writes.specs.Commits.{pages_of, HoldsBlobs}

@@ -2,14 +2,13 @@
 ghost use Rattle.std.specs.Prelude.{◌≡◌, ◌+◌, length, Some, IfOk, IfSome, IsTrue};
 ghost use Rattle.chunk_map.specs.Entries.{AreRising};
 ghost use Rattle.plan_changes.specs.Allowed.{names_allow};
-ghost use Rattle.file_laws.specs.Catalogs.{names_in};
-ghost use Rattle.file_laws.specs.Spelling.{spell_record, spelling};
-ghost use Rattle.file_laws.specs.Changed.{has_its_directory};
+ghost use Rattle.file_meaning.specs.Catalogs.{names_in};
+ghost use Rattle.file_meaning.specs.Spelling.{spell_record, spelling};
+ghost use Rattle.file_meaning.specs.Changed.{has_its_directory};
 ghost use Rattle.commit_writes.specs.Commits.{pages_of};
 ghost use Rattle.commit_costs.specs.Apart.{makes_version};
 ghost use Rattle.std.specs.Option.{is_some};
-ghost use Rattle.commit_pages.specs.Versions.{blob_at, drafted, directory_bytes, draft_at};
-ghost use Rattle.commit_pages.specs.Versions.{count_at, payload_count, version_needs, HasRisingNumbers};
+ghost use Rattle.commit_pages.specs.Versions.{blob_at, drafted, directory_bytes, draft_at, count_at, payload_count, version_needs, HasRisingNumbers};
 ghost use Rattle.commit_pages.specs.Commits.{chain_count, record_bytes, catalog_bytes, record_needs, base_needs};
 
 use crate::Written;
@@ -18,7 +17,7 @@ use crate::written::drafted_pages;
 use cell_values::{Bytes, Memory};
 use chunk_map::Directory;
 use commit_writes::Placed;
-use file_laws::{BlobAt, Catalog, encode_catalog, encode_record, record_of, with_change};
+use file_meaning::{BlobAt, Catalog, encode_catalog, encode_record, record_of, with_change};
 use page_chain::chain_pages;
 use plan_changes::Change;
 use std::alloc::Global;

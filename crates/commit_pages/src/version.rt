@@ -4,7 +4,7 @@ ghost use Rattle.std.specs.List.{flat_map};
 ghost use Rattle.array_rows.specs.Boxes.{by_pairs};
 ghost use Rattle.chunk_map.specs.Entries.{AreRising};
 ghost use Rattle.chunk_map.specs.Spelling.{spelling as directory_spelling};
-ghost use Rattle.file_laws.specs.Opening.{version_pages};
+ghost use Rattle.file_meaning.specs.Opening.{version_pages};
 ghost use Rattle.commit_pages.specs.Versions.{placed, all_placed, blob_at, settled, entry_of, entries_of, put_entries};
 ghost use Rattle.commit_pages.specs.Versions.{directory_of, directory_bytes, version_in, new_version, payload_count, HasRisingNumbers};
 
@@ -13,7 +13,7 @@ use crate::written::{blob_count, first_pages, pages_behind, settle_all};
 use cell_values::{Bytes, ChunkAt, List, MAX_DIMENSIONS, Memory, copy_numbers};
 use chunk_map::{DirEntry, Directory, encode_directory, replaced};
 use commit_writes::Placed;
-use file_laws::BlobAt;
+use file_meaning::BlobAt;
 use std::alloc::Global;
 
 /// What a version adds to a file.

@@ -3,11 +3,11 @@ use Rattle.std.proofs.Common.{◌≡◌, ◌≤◌, ◌<◌, ◌⊎◌, inl, inr
 use Rattle.std.specs.Prelude.{nat_eq, if◌then◌else◌}
 use Rattle.std.specs.List.{list_all}
 use Rattle.afl_outside.specs.Disk.{Moment}
-use Rattle.page_layout.specs.Opens.{OpensAs}
-use Rattle.page_layout.specs.Places.{gate_of, body_of, other, IsNone, KeepsPages}
-use Rattle.page_layout.specs.declared.sides.Side.{Side}
-use Rattle.page_layout.specs.declared.sides.Side.TheVariants.{A, B}
-use Rattle.page_layout.specs.declared.roots.Root.{Root}
+use Rattle.page_slots.specs.Opens.{OpensAs}
+use Rattle.page_slots.specs.Places.{gate_of, body_of, other, IsNone, KeepsPages}
+use Rattle.page_slots.specs.declared.layout.sides.Side.{Side}
+use Rattle.page_slots.specs.declared.layout.sides.Side.TheVariants.{A, B}
+use Rattle.page_slots.specs.declared.layout.roots.Root.{Root}
 use Rattle.page_chain.specs.Pages.{AreDistinct}
 use Rattle.page_chain.specs.Inner.Runs.{OnlyWrites, Sees}
 use Rattle.page_file.specs.Puts.{OnlyPuts}

@@ -2,14 +2,14 @@
 use Rattle.std.proofs.Common.{◌≡◌, ◌<◌, ◌≤◌, ℕ, zero, suc, ◌+◌, ◌*◌, List, [], ◌∷◌, ◌++◌, length, take, drop, slice_index, get_or, sym, ◌∙◌, ap, subst, arith, length-append}
 use Rattle.std.proofs.lemmas.List.{get_or_append_left, get_or-append-add, take_all}
 use Rattle.std.specs.List.{AllByRecursion}
-use Rattle.page_layout.specs.Places.{IsNone, KeepsPages}
+use Rattle.page_slots.specs.Places.{IsNone, KeepsPages}
 use Rattle.page_chain.specs.Pages.{page_size, AreDistinct, HoldsBlob}
 use Rattle.page_chain.proofs.Kept.{size_is, page_kept}
 use Rattle.page_chain.proofs.WriteLemmas.{length-piece}
 use Rattle.page_file.proofs.Kept.{chain_on}
 use Rattle.page_file.specs.Written.{MayWrite}
 use Rattle.page_file.specs.Slots.{Slots}
-use Rattle.page_layout.specs.declared.roots.OpenRoot.{OpenRoot}
+use Rattle.page_slots.specs.declared.layout.roots.OpenRoot.{OpenRoot}
 use Rattle.commit_writes.specs.Commits.{pages_of, HoldsBlobs, HoldsAll, IsBlobSized}
 use Rattle.commit_writes.specs.declared.placed.Placed.{Placed}
 

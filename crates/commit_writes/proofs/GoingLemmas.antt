@@ -1,8 +1,8 @@
 -- How the calls of a commit go on.
 use Rattle.std.proofs.Common.{◌≡◌, ◌⊎◌, ◌≤◌, inl, inr, ⊎_elim, ℕ, ◌+◌, Bool, List, [], ◌∷◌, IsTrue, Option, Some, None, IfSome, refl, sym, ◌∙◌, subst, arith}
 use Rattle.afl_outside.specs.Disk.{LeavesOnly, Moment, DiskGoesOn, Only}
-use Rattle.page_layout.specs.Places.{IsNone, KeepsPages}
-use Rattle.page_layout.specs.Opens.{OpensAs}
+use Rattle.page_slots.specs.Places.{IsNone, KeepsPages}
+use Rattle.page_slots.specs.Opens.{OpensAs}
 use Rattle.page_chain.specs.Inner.Runs.{OnlyWrites, Over, Sees}
 use Rattle.page_chain.proofs.Kept.{keeps_on, keeps_more}
 use Rattle.page_chain.proofs.RunLemmas.{goes}

@@ -1,7 +1,7 @@
 -- The entry of a record is filled.
 use Rattle.std.proofs.Common.{◌≡◌, ◌≤◌, ◌⊎◌, inl, inr, ⊎_elim, ℕ, false, ◌+◌, List, [], ◌∷◌, Option, IfSome, sym, ◌∙◌, ap, subst, arith}
 use Rattle.afl_outside.specs.Disk.{Moment}
-use Rattle.page_layout.specs.Opens.{OpensAs}
+use Rattle.page_slots.specs.Opens.{OpensAs}
 use Rattle.page_chain.specs.Inner.Runs.{OnlyWrites, Sees}
 use Rattle.page_file.specs.Puts.{OnlyPuts}
 use Rattle.page_file.specs.Standing.{entry_gate, gate_place, target_page, IsClosed, IsTarget, LeavesOpening, MayOpen}
@@ -11,7 +11,7 @@ use Rattle.page_file.specs.Target.TheVariants as targets
 use Rattle.page_file.specs.NextEntry.TheVariants as entries
 use Rattle.page_file.proofs.Settling.{settled}
 use Rattle.page_file.specs.Written.{MayWrite}
-use Rattle.page_layout.specs.Places.{IsNone, KeepsPages}
+use Rattle.page_slots.specs.Places.{IsNone, KeepsPages}
 use Rattle.page_file.specs.Steps.{ajar, emptied, shut_entry}
 use Rattle.commit_writes.specs.Commits.{HoldsAll, commit_pages, record_of}
 use Rattle.commit_writes.specs.Inner.Going.{Goes}

@@ -2,9 +2,9 @@
 use Rattle.std.proofs.Common.{◌≡◌, ◌⊎◌, inl, inr, ⊎_elim, ℕ, Bool, true, false, List, [], ◌∷◌, ◌++◌, Option, refl, sym, ◌∙◌, ap, subst, arith}
 use Rattle.afl_outside.specs.Counts.{Rose}
 use Rattle.afl_outside.specs.Disk.{DiskState, DiskGoesOn}
-use Rattle.page_layout.specs.Places.{other}
-use Rattle.page_layout.specs.Opens.{OpensAs}
-use Rattle.page_layout.specs.declared.logs.RecordAt.{RecordAt}
+use Rattle.page_slots.specs.Places.{other}
+use Rattle.page_slots.specs.Opens.{OpensAs}
+use Rattle.page_slots.specs.declared.layout.logs.RecordAt.{RecordAt}
 use Rattle.page_file.specs.Standing.{IsClosed, IsReady, IsShut, IsShutRoot, IsShutEntry, IsStillRoot, MayOpen}
 use Rattle.page_file.proofs.Settling.{no_root}
 use Rattle.page_file.specs.Steps.{emptied, emptied_root, emptied_entry, shut, shut_root, shut_entry, ajar, ajar_entry, doubted, with_target, with_next, with_record}

@@ -1,8 +1,8 @@
 -- A commit as pages and bytes.
 use Rattle.std.specs.Prelude.{◌≡◌, ℕ, ◌<◌, List, [], ◌∷◌, ◌++◌, length, slice_index}
 use Rattle.std.specs.List.{AllByRecursion}
-use Rattle.page_layout.specs.declared.roots.Root.{Root}
-use Rattle.page_layout.specs.declared.logs.RecordAt.{RecordAt}
+use Rattle.page_slots.specs.declared.layout.roots.Root.{Root}
+use Rattle.page_slots.specs.declared.layout.logs.RecordAt.{RecordAt}
 use Rattle.page_chain.specs.Pages.{page_size, pages_for, HoldsBlob}
 use Rattle.page_chain.specs.Chains.{content_size, HoldsChain}
 use Rattle.commit_writes.specs.declared.placed.Placed.{Placed}

@@ -1,9 +1,9 @@
 -- What each image at each moment of a commit opens as, and which of its pages may differ.
 use Rattle.std.specs.Prelude.{◌≡◌, ℕ, ◌⊎◌, List, [], ◌∷◌, ◌++◌, IsTrue, true, false, Some}
 use Rattle.afl_outside.specs.Disk.{LeavesOnly, Moment, Only}
-use Rattle.page_layout.specs.Places.{other, KeepsPages}
-use Rattle.page_layout.specs.Opens.{OpensAs}
-use Rattle.page_layout.specs.declared.sides.Format.TheVariants.{Two}
+use Rattle.page_slots.specs.Places.{other, KeepsPages}
+use Rattle.page_slots.specs.Opens.{OpensAs}
+use Rattle.page_slots.specs.declared.layout.sides.Format.TheVariants.{Two}
 use Rattle.page_chain.specs.Inner.Runs.{Over}
 use Rattle.page_file.specs.Standing.{root_in, IsSound, MayOpen, OpensAsRoot}
 use Rattle.page_file.specs.Steps.{doubted, emptied, with_record, with_root}

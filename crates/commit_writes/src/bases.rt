@@ -3,8 +3,8 @@
 ghost use Rattle.std.specs.Prelude.{◌≡◌, ◌<◌, ◌⊎◌, ◌∷◌, [], ◌++◌, ℕ, List, Some, false, true, OnOk, IfErr, MatchResult};
 ghost use Rattle.std.specs.List.{AllByRecursion};
 ghost use Rattle.afl_outside.specs.Disk.{DiskGoesOn, FailsWithCause};
-ghost use Rattle.page_layout.specs.Opens.{OpensAs};
-ghost use Rattle.page_layout.specs.Places.{IsNone, KeepsPages};
+ghost use Rattle.page_slots.specs.Opens.{OpensAs};
+ghost use Rattle.page_slots.specs.Places.{IsNone, KeepsPages};
 ghost use Rattle.page_chain.specs.Inner.Runs.{OnlyWrites, Sees};
 ghost use Rattle.page_file.specs.Standing.{IsClosed, IsDurable, KeepsSound};
 ghost use Rattle.page_file.specs.Steps.{emptied, with_root};
@@ -15,8 +15,8 @@ ghost use Rattle.commit_writes.specs.Commits.{root_of, base_pages, commit_pages,
 ghost use Rattle.commit_writes.specs.Moments.{HasBase, IsKnown, LeavesOne, MakesBase, MayHaveBase, PassesBy, Rereads, StaysKnown, StopsBase};
 ghost use Rattle.commit_writes.specs.Inner.Going.{Goes};
 
-use crate::pages::{close, write_pages};
 use crate::{Placed, Stopped};
+use crate::pages::{close, write_pages};
 use afl_outside::{Disk, Failed};
 use page_file::PageFile;
 

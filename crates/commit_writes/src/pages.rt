@@ -3,8 +3,8 @@
 ghost use Rattle.std.specs.Prelude.{◌≡◌, ◌∷◌, [], ◌++◌, ℕ, List, OnOk, OnErr, MatchResult};
 ghost use Rattle.std.specs.List.{AllByRecursion};
 ghost use Rattle.afl_outside.specs.Disk.{DiskGoesOn, FailsWithCause};
-ghost use Rattle.page_layout.specs.Opens.{OpensAs};
-ghost use Rattle.page_layout.specs.Places.{KeepsPages};
+ghost use Rattle.page_slots.specs.Opens.{OpensAs};
+ghost use Rattle.page_slots.specs.Places.{KeepsPages};
 ghost use Rattle.page_chain.specs.Inner.Runs.{OnlyWrites, Sees};
 ghost use Rattle.page_file.specs.Standing.{target_page, IsClosed, IsTarget, KeepsSound, MayOpen};
 ghost use Rattle.page_file.specs.Steps.{doubted, emptied, shut};

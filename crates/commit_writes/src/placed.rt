@@ -2,8 +2,8 @@
 
 ghost use Rattle.std.specs.Prelude.{◌≡◌, ◌++◌, OnOk, MatchResult};
 ghost use Rattle.afl_outside.specs.Disk.{FailsWithCause};
-ghost use Rattle.page_layout.specs.Places.{KeepsPages};
-ghost use Rattle.page_layout.specs.declared.logs.RecordAt.{RecordAt};
+ghost use Rattle.page_slots.specs.Places.{KeepsPages};
+ghost use Rattle.page_slots.specs.declared.layout.logs.RecordAt.{RecordAt};
 ghost use Rattle.page_chain.specs.Pages.{page_size, HoldsBlob};
 ghost use Rattle.page_chain.specs.Chains.{HoldsChain};
 ghost use Rattle.page_chain.specs.Inner.Runs.{OnlyWrites, Sees};
@@ -15,7 +15,7 @@ ghost use Rattle.commit_writes.specs.Commits.{record_of, root_of, IsBlobSized, I
 use afl_outside::{Disk, Failed};
 use cell_values::{Bytes, List};
 use page_file::PageFile;
-use page_layout::{RecordAt, Root};
+use page_slots::{RecordAt, Root};
 
 /// Bytes, and the pages that they are to lie in.
 #[derive(Drop)]

@@ -3,8 +3,8 @@
 ghost use Rattle.std.specs.Prelude.{◌≡◌, ◌≢◌, ◌⊎◌, ◌∷◌, [], ◌++◌, ℕ, List, Some, false, true, OnOk, IfErr, MatchResult};
 ghost use Rattle.std.specs.List.{AllByRecursion};
 ghost use Rattle.afl_outside.specs.Disk.{DiskGoesOn, FailsWithCause};
-ghost use Rattle.page_layout.specs.Opens.{OpensAs};
-ghost use Rattle.page_layout.specs.Places.{IsNone};
+ghost use Rattle.page_slots.specs.Opens.{OpensAs};
+ghost use Rattle.page_slots.specs.Places.{IsNone};
 ghost use Rattle.page_file.specs.Standing.{IsClosed, IsDurable, IsTarget};
 ghost use Rattle.page_file.specs.Steps.{emptied, with_record};
 ghost use Rattle.page_file.specs.Target.TheVariants as targets;
@@ -14,8 +14,8 @@ ghost use Rattle.commit_writes.specs.Commits.{record_of, commit_pages, IsBlobSiz
 ghost use Rattle.commit_writes.specs.Moments.{AddsRecord, HasRecord, IsKnown, LeavesOne, PassesBy, Rereads, StaysKnown, StopsRecord};
 ghost use Rattle.commit_writes.specs.Inner.Going.{Goes};
 
-use crate::pages::{close, write_pages};
 use crate::{Placed, Stopped};
+use crate::pages::{close, write_pages};
 use afl_outside::{Disk, Failed};
 use page_file::PageFile;
 

@@ -5,9 +5,9 @@ use Rattle.cell_values.specs.declared.datum.Datum.TheVariants.{Null, Missing, In
 use Rattle.cell_values.specs.Table.{comparison, both_of, either_of}
 use Rattle.expr_nulls.specs.Expr.{Expr, literal, attribute_value, dimension_value, minus, denial, calculation, relation, conjunction, disjunction, conditional, null_test, byte_length, decimal_text, coded_null, null_code}
 use Rattle.expr_nulls.specs.ExprValue.{value_of, calculated}
-use Rattle.cell_columns.specs.declared.small.Small.{Small}
-use Rattle.cell_columns.specs.declared.small.Small.TheVariants.{Number, Truth, Other}
-use Rattle.cell_columns.specs.Seen.{seen}
+use Rattle.array_rows.specs.declared.columns.small.Small.{Small}
+use Rattle.array_rows.specs.declared.columns.small.Small.TheVariants.{Number, Truth, Other}
+use Rattle.array_rows.specs.Seen.{seen}
 use Rattle.exec_cellwise.specs.Inner.Smalls.{on_smalls, small_both, small_either, small_of, IsSeen}
 
 seen_is : (v : Datum) → IsSeen (seen v) v

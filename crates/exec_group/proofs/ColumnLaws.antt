@@ -12,7 +12,7 @@ use Rattle.cell_values.specs.declared.schema.Bounds.{Bounds}
 use Rattle.array_rows.specs.Boxes.{is_inside, within}
 use Rattle.array_rows.specs.Rows.{IsRising, cell_at, put_row}
 use Rattle.array_rows.proofs.RowSets.{IsRising-rows_where}
-use Rattle.cell_columns.specs.Inner.CellsIn.{value_in}
+use Rattle.array_rows.specs.Inner.CellsIn.{value_in}
 use Rattle.logical_plan.specs.declared.parts.AggFunction.{AggFunction}
 use Rattle.logical_plan.specs.declared.parts.AggFunction.TheVariants.{Sum, Count, CountAll, Min, Max}
 use Rattle.logical_plan.specs.declared.parts.Aggregate.{Aggregate}

@@ -1,5 +1,47 @@
-pub use Rattle.catalog_changes.proofs.DirectoryLaws
 pub use Rattle.catalog_changes.proofs.Kept
 pub use Rattle.catalog_changes.proofs.Spelled
-pub use Rattle.chunk_rle.proofs.ChunkLaws
-pub use Rattle.chunk_rle.proofs.StoredLaws
+pub use Rattle.plan_changes.proofs.DatabaseLaws
+pub use Rattle.plan_changes.proofs.FitLaws
+pub use Rattle.plan_changes.proofs.NamesOf
+pub use Rattle.plan_changes.proofs.Stays
+pub use Rattle.plan_changes.proofs.StoredLaws
+pub mod Apart
+mod Appended
+mod Base
+mod Both
+mod BySlots
+pub mod Counts
+mod Cut
+pub mod Elsewhere
+pub mod Fewer
+pub mod FileStored
+mod Follow
+mod FoundRise
+pub mod Free
+mod Held
+mod Later
+mod Lists
+mod Logged
+pub mod Made
+pub mod More
+pub mod One
+pub mod OneVersion
+pub mod Parts
+pub mod Payloads
+mod Record
+mod Rising
+mod Rows
+mod Same
+mod Seen
+mod Shed
+pub mod SlotLaws
+pub mod SlotsBack
+pub mod Steps
+pub mod Taken
+mod Torn
+mod Turn
+mod Version
+mod WorkedBase
+pub mod WorkedFiles
+mod WorkedNext
+pub mod WrongSlots

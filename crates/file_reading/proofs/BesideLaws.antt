@@ -14,9 +14,9 @@ use Rattle.version_catalog.specs.declared.rules.catalog.BlobAt.{BlobAt}
 use Rattle.version_catalog.specs.declared.rules.catalog.CatalogArray.{CatalogArray}
 use Rattle.version_reaper.specs.PageSets.{holds}
 use Rattle.file_meaning.specs.Opening.{all_of, claimed, is_same, is_seen, payloads_in, row_pages, version_pages}
-use Rattle.file_laws.proofs.Apart.{both_all, has_either, same_pages}
-use Rattle.file_laws.proofs.Elsewhere.{entry_steps}
-use Rattle.file_laws.proofs.Parts.{both_true, claim_parts}
+use Rattle.file_meaning.proofs.Apart.{both_all, has_either, same_pages}
+use Rattle.file_meaning.proofs.Elsewhere.{entry_steps}
+use Rattle.file_meaning.proofs.Parts.{both_true, claim_parts}
 use Rattle.file_reading.specs.Reading.{HaveCores, is_beside}
 use Rattle.file_reading.specs.Inner.Rows.{AreBeside, ArePaidBeside, IsBeside, IsRowBeside, entries_of}
 use Rattle.file_reading.specs.Inner.Taken.{HaveAll, IsTaken, LeaveBeside, LeavesBeside}

@@ -1,19 +1,19 @@
 -- All that a file keeps, part by part.
 use Rattle.std.proofs.Common.{◌≡◌, ℕ, List, [], ◌∷◌, ◌++◌, Option, Some, IfSome, Result, Ok, Err, refl, sym, ◌∙◌, ap, subst}
 use Rattle.file_items.specs.Items.{◌>>=◌}
-use Rattle.page_layout.specs.declared.roots.Root.{Root}
+use Rattle.page_slots.specs.declared.layout.roots.Root.{Root}
 use Rattle.page_chain.specs.Pages.{page_size}
 use Rattle.page_chain.specs.Chains.{chain, chain_bytes}
 use Rattle.page_chain.specs.declared.fault.OpenCause.{OpenCause}
 use Rattle.page_chain.specs.declared.fault.OpenCause.TheVariants.{Disk, NotDatabase, Memory}
-use Rattle.page_slots.specs.declared.slots.Slots.{Slots as FileSlots}
+use Rattle.page_slots.specs.declared.slots.slots.Slots.{Slots as FileSlots}
 use Rattle.chunk_map.specs.declared.directory.Directory.{Directory}
 use Rattle.version_catalog.specs.declared.rules.catalog.Catalog.{Catalog}
 use Rattle.version_catalog.specs.Table.{catalog_in}
 use Rattle.file_meaning.specs.Slots.{Slots}
 use Rattle.file_meaning.specs.Opening.{blamed, found_in, Logged, logged_in, rows_in}
-use Rattle.file_meaning.specs.declared.found.Found.{Found}
-use Rattle.file_laws.proofs.Steps.{then_is}
+use Rattle.file_meaning.specs.declared.meaning.found.Found.{Found}
+use Rattle.file_meaning.proofs.Steps.{then_is}
 use Rattle.file_reading.specs.Reading.{Answers, slots_of}
 use Rattle.file_reading.specs.Inner.Found.{IsLogFound, base_found_in, found_behind, log_behind, rules_in}
 use Rattle.file_reading.specs.Inner.Log.{GoesOn, base_in, behind_log}

@@ -4,7 +4,7 @@ use Rattle.std.specs.Prelude.{◌&&◌, ◌||◌, nat_eq, nat_lt, not}
 use Rattle.std.specs.List.{list_any}
 use Rattle.std.proofs.lemmas.Bool.Decides.{nat_tests}
 use Rattle.std.proofs.lemmas.List.Folds.{list_any-append}
-use Rattle.page_layout.specs.declared.logs.RecordAt.{RecordAt}
+use Rattle.page_slots.specs.declared.layout.logs.RecordAt.{RecordAt}
 use Rattle.page_chain.specs.Pages.{page_size, has_page}
 use Rattle.page_chain.specs.Chains.{chain}
 use Rattle.page_chain.proofs.LinkLaws.{chain_linked}
@@ -12,9 +12,9 @@ use Rattle.version_catalog.specs.declared.rules.catalog.Catalog.{Catalog}
 use Rattle.version_reaper.specs.PageSets.{holds, is_held}
 use Rattle.file_meaning.specs.Slots.{Slots}
 use Rattle.file_meaning.specs.Opening.{Logged, all_of, catalogue_pages, found_in, logged_in}
-use Rattle.file_meaning.specs.declared.found.Found.{Found}
+use Rattle.file_meaning.specs.declared.meaning.found.Found.{Found}
 use Rattle.file_items.proofs.BytesLaws.{ok_is}
-use Rattle.file_laws.proofs.Elsewhere.{found_steps, record_steps}
+use Rattle.file_meaning.proofs.Elsewhere.{found_steps, record_steps}
 use Rattle.file_reading.proofs.Steps.{if_some}
 
 above_zero : (p : ℕ) → nat_lt 0 p ≡ true → nat_eq p 0 ≡ false

@@ -15,7 +15,7 @@ use Rattle.chunk_map.specs.Table.{directory_in}
 use Rattle.version_catalog.specs.declared.rules.catalog.BlobAt.{BlobAt}
 use Rattle.version_catalog.specs.declared.rules.catalog.CatalogArray.{CatalogArray}
 use Rattle.file_meaning.specs.Opening.{blamed, claimed, payloads_in, Listed, Row, Rules, directory_from, row_in, rows_in}
-use Rattle.file_laws.proofs.Steps.{then_is}
+use Rattle.file_meaning.proofs.Steps.{then_is}
 use Rattle.file_reading.specs.Reading.{Answers}
 use Rattle.file_reading.specs.Inner.Rows.{entries_of, listed, rowed, behind_row, behind_rows}
 use Rattle.file_reading.specs.Inner.Taken.{IsTaken, IsClaimed, Takes}

@@ -8,14 +8,14 @@ use Rattle.std.proofs.lemmas.List.Folds.{list_all-append, list_any-append}
 use Rattle.logical_plan.specs.declared.parts.Leaf.{Leaf}
 use Rattle.plan_changes.specs.Changes.{entry_named, name_of}
 use Rattle.plan_changes.specs.declared.change.Change.{Change}
-use Rattle.fresh_laws.specs.NamesLaws.{change_names}
+use Rattle.afl_types.specs.NamesLaws.{change_names}
 use Rattle.event_core.specs.declared.entry.Entry.{Entry}
 use Rattle.event_core.specs.declared.entry.Entry.TheVariants.{Pin, Unpin, Commit, Reap}
 use Rattle.event_core.specs.History.{names_at}
 use Rattle.event_core.proofs.Tests.{both_not}
-use Rattle.fresh_laws.specs.Left.{IsLeft, leaves_alone}
-use Rattle.fresh_laws.specs.Fresh.{AreLeft}
-use Rattle.fresh_laws.proofs.Left.{names_stay}
+use Rattle.fresh_changes.specs.Left.{IsLeft, leaves_alone}
+use Rattle.fresh_changes.specs.FreshLaws.{AreLeft}
+use Rattle.fresh_changes.proofs.Left.{names_stay}
 use Rattle.fresh_changes.specs.Fresh.{FreshChangesAreLeft, leaves_change}
 
 or_nothing : (b : Bool) → b ≡ (b || false)

@@ -5,12 +5,12 @@ use Rattle.std.specs.Str.{bytes_eq}
 use Rattle.logical_plan.specs.declared.names.Names.{Names}
 use Rattle.plan_changes.specs.Changes.{entry_named, name_of}
 use Rattle.plan_changes.specs.declared.change.Change.{Change}
-use Rattle.fresh_laws.specs.NamesLaws.{change_names}
+use Rattle.afl_types.specs.NamesLaws.{change_names}
 use Rattle.event_core.specs.declared.entry.Entry.{Entry}
 use Rattle.event_core.specs.declared.entry.Entry.TheVariants.{Pin, Unpin, Commit, Reap}
 use Rattle.event_core.specs.declared.state.Core.{Core}
 use Rattle.event_core.specs.History.{History, names_at}
-use Rattle.fresh_laws.specs.Fresh.{AreLeft, SameRoom}
+use Rattle.fresh_changes.specs.FreshLaws.{AreLeft, SameRoom}
 
 -- whether a change reads an array of a name, or is about it
 abbrev pub has_name : Change → List ℕ → Bool

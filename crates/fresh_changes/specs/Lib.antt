@@ -1,1 +1,15 @@
+pub use Rattle.prepared_commits.specs.At
+pub use Rattle.prepared_commits.specs.Calls
+pub use Rattle.prepared_commits.specs.Event
+pub use Rattle.prepared_commits.specs.Events
+pub use Rattle.prepared_commits.specs.Keeping
+pub use Rattle.prepared_commits.specs.Prepared
+pub use Rattle.prepared_commits.specs.ReadFault
+pub use Rattle.prepared_commits.specs.Sights
+pub use Rattle.prepared_commits.specs.Standings
+pub use Rattle.prepared_commits.specs.StoreParts
+pub use Rattle.prepared_commits.specs.Worked
 pub mod Fresh
+pub mod FreshLaws
+pub mod Laws
+pub mod Left

@@ -1,8 +1,6 @@
-//! What holds of fresh changes.
-ghost use Rattle.fresh_changes.specs.Fresh.{FreshChangesAreLeft};
+//! What later entries of a history leave as it was: the arrays that none of their commits is about, and the changes that read no
+//! others.
 
-/// The arrays that a fresh change reads, and the one that it is about, are as they were, and there is room for one more array just where
-/// there was. So it is checked, is typed, fails and stores as it did.
-pub fn fresh_changes_are_left()
-    ensures { FreshChangesAreLeft }
-{}
+mod laws;
+
+pub use laws::{fresh_changes_stay, left_arrays_stay};

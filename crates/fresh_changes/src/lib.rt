@@ -1,9 +1,11 @@
-//! Whether a change that was computed at a pin may be committed now.
+//! What later entries of a history leave as it was; whether all that a change reads is as it was at its pin; and what a commit of it may then do.
 #![tactic(auto)]
 
-mod fresh;
+mod changes;
+mod commits;
 mod laws;
-mod names;
 
-pub use fresh::is_fresh;
-pub use laws::fresh_changes_are_left;
+pub use changes::{fresh_changes_are_left, is_fresh};
+pub use commits::fresh_changes_may_be_made;
+pub use laws::{fresh_changes_stay, left_arrays_stay};
+pub use prepared_commits::ReadFault;

@@ -2,32 +2,32 @@
 use Rattle.std.proofs.Common.{◌≡◌, ◌+◌, ◌<◌, ℕ, List, [], ◌∷◌, ◌++◌, length, Option, sym, subst, arith}
 use Rattle.std.specs.List.{AllByRecursion}
 use Rattle.array_geom.specs.declared.chunk.Changed.{Changed}
-use Rattle.page_layout.specs.Places.{IsNone, KeepsPages}
-use Rattle.page_layout.specs.declared.sides.Side.{Side}
+use Rattle.page_slots.specs.Places.{IsNone, KeepsPages}
+use Rattle.page_slots.specs.declared.layout.sides.Side.{Side}
 use Rattle.page_chain.specs.Links.{AreFree}
 use Rattle.chunk_map.specs.declared.directory.Directory.{Directory}
-use Rattle.next_files.specs.Change.{Change}
-use Rattle.next_files.specs.Databases.{Database, after}
-use Rattle.next_files.specs.BlobAt.{BlobAt}
-use Rattle.next_files.specs.Catalogs.{IsCatalog}
-use Rattle.next_files.specs.Spelling.{spelling}
-use Rattle.next_files.specs.Changed.{after_change}
-use Rattle.next_files.proofs.Spelled.{changes_keep_catalogs}
-use Rattle.next_files.specs.Slots.{Slots}
-use Rattle.next_files.specs.Opening.{pages_of as found_pages, sequence_of}
-use Rattle.next_files.specs.Found.{Found}
-use Rattle.next_files.specs.Next.{Made, with_base}
-use Rattle.next_files.specs.Laws.{BasesMakeNext, FreePagesTurn}
-use Rattle.next_files.specs.Premises.{StandsBy, HasChain, HoldsBase, root_at, slots_of}
+use Rattle.file_meaning.specs.Change.{Change}
+use Rattle.file_meaning.specs.Databases.{Database, after}
+use Rattle.file_meaning.specs.BlobAt.{BlobAt}
+use Rattle.file_meaning.specs.Catalogs.{IsCatalog}
+use Rattle.file_meaning.specs.Spelling.{spelling}
+use Rattle.file_meaning.specs.Changed.{after_change}
+use Rattle.file_meaning.proofs.Spelled.{changes_keep_catalogs}
+use Rattle.file_meaning.specs.Slots.{Slots}
+use Rattle.file_meaning.specs.Opening.{pages_of as found_pages, sequence_of}
+use Rattle.file_meaning.specs.declared.meaning.found.Found.{Found}
+use Rattle.file_meaning.specs.Next.{Made, with_base}
+use Rattle.file_meaning.specs.NextLaws.{BasesMakeNext, FreePagesTurn}
+use Rattle.file_meaning.specs.Premises.{StandsBy, HasChain, HoldsBase, root_at, slots_of}
 use Rattle.commit_writes.specs.Commits.{base_pages, HoldsAll, root_of}
 use Rattle.commit_pages.specs.declared.laid.Laid.{Laid}
 use Rattle.commit_pages.specs.Versions.{draft_of, new_version}
 use Rattle.commit_pages.specs.Commits.{chain_in, catalog_bytes, rest_of, base_needs, base_laid}
 use Rattle.commit_pages.proofs.Chains.{base_fills, version_has_its}
-use Rattle.laid_commits.specs.Laws.{LaidBasesMakeNext}
-use Rattle.laid_commits.specs.Premises.{IsCommit, made_of}
+use Rattle.laid_commits.specs.LaidLaws.{LaidBasesMakeNext}
+use Rattle.laid_commits.specs.LaidPremises.{IsCommit, made_of}
 use Rattle.laid_commits.proofs.Made.{Seeing, AreGiven, version_made}
-use Rattle.laid_commits.proofs.Pages.{in_order, found_none, below_all, front_low}
+use Rattle.laid_commits.proofs.LaidPages.{in_order, found_none, below_all, front_low}
 use Rattle.laid_commits.proofs.Records.{draft_comes, draft_written, allowed, behind_blobs}
 
 abbrev Makes : List ℕ → List ℕ → Slots → Database → Found → Change → ℕ → Side → Laid → Type 0

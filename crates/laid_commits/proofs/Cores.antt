@@ -11,7 +11,7 @@ use Rattle.commit_writes.specs.declared.placed.Placed.{Placed}
 use Rattle.commit_pages.specs.Versions.{all_placed, draft, settled, entry_of, entries_of, directory_of}
 use Rattle.commit_pages.proofs.Costs.{replaced_has, found_has}
 use Rattle.commit_pages.proofs.Directories.{draft_rises, inserts_replace, stores_list_theirs}
-use Rattle.laid_commits.specs.Laws.{LaidDirectoriesHaveCores}
+use Rattle.laid_commits.specs.LaidLaws.{LaidDirectoriesHaveCores}
 
 fresh_cores : (schema : Schema) (birth : ℕ) (chunks : List Chunk) (ps : List Placed) → AllByRecursion (IsStored schema) chunks
     → AllByRecursion (λ entry. has_core schema.dimensions entry.at.items ≡ true) (by_pairs (entry_of birth) (map (λ chunk. chunk.at) chunks) ps)

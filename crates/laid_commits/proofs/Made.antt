@@ -15,20 +15,20 @@ use Rattle.chunk_map.specs.declared.directory.Directory.{Directory}
 use Rattle.chunk_map.specs.Entries.{AreRising}
 use Rattle.chunk_map.specs.Spelling.{IsDirectory, spelling as directory_spelling}
 use Rattle.logical_plan.specs.declared.names.Names.{Names}
-use Rattle.next_files.specs.Change.{Change}
-use Rattle.next_files.specs.Change.TheVariants.{Create, Store, Insert, Remove, RemoveVersions}
-use Rattle.next_files.specs.Allowed.{has_number}
-use Rattle.next_files.specs.Changes.{has_array, name_of}
-use Rattle.next_files.specs.Databases.{Database, names_of, new_rows, newest_rows}
-use Rattle.next_files.specs.Catalogs.{names_in}
-use Rattle.next_files.specs.Changed.{IsItsBlob}
-use Rattle.next_files.specs.Slots.{Slots}
-use Rattle.next_files.specs.Opening.{is_seen, sequence_of, version_pages}
-use Rattle.next_files.specs.Standing.{HoldsVersion}
-use Rattle.next_files.specs.Found.{Found}
-use Rattle.next_files.specs.Next.{Made, blob_of}
-use Rattle.next_files.specs.Laws.{HadEntriesAreSeen, LaterEntriesAreUnseen, ReplacingEntriesAreUnseen}
-use Rattle.next_files.specs.Premises.{StandsBy, HoldsEntry, IsWritten as IsEarly, HoldsMade, OfVersion, made_pages, row_of, seen_before}
+use Rattle.file_meaning.specs.Change.{Change}
+use Rattle.file_meaning.specs.Change.TheVariants.{Create, Store, Insert, Remove, RemoveVersions}
+use Rattle.file_meaning.specs.Allowed.{has_number}
+use Rattle.file_meaning.specs.Changes.{has_array, name_of}
+use Rattle.file_meaning.specs.Databases.{Database, names_of, new_rows, newest_rows}
+use Rattle.file_meaning.specs.Catalogs.{names_in}
+use Rattle.file_meaning.specs.Changed.{IsItsBlob}
+use Rattle.file_meaning.specs.Slots.{Slots}
+use Rattle.file_meaning.specs.Opening.{is_seen, sequence_of, version_pages}
+use Rattle.file_meaning.specs.Standing.{HoldsVersion}
+use Rattle.file_meaning.specs.declared.meaning.found.Found.{Found}
+use Rattle.file_meaning.specs.Next.{Made, blob_of}
+use Rattle.file_meaning.specs.NextLaws.{HadEntriesAreSeen, LaterEntriesAreUnseen, ReplacingEntriesAreUnseen}
+use Rattle.file_meaning.specs.Premises.{StandsBy, HoldsEntry, IsWritten as IsEarly, HoldsMade, OfVersion, made_pages, row_of, seen_before}
 use Rattle.commit_writes.specs.Commits.{pages_of, HoldsBlobs}
 use Rattle.commit_pages.specs.declared.version.NewVersion.{NewVersion}
 use Rattle.commit_pages.specs.declared.written.Written.{Written}
@@ -41,9 +41,9 @@ use Rattle.commit_pages.proofs.Drafts.{is_written}
 use Rattle.commit_pages.proofs.Held.{versions_are_held}
 use Rattle.commit_pages.proofs.Lengths.{settled_bytes}
 use Rattle.commit_pages.proofs.Rules.{behind_fit, can_be_listed, version_spelled}
-use Rattle.laid_commits.specs.Premises.{last_of_row, newest_in, IsCommit, made_by}
-use Rattle.laid_commits.proofs.Newest.{newest_held}
-use Rattle.laid_commits.proofs.Pages.{few_bytes, all_few, pairs_pages, pairs_born, all_unseen}
+use Rattle.laid_commits.specs.LaidPremises.{last_of_row, newest_in, IsCommit, made_by}
+use Rattle.laid_commits.proofs.LaidNewest.{newest_held}
+use Rattle.laid_commits.proofs.LaidPages.{few_bytes, all_few, pairs_pages, pairs_born, all_unseen}
 
 -- which entries the versions before have
 pub record Seeing : Type 0 where

@@ -1,19 +1,19 @@
 -- Files that open as the slots by which they stand.
 use Rattle.std.proofs.Common.{ℕ, List, []}
-use Rattle.page_layout.specs.Opens.{OpensAs}
-use Rattle.page_layout.specs.declared.sides.Format.{Format}
-use Rattle.page_layout.specs.declared.sides.Format.TheVariants.{One, Two}
-use Rattle.page_layout.specs.declared.sides.Side.{Side}
-use Rattle.page_layout.specs.declared.roots.Root.{Root}
+use Rattle.page_slots.specs.Opens.{OpensAs}
+use Rattle.page_slots.specs.declared.layout.sides.Format.{Format}
+use Rattle.page_slots.specs.declared.layout.sides.Format.TheVariants.{One, Two}
+use Rattle.page_slots.specs.declared.layout.sides.Side.{Side}
+use Rattle.page_slots.specs.declared.layout.roots.Root.{Root}
 use Rattle.page_slots.specs.Standing.{root_in}
-use Rattle.next_files.specs.Databases.{Database}
-use Rattle.next_files.specs.Opening.{Opens}
-use Rattle.next_files.specs.Standing.{Stands}
-use Rattle.next_files.specs.Found.{Found}
-use Rattle.next_files.proofs.SlotLaws.{slots_are}
-use Rattle.next_files.specs.Laws.{FilesStandByTheirSlots, TornBasesStandAlike}
-use Rattle.next_files.specs.Premises.{StandsBy, slots_of}
-use Rattle.laid_commits.specs.Laws.{OpenedFilesStand, OpenedRootsStand}
+use Rattle.file_meaning.specs.Databases.{Database}
+use Rattle.file_meaning.specs.Opening.{Opens}
+use Rattle.file_meaning.specs.Standing.{Stands}
+use Rattle.file_meaning.specs.declared.meaning.found.Found.{Found}
+use Rattle.file_meaning.proofs.SlotLaws.{slots_are}
+use Rattle.file_meaning.specs.NextLaws.{FilesStandByTheirSlots, TornBasesStandAlike}
+use Rattle.file_meaning.specs.Premises.{StandsBy, slots_of}
+use Rattle.laid_commits.specs.LaidLaws.{OpenedFilesStand, OpenedRootsStand}
 
 pub opened_files : FilesStandByTheirSlots → OpenedFilesStand
 opened_files own file slots db found stands opens = own file slots db found (slots_are slots.current slots.records file opens) stands

@@ -5,29 +5,29 @@ use Rattle.std.specs.List.{AllByRecursion}
 use Rattle.std.specs.Option.{is_some}
 use Rattle.std.proofs.lemmas.List.{append_assoc}
 use Rattle.array_geom.specs.declared.chunk.Changed.{Changed}
-use Rattle.page_layout.specs.Places.{IsNone, KeepsPages}
+use Rattle.page_slots.specs.Places.{IsNone, KeepsPages}
 use Rattle.page_chain.specs.Links.{AreFree}
 use Rattle.chunk_map.specs.declared.directory.Directory.{Directory}
 use Rattle.logical_plan.specs.declared.names.Names.{Names}
-use Rattle.next_files.specs.Change.{Change}
-use Rattle.next_files.specs.Change.TheVariants.{Create, Store, Insert, Remove, RemoveVersions}
-use Rattle.next_files.specs.Allowed.{names_allow}
-use Rattle.next_files.specs.Databases.{Database, after}
-use Rattle.next_files.specs.BlobAt.{BlobAt}
-use Rattle.next_files.specs.Catalog.{Catalog}
-use Rattle.next_files.specs.CatalogRecord.{CatalogRecord}
-use Rattle.next_files.specs.CatalogRecord.TheVariants as entries
-use Rattle.next_files.specs.Catalogs.{names_in}
-use Rattle.next_files.specs.Spelling.{spell_record}
-use Rattle.next_files.specs.Changed.{has_its_directory, record_for, stored_by}
-use Rattle.next_files.proofs.Spelled.{changes_have_records}
+use Rattle.file_meaning.specs.Change.{Change}
+use Rattle.file_meaning.specs.Change.TheVariants.{Create, Store, Insert, Remove, RemoveVersions}
+use Rattle.file_meaning.specs.Allowed.{names_allow}
+use Rattle.file_meaning.specs.Databases.{Database, after}
+use Rattle.file_meaning.specs.BlobAt.{BlobAt}
+use Rattle.file_meaning.specs.Catalog.{Catalog}
+use Rattle.file_meaning.specs.CatalogRecord.{CatalogRecord}
+use Rattle.file_meaning.specs.CatalogRecord.TheVariants as entries
+use Rattle.file_meaning.specs.Catalogs.{names_in}
+use Rattle.file_meaning.specs.Spelling.{spell_record}
+use Rattle.file_meaning.specs.Changed.{has_its_directory, record_for, stored_by}
+use Rattle.file_meaning.proofs.Spelled.{changes_have_records}
 use Rattle.commit_pages.specs.Apart.{makes_version}
-use Rattle.next_files.specs.Slots.{Slots}
-use Rattle.next_files.specs.Opening.{pages_of as found_pages, sequence_of}
-use Rattle.next_files.specs.Found.{Found}
-use Rattle.next_files.specs.Next.{Made, with_record}
-use Rattle.next_files.specs.Laws.{RecordsMakeNext, FreePagesTurn}
-use Rattle.next_files.specs.Premises.{StandsBy, HasChain, HoldsRecord, seen_before, record_at, slots_with}
+use Rattle.file_meaning.specs.Slots.{Slots}
+use Rattle.file_meaning.specs.Opening.{pages_of as found_pages, sequence_of}
+use Rattle.file_meaning.specs.declared.meaning.found.Found.{Found}
+use Rattle.file_meaning.specs.Next.{Made, with_record}
+use Rattle.file_meaning.specs.NextLaws.{RecordsMakeNext, FreePagesTurn}
+use Rattle.file_meaning.specs.Premises.{StandsBy, HasChain, HoldsRecord, seen_before, record_at, slots_with}
 use Rattle.commit_writes.specs.Commits.{commit_pages, HoldsAll, record_of}
 use Rattle.commit_pages.specs.declared.laid.Laid.{Laid}
 use Rattle.commit_pages.specs.Versions.{draft_of, new_version, IsWritten}
@@ -35,10 +35,10 @@ use Rattle.commit_pages.specs.Changes.{AreValid, ComesWith}
 use Rattle.commit_pages.specs.Commits.{chain_in, spelled, record_bytes, rest_of, record_needs, record_laid}
 use Rattle.commit_pages.proofs.Chains.{record_fills, version_has_its}
 use Rattle.commit_pages.proofs.Drafts.{is_written}
-use Rattle.laid_commits.specs.Laws.{LaidRecordsMakeNext}
-use Rattle.laid_commits.specs.Premises.{IsCommit, made_of}
+use Rattle.laid_commits.specs.LaidLaws.{LaidRecordsMakeNext}
+use Rattle.laid_commits.specs.LaidPremises.{IsCommit, made_of}
 use Rattle.laid_commits.proofs.Made.{Seeing, AreGiven, version_made}
-use Rattle.laid_commits.proofs.Pages.{in_order, found_none, none_later, below_all}
+use Rattle.laid_commits.proofs.LaidPages.{in_order, found_none, none_later, below_all}
 
 -- ---- what comes with a change
 

@@ -2,16 +2,16 @@
 use Rattle.std.proofs.Common.{◌≡◌, ◌∙◌, ◌+◌, ℕ, List, [], ◌∷◌, ◌++◌, Option, Some, None, refl, sym, ap, subst}
 use Rattle.std.proofs.lemmas.List.{append_assoc, append-nil}
 use Rattle.chunk_map.specs.declared.directory.Directory.{Directory}
-use Rattle.next_files.specs.Changed.{after_change}
-use Rattle.next_files.specs.Opening.{all_of, sequence_of}
-use Rattle.next_files.specs.Next.{blob_of, with_record, with_base}
+use Rattle.file_meaning.specs.Changed.{after_change}
+use Rattle.file_meaning.specs.Opening.{all_of, sequence_of}
+use Rattle.file_meaning.specs.Next.{blob_of, with_record, with_base}
 use Rattle.commit_pages.specs.declared.laid.Laid.{Laid}
 use Rattle.commit_pages.specs.declared.version.NewVersion.{NewVersion}
 use Rattle.commit_pages.specs.declared.written.Written.{Written}
 use Rattle.commit_pages.specs.Versions.{draft_of, version_in, new_version}
 use Rattle.commit_pages.specs.Commits.{record_laid, base_laid}
-use Rattle.laid_commits.specs.Laws.{HasRecordPages, HasBasePages, LaidRecordsHaveTheirPages, LaidBasesHaveTheirPages}
-use Rattle.laid_commits.specs.Premises.{made_by, made_of, pages_made}
+use Rattle.laid_commits.specs.LaidLaws.{HasRecordPages, HasBasePages, LaidRecordsHaveTheirPages, LaidBasesHaveTheirPages}
+use Rattle.laid_commits.specs.LaidPremises.{made_by, made_of, pages_made}
 
 -- ---- the version
 

@@ -6,6 +6,12 @@ pub use Rattle.commit_pages.specs.declared.laid.Laid
 pub use Rattle.commit_pages.specs.declared.version.NewVersion
 pub use Rattle.commit_pages.specs.declared.written.Written
 pub use Rattle.commit_writes.specs.Moments
+pub use Rattle.file_meaning.specs.Premises
+pub mod CostsLaws
+pub mod GivenLaws
 pub mod Inner
-pub mod Laws
-pub mod Premises
+pub mod LaidLaws
+pub mod LaidPremises
+pub mod Rows
+pub mod RowsLaws
+pub mod SizesLaws

@@ -1,58 +1,24 @@
-//! What a commit lays carries a file from one database to the next. No code has to be run for it.
+//! What a commit lays of its change, in the pages that it is given, carries a file to the next database; what is found of a file, and what that costs.
 #![tactic(auto)]
 
-ghost use Rattle.laid_commits.specs.Inner.Removal.{ARemovalIsLaid};
-ghost use Rattle.laid_commits.specs.Laws.{LaidRecordsMakeNext, LaidBasesMakeNext, OpenedFilesStand, OpenedRootsStand};
-ghost use Rattle.laid_commits.specs.Laws.{LaidRecordsHaveTheirPages, LaidBasesHaveTheirPages, LaidDirectoriesHaveCores};
+mod costs;
+mod given;
+mod laid;
+mod rows;
+mod sizes;
 
 pub use commit_pages::{Laid, Written, lay_base, lay_record, needed_for_base, needed_for_record};
-use next_files::{
-    an_array_is_removed, bases_make_next, entries_are_seen, files_stand_by_their_slots,
-    free_pages_turn, records_make_next, torn_bases_stand_alike,
+pub use costs::{
+    an_insert_is_over_its_file, found_catalogs_are_alike, found_directories_are_of_their_rows,
+    found_files_are_over,
 };
-
-/// With what is laid of a record the file stands for the database after the change.
-pub fn laid_records_make_next()
-    ensures { LaidRecordsMakeNext }
-{
-    records_make_next();
-    entries_are_seen();
-    free_pages_turn();
-}
-
-/// With what is laid of a new base the file stands for the database after the change.
-pub fn laid_bases_make_next()
-    ensures { LaidBasesMakeNext }
-{
-    bases_make_next();
-    entries_are_seen();
-    free_pages_turn();
-}
-
-/// A file that opens as the slots by which it stands for a database stands for it by its own.
-pub fn opened_files_stand()
-    ensures slots { OpenedFilesStand }
-    ensures roots { OpenedRootsStand }
-{
-    files_stand_by_their_slots();
-    torn_bases_stand_alike();
-}
-
-/// What is then found has the pages of the commit.
-pub fn laid_commits_have_their_pages()
-    ensures records { LaidRecordsHaveTheirPages }
-    ensures bases { LaidBasesHaveTheirPages }
-{}
-
-/// The core of each chunk that a new directory lists holds a coordinate.
-pub fn laid_directories_have_cores()
-    ensures { LaidDirectoriesHaveCores }
-{}
-
-/// An array that is removed by a new base: what is laid of it is what its file has.
-pub fn a_removal_is_laid()
-    ensures { ARemovalIsLaid }
-{
-    an_array_is_removed();
-    free_pages_turn();
-}
+pub use given::{commits_may_use_free_pages, free_pages_differ};
+pub use laid::{
+    a_removal_is_laid, laid_bases_make_next, laid_commits_have_their_pages,
+    laid_directories_have_cores, laid_records_make_next, opened_files_stand,
+};
+pub use rows::{
+    directories_follow, first_rows_are_in_order, found_pages_are_of_versions, newest_are_last,
+    pages_follow,
+};
+pub use sizes::{read_directories_are_as_long, read_payloads_are_as_long};

@@ -25,7 +25,7 @@ use Rattle.plan_needs.specs.Wanted.{is_wanted, wanted_of}
 use Rattle.chunk_source.specs.Source.{HasArray, numbers_of}
 use Rattle.chunk_source.proofs.ReadingLeafLaws.{each_overlap}
 use Rattle.leaf_parts.specs.Known.{is_framed, known, known_for}
-use Rattle.leaf_parts.specs.Laws.{KnownRowsAreAlike, KnownRowsAreSound}
+use Rattle.leaf_parts.specs.PartLaws.{KnownRowsAreAlike, KnownRowsAreSound}
 
 -- ---- rows that pass two tests
 

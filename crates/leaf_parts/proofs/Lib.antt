@@ -2,6 +2,9 @@ pub mod AloneLaws
 pub mod AssembledLaws
 pub mod ChunkRows
 pub mod KnownLaws
+pub mod NumberedLaws
 pub mod OrderLaws
 pub mod ReadLaws
-mod Worked
+pub mod SufficientLaws
+mod WorkedNumbers
+mod WorkedParts

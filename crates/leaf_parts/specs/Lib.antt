@@ -1,4 +1,6 @@
 pub mod Inner
 pub mod Known
-pub mod Laws
+pub mod NumberLaws
+pub mod Numbered
+pub mod PartLaws
 pub mod Read

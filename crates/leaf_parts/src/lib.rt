@@ -1,10 +1,8 @@
-//! Leaves of plans, read in part: the chunks that are wanted for a box, and the array of what they tell.
+//! The chunks of a leaf that meet a box, read, as an array of the rows that they tell; and plans with numbered leaves.
 #![tactic(auto)]
 
-mod arrays;
-mod gathering;
-mod laws;
-mod reading;
+mod numbers;
+mod parts;
 
-pub use laws::{known_rows_are_alike, known_rows_are_sound};
-pub use reading::read_part;
+pub use numbers::{known_rows_suffice, numbered_plans_mean_the_same};
+pub use parts::{known_rows_are_alike, known_rows_are_sound, read_part};

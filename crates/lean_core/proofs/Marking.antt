@@ -5,8 +5,8 @@ use Rattle.version_reaper.specs.PageSets.{holds}
 use Rattle.event_core.specs.declared.state.VersionPages.{VersionPages}
 use Rattle.event_core.specs.Pages.{has_page}
 use Rattle.event_core.proofs.Tests.{any_map}
-use Rattle.lean_core.specs.declared.pin.LeanPin.{LeanPin}
-use Rattle.lean_core.specs.declared.row.Row.{Row}
+use Rattle.lean_core.specs.declared.lean.pin.LeanPin.{LeanPin}
+use Rattle.lean_core.specs.declared.lean.row.Row.{Row}
 use Rattle.lean_core.specs.Rows.{is_needed, is_seen, stands, standing, seen}
 use Rattle.lean_core.specs.States.{pin_of}
 use Rattle.lean_core.proofs.Lists.{any_agrees, any_filter}

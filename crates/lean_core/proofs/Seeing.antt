@@ -13,8 +13,8 @@ use Rattle.plan_changes.proofs.Maps.{all_weaker}
 use Rattle.event_core.specs.declared.state.VersionPages.{VersionPages}
 use Rattle.event_core.specs.History.{is_pages_of, pages_after}
 use Rattle.event_core.proofs.Tests.{both_not, map_filter, filter_agrees}
-use Rattle.lean_core.specs.declared.pin.LeanPin.{LeanPin}
-use Rattle.lean_core.specs.declared.row.Row.{Row}
+use Rattle.lean_core.specs.declared.lean.pin.LeanPin.{LeanPin}
+use Rattle.lean_core.specs.declared.lean.row.Row.{Row}
 use Rattle.lean_core.specs.Rows.{is_before, is_seen, is_needed, is_below, stands, standing, seen, first_row, new_row, ended, next_version, rows_after}
 use Rattle.lean_core.specs.Inner.Kept.{is_gone_by, is_past}
 use Rattle.lean_core.proofs.Lists.{filter_filter, filter_among, all_images, all_left}

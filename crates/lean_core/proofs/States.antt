@@ -20,8 +20,8 @@ use Rattle.event_core.specs.Pages.{is_newest, fresh_of}
 use Rattle.event_core.specs.Ready.{ReadyFor, IsReadyOver}
 use Rattle.event_core.specs.Replay.{core_after, is_core_live}
 use Rattle.event_core.proofs.Tests.{map_filter, filter_agrees}
-use Rattle.lean_core.specs.declared.pin.LeanPin.{LeanPin}
-use Rattle.lean_core.specs.declared.row.Row.{Row}
+use Rattle.lean_core.specs.declared.lean.pin.LeanPin.{LeanPin}
+use Rattle.lean_core.specs.declared.lean.row.Row.{Row}
 use Rattle.lean_core.specs.Rows.{is_needed, standing, seen, rows_after, first_row}
 use Rattle.lean_core.specs.States.{LeanState, pin_of, core_of, place_of, core_place}
 use Rattle.lean_core.specs.Inner.Kept.{IsLean, IsPart}

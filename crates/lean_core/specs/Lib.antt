@@ -1,5 +1,4 @@
 pub use Rattle.event_core.specs.Agree
-pub use Rattle.event_core.specs.Allowed
 pub use Rattle.event_core.specs.Apart
 pub use Rattle.event_core.specs.Bases
 pub use Rattle.event_core.specs.History
@@ -13,6 +12,16 @@ pub use Rattle.event_core.specs.declared.entry.Used
 pub use Rattle.event_core.specs.declared.state.Core
 pub use Rattle.event_core.specs.declared.state.CorePin
 pub use Rattle.event_core.specs.declared.state.VersionPages
+pub use Rattle.plan_changes.specs.Allowed
+pub use Rattle.plan_changes.specs.Changes
+pub use Rattle.plan_changes.specs.NameEntry
+pub use Rattle.plan_changes.specs.Names
+pub use Rattle.plan_changes.specs.declared.change.Change
+pub mod Cores
 pub mod Inner
+pub mod LegalLaws
+pub mod Pins
+pub mod Promises
 pub mod Rows
+pub mod SharedLaws
 pub mod States

@@ -7,8 +7,8 @@ use Rattle.plan_changes.specs.declared.change.Change.TheVariants.{Create, Store,
 use Rattle.plan_changes.specs.Changes.{next_of}
 use Rattle.event_core.specs.declared.state.VersionPages.{VersionPages}
 use Rattle.event_core.specs.History.{is_pages_of}
-use Rattle.lean_core.specs.declared.pin.LeanPin.{LeanPin}
-use Rattle.lean_core.specs.declared.row.Row.{Row}
+use Rattle.lean_core.specs.declared.lean.pin.LeanPin.{LeanPin}
+use Rattle.lean_core.specs.declared.lean.row.Row.{Row}
 
 -- whether a place is before a version goes
 abbrev pub is_before : ℕ → Option ℕ → Bool

@@ -3,8 +3,8 @@ use Rattle.std.specs.Prelude.{ℕ, List, map}
 use Rattle.plan_changes.specs.Names.{Names}
 use Rattle.event_core.specs.declared.state.CorePin.{CorePin}
 use Rattle.event_core.specs.declared.state.Core.{Core}
-use Rattle.lean_core.specs.declared.pin.LeanPin.{LeanPin}
-use Rattle.lean_core.specs.declared.row.Row.{Row}
+use Rattle.lean_core.specs.declared.lean.pin.LeanPin.{LeanPin}
+use Rattle.lean_core.specs.declared.lean.row.Row.{Row}
 use Rattle.lean_core.specs.Rows.{standing, seen}
 
 -- a lean core as contracts see it: the core that it stands for, and for how many versions more it has room

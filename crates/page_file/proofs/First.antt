@@ -11,15 +11,15 @@ use Rattle.page_slots.specs.Disk.{written}
 use Rattle.page_slots.specs.TornLaws.{Torn-written}
 use Rattle.page_slots.specs.Places.{number_at, SameBut}
 use Rattle.page_slots.specs.Roots.{has_front, text_number, root_at, slot_in, current}
-use Rattle.page_slots.specs.Side.TheVariants.{A, B}
-use Rattle.page_slots.specs.Format.TheVariants.{Two}
-use Rattle.page_slots.specs.Root.{Root}
+use Rattle.page_slots.specs.declared.layout.sides.Side.TheVariants.{A, B}
+use Rattle.page_slots.specs.declared.layout.sides.Format.TheVariants.{Two}
+use Rattle.page_slots.specs.declared.layout.roots.Root.{Root}
 use Rattle.page_slots.proofs.Kept.{number_kept, root_moved}
 use Rattle.page_chain.specs.Pages.{page_at, has_page}
 use Rattle.page_chain.specs.Chains.{chain, chain_bytes, after, next_of}
 use Rattle.page_chain.proofs.Kept.{size_is}
 use Rattle.page_slots.specs.Standing.{IsZeroed, PageHolds, root_in}
-use Rattle.page_slots.specs.declared.slots.NextEntry.TheVariants as entries
+use Rattle.page_slots.specs.declared.slots.slots.NextEntry.TheVariants as entries
 use Rattle.page_slots.proofs.Bytes.{written_same, written_byte}
 use Rattle.page_slots.proofs.RootImages.{open_gate, zero_gate, is_newest}
 use Rattle.page_slots.proofs.LogImages.{page_log, empty_page}

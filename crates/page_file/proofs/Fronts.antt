@@ -4,12 +4,12 @@ use Rattle.std.proofs.lemmas.Bool.{cases_lt}
 use Rattle.std.proofs.lemmas.Bool.Decides.{nat_tests}
 use Rattle.page_slots.specs.Places.{gate_of, body_of, other}
 use Rattle.page_slots.specs.Roots.{has_front, root_at, slot_in, opened, newer, current}
-use Rattle.page_slots.specs.Side.{Side}
-use Rattle.page_slots.specs.Side.TheVariants.{A, B}
-use Rattle.page_slots.specs.Format.{Format}
-use Rattle.page_slots.specs.Format.TheVariants.{One, Two}
-use Rattle.page_slots.specs.Root.{Root}
-use Rattle.page_slots.specs.OpenRoot.{OpenRoot}
+use Rattle.page_slots.specs.declared.layout.sides.Side.{Side}
+use Rattle.page_slots.specs.declared.layout.sides.Side.TheVariants.{A, B}
+use Rattle.page_slots.specs.declared.layout.sides.Format.{Format}
+use Rattle.page_slots.specs.declared.layout.sides.Format.TheVariants.{One, Two}
+use Rattle.page_slots.specs.declared.layout.roots.Root.{Root}
+use Rattle.page_slots.specs.declared.layout.roots.OpenRoot.{OpenRoot}
 use Rattle.page_slots.specs.Standing.{root_in}
 use Rattle.page_slots.proofs.RootImages.{opened_cases}
 use Rattle.page_slots.proofs.Opening.{same_sequence}

@@ -3,10 +3,10 @@ use Rattle.std.proofs.Common.{◌≡◌, ◌≢◌, ◌<◌, ◌≤◌, ℕ, zer
 use Rattle.page_slots.proofs.Moments.{seeing, telling}
 use Rattle.page_slots.specs.Disk.{DiskState, DiskGoesOn, Torn, Only}
 use Rattle.page_slots.specs.Places.{gate_of, body_of, IsNone, KeepsPages, IsPage}
-use Rattle.page_slots.specs.Side.{Side}
-use Rattle.page_slots.specs.Side.TheVariants.{A, B}
-use Rattle.page_slots.specs.Root.{Root}
-use Rattle.page_slots.specs.Format.TheVariants.{Two}
+use Rattle.page_slots.specs.declared.layout.sides.Side.{Side}
+use Rattle.page_slots.specs.declared.layout.sides.Side.TheVariants.{A, B}
+use Rattle.page_slots.specs.declared.layout.roots.Root.{Root}
+use Rattle.page_slots.specs.declared.layout.sides.Format.TheVariants.{Two}
 use Rattle.page_chain.specs.Pages.{page_size}
 use Rattle.page_chain.specs.Chains.{HoldsChain}
 use Rattle.page_chain.specs.Inner.Runs.{Sees}
@@ -15,11 +15,11 @@ use Rattle.page_chain.proofs.WriteLemmas.{length-chain_piece}
 use Rattle.page_slots.specs.Puts.{SeesTorn}
 use Rattle.page_slots.specs.Standing.{entry_gate, Holds, IsReady, IsShutRoot, IsSound, IsTarget, KeepsSound, IsDurable}
 use Rattle.page_slots.specs.Steps.{emptied_root}
-use Rattle.page_slots.specs.declared.slots.RootSlot.{RootSlot}
-use Rattle.page_slots.specs.declared.slots.RootSlot.TheVariants as roots
-use Rattle.page_slots.specs.declared.slots.Target.{Target}
-use Rattle.page_slots.specs.declared.slots.Target.TheVariants as targets
-use Rattle.page_slots.specs.declared.slots.Slots.{Slots}
+use Rattle.page_slots.specs.declared.slots.slots.RootSlot.{RootSlot}
+use Rattle.page_slots.specs.declared.slots.slots.RootSlot.TheVariants as roots
+use Rattle.page_slots.specs.declared.slots.slots.Target.{Target}
+use Rattle.page_slots.specs.declared.slots.slots.Target.TheVariants as targets
+use Rattle.page_slots.specs.declared.slots.slots.Slots.{Slots}
 use Rattle.page_slots.proofs.Lies.{long_front, has_log}
 use Rattle.page_slots.proofs.Within.{torn_within}
 

@@ -4,21 +4,21 @@ use Rattle.page_slots.proofs.Moments.{seeing}
 use Rattle.page_slots.specs.Disk.{DiskState, Follows, Torn}
 use Rattle.page_slots.specs.Places.{other}
 use Rattle.page_slots.specs.Opens.{OpensAs}
-use Rattle.page_slots.specs.Format.TheVariants.{Two}
-use Rattle.page_slots.specs.Root.{Root}
-use Rattle.page_slots.specs.OpenRoot.{OpenRoot}
-use Rattle.page_slots.specs.RecordAt.{RecordAt}
+use Rattle.page_slots.specs.declared.layout.sides.Format.TheVariants.{Two}
+use Rattle.page_slots.specs.declared.layout.roots.Root.{Root}
+use Rattle.page_slots.specs.declared.layout.roots.OpenRoot.{OpenRoot}
+use Rattle.page_slots.specs.declared.layout.logs.RecordAt.{RecordAt}
 use Rattle.page_chain.specs.Pages.{page_size}
 use Rattle.page_chain.specs.Chains.{HoldsChain}
 use Rattle.page_slots.specs.Standing.{root_in, Holds, IsSound, IsStillRoot, IsStillEntry, KeepsSound, MayOpen, OpensAsRoot}
 use Rattle.page_slots.specs.Steps.{ajar, ajar_root, ajar_entry, doubted, with_target, with_other, with_next, with_root, with_record}
-use Rattle.page_slots.specs.declared.slots.Slots.{Slots}
-use Rattle.page_slots.specs.declared.slots.RootSlot.{RootSlot}
-use Rattle.page_slots.specs.declared.slots.RootSlot.TheVariants as roots
-use Rattle.page_slots.specs.declared.slots.NextEntry.{NextEntry}
-use Rattle.page_slots.specs.declared.slots.NextEntry.TheVariants as entries
-use Rattle.page_slots.specs.declared.slots.Target.{Target}
-use Rattle.page_slots.specs.declared.slots.Target.TheVariants as targets
+use Rattle.page_slots.specs.declared.slots.slots.Slots.{Slots}
+use Rattle.page_slots.specs.declared.slots.slots.RootSlot.{RootSlot}
+use Rattle.page_slots.specs.declared.slots.slots.RootSlot.TheVariants as roots
+use Rattle.page_slots.specs.declared.slots.slots.NextEntry.{NextEntry}
+use Rattle.page_slots.specs.declared.slots.slots.NextEntry.TheVariants as entries
+use Rattle.page_slots.specs.declared.slots.slots.Target.{Target}
+use Rattle.page_slots.specs.declared.slots.slots.Target.TheVariants as targets
 use Rattle.page_slots.proofs.Opening.{may_open}
 use Rattle.page_slots.proofs.Settling.{no_root, no_record, settled}
 

@@ -5,7 +5,7 @@ use Rattle.page_slots.specs.Disk.{DiskState, DiskGoesOn, Only}
 use Rattle.page_chain.specs.Pages.{page_size}
 use Rattle.page_chain.specs.Chains.{HoldsChain}
 use Rattle.page_slots.specs.Standing.{IsSound, KeepsSound}
-use Rattle.page_slots.specs.declared.slots.Slots.{Slots}
+use Rattle.page_slots.specs.declared.slots.slots.Slots.{Slots}
 use Rattle.page_file.proofs.Kept.{at_some}
 
 pub sealed : (old mid new : DiskState) (before between now : List ℕ → Type 0) (slots later : Slots) (pages bytes : List ℕ) (P Q : List ℕ → Type 0) → DiskGoesOn old mid → KeepsSound slots later (seeing old before) (seeing mid between)

@@ -5,16 +5,16 @@ use Rattle.page_slots.proofs.Moments.{moment_at, seeing, stated}
 use Rattle.page_slots.specs.Disk.{DiskState, Follows, LeavesOnly}
 use Rattle.page_slots.specs.Places.{other, IsNone, KeepsPages, SameBut}
 use Rattle.page_slots.specs.Roots.{has_front}
-use Rattle.page_slots.specs.Format.{Format}
-use Rattle.page_slots.specs.Format.TheVariants.{One, Two}
-use Rattle.page_slots.specs.RecordAt.{RecordAt}
+use Rattle.page_slots.specs.declared.layout.sides.Format.{Format}
+use Rattle.page_slots.specs.declared.layout.sides.Format.TheVariants.{One, Two}
+use Rattle.page_slots.specs.declared.layout.logs.RecordAt.{RecordAt}
 use Rattle.page_chain.specs.Inner.Runs.{Over, OnlyWrites, Sees}
 use Rattle.page_slots.specs.Standing.{Holds, LogHolds, IsClosed, IsSound, IsAlone, IsStillRoot, ZeroHolds, filled_gate, entry_gate, KeepsSound, LeavesOpening, MayOpen}
 use Rattle.page_slots.specs.Steps.{emptied_root, emptied_entry, emptied}
-use Rattle.page_slots.specs.declared.slots.Slots.{Slots}
-use Rattle.page_slots.specs.declared.slots.NextEntry.{NextEntry}
-use Rattle.page_slots.specs.declared.slots.Target.{Target}
-use Rattle.page_slots.specs.declared.slots.Target.TheVariants as targets
+use Rattle.page_slots.specs.declared.slots.slots.Slots.{Slots}
+use Rattle.page_slots.specs.declared.slots.slots.NextEntry.{NextEntry}
+use Rattle.page_slots.specs.declared.slots.slots.Target.{Target}
+use Rattle.page_slots.specs.declared.slots.slots.Target.TheVariants as targets
 use Rattle.page_slots.proofs.RootImages.{roots_kept}
 use Rattle.page_slots.proofs.LogImages.{page_kept}
 use Rattle.page_slots.proofs.Opening.{may_open}

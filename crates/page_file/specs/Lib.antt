@@ -4,10 +4,10 @@ pub use Rattle.page_chain.specs.Pages
 pub use Rattle.page_slots.specs.Puts
 pub use Rattle.page_slots.specs.Standing
 pub use Rattle.page_slots.specs.Steps
-pub use Rattle.page_slots.specs.declared.slots.NextEntry
-pub use Rattle.page_slots.specs.declared.slots.RootSlot
-pub use Rattle.page_slots.specs.declared.slots.Slots
-pub use Rattle.page_slots.specs.declared.slots.Target
+pub use Rattle.page_slots.specs.declared.slots.slots.NextEntry
+pub use Rattle.page_slots.specs.declared.slots.slots.RootSlot
+pub use Rattle.page_slots.specs.declared.slots.slots.Slots
+pub use Rattle.page_slots.specs.declared.slots.slots.Target
 pub mod FilesOpened
 pub mod Inner
 pub mod OpeningOpened

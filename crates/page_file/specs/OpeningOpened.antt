@@ -6,15 +6,15 @@ use Rattle.page_slots.specs.Places.{other, IsPage}
 use Rattle.page_slots.specs.Roots.{current}
 use Rattle.page_slots.specs.Logs.{IsLog, HasStray}
 use Rattle.page_slots.specs.Opens.{HasLog, OpensAs, WrongAt}
-use Rattle.page_slots.specs.Format.TheVariants.{Two}
-use Rattle.page_slots.specs.OpenRoot.{OpenRoot}
-use Rattle.page_slots.specs.RecordAt.{RecordAt}
+use Rattle.page_slots.specs.declared.layout.sides.Format.TheVariants.{Two}
+use Rattle.page_slots.specs.declared.layout.roots.OpenRoot.{OpenRoot}
+use Rattle.page_slots.specs.declared.layout.logs.RecordAt.{RecordAt}
 use Rattle.page_slots.specs.Standing.{OtherHolds}
-use Rattle.page_slots.specs.declared.slots.RootSlot.{RootSlot}
-use Rattle.page_slots.specs.declared.slots.RootSlot.TheVariants as roots
-use Rattle.page_slots.specs.declared.slots.NextEntry.TheVariants as entries
+use Rattle.page_slots.specs.declared.slots.slots.RootSlot.{RootSlot}
+use Rattle.page_slots.specs.declared.slots.slots.RootSlot.TheVariants as roots
+use Rattle.page_slots.specs.declared.slots.slots.NextEntry.TheVariants as entries
 use Rattle.page_slots.specs.Steps.{first_target}
-use Rattle.page_slots.specs.declared.slots.Slots.{Slots}
+use Rattle.page_slots.specs.declared.slots.slots.Slots.{Slots}
 use Rattle.page_chain.specs.declared.fault.OpenCause.{OpenCause}
 use Rattle.page_chain.specs.declared.fault.OpenCause.TheVariants.{Disk, NotDatabase, Memory}
 

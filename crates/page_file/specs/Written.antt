@@ -4,7 +4,7 @@ use Rattle.std.specs.List.{list_all, list_any}
 use Rattle.page_slots.specs.Places.{IsNone}
 use Rattle.page_chain.specs.Pages.{AreDistinct}
 use Rattle.page_slots.specs.Steps.{emptied_root, emptied_entry}
-use Rattle.page_slots.specs.declared.slots.Slots.{Slots}
+use Rattle.page_slots.specs.declared.slots.slots.Slots.{Slots}
 
 -- pages that differ from one another, from page 0 and from the log page
 pub record MayWrite (pages : List ℕ) (slots : Slots) : Type 0 where

@@ -3,9 +3,9 @@
 ghost use Rattle.std.specs.Prelude.{◌≡◌, ◌≢◌, ◌<◌, ◌≤◌, ◌⊎◌, ◌+◌, ◌*◌, ◌∷◌, ◌++◌, [], ℕ, List, length, false, IsTrue, Some, IfSome, OnOk, OnErr};
 ghost use Rattle.page_slots.specs.Opens.{OpensAs};
 ghost use Rattle.page_slots.specs.Places.{other, IsNone, KeepsPages};
-ghost use Rattle.page_slots.specs.Format.TheVariants.{Two};
-ghost use Rattle.page_slots.specs.declared.slots.RootSlot.TheVariants as roots;
-ghost use Rattle.page_slots.specs.declared.slots.NextEntry.TheVariants as entries;
+ghost use Rattle.page_slots.specs.declared.layout.sides.Format.TheVariants.{Two};
+ghost use Rattle.page_slots.specs.declared.slots.slots.RootSlot.TheVariants as roots;
+ghost use Rattle.page_slots.specs.declared.slots.slots.NextEntry.TheVariants as entries;
 ghost use Rattle.page_slots.specs.Disk.{DiskGoesOn, Only};
 ghost use Rattle.page_chain.specs.Pages.{page_size, pages_for};
 ghost use Rattle.page_chain.specs.Chains.{content_size, HoldsChain};
@@ -13,7 +13,7 @@ ghost use Rattle.page_chain.specs.Inner.Runs.{OnlyWrites, Sees};
 ghost use Rattle.page_file.specs.Written.{MayWrite, pages_written, unwritten};
 ghost use Rattle.page_slots.specs.Puts.{OnlyPuts};
 ghost use Rattle.page_slots.specs.Standing.{root_in, IsClosed, IsSound, IsTarget, KeepsSound, OpensAsRoot};
-ghost use Rattle.page_slots.specs.declared.slots.Target.TheVariants as targets;
+ghost use Rattle.page_slots.specs.declared.slots.slots.Target.TheVariants as targets;
 
 use crate::files::PageFile;
 use page_slots::{Disk, Failed, RecordAt, Root};

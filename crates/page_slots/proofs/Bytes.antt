@@ -3,7 +3,7 @@ use Rattle.std.proofs.Common.{◌≡◌, ◌<◌, ◌≤◌, inl, inr, ⊎_elim,
 use Rattle.std.proofs.lemmas.List.{get_or-take, get_or-drop, take_at, drop_at, length-take, length-replicate}
 use Rattle.afl_outside.specs.Disk.{Torn, written}
 use Rattle.afl_outside.specs.Lemmas.TornLaws.{Torn-written}
-use Rattle.page_layout.specs.Places.{SameBut}
+use Rattle.page_slots.specs.Places.{SameBut}
 
 -- a torn write within the file leaves all other bytes
 pub torn_same : (at n : ℕ) (old new : List ℕ) → at + n ≤ length old → Torn at n old new → SameBut at n old new

@@ -1,20 +1,20 @@
 -- The writes of a log entry.
 use Rattle.std.proofs.Common.{◌≡◌, ◌≢◌, ◌<◌, ◌≤◌, inl, ℕ, ◌+◌, List, [], ◌∷◌, ◌++◌, length, slice_index, true, false, None, IfSome, sym, ◌∙◌, ap, subst, arith}
 use Rattle.afl_outside.specs.Disk.{Follows, Only, Torn, written}
-use Rattle.page_layout.specs.Places.{SameBut}
-use Rattle.page_layout.specs.Logs.{record_at}
-use Rattle.page_layout.specs.declared.sides.Format.{Format}
-use Rattle.page_layout.specs.declared.sides.Format.TheVariants.{Two}
-use Rattle.page_layout.specs.declared.logs.RecordAt.{RecordAt}
-use Rattle.page_layout.proofs.Kept.{record_moved}
+use Rattle.page_slots.specs.Places.{SameBut}
+use Rattle.page_slots.specs.Logs.{record_at}
+use Rattle.page_slots.specs.declared.layout.sides.Format.{Format}
+use Rattle.page_slots.specs.declared.layout.sides.Format.TheVariants.{Two}
+use Rattle.page_slots.specs.declared.layout.logs.RecordAt.{RecordAt}
+use Rattle.page_slots.proofs.Kept.{record_moved}
 use Rattle.page_slots.specs.Puts.{Over}
 use Rattle.page_slots.specs.Standing.{NextHolds, PageHolds, LogHolds, Holds, IsSound, IsShutEntry, IsAlone, IsStillRoot, IsStillEntry, IsTarget, ZeroHolds, filled_entry, filled_gate, entry_gate, MayOpen}
 use Rattle.page_slots.specs.Steps.{shut_entry, shut, with_record}
-use Rattle.page_slots.specs.declared.slots.Slots.{Slots}
-use Rattle.page_slots.specs.declared.slots.NextEntry.{NextEntry}
-use Rattle.page_slots.specs.declared.slots.NextEntry.TheVariants as entries
-use Rattle.page_slots.specs.declared.slots.Target.{Target}
-use Rattle.page_slots.specs.declared.slots.Target.TheVariants as targets
+use Rattle.page_slots.specs.declared.slots.slots.Slots.{Slots}
+use Rattle.page_slots.specs.declared.slots.slots.NextEntry.{NextEntry}
+use Rattle.page_slots.specs.declared.slots.slots.NextEntry.TheVariants as entries
+use Rattle.page_slots.specs.declared.slots.slots.Target.{Target}
+use Rattle.page_slots.specs.declared.slots.slots.Target.TheVariants as targets
 use Rattle.page_slots.proofs.Bytes.{torn_same, written_same, written_byte, same_wide}
 use Rattle.page_slots.proofs.RootImages.{roots_kept}
 use Rattle.page_slots.proofs.LogImages.{next_changed, entry_kept, page_pushed}

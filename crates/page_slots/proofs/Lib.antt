@@ -1,10 +1,12 @@
 pub use Rattle.afl_outside.proofs.Moments
-pub use Rattle.page_layout.proofs.Kept
 pub mod Bytes
 pub mod EntryCommits
+pub mod FieldLemmas
+pub mod Kept
 pub mod Lies
 pub mod Lifts
 pub mod LogImages
+pub mod LogLemmas
 pub mod OneRoot
 pub mod Opening
 pub mod PutLemmas

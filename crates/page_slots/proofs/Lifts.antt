@@ -4,7 +4,7 @@ use Rattle.afl_outside.proofs.Moments.{moment_at, seeing, stated}
 use Rattle.afl_outside.specs.Disk.{DiskState, LeavesOnly, Only, Torn, written}
 use Rattle.page_slots.specs.Puts.{Over, OnlyPuts, OnlySyncs}
 use Rattle.page_slots.specs.Standing.{IsSound, MayOpen, KeepsSound, LeavesOpening}
-use Rattle.page_slots.specs.declared.slots.Slots.{Slots}
+use Rattle.page_slots.specs.declared.slots.slots.Slots.{Slots}
 use Rattle.page_slots.proofs.PutLemmas.{if_some_with, wider}
 
 -- what is known of a put that was done, and of one that failed

@@ -2,15 +2,15 @@
 use Rattle.std.proofs.Common.{◌≡◌, ◌≢◌, ◌<◌, ◌≤◌, inl, inr, ⊎_elim, ℕ, ◌+◌, ◌*◌, List, [], ◌∷◌, ◌++◌, length, slice_index, slice_index_or, sym, ◌∙◌, subst, arith, length-append}
 use Rattle.std.proofs.lemmas.List.{get_or_append_left, get_or_push}
 use Rattle.std.proofs.lemmas.Bool.{cases_eq, cases_lt}
-use Rattle.page_layout.specs.Places.{IsPage, SameBut}
-use Rattle.page_layout.specs.Logs.{record_at, IsLog}
-use Rattle.page_layout.specs.declared.sides.Format.{Format}
-use Rattle.page_layout.specs.declared.sides.Format.TheVariants.{One, Two}
-use Rattle.page_layout.specs.declared.logs.RecordAt.{RecordAt}
-use Rattle.page_layout.proofs.Kept.{record_kept}
+use Rattle.page_slots.specs.Places.{IsPage, SameBut}
+use Rattle.page_slots.specs.Logs.{record_at, IsLog}
+use Rattle.page_slots.specs.declared.layout.sides.Format.{Format}
+use Rattle.page_slots.specs.declared.layout.sides.Format.TheVariants.{One, Two}
+use Rattle.page_slots.specs.declared.layout.logs.RecordAt.{RecordAt}
+use Rattle.page_slots.proofs.Kept.{record_kept}
 use Rattle.page_slots.specs.Standing.{NextHolds, PageHolds, LogHolds, IsZeroed}
-use Rattle.page_slots.specs.declared.slots.NextEntry.{NextEntry}
-use Rattle.page_slots.specs.declared.slots.NextEntry.TheVariants as entries
+use Rattle.page_slots.specs.declared.slots.slots.NextEntry.{NextEntry}
+use Rattle.page_slots.specs.declared.slots.slots.NextEntry.TheVariants as entries
 
 next_kept : (next : NextEntry) (at : ℕ) (d c : List ℕ) → ((k : ℕ) → at ≤ k → k < at + 20 → slice_index c k ≡ slice_index d k) → NextHolds next at d → NextHolds next at c
 next_kept entries.Closed at d c same hold = λ is. hold (sym (same at (omega arith) (omega arith)) ∙ is)

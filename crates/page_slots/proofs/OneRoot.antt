@@ -3,12 +3,12 @@ use Rattle.std.proofs.Common.{◌≡◌, ◌≤◌, ⊎_elim, ℕ, ◌*◌, List
 use Rattle.std.proofs.lemmas.List.{same_lists}
 use Rattle.std.proofs.lemmas.Bool.{cases_lt}
 use Rattle.std.proofs.lemmas.Option.{same_Some}
-use Rattle.page_layout.specs.Logs.{IsLog}
-use Rattle.page_layout.specs.Opens.{HasLog, OpensAs}
-use Rattle.page_layout.specs.declared.sides.Format.{Format}
-use Rattle.page_layout.specs.declared.sides.Format.TheVariants.{One, Two}
-use Rattle.page_layout.specs.declared.roots.OpenRoot.{OpenRoot}
-use Rattle.page_layout.specs.declared.logs.RecordAt.{RecordAt}
+use Rattle.page_slots.specs.Logs.{IsLog}
+use Rattle.page_slots.specs.Opens.{HasLog, OpensAs}
+use Rattle.page_slots.specs.declared.layout.sides.Format.{Format}
+use Rattle.page_slots.specs.declared.layout.sides.Format.TheVariants.{One, Two}
+use Rattle.page_slots.specs.declared.layout.roots.OpenRoot.{OpenRoot}
+use Rattle.page_slots.specs.declared.layout.logs.RecordAt.{RecordAt}
 
 no_longer : (place : ℕ) (a b : List RecordAt) (file : List ℕ) → IsLog place a file → IsLog place b file → length b ≤ length a
 no_longer place a b file p q = ⊎_elim (λ more. absurd (p.closed (length a) (omega arith) (omega (arith, more, q.fits)) (q.opened (length a) more))) (λ within. within) (cases_lt (length a) (length b))

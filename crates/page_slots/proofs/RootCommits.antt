@@ -2,22 +2,22 @@
 use Rattle.std.proofs.Common.{◌≡◌, ◌<◌, ◌≤◌, inl, ⊎_elim, ℕ, ◌+◌, List, [], ◌∷◌, length, slice_index, Bool, true, false, Option, Some, None, IfSome, refl, sym, ◌∙◌, ap, subst, arith}
 use Rattle.std.proofs.lemmas.Bool.Decides.{nat_tests}
 use Rattle.afl_outside.specs.Disk.{Follows, Only, Torn, written}
-use Rattle.page_layout.specs.Places.{gate_of, body_of, other, SameBut}
-use Rattle.page_layout.specs.Roots.{has_front, root_at, slot_in}
-use Rattle.page_layout.specs.declared.sides.Side.{Side}
-use Rattle.page_layout.specs.declared.sides.Format.{Format}
-use Rattle.page_layout.specs.declared.sides.Format.TheVariants.{Two}
-use Rattle.page_layout.specs.declared.roots.Root.{Root}
-use Rattle.page_layout.specs.declared.roots.OpenRoot.{OpenRoot}
-use Rattle.page_layout.proofs.Kept.{root_moved}
+use Rattle.page_slots.specs.Places.{gate_of, body_of, other, SameBut}
+use Rattle.page_slots.specs.Roots.{has_front, root_at, slot_in}
+use Rattle.page_slots.specs.declared.layout.sides.Side.{Side}
+use Rattle.page_slots.specs.declared.layout.sides.Format.{Format}
+use Rattle.page_slots.specs.declared.layout.sides.Format.TheVariants.{Two}
+use Rattle.page_slots.specs.declared.layout.roots.Root.{Root}
+use Rattle.page_slots.specs.declared.layout.roots.OpenRoot.{OpenRoot}
+use Rattle.page_slots.proofs.Kept.{root_moved}
 use Rattle.page_slots.specs.Puts.{Over}
 use Rattle.page_slots.specs.Standing.{IsZeroed, OtherHolds, Holds, IsSound, IsShutRoot, IsAlone, IsStillRoot, ZeroHolds, filled_root, filled_gate, MayOpen, root_in}
 use Rattle.page_slots.specs.Steps.{shut_root, shut, with_root}
-use Rattle.page_slots.specs.declared.slots.Slots.{Slots}
-use Rattle.page_slots.specs.declared.slots.RootSlot.{RootSlot}
-use Rattle.page_slots.specs.declared.slots.RootSlot.TheVariants as roots
-use Rattle.page_slots.specs.declared.slots.Target.{Target}
-use Rattle.page_slots.specs.declared.slots.Target.TheVariants as targets
+use Rattle.page_slots.specs.declared.slots.slots.Slots.{Slots}
+use Rattle.page_slots.specs.declared.slots.slots.RootSlot.{RootSlot}
+use Rattle.page_slots.specs.declared.slots.slots.RootSlot.TheVariants as roots
+use Rattle.page_slots.specs.declared.slots.slots.Target.{Target}
+use Rattle.page_slots.specs.declared.slots.slots.Target.TheVariants as targets
 use Rattle.page_slots.proofs.PutLemmas.{if_some}
 use Rattle.page_slots.proofs.Bytes.{torn_same, written_same, written_byte, same_wide, same_trans, same_sym}
 use Rattle.page_slots.proofs.RootImages.{gate_shut, zero_gate, open_gate, opened_cases, other_twice, older_kept, opening_kept, opening_shut, written_opens, other_changed, zero_kept, gate_then_body, side_high}

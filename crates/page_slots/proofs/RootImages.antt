@@ -2,19 +2,19 @@
 use Rattle.std.proofs.Common.{◌≡◌, ◌≢◌, ◌<◌, ◌≤◌, ◌⊎◌, inl, inr, ⊎_elim, ℕ, ◌+◌, ◌*◌, List, length, slice_index, true, Some, None, refl, sym, ◌∙◌, ap, subst, arith}
 use Rattle.std.proofs.lemmas.Bool.{cases_eq}
 use Rattle.std.proofs.lemmas.Bool.Decides.{nat_tests}
-use Rattle.page_layout.specs.Places.{gate_of, body_of, other, SameBut}
-use Rattle.page_layout.specs.Roots.{has_front, root_at, slot_in, opened, current}
-use Rattle.page_layout.specs.declared.sides.Side.{Side}
-use Rattle.page_layout.specs.declared.sides.Side.TheVariants.{A, B}
-use Rattle.page_layout.specs.declared.sides.Format.{Format}
-use Rattle.page_layout.specs.declared.sides.Format.TheVariants.{One, Two}
-use Rattle.page_layout.specs.declared.roots.Root.{Root}
-use Rattle.page_layout.specs.declared.roots.OpenRoot.{OpenRoot}
-use Rattle.page_layout.proofs.Kept.{root_kept, front_kept}
+use Rattle.page_slots.specs.Places.{gate_of, body_of, other, SameBut}
+use Rattle.page_slots.specs.Roots.{has_front, root_at, slot_in, opened, current}
+use Rattle.page_slots.specs.declared.layout.sides.Side.{Side}
+use Rattle.page_slots.specs.declared.layout.sides.Side.TheVariants.{A, B}
+use Rattle.page_slots.specs.declared.layout.sides.Format.{Format}
+use Rattle.page_slots.specs.declared.layout.sides.Format.TheVariants.{One, Two}
+use Rattle.page_slots.specs.declared.layout.roots.Root.{Root}
+use Rattle.page_slots.specs.declared.layout.roots.OpenRoot.{OpenRoot}
+use Rattle.page_slots.proofs.Kept.{root_kept, front_kept}
 use Rattle.page_slots.specs.Standing.{IsZeroed, OtherHolds, RootsHold, IsStillRoot, root_in}
-use Rattle.page_slots.specs.declared.slots.Slots.{Slots}
-use Rattle.page_slots.specs.declared.slots.RootSlot.{RootSlot}
-use Rattle.page_slots.specs.declared.slots.RootSlot.TheVariants as roots
+use Rattle.page_slots.specs.declared.slots.slots.Slots.{Slots}
+use Rattle.page_slots.specs.declared.slots.slots.RootSlot.{RootSlot}
+use Rattle.page_slots.specs.declared.slots.slots.RootSlot.TheVariants as roots
 
 pub slot_kept : (side : Side) (d c : List ℕ) → slice_index c (gate_of side) ≡ slice_index d (gate_of side)
     → ((k : ℕ) → body_of side ≤ k → k < body_of side + 24 → slice_index c k ≡ slice_index d k) → slot_in side c ≡ slot_in side d

@@ -1,15 +1,15 @@
 -- A sync alone.
 use Rattle.std.proofs.Common.{◌≡◌, ℕ, List, Bool, true, false, Option, Some, None, IfSome, refl, sym, subst}
-use Rattle.page_layout.specs.Places.{SameBut}
+use Rattle.page_slots.specs.Places.{SameBut}
 use Rattle.page_slots.specs.Standing.{IsSound, IsShut, IsShutRoot, IsShutEntry, IsAlone, IsStillRoot, IsStillEntry, filled_gate, MayOpen}
 use Rattle.page_slots.specs.Steps.{shut_root, shut_entry, shut}
-use Rattle.page_slots.specs.declared.slots.Slots.{Slots}
-use Rattle.page_slots.specs.declared.slots.RootSlot.{RootSlot}
-use Rattle.page_slots.specs.declared.slots.RootSlot.TheVariants as roots
-use Rattle.page_slots.specs.declared.slots.NextEntry.{NextEntry}
-use Rattle.page_slots.specs.declared.slots.NextEntry.TheVariants as entries
-use Rattle.page_slots.specs.declared.slots.Target.{Target}
-use Rattle.page_slots.specs.declared.slots.Target.TheVariants as targets
+use Rattle.page_slots.specs.declared.slots.slots.Slots.{Slots}
+use Rattle.page_slots.specs.declared.slots.slots.RootSlot.{RootSlot}
+use Rattle.page_slots.specs.declared.slots.slots.RootSlot.TheVariants as roots
+use Rattle.page_slots.specs.declared.slots.slots.NextEntry.{NextEntry}
+use Rattle.page_slots.specs.declared.slots.slots.NextEntry.TheVariants as entries
+use Rattle.page_slots.specs.declared.slots.slots.Target.{Target}
+use Rattle.page_slots.specs.declared.slots.slots.Target.TheVariants as targets
 use Rattle.page_slots.proofs.Opening.{may_open}
 use Rattle.page_slots.proofs.RootCommits.{any_doubt, not_both}
 

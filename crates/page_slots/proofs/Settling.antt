@@ -1,16 +1,16 @@
 -- Where nothing is being opened, a file opens as the current root.
 use Rattle.std.proofs.Common.{⊎_elim, ℕ, List}
-use Rattle.page_layout.specs.Places.{other}
-use Rattle.page_layout.specs.Opens.{OpensAs}
-use Rattle.page_layout.specs.declared.sides.Side.{Side}
-use Rattle.page_layout.specs.declared.roots.OpenRoot.{OpenRoot}
-use Rattle.page_layout.specs.declared.logs.RecordAt.{RecordAt}
+use Rattle.page_slots.specs.Places.{other}
+use Rattle.page_slots.specs.Opens.{OpensAs}
+use Rattle.page_slots.specs.declared.layout.sides.Side.{Side}
+use Rattle.page_slots.specs.declared.layout.roots.OpenRoot.{OpenRoot}
+use Rattle.page_slots.specs.declared.layout.logs.RecordAt.{RecordAt}
 use Rattle.page_slots.specs.Standing.{IsStillRoot, IsStillEntry, OpensAsRoot, OpensWith, MayOpen}
-use Rattle.page_slots.specs.declared.slots.Slots.{Slots}
-use Rattle.page_slots.specs.declared.slots.RootSlot.{RootSlot}
-use Rattle.page_slots.specs.declared.slots.RootSlot.TheVariants as roots
-use Rattle.page_slots.specs.declared.slots.NextEntry.{NextEntry}
-use Rattle.page_slots.specs.declared.slots.NextEntry.TheVariants as entries
+use Rattle.page_slots.specs.declared.slots.slots.Slots.{Slots}
+use Rattle.page_slots.specs.declared.slots.slots.RootSlot.{RootSlot}
+use Rattle.page_slots.specs.declared.slots.slots.RootSlot.TheVariants as roots
+use Rattle.page_slots.specs.declared.slots.slots.NextEntry.{NextEntry}
+use Rattle.page_slots.specs.declared.slots.slots.NextEntry.TheVariants as entries
 
 pub no_root : (known : RootSlot) (side : Side) (file : List ℕ) → IsStillRoot known → OpensAsRoot known side file → ⊥
 no_root roots.Closed side file still opens = opens

@@ -2,23 +2,23 @@
 use Rattle.std.specs.Prelude.{◌≡◌, ◌≢◌, ℕ, ◌+◌, ◌*◌, ◌<◌, ◌≤◌, ◌⊎◌, List, [], ◌∷◌, ◌++◌, length}
 use Rattle.std.specs.Prelude.{slice_index, slice_index_or, IsTrue, true, false, Option, Some, None, IfSome}
 use Rattle.afl_outside.specs.Disk.{LeavesOnly, Moment, Only}
-use Rattle.page_layout.specs.Places.{gate_of, body_of, other, IsPage, SameBut}
-use Rattle.page_layout.specs.Roots.{has_front, root_at, slot_in}
-use Rattle.page_layout.specs.Logs.{record_at}
-use Rattle.page_layout.specs.Opens.{OpensAs}
-use Rattle.page_layout.specs.declared.sides.Side.{Side}
-use Rattle.page_layout.specs.declared.sides.Format.{Format}
-use Rattle.page_layout.specs.declared.sides.Format.TheVariants.{One, Two}
-use Rattle.page_layout.specs.declared.roots.Root.{Root}
-use Rattle.page_layout.specs.declared.roots.OpenRoot.{OpenRoot}
-use Rattle.page_layout.specs.declared.logs.RecordAt.{RecordAt}
-use Rattle.page_slots.specs.declared.slots.Slots.{Slots}
-use Rattle.page_slots.specs.declared.slots.RootSlot.{RootSlot}
-use Rattle.page_slots.specs.declared.slots.RootSlot.TheVariants as roots
-use Rattle.page_slots.specs.declared.slots.NextEntry.{NextEntry}
-use Rattle.page_slots.specs.declared.slots.NextEntry.TheVariants as entries
-use Rattle.page_slots.specs.declared.slots.Target.{Target}
-use Rattle.page_slots.specs.declared.slots.Target.TheVariants as targets
+use Rattle.page_slots.specs.Places.{gate_of, body_of, other, IsPage, SameBut}
+use Rattle.page_slots.specs.Roots.{has_front, root_at, slot_in}
+use Rattle.page_slots.specs.Logs.{record_at}
+use Rattle.page_slots.specs.Opens.{OpensAs}
+use Rattle.page_slots.specs.declared.layout.sides.Side.{Side}
+use Rattle.page_slots.specs.declared.layout.sides.Format.{Format}
+use Rattle.page_slots.specs.declared.layout.sides.Format.TheVariants.{One, Two}
+use Rattle.page_slots.specs.declared.layout.roots.Root.{Root}
+use Rattle.page_slots.specs.declared.layout.roots.OpenRoot.{OpenRoot}
+use Rattle.page_slots.specs.declared.layout.logs.RecordAt.{RecordAt}
+use Rattle.page_slots.specs.declared.slots.slots.Slots.{Slots}
+use Rattle.page_slots.specs.declared.slots.slots.RootSlot.{RootSlot}
+use Rattle.page_slots.specs.declared.slots.slots.RootSlot.TheVariants as roots
+use Rattle.page_slots.specs.declared.slots.slots.NextEntry.{NextEntry}
+use Rattle.page_slots.specs.declared.slots.slots.NextEntry.TheVariants as entries
+use Rattle.page_slots.specs.declared.slots.slots.Target.{Target}
+use Rattle.page_slots.specs.declared.slots.slots.Target.TheVariants as targets
 
 -- where the gate of the next log entry stands
 abbrev pub entry_gate : Slots → ℕ

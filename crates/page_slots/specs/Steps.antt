@@ -1,21 +1,21 @@
 -- What the calls make of the slots.
 use Rattle.std.specs.Prelude.{ℕ, ◌+◌, true, false, [], ◌∷◌, ◌++◌, length, nat_lt, if◌then◌else◌, None}
-use Rattle.page_layout.specs.Places.{other}
-use Rattle.page_layout.specs.declared.sides.Side.{Side}
-use Rattle.page_layout.specs.declared.sides.Side.TheVariants as sides
-use Rattle.page_layout.specs.declared.sides.Slot.{Slot}
-use Rattle.page_layout.specs.declared.sides.Slot.TheVariants.{A, B, Log}
-use Rattle.page_layout.specs.declared.sides.Format.{Format}
-use Rattle.page_layout.specs.declared.sides.Format.TheVariants.{One, Two}
-use Rattle.page_layout.specs.declared.roots.Root.{Root}
-use Rattle.page_layout.specs.declared.logs.RecordAt.{RecordAt}
-use Rattle.page_slots.specs.declared.slots.Slots.{Slots}
-use Rattle.page_slots.specs.declared.slots.RootSlot.{RootSlot}
-use Rattle.page_slots.specs.declared.slots.RootSlot.TheVariants as roots
-use Rattle.page_slots.specs.declared.slots.NextEntry.{NextEntry}
-use Rattle.page_slots.specs.declared.slots.NextEntry.TheVariants as entries
-use Rattle.page_slots.specs.declared.slots.Target.{Target}
-use Rattle.page_slots.specs.declared.slots.Target.TheVariants as targets
+use Rattle.page_slots.specs.Places.{other}
+use Rattle.page_slots.specs.declared.layout.sides.Side.{Side}
+use Rattle.page_slots.specs.declared.layout.sides.Side.TheVariants as sides
+use Rattle.page_slots.specs.declared.layout.sides.Slot.{Slot}
+use Rattle.page_slots.specs.declared.layout.sides.Slot.TheVariants.{A, B, Log}
+use Rattle.page_slots.specs.declared.layout.sides.Format.{Format}
+use Rattle.page_slots.specs.declared.layout.sides.Format.TheVariants.{One, Two}
+use Rattle.page_slots.specs.declared.layout.roots.Root.{Root}
+use Rattle.page_slots.specs.declared.layout.logs.RecordAt.{RecordAt}
+use Rattle.page_slots.specs.declared.slots.slots.Slots.{Slots}
+use Rattle.page_slots.specs.declared.slots.slots.RootSlot.{RootSlot}
+use Rattle.page_slots.specs.declared.slots.slots.RootSlot.TheVariants as roots
+use Rattle.page_slots.specs.declared.slots.slots.NextEntry.{NextEntry}
+use Rattle.page_slots.specs.declared.slots.slots.NextEntry.TheVariants as entries
+use Rattle.page_slots.specs.declared.slots.slots.Target.{Target}
+use Rattle.page_slots.specs.declared.slots.slots.Target.TheVariants as targets
 
 -- the next log entry where there is one, else the other root slot
 abbrev pub first_target : Format → ℕ → Target

@@ -1,19 +1,15 @@
-//! The slots of a database's file: what is known of each, and the writes that close, fill and open them.
+//! The slots of a database's file: where they and its log stand in the pages, what is known of each, and the writes that close, fill and open them.
 #![tactic(auto)]
 
-mod commits;
-mod images;
-mod puts;
+mod layout;
 mod slots;
-mod steps;
-mod torn;
 
 pub use afl_outside::{Disk, Failed, has_risen};
-pub use commits::{close_slot, open_slot, write_record, write_root};
-pub use images::{images_open, images_open_as_current, opens_as_one_root, slots_lie_in_pages};
-pub use page_layout::{
+pub use layout::{
     Format, LOG_ENTRIES, OpenRoot, PAGE, RecordAt, Records, Root, Side, Slot, current_in, log_in,
-    root_body,
+    record_body, root_body,
 };
-pub use slots::{NextEntry, RootSlot, Slots, Target};
-pub use torn::puts_keep_pages;
+pub use slots::{
+    NextEntry, RootSlot, Slots, Target, close_slot, images_open, images_open_as_current, open_slot,
+    opens_as_one_root, puts_keep_pages, slots_lie_in_pages, write_record, write_root,
+};

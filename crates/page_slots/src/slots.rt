@@ -1,51 +1,13 @@
-//! What is known of the slots of a file.
+//! The slots of a database's file: what is known of each, and the writes that close, fill and open them.
 
-use page_layout::{OpenRoot, RecordAt, Records, Root};
+mod commits;
+mod images;
+mod puts;
+mod slots;
+mod steps;
+mod torn;
 
-/// What is known of the root slot that isn't current.
-#[derive(Clone, Copy, Debug, PartialEq, Eq)]
-pub enum RootSlot {
-    /// Its gate is closed on the disk, and its body may be anything.
-    Closed,
-    /// Its gate may stand open, on an older root.
-    Older,
-    /// Its gate is closed on the disk, and its body has this root.
-    Written(Root),
-    /// Its gate may stand open, on this root.
-    Opening(Root),
-}
-
-/// What is known of the log entry behind the open ones.
-#[derive(Clone, Copy, Debug, PartialEq, Eq)]
-pub enum NextEntry {
-    /// Its gate is closed on the disk, and its body may be anything.
-    Closed,
-    /// Its gate is closed on the disk, and its body has this record.
-    Written(RecordAt),
-    /// Its gate may stand open, on this record.
-    Opening(RecordAt),
-}
-
-/// What a commit is to open.
-#[derive(Clone, Copy, Debug, PartialEq, Eq)]
-pub enum Target {
-    /// The root slot that isn't current.
-    Root,
-    /// The log entry behind the open ones.
-    Record,
-}
-
-/// The slots of a file.
-#[derive(Debug, Drop)]
-pub struct Slots {
-    pub current: OpenRoot,
-    /// The records of the open log entries.
-    pub records: Records,
-    pub target: Target,
-    pub other: RootSlot,
-    pub next: NextEntry,
-    /// A call on the target failed, and it wasn't closed since.
-    pub doubtful: bool,
-    /// A page that was written as zeros since the target was chosen, and not again.
-    pub zeroed: Option<u32>,
-}
+pub use commits::{close_slot, open_slot, write_record, write_root};
+pub use images::{images_open, images_open_as_current, opens_as_one_root, slots_lie_in_pages};
+pub use slots::{NextEntry, RootSlot, Slots, Target};
+pub use torn::puts_keep_pages;

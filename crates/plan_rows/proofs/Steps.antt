@@ -13,7 +13,7 @@ use Rattle.array_geom.specs.declared.grid.Grid.{Grid}
 use Rattle.array_rows.specs.Rows.{placed}
 use Rattle.array_geom.specs.Geometry.{coordinate_in, volume}
 use Rattle.array_geom.specs.Link.{rows_in}
-use Rattle.cell_columns.specs.CellFaults.{fault_of_value, fault_of_values, fault_of_cell}
+use Rattle.array_rows.specs.CellFaults.{fault_of_value, fault_of_values, fault_of_cell}
 use Rattle.logical_plan.specs.Faults.{fault_in}
 use Rattle.logical_plan.specs.Groups.{bad_kind, first_some}
 use Rattle.plan_rows.specs.Least.{fault_at, sooner, least_from}

@@ -9,7 +9,7 @@ use Rattle.array_parts.specs.Cores.{cores_of, unless_broken}
 use Rattle.array_parts.proofs.CoreLaws.{arrays_are_their_cores}
 use Rattle.logical_plan.specs.Faults.{fault_of}
 use Rattle.logical_plan.specs.Meaning.{Meant}
-use Rattle.plan_rows.specs.declared.answers.rows.PlanRows.TheVariants.{Rows}
+use Rattle.plan_rows.specs.declared.rows.answers.rows.PlanRows.TheVariants.{Rows}
 use Rattle.plan_rows.specs.Found.{IsFound}
 
 module _ (array : ChunkedArray) (meant : Meant) (schema : Schema) (rows : List Row) (is : Is array meant) (s : schema ≡ array.schema) (held_are : (held : List Row) → HoldsRows array.schema array held → rows ≡ held) where

@@ -3,8 +3,8 @@ use Rattle.std.specs.Prelude.{◌≡◌, Some, None}
 use Rattle.cell_values.specs.declared.schema.Schema.{Schema}
 use Rattle.logical_plan.specs.Faults.{fault_of}
 use Rattle.logical_plan.specs.Meaning.{Meant, whole}
-use Rattle.plan_rows.specs.declared.answers.rows.PlanRows.{PlanRows}
-use Rattle.plan_rows.specs.declared.answers.rows.PlanRows.TheVariants.{Fault, Rows}
+use Rattle.plan_rows.specs.declared.rows.answers.rows.PlanRows.{PlanRows}
+use Rattle.plan_rows.specs.declared.rows.answers.rows.PlanRows.TheVariants.{Fault, Rows}
 
 -- where and why the array is broken, or its first fault in row-major order; else its schema and its rows
 abbrev pub IsFound : Meant → PlanRows → Type 0

@@ -1,10 +1,10 @@
 -- What plans give, in chunks.
 use Rattle.std.specs.Prelude.{⊤}
 use Rattle.array_parts.specs.Cores.{HaveCells, cores_of}
-use Rattle.plan_rows.specs.declared.answers.rows.PlanArray.{PlanArray}
-use Rattle.plan_rows.specs.declared.answers.rows.PlanArray.TheVariants.{Fault, Whole}
-use Rattle.plan_rows.specs.declared.answers.rows.PlanRows.{PlanRows}
-use Rattle.plan_rows.specs.declared.answers.rows.PlanRows.TheVariants.{Fault as OfFault, Rows}
+use Rattle.plan_rows.specs.declared.rows.answers.rows.PlanArray.{PlanArray}
+use Rattle.plan_rows.specs.declared.rows.answers.rows.PlanArray.TheVariants.{Fault, Whole}
+use Rattle.plan_rows.specs.declared.rows.answers.rows.PlanRows.{PlanRows}
+use Rattle.plan_rows.specs.declared.rows.answers.rows.PlanRows.TheVariants.{Fault as OfFault, Rows}
 
 -- the fault, or the rows of the array's cores
 abbrev pub rows_held : PlanArray → PlanRows

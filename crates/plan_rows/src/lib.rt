@@ -1,8 +1,8 @@
-//! What a plan gives over the arrays of a source: its rows, or its first fault.
+//! What a plan gives over a source of chunks: its rows, or its first fault; and which plans mean arrays.
 #![tactic(auto)]
 
-mod answers;
-mod faults;
+mod laws;
+mod rows;
 
-pub use answers::{PlanArray, PlanRows, array_of, rows_of};
-pub use faults::first_fault;
+pub use laws::{computed_plans_mean_arrays, typed_plans_mean_arrays};
+pub use rows::{PlanArray, PlanRows, array_of, first_fault, rows_of};

@@ -2,8 +2,8 @@
 use Rattle.std.specs.Prelude.{◌≡◌, ℕ, ◌+◌, List, [], ◌∷◌, ◌++◌, length, Option, Some, None}
 use Rattle.array_geom.specs.declared.chunk.Changed.{Changed}
 use Rattle.chunk_map.specs.declared.directory.Directory.{Directory}
-use Rattle.page_slots.specs.declared.slots.Target.{Target}
-use Rattle.page_slots.specs.declared.slots.Target.TheVariants.{Root, Record}
+use Rattle.page_slots.specs.declared.slots.slots.Target.{Target}
+use Rattle.page_slots.specs.declared.slots.slots.Target.TheVariants.{Root, Record}
 use Rattle.plan_changes.specs.declared.change.Change.{Change}
 use Rattle.plan_changes.specs.Changes.{name_of, newest_of}
 use Rattle.version_catalog.specs.declared.rules.catalog.Catalog.{Catalog}
@@ -17,7 +17,7 @@ use Rattle.store_state.specs.Commits.{record_needs, base_needs, record_laid, bas
 use Rattle.store_state.specs.Versions.{draft_of}
 use Rattle.store_state.specs.Standings.{Standing, base_of, versions_after}
 use Rattle.store_state.specs.Inner.Keeping.{Keeping}
-use Rattle.prepared_commits.specs.declared.prepared.NewBase.{NewBase}
+use Rattle.prepared_commits.specs.declared.commits.prepared.NewBase.{NewBase}
 
 -- the sequence number of the next commit
 abbrev pub next_sequence : {D : Type 0} → Standing D → ℕ

@@ -31,7 +31,7 @@ use Rattle.store_state.specs.declared.parts.StoreParts.{StoreParts}
 use Rattle.store_state.specs.At.{keeping, standing}
 use Rattle.store_state.specs.Standings.{Standing, BeganAs, WasTriedBy, base_of}
 use Rattle.store_state.specs.Inner.Keeping.{Keeping, IsDirectoryOf}
-use Rattle.prepared_commits.specs.declared.prepared.Prepared.{Prepared}
+use Rattle.prepared_commits.specs.declared.commits.prepared.Prepared.{Prepared}
 use Rattle.prepared_commits.specs.Needs.{IsLaidBy, all_pages, next_sequence}
 
 -- a change that may be made of a database, and the chunks that it writes

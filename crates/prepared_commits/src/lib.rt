@@ -1,12 +1,13 @@
-//! A commit with all memory that it needs, and what it is prepared for.
+//! A commit with all memory that it needs: what it is prepared for, that it takes what its change costs, and how it is laid in the first free pages.
 #![tactic(auto)]
 
-mod fault;
-mod prepared;
+mod commits;
+mod costs;
+mod parts;
 
-pub use fault::PrepareFault;
-pub use prepared::{NewBase, Prepared};
-pub use store_state::{
-    Laid, ReadFault, StoreParts, Written, a_store_is_kept, lay_base, lay_record, needed_for_base,
-    needed_for_record,
-};
+pub use commit_pages::draft;
+pub use commits::{NewBase, PrepareFault, Prepared};
+pub use costs::commits_need_what_they_cost;
+pub use laid_commits::found_files_are_over;
+pub use parts::{Layout, prepared_over};
+pub use store_state::{ReadFault, StoreParts, Written, a_store_is_kept};

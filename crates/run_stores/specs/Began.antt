@@ -5,10 +5,10 @@ use Rattle.afl_outside.specs.Disk.{DiskState, Moment}
 use Rattle.array_store.specs.declared.start.Start.{Start}
 use Rattle.array_store.specs.Starts.{first_of}
 use Rattle.file_meaning.specs.Opening.{IsWrongAt, Opens}
-use Rattle.file_meaning.specs.declared.found.Found.{Found}
+use Rattle.file_meaning.specs.declared.meaning.found.Found.{Found}
 use Rattle.page_chain.specs.declared.fault.OpenCause.{OpenCause}
 use Rattle.page_chain.specs.declared.fault.OpenCause.TheVariants as causes
-use Rattle.page_layout.specs.Opens.{OpensAs}
+use Rattle.page_slots.specs.Opens.{OpensAs}
 use Rattle.page_slots.specs.Puts.{OnlySyncs}
 use Rattle.session_reports.specs.declared.notices.Notice.{Notice}
 use Rattle.session_reports.specs.declared.notices.Notice.TheVariants as notices

@@ -3,7 +3,7 @@ use Rattle.std.specs.Prelude.{ℕ, ◌+◌, List, IfSome}
 use Rattle.std.specs.List.{AllZip}
 use Rattle.afl_outside.specs.Disk.{Moment}
 use Rattle.event_core.specs.Legal.{IsLegal}
-use Rattle.found_rows.specs.Costs.{cost_from}
+use Rattle.laid_commits.specs.Costs.{cost_from}
 use Rattle.plan_changes.specs.Databases.{Database}
 use Rattle.store_ledger.specs.Ledger.{history}
 use Rattle.store_state.specs.Standings.{HaveStood, IsAttempt, Standing, StandsFor, base_of, commit_places, database_at}

@@ -15,7 +15,7 @@ use Rattle.event_core.specs.Allowed.{is_pinned}
 use Rattle.event_core.proofs.Tests.{both_not}
 use Rattle.turn_lock.specs.Owners.{only_of}
 use Rattle.turn_lock.specs.Inner.Lent.{turn_with}
-use Rattle.turn_lock.specs.declared.seat.Turn.{Turn}
+use Rattle.turn_lock.specs.declared.turns.seat.Turn.{Turn}
 use Rattle.store_ledger.specs.declared.note.Note.{Note}
 use Rattle.store_ledger.specs.declared.note.NoteKind.TheVariants.{Fault}
 use Rattle.store_ledger.specs.Ledger.{LedgerState, history, is_fault, is_noted, is_tried, note_now, with_notes}

@@ -7,7 +7,7 @@ use Rattle.plan_changes.specs.Databases.{Database}
 use Rattle.event_core.specs.Allowed.{is_pinned}
 use Rattle.event_core.specs.History.{names_at}
 use Rattle.turn_lock.specs.Owners.{ExtendsByOwn}
-use Rattle.turn_lock.specs.declared.seat.Turn.{Turn}
+use Rattle.turn_lock.specs.declared.turns.seat.Turn.{Turn}
 use Rattle.store_ledger.specs.Ledger.{LedgerState, history, is_fault, is_noted, is_tried}
 use Rattle.snapshot_manager.specs.Event.{Event}
 use Rattle.snapshot_manager.specs.StoreParts.{StoreParts}

@@ -14,7 +14,7 @@ pub use Rattle.snapshot_manager.specs.declared.seat.Seat
 pub use Rattle.snapshot_manager.specs.declared.shared.Shared
 pub use Rattle.turn_lock.specs.Inner.Lent
 pub use Rattle.turn_lock.specs.Owners
-pub use Rattle.turn_lock.specs.declared.seat.Turn
+pub use Rattle.turn_lock.specs.declared.turns.seat.Turn
 pub mod Courses
 pub mod Held
 pub mod Inner

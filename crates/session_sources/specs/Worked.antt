@@ -1,6 +1,6 @@
 -- What a session does in two turns, between which another removes an array; and which versions names have.
 use Rattle.std.specs.Prelude.{◌≡◌, None, Some, [], ◌++◌, codes}
-use Rattle.file_laws.specs.Inner.Example.{schema}
+use Rattle.file_meaning.specs.Inner.FileExample.{schema}
 use Rattle.snapshot_manager.specs.Worked.{worked_others, worked_own, worked_pinned, worked_seen}
 use Rattle.session_sources.specs.Courses.{AddsOwn}
 use Rattle.session_sources.specs.Stored.{schema_of}

@@ -13,7 +13,7 @@ use Rattle.logical_plan.proofs.plan.Plan.TheLaws.TheKnot as knot
 use Rattle.plan_changes.specs.contracts.change.Change as change
 use Rattle.event_core.specs.contracts.entry.Entry as entry
 use Rattle.version_reaper.specs.contracts.page_set.PageSet as pages
-use Rattle.lean_core.specs.contracts.state.LeanCore as lean
+use Rattle.lean_core.specs.contracts.lean.state.LeanCore as lean
 use Rattle.store_ledger.specs.contracts.note.Note as note
 use Rattle.store_ledger.specs.contracts.ledger.Ledger as ledger
 use Rattle.snapshot_manager.specs.Store as store

@@ -6,13 +6,13 @@ ghost use Rattle.session_threads.specs.Inner.Desks.{AllWorked, IsReaper, IsWaiti
 use crate::desk::{Desk, work_all};
 use afl_outside::{Disk, Gate, Sink, Source};
 use afl_session::Options;
-use reap_bell::Ring;
 use snapshot_manager::{Seat, Shared};
 use std::alloc::Global;
 use std::snapshot::Snapshot;
 use std::sync::Wait;
 use std::thread;
 use std::thread::{Promise, Threads};
+use turn_lock::Ring;
 
 /// Reaps once. Where no memory is found for that, the pages wait for a later reap, or for the next opening of the file.
 pub(crate) fn reap_once<D: Disk, R: Wait>(rt: &R, shared: &Shared<D>, seat: &mut Seat<D>)

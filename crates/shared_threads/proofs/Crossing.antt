@@ -23,14 +23,14 @@ use Rattle.plan_changes.specs.contracts.change.Change as change
 use Rattle.event_core.specs.contracts.entry.Entry as entry
 use Rattle.event_core.proofs.entry.Used.TheSendSync as used_way
 use Rattle.logical_plan.proofs.names.Names.TheSendSync as names_way
-use Rattle.lean_core.proofs.row.Row.TheSendSync as lean_way
+use Rattle.lean_core.proofs.lean.row.Row.TheSendSync as lean_way
 use Rattle.version_reaper.proofs.page_set.PageSet.TheSendSync as set_way
 use Rattle.store_ledger.specs.contracts.ledger.Ledger as ledger
 use Rattle.store_ledger.specs.contracts.note.Note as note
 use Rattle.array_store.specs.contracts.store.Store as store
-use Rattle.turn_lock.proofs.lock.TurnLock.TheSendSync as lock_way
+use Rattle.turn_lock.proofs.turns.lock.TurnLock.TheSendSync as lock_way
 use Rattle.atomic_table.proofs.shared.Seat.TheSendSync as table_seat
-use Rattle.reap_bell.proofs.Bell.TheSendSync as bell_way
+use Rattle.turn_lock.proofs.bell.Bell.TheSendSync as bell_way
 use Rattle.snapshot_manager.specs.contracts.seat.Seat as seat
 use Rattle.snapshot_manager.specs.contracts.shared.Shared as shared
 

@@ -5,7 +5,6 @@ ghost use Rattle.shared_steps.specs.Visits.{IsFree, IsUntold};
 
 use afl_outside::Disk;
 use cell_values::{List, Memory};
-use reap_bell::Ring;
 use shared_steps::{once, taken, with_seat};
 use snapshot_manager::{Seat, Shared, Store};
 use std::alloc::{AllocError, Global};
@@ -13,6 +12,7 @@ use std::snapshot::Snapshot;
 use std::sync::Wait;
 use std::thread;
 use std::thread::{Promise, Threads};
+use turn_lock::Ring;
 
 /// The name of the array that a session stores.
 fn array_of(session: u32) -> &'static str {

@@ -3,8 +3,8 @@ use Rattle.std.proofs.Common.{◌≡◌, ◌∙◌, ℕ, zero, suc, ◌+◌, Lis
 use Rattle.std.specs.List.{list_all}
 use Rattle.std.proofs.lemmas.Option.{slice_get_within, get_or_from_slice_get}
 use Rattle.turn_lock.specs.Seats.{AreNewSeats as AreNewTurnSeats, IsNewSeat as IsNewTurnSeat, claim_of}
-use Rattle.turn_lock.specs.declared.view.Claim.{Claim}
-use Rattle.turn_lock.specs.declared.seat.LockSeat.{LockSeat}
+use Rattle.turn_lock.specs.declared.turns.view.Claim.{Claim}
+use Rattle.turn_lock.specs.declared.turns.seat.LockSeat.{LockSeat}
 use Rattle.turn_lock.proofs.Gathering.{places_more}
 use Rattle.told_stores.specs.Event.{Event}
 use Rattle.told_stores.specs.StoreParts.{StoreParts}

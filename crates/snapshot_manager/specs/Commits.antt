@@ -1,6 +1,6 @@
 -- What is said of each answer of a commit.
 use Rattle.std.specs.Prelude.{ℕ, Result, Ok, Err}
-use Rattle.turn_lock.specs.declared.seat.Turn.{Turn}
+use Rattle.turn_lock.specs.declared.turns.seat.Turn.{Turn}
 use Rattle.told_stores.specs.StoreParts.{StoreParts}
 use Rattle.told_stores.specs.CommitFault.{CommitFault}
 use Rattle.snapshot_manager.specs.declared.committing.Commit.{Commit}

@@ -5,7 +5,7 @@ use Rattle.afl_outside.specs.Disk.{Moment}
 use Rattle.turn_lock.specs.Owners.{ExtendsByOthers}
 use Rattle.turn_lock.specs.Inner.Lent.{value_of}
 use Rattle.turn_lock.specs.Seats.{first_value, seat_count, seat_number, seen_by, IsSeatOf as IsLockSeatOf, IsIdle as HasNoTurn, HasTurn as HasLockTurn}
-use Rattle.turn_lock.specs.declared.seat.Turn.{Turn}
+use Rattle.turn_lock.specs.declared.turns.seat.Turn.{Turn}
 use Rattle.event_core.specs.Allowed.{is_pinned}
 use Rattle.store_ledger.specs.declared.pinned.Pinned.{Pinned}
 use Rattle.store_ledger.specs.Ledger.{LedgerState, history, IsOpenPin}

@@ -7,10 +7,9 @@ use crate::seat::Seat;
 use crate::shared::Shared;
 use afl_outside::Disk;
 use cell_values::{List, Memory};
-use reap_bell::Bell;
 use std::alloc::Global;
 use told_stores::{Store, let_go_all};
-use turn_lock::{TurnLock, TurnSeat};
+use turn_lock::{Bell, TurnLock, TurnSeat};
 
 impl<D: Disk> Shared<D> {
     /// Shares a store in which nothing was done yet among so many sessions, 1 to 16. The seats are theirs in order, and the last one is

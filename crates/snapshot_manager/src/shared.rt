@@ -1,9 +1,8 @@
 //! A store that several threads share.
 
 use afl_outside::Disk;
-use reap_bell::Bell;
 use told_stores::Store;
-use turn_lock::{Turn, TurnLock};
+use turn_lock::{Bell, Turn, TurnLock};
 
 /// A store behind a turn lock, and the bell of its reaper. It can't be dropped: `finish` hands the store back.
 pub struct Shared<D: Disk> {

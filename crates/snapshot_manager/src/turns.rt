@@ -11,8 +11,8 @@ ghost use Rattle.told_stores.specs.Turns.{Adds};
 use crate::seat::Seat;
 use crate::shared::{Shared, StoreTurn};
 use afl_outside::Disk;
-use reap_bell::Ring;
 use std::sync::Wait;
+use turn_lock::Ring;
 
 impl<D: Disk> Shared<D> {
     // Waits for a turn. The store in hand is the one that the seat's events then tell.

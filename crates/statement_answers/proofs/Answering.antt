@@ -19,14 +19,14 @@ use Rattle.check_rules.specs.Operators.{operator_named}
 use Rattle.check_rules.specs.declared.rules.operator.Operator.{Operator}
 use Rattle.check_rules.specs.declared.rules.operator.Operator.TheVariants as operator
 use Rattle.check_rules.proofs.RulesHolding.{of_answer, thens}
-use Rattle.check_laws.proofs.StoredNames.{schemas_valid}
-use Rattle.check_laws.proofs.TypedChanges.{changes_typed}
+use Rattle.afl_types.proofs.StoredNames.{schemas_valid}
+use Rattle.afl_types.proofs.TypedChanges.{changes_typed}
 use Rattle.afl_types.specs.Changes.{array_call, created, cut_call, list_call}
 use Rattle.afl_types.specs.Checking.{check_of}
 use Rattle.afl_types.specs.Place.{created_place}
 use Rattle.afl_types.specs.Statements.{insert_of, queried, said, statement_of, store_of}
-use Rattle.afl_types.specs.declared.statements.checking.Typed.{Typed}
-use Rattle.afl_types.specs.declared.statements.checking.Typed.TheVariants.{Query as AQuery, Change as AChange, Versions, Show, ListArrays}
+use Rattle.afl_types.specs.declared.types.statements.checking.Typed.{Typed}
+use Rattle.afl_types.specs.declared.types.statements.checking.Typed.TheVariants.{Query as AQuery, Change as AChange, Versions, Show, ListArrays}
 use Rattle.chunk_exec.specs.Computed.{CanCompute}
 use Rattle.chunk_source.specs.Source.{SourceState, AsksFront}
 use Rattle.chunk_source.specs.declared.reading.fault.ExecFault.{ExecFault}

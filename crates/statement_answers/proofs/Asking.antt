@@ -11,12 +11,12 @@ use Rattle.plan_changes.specs.declared.change.Change.{Change}
 use Rattle.plan_changes.specs.declared.change.Change.TheVariants.{Create, Store, Insert, Remove, RemoveVersions}
 use Rattle.plan_changes.specs.Databases.{Database}
 use Rattle.check_rules.specs.Checked.{Checked}
-use Rattle.afl_types.specs.declared.statements.checking.Typed.{Typed}
-use Rattle.afl_types.specs.declared.statements.checking.Typed.TheVariants.{Change as AChange}
+use Rattle.afl_types.specs.declared.types.statements.checking.Typed.{Typed}
+use Rattle.afl_types.specs.declared.types.statements.checking.Typed.TheVariants.{Change as AChange}
 use Rattle.chunk_source.specs.declared.sources.asked.Asked.{Asked}
 use Rattle.chunk_source.specs.Source.{SourceState, AsksFront}
 use Rattle.chunk_source.proofs.ReadLemmas.{asked_all, asked_none}
-use Rattle.plan_traces.specs.declared.asking.Asking.{Asking}
+use Rattle.changed_chunks.specs.declared.traces.asking.Asking.{Asking}
 use Rattle.changed_chunks.specs.Changing.{AsksOnly, IsToldOf, asked_for as asked_in, asked_of_all, asked_of_plan, asked_or_fault, asked_with, rows_put}
 use Rattle.statement_replies.specs.declared.replies.Reply.{Reply}
 use Rattle.statement_replies.specs.Traces.{newest_leaf}

@@ -10,8 +10,8 @@ use Rattle.plan_changes.specs.declared.change.Change.{Change}
 use Rattle.plan_changes.specs.declared.change.Change.TheVariants.{Create, Store, Insert, Remove, RemoveVersions}
 use Rattle.plan_needs.specs.Wanted.{wanted_of, whole_need}
 use Rattle.check_rules.specs.Checked.{Checked}
-use Rattle.afl_types.specs.declared.statements.checking.Typed.{Typed}
-use Rattle.afl_types.specs.declared.statements.checking.Typed.TheVariants.{Query as AQuery, Change as AChange, Versions, Show, ListArrays}
+use Rattle.afl_types.specs.declared.types.statements.checking.Typed.{Typed}
+use Rattle.afl_types.specs.declared.types.statements.checking.Typed.TheVariants.{Query as AQuery, Change as AChange, Versions, Show, ListArrays}
 use Rattle.chunk_source.specs.Source.{SourceState, asks, listed}
 use Rattle.chunk_exec.specs.Computed.{asked_for_plan, asked_in_boxes}
 use Rattle.changed_chunks.specs.Wanted.{target_wanted}

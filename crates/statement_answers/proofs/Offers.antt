@@ -8,10 +8,10 @@ use Rattle.plan_changes.specs.declared.change.Change.TheVariants.{Create, Store,
 use Rattle.plan_changes.specs.Databases.{Database, fault_of_change, names_of, rows_of}
 use Rattle.plan_changes.specs.Stored.{HasItsNames}
 use Rattle.plan_changes.specs.Typed.{IsTypedFor}
-use Rattle.afl_types.specs.declared.statements.checking.Typed.TheVariants.{Change as AChange}
+use Rattle.afl_types.specs.declared.types.statements.checking.Typed.TheVariants.{Change as AChange}
 use Rattle.chunk_source.specs.Source.{Keeps, SourceState}
 use Rattle.commit_pages.specs.Changes.{AreValid, ComesWith}
-use Rattle.plan_traces.specs.declared.asking.Asking.{Asking}
+use Rattle.changed_chunks.specs.declared.traces.asking.Asking.{Asking}
 use Rattle.changed_chunks.specs.Changing.{IsAnswerOver}
 use Rattle.changed_chunks.specs.Targets.{IsTargetAsking}
 use Rattle.statement_replies.specs.Reply.{cell_reply, traced}

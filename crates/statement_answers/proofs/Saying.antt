@@ -17,8 +17,8 @@ use Rattle.afl_types.specs.Changes.{array_call, created, cut_call, list_call}
 use Rattle.afl_types.specs.Checking.{check_of}
 use Rattle.afl_types.specs.Place.{created_place}
 use Rattle.afl_types.specs.Statements.{changed, insert_of, queried, said, statement_of, store_of}
-use Rattle.afl_types.specs.declared.statements.checking.Typed.{Typed}
-use Rattle.afl_types.specs.declared.statements.checking.Typed.TheVariants.{Query as AQuery, Change as AChange, Versions, Show, ListArrays}
+use Rattle.afl_types.specs.declared.types.statements.checking.Typed.{Typed}
+use Rattle.afl_types.specs.declared.types.statements.checking.Typed.TheVariants.{Query as AQuery, Change as AChange, Versions, Show, ListArrays}
 use Rattle.result_print.specs.declared.refusal.Refusal.{Refusal}
 use Rattle.result_print.specs.declared.refusal.Refusal.TheVariants.{Cell, Typing}
 use Rattle.statement_replies.specs.Reply.{refused}

@@ -18,8 +18,8 @@ use Rattle.plan_changes.specs.Databases.{Database, names_of}
 use Rattle.plan_changes.specs.Stored.{AreStored}
 use Rattle.plan_changes.specs.Typed.{FitsInto, IsTypedFor, IsTypedOver, IsVersionOf}
 use Rattle.check_queries.proofs.Small.{entry_valid}
-use Rattle.check_laws.proofs.Agreeing.{any_is_found, is_some}
-use Rattle.check_laws.proofs.StoredNames.{schemas_valid}
+use Rattle.afl_types.proofs.Agreeing.{any_is_found, is_some}
+use Rattle.afl_types.proofs.StoredNames.{schemas_valid}
 use Rattle.chunk_exec.specs.Computed.{CanCompute}
 use Rattle.chunk_source.specs.Source.{Keeps, SourceState, Reads}
 use Rattle.changed_chunks.specs.Changing.{CanChange, IsTargetIn, IsToldOf}

@@ -20,7 +20,7 @@ use Rattle.plan_changes.specs.Stored.{IsDatabase}
 use Rattle.check_rules.specs.Checked.{refused as broken_rule}
 use Rattle.check_rules.specs.Operators.{query_named, change_named}
 use Rattle.afl_types.specs.Checking.{check_of}
-use Rattle.afl_types.specs.declared.statements.checking.Typed.TheVariants.{Change as AChange, Versions}
+use Rattle.afl_types.specs.declared.types.statements.checking.Typed.TheVariants.{Change as AChange, Versions}
 use Rattle.chunk_source.specs.Source.{SourceState, asks}
 use Rattle.result_print.specs.declared.refusal.Refusal.TheVariants.{Typing}
 use Rattle.statement_replies.specs.Reply.{refused, traced}

@@ -10,8 +10,8 @@ use Rattle.plan_changes.specs.Kept.{StoresArray}
 use Rattle.plan_changes.specs.Stored.{HasItsNames, IsDatabase}
 use Rattle.plan_changes.specs.Typed.{IsTypedFor}
 use Rattle.check_rules.specs.Checked.{Checked}
-use Rattle.afl_types.specs.declared.statements.checking.Typed.{Typed}
-use Rattle.afl_types.specs.declared.statements.checking.Typed.TheVariants.{Query as AQuery, Change as AChange, Versions, Show, ListArrays}
+use Rattle.afl_types.specs.declared.types.statements.checking.Typed.{Typed}
+use Rattle.afl_types.specs.declared.types.statements.checking.Typed.TheVariants.{Query as AQuery, Change as AChange, Versions, Show, ListArrays}
 use Rattle.chunk_source.specs.declared.reading.fault.ExecFault.{ExecFault}
 use Rattle.chunk_source.specs.declared.reading.fault.ExecFault.TheVariants.{Source, Damaged, Memory}
 use Rattle.chunk_source.specs.declared.sources.asked.Asked.{Asked}

@@ -6,7 +6,7 @@ ghost use Rattle.plan_changes.specs.Databases.{Database};
 ghost use Rattle.plan_changes.specs.Stored.{AreStored};
 ghost use Rattle.plan_changes.specs.Typed.{IsTypedFor};
 ghost use Rattle.changed_chunks.specs.Targets.{IsTargetAsking};
-ghost use Rattle.afl_types.specs.declared.statements.checking.Typed.TheVariants.{Change as AChange};
+ghost use Rattle.afl_types.specs.declared.types.statements.checking.Typed.TheVariants.{Change as AChange};
 ghost use Rattle.statement_replies.specs.Reading.{HoldsVersions};
 ghost use Rattle.statement_replies.specs.Reply.{cell_reply, traced};
 ghost use Rattle.statement_replies.specs.StatementKinds.{IsChangeReply};

@@ -7,7 +7,7 @@ ghost use Rattle.chunk_source.specs.Source.{AsksFront, Keeps};
 ghost use Rattle.plan_changes.specs.Databases.{Database};
 ghost use Rattle.plan_changes.specs.Stored.{AreStored};
 ghost use Rattle.afl_types.specs.Checking.{check_of};
-ghost use Rattle.afl_types.specs.declared.statements.checking.Typed.TheVariants.{Query as AQuery};
+ghost use Rattle.afl_types.specs.declared.types.statements.checking.Typed.TheVariants.{Query as AQuery};
 ghost use Rattle.statement_replies.specs.Reading.{HoldsVersions};
 ghost use Rattle.statement_replies.specs.Statements.{reply_to, reply_to_typed};
 ghost use Rattle.statement_answers.specs.Inner.Made.{CanAnswer};

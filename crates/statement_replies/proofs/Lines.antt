@@ -16,11 +16,11 @@ use Rattle.plan_changes.specs.declared.change.Change.{Change}
 use Rattle.plan_changes.specs.declared.change.Change.TheVariants.{Create, Store, Insert, Remove, RemoveVersions}
 use Rattle.chunk_source.specs.Source.{SourceState}
 use Rattle.chunk_source.specs.declared.reading.fault.ExecFault.{ExecFault}
-use Rattle.plan_traces.specs.declared.asking.Asking.{Asking}
+use Rattle.changed_chunks.specs.declared.traces.asking.Asking.{Asking}
 use Rattle.plan_needs.specs.Wanted.{whole_need}
-use Rattle.plan_traces.specs.Line.{trace_line}
-use Rattle.plan_traces.specs.Traced.{AreLinesOf, asking_where, askings_in, askings_over, leaf_line, lines_of, lines_over, plan_askings, plan_lines}
-use Rattle.plan_traces.proofs.Tracing.{append_each, askings_over_each, lines_more, plan_askings_each, plan_lines_are}
+use Rattle.changed_chunks.specs.Line.{trace_line}
+use Rattle.changed_chunks.specs.Traced.{AreLinesOf, asking_where, askings_in, askings_over, leaf_line, lines_of, lines_over, plan_askings, plan_lines}
+use Rattle.changed_chunks.proofs.Tracing.{append_each, askings_over_each, lines_more, plan_askings_each, plan_lines_are}
 use Rattle.changed_chunks.specs.Targets.{asking_put, target_asking}
 use Rattle.statement_replies.specs.Reply.{traced}
 use Rattle.statement_replies.specs.StatementKinds.{IsAccepted}

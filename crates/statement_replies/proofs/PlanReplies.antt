@@ -8,13 +8,13 @@ use Rattle.logical_plan.specs.Meaning.{Database, Meant, meaning}
 use Rattle.logical_plan.specs.PlanSchema.{schema_of}
 use Rattle.logical_plan.specs.Query.{Query}
 use Rattle.logical_plan.proofs.SchemaLaws.{meaning_schema}
-use Rattle.plan_rows.specs.declared.answers.rows.PlanRows.TheVariants.{Fault, Rows}
+use Rattle.plan_rows.specs.declared.rows.answers.rows.PlanRows.TheVariants.{Fault, Rows}
 use Rattle.plan_rows.specs.Found.{IsFound}
 use Rattle.chunk_source.specs.Source.{SourceState}
-use Rattle.plan_traces.specs.Traced.{lines_over, plan_lines}
-use Rattle.plan_traces.proofs.Tracing.{lines_over_are, plan_lines_are}
+use Rattle.changed_chunks.specs.Traced.{lines_over, plan_lines}
+use Rattle.changed_chunks.proofs.Tracing.{lines_over_are, plan_lines_are}
 use Rattle.check_rules.specs.Checked.{Checked}
-use Rattle.check_laws.specs.Queries.{query_of}
+use Rattle.afl_types.specs.Queries.{query_of}
 use Rattle.statement_replies.specs.Kinds.{HasKind, IsRowsOver, IsRowsReply, IsTextOrRefusal, RepliesHaveKinds}
 use Rattle.statement_replies.specs.Reply.{array_reply, cell_reply, checked_reply, fault_or_text, meant_reply, text_reply, traced}
 use Rattle.statement_replies.specs.declared.replies.Reply.{Reply}

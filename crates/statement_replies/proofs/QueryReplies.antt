@@ -13,12 +13,11 @@ use Rattle.logical_plan.specs.Query.{Query}
 use Rattle.plan_changes.specs.Typed.{IsVersionOf}
 use Rattle.check_exprs.specs.Laws.{leaves_fit}
 use Rattle.check_sources.specs.Stored.{entry_named}
-use Rattle.check_rules.specs.Checked.{Checked}
-use Rattle.check_rules.specs.Checked.{refused as broken}
-use Rattle.check_laws.proofs.ReadVersions.{plan_reads}
-use Rattle.check_laws.proofs.TypedQueries.{checked_typed}
-use Rattle.check_laws.specs.Arrays.{AreValid}
-use Rattle.check_laws.specs.Queries.{query_of}
+use Rattle.check_rules.specs.Checked.{Checked, refused as broken}
+use Rattle.afl_types.proofs.ReadVersions.{plan_reads}
+use Rattle.afl_types.proofs.TypedQueries.{checked_typed}
+use Rattle.afl_types.specs.Arrays.{AreValid}
+use Rattle.afl_types.specs.Queries.{query_of}
 use Rattle.result_print.specs.declared.refusal.Refusal.TheVariants.{Typing}
 use Rattle.chunk_source.specs.Source.{SourceState, AsksFront, Reads}
 use Rattle.plan_rows.specs.Computed.{CanCompute, asked_for_plan}

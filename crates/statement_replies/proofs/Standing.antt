@@ -12,12 +12,12 @@ use Rattle.check_rules.specs.Operators.{operator_named}
 use Rattle.check_rules.specs.declared.rules.operator.Operator.{Operator}
 use Rattle.check_rules.specs.declared.rules.operator.Operator.TheVariants as operator
 use Rattle.check_rules.proofs.RulesHolding.{thens, of_answer}
-use Rattle.check_laws.specs.Queries.{query_of}
-use Rattle.check_laws.proofs.StoredNames.{has_found}
-use Rattle.check_laws.specs.Changes.{array_call, created, cut_call, known, list_call, stored_name}
-use Rattle.check_laws.specs.Place.{created_place}
-use Rattle.check_laws.specs.Statements.{insert_of, queried, said, statement_of, store_of}
-use Rattle.check_laws.specs.Typed.{Typed}
+use Rattle.afl_types.specs.Queries.{query_of}
+use Rattle.afl_types.proofs.StoredNames.{has_found}
+use Rattle.afl_types.specs.Changes.{array_call, created, cut_call, known, list_call, stored_name}
+use Rattle.afl_types.specs.Place.{created_place}
+use Rattle.afl_types.specs.Statements.{insert_of, queried, said, statement_of, store_of}
+use Rattle.afl_types.specs.declared.types.statements.checking.Typed.{Typed}
 use Rattle.statement_replies.specs.StatementKinds.{NamesWhatStands, ListedArraysStand}
 
 -- ---- an array that stands has an entry

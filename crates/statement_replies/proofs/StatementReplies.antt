@@ -9,13 +9,12 @@ use Rattle.logical_plan.specs.declared.names.Names.{Names}
 use Rattle.plan_changes.specs.Databases.{Database, fault_of_change, names_of, rows_of}
 use Rattle.plan_changes.specs.declared.change.Change.{Change}
 use Rattle.plan_changes.specs.declared.change.Change.TheVariants.{Create, Store, Insert, Remove, RemoveVersions}
-use Rattle.check_rules.specs.Checked.{Checked}
-use Rattle.check_rules.specs.Checked.{refused as broken_rule}
-use Rattle.check_laws.specs.Queries.{query_of}
-use Rattle.check_laws.specs.Checking.{check_of}
-use Rattle.check_laws.specs.Statements.{queried}
-use Rattle.check_laws.specs.Typed.{Typed}
-use Rattle.check_laws.specs.Typed.TheVariants.{Query as AQuery, Change as AChange, Versions, Show, ListArrays}
+use Rattle.check_rules.specs.Checked.{Checked, refused as broken_rule}
+use Rattle.afl_types.specs.Queries.{query_of}
+use Rattle.afl_types.specs.Checking.{check_of}
+use Rattle.afl_types.specs.Statements.{queried}
+use Rattle.afl_types.specs.declared.types.statements.checking.Typed.{Typed}
+use Rattle.afl_types.specs.declared.types.statements.checking.Typed.TheVariants.{Query as AQuery, Change as AChange, Versions, Show, ListArrays}
 use Rattle.result_print.specs.declared.refusal.Refusal.TheVariants.{Typing}
 use Rattle.statement_replies.specs.Kinds.{IsRowsReply}
 use Rattle.statement_replies.specs.Reply.{checked_reply, plan_reply, refused, traced}

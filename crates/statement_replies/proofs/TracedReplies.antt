@@ -6,9 +6,9 @@ use Rattle.logical_plan.specs.Query.{Query}
 use Rattle.chunk_source.specs.Source.{Keeps, SourceState}
 use Rattle.plan_rows.specs.Computed.{CanCompute}
 use Rattle.plan_rows.specs.Found.{IsFound}
-use Rattle.plan_rows.specs.declared.answers.rows.PlanRows.{PlanRows}
+use Rattle.plan_rows.specs.declared.rows.answers.rows.PlanRows.{PlanRows}
 use Rattle.logical_plan.specs.PlanSchema.{schema_of}
-use Rattle.plan_traces.proofs.Tracing.{all_read, lines_still}
+use Rattle.changed_chunks.proofs.Tracing.{all_read, lines_still}
 use Rattle.statement_replies.specs.Kinds.{IsRowsOver, IsTextOrRefusal}
 use Rattle.statement_replies.specs.Reply.{plan_reply, traced}
 use Rattle.statement_replies.specs.declared.replies.Reply.{Reply}

@@ -10,9 +10,9 @@ use Rattle.logical_plan.specs.Meaning.{Database}
 use Rattle.logical_plan.specs.PlanSchema.{schema_of}
 use Rattle.logical_plan.specs.Query.{Query}
 use Rattle.chunk_source.specs.Source.{SourceState}
-use Rattle.plan_traces.specs.Traced.{AreLinesOf, lines_over}
+use Rattle.changed_chunks.specs.Traced.{AreLinesOf, lines_over}
 use Rattle.check_rules.specs.Checked.{Checked}
-use Rattle.check_laws.specs.Queries.{query_of}
+use Rattle.afl_types.specs.Queries.{query_of}
 use Rattle.result_print.specs.declared.refusal.Refusal.TheVariants.{Typing}
 use Rattle.statement_replies.specs.Reply.{cell_reply, query_reply, refused, text_reply, traced}
 use Rattle.statement_replies.specs.declared.replies.Reply.{Reply}

@@ -15,9 +15,9 @@ use Rattle.logical_plan.specs.declared.names.Names.{Names}
 use Rattle.logical_plan.specs.Query.{Query}
 use Rattle.logical_plan.specs.Faults.{first_fault}
 use Rattle.logical_plan.specs.Meaning.{Database, Meant, meaning}
-use Rattle.plan_traces.specs.Traced.{plan_lines}
+use Rattle.changed_chunks.specs.Traced.{plan_lines}
 use Rattle.check_rules.specs.Checked.{Checked}
-use Rattle.check_laws.specs.Queries.{query_of}
+use Rattle.afl_types.specs.Queries.{query_of}
 use Rattle.result_print.specs.Lines.{line_of_refusal}
 use Rattle.result_print.specs.declared.refusal.Refusal.{Refusal}
 use Rattle.result_print.specs.declared.refusal.Refusal.TheVariants.{TooLong, Parse, Typing, Cell, Memory}

@@ -7,13 +7,13 @@ use Rattle.plan_changes.specs.Changes.{has_array}
 use Rattle.plan_changes.specs.Databases.{Database, names_of, rows_of}
 use Rattle.plan_changes.specs.declared.change.Change.{Change}
 use Rattle.plan_changes.specs.declared.change.Change.TheVariants.{Create, Store, Insert, Remove, RemoveVersions}
-use Rattle.plan_traces.specs.Traced.{AreLinesOf}
+use Rattle.changed_chunks.specs.Traced.{AreLinesOf}
 use Rattle.check_rules.specs.Checked.{Checked}
-use Rattle.check_laws.specs.Queries.{query_of}
-use Rattle.check_laws.specs.Checking.{check_of}
-use Rattle.check_laws.specs.Statements.{queried}
-use Rattle.check_laws.specs.Typed.{Typed}
-use Rattle.check_laws.specs.Typed.TheVariants.{Query as AQuery, Change as AChange, Versions, Show, ListArrays}
+use Rattle.afl_types.specs.Queries.{query_of}
+use Rattle.afl_types.specs.Checking.{check_of}
+use Rattle.afl_types.specs.Statements.{queried}
+use Rattle.afl_types.specs.declared.types.statements.checking.Typed.{Typed}
+use Rattle.afl_types.specs.declared.types.statements.checking.Typed.TheVariants.{Query as AQuery, Change as AChange, Versions, Show, ListArrays}
 use Rattle.result_print.specs.declared.refusal.Refusal.TheVariants.{Typing}
 use Rattle.statement_replies.specs.Kinds.{IsRowsReply}
 use Rattle.statement_replies.specs.Reply.{cell_reply, query_reply, refused, traced}

@@ -13,9 +13,9 @@ use Rattle.plan_changes.specs.Databases.{Database, fault_of_change, names_of, ro
 use Rattle.plan_changes.specs.declared.change.Change.{Change}
 use Rattle.plan_changes.specs.declared.change.Change.TheVariants.{Create, Store, Insert, Remove, RemoveVersions}
 use Rattle.check_rules.specs.Checked.{Checked}
-use Rattle.check_laws.specs.Checking.{check_of}
-use Rattle.check_laws.specs.Typed.{Typed}
-use Rattle.check_laws.specs.Typed.TheVariants.{Query as AQuery, Change as AChange, Versions, Show, ListArrays}
+use Rattle.afl_types.specs.Checking.{check_of}
+use Rattle.afl_types.specs.declared.types.statements.checking.Typed.{Typed}
+use Rattle.afl_types.specs.declared.types.statements.checking.Typed.TheVariants.{Query as AQuery, Change as AChange, Versions, Show, ListArrays}
 use Rattle.result_print.specs.Listings.{list_text, ok_line, show_text, stored_line, versions_text}
 use Rattle.result_print.specs.declared.refusal.Refusal.TheVariants.{Typing}
 use Rattle.statement_replies.specs.Reply.{cell_reply, plan_reply, refused, traced}

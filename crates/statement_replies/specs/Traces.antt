@@ -8,8 +8,8 @@ use Rattle.plan_changes.specs.Changes.{newest_of}
 use Rattle.plan_changes.specs.Databases.{Database, names_of, rows_of}
 use Rattle.plan_changes.specs.declared.change.Change.{Change}
 use Rattle.plan_changes.specs.declared.change.Change.TheVariants.{Create, Store, Insert, Remove, RemoveVersions}
-use Rattle.plan_traces.specs.declared.asking.Asking.{Asking}
-use Rattle.plan_traces.specs.Traced.{askings_over, lines_of, plan_askings}
+use Rattle.changed_chunks.specs.declared.traces.asking.Asking.{Asking}
+use Rattle.changed_chunks.specs.Traced.{askings_over, lines_of, plan_askings}
 use Rattle.changed_chunks.specs.Targets.{IsTargetAsking, target_asking}
 use Rattle.chunk_source.specs.Source.{SourceState}
 use Rattle.plan_rows.specs.Computed.{CanCompute}

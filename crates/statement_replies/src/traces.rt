@@ -7,16 +7,16 @@ ghost use Rattle.logical_plan.specs.Leaves.{leaves};
 ghost use Rattle.logical_plan.specs.Meaning.{Database as Rows};
 ghost use Rattle.plan_changes.specs.Databases.{Database};
 ghost use Rattle.plan_rows.specs.Computed.{CanCompute};
-ghost use Rattle.plan_traces.specs.Traced.{askings_over, leaf_line, lines_of, lines_over, plan_askings, plan_lines};
+ghost use Rattle.changed_chunks.specs.Traced.{askings_over, leaf_line, lines_of, lines_over, plan_askings, plan_lines};
 ghost use Rattle.statement_replies.specs.Reply.{traced};
 ghost use Rattle.statement_replies.specs.Traces.{CanTrace, IsTracedIn, change_lines, change_lines_over, newest_leaf};
 
 use crate::style::Style;
 use cell_values::{Bytes, Memory, Name};
+use changed_chunks::{Asking, plan_lines, write_line};
 use chunk_source::{ChunkSource, ExecFault};
 use logical_plan::{Names, Plan};
 use plan_changes::{Change, newest_of};
-use plan_traces::{Asking, plan_lines, write_line};
 use std::alloc::Global;
 
 /// The lines that tell what a plan reads, where the style wants them.

@@ -11,7 +11,7 @@ use Rattle.version_reaper.specs.PageSets.{holds}
 use Rattle.event_core.specs.declared.state.VersionPages.{VersionPages}
 use Rattle.event_core.specs.Pages.{has_page as is_of_versions}
 use Rattle.file_meaning.specs.Opening.{all_of, catalogue_pages, row_pages, stored_pages, version_pages}
-use Rattle.file_meaning.specs.declared.found.Found.{Found}
+use Rattle.file_meaning.specs.declared.meaning.found.Found.{Found}
 use Rattle.file_reading.specs.Reading.{is_beside}
 use Rattle.store_bases.specs.Bases.{array_pages, catalogue_with, pages_named, versions_pages}
 use Rattle.store_bases.specs.Laws.{BasesLieApart}

@@ -18,7 +18,7 @@ use Rattle.event_core.specs.Agree.{HavePages, can_name, has_version}
 use Rattle.event_core.specs.History.{is_pages_of}
 use Rattle.event_core.specs.Legal.{BeginsWithNames}
 use Rattle.file_meaning.specs.Opening.{all_of, version_pages}
-use Rattle.file_meaning.specs.declared.found.Found.{Found}
+use Rattle.file_meaning.specs.declared.meaning.found.Found.{Found}
 use Rattle.file_reading.specs.Reading.{AreDirectories, IsFound}
 use Rattle.store_bases.specs.Bases.{array_pages, base_core, pages_named, versions_pages}
 use Rattle.store_bases.specs.Laws.{BasesBegin, DirectoriesAreCounted}

@@ -10,7 +10,7 @@ use Rattle.event_core.specs.declared.state.VersionPages.{VersionPages}
 use Rattle.event_core.specs.declared.state.Core.{Core}
 use Rattle.event_core.specs.Replay.{is_core_live}
 use Rattle.file_meaning.specs.Opening.{all_of, version_pages}
-use Rattle.file_meaning.specs.declared.found.Found.{Found}
+use Rattle.file_meaning.specs.declared.meaning.found.Found.{Found}
 
 abbrev pub pages_named : List ℕ → ℕ → List ℕ → VersionPages
 pages_named name version pages = record { name = name; version = version; pages = pages }

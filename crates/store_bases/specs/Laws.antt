@@ -3,7 +3,7 @@ use Rattle.std.specs.Prelude.{◌≡◌, ℕ, [], length, map}
 use Rattle.event_core.specs.Legal.{BeginsWithNames}
 use Rattle.event_core.specs.Apart.{AreApart}
 use Rattle.version_catalog.specs.Catalogs.{names_in}
-use Rattle.file_meaning.specs.declared.found.Found.{Found}
+use Rattle.file_meaning.specs.declared.meaning.found.Found.{Found}
 use Rattle.file_reading.specs.Reading.{IsFound, LieApart}
 use Rattle.store_bases.specs.Bases.{base_core}
 

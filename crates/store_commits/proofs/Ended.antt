@@ -11,8 +11,8 @@ use Rattle.event_core.specs.declared.entry.Entry.{Entry}
 use Rattle.event_core.specs.Allowed.{is_pinned}
 use Rattle.event_core.specs.History.{History, OpenPin, pin_before}
 use Rattle.event_core.proofs.Tests.{both_not}
-use Rattle.event_laws.specs.Pins.{PlaceTells}
-use Rattle.event_laws.proofs.Pins.{places_tell_pins}
+use Rattle.lean_core.specs.Pins.{PlaceTells}
+use Rattle.lean_core.proofs.Pins.{places_tell_pins}
 use Rattle.store_ledger.specs.declared.note.Note.{Note}
 use Rattle.store_ledger.specs.declared.note.NoteKind.TheVariants.{Fault}
 use Rattle.store_ledger.specs.Ledger.{LedgerState, has_under, history, is_fault, is_noted, is_under, note_now, with_fault, with_notes}
@@ -21,7 +21,7 @@ use Rattle.prepared_commits.specs.Event.{Event}
 use Rattle.prepared_commits.specs.Event.TheVariants.{Acknowledged, Noted}
 use Rattle.prepared_commits.specs.Calls.{NotesFault}
 use Rattle.prepared_commits.specs.Standings.{Standing}
-use Rattle.prepared_commits.specs.declared.prepared.Prepared.{Prepared}
+use Rattle.prepared_commits.specs.declared.commits.prepared.Prepared.{Prepared}
 use Rattle.array_store.specs.Steps.{entry_of, made_by, sealed_ledger}
 use Rattle.array_store.specs.Growth.{AddsEvents, AddsFault, fault_events}
 use Rattle.array_store.specs.Sealing.{AddsCommit}

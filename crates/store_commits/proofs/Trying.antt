@@ -15,16 +15,16 @@ use Rattle.event_core.specs.Allowed.{is_pinned}
 use Rattle.event_core.specs.Bases.{commits, sequence_at}
 use Rattle.event_core.specs.Cells.{at}
 use Rattle.event_core.specs.History.{History, names_at, up_to}
-use Rattle.event_laws.proofs.Pins.{beginnings_are_kept}
+use Rattle.lean_core.proofs.Pins.{beginnings_are_kept}
 use Rattle.commit_costs.specs.Costs.{cost_from}
 use Rattle.store_ledger.specs.Ledger.{history, unused_pages}
 use Rattle.prepared_commits.specs.Event.{Event}
 use Rattle.prepared_commits.specs.Event.TheVariants.{Acknowledged}
 use Rattle.prepared_commits.specs.Calls.{NotesFault, database_with, history_at}
 use Rattle.prepared_commits.specs.Standings.{Standing, BeganAs, base_of, current_slots, records_in}
-use Rattle.prepared_commits.specs.declared.fault.PrepareFault.{PrepareFault}
-use Rattle.prepared_commits.specs.declared.fault.PrepareFault.TheVariants as refusals
-use Rattle.prepared_commits.specs.declared.prepared.Prepared.{Prepared}
+use Rattle.prepared_commits.specs.declared.commits.fault.PrepareFault.{PrepareFault}
+use Rattle.prepared_commits.specs.declared.commits.fault.PrepareFault.TheVariants as refusals
+use Rattle.prepared_commits.specs.declared.commits.prepared.Prepared.{Prepared}
 use Rattle.prepared_commits.specs.Prepared.{IsAsked, MayBeMade}
 use Rattle.array_store.specs.Left.{FitsIn, HasNext, reaped_if, tried_now}
 use Rattle.array_store.specs.Steps.{entry_of, made_by, sealed_ledger}

@@ -14,8 +14,8 @@ use Rattle.event_core.specs.Pages.{is_live}
 use Rattle.commit_costs.specs.Costs.{cost_from}
 use Rattle.store_ledger.specs.Ledger.{history, is_fault, is_noted}
 use Rattle.prepared_commits.specs.Standings.{Standing, BeganAs, base_of}
-use Rattle.prepared_commits.specs.declared.fault.PrepareFault.{PrepareFault}
-use Rattle.prepared_commits.specs.declared.fault.PrepareFault.TheVariants as refusals
+use Rattle.prepared_commits.specs.declared.commits.fault.PrepareFault.{PrepareFault}
+use Rattle.prepared_commits.specs.declared.commits.fault.PrepareFault.TheVariants as refusals
 use Rattle.array_store.specs.Parts.{IsFull}
 use Rattle.store_commits.specs.declared.fault.CommitFault.{CommitFault}
 use Rattle.store_commits.specs.declared.fault.CommitFault.TheVariants.{SequenceEnd, Full, Disk, Memory}

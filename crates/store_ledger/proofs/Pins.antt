@@ -10,8 +10,8 @@ use Rattle.lean_core.specs.Entry.{Entry}
 use Rattle.lean_core.specs.Entry.TheVariants.{Pin, Unpin}
 use Rattle.lean_core.specs.History.{History, OpenPin, open_pins, pin_before}
 use Rattle.lean_core.proofs.Tests.{both_not}
-use Rattle.event_laws.proofs.Pins.{open_pins_stay, open_pins_are_these}
-use Rattle.event_laws.specs.Pins.{pins_of}
+use Rattle.lean_core.proofs.Pins.{open_pins_stay, open_pins_are_these}
+use Rattle.lean_core.specs.Pins.{pins_of}
 use Rattle.store_ledger.specs.declared.note.Note.{Note}
 use Rattle.store_ledger.specs.declared.note.NoteKind.{NoteKind}
 use Rattle.store_ledger.specs.Ledger.{is_tried, is_under, has_note, has_under, reserved_by}

@@ -2,12 +2,12 @@
 use Rattle.std.proofs.Common.{◌≡◌, ◌∙◌, ℕ, suc, ◌+◌, ◌-◌, ◌*◌, ◌≤◌, ◌<◌, not, List, [], ◌∷◌, ◌++◌, length, map, reverse, Some, IsTrue, true, false, refl, ap, sym, subst, arith}
 use Rattle.std.specs.List.{sum_by}
 use Rattle.std.proofs.lemmas.Bool.{and_parts}
-use Rattle.event_laws.specs.Change.{Change}
+use Rattle.lean_core.specs.Change.{Change}
 use Rattle.lean_core.specs.Used.{Used}
 use Rattle.lean_core.specs.Entry.{Entry}
 use Rattle.lean_core.specs.Entry.TheVariants.{Pin, Unpin, Commit, Reap}
 use Rattle.lean_core.specs.Core.{Core}
-use Rattle.lean_core.specs.Allowed.{IsBase, allows, is_pinned}
+use Rattle.event_core.specs.Allowed.{IsBase, allows, is_pinned}
 use Rattle.lean_core.specs.History.{History, OpenPin, open_pins, pin_before}
 use Rattle.lean_core.specs.Legal.{has_committed}
 use Rattle.lean_core.specs.Replay.{pin_at}

@@ -4,12 +4,12 @@ use Rattle.std.specs.List.{filter, list_any}
 use Rattle.std.proofs.lemmas.Bool.{eq-eqb, or_from, or_left, or_right}
 use Rattle.std.proofs.lemmas.List.Elements.{filter-append}
 use Rattle.std.proofs.lemmas.List.Folds.{list_any-append}
-use Rattle.event_laws.specs.Change.{Change}
+use Rattle.lean_core.specs.Change.{Change}
 use Rattle.version_reaper.specs.PageSets.{holds, pages_below}
 use Rattle.lean_core.specs.Used.{Used}
 use Rattle.lean_core.specs.Entry.TheVariants.{Pin, Unpin, Commit, Reap}
 use Rattle.lean_core.specs.Core.{Core}
-use Rattle.lean_core.specs.Allowed.{IsBase}
+use Rattle.event_core.specs.Allowed.{IsBase}
 use Rattle.lean_core.specs.Bases.{commits}
 use Rattle.lean_core.specs.History.{History, OpenPin, catalogue_at, open_pins, pages_at}
 use Rattle.lean_core.specs.Pages.{free_at, has_page, is_awaiting, is_live, pin_names}

@@ -1,10 +1,10 @@
 -- What holds of ledgers.
 use Rattle.std.specs.Prelude.{◌≡◌, ◌+◌, ℕ, List, [], ◌∷◌, ◌++◌, length, reverse, Bool, not, ◌&&◌, nat_eq, false, Some, IsTrue}
 use Rattle.std.specs.List.{list_all}
-use Rattle.event_laws.specs.Change.{Change}
+use Rattle.lean_core.specs.Change.{Change}
 use Rattle.lean_core.specs.Entry.{Entry}
 use Rattle.lean_core.specs.Entry.TheVariants.{Pin, Unpin}
-use Rattle.lean_core.specs.Allowed.{is_allowed}
+use Rattle.event_core.specs.Allowed.{is_allowed}
 use Rattle.lean_core.specs.History.{History, leaves_pin, pin_before}
 use Rattle.store_ledger.specs.declared.note.Note.{Note}
 use Rattle.store_ledger.specs.declared.note.NoteKind.{NoteKind}

@@ -1,8 +1,8 @@
 //! Commits in two halves: the first takes all memory, the second none.
 ghost use Rattle.std.specs.Prelude.{◌≡◌, false, [], ◌∷◌, IfOk, IsTrue};
-ghost use Rattle.event_laws.specs.Allowed.{names_allow};
+ghost use Rattle.lean_core.specs.Allowed.{names_allow};
 ghost use Rattle.lean_core.specs.Entry.TheVariants.{Commit};
-ghost use Rattle.lean_core.specs.Allowed.{allows};
+ghost use Rattle.event_core.specs.Allowed.{allows};
 ghost use Rattle.lean_core.specs.History.{names_at};
 ghost use Rattle.lean_core.specs.Legal.{has_committed};
 ghost use Rattle.lean_core.specs.Ready.{IsReadyOver};
@@ -11,8 +11,7 @@ ghost use Rattle.store_ledger.specs.Ledger.{has_room, history, with_entries};
 
 use crate::Ledger;
 use cell_values::Memory;
-use event_laws::Change;
-use lean_core::{Entry, LeanReady, Used};
+use lean_core::{Change, Entry, LeanReady, Used};
 use std::marker::Model;
 
 /// A commit that was made ready, with its change and its pages. Contracts see the core, the change and the pages that it was made for.

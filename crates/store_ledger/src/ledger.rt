@@ -1,6 +1,6 @@
 //! The ledger as one value.
 ghost use Rattle.std.specs.Prelude.{◌≡◌, [], length, map, IfOk};
-ghost use Rattle.lean_core.specs.Allowed.{IsBase};
+ghost use Rattle.event_core.specs.Allowed.{IsBase};
 ghost use Rattle.lean_core.specs.History.{names_at, catalogue_at, open_pins};
 ghost use Rattle.lean_core.specs.Pages.{free_at};
 ghost use Rattle.lean_core.specs.States.{place_of};

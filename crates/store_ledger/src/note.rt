@@ -3,7 +3,7 @@
 ghost use Rattle.std.specs.Prelude.{◌≡◌};
 ghost use Rattle.store_ledger.specs.Ledger.{is_fault, is_tried};
 
-use event_laws::Change;
+use lean_core::Change;
 use std::snapshot::Snapshot;
 
 /// What a note says of its session.

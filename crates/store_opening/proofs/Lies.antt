@@ -16,9 +16,9 @@ use Rattle.version_catalog.specs.declared.rules.catalog.CatalogArray.{CatalogArr
 use Rattle.file_meaning.specs.Slots.{Slots}
 use Rattle.file_meaning.specs.Opening.{Listed, Row, Rules, are_pages, directory_from, found_in, payloads_in, row_in, rows_in as found_rows_in, sequence_of}
 use Rattle.file_meaning.specs.Standing.{HoldsDatabase, HoldsVersion, HoldsVersions}
-use Rattle.file_meaning.specs.declared.found.Found.{Found}
-use Rattle.file_laws.proofs.Apart.{both_all}
-use Rattle.file_laws.proofs.Elsewhere.{directory_steps, entry_pages, entry_steps, found_steps, row_steps, rows_steps}
+use Rattle.file_meaning.specs.declared.meaning.found.Found.{Found}
+use Rattle.file_meaning.proofs.Apart.{both_all}
+use Rattle.file_meaning.proofs.Elsewhere.{directory_steps, entry_pages, entry_steps, found_steps, row_steps, rows_steps}
 use Rattle.store_versions.specs.Rows.{array_rows, first_rows}
 use Rattle.store_versions.specs.Seen.{version_of}
 use Rattle.store_versions.specs.Versions.{MadeVersion}

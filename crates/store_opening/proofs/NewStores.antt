@@ -1,15 +1,15 @@
 -- The parts of a store that was just opened are those of a store.
 use Rattle.std.proofs.Common.{◌≡◌, ◌≤◌, ℕ, ◌+◌, false, ◌||◌, inl, [], List, None, IfSome, Ok, refl, sym, ◌∙◌, ap, subst, arith}
 use Rattle.afl_outside.specs.Disk.{Moment, Only}
-use Rattle.page_layout.specs.Opens.{OpensAs}
+use Rattle.page_slots.specs.Opens.{OpensAs}
 use Rattle.page_chain.specs.Inner.Runs.{OnlyReads}
 use Rattle.page_slots.specs.Standing.{IsAlone, IsSound, IsStillEntry, IsStillRoot}
-use Rattle.page_slots.specs.declared.slots.Slots.{Slots}
-use Rattle.page_slots.specs.declared.slots.RootSlot.{RootSlot}
-use Rattle.page_slots.specs.declared.slots.RootSlot.TheVariants as roots
-use Rattle.page_slots.specs.declared.slots.NextEntry.TheVariants as entries
-use Rattle.page_slots.specs.declared.slots.Target.{Target}
-use Rattle.page_slots.specs.declared.slots.Target.TheVariants as targets
+use Rattle.page_slots.specs.declared.slots.slots.Slots.{Slots}
+use Rattle.page_slots.specs.declared.slots.slots.RootSlot.{RootSlot}
+use Rattle.page_slots.specs.declared.slots.slots.RootSlot.TheVariants as roots
+use Rattle.page_slots.specs.declared.slots.slots.NextEntry.TheVariants as entries
+use Rattle.page_slots.specs.declared.slots.slots.Target.{Target}
+use Rattle.page_slots.specs.declared.slots.slots.Target.TheVariants as targets
 use Rattle.page_file.specs.FilesOpened.{OpenFile}
 use Rattle.page_file.specs.OpeningOpened.{IsRead}
 use Rattle.plan_changes.specs.Databases.{Database}
@@ -17,13 +17,13 @@ use Rattle.version_catalog.specs.Catalogs.{names_in}
 use Rattle.commit_writes.specs.Moments.{IsKnown}
 use Rattle.file_meaning.specs.Opening.{found_in, opened}
 use Rattle.file_meaning.specs.Standing.{HoldsDatabase, HoldsFound, Stands}
-use Rattle.file_meaning.specs.declared.found.Found.{Found}
+use Rattle.file_meaning.specs.declared.meaning.found.Found.{Found}
 use Rattle.store_bases.specs.Reading.{IsFound, LieApart, slots_of}
 use Rattle.store_bases.proofs.Steps.{at_some}
 use Rattle.event_core.specs.declared.state.Core.{Core}
 use Rattle.event_core.specs.Legal.{BeginsWithNames}
-use Rattle.found_rows.specs.Laws.{AreFirst}
-use Rattle.found_rows.proofs.Opening.{first_rows_are_in_order}
+use Rattle.laid_commits.specs.RowsLaws.{AreFirst}
+use Rattle.laid_commits.proofs.Opening.{first_rows_are_in_order}
 use Rattle.store_bases.specs.Bases.{base_core}
 use Rattle.store_bases.proofs.ApartLaws.{bases_lie_apart, log_held}
 use Rattle.store_bases.proofs.NamedLaws.{bases_begin, directories_are_counted}

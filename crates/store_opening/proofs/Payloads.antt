@@ -12,8 +12,8 @@ use Rattle.plan_changes.specs.Changes.{entry_named}
 use Rattle.version_catalog.specs.Catalogs.{names_in}
 use Rattle.file_meaning.specs.Slots.{Slots}
 use Rattle.file_meaning.specs.Opening.{are_pages, found_in}
-use Rattle.file_meaning.specs.declared.found.Found.{Found}
-use Rattle.file_laws.proofs.Apart.{both_all}
+use Rattle.file_meaning.specs.declared.meaning.found.Found.{Found}
+use Rattle.file_meaning.proofs.Apart.{both_all}
 use Rattle.store_versions.specs.Rows.{array_rows, first_rows}
 use Rattle.store_versions.specs.Seen.{version_of}
 use Rattle.store_versions.specs.Versions.{MadeVersion}

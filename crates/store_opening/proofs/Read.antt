@@ -2,19 +2,19 @@
 use Rattle.std.proofs.Common.{◌≡◌, ◌≤◌, ℕ, List, Option, None, Some, IfSome, IsTrue, Result, Ok, Err, sym, ◌∙◌, subst, arith}
 use Rattle.afl_outside.specs.Counts.{Rose}
 use Rattle.afl_outside.specs.Disk.{DiskState, Moment, Only}
-use Rattle.page_layout.specs.Opens.{OpensAs}
+use Rattle.page_slots.specs.Opens.{OpensAs}
 use Rattle.page_chain.specs.declared.fault.OpenCause.{OpenCause}
 use Rattle.page_chain.specs.declared.fault.OpenCause.TheVariants.{Disk, NotDatabase, Memory}
 use Rattle.page_slots.specs.Puts.{OnlySyncs}
 use Rattle.page_slots.specs.Standing.{IsSound}
-use Rattle.page_slots.specs.declared.slots.Slots.{Slots}
+use Rattle.page_slots.specs.declared.slots.slots.Slots.{Slots}
 use Rattle.page_file.specs.OpeningOpened.{AreFresh, HasCause as HasOpenCause, IsOpened}
 use Rattle.file_meaning.specs.Slots.{slots_in}
 use Rattle.file_meaning.specs.Opening.{found_in, opened}
-use Rattle.file_meaning.specs.declared.found.Found.{Found}
-use Rattle.file_laws.proofs.SlotLaws.{slots_are}
-use Rattle.file_laws.proofs.Steps.{then_is}
-use Rattle.file_laws.proofs.WrongSlots.{wrong_file}
+use Rattle.file_meaning.specs.declared.meaning.found.Found.{Found}
+use Rattle.file_meaning.proofs.SlotLaws.{slots_are}
+use Rattle.file_meaning.proofs.Steps.{then_is}
+use Rattle.file_meaning.proofs.WrongSlots.{wrong_file}
 use Rattle.store_bases.specs.Reading.{Answers, slots_of}
 use Rattle.store_bases.proofs.Steps.{if_some}
 use Rattle.store_opening.specs.Opened.{HasCause, IsToldBy}

@@ -17,8 +17,8 @@ use Rattle.version_catalog.specs.declared.rules.catalog.CatalogArray.{CatalogArr
 use Rattle.version_catalog.specs.Catalogs.{HasDirectories, names_in}
 use Rattle.version_reaper.specs.PageSets.{holds}
 use Rattle.file_meaning.specs.Opening.{all_of, version_pages}
-use Rattle.file_meaning.specs.declared.found.Found.{Found}
-use Rattle.file_laws.proofs.Apart.{both_all}
+use Rattle.file_meaning.specs.declared.meaning.found.Found.{Found}
+use Rattle.file_meaning.proofs.Apart.{both_all}
 use Rattle.store_bases.specs.Reading.{AreDirectories, HaveCores, IsFound}
 use Rattle.store_bases.specs.Bases.{array_pages, pages_named, versions_pages}
 use Rattle.store_versions.specs.Rows.{array_rows, first_rows}

@@ -4,20 +4,20 @@ use Rattle.afl_outside.specs.Disk.{Moment}
 use Rattle.array_geom.specs.declared.chunk.Changed.{Changed}
 use Rattle.plan_changes.specs.declared.change.Change.{Change}
 use Rattle.event_core.specs.Allowed.{is_pinned}
-use Rattle.prepared_costs.specs.Written.{Written}
-use Rattle.prepared_costs.specs.Changes.{AreValid}
-use Rattle.prepared_costs.specs.Versions.{CanBeListed, IsWritten, draft, draft_of}
+use Rattle.prepared_commits.specs.Written.{Written}
+use Rattle.prepared_commits.specs.Changes.{AreValid}
+use Rattle.prepared_commits.specs.Versions.{CanBeListed, IsWritten, draft, draft_of}
 use Rattle.store_ledger.specs.Ledger.{LedgerState, has_room, history, is_noted, is_tried}
 use Rattle.prepared_commits.specs.StoreParts.{StoreParts}
 use Rattle.prepared_commits.specs.At.{IsAt, keeping, standing}
 use Rattle.prepared_commits.specs.Standings.{Standing}
 use Rattle.prepared_commits.specs.Keeping.{Keeping}
-use Rattle.prepared_commits.specs.declared.fault.PrepareFault.{PrepareFault}
-use Rattle.prepared_commits.specs.declared.fault.PrepareFault.TheVariants.{SequenceEnd, Full, Memory}
-use Rattle.prepared_commits.specs.declared.prepared.Prepared.{Prepared}
+use Rattle.prepared_commits.specs.declared.commits.fault.PrepareFault.{PrepareFault}
+use Rattle.prepared_commits.specs.declared.commits.fault.PrepareFault.TheVariants.{SequenceEnd, Full, Memory}
+use Rattle.prepared_commits.specs.declared.commits.prepared.Prepared.{Prepared}
 use Rattle.prepared_commits.specs.Needs.{needs_by, newest_now, next_sequence}
 use Rattle.prepared_commits.specs.Prepared.{IsAsked, IsPreparedFor}
-use Rattle.prepared_parts.specs.Parts.{IsFullFor, IsPreparedAs, is_short}
+use Rattle.prepared_commits.specs.Parts.{IsFullFor, IsPreparedAs, is_short}
 use Rattle.store_preparing.specs.Left.{IsLeft, tried_now}
 use Rattle.store_preparing.proofs.Noted.{at_tried, none_committed, tried_is_noted, was_tried}
 use Rattle.store_preparing.proofs.Prepares.{IsBefore, IsFor, NeedsAreCosts, prepared_new}

@@ -7,15 +7,15 @@ use Rattle.event_core.specs.declared.state.Core.{Core}
 use Rattle.event_core.specs.Allowed.{IsBase, is_allowed}
 use Rattle.event_core.specs.History.{History}
 use Rattle.event_core.specs.Pages.{is_awaiting, is_live, free_at}
-use Rattle.event_laws.proofs.Conserved.{pages_are_conserved}
-use Rattle.event_laws.proofs.Legal.{ordered_is_allowed}
+use Rattle.lean_core.proofs.Conserved.{pages_are_conserved}
+use Rattle.lean_core.proofs.Legal.{ordered_is_allowed}
 use Rattle.store_ledger.specs.Ledger.{LedgerState, history, unused_pages}
 use Rattle.prepared_commits.specs.At.{IsAt}
 use Rattle.prepared_commits.specs.Standings.{Standing}
 use Rattle.prepared_commits.specs.Keeping.{Keeping}
-use Rattle.prepared_commits.specs.declared.fault.PrepareFault.{PrepareFault}
-use Rattle.prepared_commits.specs.declared.fault.PrepareFault.TheVariants.{SequenceEnd, Full, Memory}
-use Rattle.prepared_parts.specs.Parts.{IsFullFor}
+use Rattle.prepared_commits.specs.declared.commits.fault.PrepareFault.{PrepareFault}
+use Rattle.prepared_commits.specs.declared.commits.fault.PrepareFault.TheVariants.{SequenceEnd, Full, Memory}
+use Rattle.prepared_commits.specs.Parts.{IsFullFor}
 use Rattle.store_preparing.specs.Left.{FitsIn}
 
 one_of_two : (b : Bool) (x : ℕ) (ls ws : List ℕ) (n : ℕ) → length ls + length ws ≡ n → length (if b then x ∷ ls else ls) + length (if not b then x ∷ ws else ws) ≡ suc n

@@ -19,12 +19,12 @@ use Rattle.prepared_commits.specs.At.{IsAt}
 use Rattle.prepared_commits.specs.Standings.{Standing, base_of, commit_places, given_of, made_at, versions_after, with_entries}
 use Rattle.prepared_commits.specs.Keeping.{Keeping}
 use Rattle.prepared_commits.proofs.AtOn.{places_same, reaped_if as reaped_standing}
-use Rattle.prepared_commits.specs.declared.fault.PrepareFault.{PrepareFault}
-use Rattle.prepared_commits.specs.declared.fault.PrepareFault.TheVariants.{SequenceEnd, Full, Memory}
+use Rattle.prepared_commits.specs.declared.commits.fault.PrepareFault.{PrepareFault}
+use Rattle.prepared_commits.specs.declared.commits.fault.PrepareFault.TheVariants.{SequenceEnd, Full, Memory}
 use Rattle.prepared_commits.specs.Needs.{newest_now, next_sequence, or_empty}
-use Rattle.prepared_costs.proofs.Costs.{have}
-use Rattle.prepared_costs.proofs.Newest.{newest_rises}
-use Rattle.prepared_parts.specs.Parts.{IsLeft as IsLeftBy, is_short, newest_at, reaped}
+use Rattle.prepared_commits.proofs.CostLaws.{have}
+use Rattle.prepared_commits.proofs.Newest.{newest_rises}
+use Rattle.prepared_commits.specs.Parts.{IsLeft as IsLeftBy, is_short, newest_at, reaped}
 use Rattle.store_preparing.specs.Left.{IsLeft, reaped_if}
 use Rattle.store_preparing.proofs.Reaped.{at_reaped}
 

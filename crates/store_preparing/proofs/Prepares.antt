@@ -9,8 +9,8 @@ use Rattle.chunk_map.specs.declared.directory.Directory.{Directory}
 use Rattle.chunk_map.specs.Spelling.{IsDirectory}
 use Rattle.logical_plan.specs.declared.names.Names.{Names}
 use Rattle.page_chain.specs.Pages.{AreDistinct}
-use Rattle.page_slots.specs.declared.slots.Target.{Target}
-use Rattle.page_slots.specs.declared.slots.Target.TheVariants.{Root, Record}
+use Rattle.page_slots.specs.declared.slots.slots.Target.{Target}
+use Rattle.page_slots.specs.declared.slots.slots.Target.TheVariants.{Root, Record}
 use Rattle.plan_changes.specs.declared.change.Change.{Change}
 use Rattle.plan_changes.specs.declared.change.Change.TheVariants.{Create, Store, Insert, Remove, RemoveVersions}
 use Rattle.plan_changes.specs.Changes.{name_of, newest_of}
@@ -29,27 +29,27 @@ use Rattle.event_core.specs.Legal.{has_committed}
 use Rattle.event_core.specs.Pages.{free_at, fresh_at}
 use Rattle.event_core.specs.Ready.{IsReadyOver, ReadyFor}
 use Rattle.event_core.specs.Replay.{core_at}
-use Rattle.event_laws.proofs.Legal.{ordered_is_allowed}
+use Rattle.lean_core.proofs.Legal.{ordered_is_allowed}
 use Rattle.commit_costs.specs.Costs.{cost_from}
-use Rattle.prepared_costs.specs.Laid.{Laid}
-use Rattle.prepared_costs.specs.Written.{Written}
-use Rattle.prepared_costs.specs.Changes.{AreValid, ComesWith}
-use Rattle.prepared_costs.specs.Commits.{record_laid, base_laid}
-use Rattle.prepared_costs.specs.Versions.{CanBeListed, IsWritten, directory_of as directory_by, draft, draft_of, settled, version_in}
-use Rattle.prepared_costs.proofs.Cores.{have_cores}
+use Rattle.prepared_commits.specs.Laid.{Laid}
+use Rattle.prepared_commits.specs.Written.{Written}
+use Rattle.prepared_commits.specs.Changes.{AreValid, ComesWith}
+use Rattle.prepared_commits.specs.Commits.{record_laid, base_laid}
+use Rattle.prepared_commits.specs.Versions.{CanBeListed, IsWritten, directory_of as directory_by, draft, draft_of, settled, version_in}
+use Rattle.prepared_commits.proofs.Cores.{have_cores}
 use Rattle.store_ledger.specs.Ledger.{LedgerState, has_room, history, is_noted, is_tried}
 use Rattle.store_versions.specs.Rows.{IsReadyFor}
 use Rattle.prepared_commits.specs.At.{IsAt}
 use Rattle.prepared_commits.specs.Standings.{Standing, BeganAs, WasTriedBy, base_of, given_of, versions_after}
 use Rattle.prepared_commits.specs.Keeping.{Keeping, IsDirectoryOf}
-use Rattle.prepared_commits.specs.declared.prepared.NewBase.{NewBase}
-use Rattle.prepared_commits.specs.declared.prepared.Prepared.{Prepared}
+use Rattle.prepared_commits.specs.declared.commits.prepared.NewBase.{NewBase}
+use Rattle.prepared_commits.specs.declared.commits.prepared.Prepared.{Prepared}
 use Rattle.prepared_commits.specs.Needs.{IsLaidBy, all_pages, needs, needs_by, newest_now, next_sequence, written_now}
 use Rattle.prepared_commits.specs.Prepared.{IsAsked, IsLaid, MayCome}
-use Rattle.prepared_costs.proofs.Costs.{of_chunks}
-use Rattle.prepared_costs.proofs.Newest.{newest_shares}
-use Rattle.prepared_parts.specs.Layouts.{IsLayout, IsSized, base_by, laid_by}
-use Rattle.prepared_parts.specs.Parts.{IsPreparedAs, free_pages}
+use Rattle.prepared_commits.proofs.CostLaws.{of_chunks}
+use Rattle.prepared_commits.proofs.Newest.{newest_shares}
+use Rattle.prepared_commits.specs.Layouts.{IsLayout, IsSized, base_by, laid_by}
+use Rattle.prepared_commits.specs.Parts.{IsPreparedAs, free_pages}
 use Rattle.store_preparing.specs.Left.{reaped_if}
 use Rattle.store_preparing.proofs.Parts.{newest_reaped, next_reaped}
 use Rattle.store_preparing.proofs.Reaped.{asked_still, at_reaped, history_of, ledger_of, reaped_history, room_left, same_committed, same_noted, same_pin, still_tried}

@@ -22,7 +22,7 @@ use Rattle.prepared_commits.specs.Keeping.{Keeping}
 use Rattle.prepared_commits.proofs.AtOn.{at_reap}
 use Rattle.prepared_commits.proofs.Attempts.{tried_on}
 use Rattle.prepared_commits.specs.Prepared.{IsAsked, MayBeMade}
-use Rattle.prepared_parts.specs.Parts.{reaped}
+use Rattle.prepared_commits.specs.Parts.{reaped}
 use Rattle.store_preparing.specs.Left.{reaped_if}
 
 -- the history with a reap, if one comes

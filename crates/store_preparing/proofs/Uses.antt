@@ -5,8 +5,8 @@ use Rattle.std.specs.List.{AllByRecursion}
 use Rattle.std.specs.Option.{is_some}
 use Rattle.std.proofs.lemmas.List.{length-take-le, take_more}
 use Rattle.chunk_map.specs.declared.directory.Directory.{Directory}
-use Rattle.page_slots.specs.declared.slots.Target.{Target}
-use Rattle.page_slots.specs.declared.slots.Target.TheVariants.{Root, Record}
+use Rattle.page_slots.specs.declared.slots.slots.Target.{Target}
+use Rattle.page_slots.specs.declared.slots.slots.Target.TheVariants.{Root, Record}
 use Rattle.plan_changes.specs.declared.change.Change.{Change}
 use Rattle.plan_changes.specs.Changes.{name_of}
 use Rattle.version_catalog.specs.declared.rules.catalog.Catalog.{Catalog}
@@ -15,16 +15,16 @@ use Rattle.event_core.specs.Allowed.{IsBase, is_allowed}
 use Rattle.event_core.specs.Apart.{makes_version}
 use Rattle.event_core.specs.History.{History, catalogue_at, names_at, pages_at}
 use Rattle.event_core.specs.Pages.{free_at, is_newest}
-use Rattle.prepared_costs.specs.Laid.{Laid}
-use Rattle.prepared_costs.specs.Written.{Written}
-use Rattle.prepared_costs.specs.Commits.{record_needs, base_needs}
-use Rattle.prepared_costs.specs.Versions.{IsWritten}
-use Rattle.given_pages.specs.Laws.{AreFirst, AreGiven, MayUse}
-use Rattle.given_pages.proofs.First.{first_differ}
-use Rattle.given_pages.proofs.Given.{records_may_use, bases_may_use}
-use Rattle.prepared_commits.specs.declared.prepared.NewBase.{NewBase}
+use Rattle.prepared_commits.specs.Laid.{Laid}
+use Rattle.prepared_commits.specs.Written.{Written}
+use Rattle.prepared_commits.specs.Commits.{record_needs, base_needs}
+use Rattle.prepared_commits.specs.Versions.{IsWritten}
+use Rattle.laid_commits.specs.GivenLaws.{AreFirst, AreGiven, MayUse}
+use Rattle.laid_commits.proofs.First.{first_differ}
+use Rattle.laid_commits.proofs.GivenPages.{records_may_use, bases_may_use}
+use Rattle.prepared_commits.specs.declared.commits.prepared.NewBase.{NewBase}
 use Rattle.prepared_commits.specs.Needs.{IsBase as IsBaseOf, IsRecord, all_pages, needs_by}
-use Rattle.prepared_parts.specs.Layouts.{base_by, blobs_need, laid_by}
+use Rattle.prepared_commits.specs.Layouts.{base_by, blobs_need, laid_by}
 
 abbrev pub IsBy : Target → ℕ → Catalog → List ℕ → Directory → Change → Option Written → List ℕ → Option NewBase → Laid → Type 0
 IsBy target sequence catalog catalogue newest change written pages None laid = IsRecord target catalog catalogue newest change written pages laid

@@ -4,9 +4,9 @@ use Rattle.plan_changes.specs.declared.change.Change.{Change}
 use Rattle.event_core.specs.declared.entry.Entry.TheVariants.{Reap}
 use Rattle.store_ledger.specs.Ledger.{LedgerState, attempt, note_now, unused_pages}
 use Rattle.prepared_commits.specs.Standings.{Standing, with_entries, with_notes}
-use Rattle.prepared_commits.specs.declared.fault.PrepareFault.{PrepareFault}
-use Rattle.prepared_commits.specs.declared.fault.PrepareFault.TheVariants.{SequenceEnd, Full, Memory}
-use Rattle.prepared_parts.specs.Parts.{IsFull, is_short}
+use Rattle.prepared_commits.specs.declared.commits.fault.PrepareFault.{PrepareFault}
+use Rattle.prepared_commits.specs.declared.commits.fault.PrepareFault.TheVariants.{SequenceEnd, Full, Memory}
+use Rattle.prepared_commits.specs.Parts.{IsFull, is_short}
 
 -- the store with the note that a session tries a commit of a change now, and with a reap, if one came
 abbrev pub tried_now : {D : Type 0} → ℕ → Change → Standing D → Standing D

@@ -1,2 +1,2 @@
-pub use Rattle.prepared_parts.specs.Parts
+pub use Rattle.prepared_commits.specs.Parts
 pub mod Left

@@ -4,5 +4,5 @@
 mod preparing;
 mod slots;
 
-pub use prepared_costs::commits_need_what_they_cost;
+pub use prepared_commits::commits_need_what_they_cost;
 pub use preparing::prepare;

@@ -7,14 +7,14 @@ ghost use Rattle.event_core.specs.Allowed.{is_pinned};
 ghost use Rattle.event_core.specs.Apart.{makes_version};
 ghost use Rattle.event_core.specs.Bases.{sequence_at};
 ghost use Rattle.event_core.specs.History.{names_at};
-ghost use Rattle.prepared_costs.specs.Changes.{AreValid};
-ghost use Rattle.prepared_costs.specs.Versions.{CanBeListed, IsWritten, draft, draft_of};
+ghost use Rattle.prepared_commits.specs.Changes.{AreValid};
+ghost use Rattle.prepared_commits.specs.Versions.{CanBeListed, IsWritten, draft, draft_of};
 ghost use Rattle.store_ledger.specs.Ledger.{MayReap, has_room, history, is_noted, is_tried};
 ghost use Rattle.prepared_commits.specs.At.{AreParts, keeping, standing};
 ghost use Rattle.prepared_commits.specs.Standings.{base_of};
 ghost use Rattle.prepared_commits.specs.Needs.{needs, needs_by, newest_now};
 ghost use Rattle.prepared_commits.specs.Prepared.{IsAsked, IsPreparedFor};
-ghost use Rattle.prepared_parts.specs.Parts.{IsFullFor, IsPreparedAs};
+ghost use Rattle.prepared_commits.specs.Parts.{IsFullFor, IsPreparedAs};
 ghost use Rattle.store_preparing.specs.Left.{FitsIn, HasNext, IsLeft, tried_now};
 
 use crate::slots::{next_sequence, target_of};
@@ -23,9 +23,9 @@ use array_geom::Changed;
 use cell_values::Memory;
 use page_file::PageFile;
 use plan_changes::Change;
-use prepared_commits::{PrepareFault, Prepared, StoreParts};
-use prepared_costs::{Written, commits_need_what_they_cost, draft};
-use prepared_parts::prepared_over;
+use prepared_commits::{
+    PrepareFault, Prepared, StoreParts, Written, commits_need_what_they_cost, draft, prepared_over,
+};
 use std::alloc::Global;
 use std::snapshot::Snapshot;
 use store_versions::ReadyVersion;

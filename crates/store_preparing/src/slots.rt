@@ -5,8 +5,7 @@ ghost use Rattle.prepared_commits.specs.Standings.{current_slots};
 
 use afl_outside::Disk;
 use page_file::PageFile;
-use page_layout::Slot;
-use page_slots::Target;
+use page_slots::{Slot, Target};
 
 /// What the next commit opens.
 pub(crate) fn target_of<D: Disk>(file: &PageFile<D>) -> Target

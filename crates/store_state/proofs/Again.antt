@@ -3,13 +3,13 @@ use Rattle.std.proofs.Common.{◌≡◌, ◌∙◌, ℕ, suc, ◌-◌, ◌≤◌
 use Rattle.std.proofs.lemmas.List.{reverse-append}
 use Rattle.arrayvec.specs.ArrayVec.{ArrayVec}
 use Rattle.array_geom.specs.declared.chunk.Chunk.{Chunk}
-use Rattle.file_laws.specs.Source.{IsChunkIn, IsStored}
+use Rattle.file_meaning.specs.Source.{IsChunkIn, IsStored}
 use Rattle.logical_plan.specs.declared.parts.Leaf.{Leaf}
 use Rattle.logical_plan.specs.Meaning.{version_rows}
 use Rattle.plan_changes.specs.declared.change.Change.{Change}
 use Rattle.plan_changes.specs.Databases.{Database, after, rows_of}
-use Rattle.file_laws.proofs.Payloads.{part_stored}
-use Rattle.file_laws.specs.Standing.{HoldsFound, Stands, stored_chunk}
+use Rattle.file_meaning.proofs.Payloads.{part_stored}
+use Rattle.file_meaning.specs.Standing.{HoldsFound, Stands, stored_chunk}
 use Rattle.event_core.specs.declared.entry.Entry.{Entry}
 use Rattle.event_core.specs.Cells.{at}
 use Rattle.event_core.specs.History.{History, up_to}

@@ -14,7 +14,7 @@ use Rattle.array_geom.specs.Link.{NumbersRise, is_listed, has_cell}
 use Rattle.chunk_map.specs.declared.directory.DirEntry.{DirEntry}
 use Rattle.chunk_map.specs.declared.directory.Directory.{Directory}
 use Rattle.chunk_map.specs.Entries.{numbers}
-use Rattle.file_laws.specs.Source.{HasArray, numbers_of, version_chunks}
+use Rattle.file_meaning.specs.Source.{HasArray, numbers_of, version_chunks}
 use Rattle.logical_plan.specs.declared.names.NameEntry.{NameEntry}
 use Rattle.logical_plan.specs.declared.names.Names.{Names}
 use Rattle.logical_plan.specs.declared.parts.Leaf.{Leaf}

@@ -3,7 +3,7 @@ use Rattle.std.proofs.Common.{◌≡◌, ◌∙◌, ℕ, List, Option, Some, IfS
 use Rattle.afl_outside.specs.Disk.{Moment}
 use Rattle.arrayvec.specs.ArrayVec.{ArrayVec}
 use Rattle.array_geom.specs.Link.{NumbersRise}
-use Rattle.file_laws.specs.Source.{numbers_of, version_chunks, AreNumbersIn}
+use Rattle.file_meaning.specs.Source.{numbers_of, version_chunks, AreNumbersIn}
 use Rattle.logical_plan.specs.declared.parts.Leaf.{Leaf}
 use Rattle.plan_changes.specs.Databases.{Database, rows_of}
 use Rattle.event_core.specs.Cells.{at}

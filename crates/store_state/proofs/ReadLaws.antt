@@ -19,26 +19,25 @@ use Rattle.chunk_map.specs.declared.directory.Directory.{Directory}
 use Rattle.chunk_map.specs.Entries.{numbers}
 use Rattle.chunk_map.specs.Spelling.{IsEntry}
 use Rattle.chunk_rle.specs.Stored.{IsStored as IsSpelled}
-use Rattle.file_laws.specs.Source.{is_among, numbers_of, version_chunks, IsChunkIn, IsStored}
-use Rattle.file_laws.proofs.Counts.{counts_agree}
-use Rattle.file_laws.proofs.Parts.{pages_there}
-use Rattle.file_laws.proofs.Payloads.{stored_part}
-use Rattle.file_laws.proofs.StoredLaws.{stored_are_given}
-use Rattle.file_laws.specs.Opening.{are_pages}
-use Rattle.file_laws.specs.Standing.{HoldsPart, stored_chunk}
+use Rattle.file_meaning.specs.Source.{is_among, numbers_of, version_chunks, IsChunkIn, IsStored}
+use Rattle.file_meaning.proofs.Counts.{counts_agree}
+use Rattle.file_meaning.proofs.Parts.{pages_there}
+use Rattle.file_meaning.proofs.Payloads.{stored_part}
+use Rattle.file_meaning.proofs.FileStored.{stored_are_given}
+use Rattle.file_meaning.specs.Opening.{are_pages}
+use Rattle.file_meaning.specs.Standing.{HoldsPart, stored_chunk}
 use Rattle.logical_plan.specs.declared.names.NameEntry.{NameEntry}
 use Rattle.logical_plan.specs.declared.names.Names.{Names}
 use Rattle.logical_plan.specs.declared.parts.Leaf.{Leaf}
 use Rattle.logical_plan.specs.Meaning.{version_rows}
 use Rattle.plan_changes.specs.Databases.{Database, names_of, rows_of}
-use Rattle.plan_changes.specs.Changes.{entry_named}
-use Rattle.plan_changes.specs.Changes.{is_named}
+use Rattle.plan_changes.specs.Changes.{entry_named, is_named}
 use Rattle.plan_changes.specs.Stored.{IsStored as AreStoredSo}
 use Rattle.afl_outside.specs.Counts.{Rose}
 use Rattle.afl_outside.specs.Disk.{Moment}
 use Rattle.page_chain.specs.Inner.Runs.{OnlyReads}
 use Rattle.page_slots.specs.Standing.{IsSound as AreSound}
-use Rattle.page_slots.specs.declared.slots.Slots.{Slots}
+use Rattle.page_slots.specs.declared.slots.slots.Slots.{Slots}
 use Rattle.event_core.specs.Cells.{at as at_history}
 use Rattle.event_core.specs.History.{History, names_at}
 use Rattle.store_ledger.specs.Ledger.{LedgerState, with_fault}

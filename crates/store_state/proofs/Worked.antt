@@ -5,8 +5,8 @@ use Rattle.std.specs.Str.{bytes_eq}
 use Rattle.std.proofs.lemmas.Bool.Decides.{nat_tests}
 use Rattle.plan_changes.specs.Stored.{AreStored}
 use Rattle.version_catalog.specs.Catalogs.{IsCatalog}
-use Rattle.file_laws.specs.Inner.Example.{schema}
-use Rattle.file_laws.proofs.Worked.{file_stands}
+use Rattle.file_meaning.specs.Inner.FileExample.{schema}
+use Rattle.file_meaning.proofs.WorkedFiles.{file_stands}
 use Rattle.event_core.specs.Agree.{HavePages}
 use Rattle.event_core.specs.Allowed.{IsBase}
 use Rattle.event_core.specs.Apart.{AreApart}

@@ -6,23 +6,23 @@ use Rattle.file_items.specs.Pages.{pages_at}
 use Rattle.file_items.specs.Table.{name_fields, name_at, kind_at, flag_at, typed_at, attribute_at, attributes_at, signed_at, range_at, cut_at, extent_at, dimension_at, dimensions_at, schema_at}
 use Rattle.chunk_map.specs.Table as items
 use Rattle.version_catalog.specs.Table.{blob_at, version_at, numbered_at, content_at, items_at, array_at, arrays_at}
-use Rattle.page_layout.specs.Places.{number_at}
-use Rattle.page_layout.specs.Roots.{has_front, slot_in}
-use Rattle.page_layout.specs.Opens.{OpensAs}
-use Rattle.page_layout.specs.declared.sides.Side.TheVariants.{A, B}
+use Rattle.page_slots.specs.Places.{number_at}
+use Rattle.page_slots.specs.Roots.{has_front, slot_in}
+use Rattle.page_slots.specs.Opens.{OpensAs}
+use Rattle.page_slots.specs.declared.layout.sides.Side.TheVariants.{A, B}
 use Rattle.page_chain.specs.Pages.{page_size}
 use Rattle.page_slots.specs.Standing.{Holds}
 use Rattle.plan_changes.specs.Databases.{Database, rows_of}
-use Rattle.found_rows.specs.Moments.{IsKnown}
-use Rattle.file_laws.specs.Slots.{slots_in}
-use Rattle.file_laws.specs.Opening.{are_pages, found_in, opened}
-use Rattle.file_laws.specs.Standing.{HoldsDatabase, HoldsFound, Stands}
-use Rattle.file_laws.specs.Found.{Found}
-use Rattle.file_laws.proofs.One.{one_database}
-use Rattle.file_laws.proofs.SlotsBack.{slots_open}
-use Rattle.file_laws.proofs.Steps.{then_is}
-use Rattle.file_laws.proofs.Worked.{file_stands}
-use Rattle.file_laws.specs.Inner.Example.{database, schema, zeros, front, catalog_bytes, directory_bytes, payload_bytes, file_with, file}
+use Rattle.laid_commits.specs.Moments.{IsKnown}
+use Rattle.file_meaning.specs.Slots.{slots_in}
+use Rattle.file_meaning.specs.Opening.{are_pages, found_in, opened}
+use Rattle.file_meaning.specs.Standing.{HoldsDatabase, HoldsFound, Stands}
+use Rattle.file_meaning.specs.declared.meaning.found.Found.{Found}
+use Rattle.file_meaning.proofs.One.{one_database}
+use Rattle.file_meaning.proofs.SlotsBack.{slots_open}
+use Rattle.file_meaning.proofs.Steps.{then_is}
+use Rattle.file_meaning.proofs.WorkedFiles.{file_stands}
+use Rattle.file_meaning.specs.Inner.FileExample.{database, schema, zeros, front, catalog_bytes, directory_bytes, payload_bytes, file_with, file}
 use Rattle.store_state.specs.Standings.{BeganAs, HaveStood, current_slots, given_of}
 use Rattle.store_state.specs.Cells.{HoldsCells, IsFound, IsImage}
 use Rattle.store_state.specs.At.{IsAt}

@@ -11,7 +11,7 @@ use Rattle.chunk_rle.specs.Frames.{frame_of}
 use Rattle.chunk_map.specs.declared.directory.DirEntry.{DirEntry}
 use Rattle.chunk_map.specs.declared.directory.Directory.{Directory}
 use Rattle.chunk_map.specs.Entries.{entry_at}
-use Rattle.file_laws.specs.Source.{version_chunks}
+use Rattle.file_meaning.specs.Source.{version_chunks}
 use Rattle.logical_plan.specs.declared.names.Names.{Names}
 use Rattle.logical_plan.specs.declared.parts.Leaf.{Leaf}
 use Rattle.plan_changes.specs.Changes.{entry_named}

@@ -2,29 +2,29 @@
 use Rattle.std.specs.Prelude.{◌≡◌, ℕ, ◌+◌, List, Option, Ok, IfSome}
 use Rattle.std.specs.List.{AllByRecursion, AllZip}
 use Rattle.afl_outside.specs.Disk.{Moment}
-use Rattle.page_layout.specs.Places.{other}
-use Rattle.page_layout.specs.declared.sides.Side.{Side}
-use Rattle.page_slots.specs.declared.slots.Slots.{Slots}
-use Rattle.page_slots.specs.declared.slots.RootSlot.{RootSlot}
-use Rattle.page_slots.specs.declared.slots.RootSlot.TheVariants as roots
-use Rattle.page_slots.specs.declared.slots.NextEntry.{NextEntry}
-use Rattle.page_slots.specs.declared.slots.NextEntry.TheVariants as entries
+use Rattle.page_slots.specs.Places.{other}
+use Rattle.page_slots.specs.declared.layout.sides.Side.{Side}
+use Rattle.page_slots.specs.declared.slots.slots.Slots.{Slots}
+use Rattle.page_slots.specs.declared.slots.slots.RootSlot.{RootSlot}
+use Rattle.page_slots.specs.declared.slots.slots.RootSlot.TheVariants as roots
+use Rattle.page_slots.specs.declared.slots.slots.NextEntry.{NextEntry}
+use Rattle.page_slots.specs.declared.slots.slots.NextEntry.TheVariants as entries
 use Rattle.plan_changes.specs.declared.change.Change.{Change}
 use Rattle.plan_changes.specs.Databases.{Database, after}
 use Rattle.plan_changes.specs.Stored.{IsDatabase}
 use Rattle.version_catalog.specs.declared.rules.catalog.Catalog.{Catalog}
-use Rattle.found_rows.specs.Costs.{cost_from}
-use Rattle.found_rows.specs.Moments.{IsKnown}
-use Rattle.file_laws.specs.Opening.{found_in}
-use Rattle.file_laws.specs.Slots.{Slots as FoundSlots}
-use Rattle.file_laws.specs.Standing.{HoldsDatabase}
-use Rattle.file_laws.specs.Found.{Found}
+use Rattle.laid_commits.specs.Costs.{cost_from}
+use Rattle.laid_commits.specs.Moments.{IsKnown}
+use Rattle.file_meaning.specs.Opening.{found_in}
+use Rattle.file_meaning.specs.Slots.{Slots as FoundSlots}
+use Rattle.file_meaning.specs.Standing.{HoldsDatabase}
+use Rattle.file_meaning.specs.declared.meaning.found.Found.{Found}
 use Rattle.event_core.specs.declared.state.Core.{Core}
 use Rattle.event_core.specs.Cells.{at}
 use Rattle.event_core.specs.History.{History, catalogue_at, open_pins, pages_at}
 use Rattle.event_core.specs.Legal.{IsLegal}
-use Rattle.found_rows.specs.Premises.{StandsBy, slots_of, slots_with}
-use Rattle.found_rows.specs.Rows.{directories_in, pages_in, pages_of_rows}
+use Rattle.laid_commits.specs.Premises.{StandsBy, slots_of, slots_with}
+use Rattle.laid_commits.specs.Rows.{directories_in, pages_in, pages_of_rows}
 use Rattle.store_versions.specs.Versions.{Directories, versions_at}
 use Rattle.store_state.specs.Standings.{Standing, base_of, current_slots, HaveStood, IsAttempt, StandsFor}
 use Rattle.store_state.specs.Inner.Keeping.{Keeping, LieIn, pages_of_catalogue}

@@ -4,16 +4,16 @@ use Rattle.std.specs.List.{AllByRecursion, AllZip, list_all}
 use Rattle.afl_outside.specs.Disk.{Moment}
 use Rattle.page_slots.specs.Standing.{IsAlone}
 use Rattle.page_slots.specs.Steps.{first_target}
-use Rattle.page_slots.specs.declared.slots.Slots.{Slots}
+use Rattle.page_slots.specs.declared.slots.slots.Slots.{Slots}
 use Rattle.version_catalog.specs.Catalogs.{IsCatalog, names_in}
 use Rattle.version_reaper.specs.PageSets.{holds}
-use Rattle.file_laws.specs.Opening.{sequence_of}
+use Rattle.file_meaning.specs.Opening.{sequence_of}
 use Rattle.event_core.specs.declared.state.Core.{Core}
 use Rattle.event_core.specs.Apart.{AllShareOwn, AreApart}
 use Rattle.event_core.specs.Bases.{Base, commits, sequence_at, records_at}
 use Rattle.event_core.specs.History.{History, catalogue_at, names_at, open_pins, pages_at}
 use Rattle.event_core.specs.Legal.{IsOrdered}
-use Rattle.found_rows.specs.Rows.{AreInOrder}
+use Rattle.laid_commits.specs.Rows.{AreInOrder}
 use Rattle.store_versions.specs.declared.row.VersionRow.{VersionRow}
 use Rattle.store_versions.specs.Seen.{AreSeen}
 use Rattle.store_versions.specs.Versions.{Directories, HaveDirectories, versions_at}

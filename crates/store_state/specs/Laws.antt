@@ -3,11 +3,11 @@ use Rattle.std.specs.Prelude.{◌≡◌, ℕ, ◌+◌, ◌*◌, ◌≤◌, ◌�
 use Rattle.arrayvec.specs.ArrayVec.{ArrayVec}
 use Rattle.afl_outside.specs.Disk.{DiskState}
 use Rattle.array_geom.specs.declared.chunk.Chunk.{Chunk}
-use Rattle.file_laws.specs.Source.{IsChunkIn, IsStored}
+use Rattle.file_meaning.specs.Source.{IsChunkIn, IsStored}
 use Rattle.logical_plan.specs.declared.parts.Leaf.{Leaf}
 use Rattle.plan_changes.specs.declared.change.Change.{Change}
 use Rattle.plan_changes.specs.Databases.{Database, after, rows_of}
-use Rattle.file_laws.specs.Opening.{IsWrongAt}
+use Rattle.file_meaning.specs.Opening.{IsWrongAt}
 use Rattle.event_core.specs.declared.entry.Entry.{Entry}
 use Rattle.event_core.specs.declared.entry.Entry.TheVariants.{Pin, Unpin, Commit, Reap}
 use Rattle.event_core.specs.Cells.{at}

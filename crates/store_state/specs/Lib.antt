@@ -1,10 +1,10 @@
-pub use Rattle.found_rows.specs.Changes
-pub use Rattle.found_rows.specs.Commits
-pub use Rattle.found_rows.specs.Costs
-pub use Rattle.found_rows.specs.Laid
-pub use Rattle.found_rows.specs.Rows
-pub use Rattle.found_rows.specs.Versions
-pub use Rattle.found_rows.specs.Written
+pub use Rattle.laid_commits.specs.Changes
+pub use Rattle.laid_commits.specs.Commits
+pub use Rattle.laid_commits.specs.Costs
+pub use Rattle.laid_commits.specs.Laid
+pub use Rattle.laid_commits.specs.Rows
+pub use Rattle.laid_commits.specs.Versions
+pub use Rattle.laid_commits.specs.Written
 pub use Rattle.store_ledger.specs.Ledger
 pub mod At
 pub mod Calls

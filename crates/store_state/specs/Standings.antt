@@ -1,16 +1,16 @@
 -- A store as contracts see it, and the databases that an image of its disk may stand for.
 use Rattle.std.specs.Prelude.{◌≡◌, ℕ, ◌+◌, ◌≤◌, ◌⊎◌, nat_eq, if◌then◌else◌, List, [], ◌∷◌, ◌++◌, length, Contains, Option, Some, None, IfSome, IsTrue}
 use Rattle.afl_outside.specs.Disk.{DiskState, Moment}
-use Rattle.page_layout.specs.declared.sides.Format.{Format}
-use Rattle.page_layout.specs.declared.sides.Format.TheVariants.{One, Two}
-use Rattle.page_slots.specs.declared.slots.Slots.{Slots}
+use Rattle.page_slots.specs.declared.layout.sides.Format.{Format}
+use Rattle.page_slots.specs.declared.layout.sides.Format.TheVariants.{One, Two}
+use Rattle.page_slots.specs.declared.slots.slots.Slots.{Slots}
 use Rattle.page_file.specs.FilesOpened.{OpenFile}
 use Rattle.plan_changes.specs.declared.change.Change.{Change}
 use Rattle.plan_changes.specs.Databases.{Database, after, fault_of_change, names_of}
 use Rattle.plan_changes.specs.Typed.{IsTypedFor}
-use Rattle.file_laws.specs.Opening.{sequence_of}
-use Rattle.file_laws.specs.Slots.{Slots as FoundSlots}
-use Rattle.file_laws.specs.Standing.{Stands}
+use Rattle.file_meaning.specs.Opening.{sequence_of}
+use Rattle.file_meaning.specs.Slots.{Slots as FoundSlots}
+use Rattle.file_meaning.specs.Standing.{Stands}
 use Rattle.chunk_map.specs.declared.directory.Directory.{Directory}
 use Rattle.event_core.specs.declared.entry.Entry.{Entry}
 use Rattle.event_core.specs.declared.entry.Entry.TheVariants.{Pin, Unpin, Commit, Reap}

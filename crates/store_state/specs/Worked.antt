@@ -2,15 +2,15 @@
 use Rattle.std.specs.Prelude.{◌≡◌, true, false, [], ◌∷◌, codes, None, Some}
 use Rattle.afl_outside.specs.Disk.{Moment}
 use Rattle.chunk_map.specs.declared.directory.Directory.{Directory}
-use Rattle.page_layout.specs.declared.sides.Side.TheVariants.{A}
-use Rattle.page_layout.specs.declared.sides.Format.TheVariants.{Two}
-use Rattle.page_slots.specs.declared.slots.Slots.{Slots}
-use Rattle.page_slots.specs.declared.slots.RootSlot.TheVariants as roots
-use Rattle.page_slots.specs.declared.slots.NextEntry.TheVariants as entries
-use Rattle.page_slots.specs.declared.slots.Target.TheVariants as targets
+use Rattle.page_slots.specs.declared.layout.sides.Side.TheVariants.{A}
+use Rattle.page_slots.specs.declared.layout.sides.Format.TheVariants.{Two}
+use Rattle.page_slots.specs.declared.slots.slots.Slots.{Slots}
+use Rattle.page_slots.specs.declared.slots.slots.RootSlot.TheVariants as roots
+use Rattle.page_slots.specs.declared.slots.slots.NextEntry.TheVariants as entries
+use Rattle.page_slots.specs.declared.slots.slots.Target.TheVariants as targets
 use Rattle.version_catalog.specs.declared.rules.catalog.Catalog.{Catalog}
 use Rattle.version_reaper.specs.PageSets.{pages_from}
-use Rattle.file_laws.specs.Inner.Example.{file, schema}
+use Rattle.file_meaning.specs.Inner.FileExample.{file, schema}
 use Rattle.event_core.specs.declared.state.Core.{Core}
 use Rattle.store_state.specs.Standings.{Standing}
 use Rattle.store_state.specs.Inner.Keeping.{Keeping}

@@ -3,7 +3,7 @@ ghost use Rattle.std.specs.Prelude.{◌≡◌, ◌≢◌, ◌≤◌, ◌⊎◌, 
 ghost use Rattle.std.specs.Option.{option_copied};
 ghost use Rattle.afl_outside.specs.Counts.{Rose};
 ghost use Rattle.page_chain.specs.Inner.Runs.{OnlyReads};
-ghost use Rattle.file_laws.specs.Source.{is_among, IsChunkIn, IsStored};
+ghost use Rattle.file_meaning.specs.Source.{is_among, IsChunkIn, IsStored};
 ghost use Rattle.plan_changes.specs.Databases.{Database, rows_of};
 ghost use Rattle.event_core.specs.Allowed.{is_pinned};
 ghost use Rattle.event_core.specs.History.{names_at};
@@ -17,8 +17,8 @@ ghost use Rattle.store_state.specs.Standings.{database_at, BeganAs};
 ghost use Rattle.store_state.specs.Inner.Sights.{Sees, SeesCells, SeesPayloads};
 ghost use Rattle.store_state.specs.declared.fault.ReadFault.TheVariants.{Damaged};
 
-use crate::reading::{entry_at, read_entry};
 use crate::{ReadFault, StoreParts};
+use crate::reading::{entry_at, read_entry};
 use afl_outside::{Disk, has_risen};
 use array_geom::Chunk;
 use cell_values::ChunkAt;

@@ -14,7 +14,7 @@ mod reaping;
 pub use chunks::{read_chunk, read_now};
 pub use event::Event;
 pub use fault::ReadFault;
-pub use found_rows::{Laid, Written, lay_base, lay_record, needed_for_base, needed_for_record};
+pub use laid_commits::{Laid, Written, lay_base, lay_record, needed_for_base, needed_for_record};
 pub use laws::{a_store_is_kept, pinned_cells_stay, reaps_are_few, stores_open_again};
 pub use listing::{listed, listed_now};
 pub use parts::StoreParts;

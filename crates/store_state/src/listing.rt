@@ -1,7 +1,7 @@
 //! Which chunks a version has.
 ghost use Rattle.std.specs.Prelude.{◌≡◌, map, length, IfOk};
 ghost use Rattle.array_geom.specs.Link.{NumbersRise};
-ghost use Rattle.file_laws.specs.Source.{numbers_of, version_chunks, AreNumbersIn};
+ghost use Rattle.file_meaning.specs.Source.{numbers_of, version_chunks, AreNumbersIn};
 ghost use Rattle.plan_changes.specs.Databases.{Database, rows_of};
 ghost use Rattle.event_core.specs.Cells.{at};
 ghost use Rattle.event_core.specs.History.{names_at};

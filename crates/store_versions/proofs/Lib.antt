@@ -1,9 +1,9 @@
-pub use Rattle.event_laws.proofs.Agree
-pub use Rattle.event_laws.proofs.Cells
-pub use Rattle.event_laws.proofs.Conserved
-pub use Rattle.event_laws.proofs.Legal
-pub use Rattle.event_laws.proofs.Pins
-pub use Rattle.event_laws.proofs.Tests
+pub use Rattle.lean_core.proofs.Agree
+pub use Rattle.lean_core.proofs.Cells
+pub use Rattle.lean_core.proofs.Conserved
+pub use Rattle.lean_core.proofs.Legal
+pub use Rattle.lean_core.proofs.Pins
+pub use Rattle.lean_core.proofs.Tests
 pub mod Ends
 pub mod Found
 pub mod Given

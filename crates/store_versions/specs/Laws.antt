@@ -1,12 +1,12 @@
 -- What holds of tables of versions.
 use Rattle.std.specs.Prelude.{◌≡◌, ◌≤◌, ℕ, List, [], ◌∷◌, length, map, Some, nat_eq, if◌then◌else◌, IsTrue}
-use Rattle.event_laws.specs.Names.{Names}
-use Rattle.event_laws.specs.Change.{Change}
+use Rattle.lean_core.specs.Names.{Names}
+use Rattle.lean_core.specs.Change.{Change}
 use Rattle.chunk_map.specs.declared.directory.Directory.{Directory}
 use Rattle.lean_core.specs.Used.{Used}
 use Rattle.lean_core.specs.Entry.TheVariants.{Pin, Unpin, Commit, Reap}
 use Rattle.lean_core.specs.Core.{Core}
-use Rattle.lean_core.specs.Allowed.{is_allowed}
+use Rattle.event_core.specs.Allowed.{is_allowed}
 use Rattle.lean_core.specs.History.{History, names_at, pin_before}
 use Rattle.lean_core.specs.Legal.{IsOrdered}
 use Rattle.store_versions.specs.declared.row.VersionRow.{VersionRow}

@@ -1,8 +1,8 @@
-pub use Rattle.event_laws.specs.Cores
-pub use Rattle.event_laws.specs.History
-pub use Rattle.event_laws.specs.Pages
-pub use Rattle.event_laws.specs.Pins
-pub use Rattle.event_laws.specs.VersionPages
+pub use Rattle.lean_core.specs.Cores
+pub use Rattle.lean_core.specs.History
+pub use Rattle.lean_core.specs.Pages
+pub use Rattle.lean_core.specs.Pins
+pub use Rattle.lean_core.specs.VersionPages
 pub mod Laws
 pub mod Rows
 pub mod Seen

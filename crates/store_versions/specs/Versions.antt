@@ -3,10 +3,10 @@ use Rattle.std.specs.Prelude.{◌≡◌, ℕ, Bool, not, ◌&&◌, nat_eq, nat_l
 use Rattle.std.specs.List.{filter, find, list_any}
 use Rattle.std.specs.Option.{option_map}
 use Rattle.std.specs.Str.{bytes_eq}
-use Rattle.event_laws.specs.Names.{Names}
-use Rattle.event_laws.specs.Change.{Change}
-use Rattle.event_laws.specs.Change.TheVariants.{Create, Store, Insert, Remove, RemoveVersions}
-use Rattle.event_laws.specs.Changes.{next_of}
+use Rattle.lean_core.specs.Names.{Names}
+use Rattle.lean_core.specs.Change.{Change}
+use Rattle.lean_core.specs.Change.TheVariants.{Create, Store, Insert, Remove, RemoveVersions}
+use Rattle.lean_core.specs.Changes.{next_of}
 use Rattle.chunk_map.specs.declared.directory.Directory.{Directory}
 use Rattle.lean_core.specs.Entry.TheVariants.{Pin, Unpin, Commit, Reap}
 use Rattle.lean_core.specs.Core.{Core}

@@ -5,8 +5,7 @@ ghost use Rattle.store_versions.specs.Rows.{is_before, is_seen, stands, is_row_o
 
 use cell_values::Name;
 use chunk_map::Directory;
-use event_laws::is_same;
-use lean_core::LeanPin;
+use lean_core::{LeanPin, is_same};
 
 /// A version of an array. It is seen at the places from `made` on that are below `gone`.
 #[derive(Drop)]

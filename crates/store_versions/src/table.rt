@@ -7,12 +7,11 @@ ghost use Rattle.store_versions.specs.Rows.{new_row, rows_after, HasNext, IsRead
 ghost use Rattle.store_versions.specs.Seen.{seen};
 ghost use Rattle.store_versions.specs.Versions.{directory_of};
 
-use crate::first::first_rows;
 use crate::{ReadyVersion, Room, VersionRow};
+use crate::first::first_rows;
 use cell_values::{List, Memory, Name};
 use chunk_map::Directory;
-use event_laws::{Change, Names};
-use lean_core::LeanPin;
+use lean_core::{Change, LeanPin, Names};
 
 /// The versions that the present or an open pin may see, in the order in which they came.
 #[derive(Drop)]

@@ -1,13 +1,13 @@
 -- What is to be opened is there.
 use Rattle.std.proofs.Common.{◌≡◌, Some, sym, ◌∙◌, ap, subst}
-use Rattle.page_layout.specs.declared.roots.Root.{Root}
-use Rattle.page_layout.specs.declared.logs.RecordAt.{RecordAt}
+use Rattle.page_slots.specs.declared.layout.roots.Root.{Root}
+use Rattle.page_slots.specs.declared.layout.logs.RecordAt.{RecordAt}
 use Rattle.page_slots.specs.Standing.{IsReady}
-use Rattle.page_slots.specs.declared.slots.Slots.{Slots}
-use Rattle.page_slots.specs.declared.slots.RootSlot.TheVariants as roots
-use Rattle.page_slots.specs.declared.slots.NextEntry.TheVariants as entries
-use Rattle.page_slots.specs.declared.slots.Target.{Target}
-use Rattle.page_slots.specs.declared.slots.Target.TheVariants as targets
+use Rattle.page_slots.specs.declared.slots.slots.Slots.{Slots}
+use Rattle.page_slots.specs.declared.slots.slots.RootSlot.TheVariants as roots
+use Rattle.page_slots.specs.declared.slots.slots.NextEntry.TheVariants as entries
+use Rattle.page_slots.specs.declared.slots.slots.Target.{Target}
+use Rattle.page_slots.specs.declared.slots.slots.Target.TheVariants as targets
 
 pub root_ready : (old new : Slots) (root : Root) → new ≡ record old { other = roots.Written root } → old.target ≡ targets.Root → old.zeroed ≡ Some root.log → IsReady new.target new
 root_ready old new root is target zeroed = subst (λ (t : Target). IsReady t new) (sym (ap (λ (s : Slots). s.target) is ∙ target)) (root, ap (λ (s : Slots). s.other) is, ap (λ (s : Slots). s.zeroed) is ∙ zeroed)

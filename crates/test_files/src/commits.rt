@@ -3,13 +3,13 @@ ghost use Rattle.std.specs.Prelude.{◌≡◌, ◌≢◌, ◌<◌, false, nat_eq
 ghost use Rattle.std.specs.List.{list_all};
 ghost use Rattle.page_file.specs.OpeningOpened.{AreFresh};
 ghost use Rattle.page_slots.specs.Standing.{IsClosed, IsReady, IsTarget};
-ghost use Rattle.page_slots.specs.declared.slots.Target.TheVariants as targets;
+ghost use Rattle.page_slots.specs.declared.slots.slots.Target.TheVariants as targets;
 ghost use Rattle.test_files.specs.Committing.{IsLaid};
 
 use afl_outside::{Disk, Failed};
 use page_chain::{blob_pages, chain_pages};
 use page_file::PageFile;
-use page_layout::{PAGE, RecordAt, Root, Slot};
+use page_slots::{PAGE, RecordAt, Root, Slot};
 
 fn are_zeros(bytes: &[u8]) -> bool
     ensures { result ≡ list_all (λ byte. nat_eq byte 0) bytes.now }

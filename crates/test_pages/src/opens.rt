@@ -5,7 +5,7 @@ use anyhow::Result;
 use cell_values::Bytes;
 use page_chain::OpenCause;
 use page_file::PageFile;
-use page_layout::Slot;
+use page_slots::Slot;
 use std::alloc::Global;
 use test_files::{disk_of, open};
 

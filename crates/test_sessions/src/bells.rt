@@ -1,9 +1,9 @@
 //! A bell that one thread rings and another awaits.
 
 use anyhow::Result;
-use reap_bell::{Bell, Ring};
 use std::sync::Wait;
 use std::thread::{Threads, join};
+use turn_lock::{Bell, Ring};
 
 fn word(ring: Ring) -> &'static str {
     match ring {

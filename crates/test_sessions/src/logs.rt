@@ -3,11 +3,10 @@ ghost use Rattle.turn_lock.specs.Seats.{IsSeatOf, IsIdle, AreIdleSeats};
 
 use anyhow::Result;
 use cell_values::List;
-use shared_log::{Log, append};
 use std::sync::Wait;
 use std::thread;
 use std::thread::Threads;
-use turn_lock::{TurnLock, TurnSeat};
+use turn_lock::{Log, TurnLock, TurnSeat, append};
 
 /// Whether the entries of a seat have the contents 0 to 999, in this order.
 fn has_thousand(log: &Log, by: u32) -> bool {

@@ -5,9 +5,9 @@ use Rattle.logical_plan.specs.declared.names.Names.{Names}
 use Rattle.check_exprs.specs.Laws.{leaves_fit}
 use Rattle.plan_changes.specs.Stored.{AreStored}
 use Rattle.afl_types.specs.Checking.{check_of}
-use Rattle.afl_types.specs.declared.statements.checking.Typed.{Typed}
-use Rattle.afl_types.specs.declared.statements.checking.Typed.TheVariants.{Query, Change, Versions, Show, ListArrays}
-use Rattle.check_laws.proofs.TypedChanges.{changes_typed}
+use Rattle.afl_types.specs.declared.types.statements.checking.Typed.{Typed}
+use Rattle.afl_types.specs.declared.types.statements.checking.Typed.TheVariants.{Query, Change, Versions, Show, ListArrays}
+use Rattle.afl_types.proofs.TypedChanges.{changes_typed}
 use Rattle.test_stores.specs.Statements.{IsStatement}
 
 pub checked_is : (names : Names) (text : List ℕ) (tree : Term) (typed : Typed) → AreStored names → IsTrue (leaves_fit tree) → check_of tree text names ≡ Ok typed → IsStatement names typed

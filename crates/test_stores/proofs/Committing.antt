@@ -10,9 +10,9 @@ use Rattle.event_core.specs.declared.entry.Used.{Used}
 use Rattle.event_core.specs.Allowed.{is_pinned}
 use Rattle.event_core.specs.History.{names_at, pin_before}
 use Rattle.commit_pages.specs.Changes.{AreValid, ComesWith}
-use Rattle.prepared_commits.specs.declared.fault.PrepareFault.{PrepareFault}
-use Rattle.prepared_commits.specs.declared.fault.PrepareFault.TheVariants.{SequenceEnd, Full, Memory}
-use Rattle.prepared_commits.specs.declared.prepared.Prepared.{Prepared}
+use Rattle.prepared_commits.specs.declared.commits.fault.PrepareFault.{PrepareFault}
+use Rattle.prepared_commits.specs.declared.commits.fault.PrepareFault.TheVariants.{SequenceEnd, Full, Memory}
+use Rattle.prepared_commits.specs.declared.commits.prepared.Prepared.{Prepared}
 use Rattle.prepared_commits.specs.Prepared.{IsAsked}
 use Rattle.array_store.specs.Parts.{is_short}
 use Rattle.store_ledger.specs.declared.pinned.Pinned.{Pinned}

@@ -2,8 +2,8 @@
 use Rattle.cell_values.specs.declared.name.Name.{Name}
 use Rattle.logical_plan.specs.declared.names.Names.{Names}
 use Rattle.plan_changes.specs.Typed.{IsTypedFor}
-use Rattle.afl_types.specs.declared.statements.checking.Typed.{Typed}
-use Rattle.afl_types.specs.declared.statements.checking.Typed.TheVariants.{Query, Change, Versions, Show, ListArrays}
+use Rattle.afl_types.specs.declared.types.statements.checking.Typed.{Typed}
+use Rattle.afl_types.specs.declared.types.statements.checking.Typed.TheVariants.{Query, Change, Versions, Show, ListArrays}
 
 -- a change is one that they allow, of a typed plan
 abbrev pub IsStatement : Names → Typed → Type 0

@@ -4,7 +4,7 @@ ghost use Rattle.chunk_rle.specs.Inner.Example.{example};
 
 use crate::show::push_chunk;
 use array_geom::Chunk;
-use cell_columns::Cells;
+use array_rows::Cells;
 use cell_values::{Attribute, Bytes, ChunkAt, Dimension, Kind, List, Memory, Name, Schema};
 use chunk_rle::{BadPayload, decode, encode};
 use std::alloc::Global;

@@ -7,7 +7,7 @@ use crate::show::{push_box, push_chunk};
 use array_geom::{
     Boxes, Changed, Chunk, ChunkedArray, chunk_of, chunks_meeting, core_box, frame, place, position,
 };
-use cell_columns::Cells;
+use array_rows::Cells;
 use cell_values::{
     Attribute, Bounds, ChunkAt, Coord, Datum, Dimension, Kind, List, Memory, Name, Schema, coord_of,
 };

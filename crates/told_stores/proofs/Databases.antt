@@ -8,14 +8,14 @@ use Rattle.event_core.specs.History.{names_at}
 use Rattle.store_ledger.specs.declared.pinned.Pinned.{Pinned}
 use Rattle.store_ledger.specs.declared.pinned.PinFault.{PinFault}
 use Rattle.store_ledger.specs.Ledger.{IsOpenPin}
-use Rattle.fresh_commits.specs.Event.{Event}
-use Rattle.fresh_commits.specs.StoreParts.{StoreParts}
-use Rattle.fresh_commits.specs.At.{AreParts, IsAt, keeping, standing}
-use Rattle.fresh_commits.specs.Calls.{database_with, history_at}
-use Rattle.fresh_commits.specs.Standings.{BeganAs, Standing}
-use Rattle.fresh_commits.specs.Keeping.{Keeping}
-use Rattle.fresh_commits.specs.Sights.{Sees, SeesCells}
-use Rattle.fresh_commits.proofs.Sights.{cells_at, cells_place, history_place, pin_history, sees_at, sees_place}
+use Rattle.fresh_changes.specs.Event.{Event}
+use Rattle.fresh_changes.specs.StoreParts.{StoreParts}
+use Rattle.fresh_changes.specs.At.{AreParts, IsAt, keeping, standing}
+use Rattle.fresh_changes.specs.Calls.{database_with, history_at}
+use Rattle.fresh_changes.specs.Standings.{BeganAs, Standing}
+use Rattle.fresh_changes.specs.Keeping.{Keeping}
+use Rattle.fresh_changes.specs.Sights.{Sees, SeesCells}
+use Rattle.fresh_changes.proofs.Sights.{cells_at, cells_place, history_place, pin_history, sees_at, sees_place}
 use Rattle.store_commits.specs.Start.{Start}
 use Rattle.store_commits.proofs.Added.{if_ok}
 use Rattle.told_stores.specs.Databases.{HasDatabase, IsDatabaseOf, StoresHaveDatabases}

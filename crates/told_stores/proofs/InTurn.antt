@@ -17,14 +17,14 @@ use Rattle.store_ledger.specs.declared.pinned.Pinned.{Pinned}
 use Rattle.store_ledger.specs.declared.pinned.PinFault.{PinFault}
 use Rattle.store_ledger.specs.Ledger.{IsLedger, IsOpenPin, IsRefused, LedgerState, has_room, history, is_fault, is_noted, reap_comes}
 use Rattle.store_ledger.proofs.Keeping.{pinned_of}
-use Rattle.fresh_commits.specs.Event.{Event}
-use Rattle.fresh_commits.specs.Event.TheVariants.{Entered}
-use Rattle.fresh_commits.specs.ReadFault.{ReadFault}
-use Rattle.fresh_commits.specs.StoreParts.{StoreParts}
-use Rattle.fresh_commits.specs.At.{standing}
-use Rattle.fresh_commits.specs.Calls.{IsUnread, NotesFault, chunks_at, history_at, payload_at}
-use Rattle.fresh_commits.specs.Events.{events, owner_of}
-use Rattle.fresh_commits.specs.Standings.{BeganAs, Standing}
+use Rattle.fresh_changes.specs.Event.{Event}
+use Rattle.fresh_changes.specs.Event.TheVariants.{Entered}
+use Rattle.fresh_changes.specs.ReadFault.{ReadFault}
+use Rattle.fresh_changes.specs.StoreParts.{StoreParts}
+use Rattle.fresh_changes.specs.At.{standing}
+use Rattle.fresh_changes.specs.Calls.{IsUnread, NotesFault, chunks_at, history_at, payload_at}
+use Rattle.fresh_changes.specs.Events.{events, owner_of}
+use Rattle.fresh_changes.specs.Standings.{BeganAs, Standing}
 use Rattle.store_commits.specs.Start.{Start}
 use Rattle.store_commits.specs.Growth.{AddsEvents, AddsFault, IsCounted, fault_events}
 use Rattle.store_commits.specs.Starts.{start_of}

@@ -16,13 +16,13 @@ use Rattle.store_ledger.specs.declared.note.Note.{Note}
 use Rattle.store_ledger.specs.declared.note.NoteKind.TheVariants.{Fault}
 use Rattle.store_ledger.specs.declared.pinned.Pinned.{Pinned}
 use Rattle.store_ledger.specs.Ledger.{IsOpenPin, LedgerState, is_fault, is_noted, note_now}
-use Rattle.fresh_commits.specs.Event.{Event}
-use Rattle.fresh_commits.specs.Event.TheVariants.{Noted}
-use Rattle.fresh_commits.specs.ReadFault.{ReadFault}
-use Rattle.fresh_commits.specs.ReadFault.TheVariants.{Damaged, Disk, Memory}
-use Rattle.fresh_commits.specs.Calls.{IsUnread, chunks_at, history_at, payload_at}
-use Rattle.fresh_commits.specs.Events.{owner_of}
-use Rattle.fresh_commits.specs.Standings.{BeganAs, Standing}
+use Rattle.fresh_changes.specs.Event.{Event}
+use Rattle.fresh_changes.specs.Event.TheVariants.{Noted}
+use Rattle.fresh_changes.specs.ReadFault.{ReadFault}
+use Rattle.fresh_changes.specs.ReadFault.TheVariants.{Damaged, Disk, Memory}
+use Rattle.fresh_changes.specs.Calls.{IsUnread, chunks_at, history_at, payload_at}
+use Rattle.fresh_changes.specs.Events.{owner_of}
+use Rattle.fresh_changes.specs.Standings.{BeganAs, Standing}
 use Rattle.store_commits.specs.Start.{Start}
 use Rattle.store_commits.specs.Growth.{AddsEvents, AddsFault, fault_events}
 use Rattle.store_commits.proofs.Ended.{rose_or_not}

@@ -13,16 +13,16 @@ use Rattle.event_core.specs.declared.state.Core.{Core}
 use Rattle.event_core.specs.Allowed.{is_pinned}
 use Rattle.event_core.specs.History.{History, leaves_pin, names_at, pin_before, up_to}
 use Rattle.event_core.proofs.Tests.{both_not}
-use Rattle.event_laws.specs.Pins.{PlaceTells}
-use Rattle.event_laws.proofs.Pins.{places_tell_pins}
+use Rattle.lean_core.specs.Pins.{PlaceTells}
+use Rattle.lean_core.proofs.Pins.{places_tell_pins}
 use Rattle.store_ledger.specs.Ledger.{IsOpenPin, with_entries, with_notes}
 use Rattle.store_ledger.proofs.Pins.{open_pins_outlast}
 use Rattle.store_versions.specs.Versions.{Directories, MadeVersion, directory_of, versions_after as versions_behind, versions_at}
-use Rattle.fresh_commits.specs.Event.{Event}
-use Rattle.fresh_commits.specs.Event.TheVariants.{Entered, Acknowledged, Noted}
-use Rattle.fresh_commits.specs.Calls.{entry_in, history_at, numbers_in}
-use Rattle.fresh_commits.specs.Events.{owner_of}
-use Rattle.fresh_commits.specs.Standings.{Standing, commit_places, given_of, made_at, versions_after}
+use Rattle.fresh_changes.specs.Event.{Event}
+use Rattle.fresh_changes.specs.Event.TheVariants.{Entered, Acknowledged, Noted}
+use Rattle.fresh_changes.specs.Calls.{entry_in, history_at, numbers_in}
+use Rattle.fresh_changes.specs.Events.{owner_of}
+use Rattle.fresh_changes.specs.Standings.{Standing, commit_places, given_of, made_at, versions_after}
 use Rattle.store_commits.specs.Start.{Start}
 use Rattle.store_ledger.specs.declared.pinned.Pinned.{Pinned}
 use Rattle.told_stores.specs.Told.{entries_in, directories_in, is_sealed, ledger_of, told}

@@ -14,10 +14,10 @@ use Rattle.event_core.proofs.Tests.{both_not}
 use Rattle.store_ledger.specs.declared.note.Note.{Note}
 use Rattle.store_ledger.specs.Ledger.{Event as LedgerEvent, IsLedger, AreNoted, IsNote, entered, noted, events_from, events as ledger_events}
 use Rattle.store_versions.specs.Versions.{MadeVersion}
-use Rattle.fresh_commits.specs.Event.{Event}
-use Rattle.fresh_commits.specs.Event.TheVariants.{Entered, Acknowledged, Noted}
-use Rattle.fresh_commits.specs.Events.{Seal, events, sealed}
-use Rattle.fresh_commits.specs.Standings.{Standing}
+use Rattle.fresh_changes.specs.Event.{Event}
+use Rattle.fresh_changes.specs.Event.TheVariants.{Entered, Acknowledged, Noted}
+use Rattle.fresh_changes.specs.Events.{Seal, events, sealed}
+use Rattle.fresh_changes.specs.Standings.{Standing}
 use Rattle.store_commits.specs.FirstVersion.{FirstVersion}
 use Rattle.store_commits.specs.Starts.{first_of}
 use Rattle.store_commits.proofs.Added.{commits_from, count_commits, pairs_count, seal_by, seals_of}

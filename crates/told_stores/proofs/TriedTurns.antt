@@ -22,21 +22,21 @@ use Rattle.event_core.specs.Bases.{sequence_at}
 use Rattle.event_core.specs.Cells.{at}
 use Rattle.event_core.specs.History.{History, names_at, pin_before, up_to}
 use Rattle.event_core.proofs.Tests.{both_not}
-use Rattle.event_laws.specs.Pins.{PlaceTells}
-use Rattle.event_laws.proofs.Pins.{places_tell_pins}
+use Rattle.lean_core.specs.Pins.{PlaceTells}
+use Rattle.lean_core.proofs.Pins.{places_tell_pins}
 use Rattle.store_commits.specs.Fresh.{IsFresh}
-use Rattle.fresh_commits.specs.Fresh.{FreshChangesAreTyped}
-use Rattle.fresh_commits.specs.Laws.{FreshChangesMayBeMade}
+use Rattle.fresh_changes.specs.FreshLaws.{FreshChangesAreTyped}
+use Rattle.fresh_changes.specs.Laws.{FreshChangesMayBeMade}
 use Rattle.store_ledger.specs.declared.pinned.Pinned.{Pinned}
 use Rattle.store_ledger.specs.Ledger.{LedgerState, IsOpenPin, history, is_fault, is_noted, is_tried}
-use Rattle.fresh_commits.specs.Event.{Event}
-use Rattle.fresh_commits.specs.Event.TheVariants.{Acknowledged, Entered}
-use Rattle.fresh_commits.specs.StoreParts.{StoreParts}
-use Rattle.fresh_commits.specs.At.{standing}
-use Rattle.fresh_commits.specs.Calls.{database_with, history_at}
-use Rattle.fresh_commits.specs.Events.{events, owner_of}
-use Rattle.fresh_commits.specs.Standings.{BeganAs, Standing, base_of}
-use Rattle.fresh_commits.specs.Prepared.{IsAsked, MayBeMade}
+use Rattle.fresh_changes.specs.Event.{Event}
+use Rattle.fresh_changes.specs.Event.TheVariants.{Acknowledged, Entered}
+use Rattle.fresh_changes.specs.StoreParts.{StoreParts}
+use Rattle.fresh_changes.specs.At.{standing}
+use Rattle.fresh_changes.specs.Calls.{database_with, history_at}
+use Rattle.fresh_changes.specs.Events.{events, owner_of}
+use Rattle.fresh_changes.specs.Standings.{BeganAs, Standing, base_of}
+use Rattle.fresh_changes.specs.Prepared.{IsAsked, MayBeMade}
 use Rattle.store_commits.specs.Parts.{IsFull}
 use Rattle.store_commits.specs.Start.{Start}
 use Rattle.store_commits.specs.Growth.{tried_events}

@@ -5,9 +5,9 @@ use Rattle.std.proofs.lemmas.Bool.{and_parts, not-true}
 use Rattle.std.proofs.lemmas.List.Elements.{filter-append}
 use Rattle.event_core.proofs.Tests.{both_not}
 use Rattle.turn_lock.specs.Owners.{is_owned_by, none_of, only_of, ExtendsByOthers, ExtendsByOwn}
-use Rattle.fresh_commits.specs.Event.{Event}
-use Rattle.fresh_commits.specs.Events.{events, owner_of}
-use Rattle.fresh_commits.specs.Standings.{Standing}
+use Rattle.fresh_changes.specs.Event.{Event}
+use Rattle.fresh_changes.specs.Events.{events, owner_of}
+use Rattle.fresh_changes.specs.Standings.{Standing}
 use Rattle.store_commits.specs.Start.{Start}
 use Rattle.store_commits.specs.Growth.{AddsEvents}
 use Rattle.store_commits.specs.Starts.{start_of}

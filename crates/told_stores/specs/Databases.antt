@@ -7,10 +7,10 @@ use Rattle.plan_changes.specs.Stored.{AreStored, IsDatabase}
 use Rattle.event_core.specs.History.{names_at}
 use Rattle.store_ledger.specs.declared.pinned.Pinned.{Pinned}
 use Rattle.store_ledger.specs.Ledger.{IsOpenPin, history}
-use Rattle.fresh_commits.specs.StoreParts.{StoreParts}
-use Rattle.fresh_commits.specs.At.{AreParts, standing}
-use Rattle.fresh_commits.specs.Calls.{database_with}
-use Rattle.fresh_commits.specs.Standings.{BeganAs, Standing}
+use Rattle.fresh_changes.specs.StoreParts.{StoreParts}
+use Rattle.fresh_changes.specs.At.{AreParts, standing}
+use Rattle.fresh_changes.specs.Calls.{database_with}
+use Rattle.fresh_changes.specs.Standings.{BeganAs, Standing}
 
 -- a database with these names
 pub record IsDatabaseOf (db : Database) (names : Names) : Type 0 where

@@ -2,8 +2,8 @@
 use Rattle.std.specs.Prelude.{◌≡◌, ℕ, slice_index, Option, IsSomeAnd, IsTrue}
 use Rattle.chunk_map.specs.declared.directory.DirEntry.{DirEntry}
 use Rattle.store_ledger.specs.Ledger.{LedgerState, is_fault, is_noted}
-use Rattle.fresh_commits.specs.ReadFault.{ReadFault}
-use Rattle.fresh_commits.specs.ReadFault.TheVariants.{Disk, Damaged, Memory}
+use Rattle.fresh_changes.specs.ReadFault.{ReadFault}
+use Rattle.fresh_changes.specs.ReadFault.TheVariants.{Disk, Damaged, Memory}
 
 -- the disk failed, and a note of it stands under the session's pin; the payload begins at this page, and isn't whole; or memory was short
 abbrev pub IsUnreadUnder : LedgerState → ℕ → Option DirEntry → ReadFault → Type 0

@@ -5,9 +5,9 @@ use Rattle.event_core.specs.declared.entry.Entry.{Entry}
 use Rattle.store_ledger.specs.declared.note.Note.{Note}
 use Rattle.store_ledger.specs.Ledger.{LedgerState}
 use Rattle.store_versions.specs.Versions.{MadeVersion}
-use Rattle.fresh_commits.specs.Event.{Event}
-use Rattle.fresh_commits.specs.Event.TheVariants.{Entered, Acknowledged, Noted}
-use Rattle.fresh_commits.specs.Standings.{Standing}
+use Rattle.fresh_changes.specs.Event.{Event}
+use Rattle.fresh_changes.specs.Event.TheVariants.{Entered, Acknowledged, Noted}
+use Rattle.fresh_changes.specs.Standings.{Standing}
 use Rattle.store_commits.specs.FirstVersion.{FirstVersion}
 use Rattle.store_commits.specs.Start.{Start}
 use Rattle.store_commits.specs.Growth.{is_plain}

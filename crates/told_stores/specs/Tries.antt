@@ -8,8 +8,8 @@ use Rattle.event_core.specs.History.{names_at}
 use Rattle.store_commits.specs.Fresh.{is_fresh}
 use Rattle.store_ledger.specs.declared.pinned.Pinned.{Pinned}
 use Rattle.store_ledger.specs.Ledger.{LedgerState, history}
-use Rattle.fresh_commits.specs.Event.{Event}
-use Rattle.fresh_commits.specs.Event.TheVariants.{Acknowledged}
+use Rattle.fresh_changes.specs.Event.{Event}
+use Rattle.fresh_changes.specs.Event.TheVariants.{Acknowledged}
 use Rattle.store_commits.specs.Start.{Start}
 use Rattle.store_commits.specs.Growth.{tried_events}
 use Rattle.store_commits.specs.Tried.{IsFaultOrNone}

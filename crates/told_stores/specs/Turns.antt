@@ -5,9 +5,9 @@ use Rattle.turn_lock.specs.Owners.{is_owned_by, none_of}
 use Rattle.event_core.specs.declared.entry.Entry.TheVariants.{Pin, Reap}
 use Rattle.event_core.specs.History.{leaves_pin}
 use Rattle.store_ledger.specs.declared.note.NoteKind.{NoteKind}
-use Rattle.fresh_commits.specs.Event.{Event}
-use Rattle.fresh_commits.specs.Event.TheVariants.{Entered, Acknowledged, Noted}
-use Rattle.fresh_commits.specs.Events.{owner_of}
+use Rattle.fresh_changes.specs.Event.{Event}
+use Rattle.fresh_changes.specs.Event.TheVariants.{Entered, Acknowledged, Noted}
+use Rattle.fresh_changes.specs.Events.{owner_of}
 use Rattle.store_commits.specs.Start.{Start}
 use Rattle.store_commits.specs.Growth.{fault_events}
 use Rattle.told_stores.specs.Told.{ledger_of}

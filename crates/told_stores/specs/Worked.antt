@@ -3,15 +3,15 @@ use Rattle.std.specs.Prelude.{◌≡◌, true, false, List, [], ◌∷◌, ◌++
 use Rattle.std.specs.List.{list_all}
 use Rattle.logical_plan.specs.declared.parts.Leaf.{Leaf}
 use Rattle.plan_changes.specs.declared.change.Change.TheVariants.{Remove}
-use Rattle.file_laws.specs.Inner.Example.{schema}
+use Rattle.file_meaning.specs.Inner.FileExample.{schema}
 use Rattle.event_core.specs.declared.entry.Entry.TheVariants.{Pin, Unpin, Commit}
 use Rattle.event_core.specs.Allowed.{is_pinned}
 use Rattle.store_ledger.specs.declared.pinned.Pinned.{Pinned}
 use Rattle.store_ledger.specs.Ledger.{IsOpenPin, attempt, history, is_noted, is_tried}
-use Rattle.fresh_commits.specs.Event.{Event}
-use Rattle.fresh_commits.specs.Event.TheVariants.{Entered, Acknowledged, Noted}
-use Rattle.fresh_commits.specs.Calls.{chunks_at}
-use Rattle.fresh_commits.specs.Worked.{worked_base, worked_directory, worked_slots, worked_store}
+use Rattle.fresh_changes.specs.Event.{Event}
+use Rattle.fresh_changes.specs.Event.TheVariants.{Entered, Acknowledged, Noted}
+use Rattle.fresh_changes.specs.Calls.{chunks_at}
+use Rattle.fresh_changes.specs.Worked.{worked_base, worked_directory, worked_slots, worked_store}
 use Rattle.store_commits.specs.Start.{Start}
 use Rattle.store_commits.specs.Starts.{start_of}
 use Rattle.told_stores.specs.Told.{is_sealed, ledger_of, told, IsTold}

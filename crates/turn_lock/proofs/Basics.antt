@@ -1,7 +1,7 @@
 -- Stages and options that differ.
 use Rattle.std.proofs.Common.{◌≡◌, ◌≢◌, Some, None}
-use Rattle.turn_lock.specs.declared.view.Stage.{Stage}
-use Rattle.turn_lock.specs.declared.view.Stage.TheVariants.{Idle, Waiting, Holding}
+use Rattle.turn_lock.specs.declared.turns.view.Stage.{Stage}
+use Rattle.turn_lock.specs.declared.turns.view.Stage.TheVariants.{Idle, Waiting, Holding}
 
 pub idle_not_holding : (st : Stage) → st ≡ Idle → st ≢ Holding
 idle_not_holding st e f = cc

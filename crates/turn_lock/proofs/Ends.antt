@@ -7,9 +7,9 @@ use prog.Atomic.{either}
 use lib.ListN.{get_elem?}
 use Rattle.atomic_table.specs.Table.{State, Me, step, Splits, Joins, Enters, Final, Seen, opening}
 use Rattle.atomic_table.proofs.Lists.{at_set, set_else, at_longer, at_last}
-use Rattle.turn_lock.specs.declared.view.Claim.{Claim}
-use Rattle.turn_lock.specs.declared.view.SeatView.{SeatView}
-use Rattle.turn_lock.specs.declared.view.Stage.TheVariants.{Idle, Holding}
+use Rattle.turn_lock.specs.declared.turns.view.Claim.{Claim}
+use Rattle.turn_lock.specs.declared.turns.view.SeatView.{SeatView}
+use Rattle.turn_lock.specs.declared.turns.view.Stage.TheVariants.{Idle, Holding}
 use Rattle.turn_lock.specs.Owners.{AreOwnedBelow, ExtendsByOthers}
 use Rattle.turn_lock.specs.Inner.Views.{tickets_at, claim, new_claims, first_of, later_of, first_view, spent_view, first_share, later_share, both_shares, ticket_count, number_count, HasNumber}
 use Rattle.turn_lock.specs.Inner.Steps.{Arrives}

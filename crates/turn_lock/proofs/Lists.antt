@@ -3,7 +3,7 @@ use Rattle.std.proofs.Common.{◌≡◌, ◌≢◌, ℕ, zero, suc, ◌+◌, ◌
 use mathlib.Core.Option.{some, some-injective, some-ne-none}
 use lib.ListN.{get_elem?}
 use Rattle.turn_lock.specs.Owners.{is_owned_by, is_open_to, is_owned_below, none_of, only_of, AreOwnedBelow, ExtendsByOthers, ExtendsByOwn}
-use Rattle.turn_lock.specs.declared.view.Claim.{Claim}
+use Rattle.turn_lock.specs.declared.turns.view.Claim.{Claim}
 use Rattle.turn_lock.specs.Inner.Views.{claim, new_claims}
 use Rattle.turn_lock.specs.Rule.{total}
 

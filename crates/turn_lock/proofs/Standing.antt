@@ -5,8 +5,8 @@ use mathlib.Core.Option.{some, some-injective, some-ne-none}
 use native.Mathlib.Decide.{ℕ_discrete}
 use lib.ListN.{get_elem?}
 use Rattle.atomic_table.proofs.Lists.{at_longer, at_map, at_set, set_else}
-use Rattle.turn_lock.specs.declared.view.Claim.{Claim}
-use Rattle.turn_lock.specs.declared.view.SeatView.{SeatView}
+use Rattle.turn_lock.specs.declared.turns.view.Claim.{Claim}
+use Rattle.turn_lock.specs.declared.turns.view.SeatView.{SeatView}
 use Rattle.turn_lock.specs.Inner.Views.{claim, new_claims, first_of, later_of, claims_seeing, HasNumber}
 use Rattle.turn_lock.specs.Rule.{AreBelow, Stands}
 use Rattle.turn_lock.proofs.Lists.{set_at, at_end, at_either, at_mapped, new_claim_below}

@@ -8,10 +8,10 @@ use lib.ListN.{get_elem?}
 use Rattle.std.proofs.lemmas.List.{length-map}
 use Rattle.atomic_table.specs.Table.{State, Me, step, Act, keeps, takes, gives, Valid, Allows, stepped, put_back, carried_after}
 use Rattle.atomic_table.proofs.Lists.{at_set, set_again, set_else, one_turn}
-use Rattle.turn_lock.specs.declared.view.Claim.{Claim}
-use Rattle.turn_lock.specs.declared.view.SeatView.{SeatView}
-use Rattle.turn_lock.specs.declared.view.Stage.{Stage}
-use Rattle.turn_lock.specs.declared.view.Stage.TheVariants.{Idle, Waiting, Holding}
+use Rattle.turn_lock.specs.declared.turns.view.Claim.{Claim}
+use Rattle.turn_lock.specs.declared.turns.view.SeatView.{SeatView}
+use Rattle.turn_lock.specs.declared.turns.view.Stage.{Stage}
+use Rattle.turn_lock.specs.declared.turns.view.Stage.TheVariants.{Idle, Waiting, Holding}
 use Rattle.turn_lock.specs.Owners.{ExtendsByOthers, ExtendsByOwn}
 use Rattle.turn_lock.specs.Inner.Views.{tickets_at, claim, claims_seeing, AllHaveSeen, seat_view, ticket_count, number_count}
 use Rattle.turn_lock.specs.Inner.Steps.{Draws, Serves, Looks, Counts}

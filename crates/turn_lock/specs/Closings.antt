@@ -1,8 +1,8 @@
 -- What a clause says of a lock that is being closed.
 use Rattle.std.specs.Prelude.{List}
-use Rattle.turn_lock.specs.declared.closing.Closing.{Closing}
-use Rattle.turn_lock.specs.declared.lock.TurnLock.{TurnLock}
-use Rattle.turn_lock.specs.declared.view.Claim.{Claim}
+use Rattle.turn_lock.specs.declared.turns.closing.Closing.{Closing}
+use Rattle.turn_lock.specs.declared.turns.lock.TurnLock.{TurnLock}
+use Rattle.turn_lock.specs.declared.turns.view.Claim.{Claim}
 
 module _ {V O E : Type 0} where
   abbrev pub lock_of : Closing V O E → TurnLock V O E

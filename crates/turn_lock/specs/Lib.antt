@@ -1,4 +1,5 @@
 pub mod Closings
+pub mod Entries
 pub mod Inner
 pub mod Owners
 pub mod Rule

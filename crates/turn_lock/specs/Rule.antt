@@ -5,10 +5,10 @@ use mathlib.Core.Option.{some, none}
 use mathlib.Core.Option as maybe
 use lib.ListN.{get_elem?}
 use Rattle.atomic_table.specs.Table.{State}
-use Rattle.turn_lock.specs.declared.view.Claim.{Claim}
-use Rattle.turn_lock.specs.declared.view.SeatView.{SeatView}
-use Rattle.turn_lock.specs.declared.view.Stage.{Stage}
-use Rattle.turn_lock.specs.declared.view.Stage.TheVariants.{Idle, Waiting, Holding}
+use Rattle.turn_lock.specs.declared.turns.view.Claim.{Claim}
+use Rattle.turn_lock.specs.declared.turns.view.SeatView.{SeatView}
+use Rattle.turn_lock.specs.declared.turns.view.Stage.{Stage}
+use Rattle.turn_lock.specs.declared.turns.view.Stage.TheVariants.{Idle, Waiting, Holding}
 use Rattle.turn_lock.specs.Owners.{AreOwnedBelow, ExtendsByOthers}
 use Rattle.turn_lock.specs.Inner.Views.{HasNumber, AllHaveSeen, ticket_count, number_count}
 

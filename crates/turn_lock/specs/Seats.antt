@@ -1,10 +1,10 @@
 -- What a clause says of a lock, its seats and a turn.
 use Rattle.std.specs.Prelude.{◌≡◌, ◌<◌, ℕ, List, [], ◌∷◌, length, Option, Some, None, slice_index_or, All}
-use Rattle.turn_lock.specs.declared.lock.TurnLock.{TurnLock}
-use Rattle.turn_lock.specs.declared.seat.LockSeat.{LockSeat}
-use Rattle.turn_lock.specs.declared.seat.Turn.{Turn}
-use Rattle.turn_lock.specs.declared.view.Claim.{Claim}
-use Rattle.turn_lock.specs.declared.view.Stage.TheVariants.{Idle, Holding}
+use Rattle.turn_lock.specs.declared.turns.lock.TurnLock.{TurnLock}
+use Rattle.turn_lock.specs.declared.turns.seat.LockSeat.{LockSeat}
+use Rattle.turn_lock.specs.declared.turns.seat.Turn.{Turn}
+use Rattle.turn_lock.specs.declared.turns.view.Claim.{Claim}
+use Rattle.turn_lock.specs.declared.turns.view.Stage.TheVariants.{Idle, Holding}
 use Rattle.turn_lock.specs.Inner.Lent.{count_before}
 use Rattle.turn_lock.specs.Owners.{ExtendsByOthers}
 use Rattle.turn_lock.specs.Inner.Views.{claim, first_number, first_seen}

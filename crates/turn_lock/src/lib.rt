@@ -1,16 +1,10 @@
-//! A lock whose value keeps a history: a turn begins with all that its seat has seen, and more.
+//! A lock whose value keeps a history: a turn begins with all that its seat has seen, and more; a log and a bell that threads share.
 #![tactic(auto)]
 
-mod closing;
-mod create;
-mod history;
-mod lock;
-mod rule;
-mod seat;
+mod bell;
+mod entries;
 mod turns;
-mod view;
 
-pub use closing::Closing;
-pub use history::History;
-pub use lock::TurnLock;
-pub use seat::{LockSeat, Turn, TurnSeat};
+pub use bell::{Bell, Ring};
+pub use entries::{Entry, Log, append};
+pub use turns::{Closing, History, LockSeat, Turn, TurnLock, TurnSeat};

@@ -1,17 +1,16 @@
 -- A session between two bytes of its script.
 use Rattle.std.specs.Prelude.{◌≡◌, ◌⊎◌, ℕ, true, List, [], ◌∷◌, ◌++◌, Option, Result, MatchResult}
-use Rattle.afl_lexer.specs.Split.{Statement, closed_statements}
-use Rattle.afl_lexer.specs.Split.{statements as all_statements}
+use Rattle.afl_lexer.specs.Split.{Statement, closed_statements, statements as all_statements}
 use Rattle.afl_lexer.specs.Inner.Standing.{Splitting, StandsAfter}
 use Rattle.afl_outside.specs.Counts.{Rose}
 use Rattle.afl_outside.specs.Sink.{SinkState, Takes}
-use Rattle.session_answers.specs.Event.{Event}
-use Rattle.session_answers.specs.Reply.{Reply}
+use Rattle.store_state.specs.declared.event.Event.{Event}
+use Rattle.afl_session.specs.declared.replies.reply.Reply.{Reply}
 use Rattle.afl_session.specs.Session.{AnswerRule, AnswersAll, AnswersFront, LeavesOne, Replies}
 use Rattle.session_reports.specs.declared.reports.Mark.{Mark}
-use Rattle.afl_session.specs.declared.streams.Stopped.{Stopped}
-use Rattle.afl_session.specs.declared.streams.Stopped.TheVariants.{Fault}
-use Rattle.afl_session.specs.declared.streams.Stopped.TheVariants as causes
+use Rattle.afl_session.specs.declared.scripts.streams.Stopped.{Stopped}
+use Rattle.afl_session.specs.declared.scripts.streams.Stopped.TheVariants.{Fault}
+use Rattle.afl_session.specs.declared.scripts.streams.Stopped.TheVariants as causes
 use Rattle.session_reports.specs.declared.reports.SessionEnd.{SessionEnd}
 use Rattle.session_reports.specs.declared.reports.SessionEnd.TheVariants as ends
 use Rattle.session_reports.specs.declared.reports.SessionEnd.TheVariants.{Sink}

@@ -10,7 +10,7 @@ ghost use Rattle.chunk_cells.specs.Inner.Numbers.{numbers_in};
 use crate::assembly::numbers::cores_of;
 use crate::assembly::parts::put_row;
 use array_geom::{Chunk, ChunkedArray};
-use cell_columns::Cells;
+use array_rows::Cells;
 use cell_values::{ChunkAt, List, Margins, Memory, Row, Schema, copy_numbers};
 use std::alloc::Global;
 

@@ -4,11 +4,11 @@ use Rattle.std.specs.Prelude.{Option, None, Some, Result, Ok, Err, is_some, unwr
 use Rattle.std.specs.List.{list_any}
 use Rattle.std.specs.Str.{bytes_eq}
 use Rattle.std.specs.Str.Parse.{digits_value}
-use Rattle.command_words.specs.declared.forms.Form.{Form}
-use Rattle.command_words.specs.declared.forms.Form.TheVariants.{Try, Init, Run, Generate}
-use Rattle.command_words.specs.declared.settings.RunOption.{RunOption}
-use Rattle.command_words.specs.declared.settings.RunOption.TheVariants.{Pages, History, Workers, Format, Trace}
-use Rattle.command_words.specs.declared.settings.Settings.{Settings}
+use Rattle.command_words.specs.declared.words.forms.Form.{Form}
+use Rattle.command_words.specs.declared.words.forms.Form.TheVariants.{Try, Init, Run, Generate}
+use Rattle.command_words.specs.declared.words.settings.RunOption.{RunOption}
+use Rattle.command_words.specs.declared.words.settings.RunOption.TheVariants.{Pages, History, Workers, Format, Trace}
+use Rattle.command_words.specs.declared.words.settings.Settings.{Settings}
 use Rattle.command_words.specs.Forms.{Word, is_dashed, is_flag, is_number_within, is_script_number}
 
 abbrev pub is_given : Settings → RunOption → Bool

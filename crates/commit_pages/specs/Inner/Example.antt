@@ -4,7 +4,7 @@ use Rattle.cell_values.specs.declared.datum.Row.{Row}
 use Rattle.array_geom.specs.declared.chunk.Changed.{Changed}
 use Rattle.chunk_map.specs.declared.directory.DirEntry.{DirEntry}
 use Rattle.chunk_map.specs.declared.directory.Directory.{Directory}
-use Rattle.file_laws.specs.Standing.{stored_chunk}
+use Rattle.file_meaning.specs.Standing.{stored_chunk}
 use Rattle.commit_costs.specs.Costs.{catalog_of, payload_length}
 use Rattle.commit_costs.specs.Inner.Examples.{schema, cell_at, stored, insert_at}
 use Rattle.commit_writes.specs.Commits.{pages_of}

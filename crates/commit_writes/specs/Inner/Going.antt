@@ -1,7 +1,7 @@
 -- How the calls of a commit go on.
 use Rattle.std.specs.Prelude.{ℕ, List}
 use Rattle.afl_outside.specs.Disk.{DiskGoesOn, Follows, LeavesOnly, Moment}
-use Rattle.page_layout.specs.Places.{KeepsPages}
+use Rattle.page_slots.specs.Places.{KeepsPages}
 use Rattle.page_chain.specs.Inner.Runs.{Over}
 
 -- Only these pages were written, and each image at each moment since then has P.

@@ -9,8 +9,7 @@ ghost use Rattle.exec_box.specs.Cut.{cut_cell};
 
 use array_geom::Chunk;
 use array_parts::{CellChange, Quick, change_chunk};
-use array_rows::is_in_box;
-use cell_columns::Rows;
+use array_rows::{Rows, is_in_box};
 use cell_values::{Bounds, Cell, Coord, Margins, Memory, Schema};
 
 /// A cut with its box.

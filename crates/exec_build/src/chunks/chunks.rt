@@ -14,7 +14,7 @@ ghost use Rattle.exec_build.specs.Inner.Walks.{numbers_to};
 use crate::chunks::cells::add_cells;
 use crate::chunks::numbers::push_numbers;
 use array_geom::{Boxes, Chunk, ChunkedArray, chunk_of, frame, grid_of};
-use cell_columns::Cells;
+use array_rows::Cells;
 use cell_values::{Bounds, ChunkAt, Coord, Dimension, List, Margins, Memory, Schema, copy_numbers};
 use expr_nulls::TypedExpr;
 use std::alloc::Global;

@@ -9,7 +9,7 @@ ghost use Rattle.array_parts.specs.Made.{IsPlaced, IsMadeBy};
 
 use array_geom::Chunk;
 use array_parts::{CellChange, Quick, change_chunk};
-use cell_columns::Rows;
+use array_rows::Rows;
 use cell_values::{Cell, Coord, Datum, List, Margins, Memory, Schema};
 use expr_nulls::{TypedExpr, eval};
 use logical_plan::Applied;

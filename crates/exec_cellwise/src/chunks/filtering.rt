@@ -9,7 +9,7 @@ ghost use Rattle.array_parts.specs.Made.{IsPlaced, IsMadeBy};
 use crate::columns::walk;
 use array_geom::Chunk;
 use array_parts::{CellChange, Quick, change_chunk};
-use cell_columns::{Rows, Small};
+use array_rows::{Rows, Small};
 use cell_values::{Cell, Coord, Datum, List, Margins, Memory, Schema};
 use expr_nulls::{TypedExpr, eval};
 

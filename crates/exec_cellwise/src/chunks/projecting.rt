@@ -9,7 +9,7 @@ ghost use Rattle.array_parts.specs.Made.{IsPlaced, IsMadeBy};
 ghost use Rattle.exec_cellwise.specs.Picked.{picked};
 
 use array_geom::Chunk;
-use cell_columns::Cells;
+use array_rows::Cells;
 use cell_values::{Cell, Datum, List, Memory, copy_numbers};
 
 fn value_at(values: &List<Datum>, place: usize) -> Result<Datum, Memory>

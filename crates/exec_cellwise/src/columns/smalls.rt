@@ -4,10 +4,10 @@ ghost use Rattle.cell_values.specs.declared.datum.Datum.TheVariants.{Int};
 ghost use Rattle.cell_values.specs.Table.{comparison};
 ghost use Rattle.expr_nulls.specs.declared.expr.ArithOp.TheVariants.{Div, Rem};
 ghost use Rattle.expr_nulls.specs.ExprValue.{calculated};
-ghost use Rattle.cell_columns.specs.Seen.{seen};
+ghost use Rattle.array_rows.specs.Seen.{seen};
 ghost use Rattle.exec_cellwise.specs.Inner.Smalls.{on_smalls, small_both, small_either};
 
-use cell_columns::Small;
+use array_rows::Small;
 use cell_values::CompareOp;
 use expr_nulls::ArithOp;
 

@@ -3,7 +3,7 @@ ghost use Rattle.std.specs.Prelude.{◌≡◌, ◌<◌, [], length, slice_index_
 ghost use Rattle.exec_cellwise.specs.Inner.Smalls.{small_of};
 
 use crate::columns::smalls::{both, calculate_both, compare_both, either};
-use cell_columns::{Rows, Small, small_value};
+use array_rows::{Rows, Small, small_value};
 use expr_nulls::{ExprNode, TypedExpr};
 
 /// What is found of an expression at a row.

@@ -6,7 +6,7 @@ use Rattle.cell_values.specs.declared.datum.Row.{Row}
 use Rattle.cell_values.specs.declared.schema.Bounds.{Bounds}
 use Rattle.array_rows.specs.Boxes.{is_inside, within}
 use Rattle.array_rows.specs.Rows.{IsRising}
-use Rattle.cell_columns.specs.Inner.CellsIn.{value_in}
+use Rattle.array_rows.specs.Inner.CellsIn.{value_in}
 use Rattle.logical_plan.specs.declared.parts.Aggregate.{Aggregate}
 use Rattle.logical_plan.specs.Groups.{cells_of}
 use Rattle.agg_states.specs.Stands.{StandsFor}

@@ -13,8 +13,7 @@ ghost use Rattle.exec_group.specs.Sets.{one_set};
 use crate::parts::named::zero;
 use crate::rows::{Groups, one_of_columns};
 use array_geom::{Chunk, Grid, core_box, grid_of};
-use array_rows::is_in_box;
-use cell_columns::Cells;
+use array_rows::{Cells, is_in_box};
 use cell_values::{Bounds, List, Margins, Memory, Schema};
 use logical_plan::Aggregate;
 

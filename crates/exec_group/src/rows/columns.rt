@@ -16,7 +16,7 @@ ghost use Rattle.exec_group.specs.Sets.{one_set};
 
 use crate::rows::groups::{Group, Groups};
 use agg_states::AggState;
-use cell_columns::Cells;
+use array_rows::Cells;
 use cell_values::{Coord, List, Memory, copy_coord};
 use logical_plan::Aggregate;
 use std::alloc::Global;

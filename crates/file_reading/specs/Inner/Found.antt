@@ -1,12 +1,12 @@
 -- All that a file keeps, found in two parts: its base, and what follows it.
 use Rattle.std.specs.Prelude.{◌≡◌, ℕ, List, [], ◌∷◌, ◌++◌, Result, Ok, Err}
 use Rattle.file_items.specs.Items.{◌>>=◌}
-use Rattle.page_layout.specs.declared.roots.Root.{Root}
+use Rattle.page_slots.specs.declared.layout.roots.Root.{Root}
 use Rattle.page_chain.specs.declared.fault.OpenCause.{OpenCause}
 use Rattle.page_chain.specs.declared.fault.OpenCause.TheVariants.{Disk, NotDatabase, Memory}
 use Rattle.file_meaning.specs.Opening.{Logged, Rules, logged_in, rows_in, sequence_of}
 use Rattle.file_meaning.specs.Slots.{Slots}
-use Rattle.file_meaning.specs.declared.found.Found.{Found}
+use Rattle.file_meaning.specs.declared.meaning.found.Found.{Found}
 use Rattle.file_reading.specs.Inner.Log.{base_in}
 
 -- the base alone

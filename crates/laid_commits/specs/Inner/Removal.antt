@@ -1,14 +1,14 @@
 -- An array that is removed by a new base: what is laid of it is what its file has.
 use Rattle.std.specs.Prelude.{[], ◌∷◌, None}
-use Rattle.page_layout.specs.Places.{KeepsPages}
+use Rattle.page_slots.specs.Places.{KeepsPages}
 use Rattle.chunk_map.specs.declared.directory.Directory.{Directory}
 use Rattle.commit_pages.specs.declared.laid.Laid.{Laid}
 use Rattle.commit_pages.specs.Commits.{base_laid}
 use Rattle.commit_writes.specs.Commits.{base_pages, HoldsAll}
-use Rattle.next_files.specs.Example.{database, file}
-use Rattle.next_files.specs.Inner.Example.{found, slots}
-use Rattle.next_files.specs.Inner.Removed.{change, next}
-use Rattle.laid_commits.specs.Premises.{IsCommit, IsLaidBase}
+use Rattle.file_meaning.specs.Inner.FileExample.{database, file}
+use Rattle.file_meaning.specs.Inner.NextExample.{found, slots}
+use Rattle.file_meaning.specs.Inner.Removed.{change, next}
+use Rattle.laid_commits.specs.LaidPremises.{IsCommit, IsLaidBase}
 
 abbrev pub no_directory : Directory
 no_directory = record { entries = [] }

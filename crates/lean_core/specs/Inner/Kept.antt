@@ -5,8 +5,8 @@ use Rattle.plan_changes.specs.declared.change.Change.{Change}
 use Rattle.event_core.specs.declared.entry.Used.{Used}
 use Rattle.event_core.specs.declared.state.Core.{Core}
 use Rattle.event_core.specs.Pages.{fresh_of}
-use Rattle.lean_core.specs.declared.pin.LeanPin.{LeanPin}
-use Rattle.lean_core.specs.declared.row.Row.{Row}
+use Rattle.lean_core.specs.declared.lean.pin.LeanPin.{LeanPin}
+use Rattle.lean_core.specs.declared.lean.row.Row.{Row}
 
 -- whether a row tells only of entries before a place
 abbrev pub is_gone_by : ℕ → Option ℕ → Bool

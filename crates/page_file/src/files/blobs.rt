@@ -3,7 +3,7 @@ ghost use Rattle.std.specs.Prelude.{◌≡◌, ℕ, List, [], ◌∷◌, ◌<◌
 ghost use Rattle.page_slots.specs.Disk.{FailsWithCause};
 ghost use Rattle.page_slots.specs.Counts.{Rose};
 ghost use Rattle.page_slots.specs.Places.{KeepsPages};
-ghost use Rattle.page_slots.specs.RecordAt.{RecordAt};
+ghost use Rattle.page_slots.specs.declared.layout.logs.RecordAt.{RecordAt};
 ghost use Rattle.page_chain.specs.Pages.{page_size, pages_for, IsBlobRead, HoldsBlob};
 ghost use Rattle.page_chain.specs.Chains.{content_size, IsChainRead, HoldsChain};
 ghost use Rattle.page_chain.specs.Inner.Runs.{OnlyReads, OnlyWrites, Sees};

@@ -6,9 +6,9 @@ ghost use Rattle.page_slots.specs.Puts.{OnlyPuts, OnlySyncs};
 ghost use Rattle.page_slots.specs.Standing.{entry_gate, gate_place, IsTarget, IsShut, IsReady, IsShutRoot};
 ghost use Rattle.page_slots.specs.Standing.{IsShutEntry, IsSound, KeepsSound, LeavesOpening, IsDurable};
 ghost use Rattle.page_slots.specs.Steps.{target_slot, aimed, shut, doubted, with_target, ajar};
-ghost use Rattle.page_slots.specs.declared.slots.RootSlot.TheVariants as roots;
-ghost use Rattle.page_slots.specs.declared.slots.NextEntry.TheVariants as entries;
-ghost use Rattle.page_slots.specs.declared.slots.Target.TheVariants as targets;
+ghost use Rattle.page_slots.specs.declared.slots.slots.RootSlot.TheVariants as roots;
+ghost use Rattle.page_slots.specs.declared.slots.slots.NextEntry.TheVariants as entries;
+ghost use Rattle.page_slots.specs.declared.slots.slots.Target.TheVariants as targets;
 ghost use Rattle.page_file.specs.Inner.Aims.{target_of, IsAim};
 ghost use Rattle.page_file.specs.OpeningOpened.{IsOpened, AreFresh, HasCause};
 

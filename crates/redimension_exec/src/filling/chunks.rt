@@ -11,7 +11,7 @@ ghost use Rattle.array_parts.specs.Made.{with_cell};
 ghost use Rattle.redimension_exec.specs.Inner.Filling.{AreIn, by_number, chunk_at, no_cells, no_margins};
 
 use array_geom::{Chunk, chunk_of, position};
-use cell_columns::Cells;
+use array_rows::Cells;
 use cell_values::{
     Cell, ChunkAt, Dimension, Margins, Memory, Row, Schema, compare_numbers, copy_numbers,
 };

@@ -10,8 +10,8 @@ use Rattle.plan_changes.specs.declared.change.Change.TheVariants.{Create, Store,
 use Rattle.plan_changes.specs.Changes.{has_array}
 use Rattle.plan_changes.specs.Databases.{Database, fault_of_change}
 use Rattle.plan_changes.specs.Typed.{IsTypedFor}
-use Rattle.afl_types.specs.declared.statements.checking.Typed.{Typed}
-use Rattle.afl_types.specs.declared.statements.checking.Typed.TheVariants.{Query as AQuery, Change as AChange, Versions, Show, ListArrays}
+use Rattle.afl_types.specs.declared.types.statements.checking.Typed.{Typed}
+use Rattle.afl_types.specs.declared.types.statements.checking.Typed.TheVariants.{Query as AQuery, Change as AChange, Versions, Show, ListArrays}
 use Rattle.chunk_exec.specs.Computed.{CanCompute}
 use Rattle.chunk_source.specs.declared.sources.asked.Asked.{Asked}
 use Rattle.chunk_source.specs.Source.{SourceState}

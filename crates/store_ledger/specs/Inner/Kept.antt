@@ -2,7 +2,7 @@
 use Rattle.std.specs.Prelude.{◌≡◌, ◌≤◌, ◌+◌, ℕ, Bool, if◌then◌else◌, List, length, reverse, IsTrue}
 use Rattle.std.specs.List.{sum_by}
 use Rattle.lean_core.specs.Core.{Core}
-use Rattle.lean_core.specs.Allowed.{IsBase, is_allowed}
+use Rattle.event_core.specs.Allowed.{IsBase, is_allowed}
 use Rattle.lean_core.specs.History.{History, OpenPin, open_pins}
 use Rattle.lean_core.specs.Legal.{has_committed}
 use Rattle.lean_core.specs.Replay.{core_at}

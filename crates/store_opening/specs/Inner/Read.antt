@@ -1,16 +1,16 @@
 -- What is read of a file that was just opened.
 use Rattle.std.specs.Prelude.{◌≡◌, ℕ, List, [], map, Option, None, IfSome, IsTrue, Result, Ok, Err}
 use Rattle.afl_outside.specs.Disk.{Moment, Only}
-use Rattle.page_layout.specs.Opens.{OpensAs}
+use Rattle.page_slots.specs.Opens.{OpensAs}
 use Rattle.page_chain.specs.declared.fault.OpenCause.{OpenCause}
 use Rattle.page_chain.specs.declared.fault.OpenCause.TheVariants.{Disk, NotDatabase, Memory}
 use Rattle.page_slots.specs.Standing.{IsSound}
-use Rattle.page_slots.specs.declared.slots.Slots.{Slots}
+use Rattle.page_slots.specs.declared.slots.slots.Slots.{Slots}
 use Rattle.page_file.specs.FilesOpened.{OpenFile}
 use Rattle.page_file.specs.OpeningOpened.{AreFresh}
 use Rattle.version_catalog.specs.Catalogs.{names_in}
 use Rattle.file_meaning.specs.Opening.{found_in}
-use Rattle.file_meaning.specs.declared.found.Found.{Found}
+use Rattle.file_meaning.specs.declared.meaning.found.Found.{Found}
 use Rattle.store_bases.specs.Reading.{IsFound, LieApart, slots_of}
 use Rattle.store_bases.specs.Bases.{base_core}
 use Rattle.store_ledger.specs.Ledger.{LedgerState}

@@ -9,8 +9,8 @@ use Rattle.event_core.specs.History.{names_at}
 use Rattle.store_ledger.specs.Ledger.{LedgerState, history, with_entries, with_fault}
 use Rattle.store_versions.specs.declared.row.VersionRow.{VersionRow}
 use Rattle.store_versions.specs.Rows.{needed_rows, places_at, rows_after}
-use Rattle.prepared_commits.specs.declared.prepared.Prepared.{Prepared}
-use Rattle.store_steps.specs.Steps.{doubt_after, entry_of, made_by}
+use Rattle.prepared_commits.specs.declared.commits.prepared.Prepared.{Prepared}
+use Rattle.store_sealing.specs.Steps.{doubt_after, entry_of, made_by}
 
 pub record Held : Type 0 where
   pub ledger : LedgerState

@@ -1,7 +1,7 @@
 -- The laws of commits that are sealed, or stop, together.
 use Rattle.afl_outside.specs.Disk.{Moment}
-use Rattle.store_steps.specs.Laws.{SealedStoresAreKept, StoppedStoresAreKept}
-use Rattle.store_cells.specs.Laws.{CommitsPassBy, SealedCellsAreHeld, SealedImagesStand, SealedPayloadsAreHeld, StoppedCellsAreHeld, StoppedPayloadsAreHeld}
+use Rattle.store_sealing.specs.StepsLaws.{SealedStoresAreKept, StoppedStoresAreKept}
+use Rattle.store_sealing.specs.CellsLaws.{CommitsPassBy, SealedCellsAreHeld, SealedImagesStand, SealedPayloadsAreHeld, StoppedCellsAreHeld, StoppedPayloadsAreHeld}
 
 pub record CommitsHold {D : Type 0} (moment : D → Moment) : Type 0 where
   pub kept : SealedStoresAreKept moment

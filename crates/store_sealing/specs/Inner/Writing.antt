@@ -5,14 +5,14 @@ use Rattle.afl_outside.specs.Counts.{Rose}
 use Rattle.afl_outside.specs.Disk.{DiskGoesOn, FailsWithCause, Moment}
 use Rattle.page_file.specs.Written.{MayWrite}
 use Rattle.page_slots.specs.Standing.{IsTarget}
-use Rattle.page_slots.specs.declared.slots.Slots.{Slots}
-use Rattle.page_slots.specs.declared.slots.Target.TheVariants as targets
+use Rattle.page_slots.specs.declared.slots.slots.Slots.{Slots}
+use Rattle.page_slots.specs.declared.slots.slots.Target.TheVariants as targets
 use Rattle.commit_writes.specs.declared.placed.Placed.{Placed}
 use Rattle.commit_writes.specs.declared.stopped.Stopped.{Stopped}
 use Rattle.commit_writes.specs.Commits.{base_pages, commit_pages, IsBlobSized, IsChainSized}
 use Rattle.commit_writes.specs.Moments.{PassesBy, StaysKnown}
-use Rattle.prepared_commits.specs.declared.prepared.NewBase.{NewBase}
-use Rattle.store_cells.specs.Moves.{IsDone, NewIn, StopsAt, own_pages, slot_page}
+use Rattle.prepared_commits.specs.declared.commits.prepared.NewBase.{NewBase}
+use Rattle.store_sealing.specs.Moves.{IsDone, NewIn, StopsAt, own_pages, slot_page}
 
 -- of a record
 pub record MayBeRecord (slots : Slots) (blobs : List Placed) (chain : Placed) : Type 0 where

@@ -7,18 +7,18 @@ use Rattle.cell_values.specs.declared.schema.Schema.{Schema}
 use Rattle.array_geom.specs.Geometry.{has_core}
 use Rattle.chunk_map.specs.declared.directory.Directory.{Directory}
 use Rattle.chunk_map.specs.Spelling.{IsDirectory}
-use Rattle.page_slots.specs.declared.slots.Slots.{Slots}
-use Rattle.page_slots.specs.declared.slots.RootSlot.{RootSlot}
-use Rattle.page_slots.specs.declared.slots.RootSlot.TheVariants as roots
-use Rattle.page_slots.specs.declared.slots.NextEntry.{NextEntry}
-use Rattle.page_slots.specs.declared.slots.NextEntry.TheVariants as entries
+use Rattle.page_slots.specs.declared.slots.slots.Slots.{Slots}
+use Rattle.page_slots.specs.declared.slots.slots.RootSlot.{RootSlot}
+use Rattle.page_slots.specs.declared.slots.slots.RootSlot.TheVariants as roots
+use Rattle.page_slots.specs.declared.slots.slots.NextEntry.{NextEntry}
+use Rattle.page_slots.specs.declared.slots.slots.NextEntry.TheVariants as entries
 use Rattle.version_catalog.specs.declared.rules.catalog.Catalog.{Catalog}
 use Rattle.version_reaper.specs.PageSets.{holds}
 use Rattle.logical_plan.specs.declared.names.Names.{Names}
 use Rattle.plan_changes.specs.Changes.{entry_named}
 use Rattle.plan_changes.specs.Databases.{Database, names_of, rows_of}
-use Rattle.file_laws.specs.Opening.{all_of, are_pages}
-use Rattle.file_laws.specs.Standing.{HoldsVersion}
+use Rattle.file_meaning.specs.Opening.{all_of, are_pages}
+use Rattle.file_meaning.specs.Standing.{HoldsVersion}
 use Rattle.event_core.specs.declared.state.VersionPages.{VersionPages}
 use Rattle.event_core.specs.History.{History, OpenPin}
 use Rattle.event_core.specs.Legal.{has_committed}

@@ -3,9 +3,9 @@ use Rattle.std.specs.Prelude.{◌≡◌, ◌≢◌, ℕ, ◌%◌, ◌^◌, List,
 use mathlib.Core.Option.{some}
 use lib.ListN.{get_elem?}
 use Rattle.atomic_table.specs.Table.{Me, Step, rest}
-use Rattle.turn_lock.specs.declared.view.Claim.{Claim}
-use Rattle.turn_lock.specs.declared.view.SeatView.{SeatView}
-use Rattle.turn_lock.specs.declared.view.Stage.TheVariants.{Idle, Waiting, Holding}
+use Rattle.turn_lock.specs.declared.turns.view.Claim.{Claim}
+use Rattle.turn_lock.specs.declared.turns.view.SeatView.{SeatView}
+use Rattle.turn_lock.specs.declared.turns.view.Stage.TheVariants.{Idle, Waiting, Holding}
 use Rattle.turn_lock.specs.Owners.{ExtendsByOthers}
 use Rattle.turn_lock.specs.Inner.Views.{claims_seeing, spent_view}
 

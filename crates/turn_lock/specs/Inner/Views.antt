@@ -2,10 +2,10 @@
 use Rattle.std.specs.Prelude.{◌≡◌, ℕ, zero, suc, List, [], ◌∷◌, ◌++◌, map, length, Option, Some, None}
 use mathlib.Core.Option.{some}
 use lib.ListN.{get_elem?}
-use Rattle.turn_lock.specs.declared.view.Claim.{Claim}
-use Rattle.turn_lock.specs.declared.view.SeatView.{SeatView}
-use Rattle.turn_lock.specs.declared.view.Stage.{Stage}
-use Rattle.turn_lock.specs.declared.view.Stage.TheVariants.{Idle, Waiting, Holding}
+use Rattle.turn_lock.specs.declared.turns.view.Claim.{Claim}
+use Rattle.turn_lock.specs.declared.turns.view.SeatView.{SeatView}
+use Rattle.turn_lock.specs.declared.turns.view.Stage.{Stage}
+use Rattle.turn_lock.specs.declared.turns.view.Stage.TheVariants.{Idle, Waiting, Holding}
 
 module _ {E : Type 0} where
   abbrev pub claim : ℕ → List E → Claim E

@@ -1,5 +1,5 @@
 use Rattle.std.proofs.Common.{[], None}
-use Rattle.generated_script.specs.Script.{script}
+use Rattle.command_words.specs.Script.{script}
 use Rattle.session_reports.specs.declared.notices.Notice.TheVariants.{Memory}
 use Rattle.afl_run.proofs.GeneratedLemmas.{generated_reported, generates_not}
 use Rattle.afl_run.proofs.generated.run_generate.Goals as goal

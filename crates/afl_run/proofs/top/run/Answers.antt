@@ -1,12 +1,12 @@
 use Rattle.std.proofs.Common.{◌≢◌, ◌≤◌, ℕ, List, length, All, Some, Ok, refl, sym, ◌∙◌, ap, subst}
-use Rattle.command_words.specs.declared.forms.Form.TheVariants.{Try, Init, Run, Generate}
+use Rattle.command_words.specs.declared.words.forms.Form.TheVariants.{Try, Init, Run, Generate}
 use Rattle.command_words.specs.Faults.{IsFault}
 use Rattle.command_words.specs.Forms.{IsForm}
 use Rattle.command_words.proofs.Answering.{one_place}
 use Rattle.command_words.proofs.RangeLaws.{keep_ranges}
 use Rattle.afl_in_memory.specs.InMemory.{sure_source_state}
 use Rattle.afl_in_memory.specs.Inner.Records.{sure_disk_moment}
-use Rattle.generated_script.specs.Script.{script}
+use Rattle.command_words.specs.Script.{script}
 use Rattle.run_opening.specs.Names.{HaveOwnNames, Word, stream_names}
 use Rattle.session_reports.specs.declared.notices.Notice.TheVariants.{Usage}
 use Rattle.afl_run.specs.Generate.{RunsGenerate}

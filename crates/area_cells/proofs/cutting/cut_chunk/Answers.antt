@@ -1,7 +1,7 @@
 use Rattle.std.proofs.Common.{sym, ap, ◌∙◌, length, drop, [], List, subst}
 use Rattle.cell_values.specs.declared.datum.Row.{Row}
 use Rattle.cell_values.specs.declared.datum.Cell.TheVariants.{Full}
-use Rattle.cell_columns.specs.Inner.CellsIn.{cells_in}
+use Rattle.array_rows.specs.Inner.CellsIn.{cells_in}
 use Rattle.array_parts.specs.Made.{IsMadeBy}
 use Rattle.array_parts.proofs.Steps.{next_at, done}
 use Rattle.area_cells.specs.Cut.{cell_inside}

@@ -1,5 +1,5 @@
 use Rattle.std.proofs.Common.{drop}
-use Rattle.cell_columns.specs.Inner.CellsIn.{cells_in}
+use Rattle.array_rows.specs.Inner.CellsIn.{cells_in}
 use Rattle.array_parts.proofs.Steps.{IsOngoing}
 use Rattle.area_cells.specs.Cut.{cell_inside}
 use Rattle.area_cells.proofs.cutting.cut_chunk.Given as goal

@@ -1,7 +1,7 @@
 use Rattle.std.proofs.Common.{subst}
 use Rattle.cell_values.specs.declared.schema.Schema.{Schema}
 use Rattle.check_rules.specs.Checked.{Answers}
-use Rattle.check_redimension.specs.Redimension.{redimension_parts}
+use Rattle.check_sources.specs.Redimension.{redimension_parts}
 use Rattle.check_queries.proofs.moved_calls.redimension_over.Goals as goal
 
 pub returns : goal.returns

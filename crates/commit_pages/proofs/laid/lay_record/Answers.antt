@@ -1,7 +1,7 @@
 use Rattle.std.proofs.Common.{arith, IfSome, ℕ, ◌≡◌, true, sym, subst}
 use Rattle.std.specs.List.{AllByRecursion}
 use Rattle.chunk_map.specs.Spelling.{IsDirectory}
-use Rattle.file_laws.specs.Changed.{has_its_directory, IsItsBlob}
+use Rattle.file_meaning.specs.Changed.{has_its_directory, IsItsBlob}
 use Rattle.commit_writes.specs.Commits.{commit_pages, IsBlobSized, IsChainSized}
 use Rattle.commit_pages.specs.declared.laid.Laid.{Laid}
 use Rattle.commit_pages.specs.declared.version.NewVersion.{NewVersion}

@@ -1,6 +1,6 @@
 use Rattle.std.proofs.Common.{◌≡◌, ◌<◌, ◌⊎◌, inl, inr, ⊎_elim, ℕ, List, [], ◌∷◌, Some, true, Option, sym, ◌∙◌, ap, subst}
 use Rattle.afl_outside.specs.Disk.{Only}
-use Rattle.page_layout.specs.Opens.{OpensAs}
+use Rattle.page_slots.specs.Opens.{OpensAs}
 use Rattle.page_chain.proofs.RunLemmas.{goes}
 use Rattle.page_file.specs.Standing.{target_page, MayOpen}
 use Rattle.page_file.specs.Steps.{emptied, with_root}
@@ -11,7 +11,7 @@ use Rattle.page_file.proofs.Kept.{at_some, root_there}
 use Rattle.commit_writes.specs.Commits.{base_pages, commit_pages, root_of}
 use Rattle.commit_writes.specs.Moments.{HasBase, MayHaveBase, cleared}
 use Rattle.commit_writes.specs.Inner.Going.{Goes}
-use Rattle.page_layout.specs.Places.{KeepsPages}
+use Rattle.page_slots.specs.Places.{KeepsPages}
 use Rattle.page_chain.proofs.Kept.{keeps_more}
 use Rattle.commit_writes.proofs.BlobLemmas.{all_on, first_of, may_second}
 use Rattle.commit_writes.proofs.GoingLemmas.{closing_is, during_is, image_of, left_is, reread_then}

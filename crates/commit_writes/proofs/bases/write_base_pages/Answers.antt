@@ -1,5 +1,5 @@
 use Rattle.std.proofs.Common.{[], ◌∷◌, Some, ap, ◌++◌}
-use Rattle.page_layout.specs.Places.{KeepsPages}
+use Rattle.page_slots.specs.Places.{KeepsPages}
 use Rattle.page_chain.proofs.RunLemmas.{writes_follow, writes_more, sees_on, sees_more}
 use Rattle.page_file.specs.Slots.{Slots}
 use Rattle.page_file.proofs.Kept.{sound_on}

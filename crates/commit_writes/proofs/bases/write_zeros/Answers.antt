@@ -1,9 +1,8 @@
 use Rattle.std.proofs.Common.{ℕ, [], ◌∷◌, replicate, sym, ap}
-use Rattle.page_chain.specs.Pages.{pages_for}
+use Rattle.page_chain.specs.Pages.{pages_for, page_size, HoldsBlob}
 use Rattle.page_chain.proofs.Kept.{size_is}
 use Rattle.page_chain.proofs.RunLemmas.{sees_more}
-use Rattle.page_layout.specs.Places.{KeepsPages}
-use Rattle.page_chain.specs.Pages.{page_size, HoldsBlob}
+use Rattle.page_slots.specs.Places.{KeepsPages}
 use Rattle.page_file.specs.Written.{unwritten}
 use Rattle.commit_writes.proofs.BaseLemmas.{zeros_written}
 use Rattle.commit_writes.proofs.SlotLemmas.{zeroed_only}

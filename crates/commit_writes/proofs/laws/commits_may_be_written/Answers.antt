@@ -1,5 +1,5 @@
 use Rattle.std.proofs.Common.{◌≢◌, ◌<◌, ℕ, zero, suc, List, [], ◌∷◌, sym, ap, subst, arith}
-use Rattle.page_layout.specs.Places.{IsNone}
+use Rattle.page_slots.specs.Places.{IsNone}
 use Rattle.page_chain.specs.Pages.{pages_for, AreDistinct}
 use Rattle.page_chain.specs.Chains.{content_size}
 use Rattle.page_chain.proofs.Kept.{size_is}

@@ -1,5 +1,5 @@
 use Rattle.std.proofs.Common.{◌++◌, ap}
-use Rattle.page_layout.specs.Places.{KeepsPages}
+use Rattle.page_slots.specs.Places.{KeepsPages}
 use Rattle.page_chain.specs.Pages.{page_size}
 use Rattle.page_chain.specs.Chains.{HoldsChain}
 use Rattle.page_chain.proofs.RunLemmas.{writes_follow, writes_more, sees_on, sees_more}

@@ -1,7 +1,7 @@
 use Rattle.std.proofs.Common.{◌≡◌, ◌⊎◌, inl, inr, ⊎_elim, ℕ, List, [], ◌∷◌, Some, true, Option, sym, ◌∙◌, ap, subst}
 use Rattle.afl_outside.specs.Disk.{Only}
-use Rattle.page_layout.specs.Opens.{OpensAs}
-use Rattle.page_layout.specs.Places.{IsNone, KeepsPages}
+use Rattle.page_slots.specs.Opens.{OpensAs}
+use Rattle.page_slots.specs.Places.{IsNone, KeepsPages}
 use Rattle.page_chain.proofs.RunLemmas.{goes}
 use Rattle.page_file.specs.Standing.{target_page, IsTarget, MayOpen}
 use Rattle.page_file.specs.Steps.{emptied, with_record}

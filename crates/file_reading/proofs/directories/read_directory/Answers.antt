@@ -1,5 +1,5 @@
 use Rattle.std.proofs.Common.{length, ◌∙◌, ap}
-use Rattle.file_laws.proofs.Counts.{counts_agree}
+use Rattle.file_meaning.proofs.Counts.{counts_agree}
 use Rattle.file_reading.proofs.directories.read_directory.Goals as goal
 
 pub read_blob-requires : goal.read_blob-requires

@@ -1,6 +1,6 @@
 use Rattle.std.proofs.Common.{◌≡◌, [], None, Err, true, false, sym, ◌∙◌, ap}
 use Rattle.page_chain.specs.Pages.{page_size, first_past}
-use Rattle.file_laws.proofs.Parts.{claimed_there}
+use Rattle.file_meaning.proofs.Parts.{claimed_there}
 use Rattle.file_reading.specs.Inner.Rows.{entries_of, rules_of}
 use Rattle.file_reading.proofs.BesideLaws.{version_beside}
 use Rattle.file_reading.proofs.RowLaws.{Asked, claims_of, paid_of, unread, unpaid, whole}

@@ -3,7 +3,7 @@ use Rattle.page_slots.specs.Opens.{OpensAs}
 use Rattle.page_chain.specs.Pages.{page_size}
 use Rattle.page_chain.specs.Chains.{HoldsChain}
 use Rattle.page_slots.specs.Standing.{IsSound}
-use Rattle.page_slots.specs.declared.slots.Slots.{Slots}
+use Rattle.page_slots.specs.declared.slots.slots.Slots.{Slots}
 use Rattle.page_slots.proofs.PutLemmas.{if_some}
 use Rattle.page_file.proofs.Sealed.{sealed}
 use Rattle.page_file.proofs.sealing.record_sealed.Goals as goal

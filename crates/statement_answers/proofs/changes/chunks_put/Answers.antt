@@ -1,5 +1,5 @@
 use Rattle.std.proofs.Common.{◌≡◌, ◌++◌, Ok, IfOk, refl, subst}
-use Rattle.afl_types.specs.declared.statements.checking.Typed.TheVariants.{Change as AChange}
+use Rattle.afl_types.specs.declared.types.statements.checking.Typed.TheVariants.{Change as AChange}
 use Rattle.chunk_source.proofs.ReadLemmas.{on_err}
 use Rattle.plan_changes.specs.Databases.{Database}
 use Rattle.changed_chunks.specs.Changing.{IsAnswerOver, IsToldOf}

@@ -1,5 +1,5 @@
 use Rattle.std.proofs.Common.{◌≡◌, ◌++◌, Ok, sym, subst}
-use Rattle.afl_types.specs.declared.statements.checking.Typed.TheVariants.{Change as AChange}
+use Rattle.afl_types.specs.declared.types.statements.checking.Typed.TheVariants.{Change as AChange}
 use Rattle.statement_replies.specs.Statements.{reply_to_typed}
 use Rattle.statement_answers.specs.Outcomes.{ForRowsPut, HasOutcomeKind, IsOutcomeOf, asked_by_change}
 use Rattle.statement_answers.proofs.Answering.{good}

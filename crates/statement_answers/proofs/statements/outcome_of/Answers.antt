@@ -1,9 +1,8 @@
 use Rattle.std.proofs.Common.{◌≡◌, ◌∙◌, Ok, Err, refl, sym, ap, subst}
-use Rattle.check_rules.specs.Checked.{Answers, Checked}
-use Rattle.check_rules.specs.Checked.{refused as broken_rule}
+use Rattle.check_rules.specs.Checked.{Answers, Checked, refused as broken_rule}
 use Rattle.check_rules.specs.declared.rules.fault.TypeFault.{TypeFault}
 use Rattle.afl_types.specs.Checking.{check_of}
-use Rattle.afl_types.specs.declared.statements.checking.Typed.{Typed}
+use Rattle.afl_types.specs.declared.types.statements.checking.Typed.{Typed}
 use Rattle.chunk_source.proofs.ReadLemmas.{on_err}
 use Rattle.result_print.specs.declared.refusal.Refusal.TheVariants.{Typing}
 use Rattle.statement_replies.specs.Reply.{refused as told}

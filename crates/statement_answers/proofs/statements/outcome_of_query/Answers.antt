@@ -1,5 +1,5 @@
 use Rattle.std.proofs.Common.{Ok}
-use Rattle.afl_types.specs.declared.statements.checking.Typed.TheVariants.{Query as AQuery}
+use Rattle.afl_types.specs.declared.types.statements.checking.Typed.TheVariants.{Query as AQuery}
 use Rattle.statement_answers.proofs.Answering.{query_kind, query_told}
 use Rattle.statement_answers.proofs.Asking.{for_each}
 use Rattle.statement_answers.proofs.statements.outcome_of_query.Goals as goal

@@ -2,7 +2,7 @@ use Rattle.std.proofs.Common.{◌≡◌, ◌∙◌, Err, refl, subst}
 use Rattle.logical_plan.specs.Query.{Query}
 use Rattle.check_rules.specs.Checked.{Answers, refused}
 use Rattle.check_rules.specs.declared.rules.fault.TypeFault.{TypeFault}
-use Rattle.check_laws.specs.Queries.{query_of}
+use Rattle.afl_types.specs.Queries.{query_of}
 use Rattle.chunk_source.proofs.ReadLemmas.{asked_none, on_err}
 use Rattle.result_print.specs.declared.refusal.Refusal.TheVariants.{Typing}
 use Rattle.statement_replies.specs.Reply.{refused as told}

@@ -1,6 +1,6 @@
 use Rattle.logical_plan.specs.Meaning.{meaning}
 use Rattle.logical_plan.specs.PlanSchema.{schema_of}
-use Rattle.plan_traces.specs.Traced.{plan_lines}
+use Rattle.changed_chunks.specs.Traced.{plan_lines}
 use Rattle.statement_replies.specs.Reply.{traced}
 use Rattle.statement_replies.proofs.PlanReplies.{lines_reply, rows_over}
 use Rattle.statement_replies.proofs.queries.reply_with_lines.Goals as goal

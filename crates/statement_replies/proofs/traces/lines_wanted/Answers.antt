@@ -1,5 +1,5 @@
 use Rattle.logical_plan.specs.Meaning.{Database}
-use Rattle.plan_traces.specs.Traced.{lines_over, plan_lines}
+use Rattle.changed_chunks.specs.Traced.{lines_over, plan_lines}
 use Rattle.statement_replies.proofs.Lines.{unwanted, wanted, wanted_told}
 use Rattle.statement_replies.proofs.traces.lines_wanted.Goals as goal
 

@@ -1,6 +1,6 @@
 use Rattle.std.proofs.Common.{sym, subst}
 use Rattle.prepared_commits.specs.At.{keeping, standing}
-use Rattle.prepared_commits.specs.declared.prepared.Prepared.{Prepared}
+use Rattle.prepared_commits.specs.declared.commits.prepared.Prepared.{Prepared}
 use Rattle.prepared_commits.specs.Needs.{needs}
 use Rattle.array_store.proofs.Added.{if_ok}
 use Rattle.store_commits.specs.declared.fault.CommitFault.{CommitFault}

@@ -1,12 +1,12 @@
 use Rattle.std.proofs.Common.{◌≡◌, ◌∙◌, ◌+◌, ◌≤◌, ◌<◌, ◌^◌, ℕ, Option, length, IfOk, IfSome, sym, ap, subst, arith, rules}
 use Rattle.chunk_map.specs.declared.directory.Directory.{Directory}
-use Rattle.prepared_costs.specs.Written.{Written}
-use Rattle.prepared_costs.specs.Versions.{draft_of}
+use Rattle.prepared_commits.specs.Written.{Written}
+use Rattle.prepared_commits.specs.Versions.{draft_of}
 use Rattle.store_ledger.specs.Ledger.{LedgerState}
 use Rattle.prepared_commits.specs.At.{IsAt, keeping, standing}
 use Rattle.prepared_commits.specs.Standings.{Standing}
 use Rattle.prepared_commits.specs.Needs.{needs, needs_by, newest_now, next_sequence}
-use Rattle.prepared_parts.specs.Parts.{IsFullFor, IsPreparedAs}
+use Rattle.prepared_commits.specs.Parts.{IsFullFor, IsPreparedAs}
 use Rattle.store_preparing.specs.Left.{IsLeft, tried_now}
 use Rattle.store_preparing.proofs.Before.{before, prepared_for}
 use Rattle.store_preparing.proofs.Fits.{fits_in}

@@ -1,10 +1,10 @@
 use Rattle.std.proofs.Common.{◌≡◌, ℕ, List, length, map, IfOk, sym, subst}
 use Rattle.chunk_map.specs.declared.directory.Directory.{Directory}
-use Rattle.page_slots.specs.declared.slots.Target.{Target}
+use Rattle.page_slots.specs.declared.slots.slots.Target.{Target}
 use Rattle.store_versions.specs.Rows.{directory_in}
 use Rattle.prepared_commits.specs.At.{IsAt, keeping, standing}
 use Rattle.prepared_commits.specs.Needs.{needs_by, newest_now}
-use Rattle.prepared_parts.specs.Parts.{IsPreparedAs, IsLeft as IsLeftBy, newest_at}
+use Rattle.prepared_commits.specs.Parts.{IsPreparedAs, IsLeft as IsLeftBy, newest_at}
 use Rattle.version_catalog.specs.Catalogs.{names_in}
 use Rattle.store_preparing.specs.Left.{IsLeft}
 use Rattle.store_preparing.proofs.Parts.{at_left, left_of, newest_rise, newest_same, two_lists}

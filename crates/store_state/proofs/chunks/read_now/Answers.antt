@@ -1,5 +1,5 @@
 use Rattle.std.proofs.Common.{ap, subst, length}
-use Rattle.file_laws.specs.Source.{IsChunkIn}
+use Rattle.file_meaning.specs.Source.{IsChunkIn}
 use Rattle.plan_changes.specs.Databases.{Database, rows_of}
 use Rattle.event_core.specs.Cells.{at}
 use Rattle.event_core.specs.History.{History}

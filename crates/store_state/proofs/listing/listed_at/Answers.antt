@@ -1,5 +1,5 @@
 use Rattle.array_geom.specs.Link.{NumbersRise}
-use Rattle.file_laws.specs.Source.{numbers_of, AreNumbersIn}
+use Rattle.file_meaning.specs.Source.{numbers_of, AreNumbersIn}
 use Rattle.plan_changes.specs.Databases.{Database, rows_of}
 use Rattle.event_core.specs.Cells.{at}
 use Rattle.store_versions.specs.Seen.{seen}

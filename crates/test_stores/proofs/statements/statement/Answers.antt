@@ -1,5 +1,5 @@
 use Rattle.std.proofs.Common.{arith}
-use Rattle.check_laws.proofs.ParsedLeaves.{parsed_leaves}
+use Rattle.afl_types.proofs.ParsedLeaves.{parsed_leaves}
 use Rattle.test_stores.proofs.statements.statement.Goals as goal
 
 pub checked-requires-clause-fits : goal.checked-requires-clause-fits

@@ -1,7 +1,7 @@
 use Rattle.std.proofs.Common.{sym, subst}
 use Rattle.std.specs.List.{AllByRecursion}
-use Rattle.cell_columns.specs.declared.forms.Form.{Form}
-use Rattle.cell_columns.specs.Inner.CellsIn.{cells_in}
+use Rattle.array_rows.specs.declared.columns.forms.Form.{Form}
+use Rattle.array_rows.specs.Inner.CellsIn.{cells_in}
 use Rattle.array_parts.specs.Inner.Quickly.{StaysAnywhere}
 use Rattle.array_parts.proofs.StayLaws.{all_full}
 use Rattle.array_parts.proofs.chunks.chunks.all_stay.Goals as goal

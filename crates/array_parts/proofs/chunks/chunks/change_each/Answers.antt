@@ -1,6 +1,6 @@
 use Rattle.std.proofs.Common.{refl, sym, ap, ◌∙◌, length, drop, []}
 use Rattle.cell_values.specs.declared.datum.Cell.TheVariants.{Full}
-use Rattle.cell_columns.specs.Inner.CellsIn.{cells_in}
+use Rattle.array_rows.specs.Inner.CellsIn.{cells_in}
 use Rattle.array_parts.proofs.Steps.{begins, next_at, done, part_made}
 use Rattle.array_parts.proofs.chunks.chunks.change_each.Goals as goal
 

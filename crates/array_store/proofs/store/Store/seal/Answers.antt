@@ -1,7 +1,7 @@
 use Rattle.std.proofs.Common.{MatchResult, sym, subst}
 use Rattle.store_opening.specs.At.{standing}
 use Rattle.prepared_commits.specs.Prepared.{IsPreparedFor}
-use Rattle.store_sealing.proofs.Sealed.{HasCome}
+use Rattle.store_sealing.proofs.SealingSealed.{HasCome}
 use Rattle.array_store.specs.Growth.{AddsFault}
 use Rattle.array_store.specs.Sealing.{AddsCommit}
 use Rattle.array_store.proofs.Added.{is_counted}

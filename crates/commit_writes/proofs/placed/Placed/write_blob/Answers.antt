@@ -1,5 +1,5 @@
 use Rattle.std.proofs.Common.{ℕ, List, length, sym, ◌∙◌, ap, subst}
-use Rattle.page_layout.specs.Places.{KeepsPages}
+use Rattle.page_slots.specs.Places.{KeepsPages}
 use Rattle.page_chain.specs.Pages.{page_size, pages_for, HoldsBlob}
 use Rattle.page_chain.specs.Inner.Runs.{OnlyWrites, Sees}
 use Rattle.page_file.specs.Written.{MayWrite, unwritten, zeroed_by}

@@ -3,7 +3,7 @@ use Rattle.std.proofs.lemmas.List.{length-map}
 use Rattle.turn_lock.specs.Closings.{claims_of, lock_of}
 use Rattle.turn_lock.specs.Owners.{AreOwnedBelow, ExtendsByOthers}
 use Rattle.turn_lock.specs.Seats.{claim_of, seat_count, IsSeatOf as IsLockSeatOf, IsIdle as HasNoTurn}
-use Rattle.turn_lock.specs.declared.view.Claim.{Claim}
+use Rattle.turn_lock.specs.declared.turns.view.Claim.{Claim}
 use Rattle.turn_lock.proofs.Gathering.{all_left, all_last, all_unmapped, gathered}
 use Rattle.told_stores.specs.Event.{Event}
 use Rattle.told_stores.specs.At.{standing}

@@ -1,5 +1,5 @@
 use Rattle.std.proofs.Common.{◌≡◌, ◌∙◌, [], ◌∷◌, ◌++◌, ap, arith}
-use Rattle.event_laws.specs.Change.{Change}
+use Rattle.lean_core.specs.Change.{Change}
 use Rattle.lean_core.specs.Used.{Used}
 use Rattle.lean_core.specs.Entry.TheVariants.{Commit}
 use Rattle.lean_core.specs.Ready.{ReadyFor}

@@ -1,8 +1,8 @@
 use Rattle.std.proofs.Common.{◌≡◌, ℕ, true, false, List, length, Option, refl, ap}
-use Rattle.event_laws.specs.Names.{Names}
-use Rattle.event_laws.specs.Change.{Change}
-use Rattle.event_laws.specs.Change.TheVariants.{Create, Store, Insert, Remove, RemoveVersions}
-use Rattle.event_laws.specs.Changes.{next_of}
+use Rattle.lean_core.specs.Names.{Names}
+use Rattle.lean_core.specs.Change.{Change}
+use Rattle.lean_core.specs.Change.TheVariants.{Create, Store, Insert, Remove, RemoveVersions}
+use Rattle.lean_core.specs.Changes.{next_of}
 use Rattle.lean_core.specs.Apart.{makes_version}
 use Rattle.lean_core.proofs.Tests.{both_not}
 use Rattle.store_versions.specs.declared.ready.ReadyVersion.{ReadyVersion}

@@ -1,0 +1,50 @@
+use Rattle.std.proofs.Common.{◌≡◌, ◌∙◌, sym, subst, ℕ, ◌+◌, List, ◌++◌, take}
+use Rattle.std.proofs.lemmas.List.{take_all}
+use Rattle.afl_lexer.specs.Split.{closed_statements}
+use Rattle.afl_lexer.specs.Inner.Standing.{Splitting, StandsAfter}
+use Rattle.session_sources.specs.Seats.{last_place, seen, start}
+use Rattle.afl_session.specs.Inner.Serving.{HasAnswered, reached}
+use Rattle.afl_session.specs.Marked.{IsMarked}
+use Rattle.afl_session.proofs.ScriptsEnding.{byte_stops, byte_taken, read_more}
+use Rattle.afl_session.proofs.scripts.session.Session.take_bytes.Goals as goal
+
+pub loop-byte-preserved : goal.loop-byte-preserved
+loop-byte-preserved g c =
+    let i = c.loop-byte.byte-index in
+    let bytes = c.args.bytes.now in
+    let push = c.push-step.ensures in
+    let step = c.take_step-taken.ensures in
+    let so_far = c.loop-byte.invariant in
+    record {
+      seat = step.seat;
+      none = step.none;
+      same = step.session ∙ so_far.same;
+      stands = λ script stands.
+          subst (λ (s : Splitting). StandsAfter (script ++ take (i + 1) bytes) s) (sym step.splitter)
+          (subst (λ (x : List ℕ). StandsAfter x c.push-step.new.self) (sym (read_more script bytes i c.loop-byte-test.true)) (push.stands (script ++ take i bytes) (so_far.stands script stands)));
+      answered = λ session first script own stands answered.
+          byte_taken (IsMarked c.args.options.now.style g.D.Disk.moment (start g.D.Disk.moment c.args.shared.now) session) first _ _ script bytes i c.loop-byte-test.true _ _ _
+          (push.statements (script ++ take i bytes) (so_far.stands script stands)) (so_far.answered session first script own stands answered)
+          (rw c.in-Ok.is at (step.goes_on session (so_far.same ∙ own)));
+    }
+
+pub returns-in-Err-clause-serving : goal.returns-in-Err-clause-serving
+returns-in-Err-clause-serving g c session first script own serving =
+    let i = c.loop-byte.byte-index in
+    let bytes = c.args.bytes.now in
+    let push = c.push-step.ensures in
+    let so_far = c.loop-byte.invariant in
+    byte_stops (IsMarked c.args.options.now.style g.D.Disk.moment (start g.D.Disk.moment c.args.shared.now) session) first _ _ script bytes i c.loop-byte-test.true _ _ _
+    (push.statements (script ++ take i bytes) (so_far.stands script serving.stands)) (so_far.answered session first script own serving.stands serving.answered)
+    c.in-Err.stopped (rw c.in-Err.is at (c.take_step-taken.ensures.goes_on session (so_far.same ∙ own)))
+
+pub returns-clause-serving : goal.returns-clause-serving
+returns-clause-serving g c session first script own serving =
+    let so_far = c.loop-byte.invariant in
+    let all : take c.loop-byte.byte-index c.args.bytes.now ≡ c.args.bytes.now = take_all _ _ c.loop-byte-test.false in
+    record {
+      stands = subst (λ (x : List ℕ). StandsAfter (script ++ x) c.loop-byte.self.splitter) all (so_far.stands script serving.stands);
+      answered = subst (λ (x : List ℕ). HasAnswered (IsMarked c.args.options.now.style g.D.Disk.moment (start g.D.Disk.moment c.args.shared.now) session) first
+          (reached (seen c.loop-byte.seat) (last_place c.loop-byte.seat) (g.K.Sink.state c.loop-byte.self.sink)) (closed_statements (script ++ x)) c.loop-byte.self.marks.items) all
+          (so_far.answered session first script own serving.stands serving.answered);
+    }

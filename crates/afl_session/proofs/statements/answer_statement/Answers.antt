@@ -1,8 +1,0 @@
-use Rattle.afl_session.proofs.ServingLemmas.{stops_before}
-use Rattle.afl_session.proofs.statements.answer_statement.Goals as goal
-
-pub returns-in-Ok-clause-goes_on : goal.returns-in-Ok-clause-goes_on
-returns-in-Ok-clause-goes_on g c = rw c.in-Ok.ensures.items at c.answer_marked.ensures.goes_on
-
-pub returns-in-Err-clause-goes_on : goal.returns-in-Err-clause-goes_on
-returns-in-Err-clause-goes_on g c session own = rw c.in-Err.ensures.items (stops_before _ _ _ _)

@@ -1,0 +1,119 @@
+-- Rows in columns to which values are added.
+use Rattle.std.proofs.Common.{◌≡◌, ℕ, zero, suc, ◌+◌, ◌<◌, ◌≤◌, List, [], ◌∷◌, ◌++◌, length, get_or, set, take, refl, sym, ap, ◌∙◌, subst, arith, add-one, ◌⊎◌, inl, inr, Result, Ok, Err, IfOk}
+use Rattle.std.proofs.lemmas.List.{get_or_append_left, get_or_push}
+use Rattle.std.proofs.lemmas.Bool.{cases_lt}
+use Rattle.cell_values.specs.declared.memory.Memory.{Memory}
+use Rattle.std.specs.Prelude.{slice_index_or}
+use Rattle.cell_values.specs.declared.datum.Datum.{Datum}
+use Rattle.cell_values.specs.declared.datum.Datum.TheVariants.{Null}
+use Rattle.array_rows.specs.RowsIn.{row_at, rows_in, pushed, AreLong}
+
+pub length_more : {A : Type 0} (xs : List A) (x : A) → length (xs ++ x ∷ []) ≡ suc (length xs)
+length_more [] x = refl
+length_more (y ∷ xs) x = ap suc (length_more xs x)
+
+-- columns of which some have a value more
+pub none_pushed : (cs : List (List Datum)) → pushed cs [] ≡ cs
+none_pushed [] = refl
+none_pushed (c ∷ cs) = refl
+
+pub length_pushed : (cs : List (List Datum)) (vs : List Datum) → length (pushed cs vs) ≡ length cs
+length_pushed [] vs = refl
+length_pushed (c ∷ cs) [] = refl
+length_pushed (c ∷ cs) (v ∷ vs) = ap suc (length_pushed cs vs)
+
+pub push_more : (cs : List (List Datum)) (vs : List Datum) (i : ℕ) (v : Datum) → i < length vs → v ≡ get_or vs i Null
+    → set (pushed cs (take i vs)) i (get_or (pushed cs (take i vs)) i [] ++ v ∷ []) ≡ pushed cs (take (suc i) vs)
+push_more cs [] i v l e = absurd (omega arith)
+push_more [] (w ∷ vs) zero v l e = refl
+push_more [] (w ∷ vs) (suc i) v l e = refl
+push_more (c ∷ cs) (w ∷ vs) zero v l e = ap (λ u. (c ++ u ∷ []) ∷ cs) e ∙ ap (λ (ds : List (List Datum)). (c ++ w ∷ []) ∷ ds) (sym (none_pushed cs))
+push_more (c ∷ cs) (w ∷ vs) (suc i) v l e = ap (λ (ds : List (List Datum)). (c ++ w ∷ []) ∷ ds) (push_more cs vs i v (omega arith) e)
+
+pub push_step : (cs now then : List (List Datum)) (vs : List Datum) (i : ℕ) (v : Datum) → i < length vs → v ≡ get_or vs i Null
+    → now ≡ pushed cs (take i vs) → then ≡ set now i (get_or now i [] ++ v ∷ []) → then ≡ pushed cs (take (i + 1) vs)
+push_step cs now then vs i v l e f g = g ∙ ap (λ ds. set ds i (get_or ds i [] ++ v ∷ [])) f ∙ push_more cs vs i v l e ∙ ap (λ n. pushed cs (take n vs)) (sym (add-one i))
+
+-- an earlier row stays
+pub row_before : (k n : ℕ) (cs : List (List Datum)) (vs : List Datum) → k < n → AreLong n cs → row_at k (pushed cs vs) ≡ row_at k cs
+row_before k n [] vs l h = refl
+row_before k n (c ∷ cs) [] l h = refl
+row_before k n (c ∷ cs) (v ∷ vs) l h =
+    let e : slice_index_or (c ++ v ∷ []) k Null ≡ slice_index_or c k Null = get_or_append_left c (v ∷ []) Null k (let f = h.0 in omega arith) in
+    let f = row_before k n cs vs l h.1 in cc
+
+pub rows_before : (m n : ℕ) (cs : List (List Datum)) (vs : List Datum) → m ≤ n → AreLong n cs → rows_in m (pushed cs vs) ≡ rows_in m cs
+rows_before zero n cs vs l h = refl
+rows_before (suc m) n cs vs l h =
+    let e = rows_before m n cs vs (omega arith) h in
+    let f = row_before m n cs vs (omega arith) h in cc
+
+-- the new row
+pub row_new : (n : ℕ) (cs : List (List Datum)) (vs : List Datum) → AreLong n cs → length cs ≡ length vs → row_at n (pushed cs vs) ≡ vs
+row_new n [] [] h e = refl
+row_new n [] (v ∷ vs) h e = cc
+row_new n (c ∷ cs) [] h e = cc
+row_new n (c ∷ cs) (v ∷ vs) h e =
+    let f : slice_index_or (c ++ v ∷ []) n Null ≡ v = get_or_push c v Null n h.0 in
+    let s : length cs ≡ length vs = cc in
+    let g = row_new n cs vs h.1 s in cc
+
+pub long_pushed : (n : ℕ) (cs : List (List Datum)) (vs : List Datum) → AreLong n cs → length cs ≡ length vs → AreLong (suc n) (pushed cs vs)
+long_pushed n [] [] h e = tt
+long_pushed n [] (v ∷ vs) h e = cc
+long_pushed n (c ∷ cs) [] h e = cc
+long_pushed n (c ∷ cs) (v ∷ vs) h e =
+    let s : length cs ≡ length vs = cc in
+    (length_more c v ∙ ap suc h.0, long_pushed n cs vs h.1 s)
+
+pub rows_pushed : (n : ℕ) (cs : List (List Datum)) (vs : List Datum) → AreLong n cs → length cs ≡ length vs → rows_in (suc n) (pushed cs vs) ≡ rows_in n cs ++ vs ∷ []
+rows_pushed n cs vs h e =
+    let f = rows_before n n cs vs (omega arith) h in
+    let g = row_new n cs vs h e in cc
+
+pub long_more : (n : ℕ) (cs : List (List Datum)) (c : List Datum) → AreLong n cs → length c ≡ n → AreLong n (cs ++ c ∷ [])
+long_more n [] c h e = (e, tt)
+long_more n (d ∷ cs) c h e = (h.0, long_more n cs c h.1 e)
+
+pub length_rows : (n : ℕ) (cs : List (List Datum)) → length (rows_in n cs) ≡ n
+length_rows zero cs = refl
+length_rows (suc n) cs = length_more (rows_in n cs) (row_at n cs) ∙ ap suc (length_rows n cs)
+
+-- the row at a place
+pub row_got : (k n : ℕ) (cs : List (List Datum)) → k < n → get_or (rows_in n cs) k [] ≡ row_at k cs
+row_got k zero cs l = absurd (omega arith)
+row_got k (suc n) cs l = cases (λ f. row_got k n cs f) (cases_lt k n)
+  where
+    cases : (k < n → get_or (rows_in n cs) k [] ≡ row_at k cs) → k < n ⊎ n ≤ k → get_or (rows_in n cs ++ row_at n cs ∷ []) k [] ≡ row_at k cs
+    cases before (inl f) =
+        get_or_append_left (rows_in n cs) (row_at n cs ∷ []) [] k (let g = length_rows n cs in omega arith) ∙ before f
+    cases before (inr g) =
+        let f : k ≡ n = omega arith in
+        get_or_push (rows_in n cs) (row_at n cs) [] k (length_rows n cs ∙ sym f) ∙ ap (λ m. row_at m cs) (sym f)
+
+pub row_told : (k n : ℕ) (cs columns now : List (List Datum)) → rows_in n cs ≡ now → columns ≡ cs → k < length now → get_or now k [] ≡ row_at k columns
+row_told k n cs columns now v s l =
+    let m : k < n = let a = length_rows n cs in let b = ap length v in omega arith in
+    ap (λ rows. get_or rows k []) (sym v) ∙ row_got k n cs m ∙ ap (λ x. row_at k x) (sym s)
+
+pub row_found : (k n : ℕ) (cs columns now : List (List Datum)) (r : Result (List Datum) Memory) → rows_in n cs ≡ now → columns ≡ cs → k < length now
+    → IfOk r (λ values. values ≡ row_at k columns) → IfOk r (λ row. row ≡ get_or now k [])
+row_found k n cs columns now (Err e) v s l h = tt
+row_found k n cs columns now (Ok row) v s l h = h ∙ sym (row_told k n cs columns now v s l)
+
+-- what a row more makes
+pub room_for : (cs now : List (List Datum)) (vs : List Datum) (k n : ℕ) → now ≡ pushed cs (take k vs) → length cs ≡ n → k < n → k < length now
+room_for cs now vs k n e f l = subst (λ m. k < m) (sym (ap length e ∙ length_pushed cs (take k vs) ∙ f)) l
+
+pub long_added : (n next : ℕ) (cs ds : List (List Datum)) (vs : List Datum) → next ≡ n + 1 → ds ≡ pushed cs vs → AreLong n cs → length cs ≡ length vs → AreLong next ds
+long_added n next cs ds vs e f h l = subst (λ m. AreLong m ds) (sym (e ∙ add-one n)) (subst (AreLong (suc n)) (sym f) (long_pushed n cs vs h l))
+
+pub rows_added : (n next : ℕ) (cs ds old now : List (List Datum)) (vs : List Datum) → next ≡ n + 1 → ds ≡ pushed cs vs → AreLong n cs → length cs ≡ length vs
+    → rows_in n cs ≡ rows_in n old → rows_in n old ≡ now → rows_in next ds ≡ now ++ vs ∷ []
+rows_added n next cs ds old now vs e f h l same v =
+    ap (λ m. rows_in m ds) (e ∙ add-one n) ∙ ap (rows_in (suc n)) f ∙ rows_pushed n cs vs h l ∙ ap (λ rows. rows ++ vs ∷ []) (same ∙ v)
+
+pub place_read : (cs : List (List Datum)) (i k : ℕ) (c : List Datum) (v : Datum) → i < length cs → c ≡ get_or cs i c → v ≡ get_or c k Null → v ≡ get_or (row_at k cs) i Null
+place_read [] i k c v l e f = absurd (omega arith)
+place_read (d ∷ cs) zero k c v l e f = f ∙ ap (λ x. get_or x k Null) e
+place_read (d ∷ cs) (suc i) k c v l e f = place_read cs i k c v (omega arith) e f

@@ -1,0 +1,182 @@
+//! Rows of values, in columns.
+ghost use Rattle.std.specs.Prelude.{◌≡◌, ◌<◌, true, [], ◌∷◌, ◌++◌, length, map, cond, slice_index_or, OnOk, IfOk, IfSome};
+ghost use Rattle.cell_values.specs.declared.datum.Datum.TheVariants.{Null, Int};
+ghost use Rattle.array_rows.specs.CellFaults.{fault_of_values};
+ghost use Rattle.array_rows.specs.RowsIn.{rows_in, AreLong};
+ghost use Rattle.array_rows.specs.Seen.{seen};
+
+use crate::columns::{Column, Small};
+use crate::columns::faults::fault_in;
+use crate::columns::filling::{
+    copy_columns, empty_columns, number_in, push_each, push_place, small_in, values_at,
+};
+use cell_values::{Datum, FaultKind, List, Memory};
+use std::alloc::Global;
+use std::marker::Model;
+
+/// Rows of values. Contracts see the list of them; each place of a row has a column.
+#[derive(Drop)]
+pub struct Rows {
+    count: usize,
+    columns: Vec<Column>,
+}
+
+impl Model for Rows {
+    ghost use Rattle.std.specs.Prelude.{List as Items};
+    ghost use Rattle.cell_values.specs.declared.datum.Datum.{Datum as Value_of_cell};
+
+    ghost Value = { Items (Items Value_of_cell) };
+
+    ghost use Rattle.array_rows.specs.RowsIn.{rows_in, AreLong};
+
+    ghost view = { λ rows. rows_in rows.count rows.columns.items };
+
+    ghost invariant = { λ rows. AreLong rows.count rows.columns.items };
+}
+
+/// Whether a row of this width has its columns. Where there is no row yet, they are made.
+fn fit(columns: &mut Vec<Column>, count: usize, width: usize) -> Result<bool, Memory>
+    requires { AreLong count columns.old.items }
+    ensures long { AreLong count columns.new.items }
+    ensures rows { rows_in count columns.new.items ≡ rows_in count columns.old.items }
+    ensures width { IfOk result (λ fits. fits ≡ true → length columns.new.items ≡ width) }
+{
+    if columns.len() == width {
+        return Ok(true);
+    }
+    if count != 0 {
+        return Ok(false);
+    }
+    let made = empty_columns(*columns.allocator(), width)?;
+    *columns = made;
+    Ok(true)
+}
+
+impl Rows {
+    /// No rows.
+    pub fn new(alloc: Global) -> Rows
+        ensures { result ≡ [] }
+    {
+        Rows {
+            count: 0,
+            columns: Vec::new(alloc),
+        }
+    }
+
+    /// The rows of columns that each have so many values.
+    pub fn from_columns(columns: Vec<Column>, count: usize) -> Rows
+        requires { AreLong count columns.items }
+        ensures { result ≡ rows_in count columns.items }
+    {
+        Rows { count, columns }
+    }
+
+    /// How many rows there are.
+    pub fn len(&self) -> usize
+        ensures { result ≡ length self.now }
+    {
+        self.count
+    }
+
+    /// The row at a place.
+    pub fn row(&self, k: usize) -> Result<List<Datum>, Memory>
+        requires { k < length self.now }
+        ensures { IfOk result (λ row. row ≡ slice_index_or self.now k []) }
+    {
+        values_at(*self.columns.allocator(), self.columns.as_slice(), k)
+    }
+
+    /// An equal value.
+    pub fn copy(&self) -> Result<Rows, Memory>
+        ensures { IfOk result (λ copy. copy ≡ self.now) }
+    {
+        let columns = copy_columns(*self.columns.allocator(), self.columns.as_slice())?;
+        Ok(Rows {
+            count: self.count,
+            columns,
+        })
+    }
+
+    /// Adds a row, where it is as wide as the rows before. Where memory fails no row may be left.
+    pub fn push(&mut self, values: &[Datum]) -> Result<bool, Memory>
+        ensures { IfOk result (λ taken. self.new ≡ cond taken (self.old ++ values.now ∷ []) self.old) }
+    {
+        if !fit(&mut self.columns, self.count, values.len())? {
+            return Ok(false);
+        }
+        let Some(next) = self.count.checked_add(1) else {
+            return Err(Memory);
+        };
+        match push_each(&mut self.columns, values) {
+            Ok(()) => {
+                self.count = next;
+                Ok(true)
+            }
+            Err(error) => {
+                self.columns.clear();
+                self.count = 0;
+                Err(error)
+            }
+        }
+    }
+
+    /// Adds a row of others, where it is as wide as the rows before. Where memory fails no row may be left.
+    pub fn push_row(&mut self, from: &Rows, k: usize) -> Result<bool, Memory>
+        requires { k < length from.now }
+        ensures { IfOk result (λ taken. self.new ≡ cond taken (self.old ++ slice_index_or from.now k [] ∷ []) self.old) }
+    {
+        if !fit(&mut self.columns, self.count, from.columns.len())? {
+            return Ok(false);
+        }
+        let Some(next) = self.count.checked_add(1) else {
+            return Err(Memory);
+        };
+        match push_place(&mut self.columns, from.columns.as_slice(), k) {
+            Ok(()) => {
+                self.count = next;
+                Ok(true)
+            }
+            Err(error) => {
+                self.columns.clear();
+                self.count = 0;
+                Err(error)
+            }
+        }
+    }
+
+    /// The value in a place of a row, where it is a number or a truth.
+    pub fn small(&self, place: usize, k: usize) -> Small
+        requires { k < length self.now }
+        ensures { result ≡ seen (slice_index_or (slice_index_or self.now k []) place Null) }
+    {
+        small_in(self.columns.as_slice(), place, k)
+    }
+
+    /// The number in a place of a row, where it is one.
+    pub fn number(&self, place: usize, k: usize) -> Option<i64>
+        requires { k < length self.now }
+        ensures { IfSome result (λ number. slice_index_or (slice_index_or self.now k []) place Null ≡ Int number) }
+    {
+        number_in(self.columns.as_slice(), place, k)
+    }
+
+    /// The first fault among the values of a row.
+    pub fn fault(&self, k: usize) -> Option<FaultKind>
+        requires { k < length self.now }
+        ensures { result ≡ fault_of_values (slice_index_or self.now k []) }
+    {
+        fault_in(self.columns.as_slice(), k)
+    }
+
+    /// The values in a place of all rows, where they are kept as numbers.
+    pub fn numbers(&self, place: usize) -> Option<&[i64]>
+        ensures { IfSome result (λ numbers. map (λ row. slice_index_or row place Null) self.now ≡ map Int numbers.now) }
+    {
+        let columns = self.columns.as_slice();
+        if place < columns.len() {
+            columns[place].numbers()
+        } else {
+            None
+        }
+    }
+}

@@ -1,5 +1,0 @@
-use Rattle.std.proofs.Common.{length}
-use Rattle.cell_columns.proofs.faults.+fault_in.Given as goal
-
-abbrev pub decreases-fault_in : goal.decreases-fault_in
-decreases-fault_in l = length l.columns.now

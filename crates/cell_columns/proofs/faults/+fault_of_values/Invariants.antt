@@ -1,5 +1,0 @@
-use Rattle.std.proofs.Common.{length}
-use Rattle.cell_columns.proofs.faults.+fault_of_values.Given as goal
-
-abbrev pub decreases-fault_of_values : goal.decreases-fault_of_values
-decreases-fault_of_values l = length l.values.now

@@ -1,7 +1,0 @@
-use Rattle.std.proofs.Common.{sym, ap, ◌∙◌}
-use Rattle.cell_columns.specs.CellFaults.{fault_of_values}
-use Rattle.cell_columns.proofs.RowLaws.{row_told}
-use Rattle.cell_columns.proofs.rows.Rows.fault.Goals as goal
-
-pub returns : goal.returns
-returns c = c.fault_in.ensures ∙ ap fault_of_values (sym (row_told c.args.k c.self.inside.count c.self.inside.columns.items _ _ c.self.view_is c.as_slice.ensures.value c.requires))

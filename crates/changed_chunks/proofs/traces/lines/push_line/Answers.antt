@@ -1,0 +1,18 @@
+use Rattle.std.proofs.Common.{List, ℕ, ap, ◌∙◌}
+use Rattle.arrayvec.specs.ArrayVec.{ArrayVec}
+use Rattle.array_geom.specs.Geometry.{core_meets}
+use Rattle.changed_chunks.specs.Listed.{chunks_among}
+use Rattle.changed_chunks.specs.Traced.{asking_where}
+use Rattle.changed_chunks.proofs.Counting.{told_asking}
+use Rattle.changed_chunks.proofs.Tracing.{adds_one}
+use Rattle.changed_chunks.proofs.traces.lines.push_line.Goals as goal
+
+pub returns-clause-line : goal.returns-clause-line
+returns-clause-line g c =
+    let leaf = c.args.leaf.now in
+    let area = c.args.area.now in
+    let dims = leaf.schema.dimensions in
+    let asks = c.in_ok-asking.ensures ∙ ap (λ (z : List (ArrayVec ℕ)). asking_where (core_meets dims area) (chunks_among dims z)) c.as_slice.ensures in
+    adds_one (g.S.ChunkSource.state c.args.source.now) leaf area c.args.lines.now c.write_line.new.out c.in_ok-asking.asking c.in_ok-write_line.ensures
+    (asks ∙ ap (λ (z : List (ArrayVec ℕ)). asking_where (core_meets dims area) (chunks_among dims z)) c.in_ok-listed.ensures.listed)
+    (λ db tells. asks ∙ told_asking db leaf c.in_ok-listed.listed area c.requires.valid c.in_ok-listed.ensures.rising (c.in_ok-listed.ensures.told db tells))

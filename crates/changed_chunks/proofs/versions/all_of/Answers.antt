@@ -1,5 +1,0 @@
-use Rattle.changed_chunks.proofs.Written.{all_written}
-use Rattle.changed_chunks.proofs.versions.all_of.Goals as goal
-
-pub returns : goal.returns
-returns c = all_written c.args.array c.requires

@@ -1,0 +1,9 @@
+//! The chunks that a change writes.
+
+mod changing;
+mod input;
+mod target;
+mod versions;
+mod wanted;
+
+pub use changing::changed;

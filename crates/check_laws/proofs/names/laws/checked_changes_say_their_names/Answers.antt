@@ -1,8 +1,0 @@
-use Rattle.check_laws.proofs.Saying.{changes_say, changes_stay}
-use Rattle.check_laws.proofs.names.laws.checked_changes_say_their_names.Goals as goal
-
-pub returns-clause-names : goal.returns-clause-names
-returns-clause-names c = changes_say
-
-pub returns-clause-stay : goal.returns-clause-stay
-returns-clause-stay c = changes_stay

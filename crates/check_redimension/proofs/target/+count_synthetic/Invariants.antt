@@ -1,5 +1,0 @@
-use Rattle.std.proofs.Common.{length}
-use Rattle.check_redimension.proofs.target.+count_synthetic.Given as goal
-
-abbrev pub decreases-count_synthetic : goal.decreases-count_synthetic
-decreases-count_synthetic l = length l.dimensions.now

@@ -1,6 +1,0 @@
-use Rattle.std.proofs.Common.{◌∙◌, sym}
-use Rattle.check_redimension.proofs.Origins.{among_attributes}
-use Rattle.check_redimension.proofs.target.has_attribute.Goals as goal
-
-pub returns : goal.returns
-returns c = c.any_attribute.ensures ∙ sym (among_attributes c.args.name.now c.args.attributes.now)

@@ -1,0 +1,6 @@
+//! The parts of `redimension` besides its source.
+
+mod redimension;
+mod target;
+
+pub use redimension::{Redimensioned, redimension_parts};

@@ -1,5 +1,0 @@
-use Rattle.std.proofs.Common.{length}
-use Rattle.command_words.proofs.forms.+read_settings.Given as goal
-
-abbrev pub decreases-read_settings : goal.decreases-read_settings
-decreases-read_settings l = length l.words.now

@@ -1,5 +1,0 @@
-use Rattle.command_words.proofs.laws.faults_are_unique.Goals as goal
-use Rattle.command_words.proofs.Answering.{one_place}
-
-pub returns : goal.returns
-returns c = one_place

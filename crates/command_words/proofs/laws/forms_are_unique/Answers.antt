@@ -1,5 +1,0 @@
-use Rattle.command_words.proofs.laws.forms_are_unique.Goals as goal
-use Rattle.command_words.proofs.Answering.{one_form}
-
-pub returns : goal.returns
-returns c = one_form

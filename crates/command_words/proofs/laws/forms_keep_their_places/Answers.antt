@@ -1,5 +1,0 @@
-use Rattle.command_words.proofs.laws.forms_keep_their_places.Goals as goal
-use Rattle.command_words.proofs.PlaceLaws.{keep_places}
-
-pub returns : goal.returns
-returns c = keep_places

@@ -1,5 +1,0 @@
-use Rattle.command_words.proofs.laws.worked_words.Goals as goal
-use Rattle.command_words.proofs.Answering.{worked}
-
-pub returns : goal.returns
-returns c = worked

@@ -1,5 +1,0 @@
-use Rattle.event_laws.proofs.Pins.{open_pins_are_these, core_pins_are_these}
-use Rattle.event_laws.proofs.laws.open_pins_are_these.Goals as goal
-
-pub returns : goal.returns
-returns c = record { history = open_pins_are_these; core = core_pins_are_these }

@@ -1,8 +1,0 @@
-//! Laws of what is computed: what typed plans mean are arrays.
-#![tactic(auto)]
-
-mod computed;
-mod plans;
-
-pub use computed::computed_plans_mean_arrays;
-pub use plans::typed_plans_mean_arrays;

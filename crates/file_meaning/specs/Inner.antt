@@ -1,0 +1,3 @@
+pub mod FileExample
+pub mod NextExample
+pub mod Removed

@@ -1,5 +1,0 @@
-use Rattle.found_costs.proofs.Over.{directories_are_of_rows}
-use Rattle.found_costs.proofs.found_directories_are_of_their_rows.Goals as goal
-
-pub returns : goal.returns
-returns c = directories_are_of_rows c.found_directories_rise.ensures

@@ -1,3 +1,0 @@
-pub mod NumberedLaws
-pub mod SufficientLaws
-mod Worked

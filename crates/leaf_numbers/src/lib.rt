@@ -1,6 +1,0 @@
-//! Plans whose leaves are told apart by their numbers, and what of each leaf suffices.
-#![tactic(auto)]
-
-mod laws;
-
-pub use laws::{known_rows_suffice, numbered_plans_mean_the_same};

@@ -1,5 +1,0 @@
-use Rattle.next_files.proofs.Seen.{had_seen, later_unseen, replacing_unseen}
-use Rattle.next_files.proofs.entries_are_seen.Goals as goal
-
-pub returns : goal.returns
-returns c = record { had = had_seen; later = later_unseen; replacing = replacing_unseen }

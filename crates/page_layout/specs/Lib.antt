@@ -1,4 +1,0 @@
-pub mod Logs
-pub mod Opens
-pub mod Places
-pub mod Roots

@@ -1,7 +1,0 @@
-use Rattle.std.proofs.Common.{◌≡◌}
-use Rattle.plan_traces.proofs.Tracing.{HasTraced}
-use Rattle.plan_traces.proofs.lines.push_lines.Given as goal
-
-abbrev pub invariant-loop-place : goal.invariant-loop-place
-invariant-loop-place g l =
-    HasTraced (g.S.ChunkSource.state l.fn.source) (g.S.ChunkSource.state l.source) l.leaves l.boxes l.place l.fn.lines l.lines × (g.S.ChunkSource.start l.source ≡ g.S.ChunkSource.start l.fn.source)

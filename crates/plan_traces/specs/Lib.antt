@@ -1,4 +1,0 @@
-pub mod Inner
-pub mod Line
-pub mod Listed
-pub mod Traced

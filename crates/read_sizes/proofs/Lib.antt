@@ -1,4 +1,0 @@
-pub mod Directories
-pub mod Payloads
-pub mod Runs
-pub mod Takes

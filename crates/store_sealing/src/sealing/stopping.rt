@@ -1,0 +1,62 @@
+//! What was prepared, where writing it stopped.
+ghost use Rattle.std.specs.Prelude.{◌≡◌, IsTrue};
+ghost use Rattle.event_core.specs.Allowed.{is_pinned};
+ghost use Rattle.store_ledger.specs.Ledger.{history};
+ghost use Rattle.store_sealing.specs.Steps.{doubt_after};
+ghost use Rattle.store_sealing.specs.Inner.Ends.{noted_if};
+
+use crate::sealing::settling::note_if;
+use commit_writes::Stopped;
+use plan_changes::Change;
+use prepared_commits::Prepared;
+use store_ledger::Ledger;
+
+/// The change in doubt: that of an earlier commit, none, or this one.
+fn put_doubt(doubt: &mut Option<Change>, change: Change, stage: Stopped)
+    ensures { doubt.new ≡ doubt_after stage doubt.old change }
+{
+    match stage {
+        Stopped::Closing => drop(change),
+        Stopped::Filling => {
+            drop(change);
+            drop(doubt.take());
+        }
+        Stopped::Opening => drop(doubt.replace(change)),
+    }
+}
+
+/// The change of what was prepared. The rest goes.
+fn change_of(prepared: Prepared) -> Change
+    ensures { result ≡ prepared.commit.change }
+{
+    let Prepared {
+        session: _,
+        blobs,
+        chain,
+        base: _,
+        catalog,
+        commit,
+        version,
+    } = prepared;
+    drop(blobs);
+    drop(chain);
+    drop(catalog);
+    drop(version);
+    commit.into_change()
+}
+
+/// The change in doubt, and the note of a fault where a count rose.
+pub(crate) fn stop(
+    ledger: &mut Ledger,
+    doubt: &mut Option<Change>,
+    prepared: Prepared,
+    stage: Stopped,
+    rose: bool,
+)
+    requires { IsTrue (is_pinned prepared.session (history ledger.old)) }
+    ensures doubt { doubt.new ≡ doubt_after stage doubt.old prepared.commit.change }
+    ensures ledger { ledger.new ≡ noted_if rose prepared.session ledger.old }
+{
+    note_if(ledger, prepared.session, rose);
+    put_doubt(doubt, change_of(prepared), stage);
+}

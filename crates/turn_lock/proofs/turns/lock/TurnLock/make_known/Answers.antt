@@ -1,0 +1,12 @@
+use Rattle.std.proofs.Common.{rules, ◌∙◌, ap, sym, subst, length, ◌<◌, ◌^◌}
+use Rattle.turn_lock.proofs.OneClaim.{one_claim, grown}
+use Rattle.turn_lock.proofs.Steps.{counts}
+use Rattle.turn_lock.proofs.turns.lock.TurnLock.make_known.Goals as goal
+
+pub fetch_add-requires : goal.fetch_add-requires
+fetch_add-requires g c = let h = g.V.History in let turn = c.requires.seat.1 in let count = c.count.ensures ∙ ap length (sym c.requires.hand) in (
+  search rules,
+  search rules,
+  counts h.origin h.entries h.owner _ _ _ _ c.args.seat.now.seat.me g.H.InHand.entries _ _ _ turn.0.0 (one_claim c.args.seat.now.seat.me.0.claims c.args.seat.now.one) c.requires.entries
+      (grown h.owner _ _ _ _ _ c.requires.entries turn.1 count) (subst (λ n. n < 2 ^ 64) count (search rules)),
+)
