@@ -15,8 +15,8 @@ ghost use Rattle.commit_writes.specs.Commits.{root_of, base_pages, commit_pages,
 ghost use Rattle.commit_writes.specs.Moments.{HasBase, IsKnown, LeavesOne, MakesBase, MayHaveBase, PassesBy, Rereads, StaysKnown, StopsBase};
 ghost use Rattle.commit_writes.specs.Inner.Going.{Goes};
 
-use crate::{Placed, Stopped};
 use crate::pages::{close, write_pages};
+use crate::{Placed, Stopped};
 use afl_outside::{Disk, Failed};
 use page_file::PageFile;
 

@@ -14,8 +14,8 @@ ghost use Rattle.commit_writes.specs.Commits.{record_of, commit_pages, IsBlobSiz
 ghost use Rattle.commit_writes.specs.Moments.{AddsRecord, HasRecord, IsKnown, LeavesOne, PassesBy, Rereads, StaysKnown, StopsRecord};
 ghost use Rattle.commit_writes.specs.Inner.Going.{Goes};
 
-use crate::{Placed, Stopped};
 use crate::pages::{close, write_pages};
+use crate::{Placed, Stopped};
 use afl_outside::{Disk, Failed};
 use page_file::PageFile;
 

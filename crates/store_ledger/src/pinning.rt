@@ -7,8 +7,8 @@ ghost use Rattle.lean_core.specs.Replay.{core_after};
 ghost use Rattle.store_ledger.specs.Ledger.{IsOpenPin, IsRefused, has_room, history, is_noted, with_entries};
 ghost use Rattle.store_ledger.specs.declared.note.NoteKind.{NoteKind};
 
-use crate::{Ledger, Note, PinFault, Pinned};
 use crate::noting::reserved_under;
+use crate::{Ledger, Note, PinFault, Pinned};
 use cell_values::Memory;
 use lean_core::{Entry, LeanCore};
 

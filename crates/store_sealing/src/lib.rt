@@ -11,8 +11,8 @@ pub use cells::{
     sealed_cells_are_held, stopped_cells_are_held,
 };
 pub use images::{
-    a_store_may_be_written, found_versions_lie, images_have_stood, images_stand, laid_commits_stand,
-    moments_go_on, next_images, opening_images, unopened_images,
+    a_store_may_be_written, found_versions_lie, images_have_stood, images_stand,
+    laid_commits_stand, moments_go_on, next_images, opening_images, unopened_images,
 };
 pub use sealing::seal;
 pub use steps::{a_commit_is_ready, sealed_stores_are_kept, stopped_stores_are_kept};

@@ -17,8 +17,8 @@ ghost use Rattle.store_state.specs.Standings.{database_at, BeganAs};
 ghost use Rattle.store_state.specs.Inner.Sights.{Sees, SeesCells, SeesPayloads};
 ghost use Rattle.store_state.specs.declared.fault.ReadFault.TheVariants.{Damaged};
 
-use crate::{ReadFault, StoreParts};
 use crate::reading::{entry_at, read_entry};
+use crate::{ReadFault, StoreParts};
 use afl_outside::{Disk, has_risen};
 use array_geom::Chunk;
 use cell_values::ChunkAt;

@@ -7,8 +7,8 @@ ghost use Rattle.store_versions.specs.Rows.{new_row, rows_after, HasNext, IsRead
 ghost use Rattle.store_versions.specs.Seen.{seen};
 ghost use Rattle.store_versions.specs.Versions.{directory_of};
 
-use crate::{ReadyVersion, Room, VersionRow};
 use crate::first::first_rows;
+use crate::{ReadyVersion, Room, VersionRow};
 use cell_values::{List, Memory, Name};
 use chunk_map::Directory;
 use lean_core::{Change, LeanPin, Names};

@@ -5,11 +5,11 @@ ghost use Rattle.array_rows.specs.CellFaults.{fault_of_values};
 ghost use Rattle.array_rows.specs.RowsIn.{rows_in, AreLong};
 ghost use Rattle.array_rows.specs.Seen.{seen};
 
-use crate::columns::{Column, Small};
 use crate::columns::faults::fault_in;
 use crate::columns::filling::{
     copy_columns, empty_columns, number_in, push_each, push_place, small_in, values_at,
 };
+use crate::columns::{Column, Small};
 use cell_values::{Datum, FaultKind, List, Memory};
 use std::alloc::Global;
 use std::marker::Model;

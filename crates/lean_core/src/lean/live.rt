@@ -5,8 +5,8 @@ ghost use Rattle.version_reaper.specs.PageSets.{holds, pages_below};
 ghost use Rattle.event_core.specs.Replay.{is_core_live, is_core_awaiting};
 ghost use Rattle.lean_core.specs.Rows.{is_needed};
 
-use crate::lean::{LeanCore, LeanPin};
 use crate::lean::row::Row;
+use crate::lean::{LeanCore, LeanPin};
 use cell_values::{List, Memory};
 use version_reaper::{PageSet, free_of};
 

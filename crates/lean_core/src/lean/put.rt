@@ -8,9 +8,9 @@ ghost use Rattle.event_core.specs.Ready.{IsReadyOver};
 ghost use Rattle.event_core.specs.Replay.{core_after};
 ghost use Rattle.lean_core.specs.Rows.{rows_after};
 
-use crate::lean::{LeanCore, LeanReady};
 use crate::lean::row::Row;
 use crate::lean::rows::{add_last, end_array, end_below};
+use crate::lean::{LeanCore, LeanReady};
 use cell_values::List;
 use event_core::{Core, VersionPages};
 use plan_changes::Change;

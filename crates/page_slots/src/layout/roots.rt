@@ -3,8 +3,8 @@ ghost use Rattle.std.specs.Prelude.{◌≡◌, ◌≤◌, ◌<◌, ◌+◌, ◌+
 ghost use Rattle.byteorder.specs.Endian.{little_bytes};
 ghost use Rattle.page_slots.specs.Roots.{has_front, root_at, slot_in, newer, current};
 
-use crate::layout::{Format, PAGE, Side};
 use crate::layout::fields::{u32_in, u64_in};
+use crate::layout::{Format, PAGE, Side};
 use byteorder::{ByteOrder, LittleEndian};
 
 /// What a root slot's body says: the database's sequence, and the catalogue's length and first page. `log` is the log

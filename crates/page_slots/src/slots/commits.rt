@@ -11,8 +11,8 @@ ghost use Rattle.page_slots.specs.declared.slots.slots.NextEntry.TheVariants as 
 ghost use Rattle.page_slots.specs.declared.slots.slots.Target.TheVariants as targets;
 
 use crate::layout::{RecordAt, Root, record_body, root_body};
-use crate::slots::{NextEntry, RootSlot, Slots, Target};
 use crate::slots::puts::{put, settle};
+use crate::slots::{NextEntry, RootSlot, Slots, Target};
 use afl_outside::{Disk, Failed};
 
 /// Writes the body of the root slot that isn't current.
