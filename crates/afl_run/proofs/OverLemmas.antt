@@ -12,7 +12,7 @@ use Rattle.run_stores.specs.Starts.{start_of}
 use Rattle.page_chain.proofs.RunLemmas.{goes}
 use Rattle.page_slots.specs.Puts.{OnlySyncs}
 use Rattle.turn_lock.specs.Owners.{AreOwnedBelow, ExtendsByOthers, is_owned_below, none_of}
-use Rattle.store_opening.specs.declared.opening.Limits.{Limits}
+use Rattle.store_opening.specs.declared.opening.opening.Limits.{Limits}
 use Rattle.store_state.specs.declared.event.Event.{Event}
 use Rattle.store_state.specs.Events.{events, owner_of}
 use Rattle.store_state.specs.Standings.{BeganAs, Standing}

@@ -11,7 +11,7 @@ use Rattle.file_meaning.proofs.Made.{made_stands, opened_is}
 use Rattle.file_meaning.specs.Opening.{IsWrongAt}
 use Rattle.page_file.specs.Start.{IsEmptyDatabase}
 use Rattle.plan_changes.specs.Databases.{Database}
-use Rattle.store_opening.specs.declared.opening.Limits.{Limits}
+use Rattle.store_opening.specs.declared.opening.opening.Limits.{Limits}
 use Rattle.store_state.specs.Standings.{BeganAs, Standing}
 use Rattle.run_opening.specs.Names.{Word, reply_name, standard, stream_names}
 use Rattle.run_opening.specs.Opened.{AreOpenedFor, FailsToOpen, HandsOut, HandsOutSome, IsOpenedFor, IsUnopened, LeavesUnasked, StopsAt}

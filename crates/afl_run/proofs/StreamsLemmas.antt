@@ -12,7 +12,7 @@ use Rattle.run_stores.specs.Starts.{start_of}
 use Rattle.event_core.specs.declared.entry.Entry.{Entry}
 use Rattle.file_meaning.specs.Opening.{IsWrongAt}
 use Rattle.turn_lock.specs.Owners.{AreOwnedBelow}
-use Rattle.store_opening.specs.declared.opening.Limits.{Limits}
+use Rattle.store_opening.specs.declared.opening.opening.Limits.{Limits}
 use Rattle.store_state.specs.Standings.{Standing}
 use Rattle.store_state.specs.Events.{events, owner_of}
 use Rattle.run_opening.specs.Names.{Word, reply_name, stream_names}

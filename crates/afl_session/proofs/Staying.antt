@@ -27,8 +27,8 @@ use Rattle.store_state.specs.Calls.{history_at, IsLeafOf}
 use Rattle.store_state.specs.Standings.{base_of}
 use Rattle.told_stores.specs.Causes.{FitsAfter}
 use Rattle.told_stores.specs.Start.{Start}
-use Rattle.told_stores.specs.CommitFault.{CommitFault}
-use Rattle.told_stores.specs.CommitFault.TheVariants as faults
+use Rattle.told_stores.specs.declared.commits.fault.CommitFault.{CommitFault}
+use Rattle.told_stores.specs.declared.commits.fault.CommitFault.TheVariants as faults
 use Rattle.told_stores.specs.Told.{entries_in, is_sealed, told}
 use Rattle.told_stores.proofs.Telling.{entries_in-append}
 use Rattle.afl_session.specs.Acts.{Course, nothing, looking, trying, making}

@@ -35,8 +35,8 @@ use Rattle.store_state.specs.Calls.{database_with, history_at, payload_at, IsLea
 use Rattle.store_state.specs.Payloads.{HasTold, WasDamagedAt}
 use Rattle.store_state.specs.Standings.{base_of, BeganAs}
 use Rattle.told_stores.specs.Start.{Start}
-use Rattle.told_stores.specs.CommitFault.{CommitFault}
-use Rattle.told_stores.specs.CommitFault.TheVariants as faults
+use Rattle.told_stores.specs.declared.commits.fault.CommitFault.{CommitFault}
+use Rattle.told_stores.specs.declared.commits.fault.CommitFault.TheVariants as faults
 use Rattle.told_stores.specs.Causes.{FitsAfter, IsUncommitted}
 use Rattle.told_stores.specs.Told.{entries_in, ledger_of, told}
 use Rattle.afl_session.specs.Acts.{Course, nothing, looking, trying, making}

@@ -14,7 +14,7 @@ use Rattle.store_opening.specs.At.{AreParts, standing}
 use Rattle.store_opening.specs.Standings.{Standing, BeganAs, StandsFor, database_at}
 use Rattle.prepared_commits.specs.declared.commits.prepared.Prepared.{Prepared}
 use Rattle.store_sealing.specs.Steps.{sealed, stopped}
-use Rattle.store_opening.specs.declared.opening.Limits.{Limits}
+use Rattle.store_opening.specs.declared.opening.opening.Limits.{Limits}
 use Rattle.store_opening.specs.Opened.{IsNew}
 
 -- each stands for the database, or for that after the change in doubt

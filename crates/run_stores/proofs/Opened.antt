@@ -6,8 +6,8 @@ use Rattle.page_chain.specs.declared.fault.OpenCause.{OpenCause}
 use Rattle.page_chain.specs.declared.fault.OpenCause.TheVariants as causes
 use Rattle.page_slots.specs.Opens.{OpensAs}
 use Rattle.page_slots.specs.declared.slots.slots.Slots.{Slots}
-use Rattle.store_bases.specs.Bases.{base_core}
-use Rattle.store_opening.specs.declared.opening.Limits.{Limits}
+use Rattle.store_opening.specs.Bases.{base_core}
+use Rattle.store_opening.specs.declared.opening.opening.Limits.{Limits}
 use Rattle.store_opening.specs.Opened.{HasCause, HasFound, IsNew, IsToldBy, WasOpened}
 use Rattle.store_state.specs.declared.parts.StoreParts.{StoreParts}
 use Rattle.store_state.specs.At.{standing}

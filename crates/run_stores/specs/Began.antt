@@ -12,8 +12,8 @@ use Rattle.page_slots.specs.Opens.{OpensAs}
 use Rattle.page_slots.specs.Puts.{OnlySyncs}
 use Rattle.session_reports.specs.declared.notices.Notice.{Notice}
 use Rattle.session_reports.specs.declared.notices.Notice.TheVariants as notices
-use Rattle.store_bases.specs.Bases.{base_core}
-use Rattle.store_opening.specs.declared.opening.Limits.{Limits}
+use Rattle.store_opening.specs.Bases.{base_core}
+use Rattle.store_opening.specs.declared.opening.opening.Limits.{Limits}
 use Rattle.store_opening.specs.Opened.{versions_of}
 
 abbrev pub notice_of_cause : OpenCause → Notice

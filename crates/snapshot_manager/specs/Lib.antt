@@ -3,7 +3,6 @@ pub use Rattle.told_stores.specs.At
 pub use Rattle.told_stores.specs.Calls
 pub use Rattle.told_stores.specs.Causes
 pub use Rattle.told_stores.specs.Changes
-pub use Rattle.told_stores.specs.CommitFault
 pub use Rattle.told_stores.specs.Databases
 pub use Rattle.told_stores.specs.Event
 pub use Rattle.told_stores.specs.Events
@@ -22,5 +21,6 @@ pub use Rattle.told_stores.specs.Tried
 pub use Rattle.told_stores.specs.Tries
 pub use Rattle.told_stores.specs.Turns
 pub use Rattle.told_stores.specs.Worked
+pub use Rattle.told_stores.specs.declared.commits.fault.CommitFault
 pub mod Commits
 pub mod Seats

@@ -1,7 +1,10 @@
+pub mod ApartLaws
 pub mod Lies
+pub mod NamedLaws
 pub mod Names
 pub mod NewStores
 pub mod PageRows
+pub mod PairLaws
 pub mod Parts
 pub mod Payloads
 pub mod Read

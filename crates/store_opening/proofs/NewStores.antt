@@ -18,15 +18,15 @@ use Rattle.commit_writes.specs.Moments.{IsKnown}
 use Rattle.file_meaning.specs.Opening.{found_in, opened}
 use Rattle.file_meaning.specs.Standing.{HoldsDatabase, HoldsFound, Stands}
 use Rattle.file_meaning.specs.declared.meaning.found.Found.{Found}
-use Rattle.store_bases.specs.Reading.{IsFound, LieApart, slots_of}
-use Rattle.store_bases.proofs.Steps.{at_some}
+use Rattle.file_reading.specs.Reading.{IsFound, LieApart, slots_of}
+use Rattle.file_reading.proofs.Steps.{at_some}
 use Rattle.event_core.specs.declared.state.Core.{Core}
 use Rattle.event_core.specs.Legal.{BeginsWithNames}
 use Rattle.laid_commits.specs.RowsLaws.{AreFirst}
 use Rattle.laid_commits.proofs.Opening.{first_rows_are_in_order}
-use Rattle.store_bases.specs.Bases.{base_core}
-use Rattle.store_bases.proofs.ApartLaws.{bases_lie_apart, log_held}
-use Rattle.store_bases.proofs.NamedLaws.{bases_begin, directories_are_counted}
+use Rattle.store_opening.specs.Bases.{base_core}
+use Rattle.store_opening.proofs.ApartLaws.{bases_lie_apart, log_held}
+use Rattle.store_opening.proofs.NamedLaws.{bases_begin, directories_are_counted}
 use Rattle.store_versions.specs.Rows.{first_rows}
 use Rattle.store_versions.proofs.Made.{bases_are_seen, bases_have_directories}
 use Rattle.store_state.specs.Standings.{BeganAs, HaveStood, Standing, base_of, given_of}
@@ -35,7 +35,7 @@ use Rattle.store_state.specs.Cells.{HoldsCells, IsFound as IsFoundBy, IsImage}
 use Rattle.store_state.specs.At.{IsAt}
 use Rattle.store_state.specs.Payloads.{HasPayloads, HasTold, HoldsPayloads}
 use Rattle.store_state.specs.Inner.Keeping.{Keeping, is_opening, is_opening_entry, is_opening_root}
-use Rattle.store_opening.specs.declared.opening.Limits.{Limits}
+use Rattle.store_opening.specs.declared.opening.opening.Limits.{Limits}
 use Rattle.store_opening.specs.Opened.{versions_of}
 use Rattle.store_opening.specs.Inner.Read.{IsOpenFile, new_ledger}
 use Rattle.store_opening.proofs.Lies.{versions_lie}

@@ -12,14 +12,14 @@ use Rattle.page_slots.specs.Standing.{IsSound}
 use Rattle.page_slots.specs.declared.slots.slots.Slots.{Slots}
 use Rattle.page_file.specs.FilesOpened.{OpenFile}
 use Rattle.file_meaning.specs.Opening.{found_in}
-use Rattle.store_bases.specs.Reading.{slots_of}
+use Rattle.file_reading.specs.Reading.{slots_of}
 use Rattle.store_versions.specs.Seen.{version_of}
 use Rattle.store_state.specs.declared.parts.StoreParts.{StoreParts}
 use Rattle.store_state.specs.Standings.{Standing}
 use Rattle.store_state.specs.Inner.Keeping.{Keeping}
 use Rattle.store_state.specs.At.{AreParts, IsAt, keeping, standing}
-use Rattle.store_opening.specs.declared.opening.Limits.{Limits}
-use Rattle.store_opening.specs.declared.reading.ReadParts.{ReadParts}
+use Rattle.store_opening.specs.declared.opening.opening.Limits.{Limits}
+use Rattle.store_opening.specs.declared.opening.reading.ReadParts.{ReadParts}
 use Rattle.store_opening.specs.Opened.{HasCause, HasFound, IsNew, WasOpened}
 use Rattle.store_opening.specs.Inner.Read.{AreFound, IsOpenFile, IsPutTogether, keeping_with, new_ledger, store_with}
 use Rattle.store_opening.proofs.NewStores.{Gives, keeping_of, store_is_at, store_of}

@@ -15,8 +15,8 @@ use Rattle.file_meaning.specs.declared.meaning.found.Found.{Found}
 use Rattle.file_meaning.proofs.SlotLaws.{slots_are}
 use Rattle.file_meaning.proofs.Steps.{then_is}
 use Rattle.file_meaning.proofs.WrongSlots.{wrong_file}
-use Rattle.store_bases.specs.Reading.{Answers, slots_of}
-use Rattle.store_bases.proofs.Steps.{if_some}
+use Rattle.file_reading.specs.Reading.{Answers, slots_of}
+use Rattle.file_reading.proofs.Steps.{if_some}
 use Rattle.store_opening.specs.Opened.{HasCause, IsToldBy}
 use Rattle.store_opening.specs.Inner.Read.{IsOpenFile, StopsBy}
 

@@ -19,8 +19,8 @@ use Rattle.version_reaper.specs.PageSets.{holds}
 use Rattle.file_meaning.specs.Opening.{all_of, version_pages}
 use Rattle.file_meaning.specs.declared.meaning.found.Found.{Found}
 use Rattle.file_meaning.proofs.Apart.{both_all}
-use Rattle.store_bases.specs.Reading.{AreDirectories, HaveCores, IsFound}
-use Rattle.store_bases.specs.Bases.{array_pages, pages_named, versions_pages}
+use Rattle.file_reading.specs.Reading.{AreDirectories, HaveCores, IsFound}
+use Rattle.store_opening.specs.Bases.{array_pages, pages_named, versions_pages}
 use Rattle.store_versions.specs.Rows.{array_rows, first_rows}
 use Rattle.store_versions.specs.Seen.{version_of}
 use Rattle.store_versions.specs.Versions.{MadeVersion}

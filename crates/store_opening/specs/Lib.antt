@@ -6,5 +6,7 @@ pub use Rattle.store_state.specs.Standings
 pub use Rattle.store_state.specs.declared.event.Event
 pub use Rattle.store_state.specs.declared.fault.ReadFault
 pub use Rattle.store_state.specs.declared.parts.StoreParts
+pub mod Bases
 pub mod Inner
+pub mod Laws
 pub mod Opened

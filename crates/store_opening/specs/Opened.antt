@@ -10,14 +10,14 @@ use Rattle.page_slots.specs.Puts.{OnlySyncs}
 use Rattle.version_catalog.specs.Catalogs.{names_in}
 use Rattle.file_meaning.specs.Opening.{IsWrongAt, Opens}
 use Rattle.file_meaning.specs.declared.meaning.found.Found.{Found}
-use Rattle.store_bases.specs.Bases.{base_core}
+use Rattle.store_opening.specs.Bases.{base_core}
 use Rattle.store_versions.specs.Rows.{first_rows}
 use Rattle.store_versions.specs.Seen.{version_of}
 use Rattle.store_versions.specs.Versions.{MadeVersion}
 use Rattle.store_state.specs.declared.parts.StoreParts.{StoreParts}
 use Rattle.store_state.specs.At.{standing}
 use Rattle.store_state.specs.Standings.{Standing}
-use Rattle.store_opening.specs.declared.opening.Limits.{Limits}
+use Rattle.store_opening.specs.declared.opening.opening.Limits.{Limits}
 
 -- a store to which nothing came yet, within its limits
 pub record IsNew {D : Type 0} (limits : Limits) (s : Standing D) : Type 0 where

@@ -1,5 +1,5 @@
 -- A store, and what two sessions have of it.
-use Rattle.test_readings.specs.Holds.{IsHold}
+use Rattle.test_stores.specs.Holds.{IsHold}
 use Rattle.test_commits.specs.declared.sessions.Run.{Run}
 
 pub record IsRun (run : Run) : Type 0 where

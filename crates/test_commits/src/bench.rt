@@ -4,8 +4,8 @@ use anyhow::Result;
 use cell_values::{Bytes, Memory};
 use std::alloc::{AllocError, Global};
 use store_opening::Limits;
-use test_disks::{QuietDisk, Watch, push_costs};
 use test_files::{disk_of, made, of_format_one};
+use test_stores::{QuietDisk, Watch, push_costs};
 
 /// A disk that is watched, and how much a store over it may use.
 #[derive(Drop)]

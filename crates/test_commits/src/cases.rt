@@ -6,9 +6,8 @@ use cell_values::{Bytes, Memory};
 use std::alloc::Global;
 use std::thread::Threads;
 use store_opening::Limits;
-use test_disks::{QuietDisk, Watch};
 use test_files::{disk_of, made, of_format_one};
-use test_readings::push_answered;
+use test_stores::{QuietDisk, Watch, push_answered};
 
 const LIMITS: Limits = Limits {
     pages: 512,

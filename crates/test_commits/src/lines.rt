@@ -8,9 +8,8 @@ use anyhow::Result;
 use cell_values::Memory;
 use std::alloc::{AllocError, Global};
 use std::thread::Threads;
-use test_disks::QuietDisk;
 use test_kit::begin_answer;
-use test_readings::{Answer, opened, reaped};
+use test_stores::{Answer, QuietDisk, opened, reaped};
 
 /// Adds how many pages nobody can name, and how many entries and notes there are.
 fn push_counts(out: &mut String, run: &mut Run) -> Result<(), AllocError>

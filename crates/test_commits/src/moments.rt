@@ -3,9 +3,8 @@
 use cell_values::{Bytes, Memory};
 use std::alloc::{AllocError, Global};
 use store_opening::Limits;
-use test_disks::{QuietDisk, Watch};
 use test_files::disk_of;
-use test_readings::held_in;
+use test_stores::{QuietDisk, Watch, held_in};
 
 /// What a store held before a change, and what it holds with it.
 #[derive(Drop)]

@@ -4,7 +4,7 @@ ghost use Rattle.cell_values.specs.Schemas.{IsValid};
 ghost use Rattle.plan_changes.specs.Stored.{AreStored};
 ghost use Rattle.store_ledger.specs.Ledger.{IsOpenPin};
 ghost use Rattle.store_state.specs.Calls.{IsLeafOf};
-ghost use Rattle.test_readings.specs.Holds.{HasNoPins, IsHold, LeavesAll, LeavesOthers};
+ghost use Rattle.test_stores.specs.Holds.{HasNoPins, IsHold, LeavesAll, LeavesOthers};
 ghost use Rattle.test_commits.specs.Runs.{IsRun};
 
 use cell_values::{Bytes, List, Memory, Name};
@@ -14,8 +14,9 @@ use std::alloc::Global;
 use std::mem::replace;
 use std::thread::Threads;
 use store_ledger::Pinned;
-use test_disks::QuietDisk;
-use test_readings::{Answer, Hold, Store, cells, changed, leaf_of, once, pinned, unpinned};
+use test_stores::{
+    Answer, Hold, QuietDisk, Store, cells, changed, leaf_of, once, pinned, unpinned,
+};
 
 /// A store, and what two sessions have of it.
 #[derive(Drop)]

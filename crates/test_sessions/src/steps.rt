@@ -4,20 +4,20 @@
 //! among sessions 0, 1 and 2. `pin 0`, `unpin 0`, `change 0 TEXT` and `cells 0 A@1` are steps of a session, `renew 0 500` are so many stores
 //! of A by it, each with a removal of all versions before, and `reap` frees what nobody can name. `finish` takes the store back.
 ghost use Rattle.std.specs.Prelude.{IfOk};
-ghost use Rattle.shared_runs.specs.Runs.{IsRun};
+ghost use Rattle.test_shared.specs.Runs.{IsRun};
 
 use anyhow::Result;
 use cell_values::{Bytes, Memory};
-use shared_runs::{Run, answer_to, finished, reaped, shared_by_three};
-use shared_starts::{SilentDisk, Store, opened_over, push_tally, with_change};
-use shared_steps::Answer;
-use shared_visits::Step;
 use std::alloc::Global;
 use std::sync::Wait;
 use std::thread::Threads;
 use store_opening::Limits;
 use test_files::made;
 use test_kit::begin_answer;
+use test_shared::{
+    Answer, Run, SilentDisk, Step, Store, answer_to, finished, opened_over, push_tally, reaped,
+    shared_by_three, with_change,
+};
 use test_stores::Answer as StoreAnswer;
 
 /// The array A at version 1: its first chunk has cells, and its second one has none.

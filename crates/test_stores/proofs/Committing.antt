@@ -22,11 +22,11 @@ use Rattle.array_store.specs.Left.{IsLeft, reaped_if, tried_now}
 use Rattle.store_state.specs.Calls.{NotesFault}
 use Rattle.store_state.specs.Standings.{Standing}
 use Rattle.array_store.specs.Steps.{sealed_ledger}
-use Rattle.test_stores.specs.declared.holds.Hold.{Hold}
-use Rattle.test_stores.specs.declared.holds.Hold.TheVariants as hold
-use Rattle.test_disks.specs.declared.quiet_disk.QuietDisk.{QuietDisk}
+use Rattle.test_stores.specs.declared.stores.holds.Hold.{Hold}
+use Rattle.test_stores.specs.declared.stores.holds.Hold.TheVariants as hold
+use Rattle.test_stores.specs.declared.disks.quiet_disk.QuietDisk.{QuietDisk}
 use Rattle.test_stores.specs.Holds.{IsHold, IsPinOf, LeavesAll, LeavesOthers, LeavesTried}
-use Rattle.test_disks.specs.Quiet.{quiet_moment}
+use Rattle.test_stores.specs.Quiet.{quiet_moment}
 use Rattle.test_stores.proofs.Holding.{all_then_all, held_over_entry, held_over_note, noted_pin, notes_leave_all, nothing_leaves, others_is_none, others_then_all, reap_leaves_all}
 
 -- ---- preparing

@@ -17,8 +17,8 @@ use Rattle.store_ledger.specs.declared.pinned.Pinned.{Pinned}
 use Rattle.store_ledger.specs.Ledger.{LedgerState, IsOpenPin, has_note, has_under, history, is_noted, is_under, note_now, with_entries, with_fault, with_notes, is_tried, is_fault}
 use Rattle.store_ledger.proofs.Pins.{one_more}
 use Rattle.store_state.specs.Calls.{NotesFault}
-use Rattle.test_stores.specs.declared.holds.Hold.{Hold}
-use Rattle.test_stores.specs.declared.holds.Hold.TheVariants as hold
+use Rattle.test_stores.specs.declared.stores.holds.Hold.{Hold}
+use Rattle.test_stores.specs.declared.stores.holds.Hold.TheVariants as hold
 use Rattle.test_stores.specs.Holds.{IsHold, IsPinOf, IsUntried, LeavesAll, LeavesOthers}
 
 -- ---- one more entry

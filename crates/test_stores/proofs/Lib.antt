@@ -1,4 +1,5 @@
-pub mod Holding
 pub mod Checking
 pub mod Committing
+pub mod Holding
 pub mod Making
+pub mod ReadLemmas

@@ -3,7 +3,7 @@ use Rattle.std.specs.Prelude.{IfSome}
 use Rattle.logical_plan.specs.declared.names.Names.{Names}
 use Rattle.plan_changes.specs.Typed.{IsTypedFor}
 use Rattle.commit_pages.specs.Changes.{AreValid, ComesWith}
-use Rattle.test_stores.specs.declared.changes.Offer.{Offer}
+use Rattle.test_stores.specs.declared.stores.changes.Offer.{Offer}
 
 pub record IsOffer (names : Names) (offer : Offer) : Type 0 where
   pub typed : IsTypedFor names offer.change

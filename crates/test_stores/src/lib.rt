@@ -1,20 +1,14 @@
-//! What the programs over stores share: sessions that hold pins, statements, and commits of what texts are.
+//! Stores for programs of tests: disks that count and stop, changes said in lines, and what is read of a store.
 #![tactic(auto)]
 
-mod answers;
-mod changes;
-mod chunks;
-mod commits;
-mod holds;
-mod opening;
-mod pins;
-mod statements;
+mod disks;
+mod readings;
+mod stores;
 
-pub use answers::Answer;
 pub use array_store::Store;
-pub use changes::{Offer, offer_over};
-pub use commits::{changed, once};
-pub use holds::Hold;
-pub use opening::opened;
-pub use pins::{pinned, reaped, unpinned};
-pub use statements::{Refused, statement};
+pub use disks::{QuietDisk, Watch, push_costs};
+pub use readings::{add_rows, cells, held_in, leaf_of, push_answered, whole};
+pub use stores::{
+    Answer, Hold, Offer, Refused, changed, offer_over, once, opened, pinned, reaped, statement,
+    unpinned,
+};

@@ -16,8 +16,8 @@ use Rattle.fresh_changes.specs.Standings.{BeganAs, Standing}
 use Rattle.fresh_changes.specs.Keeping.{Keeping}
 use Rattle.fresh_changes.specs.Sights.{Sees, SeesCells}
 use Rattle.fresh_changes.proofs.Sights.{cells_at, cells_place, history_place, pin_history, sees_at, sees_place}
-use Rattle.store_commits.specs.Start.{Start}
-use Rattle.store_commits.proofs.Added.{if_ok}
+use Rattle.array_store.specs.declared.start.Start.{Start}
+use Rattle.array_store.proofs.Added.{if_ok}
 use Rattle.told_stores.specs.Databases.{HasDatabase, IsDatabaseOf, StoresHaveDatabases}
 use Rattle.told_stores.specs.Told.{IsTold, told}
 

@@ -25,11 +25,11 @@ use Rattle.fresh_changes.specs.At.{standing}
 use Rattle.fresh_changes.specs.Calls.{IsUnread, NotesFault, chunks_at, history_at, payload_at}
 use Rattle.fresh_changes.specs.Events.{events, owner_of}
 use Rattle.fresh_changes.specs.Standings.{BeganAs, Standing}
-use Rattle.store_commits.specs.Start.{Start}
-use Rattle.store_commits.specs.Growth.{AddsEvents, AddsFault, IsCounted, fault_events}
-use Rattle.store_commits.specs.Starts.{start_of}
-use Rattle.store_commits.proofs.Added.{if_ok, on_ok}
-use Rattle.store_commits.proofs.Ended.{fault_seen}
+use Rattle.array_store.specs.declared.start.Start.{Start}
+use Rattle.array_store.specs.Growth.{AddsEvents, AddsFault, IsCounted, fault_events}
+use Rattle.array_store.specs.Starts.{start_of}
+use Rattle.array_store.proofs.Added.{if_ok, on_ok}
+use Rattle.told_stores.proofs.Ended.{fault_seen}
 use Rattle.told_stores.specs.Faults.{IsUnreadUnder}
 use Rattle.told_stores.specs.Laws.{IsToldWhole}
 use Rattle.told_stores.specs.Told.{IsTold, entries_in, is_sealed, ledger_of, told}

@@ -1,11 +1,12 @@
-pub use Rattle.store_commits.proofs.Added
-pub use Rattle.store_commits.proofs.Ended
-pub use Rattle.store_commits.proofs.FreshChanges
+pub use Rattle.array_store.proofs.Added
+pub use Rattle.array_store.proofs.FreshChanges
 pub mod Databases
+pub mod Ended
 pub mod InTurn
 pub mod Notes
 pub mod PinReads
 pub mod Sights
 pub mod Telling
 pub mod TriedTurns
+pub mod Trying
 pub mod Turning

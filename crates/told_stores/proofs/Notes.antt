@@ -10,7 +10,7 @@ use Rattle.store_ledger.proofs.Pins.{notes_outlast as ledgers_outlast}
 use Rattle.fresh_changes.specs.Event.{Event}
 use Rattle.fresh_changes.specs.Event.TheVariants.{Entered, Acknowledged, Noted}
 use Rattle.fresh_changes.specs.Events.{owner_of}
-use Rattle.store_commits.specs.Start.{Start}
+use Rattle.array_store.specs.declared.start.Start.{Start}
 use Rattle.told_stores.specs.Told.{entries_in, ledger_of, notes_in}
 use Rattle.told_stores.specs.Turns.{leaves_notes_of, leaves_pin_of}
 use Rattle.told_stores.specs.Laws.{NotesOutlast, OthersLeaveNotes}

@@ -23,9 +23,9 @@ use Rattle.fresh_changes.specs.ReadFault.TheVariants.{Damaged, Disk, Memory}
 use Rattle.fresh_changes.specs.Calls.{IsUnread, chunks_at, history_at, payload_at}
 use Rattle.fresh_changes.specs.Events.{owner_of}
 use Rattle.fresh_changes.specs.Standings.{BeganAs, Standing}
-use Rattle.store_commits.specs.Start.{Start}
-use Rattle.store_commits.specs.Growth.{AddsEvents, AddsFault, fault_events}
-use Rattle.store_commits.proofs.Ended.{rose_or_not}
+use Rattle.array_store.specs.declared.start.Start.{Start}
+use Rattle.array_store.specs.Growth.{AddsEvents, AddsFault, fault_events}
+use Rattle.told_stores.proofs.Ended.{rose_or_not}
 use Rattle.told_stores.specs.Faults.{IsUnreadUnder}
 use Rattle.told_stores.specs.Told.{IsTold, is_sealed, ledger_of, told}
 use Rattle.told_stores.specs.Turns.{leaves_pin_of}

@@ -23,7 +23,7 @@ use Rattle.fresh_changes.specs.Event.TheVariants.{Entered, Acknowledged, Noted}
 use Rattle.fresh_changes.specs.Calls.{entry_in, history_at, numbers_in}
 use Rattle.fresh_changes.specs.Events.{owner_of}
 use Rattle.fresh_changes.specs.Standings.{Standing, commit_places, given_of, made_at, versions_after}
-use Rattle.store_commits.specs.Start.{Start}
+use Rattle.array_store.specs.declared.start.Start.{Start}
 use Rattle.store_ledger.specs.declared.pinned.Pinned.{Pinned}
 use Rattle.told_stores.specs.Told.{entries_in, directories_in, is_sealed, ledger_of, told}
 use Rattle.told_stores.specs.Turns.{leaves_pin_of}

@@ -18,10 +18,10 @@ use Rattle.fresh_changes.specs.Event.{Event}
 use Rattle.fresh_changes.specs.Event.TheVariants.{Entered, Acknowledged, Noted}
 use Rattle.fresh_changes.specs.Events.{Seal, events, sealed}
 use Rattle.fresh_changes.specs.Standings.{Standing}
-use Rattle.store_commits.specs.FirstVersion.{FirstVersion}
-use Rattle.store_commits.specs.Starts.{first_of}
-use Rattle.store_commits.proofs.Added.{commits_from, count_commits, pairs_count, seal_by, seals_of}
-use Rattle.store_commits.proofs.Counted.{all_notes}
+use Rattle.array_store.specs.declared.start.FirstVersion.{FirstVersion}
+use Rattle.array_store.specs.Starts.{first_of}
+use Rattle.array_store.proofs.Added.{commits_from, count_commits, pairs_count, seal_by, seals_of}
+use Rattle.array_store.proofs.Counted.{all_notes}
 use Rattle.told_stores.specs.Told.{entries_in, notes_in, moments_in, directories_in, is_sealed, version_from}
 use Rattle.told_stores.specs.Laws.{StoresAreTold}
 

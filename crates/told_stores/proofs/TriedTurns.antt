@@ -24,7 +24,7 @@ use Rattle.event_core.specs.History.{History, names_at, pin_before, up_to}
 use Rattle.event_core.proofs.Tests.{both_not}
 use Rattle.lean_core.specs.Pins.{PlaceTells}
 use Rattle.lean_core.proofs.Pins.{places_tell_pins}
-use Rattle.store_commits.specs.Fresh.{IsFresh}
+use Rattle.array_store.specs.Fresh.{IsFresh}
 use Rattle.fresh_changes.specs.FreshLaws.{FreshChangesAreTyped}
 use Rattle.fresh_changes.specs.Laws.{FreshChangesMayBeMade}
 use Rattle.store_ledger.specs.declared.pinned.Pinned.{Pinned}
@@ -37,14 +37,14 @@ use Rattle.fresh_changes.specs.Calls.{database_with, history_at}
 use Rattle.fresh_changes.specs.Events.{events, owner_of}
 use Rattle.fresh_changes.specs.Standings.{BeganAs, Standing, base_of}
 use Rattle.fresh_changes.specs.Prepared.{IsAsked, MayBeMade}
-use Rattle.store_commits.specs.Parts.{IsFull}
-use Rattle.store_commits.specs.Start.{Start}
-use Rattle.store_commits.specs.Growth.{tried_events}
-use Rattle.store_commits.specs.Starts.{start_of}
-use Rattle.store_commits.specs.declared.fault.CommitFault.{CommitFault}
-use Rattle.store_commits.specs.declared.fault.CommitFault.TheVariants as faults
-use Rattle.store_commits.specs.Causes.{FitsAfter, IsNeeded, IsUncommitted, unused_after}
-use Rattle.store_commits.specs.Tried.{AddsSealed, AddsTried, IsFaultOrNone}
+use Rattle.array_store.specs.Parts.{IsFull}
+use Rattle.array_store.specs.declared.start.Start.{Start}
+use Rattle.array_store.specs.Growth.{tried_events}
+use Rattle.array_store.specs.Starts.{start_of}
+use Rattle.told_stores.specs.declared.commits.fault.CommitFault.{CommitFault}
+use Rattle.told_stores.specs.declared.commits.fault.CommitFault.TheVariants as faults
+use Rattle.told_stores.specs.Causes.{FitsAfter, IsNeeded, IsUncommitted, unused_after}
+use Rattle.told_stores.specs.Tried.{AddsSealed, AddsTried, IsFaultOrNone}
 use Rattle.told_stores.specs.Tries.{AreOfTry, MakesCommit, MakesHere, TriesCommit, TriesHere, is_fresh_since}
 use Rattle.told_stores.specs.Told.{IsTold, entries_in, ledger_of, told}
 use Rattle.told_stores.specs.Turns.{Adds, found_before, leaves_pin_of}

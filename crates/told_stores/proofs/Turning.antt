@@ -8,9 +8,9 @@ use Rattle.turn_lock.specs.Owners.{is_owned_by, none_of, only_of, ExtendsByOther
 use Rattle.fresh_changes.specs.Event.{Event}
 use Rattle.fresh_changes.specs.Events.{events, owner_of}
 use Rattle.fresh_changes.specs.Standings.{Standing}
-use Rattle.store_commits.specs.Start.{Start}
-use Rattle.store_commits.specs.Growth.{AddsEvents}
-use Rattle.store_commits.specs.Starts.{start_of}
+use Rattle.array_store.specs.declared.start.Start.{Start}
+use Rattle.array_store.specs.Growth.{AddsEvents}
+use Rattle.array_store.specs.Starts.{start_of}
 use Rattle.told_stores.specs.Turns.{found_before, own_events, reap_events, Adds}
 use Rattle.told_stores.specs.Laws.{TurnsAddOwn, TurnsFind}
 

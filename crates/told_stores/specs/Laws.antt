@@ -11,9 +11,9 @@ use Rattle.fresh_changes.specs.Event.{Event}
 use Rattle.fresh_changes.specs.Calls.{chunks_at, history_at, payload_at}
 use Rattle.fresh_changes.specs.Events.{events, owner_of}
 use Rattle.fresh_changes.specs.Standings.{Standing, versions_after}
-use Rattle.store_commits.specs.Start.{Start}
-use Rattle.store_commits.specs.Growth.{IsCounted}
-use Rattle.store_commits.specs.Starts.{start_of}
+use Rattle.array_store.specs.declared.start.Start.{Start}
+use Rattle.array_store.specs.Growth.{IsCounted}
+use Rattle.array_store.specs.Starts.{start_of}
 use Rattle.told_stores.specs.Told.{is_sealed, ledger_of, told, IsTold}
 use Rattle.told_stores.specs.Turns.{found_before, leaves_notes_of, leaves_pin_of, own_events, Adds}
 

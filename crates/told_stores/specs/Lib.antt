@@ -1,3 +1,7 @@
+pub use Rattle.array_store.specs.Growth
+pub use Rattle.array_store.specs.Starts
+pub use Rattle.array_store.specs.contracts.store.Store
+pub use Rattle.array_store.specs.declared.start.Start
 pub use Rattle.commit_pages.specs.Changes
 pub use Rattle.fresh_changes.specs.At
 pub use Rattle.fresh_changes.specs.Calls
@@ -7,17 +11,12 @@ pub use Rattle.fresh_changes.specs.Prepared
 pub use Rattle.fresh_changes.specs.ReadFault
 pub use Rattle.fresh_changes.specs.Standings
 pub use Rattle.fresh_changes.specs.StoreParts
-pub use Rattle.store_commits.specs.Causes
-pub use Rattle.store_commits.specs.Growth
-pub use Rattle.store_commits.specs.Start
-pub use Rattle.store_commits.specs.Starts
-pub use Rattle.store_commits.specs.Store
-pub use Rattle.store_commits.specs.Tried
-pub use Rattle.store_commits.specs.declared.fault.CommitFault
+pub mod Causes
 pub mod Databases
 pub mod Faults
 pub mod Laws
 pub mod Told
+pub mod Tried
 pub mod Tries
 pub mod Turns
 pub mod Worked

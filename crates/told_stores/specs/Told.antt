@@ -8,9 +8,9 @@ use Rattle.store_versions.specs.Versions.{MadeVersion}
 use Rattle.fresh_changes.specs.Event.{Event}
 use Rattle.fresh_changes.specs.Event.TheVariants.{Entered, Acknowledged, Noted}
 use Rattle.fresh_changes.specs.Standings.{Standing}
-use Rattle.store_commits.specs.FirstVersion.{FirstVersion}
-use Rattle.store_commits.specs.Start.{Start}
-use Rattle.store_commits.specs.Growth.{is_plain}
+use Rattle.array_store.specs.declared.start.FirstVersion.{FirstVersion}
+use Rattle.array_store.specs.declared.start.Start.{Start}
+use Rattle.array_store.specs.Growth.{is_plain}
 
 -- the entries among events, the oldest first
 abbrev pub entries_in : List Event → List Entry

@@ -5,14 +5,14 @@ use Rattle.plan_changes.specs.declared.change.Change.{Change}
 use Rattle.event_core.specs.declared.entry.Entry.TheVariants.{Commit}
 use Rattle.event_core.specs.declared.entry.Used.{Used}
 use Rattle.event_core.specs.History.{names_at}
-use Rattle.store_commits.specs.Fresh.{is_fresh}
+use Rattle.array_store.specs.Fresh.{is_fresh}
 use Rattle.store_ledger.specs.declared.pinned.Pinned.{Pinned}
 use Rattle.store_ledger.specs.Ledger.{LedgerState, history}
 use Rattle.fresh_changes.specs.Event.{Event}
 use Rattle.fresh_changes.specs.Event.TheVariants.{Acknowledged}
-use Rattle.store_commits.specs.Start.{Start}
-use Rattle.store_commits.specs.Growth.{tried_events}
-use Rattle.store_commits.specs.Tried.{IsFaultOrNone}
+use Rattle.array_store.specs.declared.start.Start.{Start}
+use Rattle.array_store.specs.Growth.{tried_events}
+use Rattle.told_stores.specs.Tried.{IsFaultOrNone}
 use Rattle.told_stores.specs.Told.{ledger_of}
 use Rattle.told_stores.specs.Turns.{found_before, Adds}
 

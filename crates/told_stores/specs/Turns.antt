@@ -8,8 +8,8 @@ use Rattle.store_ledger.specs.declared.note.NoteKind.{NoteKind}
 use Rattle.fresh_changes.specs.Event.{Event}
 use Rattle.fresh_changes.specs.Event.TheVariants.{Entered, Acknowledged, Noted}
 use Rattle.fresh_changes.specs.Events.{owner_of}
-use Rattle.store_commits.specs.Start.{Start}
-use Rattle.store_commits.specs.Growth.{fault_events}
+use Rattle.array_store.specs.declared.start.Start.{Start}
+use Rattle.array_store.specs.Growth.{fault_events}
 use Rattle.told_stores.specs.Told.{ledger_of}
 
 -- A TURN OF A SESSION: behind all that its seat had seen it found what others had added, none of it the session's, and then added these

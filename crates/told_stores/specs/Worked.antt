@@ -12,8 +12,8 @@ use Rattle.fresh_changes.specs.Event.{Event}
 use Rattle.fresh_changes.specs.Event.TheVariants.{Entered, Acknowledged, Noted}
 use Rattle.fresh_changes.specs.Calls.{chunks_at}
 use Rattle.fresh_changes.specs.Worked.{worked_base, worked_directory, worked_slots, worked_store}
-use Rattle.store_commits.specs.Start.{Start}
-use Rattle.store_commits.specs.Starts.{start_of}
+use Rattle.array_store.specs.declared.start.Start.{Start}
+use Rattle.array_store.specs.Starts.{start_of}
 use Rattle.told_stores.specs.Told.{is_sealed, ledger_of, told, IsTold}
 use Rattle.told_stores.specs.Tries.{MakesCommit}
 use Rattle.told_stores.specs.Turns.{found_before, own_events, Adds}

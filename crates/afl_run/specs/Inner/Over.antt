@@ -16,7 +16,7 @@ use Rattle.session_reports.specs.declared.reports.Streams.{Streams}
 use Rattle.turn_lock.specs.Owners.{AreOwnedBelow}
 use Rattle.session_threads.specs.Sessions.{AreSessionsOf}
 use Rattle.session_threads.specs.Style.{Style}
-use Rattle.store_opening.specs.declared.opening.Limits.{Limits}
+use Rattle.store_opening.specs.declared.opening.opening.Limits.{Limits}
 use Rattle.store_state.specs.Events.{events, owner_of}
 use Rattle.store_state.specs.Standings.{BeganAs, Standing}
 

@@ -11,8 +11,8 @@ use Rattle.page_file.specs.OpeningOpened.{AreFresh}
 use Rattle.version_catalog.specs.Catalogs.{names_in}
 use Rattle.file_meaning.specs.Opening.{found_in}
 use Rattle.file_meaning.specs.declared.meaning.found.Found.{Found}
-use Rattle.store_bases.specs.Reading.{IsFound, LieApart, slots_of}
-use Rattle.store_bases.specs.Bases.{base_core}
+use Rattle.file_reading.specs.Reading.{IsFound, LieApart, slots_of}
+use Rattle.store_opening.specs.Bases.{base_core}
 use Rattle.store_ledger.specs.Ledger.{LedgerState}
 use Rattle.store_versions.specs.Rows.{first_rows}
 use Rattle.store_versions.specs.Seen.{version_of}
@@ -20,8 +20,8 @@ use Rattle.store_state.specs.declared.parts.StoreParts.{StoreParts}
 use Rattle.store_state.specs.At.{keeping, standing}
 use Rattle.store_state.specs.Standings.{Standing}
 use Rattle.store_state.specs.Inner.Keeping.{Keeping}
-use Rattle.store_opening.specs.declared.opening.Limits.{Limits}
-use Rattle.store_opening.specs.declared.reading.ReadParts.{ReadParts}
+use Rattle.store_opening.specs.declared.opening.opening.Limits.{Limits}
+use Rattle.store_opening.specs.declared.opening.reading.ReadParts.{ReadParts}
 
 -- ---- the file
 

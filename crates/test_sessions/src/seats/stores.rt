@@ -1,16 +1,15 @@
 //! Stores before their sessions run on threads, and after them.
-ghost use Rattle.test_readings.specs.Holds.{HasNoPins};
+ghost use Rattle.test_stores.specs.Holds.{HasNoPins};
 
 use anyhow::Result;
 use cell_values::{Bytes, Memory};
-use shared_starts::{SilentDisk, Store, opened_over, push_tally, with_change};
-use shared_threads::stored_by_two;
 use std::alloc::{AllocError, Global};
 use std::sync::Wait;
 use std::thread::Threads;
 use store_opening::Limits;
 use test_files::made;
-use test_readings::{Answer, whole};
+use test_shared::{SilentDisk, Store, opened_over, push_tally, stored_by_two, with_change};
+use test_stores::{Answer, whole};
 
 fn held_in(alloc: Global, store: &mut Store<SilentDisk>) -> Answer
     requires { HasNoPins store.old.ledger }

@@ -1,4 +1,4 @@
-use Rattle.shared_runs.specs.Runs.{IsRun}
+use Rattle.test_shared.specs.Runs.{IsRun}
 use Rattle.test_sessions.proofs.steps.tell_steps.Given as goal
 
 abbrev pub invariant-loop-at : goal.invariant-loop-at

@@ -1,2 +1,0 @@
-pub use Rattle.snapshot_manager.proofs.Sights
-pub mod Seeing

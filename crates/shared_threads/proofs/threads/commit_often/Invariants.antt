@@ -1,5 +1,0 @@
-use Rattle.shared_steps.specs.Visits.{IsFree}
-use Rattle.shared_threads.proofs.threads.commit_often.Given as goal
-
-abbrev pub invariant-loop-commits : goal.invariant-loop-commits
-invariant-loop-commits g l = IsFree g.D.Disk.moment l.shared l.seat

@@ -1,4 +1,0 @@
-pub use Rattle.file_reading.proofs.Steps
-pub mod ApartLaws
-pub mod NamedLaws
-pub mod PairLaws

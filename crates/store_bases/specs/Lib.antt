@@ -1,3 +1,0 @@
-pub use Rattle.file_reading.specs.Reading
-pub mod Bases
-pub mod Laws

@@ -1,0 +1,96 @@
+//! A store is opened over a disk.
+ghost use Rattle.std.specs.Prelude.{◌≡◌, IfSome, IfOk, IfErr, MatchResult};
+ghost use Rattle.page_slots.specs.Puts.{OnlySyncs};
+ghost use Rattle.store_state.specs.At.{AreParts, standing};
+ghost use Rattle.store_opening.specs.Opened.{HasCause, HasFound, IsNew, IsToldBy, WasOpened};
+ghost use Rattle.store_opening.specs.Inner.Read.{IsOpenFile, IsPutTogether};
+
+use crate::opening::reading::{ReadParts, read_parts};
+use afl_outside::Disk;
+use page_file::{OpenCause, PageFile};
+use std::alloc::Global;
+use std::snapshot::Snapshot;
+use store_state::StoreParts;
+
+/// How much a store may use.
+#[derive(Clone, Copy, Debug)]
+pub struct Limits {
+    /// The pages of its file.
+    pub pages: u32,
+    /// The entries of its history.
+    pub history: u32,
+}
+
+/// The parts of a store whose history has no entry.
+fn put_together<D: Disk>(
+    alloc: Global,
+    file: PageFile<D>,
+    opened: Snapshot<PageFile<D>>,
+    read: ReadParts,
+) -> StoreParts<D>
+    ensures { IsPutTogether D.moment file opened.value read result }
+{
+    let ReadParts {
+        ledger,
+        catalog,
+        table,
+    } = read;
+    let first = Snapshot::of(&table);
+    StoreParts {
+        file,
+        ledger,
+        catalog,
+        table,
+        doubt: None,
+        opened,
+        first,
+        acked: Vec::new(alloc),
+        made: Vec::new(alloc),
+    }
+}
+
+/// Reads the parts of a store from a file that was just opened.
+fn open_parts<D: Disk>(
+    alloc: Global,
+    mut file: PageFile<D>,
+    limits: Limits,
+) -> Result<StoreParts<D>, (OpenCause, D)>
+    requires { IsOpenFile (D.moment file.disk) file.slots }
+    ensures at { IfOk result (AreParts D.moment) }
+    ensures new { IfOk result (λ parts. IsNew limits (standing D.moment parts)) }
+    ensures opened { IfOk result (λ parts. parts.opened.value ≡ file) }
+    ensures slots { IfOk result (λ parts. parts.file.slots ≡ file.slots) }
+    ensures told { IfSome (D.moment file.disk).state.seen (λ seen. MatchResult result (HasFound D.moment limits seen) (λ x. IsToldBy seen x.0)) }
+    ensures reads { MatchResult result
+        (λ parts. OnlySyncs (D.moment file.disk) (D.moment parts.file.disk))
+        (λ x. OnlySyncs (D.moment file.disk) (D.moment x.1)) }
+    ensures cause { IfErr result (λ x. HasCause x.0 (D.moment file.disk).state (D.moment x.1).state) }
+{
+    let opened = Snapshot::of(&file);
+    match read_parts(alloc, &mut file, limits) {
+        Ok(read) => Ok(put_together(alloc, file, opened, read)),
+        Err(cause) => Err((cause, file.close())),
+    }
+}
+
+/// Opens a store: opens its file, and reads the catalogue and the directory of each version. The disk is handed back where that fails: a
+/// file that is wrong is told by the first page at which it is.
+pub fn open<D: Disk>(
+    alloc: Global,
+    disk: D,
+    limits: Limits,
+) -> Result<StoreParts<D>, (OpenCause, D)>
+    ensures at { IfOk result (AreParts D.moment) }
+    ensures new { IfOk result (λ parts. IsNew limits (standing D.moment parts)) }
+    ensures opened { IfOk result (WasOpened D.moment disk) }
+    ensures told { IfSome (D.moment disk).state.seen (λ seen. MatchResult result (HasFound D.moment limits seen) (λ x. IsToldBy seen x.0)) }
+    ensures reads { MatchResult result
+        (λ parts. OnlySyncs (D.moment disk) (D.moment parts.file.disk))
+        (λ x. OnlySyncs (D.moment disk) (D.moment x.1)) }
+    ensures cause { IfErr result (λ x. HasCause x.0 (D.moment disk).state (D.moment x.1).state) }
+{
+    match PageFile::open(disk) {
+        Ok(file) => open_parts(alloc, file, limits),
+        Err(failed) => Err(failed),
+    }
+}

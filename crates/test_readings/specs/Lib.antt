@@ -1,2 +1,0 @@
-pub use Rattle.test_stores.specs.Holds
-pub mod Cells

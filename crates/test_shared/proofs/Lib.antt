@@ -1,0 +1,3 @@
+mod Crossing
+pub mod StepsSeeing
+pub mod VisitsSeeing

@@ -1,0 +1,65 @@
+//! Stores that are opened for one call, and let go.
+ghost use Rattle.test_stores.specs.Holds.{HasNoPins};
+
+use crate::disks::QuietDisk;
+use crate::readings::versions::whole;
+use crate::stores::{Answer, once, opened};
+use array_store::Store;
+use cell_values::{Bytes, Memory};
+use std::alloc::Global;
+use std::thread::Threads;
+use store_opening::Limits;
+use store_state::ReadFault;
+
+fn answered<R: Threads + Sync>(
+    rt: &R,
+    alloc: Global,
+    disk: QuietDisk,
+    limits: Limits,
+    change: &[u8],
+) -> Answer {
+    match opened(alloc, disk, limits) {
+        Ok(mut store) => {
+            let answer = once(rt, alloc, &mut store, 0, change);
+            drop(store);
+            answer
+        }
+        Err(cause) => Answer::Unopened(cause),
+    }
+}
+
+/// Adds what a change is answered over the store of a disk.
+pub fn push_answered<R: Threads + Sync>(
+    rt: &R,
+    out: &mut String,
+    disk: QuietDisk,
+    limits: Limits,
+    change: &[u8],
+) -> Result<(), Memory> {
+    let answer = answered(rt, *out.allocator(), disk, limits, change);
+    let told = answer.push(out);
+    drop(answer);
+    told
+}
+
+fn read_whole(alloc: Global, store: &mut Store<QuietDisk>) -> Result<Option<Bytes>, Memory>
+    requires { HasNoPins store.old.ledger }
+{
+    match whole(alloc, store) {
+        Ok(text) => Ok(Some(text)),
+        Err(ReadFault::Memory) => Err(Memory),
+        Err(_) => Ok(None),
+    }
+}
+
+/// All that a disk holds as a store; none where it isn't one, or can't be read.
+pub fn held_in(alloc: Global, disk: QuietDisk, limits: Limits) -> Result<Option<Bytes>, Memory> {
+    match opened(alloc, disk, limits) {
+        Ok(mut store) => {
+            let text = read_whole(alloc, &mut store);
+            drop(store);
+            text
+        }
+        Err(_) => Ok(None),
+    }
+}

@@ -1,0 +1,140 @@
+//! Changes that texts are, under a session's pin.
+ghost use Rattle.std.specs.Prelude.{IfOk};
+ghost use Rattle.event_core.specs.History.{names_at};
+ghost use Rattle.logical_plan.specs.declared.names.Names.{Names as StoredNames};
+ghost use Rattle.plan_changes.specs.Stored.{AreStored};
+ghost use Rattle.plan_changes.specs.Typed.{IsTypedFor};
+ghost use Rattle.store_ledger.specs.Ledger.{IsOpenPin, history};
+ghost use Rattle.test_stores.specs.Offers.{IsOffer};
+ghost use Rattle.test_stores.specs.Statements.{IsStatement};
+
+use crate::stores::answers::Answer;
+use crate::stores::chunks::chunks_of;
+use crate::stores::statements::{Refused, statement};
+use afl_outside::Disk;
+use afl_types::{Typed, let_go_typed};
+use array_geom::Changed;
+use array_store::Store;
+use logical_plan::Names;
+use plan_changes::{Change, let_go_change};
+use std::alloc::Global;
+use std::thread::Threads;
+use store_ledger::Pinned;
+
+/// The change that a statement is, if it is one.
+fn change_in(typed: Typed) -> Result<Change, Answer>
+    ensures { (names : StoredNames) → IsStatement names typed → IfOk result (IsTypedFor names) }
+{
+    match typed {
+        Typed::Change(change) => Ok(change),
+        other => {
+            let_go_typed(other);
+            Err(Answer::NoChange)
+        }
+    }
+}
+
+/// The change that a text is over some names.
+fn change_over(alloc: Global, text: &[u8], names: &Names) -> Result<Change, Answer>
+    requires { AreStored names.now }
+    ensures { IfOk result (IsTypedFor names.now) }
+{
+    match statement(alloc, text, names) {
+        Ok(typed) => change_in(typed),
+        Err(Refused::Because(refusal)) => Err(Answer::Refused(refusal)),
+        Err(Refused::Memory) => Err(Answer::Memory),
+    }
+}
+
+/// Whether a change that was computed under a pin may still be committed. The change is let go.
+fn is_left<D: Disk>(store: &Store<D>, pinned: &Pinned, change: Change) -> bool
+    requires { IsOpenPin store.now.ledger pinned.now }
+{
+    let fresh = store.fresh(pinned, &change);
+    let_go_change(change);
+    fresh
+}
+
+/// The change that a text is under a pin, if nothing of it was changed since.
+fn change_under<D: Disk>(
+    alloc: Global,
+    store: &Store<D>,
+    pinned: &Pinned,
+    text: &[u8],
+) -> Result<Change, Answer>
+    requires open { IsOpenPin store.now.ledger pinned.now }
+    requires stored { AreStored pinned.now.names }
+    ensures { IfOk result (IsTypedFor (names_at store.now.ledger.base (history store.now.ledger))) }
+{
+    match change_over(alloc, text, &pinned.names) {
+        Ok(change) => {
+            if is_left(store, pinned, change) {
+                change_over(alloc, text, store.names())
+            } else {
+                Err(Answer::Stale)
+            }
+        }
+        Err(answer) => Err(answer),
+    }
+}
+
+/// A change, with the chunks that come with it.
+#[derive(Drop)]
+pub struct Offer {
+    pub change: Change,
+    pub changed: Option<Changed>,
+}
+
+/// The change with the chunks that come with it.
+fn with_chunks<R: Threads + Sync>(
+    rt: &R,
+    alloc: Global,
+    names: &Names,
+    change: Change,
+) -> Result<Offer, Answer>
+    requires stored { AreStored names.now }
+    requires typed { IsTypedFor names.now change }
+    ensures { IfOk result (IsOffer names.now) }
+{
+    match chunks_of(rt, alloc, &change, names) {
+        Ok(changed) => Ok(Offer { change, changed }),
+        Err(answer) => {
+            let_go_change(change);
+            Err(answer)
+        }
+    }
+}
+
+/// The change that a text is over some names, with the chunks that come with it.
+pub fn offer_over<R: Threads + Sync>(
+    rt: &R,
+    alloc: Global,
+    names: &Names,
+    text: &[u8],
+) -> Result<Offer, Answer>
+    requires { AreStored names.now }
+    ensures { IfOk result (IsOffer names.now) }
+{
+    match change_over(alloc, text, names) {
+        Ok(change) => with_chunks(rt, alloc, names, change),
+        Err(answer) => Err(answer),
+    }
+}
+
+/// The change that a text is under a pin, if nothing of it was changed since, with the chunks that come with it.
+pub(crate) fn offer_under<D: Disk, R: Threads + Sync>(
+    rt: &R,
+    alloc: Global,
+    store: &Store<D>,
+    pinned: &Pinned,
+    text: &[u8],
+) -> Result<Offer, Answer>
+    requires open { IsOpenPin store.now.ledger pinned.now }
+    requires stored { AreStored pinned.now.names }
+    ensures { IfOk result (IsOffer (names_at store.now.ledger.base (history store.now.ledger))) }
+{
+    match change_under(alloc, store, pinned, text) {
+        Ok(change) => with_chunks(rt, alloc, store.names(), change),
+        Err(answer) => Err(answer),
+    }
+}
