@@ -10,8 +10,9 @@ mod words;
 pub use known::{name_of, one_more};
 pub use lines::{bytes_in, bytes_of, text_of};
 pub use shown::{
-    push_cell, push_chunk, push_coord, push_count, push_counts, push_datum, push_hex, push_integer,
-    push_number, push_quoted, push_text, push_word, push_words,
+    push_cell, push_chunk, push_code, push_coord, push_count, push_counts, push_datum, push_given,
+    push_hex, push_integer, push_number, push_quoted, push_range, push_text, push_word, push_words,
+    truth_word,
 };
 pub use transcript::{begin_answer, input};
 pub use words::{cell_of, coord_in, datum_of, fault_of, number_in, place_in, words_of};

@@ -1,6 +1,6 @@
 //! The words for values.
 
-use cell_values::{Cell, ChunkAt, Coord, Datum, FaultKind, Memory};
+use cell_values::{Bytes, Cell, ChunkAt, Coord, Datum, FaultKind, Memory};
 
 /// How many bytes of one kind are written as such.
 const LONGEST_ROW: usize = 64;
@@ -82,6 +82,20 @@ pub fn push_text(out: &mut String, bytes: &[u8]) -> Result<(), Memory> {
     Ok(())
 }
 
+/// Adds a text, and lets it go.
+pub fn push_given(out: &mut String, text: Bytes) -> Result<(), Memory> {
+    let told = push_text(out, text.as_slice());
+    drop(text);
+    told
+}
+
+/// Adds two numbers, as `3-5`.
+pub fn push_range(out: &mut String, start: u64, end: u64) -> Result<(), Memory> {
+    push_count(out, start)?;
+    push_word(out, "-")?;
+    push_count(out, end)
+}
+
 /// Adds a text in quotes.
 pub fn push_quoted(out: &mut String, bytes: &[u8]) -> Result<(), Memory> {
     push_word(out, "'")?;
@@ -99,11 +113,13 @@ fn fault_word(kind: FaultKind) -> &'static str {
     }
 }
 
-fn truth_word(truth: bool) -> &'static str {
+/// The word for a truth.
+pub fn truth_word(truth: bool) -> &'static str {
     if truth { "true" } else { "false" }
 }
 
-fn push_code(out: &mut String, number: u8) -> Result<(), Memory> {
+/// Adds a code, as `?7`.
+pub fn push_code(out: &mut String, number: u8) -> Result<(), Memory> {
     push_word(out, "?")?;
     push_count(out, u64::from(number))
 }

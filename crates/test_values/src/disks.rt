@@ -89,7 +89,12 @@ fn kept_in(alloc: Global, signs: &str) -> Result<Vec<bool>, Memory> {
     Ok(kept)
 }
 
-fn push_image_of(out: &mut String, disk: &MemDisk, calls: u64, kept: &[bool]) -> Result<(), Memory> {
+fn push_image_of(
+    out: &mut String,
+    disk: &MemDisk,
+    calls: u64,
+    kept: &[bool],
+) -> Result<(), Memory> {
     if calls <= disk.calls().len() as u64 {
         let image = disk.image(calls, kept, b'.')?;
         let told = push_text(out, image.as_slice());

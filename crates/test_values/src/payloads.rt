@@ -8,9 +8,7 @@ use array_rows::Cells;
 use cell_values::{Attribute, Bytes, ChunkAt, Dimension, Kind, List, Memory, Schema};
 use chunk_rle::{BadPayload, decode, encode};
 use std::alloc::Global;
-use test_kit::{
-    bytes_in, cell_of, name_of, one_more, place_in, push_count, push_hex, push_word,
-};
+use test_kit::{bytes_in, cell_of, name_of, one_more, place_in, push_count, push_hex, push_word};
 
 fn attributes(alloc: Global) -> Result<List<Attribute>, Memory>
     ensures { IfOk result (λ attributes. attributes ≡ example.attributes) }

@@ -12,7 +12,9 @@ use cell_values::{
     Attribute, Bounds, ChunkAt, Coord, Datum, Dimension, Kind, List, Memory, Name, Schema, coord_of,
 };
 use std::alloc::Global;
-use test_kit::{name_of, one_more, push_coord, push_count, push_number, push_word, push_words};
+use test_kit::{
+    name_of, one_more, push_coord, push_count, push_number, push_word, push_words, truth_word,
+};
 
 fn dimension(name: Name, lo: i64, hi: i64, chunk: u64) -> Dimension
     ensures { result ≡ dimension name lo hi chunk 1 }
@@ -153,10 +155,6 @@ pub(crate) fn push_chunks(out: &mut String) -> Result<(), Memory> {
     let told = push_meeting(out, &schema);
     drop(schema);
     told
-}
-
-fn truth_word(truth: bool) -> &'static str {
-    if truth { "true" } else { "false" }
 }
 
 fn push_held(out: &mut String, area: &Bounds) -> Result<(), Memory> {

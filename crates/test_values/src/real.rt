@@ -16,8 +16,7 @@ fn push_source<S: Shelf>(
     calls: &[&str],
 ) -> Result<(), Memory> {
     match shelf.script(name) {
-        Ok(source) => {
-            let mut source = source;
+        Ok(mut source) => {
             let told = push_reads(out, &mut source, calls);
             drop(source);
             told
@@ -33,8 +32,7 @@ fn push_sink<S: Shelf>(
     calls: &[&str],
 ) -> Result<(), Memory> {
     match shelf.reply(name) {
-        Ok(sink) => {
-            let mut sink = sink;
+        Ok(mut sink) => {
             let told = push_writes(out, &mut sink, calls);
             drop(sink);
             told
@@ -55,8 +53,7 @@ fn push_disk<S: Shelf>(
     calls: &[&str],
 ) -> Result<(), Memory> {
     match shelf.device(name) {
-        Ok(disk) => {
-            let mut disk = disk;
+        Ok(mut disk) => {
             let told = push_calls(out, &mut disk, calls);
             drop(disk);
             told

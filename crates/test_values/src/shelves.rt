@@ -95,8 +95,7 @@ fn push_script(
     counts: &[&str],
 ) -> Result<(), Memory> {
     match shelf.script(name) {
-        Ok(source) => {
-            let mut source = source;
+        Ok(mut source) => {
             let told = push_reads(out, &mut source, counts);
             drop(source);
             told
@@ -112,8 +111,7 @@ fn push_reply(
     pieces: &[&str],
 ) -> Result<(), Memory> {
     match shelf.reply(name) {
-        Ok(sink) => {
-            let mut sink = sink;
+        Ok(mut sink) => {
             let told = push_writes(out, &mut sink, pieces);
             drop(sink);
             told
@@ -129,8 +127,7 @@ fn push_device(
     calls: &[&str],
 ) -> Result<(), Memory> {
     match shelf.device(name) {
-        Ok(device) => {
-            let mut device = device;
+        Ok(mut device) => {
             let told = push_answers(out, &mut device, calls);
             drop(device);
             told
