@@ -154,7 +154,14 @@ fn filled_by(
     let mut counts = BTreeMap::new(array.chunks.allocator());
     let mut filled = Filled::new(array.chunks.allocator());
     let chunks = array.chunks.as_slice();
-    let moved = fill_bands(&array.schema, &array.margins, chunks, to, &mut counts, &mut filled);
+    let moved = fill_bands(
+        &array.schema,
+        &array.margins,
+        chunks,
+        to,
+        &mut counts,
+        &mut filled,
+    );
     drop(counts);
     finished(filled, moved)
 }

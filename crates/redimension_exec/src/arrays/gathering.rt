@@ -77,7 +77,13 @@ pub(crate) fn gathered_in_bands(
 {
     let ordered = aggregates_named(&target.attributes, aggregates)?;
     let chunks = array.chunks.as_slice();
-    let found = groups_of_cores(&array.schema, target, ordered.as_slice(), &array.margins, chunks);
+    let found = groups_of_cores(
+        &array.schema,
+        target,
+        ordered.as_slice(),
+        &array.margins,
+        chunks,
+    );
     drop(ordered);
     told_of(found)
 }
