@@ -1,5 +1,6 @@
 pub mod ColumnLaws
 pub mod FaultLaws
+pub mod FormLaws
 pub mod RowLaws
 pub mod RowSets
 pub mod RowsLemmas

@@ -3,7 +3,7 @@ use Rattle.std.proofs.Common.{◌≡◌, ℕ, zero, suc, ◌+◌, ◌<◌, ◌�
 use Rattle.std.proofs.lemmas.List.{get_or_append_left, get_or_push}
 use Rattle.std.proofs.lemmas.Bool.{cases_lt}
 use Rattle.cell_values.specs.declared.memory.Memory.{Memory}
-use Rattle.std.specs.Prelude.{slice_index_or}
+use Rattle.std.specs.Prelude.{slice_index_or, OnOk}
 use Rattle.cell_values.specs.declared.datum.Datum.{Datum}
 use Rattle.cell_values.specs.declared.datum.Datum.TheVariants.{Null}
 use Rattle.array_rows.specs.RowsIn.{row_at, rows_in, pushed, AreLong}
@@ -117,3 +117,10 @@ pub place_read : (cs : List (List Datum)) (i k : ℕ) (c : List Datum) (v : Datu
 place_read [] i k c v l e f = absurd (omega arith)
 place_read (d ∷ cs) zero k c v l e f = f ∙ ap (λ x. get_or x k Null) e
 place_read (d ∷ cs) (suc i) k c v l e f = place_read cs i k c v (omega arith) e f
+
+pub first_pushed : (cs ds : List (List Datum)) (v w : Datum) → w ≡ v → ds ≡ set cs 0 (get_or cs 0 [] ++ w ∷ []) → ds ≡ pushed cs (v ∷ [])
+first_pushed cs ds v w same e = push_step cs cs ds (v ∷ []) 0 w (omega arith) same (sym (none_pushed cs)) e
+
+pub on_ok : {X E : Type 0} {P Q : Type 0} (r : Result X E) → (P → Q) → OnOk r P → OnOk r Q
+on_ok (Ok x) f p = f p
+on_ok (Err e) f p = p

@@ -7,8 +7,8 @@ ghost use Rattle.array_rows.specs.Inner.CellsIn.{cells_in, value_in};
 
 use crate::columns::Rows;
 use crate::columns::forms::{
-    Form, cell_in, copy_form, count_in, fault_at, list_of, numbers_in, push_form, push_row_form,
-    push_values_form,
+    Form, cell_in, copy_form, count_in, fault_at, list_of, numbers_in, push_form, push_number_form,
+    push_row_form, push_values_form,
 };
 use cell_values::{Cell, Copies, Datum, FaultKind, List, Memory};
 use std::alloc::Global;
@@ -97,6 +97,13 @@ impl Cells {
         ensures { OnOk result (self.new ≡ self.old ++ Full values.now ∷ []) }
     {
         push_values_form(self.alloc, &mut self.form, values)
+    }
+
+    /// Adds a cell with this number alone.
+    pub fn push_number(&mut self, number: i64) -> Result<(), Memory>
+        ensures { OnOk result (self.new ≡ self.old ++ Full (Int number ∷ []) ∷ []) }
+    {
+        push_number_form(self.alloc, &mut self.form, number)
     }
 
     /// Adds a row of values as a cell.

@@ -16,6 +16,14 @@ fn push_at(columns: &mut Vec<Column>, at: usize, value: Datum) -> Result<(), Mem
     columns[at].push(value)
 }
 
+/// Adds a number to the only column.
+pub(crate) fn push_first(columns: &mut Vec<Column>, number: i64) -> Result<(), Memory>
+    requires { length columns.old.items ≡ 1 }
+    ensures { OnOk result (columns.new.items ≡ pushed columns.old.items (Int number ∷ [])) }
+{
+    push_at(columns, 0, Datum::Int(number))
+}
+
 /// Adds a value to each column.
 pub(crate) fn push_each(columns: &mut Vec<Column>, values: &[Datum]) -> Result<(), Memory>
     requires { length columns.old.items ≡ length values.now }

@@ -54,6 +54,16 @@ fn takes_values(form: &mut Form, values: &[Datum]) -> Result<bool, Memory>
     }
 }
 
+/// Whether a number was taken as a row.
+fn takes_number(form: &mut Form, number: i64) -> Result<bool, Memory>
+    ensures { IfOk result (λ taken. cells_in form.new ≡ cond taken (cells_in form.old ++ Full (Int number ∷ []) ∷ []) (cells_in form.old)) }
+{
+    match form {
+        Form::Even(rows) => rows.push_number(number),
+        Form::Mixed(_) => Ok(false),
+    }
+}
+
 /// Whether a row of others was taken as a row.
 fn takes_row(form: &mut Form, from: &Rows, k: usize) -> Result<bool, Memory>
     requires { k < length from.now }
@@ -116,6 +126,23 @@ pub(crate) fn push_values_form(
         return Ok(());
     }
     push_mixed(alloc, form, Cell::Full(copy_values(alloc, values)?))
+}
+
+fn cell_of_number(alloc: Global, number: i64) -> Result<Cell, Memory>
+    ensures { IfOk result (λ cell. cell ≡ Full (Int number ∷ [])) }
+{
+    let mut values = List::new(alloc);
+    values.push(Datum::Int(number))?;
+    Ok(Cell::Full(values))
+}
+
+pub(crate) fn push_number_form(alloc: Global, form: &mut Form, number: i64) -> Result<(), Memory>
+    ensures { OnOk result (cells_in form.new ≡ cells_in form.old ++ Full (Int number ∷ []) ∷ []) }
+{
+    if takes_number(form, number)? {
+        return Ok(());
+    }
+    push_mixed(alloc, form, cell_of_number(alloc, number)?)
 }
 
 pub(crate) fn push_row_form(

@@ -7,7 +7,7 @@ ghost use Rattle.array_rows.specs.Seen.{seen};
 
 use crate::columns::faults::fault_in;
 use crate::columns::filling::{
-    copy_columns, empty_columns, number_in, push_each, push_place, small_in, values_at,
+    copy_columns, empty_columns, number_in, push_each, push_first, push_place, small_in, values_at,
 };
 use crate::columns::{Column, Small};
 use cell_values::{Datum, FaultKind, List, Memory};
@@ -108,6 +108,29 @@ impl Rows {
             return Err(Memory);
         };
         match push_each(&mut self.columns, values) {
+            Ok(()) => {
+                self.count = next;
+                Ok(true)
+            }
+            Err(error) => {
+                self.columns.clear();
+                self.count = 0;
+                Err(error)
+            }
+        }
+    }
+
+    /// Adds a row of one number at the end, as `push` does.
+    pub fn push_number(&mut self, number: i64) -> Result<bool, Memory>
+        ensures { IfOk result (λ taken. self.new ≡ cond taken (self.old ++ (Int number ∷ []) ∷ []) self.old) }
+    {
+        if !fit(&mut self.columns, self.count, 1)? {
+            return Ok(false);
+        }
+        let Some(next) = self.count.checked_add(1) else {
+            return Err(Memory);
+        };
+        match push_first(&mut self.columns, number) {
             Ok(()) => {
                 self.count = next;
                 Ok(true)
