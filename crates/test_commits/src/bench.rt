@@ -1,10 +1,10 @@
 //! A disk that is watched, for one store after the other.
 
-use anyhow::Result;
 use cell_values::{Bytes, Memory};
-use std::alloc::{AllocError, Global};
+use std::alloc::Global;
 use store_opening::Limits;
 use test_files::{disk_of, made, of_format_one};
+use test_kit::{push_hex, push_word};
 use test_stores::{QuietDisk, Watch, push_costs};
 
 /// A disk that is watched, and how much a store over it may use.
@@ -37,16 +37,38 @@ fn bench_over(alloc: Global, bytes: Bytes, limits: Limits) -> Result<Bench, Memo
     })
 }
 
+/// An empty file that was made a database.
+pub(crate) fn new_database(alloc: Global) -> Result<Bytes, Memory> {
+    match made(alloc) {
+        Ok(bytes) => Ok(bytes),
+        Err(_) => Err(Memory),
+    }
+}
+
+/// An empty database of format 1.
+pub(crate) fn old_database(alloc: Global) -> Result<Bytes, Memory> {
+    match of_format_one(alloc) {
+        Ok(bytes) => Ok(bytes),
+        Err(_) => Err(Memory),
+    }
+}
+
+/// So many bytes from a place on, as many as there are.
+fn part_of(bytes: &[u8], at: usize, count: usize) -> &[u8] {
+    let from = at.min(bytes.len());
+    &bytes[from..from.saturating_add(count).min(bytes.len())]
+}
+
 impl Bench {
     /// The disk that a line makes; none where it makes none.
-    pub(crate) fn of(alloc: Global, words: &[&str]) -> Result<Option<Bench>> {
+    pub(crate) fn of(alloc: Global, words: &[&str]) -> Result<Option<Bench>, Memory> {
         match words {
             ["new", pages, history] => {
-                let bytes = made(alloc)?;
+                let bytes = new_database(alloc)?;
                 Ok(Some(bench_over(alloc, bytes, limits_of(pages, history))?))
             }
             ["format1", pages, history] => {
-                let bytes = of_format_one(alloc)?;
+                let bytes = old_database(alloc)?;
                 Ok(Some(bench_over(alloc, bytes, limits_of(pages, history))?))
             }
             _ => Ok(None),
@@ -54,21 +76,19 @@ impl Bench {
     }
 
     /// Adds what the disk's calls cost since that was told.
-    fn push_calls(&mut self, out: &mut String) -> Result<(), AllocError> {
+    fn push_calls(&mut self, out: &mut String) -> Result<(), Memory> {
         push_costs(out, &self.watch, self.told)?;
         self.told = self.watch.count();
-        out.push('\n')
+        push_word(out, "\n")
     }
 
     /// Adds so many bytes of the disk from a place on.
-    fn push_bytes(&self, out: &mut String, at: usize, count: usize) -> Result<(), Memory> {
+    fn push_bytes(&self, out: &mut String, at: u32, count: u32) -> Result<(), Memory> {
         let bytes = self.watch.bytes()?;
-        let bytes = bytes.as_slice();
-        let from = at.min(bytes.len());
-        for byte in &bytes[from..from.saturating_add(count).min(bytes.len())] {
-            write!(out, "{byte:02x}")?;
-        }
-        Ok(out.push('\n')?)
+        let told = push_hex(out, part_of(bytes.as_slice(), at as usize, count as usize));
+        drop(bytes);
+        told?;
+        push_word(out, "\n")
     }
 
     /// Adds the answer to a line about the disk.
@@ -77,9 +97,7 @@ impl Bench {
             ["calls"] => self.push_calls(out)?,
             ["mark"] => self.told = self.watch.count(),
             ["fail", call] => self.watch.fail(u64::from(number_of(call))),
-            ["bytes", at, count] => {
-                self.push_bytes(out, number_of(at) as usize, number_of(count) as usize)?
-            }
+            ["bytes", at, count] => self.push_bytes(out, number_of(at), number_of(count))?,
             _ => {}
         }
         Ok(())

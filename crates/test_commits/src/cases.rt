@@ -1,12 +1,13 @@
 //! Changes of stores, and what comes of them where a call of the disk fails.
 
+use crate::bench::{new_database, old_database};
 use crate::moments::{Versions, held, push_moments};
-use anyhow::Result;
 use cell_values::{Bytes, Memory};
-use std::alloc::Global;
+use std::alloc::{AllocError, Global};
 use std::thread::Threads;
 use store_opening::Limits;
-use test_files::{disk_of, made, of_format_one};
+use test_files::disk_of;
+use test_kit::{push_count, push_word, push_words};
 use test_stores::{QuietDisk, Watch, push_answered};
 
 const LIMITS: Limits = Limits {
@@ -49,7 +50,9 @@ fn behind<R: Threads + Sync>(
     change: &str,
 ) -> Result<Bytes, Memory> {
     let mut told = String::new(alloc);
-    let watch = attempt(rt, &mut told, file, change, None)?;
+    let watch = attempt(rt, &mut told, file, change, None);
+    drop(told);
+    let watch = watch?;
     let bytes = watch.bytes();
     drop(watch);
     bytes
@@ -78,9 +81,9 @@ fn versions_of<R: Threads + Sync>(
 
 /// Adds what a stop behind each call leaves. How many calls there were is the answer.
 fn push_left(out: &mut String, watch: &Watch, versions: &Versions) -> Result<usize, Memory> {
-    out.push_str(" ")?;
+    push_word(out, " ")?;
     push_moments(out, watch, versions, LIMITS)?;
-    out.push('\n')?;
+    push_word(out, "\n")?;
     Ok(watch.count())
 }
 
@@ -97,13 +100,17 @@ fn push_attempt<R: Threads + Sync>(
     left
 }
 
-fn tell_range(rt: &impl Print, from: usize, to: usize, told: &str) -> Result<()> {
+fn push_range(out: &mut String, from: usize, to: usize, told: &str) -> Result<(), Memory> {
     if from == to {
-        print!(rt; "call {from} fails: {told}")?;
-    } else {
-        print!(rt; "calls {from} to {to} fail, each alone: {told}")?;
+        push_word(out, "call ")?;
+        push_count(out, from as u64)?;
+        return push_words(out, &[" fails: ", told]);
     }
-    Ok(())
+    push_word(out, "calls ")?;
+    push_count(out, from as u64)?;
+    push_word(out, " to ")?;
+    push_count(out, to as u64)?;
+    push_words(out, &[" fail, each alone: ", told])
 }
 
 fn told_failing<R: Threads + Sync>(
@@ -113,55 +120,76 @@ fn told_failing<R: Threads + Sync>(
     call: u64,
 ) -> Result<String, Memory> {
     let mut told = String::new(alloc);
-    push_attempt(rt, &mut told, case, Some(call))?;
-    Ok(told)
+    match push_attempt(rt, &mut told, case, Some(call)) {
+        Ok(_) => Ok(told),
+        Err(Memory) => {
+            drop(told);
+            Err(Memory)
+        }
+    }
 }
 
-/// Prints what comes of the change where each of so many calls fails. Calls of which the same comes are told at once.
-fn tell_failing(
-    rt: &(impl Print + AllocGlobal + Threads + Sync),
+/// Adds what comes of the change where each of so many calls fails. Calls of which the same comes are told at once.
+fn push_failing<R: Threads + Sync>(
+    rt: &R,
+    out: &mut String,
     case: &Case<'_>,
     calls: usize,
-) -> Result<()> {
-    let mut told = String::new(rt.alloc());
+) -> Result<(), Memory> {
+    let mut told = String::new(*out.allocator());
     let mut from = 0;
     for call in 0..calls {
-        let next = told_failing(rt, rt.alloc(), case, call as u64)?;
+        let next = told_failing(rt, *out.allocator(), case, call as u64)?;
         if call > 0 && next.as_str() != told.as_str() {
-            tell_range(rt, from, call - 1, told.as_str())?;
+            push_range(out, from, call - 1, told.as_str())?;
             from = call;
         }
         told = next;
     }
-    tell_range(rt, from, calls.saturating_sub(1), told.as_str())
+    push_range(out, from, calls.saturating_sub(1), told.as_str())
 }
 
-fn tell_case(
-    rt: &(impl Print + AllocGlobal + Threads + Sync),
+fn push_case<R: Threads + Sync>(
+    rt: &R,
+    out: &mut String,
     title: &str,
     case: &Case<'_>,
-) -> Result<()> {
-    let mut told = String::new(rt.alloc());
-    let calls = push_attempt(rt, &mut told, case, None)?;
-    print!(rt; "## {title}\nno call fails: {told}")?;
-    drop(told);
-    tell_failing(rt, case, calls)
+) -> Result<(), Memory> {
+    push_words(out, &["## ", title, "\nno call fails: "])?;
+    let calls = push_attempt(rt, out, case, None)?;
+    push_failing(rt, out, case, calls)
 }
 
-/// Prints what comes of a change of a file.
-fn tell_change(
-    rt: &(impl Print + AllocGlobal + Threads + Sync),
+/// Adds what comes of a change of a file.
+fn push_change<R: Threads + Sync>(
+    rt: &R,
+    out: &mut String,
     title: &str,
     file: &Bytes,
     change: &str,
-) -> Result<()> {
-    let versions = versions_of(rt, rt.alloc(), file, change)?;
+) -> Result<(), Memory> {
+    let versions = versions_of(rt, *out.allocator(), file, change)?;
     let case = Case {
         file,
         change,
         versions: &versions,
     };
-    tell_case(rt, title, &case)
+    let told = push_case(rt, out, title, &case);
+    drop(versions);
+    told
+}
+
+/// Adds what comes of a change of a file, which goes.
+fn push_over<R: Threads + Sync>(
+    rt: &R,
+    out: &mut String,
+    title: &str,
+    file: Bytes,
+    change: &str,
+) -> Result<(), Memory> {
+    let told = push_change(rt, out, title, &file, change);
+    drop(file);
+    told
 }
 
 const FIRST: &str = "store(build(<v:int64>[i=0:2,2,0], i), A)";
@@ -170,48 +198,59 @@ const SECOND: &str = "store(build(<v:int64>[i=0:2,2,0], i+10), A)";
 
 const CREATED: &str = "create array B <v:int64>[i=0:0,1,0]";
 
+/// The file behind a change, in place of the one before it.
+fn next<R: Threads + Sync>(rt: &R, file: Bytes, change: &str) -> Result<Bytes, Memory> {
+    let behind = behind(rt, file.allocator(), &file, change);
+    drop(file);
+    behind
+}
+
 /// A database with the first version of A.
-fn first<R: Threads + Sync>(rt: &R, alloc: Global) -> Result<Bytes> {
-    let file = made(alloc)?;
-    Ok(behind(rt, alloc, &file, FIRST)?)
+fn first<R: Threads + Sync>(rt: &R, alloc: Global) -> Result<Bytes, Memory> {
+    next(rt, new_database(alloc)?, FIRST)
 }
 
 /// One with both versions.
-fn second<R: Threads + Sync>(rt: &R, alloc: Global) -> Result<Bytes> {
-    let file = first(rt, alloc)?;
-    Ok(behind(rt, alloc, &file, SECOND)?)
+fn second<R: Threads + Sync>(rt: &R, alloc: Global) -> Result<Bytes, Memory> {
+    next(rt, first(rt, alloc)?, SECOND)
 }
 
-fn with_array<R: Threads + Sync>(
-    rt: &R,
-    alloc: Global,
-    file: &Bytes,
-    number: u32,
-) -> Result<Bytes, Memory> {
-    let change = format!(in alloc; "create array A{number} <v:int64>[i=0:0,1,0]")?;
-    behind(rt, alloc, file, change.as_str())
+fn with_array<R: Threads + Sync>(rt: &R, file: Bytes, number: u32) -> Result<Bytes, Memory> {
+    match format!(in file.allocator(); "create array A{number} <v:int64>[i=0:0,1,0]") {
+        Ok(change) => {
+            let behind = next(rt, file, change.as_str());
+            drop(change);
+            behind
+        }
+        Err(AllocError) => {
+            drop(file);
+            Err(Memory)
+        }
+    }
 }
 
 /// One in whose log no entry is left.
-fn with_full_log<R: Threads + Sync>(rt: &R, alloc: Global) -> Result<Bytes> {
-    let mut file = made(alloc)?;
+fn with_full_log<R: Threads + Sync>(rt: &R, alloc: Global) -> Result<Bytes, Memory> {
+    let mut file = new_database(alloc)?;
     for number in 0..64u32 {
-        file = with_array(rt, alloc, &file, number)?;
+        file = with_array(rt, file, number)?;
     }
     Ok(file)
 }
 
-/// Prints each case.
-pub(crate) fn tell_cases(rt: &(impl Print + AllocGlobal + Threads + Sync)) -> Result<()> {
+/// Adds each case.
+pub(crate) fn push_cases<R: Threads + Sync>(rt: &R, out: &mut String) -> Result<(), Memory> {
+    let alloc = *out.allocator();
     let removal = "remove_versions(A, 2)";
     let migration = "the first commit to a file of format 1";
-    tell_change(rt, SECOND, &first(rt, rt.alloc())?, SECOND)?;
-    tell_change(rt, removal, &second(rt, rt.alloc())?, removal)?;
-    tell_change(
+    push_over(rt, out, SECOND, first(rt, alloc)?, SECOND)?;
+    push_over(rt, out, removal, second(rt, alloc)?, removal)?;
+    push_over(
         rt,
+        out,
         "the 65th commit",
-        &with_full_log(rt, rt.alloc())?,
+        with_full_log(rt, alloc)?,
         CREATED,
     )?;
-    tell_change(rt, migration, &of_format_one(rt.alloc())?, CREATED)
+    push_over(rt, out, migration, old_database(alloc)?, CREATED)
 }

@@ -4,22 +4,30 @@ ghost use Rattle.test_commits.specs.Runs.{IsRun};
 
 use crate::bench::Bench;
 use crate::sessions::{Run, Step, answer_to, create_all};
-use anyhow::Result;
 use cell_values::Memory;
-use std::alloc::{AllocError, Global};
+use std::alloc::Global;
 use std::thread::Threads;
-use test_kit::begin_answer;
+use test_kit::{begin_answer, push_count, push_word, words_of};
 use test_stores::{Answer, QuietDisk, opened, reaped};
 
+fn push_numbers(out: &mut String, free: u64, entries: u64, notes: u64) -> Result<(), Memory> {
+    push_count(out, free)?;
+    push_word(out, " pages free, ")?;
+    push_count(out, entries)?;
+    push_word(out, " entries, ")?;
+    push_count(out, notes)?;
+    push_word(out, " notes\n")
+}
+
 /// Adds how many pages nobody can name, and how many entries and notes there are.
-fn push_counts(out: &mut String, run: &mut Run) -> Result<(), AllocError>
+fn push_counts(out: &mut String, run: &mut Run) -> Result<(), Memory>
     requires { IsRun run.old }
     ensures { IsRun run.new }
 {
     let free = run.store.free_pages();
     let entries = run.store.history().len();
     let notes = run.store.notes();
-    writeln!(out, "{free} pages free, {entries} entries, {notes} notes")
+    push_numbers(out, u64::from(free), entries as u64, notes)
 }
 
 /// The text behind the first two words of a line, each with a space.
@@ -95,8 +103,13 @@ fn push_answer<R: Threads + Sync>(
         return bench.answer(out, words);
     }
     match words {
-        ["counts"] => Ok(push_counts(out, run)?),
-        _ => answer_step(rt, *out.allocator(), run, line, words).push(out),
+        ["counts"] => push_counts(out, run),
+        _ => {
+            let answer = answer_step(rt, *out.allocator(), run, line, words);
+            let told = answer.push(out);
+            drop(answer);
+            told
+        }
     }
 }
 
@@ -105,50 +118,63 @@ fn opens(line: &str) -> bool {
     line.starts_with("new ") || line.starts_with("format1 ") || line == "open"
 }
 
-/// Prints a line with its answer.
-fn tell(
-    rt: &(impl Print + AllocGlobal + Threads + Sync),
+/// Adds the answer to a line.
+fn push_answered<R: Threads + Sync>(
+    rt: &R,
+    out: &mut String,
     bench: &mut Bench,
     run: &mut Run,
     line: &str,
-) -> Result<()>
+) -> Result<(), Memory>
     requires { IsRun run.old }
     ensures { IsRun run.new }
 {
-    let mut out = String::new(rt.alloc());
-    if begin_answer(&mut out, line)? {
-        let words: Vec<&str> = line.split_whitespace().collect(rt.alloc())?;
-        push_answer(rt, &mut out, bench, run, line, words.as_slice())?;
+    let words = words_of(*out.allocator(), line)?;
+    let told = push_answer(rt, out, bench, run, line, words.as_slice());
+    drop(words);
+    told
+}
+
+/// Adds a line with its answer.
+fn push_line<R: Threads + Sync>(
+    rt: &R,
+    out: &mut String,
+    bench: &mut Bench,
+    run: &mut Run,
+    line: &str,
+) -> Result<(), Memory>
+    requires { IsRun run.old }
+    ensures { IsRun run.new }
+{
+    if begin_answer(out, line)? {
+        push_answered(rt, out, bench, run, line)?;
     }
-    print!(rt; "{out}")?;
     Ok(())
 }
 
-/// Prints the lines from one on with their answers, up to one that opens a store. Its place is the answer.
-fn tell_steps(
-    rt: &(impl Print + AllocGlobal + Threads + Sync),
+/// Adds the lines from one on with their answers, up to one that opens a store. Its place is the answer.
+fn push_steps<R: Threads + Sync>(
+    rt: &R,
+    out: &mut String,
     bench: &mut Bench,
     run: &mut Run,
     lines: &[&str],
     from: usize,
-) -> Result<usize>
+) -> Result<usize, Memory>
     requires { IsRun run.old }
 {
     for at in from..lines.len() {
         if opens(lines[at]) {
             return Ok(at);
         }
-        tell(rt, bench, run, lines[at])?;
+        push_line(rt, out, bench, run, lines[at])?;
     }
     Ok(lines.len())
 }
 
-fn tell_answer(rt: &(impl Print + AllocGlobal), line: &str, answer: &Answer) -> Result<()> {
-    let mut out = String::new(rt.alloc());
-    begin_answer(&mut out, line)?;
-    answer.push(&mut out)?;
-    print!(rt; "{out}")?;
-    Ok(())
+fn push_opened(out: &mut String, line: &str, answer: &Answer) -> Result<(), Memory> {
+    begin_answer(out, line)?;
+    answer.push(out)
 }
 
 /// The store over the disk, as it is opened now.
@@ -164,37 +190,39 @@ fn run_over(alloc: Global, bench: &Bench) -> Result<Run, Answer>
     }
 }
 
-/// Prints the line that opened a store, and the lines behind it with their answers, up to the next one that opens a store.
-fn tell_run(
-    rt: &(impl Print + AllocGlobal + Threads + Sync),
+/// Adds the line that opened a store, and the lines behind it with their answers, up to the next one that opens a store.
+fn push_run<R: Threads + Sync>(
+    rt: &R,
+    out: &mut String,
     bench: &mut Bench,
     run: &mut Run,
     lines: &[&str],
     from: usize,
     line: &str,
-) -> Result<usize>
+) -> Result<usize, Memory>
     requires { IsRun run.old }
 {
-    tell_answer(rt, line, &Answer::Done)?;
-    tell_steps(rt, bench, run, lines, from)
+    push_opened(out, line, &Answer::Done)?;
+    push_steps(rt, out, bench, run, lines, from)
 }
 
-/// Opens the store for a line, and prints the lines behind it with their answers, up to the next one that opens a store.
-pub(crate) fn tell_store(
-    rt: &(impl Print + AllocGlobal + Threads + Sync),
+/// Opens the store for a line, and adds the lines behind it with their answers, up to the next one that opens a store.
+pub(crate) fn push_store<R: Threads + Sync>(
+    rt: &R,
+    out: &mut String,
     bench: &mut Bench,
     lines: &[&str],
     from: usize,
     line: &str,
-) -> Result<usize> {
-    match run_over(rt.alloc(), bench) {
+) -> Result<usize, Memory> {
+    match run_over(*out.allocator(), bench) {
         Ok(mut run) => {
-            let next = tell_run(rt, bench, &mut run, lines, from, line);
+            let next = push_run(rt, out, bench, &mut run, lines, from, line);
             drop(run);
             next
         }
         Err(answer) => {
-            let told = tell_answer(rt, line, &answer);
+            let told = push_opened(out, line, &answer);
             drop(answer);
             told?;
             Ok(from)

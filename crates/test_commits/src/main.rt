@@ -12,29 +12,50 @@ mod moments;
 mod runs;
 mod sessions;
 
-use anyhow::Result;
-use cases::tell_cases;
-use runs::tell_runs;
+use cases::push_cases;
+use cell_values::Memory;
+use runs::push_runs;
+use std::io;
 use std::thread::Threads;
-use test_kit::input;
+use test_kit::{input, push_words};
 
-/// Prints the title of a table, and what comes of its lines.
-fn tell_part(rt: &(impl Print + AllocGlobal + Threads + Sync), part: &str) -> Result<()> {
-    let Some((title, text)) = part.split_once('\n') else {
-        return Ok(());
-    };
-    println!(rt; "### {title}")?;
+/// Adds what comes of the lines of a table.
+fn push_table<R: Threads + Sync>(
+    rt: &R,
+    out: &mut String,
+    title: &str,
+    text: &str,
+) -> Result<(), Memory> {
     match title {
-        "steps" => tell_runs(rt, text),
-        "stops" => tell_cases(rt),
+        "steps" => push_runs(rt, out, text),
+        "stops" => push_cases(rt, out),
         _ => Ok(()),
     }
 }
 
-fn main(rt: HostRuntime) -> Result<()> {
-    let text = input(&rt)?;
+/// Adds the title of a table, and what comes of its lines.
+fn push_part<R: Threads + Sync>(rt: &R, out: &mut String, part: &str) -> Result<(), Memory> {
+    match part.split_once('\n') {
+        Some((title, text)) => {
+            push_words(out, &["### ", title, "\n"])?;
+            push_table(rt, out, title, text)
+        }
+        None => Ok(()),
+    }
+}
+
+fn push_parts<R: Threads + Sync>(rt: &R, out: &mut String, text: &str) -> Result<(), Memory> {
     for part in text.split("### ") {
-        tell_part(&rt, part)?;
+        push_part(rt, out, part)?;
     }
     Ok(())
+}
+
+fn main(rt: HostRuntime) -> io::Result<()> {
+    let text = input(&rt)?;
+    let mut out = String::new(rt.alloc());
+    match push_parts(&rt, &mut out, text.as_str()) {
+        Ok(()) => print!(rt; "{out}"),
+        Err(Memory) => println!(rt; "no memory"),
+    }
 }

@@ -1,9 +1,10 @@
 //! What the images open as that a stop may leave.
 
 use cell_values::{Bytes, Memory};
-use std::alloc::{AllocError, Global};
+use std::alloc::Global;
 use store_opening::Limits;
 use test_files::disk_of;
+use test_kit::push_words;
 use test_stores::{QuietDisk, Watch, held_in};
 
 /// What a store held before a change, and what it holds with it.
@@ -55,6 +56,7 @@ fn add_image(
 ) -> Result<(), Memory> {
     let held = held(alloc, image, limits)?;
     add(seen, versions, &held);
+    drop(held);
     Ok(())
 }
 
@@ -95,11 +97,11 @@ fn seen_behind(
     Ok(seen)
 }
 
-fn push_seen(out: &mut String, seen: Seen) -> Result<(), AllocError> {
+fn push_seen(out: &mut String, seen: Seen) -> Result<(), Memory> {
     let old = if seen.old { "o" } else { "" };
     let new = if seen.new { "n" } else { "" };
     let other = if seen.other { "x" } else { "" };
-    write!(out, " {old}{new}{other}")
+    push_words(out, &[" ", old, new, other])
 }
 
 /// Adds what the images open as, before the first call and behind each write and each sync: o as before the change, n with it, x anything

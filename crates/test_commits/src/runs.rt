@@ -8,23 +8,20 @@
 //! call from now fails, and `bytes 512 8` which bytes stand at a place.
 
 use crate::bench::Bench;
-use crate::lines::tell_store;
-use anyhow::Result;
+use crate::lines::push_store;
+use cell_values::Memory;
+use std::alloc::Global;
 use std::thread::Threads;
+use test_kit::{push_words, words_of};
 
-/// Prints a line that isn't about a store that is open.
-fn tell_line(rt: &impl Print, line: &str) -> Result<()> {
-    println!(rt; "{line}")?;
-    Ok(())
-}
-
-/// Prints the lines from one on with their answers, as long as they are over one disk. The place of the next one is the answer.
-fn tell_disk(
-    rt: &(impl Print + AllocGlobal + Threads + Sync),
+/// Adds the lines from one on with their answers, as long as they are over one disk. The place of the next one is the answer.
+fn push_disk<R: Threads + Sync>(
+    rt: &R,
+    out: &mut String,
     bench: &mut Bench,
     lines: &[&str],
     from: usize,
-) -> Result<usize> {
+) -> Result<usize, Memory> {
     let mut at = from;
     for _ in from..lines.len() {
         if at >= lines.len() {
@@ -34,58 +31,63 @@ fn tell_disk(
         if at > from && line != "open" {
             break;
         }
-        at = tell_store(rt, bench, lines, at.saturating_add(1), line)?;
+        at = push_store(rt, out, bench, lines, at.saturating_add(1), line)?;
     }
     Ok(at)
 }
 
 /// The disk that a line makes; none where it makes none.
-fn bench_of(rt: &impl AllocGlobal, line: &str) -> Result<Option<Bench>> {
-    let words: Vec<&str> = line.split_whitespace().collect(rt.alloc())?;
-    let bench = Bench::of(rt.alloc(), words.as_slice());
+fn bench_of(alloc: Global, line: &str) -> Result<Option<Bench>, Memory> {
+    let words = words_of(alloc, line)?;
+    let bench = Bench::of(alloc, words.as_slice());
     drop(words);
     bench
 }
 
-/// Prints a line with its answer, and the lines behind it that are over the disk that it makes. The place of the next one is the answer.
-fn tell_from(
-    rt: &(impl Print + AllocGlobal + Threads + Sync),
+/// Adds a line that isn't about a store that is open. The place of the next one is the answer.
+fn push_plain(out: &mut String, at: usize, line: &str) -> Result<usize, Memory> {
+    push_words(out, &[line, "\n"])?;
+    Ok(at.saturating_add(1))
+}
+
+/// Adds a line with its answer, and the lines behind it that are over the disk that it makes. The place of the next one is the answer.
+fn push_from<R: Threads + Sync>(
+    rt: &R,
+    out: &mut String,
     lines: &[&str],
     at: usize,
     line: &str,
-) -> Result<usize> {
-    match bench_of(rt, line)? {
+) -> Result<usize, Memory> {
+    match bench_of(*out.allocator(), line)? {
         Some(mut bench) => {
-            let next = tell_disk(rt, &mut bench, lines, at);
+            let next = push_disk(rt, out, &mut bench, lines, at);
             drop(bench);
             next
         }
-        None => {
-            tell_line(rt, line)?;
-            Ok(at.saturating_add(1))
-        }
+        None => push_plain(out, at, line),
     }
 }
 
-/// Prints each line with its answer.
-fn tell_all(rt: &(impl Print + AllocGlobal + Threads + Sync), lines: &[&str]) -> Result<()> {
+/// Adds each line with its answer.
+fn push_all<R: Threads + Sync>(rt: &R, out: &mut String, lines: &[&str]) -> Result<(), Memory> {
     let mut at = 0;
     for _ in 0..lines.len() {
         if at >= lines.len() {
             break;
         }
-        at = tell_from(rt, lines, at, lines[at])?;
+        at = push_from(rt, out, lines, at, lines[at])?;
     }
     Ok(())
 }
 
-/// Prints the lines of a text with their answers.
-pub(crate) fn tell_runs(
-    rt: &(impl Print + AllocGlobal + Threads + Sync),
+/// Adds the lines of a text with their answers.
+pub(crate) fn push_runs<R: Threads + Sync>(
+    rt: &R,
+    out: &mut String,
     text: &str,
-) -> Result<()> {
-    let lines: Vec<&str> = text.lines().collect(rt.alloc())?;
-    let told = tell_all(rt, lines.as_slice());
+) -> Result<(), Memory> {
+    let lines: Vec<&str> = text.lines().collect(*out.allocator())?;
+    let told = push_all(rt, out, lines.as_slice());
     drop(lines);
     told
 }

@@ -98,10 +98,16 @@ fn told_cells(
     }
 }
 
+fn push_number(lines: &mut Bytes, number: u32) -> Result<(), Memory> {
+    let word = format!(in lines.allocator(); "{number} ")?;
+    let told = lines.extend(word.as_bytes());
+    drop(word);
+    told
+}
+
 fn push_numbers(lines: &mut Bytes, numbers: &List<u32>) -> Result<(), Memory> {
     for number in numbers.as_slice() {
-        let word = format!(in lines.allocator(); "{number} ")?;
-        lines.extend(word.as_bytes())?;
+        push_number(lines, *number)?;
     }
     lines.push(b'\n')
 }

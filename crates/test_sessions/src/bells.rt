@@ -1,8 +1,9 @@
 //! A bell that one thread rings and another awaits.
 
-use anyhow::Result;
+use cell_values::Memory;
 use std::sync::Wait;
 use std::thread::{Threads, join};
+use test_kit::push_words;
 use turn_lock::{Bell, Ring};
 
 fn word(ring: Ring) -> &'static str {
@@ -12,12 +13,11 @@ fn word(ring: Ring) -> &'static str {
     }
 }
 
-/// What is told of a bell that another thread rings, and then of the same bell, once it is closed.
-pub(crate) fn tell_bells(rt: &(impl Print + Threads + Wait + Sync)) -> Result<()> {
+/// Adds what is told of a bell that another thread rings, and then of the same bell, once it is closed.
+pub(crate) fn push_bells<R: Threads + Wait + Sync>(rt: &R, out: &mut String) -> Result<(), Memory> {
     let bell = Bell::new();
     let (_, ring) = join(rt, || bell.ring(rt), || bell.await_bell(rt));
-    println!(rt; "bell: {}", word(ring))?;
     bell.close(rt);
-    println!(rt; "bell: {}", word(bell.await_bell(rt)))?;
-    Ok(())
+    let last = bell.await_bell(rt);
+    push_words(out, &["bell: ", word(ring), "\nbell: ", word(last), "\n"])
 }

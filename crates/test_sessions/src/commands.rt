@@ -9,48 +9,52 @@
 mod files;
 mod runs;
 
-use anyhow::Result;
-use runs::{tell_device, tell_script, tell_words};
+use cell_values::Memory;
+use runs::{push_device, push_run, push_script};
 use std::sync::Wait;
 use std::thread::Threads;
+use test_kit::push_word;
 
 fn number_of(text: &str) -> u16 {
     text.parse::<u16>().unwrap_or(0)
 }
 
 /// Runs a script with one worker, and again with eight.
-fn tell_workers(rt: &(impl Print + AllocGlobal + Threads + Wait + Sync), text: &str) -> Result<()> {
-    tell_script(rt, "run db --workers 1 -", text)?;
-    tell_script(rt, "run db --workers 8 -", text)
+fn push_workers<R: AllocGlobal + Threads + Wait + Sync>(
+    rt: &R,
+    out: &mut String,
+    text: &str,
+) -> Result<(), Memory> {
+    push_script(rt, out, "run db --workers 1 -", text)?;
+    push_script(rt, out, "run db --workers 8 -", text)
 }
 
-/// Prints what the run of a line comes to, by the word that it begins with.
-fn tell_named(
-    rt: &(impl Print + AllocGlobal + Threads + Wait + Sync),
+/// Adds what the run of a line comes to, by the word that it begins with.
+fn push_named<R: AllocGlobal + Threads + Wait + Sync>(
+    rt: &R,
+    out: &mut String,
     word: &str,
     text: &str,
-) -> Result<()> {
+) -> Result<(), Memory> {
     match word {
-        "workers" => tell_workers(rt, text),
-        "csv" => tell_script(rt, "run db --format csv+ -", text),
-        "trace" => tell_script(rt, "run db --trace -", text),
-        "words" => tell_words(rt, text),
-        "init" => tell_device(rt, usize::from(number_of(text)), &[]),
-        "fails" => tell_device(rt, 0, &[u64::from(number_of(text))]),
-        _ => {
-            println!(rt; "unknown")?;
-            Ok(())
-        }
+        "workers" => push_workers(rt, out, text),
+        "csv" => push_script(rt, out, "run db --format csv+ -", text),
+        "trace" => push_script(rt, out, "run db --trace -", text),
+        "words" => push_run(rt, out, text),
+        "init" => push_device(rt, out, usize::from(number_of(text)), &[]),
+        "fails" => push_device(rt, out, 0, &[u64::from(number_of(text))]),
+        _ => push_word(out, "unknown\n"),
     }
 }
 
-/// Prints what the run of a line comes to.
-pub(crate) fn tell_command(
-    rt: &(impl Print + AllocGlobal + Threads + Wait + Sync),
+/// Adds what the run of a line comes to.
+pub(crate) fn push_command<R: AllocGlobal + Threads + Wait + Sync>(
+    rt: &R,
+    out: &mut String,
     line: &str,
-) -> Result<()> {
+) -> Result<(), Memory> {
     match line.split_once(':') {
-        Some((word, text)) => tell_named(rt, word, text.trim_start()),
+        Some((word, text)) => push_named(rt, out, word, text.trim_start()),
         None => Ok(()),
     }
 }

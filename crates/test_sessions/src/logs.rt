@@ -1,11 +1,11 @@
 //! Threads that append side by side.
 ghost use Rattle.turn_lock.specs.Seats.{IsSeatOf, IsIdle, AreIdleSeats};
 
-use anyhow::Result;
-use cell_values::List;
+use cell_values::{List, Memory};
 use std::sync::Wait;
 use std::thread;
 use std::thread::Threads;
+use test_kit::{push_count, push_word};
 use turn_lock::{Log, TurnLock, TurnSeat, append};
 
 /// Whether the entries of a seat have the contents 0 to 999, in this order.
@@ -47,22 +47,45 @@ fn append_all<R: Threads + Wait + Sync>(
     thread::for_each_mut(rt, seats, 4, &each);
 }
 
-/// What four threads that append 1,000 entries each leave: an entry is missing where an append found no memory.
-pub(crate) fn tell_entries(rt: &(impl Print + AllocGlobal + Threads + Wait + Sync)) -> Result<()> {
-    let Ok((lock, seats)) = TurnLock::new(rt.alloc(), Log::new(rt.alloc(), 7), 4) else {
-        println!(rt; "no memory")?;
-        return Ok(());
+/// Adds whether a seat's entries are all there, in order.
+fn push_seat(out: &mut String, log: &Log, by: u32) -> Result<(), Memory> {
+    push_word(out, "seat ")?;
+    push_count(out, u64::from(by))?;
+    push_word(
+        out,
+        if has_thousand(log, by) {
+            ": 0 to 999, in order\n"
+        } else {
+            ": an entry is missing\n"
+        },
+    )
+}
+
+fn push_log(out: &mut String, log: &Log) -> Result<(), Memory> {
+    push_word(out, "log ")?;
+    push_count(out, log.number)?;
+    push_word(out, ", entries ")?;
+    push_count(out, log.entries.len() as u64)?;
+    push_word(out, "\n")?;
+    for by in 0..4 {
+        push_seat(out, log, by)?;
+    }
+    Ok(())
+}
+
+/// Adds what four threads that append 1,000 entries each leave: an entry is missing where an append found no memory.
+pub(crate) fn push_entries<R: Threads + Wait + Sync>(
+    rt: &R,
+    out: &mut String,
+) -> Result<(), Memory> {
+    let alloc = *out.allocator();
+    let Ok((lock, seats)) = TurnLock::new(alloc, Log::new(alloc, 7), 4) else {
+        return push_word(out, "no memory\n");
     };
     let mut seats = seats.into_vec();
     append_all(rt, &lock, seats.as_mut_slice(), 1_000);
     let log = lock.close(List::from_vec(seats));
-    println!(rt; "log {}, entries {}", log.number, log.entries.len())?;
-    for by in 0..4 {
-        if has_thousand(&log, by) {
-            println!(rt; "seat {by}: 0 to 999, in order")?;
-        } else {
-            println!(rt; "seat {by}: an entry is missing")?;
-        }
-    }
-    Ok(())
+    let told = push_log(out, &log);
+    drop(log);
+    told
 }

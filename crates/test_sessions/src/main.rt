@@ -14,19 +14,20 @@ mod steps;
 mod tally;
 mod tries;
 
-use anyhow::Result;
-use bells::tell_bells;
-use commands::tell_command;
-use logs::tell_entries;
-use seats::tell_seats;
-use sessions::tell_sessions;
+use bells::push_bells;
+use cell_values::Memory;
+use commands::push_command;
+use logs::push_entries;
+use seats::push_seats;
+use sessions::push_sessions;
+use std::io;
 use std::sync::Wait;
 use std::thread::Threads;
 use std::time::Clock;
-use steps::tell_shared;
-use tally::tell_turns;
-use test_kit::{begin_answer, input};
-use tries::tell_try;
+use steps::push_shared;
+use tally::push_turns;
+use test_kit::{begin_answer, input, push_words};
+use tries::push_try;
 
 /// What a line of a table is.
 #[derive(Clone, Copy)]
@@ -58,83 +59,89 @@ fn table_of(title: &str) -> Option<Table> {
     }
 }
 
-/// Prints a line. Whether it is to be answered is the answer.
-fn begin(rt: &(impl Print + AllocGlobal), line: &str) -> Result<bool> {
-    let mut out = String::new(rt.alloc());
-    let is_case = begin_answer(&mut out, line);
-    let printed = print!(rt; "{out}");
-    drop(out);
-    printed?;
-    Ok(is_case?)
-}
-
-/// Prints what comes of a line.
-fn tell_case<R: Print + AllocGlobal + Threads + Wait + Clock + Sync>(
+/// Adds what comes of a line.
+fn push_case<R: AllocGlobal + Threads + Wait + Clock + Sync>(
     rt: &R,
+    out: &mut String,
     kind: Kind,
     line: &str,
-) -> Result<()> {
+) -> Result<(), Memory> {
     match kind {
-        Kind::Script => tell_try(rt, line),
-        Kind::Command => tell_command(rt, line),
-        Kind::Sessions => tell_sessions(rt, line),
-        Kind::Seats => tell_seats(rt, line),
+        Kind::Script => push_try(rt, out, line),
+        Kind::Command => push_command(rt, out, line),
+        Kind::Sessions => push_sessions(rt, out, line),
+        Kind::Seats => push_seats(rt, out, line),
     }
 }
 
-/// Prints each line, and what comes of it.
-fn tell_lines<R: Print + AllocGlobal + Threads + Wait + Clock + Sync>(
+/// Adds each line, and what comes of it.
+fn push_lines<R: AllocGlobal + Threads + Wait + Clock + Sync>(
     rt: &R,
+    out: &mut String,
     kind: Kind,
     text: &str,
-) -> Result<()> {
+) -> Result<(), Memory> {
     for line in text.lines() {
-        if begin(rt, line)? {
-            tell_case(rt, kind, line)?;
+        if begin_answer(out, line)? {
+            push_case(rt, out, kind, line)?;
         }
     }
     Ok(())
 }
 
-/// Prints what comes of threads that take turns, and of a bell.
-fn tell_threads(rt: &(impl Print + AllocGlobal + Threads + Wait + Sync)) -> Result<()> {
-    tell_turns(rt)?;
-    tell_entries(rt)?;
-    tell_bells(rt)
+/// Adds what comes of threads that take turns, and of a bell.
+fn push_threads<R: Threads + Wait + Sync>(rt: &R, out: &mut String) -> Result<(), Memory> {
+    push_turns(rt, out)?;
+    push_entries(rt, out)?;
+    push_bells(rt, out)
 }
 
-/// Prints what comes of a table.
-fn tell_table<R: Print + AllocGlobal + Threads + Wait + Clock + Sync>(
+/// Adds what comes of a table.
+fn push_table<R: AllocGlobal + Threads + Wait + Clock + Sync>(
     rt: &R,
+    out: &mut String,
     table: Table,
     text: &str,
-) -> Result<()> {
+) -> Result<(), Memory> {
     match table {
-        Table::Lines(kind) => tell_lines(rt, kind, text),
-        Table::Steps => tell_shared(rt, text),
-        Table::Turns => tell_threads(rt),
+        Table::Lines(kind) => push_lines(rt, out, kind, text),
+        Table::Steps => push_shared(rt, out, text),
+        Table::Turns => push_threads(rt, out),
     }
 }
 
-/// Prints the title of a table, and what comes of its lines.
-fn tell_part<R: Print + AllocGlobal + Threads + Wait + Clock + Sync>(
+/// Adds the title of a table, and what comes of its lines.
+fn push_part<R: AllocGlobal + Threads + Wait + Clock + Sync>(
     rt: &R,
+    out: &mut String,
     part: &str,
-) -> Result<()> {
+) -> Result<(), Memory> {
     let Some((title, text)) = part.split_once('\n') else {
         return Ok(());
     };
-    println!(rt; "### {title}")?;
+    push_words(out, &["### ", title, "\n"])?;
     match table_of(title) {
-        Some(table) => tell_table(rt, table, text),
+        Some(table) => push_table(rt, out, table, text),
         None => Ok(()),
     }
 }
 
-fn main(rt: HostRuntime) -> Result<()> {
-    let text = input(&rt)?;
+fn push_parts<R: AllocGlobal + Threads + Wait + Clock + Sync>(
+    rt: &R,
+    out: &mut String,
+    text: &str,
+) -> Result<(), Memory> {
     for part in text.split("### ") {
-        tell_part(&rt, part)?;
+        push_part(rt, out, part)?;
     }
     Ok(())
+}
+
+fn main(rt: HostRuntime) -> io::Result<()> {
+    let text = input(&rt)?;
+    let mut out = String::new(rt.alloc());
+    match push_parts(&rt, &mut out, text.as_str()) {
+        Ok(()) => print!(rt; "{out}"),
+        Err(Memory) => println!(rt; "no memory"),
+    }
 }

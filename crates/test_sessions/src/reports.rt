@@ -6,4 +6,4 @@ mod told;
 
 pub(crate) use files::{file_left, file_of};
 pub(crate) use runs::{file_behind, report_of};
-pub(crate) use told::{tell, tell_notice, tell_replies, tell_text};
+pub(crate) use told::{push_bytes, push_notice, push_replies, push_report};

@@ -5,18 +5,23 @@
 
 mod stores;
 
-use anyhow::Result;
+use cell_values::Memory;
 use std::sync::Wait;
 use std::thread::Threads;
 use store_opening::Limits;
 use stores::push_threads;
+use test_kit::{push_word, words_of};
 
 fn number_of(word: &str) -> u32 {
     word.parse::<u32>().unwrap_or(0)
 }
 
 /// Adds what comes of the words of a line.
-fn push_answer<R: Threads + Wait + Sync>(rt: &R, out: &mut String, words: &[&str]) -> Result<()> {
+fn push_answer<R: Threads + Wait + Sync>(
+    rt: &R,
+    out: &mut String,
+    words: &[&str],
+) -> Result<(), Memory> {
     match words {
         ["threads", pages, history, count] => {
             let limits = Limits {
@@ -25,25 +30,18 @@ fn push_answer<R: Threads + Wait + Sync>(rt: &R, out: &mut String, words: &[&str
             };
             push_threads(rt, out, limits, number_of(count))
         }
-        _ => {
-            out.push_str("unknown\n")?;
-            Ok(())
-        }
+        _ => push_word(out, "unknown\n"),
     }
 }
 
-/// Prints what comes of a line.
-pub(crate) fn tell_seats<R: Print + AllocGlobal + Threads + Wait + Sync>(
+/// Adds what comes of a line.
+pub(crate) fn push_seats<R: Threads + Wait + Sync>(
     rt: &R,
+    out: &mut String,
     line: &str,
-) -> Result<()> {
-    let words: Vec<&str> = line.split_whitespace().collect(rt.alloc())?;
-    let mut out = String::new(rt.alloc());
-    let told = push_answer(rt, &mut out, words.as_slice());
+) -> Result<(), Memory> {
+    let words = words_of(*out.allocator(), line)?;
+    let told = push_answer(rt, out, words.as_slice());
     drop(words);
-    let printed = print!(rt; "{out}");
-    drop(out);
-    told?;
-    printed?;
-    Ok(())
+    told
 }

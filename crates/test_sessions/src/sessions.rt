@@ -14,19 +14,20 @@ mod order;
 mod runs;
 mod scripts;
 
-use anyhow::Result;
-use runs::tell_case;
+use cell_values::Memory;
+use runs::push_case;
 use std::sync::Wait;
 use std::thread::Threads;
 use std::time::Clock;
 
-/// Prints what the runs of a case come to.
-pub(crate) fn tell_sessions<R: Print + AllocGlobal + Threads + Wait + Clock + Sync>(
+/// Adds what the runs of a case come to.
+pub(crate) fn push_sessions<R: AllocGlobal + Threads + Wait + Clock + Sync>(
     rt: &R,
+    out: &mut String,
     line: &str,
-) -> Result<()> {
+) -> Result<(), Memory> {
     let parts: Vec<&str> = line.split('|').map(|part| part.trim()).collect(rt.alloc())?;
-    let told = tell_case(rt, parts.as_slice());
+    let told = push_case(rt, out, parts.as_slice());
     drop(parts);
     told
 }

@@ -6,14 +6,13 @@
 ghost use Rattle.std.specs.Prelude.{IfOk};
 ghost use Rattle.test_shared.specs.Runs.{IsRun};
 
-use anyhow::Result;
 use cell_values::{Bytes, Memory};
 use std::alloc::Global;
 use std::sync::Wait;
 use std::thread::Threads;
 use store_opening::Limits;
 use test_files::made;
-use test_kit::begin_answer;
+use test_kit::{begin_answer, push_word, push_words, words_of};
 use test_shared::{
     Answer, Run, SilentDisk, Step, Store, answer_to, finished, opened_over, push_tally, reaped,
     shared_by_three, with_change,
@@ -77,31 +76,48 @@ fn answer_step<R: Threads + Wait + Sync>(
     }
 }
 
-/// Prints a line that is a step, with its answer.
-fn tell<R: Print + AllocGlobal + Threads + Wait + Sync>(
+/// Adds the answer to a line that is a step.
+fn push_step<R: Threads + Wait + Sync>(
     rt: &R,
+    out: &mut String,
     run: &mut Run,
     line: &str,
-) -> Result<()>
+) -> Result<(), Memory>
     requires { IsRun run.old }
     ensures { IsRun run.new }
 {
-    let mut out = String::new(rt.alloc());
-    if begin_answer(&mut out, line)? {
-        let words: Vec<&str> = line.split_whitespace().collect(rt.alloc())?;
-        answer_step(rt, rt.alloc(), run, line, words.as_slice()).push(&mut out)?;
+    let words = words_of(*out.allocator(), line)?;
+    let answer = answer_step(rt, *out.allocator(), run, line, words.as_slice());
+    drop(words);
+    let told = answer.push(out);
+    drop(answer);
+    told
+}
+
+/// Adds a line that is a step, with its answer.
+fn push_line<R: Threads + Wait + Sync>(
+    rt: &R,
+    out: &mut String,
+    run: &mut Run,
+    line: &str,
+) -> Result<(), Memory>
+    requires { IsRun run.old }
+    ensures { IsRun run.new }
+{
+    if begin_answer(out, line)? {
+        push_step(rt, out, run, line)?;
     }
-    print!(rt; "{out}")?;
     Ok(())
 }
 
-/// Prints the lines from one on with their answers, up to `finish`. Its place is the answer.
-fn tell_steps<R: Print + AllocGlobal + Threads + Wait + Sync>(
+/// Adds the lines from one on with their answers, up to `finish`. Its place is the answer.
+fn push_steps<R: Threads + Wait + Sync>(
     rt: &R,
+    out: &mut String,
     run: &mut Run,
     lines: &[&str],
     from: usize,
-) -> Result<usize>
+) -> Result<usize, Memory>
     requires { IsRun run.old }
     ensures { IsRun run.new }
 {
@@ -109,32 +125,34 @@ fn tell_steps<R: Print + AllocGlobal + Threads + Wait + Sync>(
         if lines[at] == "finish" {
             return Ok(at);
         }
-        tell(rt, run, lines[at])?;
+        push_line(rt, out, run, lines[at])?;
     }
     Ok(lines.len())
 }
 
-/// Prints what the history of a store tells that was taken back.
-fn tell_end(rt: &(impl Print + AllocGlobal), store: Store<SilentDisk>) -> Result<()> {
+/// Adds what the history of a store tells that was taken back.
+fn push_end(out: &mut String, store: Store<SilentDisk>) -> Result<(), Memory> {
     let (disk, entries) = store.close();
     drop(disk);
-    let mut out = String::new(rt.alloc());
-    push_tally(&mut out, entries.as_slice(), 3)?;
-    print!(rt; "> finish\n{out}")?;
-    Ok(())
+    let begun = push_word(out, "> finish\n");
+    let told = push_tally(out, entries.as_slice(), 3);
+    drop(entries);
+    begun?;
+    Ok(told?)
 }
 
-/// Prints the lines from one on with their answers, and what the store tells once it is taken back. The place behind it is the answer.
-fn tell_run<R: Print + AllocGlobal + Threads + Wait + Sync>(
+/// Adds the lines from one on with their answers, and what the store tells once it is taken back. The place behind it is the answer.
+fn push_run<R: Threads + Wait + Sync>(
     rt: &R,
+    out: &mut String,
     mut run: Run,
     lines: &[&str],
     from: usize,
-) -> Result<usize>
+) -> Result<usize, Memory>
     requires { IsRun run }
 {
-    let told = tell_steps(rt, &mut run, lines, from);
-    let end = tell_end(rt, finished(run));
+    let told = push_steps(rt, out, &mut run, lines, from);
+    let end = push_end(out, finished(run));
     let at = told?;
     end?;
     Ok(at.saturating_add(1))
@@ -153,28 +171,34 @@ fn shared_over(alloc: Global, bytes: Bytes, limits: Limits) -> Result<Run, Store
     }
 }
 
-fn tell_answer(rt: &(impl Print + AllocGlobal), line: &str, answer: &StoreAnswer) -> Result<()> {
-    let mut out = String::new(rt.alloc());
-    begin_answer(&mut out, line)?;
-    answer.push(&mut out)?;
-    print!(rt; "{out}")?;
-    Ok(())
+fn push_unshared(out: &mut String, answer: &StoreAnswer) -> Result<(), Memory> {
+    begin_answer(out, "not shared")?;
+    answer.push(out)
 }
 
-/// Shares a store anew, and prints the lines from one on, up to the one that finishes it. The place behind it is the answer.
-fn tell_share<R: Print + AllocGlobal + Threads + Wait + Sync>(
+/// A database with the array A at version 1.
+fn database<R: Threads + Sync>(rt: &R, alloc: Global) -> Result<Bytes, Memory> {
+    match made(alloc) {
+        Ok(file) => with_change(rt, alloc, file, FIRST),
+        Err(_) => Err(Memory),
+    }
+}
+
+/// Shares a store anew, and adds the lines from one on, up to the one that finishes it. The place behind it is the answer.
+fn push_share<R: Threads + Wait + Sync>(
     rt: &R,
+    out: &mut String,
     lines: &[&str],
     from: usize,
     line: &str,
     limits: Limits,
-) -> Result<usize> {
-    let file = with_change(rt, rt.alloc(), made(rt.alloc())?, FIRST)?;
-    println!(rt; "> {line}")?;
-    match shared_over(rt.alloc(), file, limits) {
-        Ok(run) => tell_run(rt, run, lines, from),
+) -> Result<usize, Memory> {
+    push_words(out, &["> ", line, "\n"])?;
+    let file = database(rt, *out.allocator())?;
+    match shared_over(*out.allocator(), file, limits) {
+        Ok(run) => push_run(rt, out, run, lines, from),
         Err(answer) => {
-            let told = tell_answer(rt, "not shared", &answer);
+            let told = push_unshared(out, &answer);
             drop(answer);
             told?;
             Ok(from)
@@ -182,43 +206,59 @@ fn tell_share<R: Print + AllocGlobal + Threads + Wait + Sync>(
     }
 }
 
-/// Prints a line with its answer, and the lines behind it up to `finish` where it shares a store. The place of the next one is the answer.
-fn tell_line<R: Print + AllocGlobal + Threads + Wait + Sync>(
+/// The limits of a line that shares a store; none of any other.
+fn limits_in(alloc: Global, line: &str) -> Result<Option<Limits>, Memory> {
+    let words = words_of(alloc, line)?;
+    let limits = match words.as_slice() {
+        ["share", pages, history] => Some(limits_of(pages, history)),
+        _ => None,
+    };
+    drop(words);
+    Ok(limits)
+}
+
+/// Adds a line with its answer, and the lines behind it up to `finish` where it shares a store. The place of the next one is the answer.
+fn push_from<R: Threads + Wait + Sync>(
     rt: &R,
+    out: &mut String,
     lines: &[&str],
     at: usize,
     line: &str,
-) -> Result<usize> {
+) -> Result<usize, Memory> {
     let next = at.saturating_add(1);
-    let words: Vec<&str> = line.split_whitespace().collect(rt.alloc())?;
-    match words.as_slice() {
-        ["share", pages, history] => tell_share(rt, lines, next, line, limits_of(pages, history)),
-        _ => {
-            println!(rt; "{line}")?;
+    match limits_in(*out.allocator(), line)? {
+        Some(limits) => push_share(rt, out, lines, next, line, limits),
+        None => {
+            push_words(out, &[line, "\n"])?;
             Ok(next)
         }
     }
 }
 
-/// Prints each line with its answer.
-fn tell_all<R: Print + AllocGlobal + Threads + Wait + Sync>(rt: &R, lines: &[&str]) -> Result<()> {
+/// Adds each line with its answer.
+fn push_all<R: Threads + Wait + Sync>(
+    rt: &R,
+    out: &mut String,
+    lines: &[&str],
+) -> Result<(), Memory> {
     let mut at = 0;
     for _ in 0..lines.len() {
         if at >= lines.len() {
             break;
         }
-        at = tell_line(rt, lines, at, lines[at])?;
+        at = push_from(rt, out, lines, at, lines[at])?;
     }
     Ok(())
 }
 
-/// Prints the lines of a text with their answers.
-pub(crate) fn tell_shared<R: Print + AllocGlobal + Threads + Wait + Sync>(
+/// Adds the lines of a text with their answers.
+pub(crate) fn push_shared<R: Threads + Wait + Sync>(
     rt: &R,
+    out: &mut String,
     text: &str,
-) -> Result<()> {
-    let lines: Vec<&str> = text.lines().collect(rt.alloc())?;
-    let told = tell_all(rt, lines.as_slice());
+) -> Result<(), Memory> {
+    let lines: Vec<&str> = text.lines().collect(*out.allocator())?;
+    let told = push_all(rt, out, lines.as_slice());
     drop(lines);
     told
 }

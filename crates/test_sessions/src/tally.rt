@@ -3,11 +3,11 @@ ghost use Rattle.std.specs.Prelude.{◌≡◌};
 ghost use Rattle.turn_lock.specs.Owners.{ExtendsByOwn};
 ghost use Rattle.turn_lock.specs.Seats.{IsSeatOf, IsIdle, AreIdleSeats};
 
-use anyhow::Result;
-use cell_values::List;
+use cell_values::{List, Memory};
 use std::sync::Wait;
 use std::thread;
 use std::thread::Threads;
+use test_kit::{push_count, push_word};
 use turn_lock::{History, TurnLock, TurnSeat};
 
 #[derive(Clone, Copy)]
@@ -96,26 +96,46 @@ fn all_turns<R: Threads + Wait + Sync>(
     thread::for_each_mut(rt, seats, 4, &each);
 }
 
-/// What four threads of 10,000 turns each leave: a mark is missing where a seat did not find its own last one.
-pub(crate) fn tell_turns(rt: &(impl Print + AllocGlobal + Threads + Wait + Sync)) -> Result<()> {
+/// Adds whether a seat's last mark is of its last turn.
+fn push_seat(out: &mut String, tally: &Tally, by: u32) -> Result<(), Memory> {
+    push_word(out, "seat ")?;
+    push_count(out, u64::from(by))?;
+    push_word(
+        out,
+        if tally.last_turn(by) == Some(9_999) {
+            ": each turn, in order\n"
+        } else {
+            ": a turn is missing\n"
+        },
+    )
+}
+
+fn push_tally(out: &mut String, tally: &Tally) -> Result<(), Memory> {
+    push_word(out, "start ")?;
+    push_count(out, tally.start)?;
+    push_word(out, ", marks ")?;
+    push_count(out, tally.count())?;
+    push_word(out, "\n")?;
+    for by in 0..4 {
+        push_seat(out, tally, by)?;
+    }
+    Ok(())
+}
+
+/// Adds what four threads of 10,000 turns each leave: a mark is missing where a seat did not find its own last one.
+pub(crate) fn push_turns<R: Threads + Wait + Sync>(rt: &R, out: &mut String) -> Result<(), Memory> {
+    let alloc = *out.allocator();
     let tally = Tally {
         start: 7,
-        marks: List::new(rt.alloc()),
+        marks: List::new(alloc),
     };
-    let Ok((lock, seats)) = TurnLock::new(rt.alloc(), tally, 4) else {
-        println!(rt; "no memory")?;
-        return Ok(());
+    let Ok((lock, seats)) = TurnLock::new(alloc, tally, 4) else {
+        return push_word(out, "no memory\n");
     };
     let mut seats = seats.into_vec();
     all_turns(rt, &lock, seats.as_mut_slice(), 10_000);
     let tally = lock.close(List::from_vec(seats));
-    println!(rt; "start {}, marks {}", tally.start, tally.count())?;
-    for by in 0..4 {
-        if tally.last_turn(by) == Some(9_999) {
-            println!(rt; "seat {by}: each turn, in order")?;
-        } else {
-            println!(rt; "seat {by}: a turn is missing")?;
-        }
-    }
-    Ok(())
+    let told = push_tally(out, &tally);
+    drop(tally);
+    told
 }

@@ -5,38 +5,41 @@
 
 mod streams;
 
-use crate::reports::{report_of, tell_replies};
+use crate::reports::{push_replies, report_of};
 use afl_outside::OpenGate;
-use anyhow::Result;
+use cell_values::Memory;
 use std::sync::Wait;
 use std::thread::Threads;
 use streams::shelf_of;
 use test_kit::text_of;
 
 /// Runs a script, where the listed reads and writes fail.
-fn tell_script(
-    rt: &(impl Print + AllocGlobal + Threads + Wait + Sync),
+fn push_script<R: AllocGlobal + Threads + Wait + Sync>(
+    rt: &R,
+    out: &mut String,
     text: &str,
     reads: &[u64],
     writes: &[u64],
-) -> Result<()> {
-    let script = text_of(rt.alloc(), text.as_bytes())?;
-    let shelf = shelf_of(rt.alloc(), script.as_slice(), reads, writes);
+) -> Result<(), Memory> {
+    let alloc = *out.allocator();
+    let script = text_of(alloc, text.as_bytes())?;
+    let shelf = shelf_of(alloc, script.as_slice(), reads, writes);
     drop(script);
     let report = report_of(rt, "try", shelf?, &OpenGate)?;
-    let told = tell_replies(rt, &report);
+    let told = push_replies(out, &report);
     drop(report);
     told
 }
 
-/// Prints what the run of a script comes to.
-pub(crate) fn tell_try(
-    rt: &(impl Print + AllocGlobal + Threads + Wait + Sync),
+/// Adds what the run of a script comes to.
+pub(crate) fn push_try<R: AllocGlobal + Threads + Wait + Sync>(
+    rt: &R,
+    out: &mut String,
     line: &str,
-) -> Result<()> {
+) -> Result<(), Memory> {
     match line.split_once(": ") {
-        Some(("reads", text)) => tell_script(rt, text, &[1], &[]),
-        Some(("writes", text)) => tell_script(rt, text, &[], &[1]),
-        _ => tell_script(rt, line, &[], &[]),
+        Some(("reads", text)) => push_script(rt, out, text, &[1], &[]),
+        Some(("writes", text)) => push_script(rt, out, text, &[], &[1]),
+        _ => push_script(rt, out, line, &[], &[]),
     }
 }

@@ -3,22 +3,19 @@
 use crate::reports::files::image_of;
 use afl_in_memory::{MemDisk, MemShelf};
 use afl_run::{Report, SessionEnd, notice_line};
-use anyhow::Result;
+use cell_values::Memory;
 use std::str::from_utf8;
+use test_kit::{push_count, push_word, push_words};
 
-/// Prints bytes that are a text.
-pub(crate) fn tell_text(rt: &impl Print, bytes: &[u8]) -> Result<()> {
-    print!(rt; "{}", from_utf8(bytes).unwrap_or("no text"))?;
-    Ok(())
+/// Adds bytes that are a text.
+pub(crate) fn push_bytes(out: &mut String, bytes: &[u8]) -> Result<(), Memory> {
+    push_word(out, from_utf8(bytes).unwrap_or("no text"))
 }
 
-/// Prints the line with which a run ends.
-pub(crate) fn tell_notice(
-    rt: &(impl Print + AllocGlobal),
-    report: &Report<MemShelf>,
-) -> Result<()> {
-    let line = notice_line(rt.alloc(), &report.notice)?;
-    let told = tell_text(rt, line.as_slice());
+/// Adds the line with which a run ends.
+pub(crate) fn push_notice(out: &mut String, report: &Report<MemShelf>) -> Result<(), Memory> {
+    let line = notice_line(*out.allocator(), &report.notice)?;
+    let told = push_bytes(out, line.as_slice());
     drop(line);
     told
 }
@@ -33,53 +30,52 @@ fn end_word(end: SessionEnd) -> &'static str {
     }
 }
 
-/// Prints how many bytes a device has.
-fn tell_length(rt: &impl Print, disk: &MemDisk) -> Result<()> {
+/// Adds how many bytes a device has.
+fn push_length(out: &mut String, disk: &MemDisk) -> Result<(), Memory> {
     let image = image_of(disk)?;
-    let length = image.as_slice().len();
+    let length = image.len() as u64;
     drop(image);
-    print!(rt; "device of {length} bytes, ")?;
-    Ok(())
+    push_word(out, "device of ")?;
+    push_count(out, length)?;
+    push_word(out, " bytes, ")
 }
 
-/// Prints what a session has written, and how it ended.
-fn tell_session(rt: &impl Print, text: &[u8], end: SessionEnd) -> Result<()> {
-    tell_text(rt, text)?;
-    print!(rt; "{}, ", end_word(end))?;
-    Ok(())
+/// Adds what a session has written, and how it ended.
+fn push_session(out: &mut String, text: &[u8], end: SessionEnd) -> Result<(), Memory> {
+    push_bytes(out, text)?;
+    push_words(out, &[end_word(end), ", "])
 }
 
-/// Prints what the sessions have written, and how they ended.
-fn tell_sessions(rt: &impl Print, report: &Report<MemShelf>) -> Result<()> {
+/// Adds what the sessions have written, and how they ended.
+fn push_sessions(out: &mut String, report: &Report<MemShelf>) -> Result<(), Memory> {
     for session in report.sessions.as_slice() {
-        tell_session(rt, session.sink.bytes(), session.end)?;
+        push_session(out, session.sink.bytes(), session.end)?;
     }
-    if let Some(session) = &report.generated {
-        tell_session(rt, session.sink.bytes(), session.end)?;
+    match &report.generated {
+        Some(session) => push_session(out, session.sink.bytes(), session.end),
+        None => Ok(()),
     }
-    Ok(())
 }
 
-/// Prints the status and the line of the run.
-fn tell_end(rt: &(impl Print + AllocGlobal), report: &Report<MemShelf>) -> Result<()> {
-    println!(rt; "status {}", report.status)?;
-    tell_notice(rt, report)
+/// Adds the status and the line of the run.
+fn push_end(out: &mut String, report: &Report<MemShelf>) -> Result<(), Memory> {
+    push_word(out, "status ")?;
+    push_count(out, u64::from(report.status))?;
+    push_word(out, "\n")?;
+    push_notice(out, report)
 }
 
-/// Prints what the sessions have written, how they ended, and the status and line of the run.
-pub(crate) fn tell_replies(
-    rt: &(impl Print + AllocGlobal),
-    report: &Report<MemShelf>,
-) -> Result<()> {
-    tell_sessions(rt, report)?;
-    tell_end(rt, report)
+/// Adds what the sessions have written, how they ended, and the status and line of the run.
+pub(crate) fn push_replies(out: &mut String, report: &Report<MemShelf>) -> Result<(), Memory> {
+    push_sessions(out, report)?;
+    push_end(out, report)
 }
 
 /// The same, and how many bytes the device has that was opened.
-pub(crate) fn tell(rt: &(impl Print + AllocGlobal), report: &Report<MemShelf>) -> Result<()> {
-    tell_sessions(rt, report)?;
+pub(crate) fn push_report(out: &mut String, report: &Report<MemShelf>) -> Result<(), Memory> {
+    push_sessions(out, report)?;
     if let Some(disk) = &report.disk {
-        tell_length(rt, disk)?;
+        push_length(out, disk)?;
     }
-    tell_end(rt, report)
+    push_end(out, report)
 }

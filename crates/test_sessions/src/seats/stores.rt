@@ -1,7 +1,6 @@
 //! Stores before their sessions run on threads, and after them.
 ghost use Rattle.test_stores.specs.Holds.{HasNoPins};
 
-use anyhow::Result;
 use cell_values::{Bytes, Memory};
 use std::alloc::{AllocError, Global};
 use std::sync::Wait;
@@ -63,20 +62,24 @@ fn push_run<R: Threads + Wait + Sync>(
     }
 }
 
+/// An empty file that was made a database.
+fn new_database(alloc: Global) -> Result<Bytes, Memory> {
+    match made(alloc) {
+        Ok(file) => Ok(file),
+        Err(_) => Err(Memory),
+    }
+}
+
 /// Adds what comes of two sessions that make so many commits each.
 pub(crate) fn push_threads<R: Threads + Wait + Sync>(
     rt: &R,
     out: &mut String,
     limits: Limits,
     count: u32,
-) -> Result<()> {
+) -> Result<(), Memory> {
     let alloc = *out.allocator();
-    let file = with_change(
-        rt,
-        alloc,
-        made(alloc)?,
-        "create array A <v:int64>[i=0:0,1,0]",
-    )?;
+    let empty = new_database(alloc)?;
+    let file = with_change(rt, alloc, empty, "create array A <v:int64>[i=0:0,1,0]")?;
     let file = with_change(rt, alloc, file, "create array B <v:int64>[i=0:0,1,0]")?;
-    Ok(push_run(rt, out, file, limits, count)?)
+    push_run(rt, out, file, limits, count)
 }

@@ -1,17 +1,17 @@
 //! Runs over a file in memory.
 
-use crate::reports::{file_behind, file_left, file_of, report_of, tell_notice, tell_text};
+use crate::reports::{file_behind, file_left, file_of, push_bytes, push_notice, report_of};
 use crate::sessions::order::Ordered;
 use crate::sessions::scripts::script_of;
 use afl_in_memory::{MemFile, MemShelf};
 use afl_outside::OpenGate;
 use afl_run::{Report, SessionEnd};
-use anyhow::Result;
 use cell_values::{Bytes, List, Memory};
 use std::alloc::{AllocError, Global};
 use std::sync::Wait;
 use std::thread::Threads;
 use std::time::Clock;
+use test_kit::{push_count, push_word, push_words};
 
 /// The name of the script of a session.
 fn name_of(session: usize) -> &'static str {
@@ -83,90 +83,105 @@ fn end_word(end: SessionEnd) -> &'static str {
     }
 }
 
-/// Prints what each session of a run has written, and how it ended.
-fn tell_sessions(rt: &impl Print, report: &Report<MemShelf>) -> Result<()> {
+/// Adds what a session has written, and how it ended.
+fn push_session(
+    out: &mut String,
+    session: usize,
+    end: SessionEnd,
+    text: &[u8],
+) -> Result<(), Memory> {
+    push_word(out, "session ")?;
+    push_count(out, session as u64)?;
+    push_words(out, &[", ", end_word(end), ":\n"])?;
+    push_bytes(out, text)
+}
+
+/// Adds what each session of a run has written, and how it ended.
+fn push_sessions(out: &mut String, report: &Report<MemShelf>) -> Result<(), Memory> {
     for (session, told) in report.sessions.as_slice().iter().enumerate() {
-        println!(rt; "session {session}, {}:", end_word(told.end))?;
-        tell_text(rt, told.sink.bytes())?;
+        push_session(out, session, told.end, told.sink.bytes())?;
     }
     Ok(())
 }
 
-/// Prints what a run has written, how it ended, and where it didn't keep its order.
-fn tell_report<R: Print + AllocGlobal>(
-    rt: &R,
-    report: &Report<MemShelf>,
-    is_kept: bool,
-) -> Result<()> {
-    tell_sessions(rt, report)?;
-    let entries = report.history.as_slice().len();
-    println!(rt;
-        "status {}, {entries} entries, {} pages free",
-        report.status, report.free_pages
-    )?;
-    tell_notice(rt, report)?;
-    if !is_kept {
-        println!(rt; "not in this order")?;
-    }
-    Ok(())
+/// Adds the status of a run, and how many entries and free pages it leaves.
+fn push_status(out: &mut String, report: &Report<MemShelf>) -> Result<(), Memory> {
+    push_word(out, "status ")?;
+    push_count(out, u64::from(report.status))?;
+    push_word(out, ", ")?;
+    push_count(out, report.history.as_slice().len() as u64)?;
+    push_word(out, " entries, ")?;
+    push_count(out, report.free_pages)?;
+    push_word(out, " pages free\n")
 }
 
-/// Prints what the sessions of a run have written.
-fn tell_texts(rt: &impl Print, report: &Report<MemShelf>) -> Result<()> {
+/// Adds what a run has written, how it ended, and where it didn't keep its order.
+fn push_report(out: &mut String, report: &Report<MemShelf>, is_kept: bool) -> Result<(), Memory> {
+    push_sessions(out, report)?;
+    push_status(out, report)?;
+    push_notice(out, report)?;
+    push_word(out, if is_kept { "" } else { "not in this order\n" })
+}
+
+/// Adds what the sessions of a run have written.
+fn push_texts(out: &mut String, report: &Report<MemShelf>) -> Result<(), Memory> {
     for told in report.sessions.as_slice() {
-        tell_text(rt, told.sink.bytes())?;
+        push_bytes(out, told.sink.bytes())?;
     }
     Ok(())
 }
 
-/// Runs a script over a file, and prints what it writes.
-fn tell_after<R: Print + AllocGlobal + Threads + Wait + Sync>(
+/// Runs a script over a file, and adds what it writes.
+fn push_after<R: AllocGlobal + Threads + Wait + Sync>(
     rt: &R,
+    out: &mut String,
     file: &[u8],
     script: &str,
-) -> Result<()> {
-    println!(rt; "after:")?;
+) -> Result<(), Memory> {
+    push_word(out, "after:\n")?;
     let shelf = shelf_of(rt.alloc(), file, &[script])?;
     let report = report_of(rt, "run db 0", shelf, &OpenGate)?;
-    let told = tell_texts(rt, &report);
+    let told = push_texts(out, &report);
     drop(report);
     told
 }
 
-/// Runs a command line over these files, held by the gate, and prints what comes of it. The file that it leaves is the answer.
-fn tell_beside<R: Print + AllocGlobal + Threads + Wait + Clock + Sync>(
+/// Runs a command line over these files, held by the gate, and adds what comes of it. The file that it leaves is the answer.
+fn push_beside<R: AllocGlobal + Threads + Wait + Clock + Sync>(
     rt: &R,
+    out: &mut String,
     line: &str,
     shelf: MemShelf,
     gate: &Ordered<'_, R>,
-) -> Result<Bytes> {
+) -> Result<Bytes, Memory> {
     let report = report_of(rt, line, shelf, gate)?;
-    let told = tell_report(rt, &report, gate.is_kept());
+    let told = push_report(out, &report, gate.is_kept());
     let left = file_left(rt.alloc(), &report);
     drop(report);
     match told {
-        Ok(()) => Ok(left?),
-        Err(cause) => {
+        Ok(()) => left,
+        Err(Memory) => {
             drop(left);
-            Err(cause)
+            Err(Memory)
         }
     }
 }
 
 /// The same with these options, in this order.
-fn tell_in_order<R: Print + AllocGlobal + Threads + Wait + Clock + Sync>(
+fn push_in_order<R: AllocGlobal + Threads + Wait + Clock + Sync>(
     rt: &R,
+    out: &mut String,
     options: &str,
     order: &str,
     shelf: MemShelf,
-) -> Result<Bytes> {
+) -> Result<Bytes, Memory> {
     let Ok(gate) = Ordered::new(rt, rt.alloc(), order) else {
         drop(shelf);
-        return Err(Memory.into());
+        return Err(Memory);
     };
     match format!(in rt.alloc(); "run db {options} 0 1") {
         Ok(line) => {
-            let left = tell_beside(rt, line.as_str(), shelf, &gate);
+            let left = push_beside(rt, out, line.as_str(), shelf, &gate);
             drop(line);
             drop(gate);
             left
@@ -174,23 +189,23 @@ fn tell_in_order<R: Print + AllocGlobal + Threads + Wait + Clock + Sync>(
         Err(AllocError) => {
             drop(shelf);
             drop(gate);
-            Err(Memory.into())
+            Err(Memory)
         }
     }
 }
 
 /// Runs a case: its scripts side by side, in its order, and then the last one.
-pub(crate) fn tell_case<R: Print + AllocGlobal + Threads + Wait + Clock + Sync>(
+pub(crate) fn push_case<R: AllocGlobal + Threads + Wait + Clock + Sync>(
     rt: &R,
+    out: &mut String,
     parts: &[&str],
-) -> Result<()> {
+) -> Result<(), Memory> {
     let [options, order, before, first, second, after] = parts else {
-        println!(rt; "unknown")?;
-        return Ok(());
+        return push_word(out, "unknown\n");
     };
     let shelf = shelf_behind(rt, before, &[*first, *second])?;
-    let left = tell_in_order(rt, options, order, shelf)?;
-    let told = tell_after(rt, left.as_slice(), after);
+    let left = push_in_order(rt, out, options, order, shelf)?;
+    let told = push_after(rt, out, left.as_slice(), after);
     drop(left);
     told
 }
