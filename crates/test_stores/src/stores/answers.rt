@@ -54,8 +54,9 @@ fn push_lines(out: &mut String, lines: &Bytes) -> Result<(), AllocError> {
 
 fn push_refusal(out: &mut String, refusal: &Refusal) -> Result<(), Memory> {
     let line = refusal_line(*out.allocator(), refusal)?;
-    push_lines(out, &line)?;
-    Ok(())
+    let told = push_lines(out, &line);
+    drop(line);
+    Ok(told?)
 }
 
 fn name_text(name: &Name) -> &str {
@@ -68,37 +69,49 @@ fn push_made(out: &mut String, name: &Name, version: u32) -> Result<(), AllocErr
     writeln!(out, "@{version}")
 }
 
+fn push_full(out: &mut String, needed: u32, free: u32) -> Result<(), AllocError> {
+    writeln!(out, "error: full: needs {needed} pages, {free} free")
+}
+
+fn push_history_full(out: &mut String, entries: u32) -> Result<(), AllocError> {
+    writeln!(out, "error: history full, {entries} entries")
+}
+
+fn push_unopened(out: &mut String, cause: OpenCause) -> Result<(), AllocError> {
+    writeln!(out, "error: {cause}")
+}
+
 impl Answer {
+    /// The line of an answer that tells nothing more.
+    fn line(&self) -> &'static str {
+        match self {
+            Answer::Done => "ok\n",
+            Answer::Reaped(true) => "reaped\n",
+            Answer::Reaped(false) => "nothing to reap\n",
+            Answer::HasPin => "error: the session has a pin\n",
+            Answer::HasNoPin => "error: the session has no pin\n",
+            Answer::HasTried => "error: the session tried a commit\n",
+            Answer::Unknown => "error: unknown\n",
+            Answer::NoChange => "error: no change\n",
+            Answer::Reads => "error: reads\n",
+            Answer::Stale => "error: stale\n",
+            Answer::SequenceEnd => "error: no sequence number is left\n",
+            Answer::Disk => "error: disk\n",
+            _ => "error: memory\n",
+        }
+    }
+
     /// Adds it in words, as lines.
     pub fn push(&self, out: &mut String) -> Result<(), Memory> {
         match self {
-            Answer::Done => out.push_str("ok\n")?,
-            Answer::Made { name, version } => push_made(out, name, *version)?,
-            Answer::Lines(lines) => push_lines(out, lines)?,
-            Answer::Reaped(true) => out.push_str("reaped\n")?,
-            Answer::Reaped(false) => out.push_str("nothing to reap\n")?,
-            Answer::HasPin => out.push_str("error: the session has a pin\n")?,
-            Answer::HasNoPin => out.push_str("error: the session has no pin\n")?,
-            Answer::HasTried => out.push_str("error: the session tried a commit\n")?,
-            Answer::Unknown => out.push_str("error: unknown\n")?,
-            Answer::NoChange => out.push_str("error: no change\n")?,
-            Answer::Reads => out.push_str("error: reads\n")?,
-            Answer::Refused(refusal) => push_refusal(out, refusal)?,
-            Answer::Stale => out.push_str("error: stale\n")?,
-            Answer::HistoryFull { entries } => writeln!(
-                out,
-                "error: history full, {entries} entries"
-            )?,
-            Answer::Full { needed, free } => writeln!(
-                out,
-                "error: full: needs {needed} pages, {free} free"
-            )?,
-            Answer::SequenceEnd => out.push_str("error: no sequence number is left\n")?,
-            Answer::Unread(fault) => push_read_fault(out, *fault)?,
-            Answer::Unopened(cause) => writeln!(out, "error: {cause}")?,
-            Answer::Disk => out.push_str("error: disk\n")?,
-            Answer::Memory => out.push_str("error: memory\n")?,
+            Answer::Made { name, version } => Ok(push_made(out, name, *version)?),
+            Answer::Lines(lines) => Ok(push_lines(out, lines)?),
+            Answer::Refused(refusal) => push_refusal(out, refusal),
+            Answer::HistoryFull { entries } => Ok(push_history_full(out, *entries)?),
+            Answer::Full { needed, free } => Ok(push_full(out, *needed, *free)?),
+            Answer::Unread(fault) => Ok(push_read_fault(out, *fault)?),
+            Answer::Unopened(cause) => Ok(push_unopened(out, *cause)?),
+            plain => Ok(out.push_str(plain.line())?),
         }
-        Ok(())
     }
 }
