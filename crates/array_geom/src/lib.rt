@@ -10,8 +10,8 @@ mod laws;
 mod margins;
 
 pub use array_rows::{
-    Attribute, Bounds, Bytes, Cell, Cells, ChunkAt, Code, Coord, Datum, Dimension, Form, Kind, List,
-    Memory, Rows, Schema, copy_numbers,
+    Attribute, Bounds, Bytes, Cell, Cells, ChunkAt, Code, Coord, Datum, Dimension, Form, Kind,
+    List, Memory, Rows, Schema, copy_numbers,
 };
 pub use boxes::Boxes;
 pub use chunk::{Changed, Chunk, ChunkedArray};

@@ -9,6 +9,7 @@ use Rattle.std.specs.declared.cmp.Ordering.TheVariants.{Less, Equal, Greater}
 use Rattle.cell_values.specs.declared.datum.Broken.{Broken}
 use Rattle.cell_values.specs.declared.datum.Cell.{Cell}
 use Rattle.cell_values.specs.declared.datum.Row.{Row}
+use Rattle.cell_values.specs.declared.memory.Memory.{Memory}
 use Rattle.cell_values.specs.declared.schema.Attribute.{Attribute}
 use Rattle.cell_values.specs.declared.schema.Bounds.{Bounds}
 use Rattle.cell_values.specs.declared.schema.Schema.{Schema}
@@ -33,7 +34,7 @@ use Rattle.exec_group.specs.Sets.{unless_empty}
 use Rattle.exec_group.specs.Inner.Merging.{IsSetFor}
 use Rattle.exec_group.specs.Told.{IsRowOf, AreRowsOfSets}
 use Rattle.exec_group.proofs.ToldLaws.{told_rows, rows_of_target}
-use Rattle.redimension_exec.specs.Inner.Grouping.{landed_sets, AreGroupsLanded}
+use Rattle.redimension_exec.specs.Inner.Grouping.{landed_sets, AreGroupsLanded, AreRowsTold}
 use Rattle.redimension_exec.proofs.LandedLaws.{all_landed}
 use Rattle.redimension_exec.proofs.OrderLaws.{Gathers, ordered, ordered_typed, ordered_kinds, cell_named}
 
@@ -119,16 +120,33 @@ module _ (source target : Schema) (gs : List Aggregate) (rows : List Row) (group
 pub gathered_breaks : (source target : Schema) (gs : List Aggregate) (rows : List Row) (broken : Broken) → AreLanded source target gs rows (Err broken) → Err broken ≡ made_of source target gs rows
 gathered_breaks source target gs rows broken land = ap (if_whole (λ all. in_order (gathered_of target.attributes gs all))) (sym land)
 
-pub land_of : (source target : Schema) (gs named_by asked : List Aggregate) (rows : List Row) (made : Result Groups Broken) (groups : Groups) → asked ≡ named_by → named_by ≡ ordered target.attributes gs → made ≡ Ok groups
-    → AreGroupsLanded asked (map (origin_of source) target.dimensions) (bounds_of target.dimensions) rows made → AreLanded source target gs rows (Ok groups)
-land_of source target gs named_by asked rows made groups same by is are =
-    subst (AreLanded source target gs rows) is
-    (subst (λ (those : List Aggregate). AreGroupsLanded those (map (origin_of source) target.dimensions) (bounds_of target.dimensions) rows made) (same ∙ by) are)
+pub land_of : (source target : Schema) (gs named_by asked : List Aggregate) (rows : List Row) (found : Result (Result Groups Broken) Memory) → asked ≡ named_by → named_by ≡ ordered target.attributes gs
+    → IfOk found (AreGroupsLanded asked (map (origin_of source) target.dimensions) (bounds_of target.dimensions) rows) → IfOk found (AreLanded source target gs rows)
+land_of source target gs named_by asked rows found same by are =
+    subst (λ (those : List Aggregate). IfOk found (AreGroupsLanded those (map (origin_of source) target.dimensions) (bounds_of target.dimensions) rows)) (same ∙ by) are
 
-pub few_in : (rows : List Row) (made : Result Groups Broken) (groups : Groups) → made ≡ Ok groups → IfOk made (λ some. cells_in some.groups ≤ length rows) → length rows < 2 ^ 63 → cells_in groups.groups < 9223372036854775808
-few_in rows made groups is cells few =
-    let fewer : cells_in groups.groups ≤ length rows = subst (λ (r : Result Groups Broken). IfOk r (λ some. cells_in some.groups ≤ length rows)) is cells in
-    omega (arith, fewer, few)
+few_in : (rows : List Row) (groups : Groups) → cells_in groups.groups ≤ length rows → length rows < 2 ^ 63 → cells_in groups.groups < 9223372036854775808
+few_in rows groups fewer few = omega (arith, fewer, few)
+
+-- what is told of the groups that were found
+module _ (source target : Schema) (gs : List Aggregate) (rows : List Row) (are : AreRowsOf source rows) (valid : IsValid target) (typed : Gathers source target gs) where
+  pub told_values : (found : Result (Result Groups Broken) Memory) (made : Result (Result (List Row) Broken) Memory) → IfOk found (AreLanded source target gs rows) → IfOk made (AreRowsTold found)
+      → IfOk made (λ some. some ≡ made_of source target gs rows)
+  told_values found (Err memory) land tell = tt
+  told_values (Ok (Ok groups)) (Ok (Ok told)) land tell = gathered_values source target gs rows groups told are valid typed land tell
+  told_values (Ok (Err broken)) (Ok (Err other)) land tell = gathered_breaks source target gs rows other (subst (λ (b : Broken). AreLanded source target gs rows (Err b)) tell land)
+  told_values (Ok (Ok groups)) (Ok (Err other)) land tell = absurd tell
+  told_values (Ok (Err broken)) (Ok (Ok told)) land tell = absurd tell
+  told_values (Err memory) (Ok some) land tell = absurd tell
+
+  pub told_are : (found : Result (Result Groups Broken) Memory) (made : Result (Result (List Row) Broken) Memory) → IfOk found (AreLanded source target gs rows)
+      → IfOk found (λ some. IfOk some (λ groups. cells_in groups.groups ≤ length rows)) → length rows < 2 ^ 63 → IfOk made (AreRowsTold found) → IfOk made (λ some. IfOk some (AreRowsOf target))
+  told_are found (Err memory) land cells few tell = tt
+  told_are (Ok (Ok groups)) (Ok (Ok told)) land cells few tell = gathered_are source target gs rows groups told are valid typed land tell (few_in rows groups cells few)
+  told_are (Ok (Err broken)) (Ok (Err other)) land cells few tell = tt
+  told_are (Ok (Ok groups)) (Ok (Err other)) land cells few tell = tt
+  told_are (Ok (Err broken)) (Ok (Ok told)) land cells few tell = absurd tell
+  told_are (Err memory) (Ok some) land cells few tell = absurd tell
 
 -- ---- the array
 

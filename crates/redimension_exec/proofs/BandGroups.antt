@@ -1,6 +1,6 @@
 -- The groups of what lands of some rows and of others behind them.
-use Rattle.std.proofs.Common.{◌≡◌, ℕ, ◌+◌, ◌<◌, ◌≤◌, false, List, [], ◌∷◌, ◌++◌, map, filter, length, take, drop, Some, Result, Ok, Err, refl, sym, ap, ◌∙◌, subst, arith}
-use Rattle.std.proofs.lemmas.List.{append-nil, length-append, length-drop, length-take, map-append}
+use Rattle.std.proofs.Common.{◌≡◌, ◌+◌, ◌≤◌, false, List, [], ◌∷◌, ◌++◌, map, filter, length, Some, Result, Ok, Err, refl, sym, ap, ◌∙◌, subst, arith}
+use Rattle.std.proofs.lemmas.List.{append-nil, length-append, map-append}
 use Rattle.std.proofs.lemmas.List.Elements.{filter-append}
 use Rattle.std.specs.Ordering.{is_eq}
 use Rattle.std.specs.Prelude.{IfOk}
@@ -8,13 +8,6 @@ use Rattle.cell_values.specs.declared.datum.Broken.{Broken}
 use Rattle.cell_values.specs.declared.datum.Row.{Row}
 use Rattle.cell_values.specs.declared.memory.Memory.{Memory}
 use Rattle.cell_values.specs.declared.schema.Bounds.{Bounds}
-use Rattle.cell_values.specs.declared.schema.Dimension.{Dimension}
-use Rattle.array_geom.specs.declared.chunk.Chunk.{Chunk}
-use Rattle.cell_values.specs.declared.schema.Schema.{Schema}
-use Rattle.array_geom.specs.Link.{NumbersRise, core_rows, numbers}
-use Rattle.chunk_cells.specs.Whole.{CoresRise}
-use Rattle.area_cells.proofs.CutLaws.{cores_drop, cores_take, rise_drop, rise_take}
-use Rattle.area_cells.proofs.PieceLaws.{places_drop, places_take}
 use Rattle.array_rows.specs.Rows.{Coordinate, row_major, IsRising}
 use Rattle.logical_plan.specs.declared.parts.Aggregate.{Aggregate}
 use Rattle.logical_plan.specs.Faults.{if_whole}
@@ -25,8 +18,7 @@ use Rattle.exec_group.specs.Counts.{cells_in}
 use Rattle.exec_group.specs.Sets.{AreApartSets, IsApart, Sets, both, both_sets, unless_empty}
 use Rattle.exec_group.proofs.FormLaws.{same_sets}
 use Rattle.exec_group.proofs.RowLemmas.{joined_apart, put_all_joined}
-use Rattle.redimension_exec.specs.Inner.Bands.{AreBands}
-use Rattle.redimension_exec.specs.Inner.Counting.{has_counted}
+use Rattle.redimension_fill.specs.Inner.Counting.{has_counted}
 use Rattle.redimension_exec.specs.Inner.Grouping.{AreGroupsLanded, landed_sets}
 use Rattle.redimension_exec.proofs.GroupLaws.{at_rises, rising_landed}
 use Rattle.redimension_exec.proofs.LandedLaws.{whole_of}
@@ -129,49 +121,7 @@ module _ (gs : List Aggregate) (origins : List Origin) (bounds : Bounds) (front 
   pub back_breaks : (left : Groups) (broken : Broken) → AreGroupsLanded gs origins bounds front (Ok left) → AreGroupsLanded gs origins bounds back (Err broken) → AreGroupsLanded gs origins bounds (front ++ back) (Err broken)
   back_breaks left broken of_front is = landed-append origins bounds plain front back [] of_front.0 of_front.1 ∙ ap (if_whole (λ (rest : List Landed). of_front.0 ++ rest)) is
 
--- ---- the same of the rows of chunks that are cut in two
-
-pub cut_rows : (dims : List Dimension) (margins : List ℕ) (n : ℕ) (chunks front back : List Chunk) → core_rows dims margins chunks ≡ core_rows dims margins (take n chunks) ++ core_rows dims margins (drop n chunks) → front ≡ take n chunks → back ≡ drop n chunks
-    → core_rows dims margins chunks ≡ core_rows dims margins front ++ core_rows dims margins back
-cut_rows dims margins n chunks front back e f b = e ∙ (λ i. core_rows dims margins (sym f i) ++ core_rows dims margins (sym b i))
-
-pub front_of : (source : Schema) (margins : List ℕ) (n : ℕ) (chunks front : List Chunk) → AreBands source margins chunks → 0 < n → n < length chunks
-    → length (core_rows source.dimensions margins front) ≤ length (core_rows source.dimensions margins chunks) → front ≡ take n chunks → AreBands source margins front
-front_of source margins n chunks front are some less few is =
-    let counted = are.counted in
-    let long = ap length is ∙ length-take n chunks in
-    record {
-      some = omega (arith, long, some, less);
-      places = places_take source margins n chunks front is are.places;
-      cores = subst (CoresRise source.dimensions margins) (sym is) (cores_take source.dimensions margins n chunks are.cores);
-      rise = subst (λ (cs : List Chunk). NumbersRise (numbers cs)) (sym is) (rise_take n chunks are.rise);
-      counted = omega (arith, few, counted);
-    }
-
-pub back_of : (source : Schema) (margins : List ℕ) (n : ℕ) (chunks back : List Chunk) → AreBands source margins chunks → n < length chunks
-    → length (core_rows source.dimensions margins back) ≤ length (core_rows source.dimensions margins chunks) → back ≡ drop n chunks → AreBands source margins back
-back_of source margins n chunks back are less few is =
-    let counted = are.counted in
-    let long = ap length is ∙ length-drop n chunks in
-    record {
-      some = omega (arith, long, less);
-      places = places_drop source margins n chunks back is are.places;
-      cores = subst (CoresRise source.dimensions margins) (sym is) (cores_drop source.dimensions margins n chunks are.cores);
-      rise = subst (λ (cs : List Chunk). NumbersRise (numbers cs)) (sym is) (rise_drop n chunks are.rise);
-      counted = omega (arith, few, counted);
-    }
-
-pub front_bands : (source : Schema) (margins : List ℕ) (n : ℕ) (chunks front back : List Chunk) → AreBands source margins chunks → 0 < n → n < length chunks
-    → core_rows source.dimensions margins chunks ≡ core_rows source.dimensions margins front ++ core_rows source.dimensions margins back → front ≡ take n chunks → AreBands source margins front
-front_bands source margins n chunks front back are some less split is =
-    let sum = ap length split ∙ length-append (core_rows source.dimensions margins front) (core_rows source.dimensions margins back) in
-    front_of source margins n chunks front are some less (omega (arith, sum)) is
-
-pub back_bands : (source : Schema) (margins : List ℕ) (n : ℕ) (chunks front back : List Chunk) → AreBands source margins chunks → n < length chunks
-    → core_rows source.dimensions margins chunks ≡ core_rows source.dimensions margins front ++ core_rows source.dimensions margins back → back ≡ drop n chunks → AreBands source margins back
-back_bands source margins n chunks front back are less split is =
-    let sum = ap length split ∙ length-append (core_rows source.dimensions margins front) (core_rows source.dimensions margins back) in
-    back_of source margins n chunks back are less (omega (arith, sum)) is
+-- ---- the same of whole rows that are cut in two
 
 module _ (whole front back : List Row) (split : whole ≡ front ++ back) where
   module _ (left right : Groups) (made_left made_right : Result Groups Broken) (is_left : made_left ≡ Ok left) (is_right : made_right ≡ Ok right)

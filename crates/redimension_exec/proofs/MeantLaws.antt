@@ -1,11 +1,10 @@
 -- Redimensions of whole arrays.
-use Rattle.std.proofs.Common.{◌≡◌, ℕ, ◌≤◌, true, IsTrue, List, [], length, map, Some, None, Result, Ok, Err, refl, sym, ◌∙◌, subst}
+use Rattle.std.proofs.Common.{◌≡◌, ℕ, true, IsTrue, List, [], map, Some, None, Result, Ok, Err, refl, sym, ◌∙◌, subst}
 use Rattle.std.specs.BTreeMap.{BTreeMap}
 use Rattle.std.specs.Prelude.{IfOk}
 use Rattle.cell_values.specs.declared.datum.Broken.{Broken}
 use Rattle.cell_values.specs.declared.datum.Row.{Row}
 use Rattle.cell_values.specs.declared.memory.Memory.{Memory}
-use Rattle.cell_values.specs.declared.schema.Bounds.{Bounds}
 use Rattle.cell_values.specs.declared.schema.Schema.{Schema}
 use Rattle.cell_values.specs.Schemas.{IsValid}
 use Rattle.array_rows.specs.Arrays.{AreRowsOf, Meant}
@@ -15,24 +14,18 @@ use Rattle.array_rows.specs.Rows.{in_order}
 use Rattle.array_geom.specs.declared.chunk.Chunk.{Chunk}
 use Rattle.array_geom.specs.declared.chunk.ChunkedArray.{ChunkedArray}
 use Rattle.array_geom.specs.Link.{Is}
-use Rattle.array_geom.proofs.NearLemmas.{valid_placed}
 use Rattle.array_parts.specs.Cores.{HaveCells, cores_of, meant_by_cores, unless_broken}
 use Rattle.array_parts.proofs.CoreLaws.{cores_are_rows}
 use Rattle.logical_plan.specs.declared.parts.Aggregate.{Aggregate}
 use Rattle.logical_plan.specs.CellOps.{fit_rows}
 use Rattle.logical_plan.specs.Faults.{if_whole, and_then}
 use Rattle.logical_plan.specs.Meaning.{redimensioned_from}
-use Rattle.logical_plan.specs.Redimension.{Origin, landed, origin_of, redimension_rows, value_origin}
+use Rattle.logical_plan.specs.Redimension.{landed, origin_of, redimension_rows, value_origin}
 use Rattle.logical_plan.specs.Typing.{redimensions}
-use Rattle.redimension_exec.specs.declared.places.places.Place.{Place}
-use Rattle.redimension_exec.specs.Inner.Filling.{CanTell, HoldsAll, HoldsLanded}
-use Rattle.redimension_exec.specs.Inner.Places.{origin}
-use Rattle.redimension_exec.specs.Inner.Steps.{continued}
+use Rattle.redimension_fill.specs.Inner.Filling.{CanTell, HoldsLanded}
+use Rattle.redimension_fill.specs.Inner.Steps.{continued}
 use Rattle.redimension_exec.proofs.LandedLaws.{made_of, carried_are_rows}
-use Rattle.redimension_exec.proofs.SortLaws.{broken_whole, made_apart, sorted_whole}
-
-pub few_dimensions : (schema : Schema) → IsValid schema → length schema.dimensions ≤ 6
-few_dimensions schema valid = (valid_placed schema valid).few
+use Rattle.redimension_fill.proofs.SortLaws.{broken_whole, made_apart, sorted_whole}
 
 abbrev pub meant_of : Schema → Result (List Row) Broken → Meant
 meant_of schema rows = record { schema = schema; rows = rows }
@@ -62,13 +55,6 @@ pub means_broken : (array : ChunkedArray) (target : Schema) (gs : List Aggregate
 means_broken array target gs broken b = λ i. meant_of target (and_then (redimension_rows array.schema target gs) (unless_broken (sym b i) (cores_of array)))
 
 -- ---- chunks that hold what landed
-
-pub by_names : (source target : Schema) (places values : List Place) (bounds : Bounds) (rows : List Row) (r : Result (BTreeMap (ArrayVec ℕ) Chunk) Broken) → map origin places ≡ map (origin_of source) target.dimensions
-    → map origin values ≡ map (value_origin source) target.attributes → bounds ≡ bounds_of target.dimensions → HoldsAll target (map origin places) bounds (map origin values) rows r → HoldsLanded source target rows r
-by_names source target places values bounds rows r p v b h =
-    subst (λ (os : List Origin). HoldsAll target os (bounds_of target.dimensions) (map (value_origin source) target.attributes) rows r) p
-    (subst (λ (vs : List Origin). HoldsAll target (map origin places) (bounds_of target.dimensions) vs rows r) v
-    (subst (λ (all : Bounds). HoldsAll target (map origin places) all (map origin values) rows r) b h))
 
 pub landed_in_order : (array : ChunkedArray) (target : Schema) (made : List Row)
     → Ok made ≡ continued (map (value_origin array.schema) target.attributes) [] (landed (map (origin_of array.schema) target.dimensions) (bounds_of target.dimensions) true (cores_of array) [])

@@ -7,7 +7,6 @@ mod cells;
 mod chunks;
 mod gathering;
 mod groups;
-mod moving;
 mod ordering;
 
 pub use arrays::redimension;

@@ -7,7 +7,6 @@ ghost use Rattle.array_geom.specs.Link.{Is, NumbersRise, numbers};
 ghost use Rattle.logical_plan.specs.Meaning.{redimensioned_from};
 ghost use Rattle.logical_plan.specs.Typing.{redimensions};
 
-use crate::arrays::bands::has_bands;
 use crate::arrays::building::{broken_target, fitted_array};
 use crate::arrays::cells::redimension_cells;
 use crate::arrays::gathering::{gathered_in_bands, gathered_rows};
@@ -15,6 +14,7 @@ use array_geom::ChunkedArray;
 use cell_values::{Memory, Schema};
 use exec_group::rows_of_cores;
 use logical_plan::Aggregate;
+use redimension_fill::has_bands;
 
 /// The redimension with aggregates of an array that is not broken, from all its rows.
 fn of_whole(

@@ -1,30 +1,19 @@
 //! Groups of the cells that land at one coordinate, found band by band, so that the rows of one band are there at a time.
-ghost use Rattle.std.specs.Prelude.{◌≡◌, ℕ, ◌≤◌, ◌<◌, ◌^◌, List as Items, false, length, map, IsTrue, IfOk};
-ghost use Rattle.cell_values.specs.declared.schema.Dimension.{Dimension};
+ghost use Rattle.std.specs.Prelude.{◌≡◌, ◌≤◌, false, length, map, IfOk};
 ghost use Rattle.array_rows.specs.Boxes.{bounds_of};
-ghost use Rattle.array_geom.specs.Link.{NumbersRise, core_rows, numbers};
+ghost use Rattle.array_geom.specs.Link.{core_rows};
 ghost use Rattle.logical_plan.specs.Redimension.{origin_of};
 ghost use Rattle.exec_group.specs.Counts.{cells_in};
-ghost use Rattle.redimension_exec.specs.Inner.Bands.{AreBands};
-ghost use Rattle.redimension_exec.specs.Inner.Counting.{has_counted};
+ghost use Rattle.redimension_fill.specs.Inner.Bands.{AreBands};
+ghost use Rattle.redimension_fill.specs.Inner.Counting.{has_counted};
 ghost use Rattle.redimension_exec.specs.Inner.Grouping.{AreGroupsLanded};
 
 use crate::arrays::groups::groups_landed;
-use area_cells::{are_few, are_rising, half_of_bands, rows_of_chunks};
-use array_geom::{Chunk, ChunkedArray};
+use area_cells::{half_of_bands, rows_of_chunks};
+use array_geom::Chunk;
 use cell_values::{Broken, Margins, Memory, Schema};
 use exec_group::{Groups, merge_two};
 use logical_plan::Aggregate;
-
-/// Whether an array has bands: chunks whose numbers rise, as those of an array do, with cells that can be counted.
-pub(crate) fn has_bands(array: &ChunkedArray) -> bool
-    ensures rise { IsTrue result → NumbersRise (numbers array.now.chunks) }
-    ensures some { IsTrue result → 0 < length array.now.chunks }
-    ensures few { IsTrue result → (dims : Items Dimension) (margins : Items ℕ) → length (core_rows dims margins array.now.chunks) < 2 ^ 63 }
-{
-    let chunks = array.chunks.as_slice();
-    !chunks.is_empty() && are_rising(chunks, array.schema.dimensions.len()) && are_few(chunks)
-}
 
 /// The groups of what lands of the cores of chunks, from all their rows.
 pub(crate) fn groups_in_band(

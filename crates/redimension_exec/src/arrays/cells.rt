@@ -6,15 +6,13 @@ ghost use Rattle.array_geom.specs.Geometry.{overlaps};
 ghost use Rattle.array_geom.specs.Link.{Is};
 ghost use Rattle.logical_plan.specs.Meaning.{redimensioned_from};
 ghost use Rattle.logical_plan.specs.Typing.{redimensions};
-ghost use Rattle.redimension_exec.specs.Inner.Filling.{HoldsLanded, no_margins};
+ghost use Rattle.redimension_fill.specs.Inner.Filling.{HoldsLanded, no_margins};
 
-use crate::arrays::bands::has_bands;
 use crate::arrays::building::broken_target;
-use crate::arrays::moving::{filled_from_rows, filled_in_bands};
-use crate::filling::{no_margins, told_array};
 use array_geom::{Chunk, ChunkedArray};
 use cell_values::{Broken, ChunkAt, Margins, Memory, Schema};
 use exec_group::rows_of_cores;
+use redimension_fill::{filled_from_rows, filled_in_bands, has_bands, no_margins, told_array};
 use std::collections::BTreeMap;
 
 /// The target's chunks with what lands of an array's cores, or the first row that breaks the target, from all rows.

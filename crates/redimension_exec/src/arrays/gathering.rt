@@ -7,18 +7,35 @@ ghost use Rattle.array_geom.specs.Link.{NumbersRise, numbers};
 ghost use Rattle.array_parts.specs.Cores.{HaveCells, cores_of};
 ghost use Rattle.logical_plan.specs.Redimension.{gathered_rows, origin_of};
 ghost use Rattle.logical_plan.specs.Typing.{redimensions};
+ghost use Rattle.redimension_exec.specs.Inner.Grouping.{AreRowsTold};
 
 use crate::arrays::chunks::groups_of_cores;
 use crate::arrays::groups::groups_landed;
 use crate::arrays::ordering::aggregates_named;
 use array_geom::ChunkedArray;
 use cell_values::{Broken, List, Memory, Row, Schema};
-use exec_group::rows_told;
+use exec_group::{Groups, rows_told};
 use logical_plan::Aggregate;
+
+/// The rows that groups tell, or what broke the array.
+fn told_of(
+    found: Result<Result<Groups, Broken>, Memory>,
+) -> Result<Result<List<Row>, Broken>, Memory>
+    ensures { IfOk result (AreRowsTold found) }
+{
+    match found {
+        Ok(Ok(groups)) => match rows_told(groups) {
+            Ok(rows) => Ok(Ok(rows)),
+            Err(memory) => Err(memory),
+        },
+        Ok(Err(broken)) => Ok(Err(broken)),
+        Err(memory) => Err(memory),
+    }
+}
 
 /// For each coordinate of the target at which cells land, a row with the aggregates that the target's attributes name; or the first
 /// row that breaks the array, and why.
-#[tactic(auto, using(crate::proofs::MeantLaws::few_dimensions))]
+#[tactic(auto, using(redimension_fill::proofs::BandLaws::few_dimensions))]
 pub(crate) fn gathered_rows(
     source: &Schema,
     target: &Schema,
@@ -35,17 +52,13 @@ pub(crate) fn gathered_rows(
     ensures rows { IfOk result (λ made. IfOk made (AreRowsOf target.now)) }
 {
     let ordered = aggregates_named(&target.attributes, aggregates)?;
-    match groups_landed(source, target, ordered.as_slice(), rows)? {
-        Err(broken) => Ok(Err(broken)),
-        Ok(groups) => {
-            let told = rows_told(groups)?;
-            Ok(Ok(told))
-        }
-    }
+    let found = groups_landed(source, target, ordered.as_slice(), rows);
+    drop(ordered);
+    told_of(found)
 }
 
 /// The same of the rows of an array's cores, chunk by chunk, or band by band where a row breaks the array.
-#[tactic(auto, using(crate::proofs::MeantLaws::few_dimensions))]
+#[tactic(auto, using(redimension_fill::proofs::BandLaws::few_dimensions))]
 pub(crate) fn gathered_in_bands(
     array: &ChunkedArray,
     target: &Schema,
@@ -63,17 +76,14 @@ pub(crate) fn gathered_in_bands(
     ensures rows { IfOk result (λ made. IfOk made (AreRowsOf target.now)) }
 {
     let ordered = aggregates_named(&target.attributes, aggregates)?;
-    match groups_of_cores(
+    let chunks = array.chunks.as_slice();
+    let found = groups_of_cores(
         &array.schema,
         target,
         ordered.as_slice(),
         &array.margins,
-        array.chunks.as_slice(),
-    )? {
-        Err(broken) => Ok(Err(broken)),
-        Ok(groups) => {
-            let told = rows_told(groups)?;
-            Ok(Ok(told))
-        }
-    }
+        chunks,
+    );
+    drop(ordered);
+    told_of(found)
 }

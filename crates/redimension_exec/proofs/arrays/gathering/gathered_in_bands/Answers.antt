@@ -8,19 +8,19 @@ use Rattle.array_parts.proofs.CoreLaws.{cores_are_rows}
 use Rattle.area_cells.proofs.PieceLaws.{rise_in_cores}
 use Rattle.logical_plan.specs.Redimension.{origin_of}
 use Rattle.exec_group.specs.Counts.{cells_in}
-use Rattle.redimension_exec.specs.Inner.Bands.{AreBands}
+use Rattle.redimension_fill.specs.Inner.Bands.{AreBands}
 use Rattle.redimension_exec.specs.Inner.Grouping.{AreGroupsLanded}
-use Rattle.redimension_exec.proofs.ArraysGatherLaws.{few_in, gathered_are, gathered_values, land_of}
+use Rattle.redimension_exec.proofs.ArraysGatherLaws.{land_of, told_are, told_values}
 use Rattle.redimension_exec.proofs.OrderLaws.{gathers}
 use Rattle.redimension_exec.proofs.arrays.gathering.gathered_in_bands.Goals as goal
 
-pub groups_of_cores-requires-clause-plain : goal.groups_of_cores-requires-clause-plain
-groups_of_cores-requires-clause-plain c = (gathers c.args.array.now.schema c.args.target.now c.args.aggregates.now c.requires.some c.requires.typed).plain
+pub groups_of_cores-found-requires-clause-plain : goal.groups_of_cores-found-requires-clause-plain
+groups_of_cores-found-requires-clause-plain c = (gathers c.args.array.now.schema c.args.target.now c.args.aggregates.now c.requires.some c.requires.typed).plain
 
-pub groups_of_cores-requires-clause-bands : goal.groups_of_cores-requires-clause-bands
-groups_of_cores-requires-clause-bands c =
+pub groups_of_cores-found-requires-clause-bands : goal.groups_of_cores-found-requires-clause-bands
+groups_of_cores-found-requires-clause-bands c =
     let array = c.args.array.now in
-    subst (AreBands array.schema array.margins.items) (sym c.as_slice-2.ensures) (record {
+    subst (AreBands array.schema array.margins.items) (sym c.as_slice-chunks.ensures) (record {
       some = c.requires.chunks;
       places = c.requires.cells.placed;
       cores = rise_in_cores array.schema array.margins.items array.chunks c.requires.cells;
@@ -31,22 +31,21 @@ groups_of_cores-requires-clause-bands c =
 pub returns-clause-values : goal.returns-clause-values
 returns-clause-values c =
     let array = c.args.array.now in
-    gathered_values array.schema c.args.target.now c.args.aggregates.now (cores_of array) c.in-Ok.groups c.in_ok-told-in-Ok.told (cores_are_rows array.schema array.margins.items array.chunks c.requires.cells) c.requires.valid
-    (gathers array.schema c.args.target.now c.args.aggregates.now c.requires.some c.requires.typed)
-    (land_of array.schema c.args.target.now c.args.aggregates.now c.in_ok-ordered.ordered c.as_slice.result.now (cores_of array) c.in_ok-broken.field-0 c.in-Ok.groups c.as_slice.ensures c.in_ok-ordered.ensures c.in-Ok.is
-    (subst (λ (chunks : List Chunk). AreGroupsLanded c.as_slice.result.now (map (origin_of array.schema) c.args.target.now.dimensions) (bounds_of c.args.target.now.dimensions) (core_rows array.schema.dimensions array.margins.items chunks) c.in_ok-broken.field-0)
-    c.as_slice-2.ensures c.in_ok-broken.ensures.groups))
-    c.in_ok-told-in-Ok.ensures
+    told_values array.schema c.args.target.now c.args.aggregates.now (cores_of array) (cores_are_rows array.schema array.margins.items array.chunks c.requires.cells) c.requires.valid
+    (gathers array.schema c.args.target.now c.args.aggregates.now c.requires.some c.requires.typed) c.groups_of_cores-found.result c.told_of.result
+    (land_of array.schema c.args.target.now c.args.aggregates.now c.in_ok-ordered.ordered c.as_slice.result.now (cores_of array) c.groups_of_cores-found.result c.as_slice.ensures c.in_ok-ordered.ensures
+    (subst (λ (chunks : List Chunk). IfOk c.groups_of_cores-found.result (AreGroupsLanded c.as_slice.result.now (map (origin_of array.schema) c.args.target.now.dimensions) (bounds_of c.args.target.now.dimensions)
+    (core_rows array.schema.dimensions array.margins.items chunks))) c.as_slice-chunks.ensures c.groups_of_cores-found.ensures.groups))
+    c.told_of.ensures
 
 pub returns-clause-rows : goal.returns-clause-rows
 returns-clause-rows c =
     let array = c.args.array.now in
-    gathered_are array.schema c.args.target.now c.args.aggregates.now (cores_of array) c.in-Ok.groups c.in_ok-told-in-Ok.told (cores_are_rows array.schema array.margins.items array.chunks c.requires.cells) c.requires.valid
-    (gathers array.schema c.args.target.now c.args.aggregates.now c.requires.some c.requires.typed)
-    (land_of array.schema c.args.target.now c.args.aggregates.now c.in_ok-ordered.ordered c.as_slice.result.now (cores_of array) c.in_ok-broken.field-0 c.in-Ok.groups c.as_slice.ensures c.in_ok-ordered.ensures c.in-Ok.is
-    (subst (λ (chunks : List Chunk). AreGroupsLanded c.as_slice.result.now (map (origin_of array.schema) c.args.target.now.dimensions) (bounds_of c.args.target.now.dimensions) (core_rows array.schema.dimensions array.margins.items chunks) c.in_ok-broken.field-0)
-    c.as_slice-2.ensures c.in_ok-broken.ensures.groups))
-    c.in_ok-told-in-Ok.ensures
-    (few_in (cores_of array) c.in_ok-broken.field-0 c.in-Ok.groups c.in-Ok.is
-    (subst (λ (chunks : List Chunk). IfOk c.in_ok-broken.field-0 (λ some. cells_in some.groups ≤ length (core_rows array.schema.dimensions array.margins.items chunks))) c.as_slice-2.ensures c.in_ok-broken.ensures.cells)
-    c.requires.counted)
+    told_are array.schema c.args.target.now c.args.aggregates.now (cores_of array) (cores_are_rows array.schema array.margins.items array.chunks c.requires.cells) c.requires.valid
+    (gathers array.schema c.args.target.now c.args.aggregates.now c.requires.some c.requires.typed) c.groups_of_cores-found.result c.told_of.result
+    (land_of array.schema c.args.target.now c.args.aggregates.now c.in_ok-ordered.ordered c.as_slice.result.now (cores_of array) c.groups_of_cores-found.result c.as_slice.ensures c.in_ok-ordered.ensures
+    (subst (λ (chunks : List Chunk). IfOk c.groups_of_cores-found.result (AreGroupsLanded c.as_slice.result.now (map (origin_of array.schema) c.args.target.now.dimensions) (bounds_of c.args.target.now.dimensions)
+    (core_rows array.schema.dimensions array.margins.items chunks))) c.as_slice-chunks.ensures c.groups_of_cores-found.ensures.groups))
+    (subst (λ (chunks : List Chunk). IfOk c.groups_of_cores-found.result (λ some. IfOk some (λ groups. cells_in groups.groups ≤ length (core_rows array.schema.dimensions array.margins.items chunks)))) c.as_slice-chunks.ensures
+    c.groups_of_cores-found.ensures.cells)
+    c.requires.counted c.told_of.ensures

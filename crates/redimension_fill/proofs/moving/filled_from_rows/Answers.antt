@@ -1,0 +1,18 @@
+use Rattle.std.proofs.Common.{◌≤◌, List, length, sym, ap, ◌∙◌, subst, map}
+use Rattle.redimension_fill.specs.declared.places.places.Place.{Place}
+use Rattle.redimension_fill.specs.Inner.Places.{origin}
+use Rattle.redimension_fill.proofs.FillLaws.{by_names}
+use Rattle.redimension_fill.proofs.moving.filled_from_rows.Goals as goal
+
+pub filled_with-requires : goal.filled_with-requires
+filled_with-requires c = record {
+  valid = c.requires.valid;
+  none = c.requires.margins;
+  all = c.in_ok-origins.ensures.bounds;
+  few = subst (λ (ps : List Place). length ps ≤ 6) (sym c.as_slice.ensures) c.in_ok-origins.ensures.few;
+}
+
+pub returns : goal.returns
+returns c =
+    by_names c.args.source.now c.args.target.now c.as_slice.result.now c.as_slice-2.result.now c.in_ok-origins.origins.bounds c.args.rows.now c.in_ok-filled.filled
+    (ap (map origin) c.as_slice.ensures ∙ c.in_ok-origins.ensures.places) (ap (map origin) c.as_slice-2.ensures ∙ c.in_ok-origins.ensures.values) c.in_ok-origins.ensures.bounds c.in_ok-filled.ensures
