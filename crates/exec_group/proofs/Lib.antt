@@ -2,6 +2,7 @@ pub mod BlockLaws
 pub mod ColumnLaws
 pub mod CoreColumnLaws
 pub mod CoreSets
+pub mod CornerLaws
 pub mod FormLaws
 pub mod GroupLaws
 pub mod InsideLaws

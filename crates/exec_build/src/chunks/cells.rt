@@ -1,6 +1,7 @@
 //! The cells of a box in a chunk's frame.
 ghost use Rattle.std.specs.Prelude.{◌≡◌, ℕ, ℤ, ◌+◌, ◌≤◌, ◌<◌, ◌^◌, ◌+ℤ◌, ◌≤ℤ◌, pos, true, List as Items, [], ◌∷◌, ◌++◌, length, IsTrue, IfOk, OnOk};
 ghost use Rattle.cell_values.specs.declared.datum.Cell.TheVariants.{Full};
+ghost use Rattle.cell_values.specs.declared.datum.Datum.TheVariants.{Int};
 ghost use Rattle.array_rows.specs.Boxes.{is_between};
 ghost use Rattle.array_rows.specs.Rows.{Coordinate};
 ghost use Rattle.array_geom.specs.Geometry.{position_in};
@@ -74,21 +75,6 @@ fn computed_value(
     Ok(fitted(attributes, made))
 }
 
-/// The value of a `build` at a coordinate.
-fn built_value(
-    alloc: Global,
-    attributes: &[Attribute],
-    value: &TypedExpr,
-    at: &Coord,
-) -> Result<Datum, Memory>
-    ensures { IfOk result (λ made. made ∷ [] ≡ fit_values attributes.now (value_of value.now at.now.items [] ∷ [])) }
-{
-    match number_of(value, at.as_slice()) {
-        Some(number) => Ok(Datum::Int(number)),
-        None => computed_value(alloc, attributes, value, at),
-    }
-}
-
 /// Adds a cell of one value at a place, without a list of its own.
 fn push_value(chunk: &mut Chunk, place: u64, made: &Datum) -> Result<(), Memory>
     ensures number { chunk.new.at ≡ chunk.old.at }
@@ -97,6 +83,34 @@ fn push_value(chunk: &mut Chunk, place: u64, made: &Datum) -> Result<(), Memory>
 {
     chunk.positions.push(place)?;
     chunk.cells.push_values(from_ref(made))
+}
+
+/// Adds a cell of one number at a place, without a value of its own.
+fn push_number(chunk: &mut Chunk, place: u64, made: i64) -> Result<(), Memory>
+    ensures number { chunk.new.at ≡ chunk.old.at }
+    ensures positions { OnOk result (chunk.new.positions ≡ chunk.old.positions ++ place ∷ []) }
+    ensures cells { OnOk result (chunk.new.cells ≡ chunk.old.cells ++ Full (Int made ∷ []) ∷ []) }
+{
+    chunk.positions.push(place)?;
+    chunk.cells.push_number(made)
+}
+
+/// Adds the cell at a coordinate, whose place in a grid is this, with the value that is computed there.
+fn add_computed(
+    alloc: Global,
+    attributes: &[Attribute],
+    value: &TypedExpr,
+    at: &Coord,
+    place: u64,
+    chunk: &mut Chunk,
+) -> Result<(), Memory>
+    ensures { (low : Items ℤ) (lengths : Items ℕ) → is_in_grid low lengths at.now.items ≡ true → place ≡ position_in low lengths at.now.items
+        → OnOk result (TakesRows low lengths (built_row attributes.now value.now at.now.items ∷ []) chunk.old chunk.new) }
+{
+    let made = computed_value(alloc, attributes, value, at)?;
+    let pushed = push_value(chunk, place, &made);
+    drop(made);
+    pushed
 }
 
 /// Adds the cell at a coordinate, whose place in a grid is this.
@@ -111,10 +125,10 @@ fn add_placed(
     ensures { (low : Items ℤ) (lengths : Items ℕ) → is_in_grid low lengths at.now.items ≡ true → place ≡ position_in low lengths at.now.items
         → OnOk result (TakesRows low lengths (built_row attributes.now value.now at.now.items ∷ []) chunk.old chunk.new) }
 {
-    let made = built_value(alloc, attributes, value, at)?;
-    let pushed = push_value(chunk, place, &made);
-    drop(made);
-    pushed
+    match number_of(value, at.as_slice()) {
+        Some(number) => push_number(chunk, place, number),
+        None => add_computed(alloc, attributes, value, at, place, chunk),
+    }
 }
 
 /// Adds the cell at a coordinate.

@@ -1,5 +1,5 @@
 //! The group of all cells of a chunk's core, from its columns: no list of values is made for a cell.
-ghost use Rattle.std.specs.Prelude.{◌≡◌, ◌≤◌, ◌<◌, ◌^◌, ◌∷◌, [], pos, map, length, IsTrue, IfOk, IfSome};
+ghost use Rattle.std.specs.Prelude.{◌≡◌, ◌≤◌, ◌<◌, ◌^◌, ◌∷◌, ◌&&◌, [], ℕ, true, pos, map, length, replicate, IsTrue, IfOk, IfSome};
 ghost use Rattle.std.specs.List.{AllByRecursion};
 ghost use Rattle.array_rows.specs.Boxes.{is_inside};
 ghost use Rattle.array_geom.specs.Geometry.{coordinate_in, volume};
@@ -14,7 +14,7 @@ use crate::parts::named::zero;
 use crate::rows::{Groups, one_of_columns};
 use array_geom::{Chunk, Grid, core_box, grid_of};
 use array_rows::{Cells, is_in_box};
-use cell_values::{Bounds, List, Margins, Memory, Schema};
+use cell_values::{Bounds, Coord, List, Margins, Memory, Schema};
 use logical_plan::Aggregate;
 
 /// Whether cells can be counted.
@@ -24,8 +24,33 @@ fn are_few(cells: &Cells) -> bool
     cells.len() < 1 << 63
 }
 
-/// Whether each place is in a box.
-fn places_inside(grid: &Grid, area: &Bounds, positions: &List<u64>) -> Result<List<bool>, Memory>
+fn holds_both(area: &Bounds, first: &Coord, last: &Coord) -> bool
+    ensures { result ≡ (is_inside area.now first.now.items && is_inside area.now last.now.items) }
+{
+    is_in_box(area, first) && is_in_box(area, last)
+}
+
+/// Whether a grid lies in a box, as it does where its lowest and its last coordinate are in it.
+fn is_whole(grid: &Grid, area: &Bounds) -> bool
+    requires { IsGrid grid.now }
+    ensures { IsTrue result → (p : ℕ) → p < volume grid.now.lengths.items
+        → is_inside area.now (coordinate_in grid.now.low.items grid.now.lengths.items p) ≡ true }
+{
+    let count = grid.volume();
+    let last = grid.place(count - 1);
+    holds_both(area, &grid.low, &last)
+}
+
+/// That all places are inside.
+fn all_inside(positions: &List<u64>) -> Result<List<bool>, Memory>
+    ensures { IfOk result (λ inside. inside ≡ replicate (length positions.now) true) }
+{
+    let inside = Vec::from_elem(positions.allocator(), true, positions.len())?;
+    Ok(List::from_vec(inside))
+}
+
+/// Whether each place is in a box, place by place.
+fn each_inside(grid: &Grid, area: &Bounds, positions: &List<u64>) -> Result<List<bool>, Memory>
     requires grid { IsGrid grid.now }
     requires inside { AllByRecursion (λ p. p < volume grid.now.lengths.items) positions.now }
     ensures { IfOk result (λ inside. inside ≡ map (λ p. is_inside area.now (coordinate_in grid.now.low.items grid.now.lengths.items p)) positions.now) }
@@ -35,6 +60,19 @@ fn places_inside(grid: &Grid, area: &Bounds, positions: &List<u64>) -> Result<Li
         inside.push(is_in_box(area, &grid.place(*position)))?;
     }
     Ok(inside)
+}
+
+/// Whether each place is in a box.
+fn places_inside(grid: &Grid, area: &Bounds, positions: &List<u64>) -> Result<List<bool>, Memory>
+    requires grid { IsGrid grid.now }
+    requires inside { AllByRecursion (λ p. p < volume grid.now.lengths.items) positions.now }
+    ensures { IfOk result (λ inside. inside ≡ map (λ p. is_inside area.now (coordinate_in grid.now.low.items grid.now.lengths.items p)) positions.now) }
+{
+    if is_whole(grid, area) {
+        all_inside(positions)
+    } else {
+        each_inside(grid, area, positions)
+    }
 }
 
 /// The one group of all cells of a chunk's core, where all values of each aggregate are kept as numbers.
