@@ -5,8 +5,6 @@ mod host_disk;
 mod host_shelf;
 mod host_sink;
 mod host_source;
-#[cfg(test)]
-mod tests;
 
 pub use host_disk::HostDisk;
 pub use host_shelf::HostShelf;

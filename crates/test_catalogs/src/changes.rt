@@ -11,6 +11,7 @@ use crate::vectors::*;
 use catalog_changes::*;
 use cell_values::{Bytes, Memory};
 use plan_changes::Change;
+use test_kit::{push_words, truth_word};
 use version_catalog::{BlobAt, Catalog, *};
 
 /// The bytes of a change's record.
@@ -30,7 +31,16 @@ fn changed(catalog: &Catalog, change: &Change, directory: Option<BlobAt>) -> Res
     requires directory { IsTrue (has_its_directory change.now directory) }
 {
     let after = with_change(catalog, change, directory)?;
-    encode_catalog(catalog.arrays.allocator(), &after)
+    let bytes = encode_catalog(catalog.arrays.allocator(), &after);
+    drop(after);
+    bytes
+}
+
+/// Whether a text has these bytes. It goes.
+fn are(text: Bytes, bytes: &[u8]) -> bool {
+    let are_same = text.as_slice() == bytes;
+    drop(text);
+    are_same
 }
 
 /// Whether a change without a directory has this record, and leaves this catalogue.
@@ -38,9 +48,9 @@ fn makes(catalog: &Catalog, change: &Change, record: &[u8], after: &[u8]) -> Res
     requires names { IsTrue (names_allow (names_in catalog.now) change.now) }
     requires directory { IsTrue (has_its_directory change.now None) }
 {
-    let entry = recorded(catalog, change, None)?;
-    let bytes = changed(catalog, change, None)?;
-    Ok(entry.as_slice() == record && bytes.as_slice() == after)
+    let is_recorded = are(recorded(catalog, change, None)?, record);
+    let is_left = are(changed(catalog, change, None)?, after);
+    Ok(is_recorded && is_left)
 }
 
 /// The same of a change with a directory of 8 bytes in page 9.
@@ -49,9 +59,9 @@ fn writes(catalog: &Catalog, change: &Change, record: &[u8], after: &[u8]) -> Re
     requires directory { (directory : ABlob) → IsTrue (has_its_directory change.now (Some directory)) }
 {
     let alloc = catalog.arrays.allocator();
-    let entry = recorded(catalog, change, Some(blob(alloc, 8, 9)?))?;
-    let bytes = changed(catalog, change, Some(blob(alloc, 8, 9)?))?;
-    Ok(entry.as_slice() == record && bytes.as_slice() == after)
+    let is_recorded = are(recorded(catalog, change, Some(blob(alloc, 8, 9)?))?, record);
+    let is_left = are(changed(catalog, change, Some(blob(alloc, 8, 9)?))?, after);
+    Ok(is_recorded && is_left)
 }
 
 /// The same, and the change goes: by `drop`, whose proof is one for all, and not at the end of a scope, where it would be
@@ -81,7 +91,7 @@ fn is_written(
 
 fn is_start(catalog: &Catalog) -> Result<bool, Memory> {
     let bytes = encode_catalog(catalog.arrays.allocator(), catalog)?;
-    Ok(bytes.as_slice() == START.as_slice())
+    Ok(are(bytes, &START))
 }
 
 fn is_created(catalog: &Catalog) -> Result<bool, Memory>
@@ -152,14 +162,18 @@ const KINDS: [&str; 7] = [
     "versions that are removed",
 ];
 
-/// Prints of each kind of change whether its record, and the catalogue behind it, have the bytes that were spelled by hand.
-pub(crate) fn tell_changes(rt: &(impl Print + AllocGlobal)) -> anyhow::Result<()> {
-    let catalog = catalog(rt.alloc())?;
-    let told = are_as_written(&catalog);
-    drop(catalog);
-    let told = told?;
-    for (kind, is_same) in KINDS.as_slice().iter().zip(told.as_slice()) {
-        println!(rt; "{kind}: {is_same}")?;
+/// Adds of each kind of change whether its record, and the catalogue behind it, have the bytes that were spelled by hand.
+fn push_kinds(out: &mut String, told: &[bool]) -> Result<(), Memory> {
+    for (kind, is_same) in KINDS.as_slice().iter().zip(told) {
+        push_words(out, &[*kind, ": ", truth_word(*is_same), "\n"])?;
     }
     Ok(())
+}
+
+/// Adds the same of the worked changes.
+pub(crate) fn push_changes(out: &mut String) -> Result<(), Memory> {
+    let catalog = catalog(*out.allocator())?;
+    let told = are_as_written(&catalog);
+    drop(catalog);
+    push_kinds(out, told?.as_slice())
 }

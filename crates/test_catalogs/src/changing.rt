@@ -6,6 +6,7 @@ use cell_values::{Attribute, Dimension, Kind, List, Memory, Name, Schema};
 use logical_plan::{NameEntry, Plan};
 use plan_changes::Change;
 use std::alloc::Global;
+use test_kit::one_more;
 use version_catalog::{BlobAt, Catalog, CatalogArray};
 
 /// The name of one letter. A byte that is no letter counts as want of memory.
@@ -21,27 +22,25 @@ fn name(alloc: Global, letter: u8) -> Result<Name, Memory>
 fn attributes(alloc: Global) -> Result<List<Attribute>, Memory>
     ensures { IfOk result (λ attributes. attributes ≡ worked_schema.attributes) }
 {
-    let mut attributes = List::new(alloc);
-    attributes.push(Attribute {
+    let attribute = Attribute {
         name: name(alloc, b'v')?,
         kind: Kind::Int64,
         nullable: true,
-    })?;
-    Ok(attributes)
+    };
+    one_more(List::new(alloc), attribute)
 }
 
 fn dimensions(alloc: Global) -> Result<List<Dimension>, Memory>
     ensures { IfOk result (λ dimensions. dimensions ≡ worked_schema.dimensions) }
 {
-    let mut dimensions = List::new(alloc);
-    dimensions.push(Dimension {
+    let dimension = Dimension {
         name: name(alloc, b'i')?,
         lo: 0,
         hi: 3,
         chunk: 2,
         overlap: 0,
-    })?;
-    Ok(dimensions)
+    };
+    one_more(List::new(alloc), dimension)
 }
 
 fn schema(alloc: Global) -> Result<Schema, Memory>
@@ -66,10 +65,8 @@ pub(crate) fn blob(alloc: Global, length: u64, page: u32) -> Result<BlobAt, Memo
 fn directories(alloc: Global) -> Result<List<BlobAt>, Memory>
     ensures { IfOk result (λ directories. directories ≡ blob_in 44 7 ∷ blob_in 8 8 ∷ []) }
 {
-    let mut directories = List::new(alloc);
-    directories.push(blob(alloc, 44, 7)?)?;
-    directories.push(blob(alloc, 8, 8)?)?;
-    Ok(directories)
+    let directories = one_more(List::new(alloc), blob(alloc, 44, 7)?)?;
+    one_more(directories, blob(alloc, 8, 8)?)
 }
 
 fn entry(alloc: Global) -> Result<NameEntry, Memory>
@@ -91,9 +88,9 @@ pub(crate) fn catalog(alloc: Global) -> Result<Catalog, Memory>
         entry: entry(alloc)?,
         directories: directories(alloc)?,
     };
-    let mut arrays = List::new(alloc);
-    arrays.push(array)?;
-    Ok(Catalog { arrays })
+    Ok(Catalog {
+        arrays: one_more(List::new(alloc), array)?,
+    })
 }
 
 /// No cells, stored in an array.

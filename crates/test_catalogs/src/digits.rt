@@ -1,27 +1,7 @@
 //! The bytes that words stand for.
 
 use cell_values::{Bytes, Memory};
-use std::alloc::{AllocError, Global};
-use std::str::from_utf8;
 use test_kit::place_in;
-
-/// The bytes that pairs of hexadecimal digits stand for.
-pub(crate) fn bytes_in(alloc: Global, digits: &str) -> Result<Bytes, Memory> {
-    let mut bytes = Bytes::new(alloc);
-    for pair in digits.as_bytes().chunks(2) {
-        let pair = from_utf8(pair).unwrap_or("");
-        bytes.push(u8::from_str_radix(pair, 16).unwrap_or(0))?;
-    }
-    Ok(bytes)
-}
-
-/// Adds bytes as pairs of hexadecimal digits.
-pub(crate) fn push_digits(out: &mut String, bytes: &[u8]) -> Result<(), AllocError> {
-    for byte in bytes {
-        write!(out, "{byte:02x}")?;
-    }
-    Ok(())
-}
 
 /// The number of a word; 0 where it is none.
 fn byte_in(word: &str) -> u8 {
@@ -50,21 +30,45 @@ fn change(bytes: &mut Bytes, word: &str) -> Result<(), Memory> {
     Ok(())
 }
 
+/// Changes bytes as some words say.
+pub(crate) fn change_all(bytes: &mut Bytes, words: &[&str]) -> Result<(), Memory> {
+    for word in words {
+        change(bytes, word)?;
+    }
+    Ok(())
+}
+
 /// The bytes as some words change them.
 pub(crate) fn changed(bytes: &Bytes, words: &[&str]) -> Result<Bytes, Memory> {
     let mut copy = bytes.copy()?;
-    for word in words {
-        change(&mut copy, word)?;
+    match change_all(&mut copy, words) {
+        Ok(()) => Ok(copy),
+        Err(Memory) => {
+            drop(copy);
+            Err(Memory)
+        }
     }
-    Ok(copy)
 }
 
-/// Adds an array of the name `A0000` with this number in it.
+/// The name `A0000` with this number in it, behind its length.
+fn name_of(out: &Bytes, number: u32) -> Result<String, Memory> {
+    Ok(format!(in out.allocator(); "\u{5}A{number:04}")?)
+}
+
+/// Adds an array of that name.
 fn push_array(out: &mut Bytes, number: u32, array: &[u8]) -> Result<(), Memory> {
-    let mut name = String::new(out.allocator());
-    write!(name, "\u{5}A{number:04}")?;
-    out.extend(name.as_bytes())?;
+    let name = name_of(out, number)?;
+    let told = out.extend(name.as_bytes());
+    drop(name);
+    told?;
     out.extend(array)
+}
+
+fn push_arrays(out: &mut Bytes, count: u32, array: &[u8]) -> Result<(), Memory> {
+    for number in 0..count {
+        push_array(out, number, array)?;
+    }
+    Ok(())
 }
 
 /// The bytes of so many arrays, each as the one of a catalogue whose array has a name of one letter.
@@ -72,8 +76,11 @@ pub(crate) fn many(bytes: &Bytes, count: &str) -> Result<Bytes, Memory> {
     let (_, array) = bytes.as_slice().split_at(bytes.len().min(6));
     let count = count.parse::<u32>().unwrap_or(0);
     let mut more = Bytes::from_slice(bytes.allocator(), &count.to_le_bytes())?;
-    for number in 0..count {
-        push_array(&mut more, number, array)?;
+    match push_arrays(&mut more, count, array) {
+        Ok(()) => Ok(more),
+        Err(Memory) => {
+            drop(more);
+            Err(Memory)
+        }
     }
-    Ok(more)
 }

@@ -2,11 +2,11 @@
 ghost use Rattle.std.specs.Prelude.{◌≤◌, IfOk};
 ghost use Rattle.chunk_map.specs.Entries.{AreRising};
 
-use crate::digits::{bytes_in, push_digits};
-use anyhow::Result;
-use cell_values::Bytes;
+use crate::catalogs::{push_spelling, push_wrong};
+use cell_values::Memory;
 use chunk_map::{BadDirectory, Directory, decode_directory, encode_directory, replaced};
 use std::alloc::Global;
+use test_kit::{bytes_in, push_word};
 
 /// The number of dimensions that a word says: 1 or 2.
 fn dims_in(word: &str) -> u32
@@ -27,44 +27,65 @@ fn directory_in(alloc: Global, dims: u32, bytes: &[u8]) -> Result<Directory, Bad
     decode_directory(alloc, dims, bytes)
 }
 
-fn push_bad(out: &mut String, bad: BadDirectory) -> Result<()> {
+fn push_bad(out: &mut String, bad: BadDirectory) -> Result<(), Memory> {
     match bad {
-        BadDirectory::At { at } => write!(out, "wrong at {at}")?,
-        BadDirectory::Memory => out.push_str("no memory")?,
+        BadDirectory::At { at } => push_wrong(out, at),
+        BadDirectory::Memory => push_word(out, "no memory"),
     }
-    Ok(())
 }
 
-fn push_spelled(out: &mut String, dims: u32, directory: &Directory) -> Result<()> {
-    let bytes = encode_directory(*out.allocator(), directory, dims)?;
-    push_digits(out, bytes.as_slice())?;
-    Ok(())
+fn push_spelled(out: &mut String, dims: u32, directory: &Directory) -> Result<(), Memory> {
+    push_spelling(out, encode_directory(*out.allocator(), directory, dims)?)
 }
 
 /// Adds the spelling of the directory that bytes are read as, or the place of their first wrong item.
-pub(crate) fn push_directory(out: &mut String, dims: &str, bytes: &Bytes) -> Result<()> {
+pub(crate) fn push_directory(out: &mut String, dims: &str, bytes: &[u8]) -> Result<(), Memory> {
     let dims = dims_in(dims);
-    match directory_in(*out.allocator(), dims, bytes.as_slice()) {
-        Ok(directory) => push_spelled(out, dims, &directory),
+    match directory_in(*out.allocator(), dims, bytes) {
+        Ok(directory) => {
+            let told = push_spelled(out, dims, &directory);
+            drop(directory);
+            told
+        }
         Err(bad) => push_bad(out, bad),
     }
 }
 
-fn push_both(out: &mut String, dims: u32, old: &Directory, fresh: &Directory) -> Result<()>
+fn push_both(out: &mut String, dims: u32, old: &Directory, fresh: &Directory) -> Result<(), Memory>
     requires old { AreRising old.now.entries }
     requires fresh { AreRising fresh.now.entries }
 {
     let new = replaced(old, fresh.entries.as_slice())?;
-    push_spelled(out, dims, &new)
+    let told = push_spelled(out, dims, &new);
+    drop(new);
+    told
 }
 
-fn push_over(out: &mut String, dims: u32, old: &Directory, fresh: &[u8]) -> Result<()>
+fn push_over(out: &mut String, dims: u32, old: &Directory, fresh: &[u8]) -> Result<(), Memory>
     requires some { 1 ≤ dims }
     requires few { dims ≤ 6 }
     requires old { AreRising old.now.entries }
 {
     match directory_in(*out.allocator(), dims, fresh) {
-        Ok(fresh) => push_both(out, dims, old, &fresh),
+        Ok(fresh) => {
+            let told = push_both(out, dims, old, &fresh);
+            drop(fresh);
+            told
+        }
+        Err(bad) => push_bad(out, bad),
+    }
+}
+
+fn push_under(out: &mut String, dims: u32, bytes: &[u8], fresh: &[u8]) -> Result<(), Memory>
+    requires some { 1 ≤ dims }
+    requires few { dims ≤ 6 }
+{
+    match directory_in(*out.allocator(), dims, bytes) {
+        Ok(old) => {
+            let told = push_over(out, dims, &old, fresh);
+            drop(old);
+            told
+        }
         Err(bad) => push_bad(out, bad),
     }
 }
@@ -73,13 +94,11 @@ fn push_over(out: &mut String, dims: u32, old: &Directory, fresh: &[u8]) -> Resu
 pub(crate) fn push_replaced(
     out: &mut String,
     dims: &str,
-    bytes: &Bytes,
+    bytes: &[u8],
     digits: &str,
-) -> Result<()> {
-    let dims = dims_in(dims);
+) -> Result<(), Memory> {
     let fresh = bytes_in(*out.allocator(), digits)?;
-    match directory_in(*out.allocator(), dims, bytes.as_slice()) {
-        Ok(old) => push_over(out, dims, &old, fresh.as_slice()),
-        Err(bad) => push_bad(out, bad),
-    }
+    let told = push_under(out, dims_in(dims), bytes, fresh.as_slice());
+    drop(fresh);
+    told
 }

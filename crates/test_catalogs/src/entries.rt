@@ -4,10 +4,11 @@ ghost use Rattle.plan_changes.specs.declared.change.Change.TheVariants.{Remove};
 ghost use Rattle.event_core.specs.declared.entry.Entry.TheVariants.{Commit};
 ghost use Rattle.event_core.specs.Worked.{worked_store, worked, worked_on};
 
-use crate::worked::{one_more, removed, stored};
+use crate::worked::{removed, stored};
 use cell_values::{List, Memory};
 use event_core::Entry;
 use std::alloc::Global;
+use test_kit::one_more;
 
 fn with_entry(entries: List<Entry>, entry: Entry) -> Result<List<Entry>, Memory>
     ensures { IfOk result (λ more. reverse more ≡ entry ∷ reverse entries) }

@@ -6,44 +6,52 @@
 
 use crate::bytes::{changed, put, zeros};
 use crate::opens::push_opened;
-use anyhow::Result;
-use cell_values::Bytes;
+use cell_values::{Bytes, Memory};
+use test_kit::{begin_answer, words_of};
 
-/// Prints what the file opens as where it is changed by some words.
-fn tell_open(rt: &(impl Print + AllocGlobal), file: &Bytes, words: &[&str]) -> Result<()> {
-    let mut told = String::new(rt.alloc());
-    push_opened(&mut told, changed(file, words)?)?;
-    print!(rt; "{told}")?;
+/// Adds what the file opens as where it is changed by some words.
+fn push_open(out: &mut String, file: &Bytes, words: &[&str]) -> Result<(), Memory> {
+    push_opened(out, changed(file, words)?)
+}
+
+fn set_zeros(file: &mut Bytes, count: &str) -> Result<(), Memory> {
+    *file = zeros(file.allocator(), count)?;
     Ok(())
 }
 
-/// Prints a line, and does what it says.
-fn tell(rt: &(impl Print + AllocGlobal), file: &mut Bytes, line: &str) -> Result<()> {
-    let words: Vec<&str> = line.split_whitespace().collect(rt.alloc())?;
-    match words.as_slice() {
-        ["##", ..] => println!(rt; "{line}")?,
-        ["pages", count] => {
-            println!(rt; "> {line}")?;
-            *file = zeros(rt.alloc(), count)?;
-        }
+/// Does what some words say.
+fn push_answer(out: &mut String, file: &mut Bytes, words: &[&str]) -> Result<(), Memory> {
+    match words {
+        ["pages", count] => set_zeros(file, count),
         ["at", place, digits] => {
-            println!(rt; "> {line}")?;
             put(file, place, digits);
+            Ok(())
         }
-        ["open", changes @ ..] => {
-            println!(rt; "> {line}")?;
-            tell_open(rt, file, changes)?;
+        ["open", changes @ ..] => push_open(out, file, changes),
+        _ => Ok(()),
+    }
+}
+
+fn push_line(out: &mut String, file: &mut Bytes, line: &str) -> Result<(), Memory> {
+    let words = words_of(*out.allocator(), line)?;
+    let told = push_answer(out, file, words.as_slice());
+    drop(words);
+    told
+}
+
+fn push_lines(out: &mut String, file: &mut Bytes, text: &str) -> Result<(), Memory> {
+    for line in text.lines() {
+        if begin_answer(out, line)? {
+            push_line(out, file, line)?;
         }
-        _ => println!(rt; "> {line}")?,
     }
     Ok(())
 }
 
-/// Prints the lines of a text, and their answers.
-pub(crate) fn tell_kept(rt: &(impl Print + AllocGlobal), text: &str) -> Result<()> {
-    let mut file = Bytes::new(rt.alloc());
-    for line in text.lines() {
-        tell(rt, &mut file, line)?;
-    }
-    Ok(())
+/// Adds the lines of a text, and their answers.
+pub(crate) fn push_kept(out: &mut String, text: &str) -> Result<(), Memory> {
+    let mut file = Bytes::new(*out.allocator());
+    let told = push_lines(out, &mut file, text);
+    drop(file);
+    told
 }

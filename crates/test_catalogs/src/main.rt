@@ -6,6 +6,9 @@
 //! line is printed behind `> `, above its answer.
 #![tactic(auto)]
 
+ghost use Rattle.std.specs.Prelude.{◌≡◌};
+ghost use Rattle.event_core.specs.Worked.{worked_base};
+
 mod bytes;
 mod catalogs;
 mod changes;
@@ -21,42 +24,67 @@ mod tell;
 mod vectors;
 mod worked;
 
-use anyhow::Result;
-use changes::tell_changes;
-use kept::tell_kept;
-use spelled::tell_spelled;
-use steps::{tell_first, tell_worked};
-use tell::tell_core;
-use test_kit::input;
+use cell_values::Memory;
+use changes::push_changes;
+use event_core::Core;
+use kept::push_kept;
+use spelled::push_spelled_text;
+use std::io;
+use steps::{push_first, push_worked};
+use tell::push_core;
+use test_kit::{input, push_words};
 use worked::start;
 
-/// Prints what each of the worked entries makes of names, pins and pages.
-fn tell_entries(rt: &(impl Print + AllocGlobal)) -> Result<()> {
-    let base = start(rt.alloc())?;
-    tell_core(rt, &base)?;
-    tell_worked(rt, &base)?;
-    tell_first(rt, &base)
+fn push_entries_over(out: &mut String, base: &Core) -> Result<(), Memory>
+    requires { base.now ≡ worked_base }
+{
+    push_core(out, base)?;
+    push_worked(out, base)?;
+    push_first(out, base)
 }
 
-/// Prints the title of a table, and what comes of its lines.
-fn tell_part(rt: &(impl Print + AllocGlobal), part: &str) -> Result<()> {
-    let Some((title, text)) = part.split_once('\n') else {
-        return Ok(());
-    };
-    println!(rt; "### {title}")?;
+/// Adds what each of the worked entries makes of names, pins and pages.
+fn push_entries(out: &mut String) -> Result<(), Memory> {
+    let base = start(*out.allocator())?;
+    let told = push_entries_over(out, &base);
+    drop(base);
+    told
+}
+
+/// Adds what comes of the lines of a table.
+fn push_table(out: &mut String, title: &str, text: &str) -> Result<(), Memory> {
     match title {
-        "catalogues" => tell_spelled(rt, text),
-        "files" => tell_kept(rt, text),
-        "entries" => tell_entries(rt),
-        "changes" => tell_changes(rt),
+        "catalogues" => push_spelled_text(out, text),
+        "files" => push_kept(out, text),
+        "entries" => push_entries(out),
+        "changes" => push_changes(out),
         _ => Ok(()),
     }
 }
 
-fn main(rt: HostRuntime) -> Result<()> {
-    let text = input(&rt)?;
+/// Adds the title of a table, and what comes of its lines.
+fn push_part(out: &mut String, part: &str) -> Result<(), Memory> {
+    match part.split_once('\n') {
+        Some((title, text)) => {
+            push_words(out, &["### ", title, "\n"])?;
+            push_table(out, title, text)
+        }
+        None => Ok(()),
+    }
+}
+
+fn push_parts(out: &mut String, text: &str) -> Result<(), Memory> {
     for part in text.split("### ") {
-        tell_part(&rt, part)?;
+        push_part(out, part)?;
     }
     Ok(())
+}
+
+fn main(rt: HostRuntime) -> io::Result<()> {
+    let text = input(&rt)?;
+    let mut out = String::new(rt.alloc());
+    match push_parts(&mut out, text.as_str()) {
+        Ok(()) => print!(rt; "{out}"),
+        Err(Memory) => println!(rt; "no memory"),
+    }
 }

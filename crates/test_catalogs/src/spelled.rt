@@ -8,61 +8,100 @@
 //! one. `many 1024` makes so many arrays of the catalogue's first one, under names that rise.
 
 use crate::catalogs::{push_after, push_allowed, push_catalog, push_cuts, push_record};
-use crate::digits::{bytes_in, changed, many};
+use crate::digits::{change_all, changed, many};
 use crate::directories::{push_directory, push_replaced};
-use anyhow::Result;
-use cell_values::Bytes;
+use cell_values::{Bytes, Memory};
+use test_kit::{begin_answer, bytes_in, push_word, words_of};
 
-/// Adds the answer to the words of a line.
-fn push_told(out: &mut String, bytes: &Bytes, words: &[&str]) -> Result<()> {
+fn push_changed_catalog(out: &mut String, bytes: &Bytes, changes: &[&str]) -> Result<(), Memory> {
+    let changed = changed(bytes, changes)?;
+    let told = push_catalog(out, changed.as_slice());
+    drop(changed);
+    told
+}
+
+fn push_changed_record(out: &mut String, bytes: &Bytes, changes: &[&str]) -> Result<(), Memory> {
+    let changed = changed(bytes, changes)?;
+    let told = push_record(out, changed.as_slice());
+    drop(changed);
+    told
+}
+
+fn push_changed_directory(
+    out: &mut String,
+    dims: &str,
+    bytes: &Bytes,
+    changes: &[&str],
+) -> Result<(), Memory> {
+    let changed = changed(bytes, changes)?;
+    let told = push_directory(out, dims, changed.as_slice());
+    drop(changed);
+    told
+}
+
+/// Adds the answer to words that don't change the bytes.
+fn push_plain(out: &mut String, bytes: &[u8], words: &[&str]) -> Result<(), Memory> {
     match words {
-        ["catalogue", changes @ ..] => push_catalog(out, &changed(bytes, changes)?),
         ["cuts"] => push_cuts(out, bytes),
-        ["record", changes @ ..] => push_record(out, &changed(bytes, changes)?),
-        ["directory", dims, changes @ ..] => push_directory(out, dims, &changed(bytes, changes)?),
         ["allows", digits] => push_allowed(out, bytes, digits),
         ["after", digits] => push_after(out, bytes, digits),
-        ["replace", dims, digits] => push_replaced(out, dims, bytes, digits),
+        [_, dims, digits] => push_replaced(out, dims, bytes, digits),
         _ => Ok(()),
     }
 }
 
-/// Prints a line, and its answer.
-fn answer(
-    rt: &(impl Print + AllocGlobal),
-    bytes: &Bytes,
-    line: &str,
-    words: &[&str],
-) -> Result<()> {
-    let mut told = String::new(rt.alloc());
-    push_told(&mut told, bytes, words)?;
-    println!(rt; "> {line}\n{told}")?;
-    Ok(())
-}
-
-/// Prints a line, and its answer. A title, or a line that says which bytes there are, has none.
-fn tell(rt: &(impl Print + AllocGlobal), bytes: &mut Bytes, line: &str) -> Result<()> {
-    let words: Vec<&str> = line.split_whitespace().collect(rt.alloc())?;
-    match words.as_slice() {
-        ["##", ..] => println!(rt; "{line}")?,
-        ["bytes", digits, changes @ ..] => {
-            println!(rt; "> {line}")?;
-            *bytes = changed(&bytes_in(rt.alloc(), digits)?, changes)?;
-        }
-        ["many", count] => {
-            println!(rt; "> {line}")?;
-            *bytes = many(bytes, count)?;
-        }
-        words => answer(rt, bytes, line, words)?,
+/// Adds the answer to the words of a line.
+fn push_told(out: &mut String, bytes: &Bytes, words: &[&str]) -> Result<(), Memory> {
+    match words {
+        ["catalogue", changes @ ..] => push_changed_catalog(out, bytes, changes),
+        ["record", changes @ ..] => push_changed_record(out, bytes, changes),
+        ["directory", dims, changes @ ..] => push_changed_directory(out, dims, bytes, changes),
+        words => push_plain(out, bytes.as_slice(), words),
     }
+}
+
+fn set_bytes(bytes: &mut Bytes, digits: &str, changes: &[&str]) -> Result<(), Memory> {
+    *bytes = bytes_in(bytes.allocator(), digits)?;
+    change_all(bytes, changes)
+}
+
+fn set_many(bytes: &mut Bytes, count: &str) -> Result<(), Memory> {
+    *bytes = many(bytes, count)?;
     Ok(())
 }
 
-/// Prints the lines of a text, and their answers.
-pub(crate) fn tell_spelled(rt: &(impl Print + AllocGlobal), text: &str) -> Result<()> {
-    let mut bytes = Bytes::new(rt.alloc());
+/// Adds the answer to the words of a line, or says which bytes there are.
+fn push_answer(out: &mut String, bytes: &mut Bytes, words: &[&str]) -> Result<(), Memory> {
+    match words {
+        ["bytes", digits, changes @ ..] => set_bytes(bytes, digits, changes),
+        ["many", count] => set_many(bytes, count),
+        words => {
+            push_told(out, bytes, words)?;
+            push_word(out, "\n")
+        }
+    }
+}
+
+fn push_line(out: &mut String, bytes: &mut Bytes, line: &str) -> Result<(), Memory> {
+    let words = words_of(*out.allocator(), line)?;
+    let told = push_answer(out, bytes, words.as_slice());
+    drop(words);
+    told
+}
+
+fn push_lines(out: &mut String, bytes: &mut Bytes, text: &str) -> Result<(), Memory> {
     for line in text.lines() {
-        tell(rt, &mut bytes, line)?;
+        if begin_answer(out, line)? {
+            push_line(out, bytes, line)?;
+        }
     }
     Ok(())
+}
+
+/// Adds the lines of a text, and their answers.
+pub(crate) fn push_spelled_text(out: &mut String, text: &str) -> Result<(), Memory> {
+    let mut bytes = Bytes::new(*out.allocator());
+    let told = push_lines(out, &mut bytes, text);
+    drop(bytes);
+    told
 }

@@ -6,63 +6,89 @@ ghost use Rattle.event_core.specs.Replay.{core_allows};
 ghost use Rattle.event_core.specs.Worked.{worked_base};
 
 use crate::entries::{entries, first_entries};
-use crate::tell::{tell_core, tell_names, tell_numbers};
-use anyhow::Result;
+use crate::tell::{push_core, push_names, push_numbers};
+use cell_values::{List, Memory};
 use event_core::{Core, Entry, Used, fresh_pages, run_events, step};
+use logical_plan::Names;
 use plan_changes::{Change, changed_names};
+use test_kit::{push_count, push_word};
 
-/// Prints the fresh pages of a commit, and the names that it leaves.
-fn tell_change(rt: &impl Print, core: &Core, change: &Change, used: &Used) -> Result<()>
-    requires { IsTrue (names_allow core.now.names change.now) }
-{
-    tell_numbers(
-        rt,
-        "a commit, fresh pages",
-        &fresh_pages(core, change, used)?,
-    )?;
-    tell_names(rt, &changed_names(core.names.copy()?, change)?)
+fn push_fresh(out: &mut String, pages: List<u32>) -> Result<(), Memory> {
+    let told = push_numbers(out, "a commit, fresh pages", &pages);
+    drop(pages);
+    told
 }
 
-/// Prints what an entry is.
-fn tell_entry(rt: &impl Print, core: &Core, entry: &Entry) -> Result<()>
+fn push_left(out: &mut String, names: Names) -> Result<(), Memory> {
+    let told = push_names(out, &names);
+    drop(names);
+    told
+}
+
+/// Adds the fresh pages of a commit, and the names that it leaves.
+fn push_change(out: &mut String, core: &Core, change: &Change, used: &Used) -> Result<(), Memory>
+    requires { IsTrue (names_allow core.now.names change.now) }
+{
+    push_fresh(out, fresh_pages(core, change, used)?)?;
+    push_left(out, changed_names(core.names.copy()?, change)?)
+}
+
+fn push_session(out: &mut String, session: u32, word: &str) -> Result<(), Memory> {
+    push_word(out, "session ")?;
+    push_count(out, u64::from(session))?;
+    push_word(out, word)
+}
+
+/// Adds what an entry is.
+fn push_entry(out: &mut String, core: &Core, entry: &Entry) -> Result<(), Memory>
     requires { IsTrue (core_allows core.now entry.now) }
 {
     match entry {
-        Entry::Pin { session } => println!(rt; "session {session} pins")?,
-        Entry::Unpin { session } => println!(rt; "session {session} unpins")?,
-        Entry::Commit { change, used, .. } => tell_change(rt, core, change, used)?,
-        Entry::Reap => println!(rt; "a reap")?,
+        Entry::Pin { session } => push_session(out, *session, " pins\n"),
+        Entry::Unpin { session } => push_session(out, *session, " unpins\n"),
+        Entry::Commit { change, used, .. } => push_change(out, core, change, used),
+        Entry::Reap => push_word(out, "a reap\n"),
     }
-    Ok(())
 }
 
-/// Prints each entry, the oldest first, and the core after it.
-fn tell_steps(rt: &impl Print, base: &Core, entries: &[Entry]) -> Result<()>
+/// Adds each entry, the oldest first, and the core after it.
+fn push_steps(out: &mut String, base: &Core, entries: &[Entry]) -> Result<(), Memory>
     requires base { IsBase base.now }
     requires allowed { IsTrue (is_allowed base.now (reverse entries.now)) }
 {
     let mut core = base.copy()?;
     for entry in entries {
-        tell_entry(rt, &core, entry)?;
+        push_entry(out, &core, entry)?;
         core = step(&core, entry)?;
-        tell_core(rt, &core)?;
+        push_core(out, &core)?;
     }
     Ok(())
 }
 
-/// Prints the worked entries over their base.
-pub(crate) fn tell_worked(rt: &impl Print, base: &Core) -> Result<()>
+/// Adds the worked entries over their base.
+pub(crate) fn push_worked(out: &mut String, base: &Core) -> Result<(), Memory>
     requires { base.now ≡ worked_base }
 {
     let entries = entries(base.free.allocator())?;
-    tell_steps(rt, base, entries.as_slice())
+    let told = push_steps(out, base, entries.as_slice());
+    drop(entries);
+    told
 }
 
-/// Prints what the first seven of them make of the base at once.
-pub(crate) fn tell_first(rt: &impl Print, base: &Core) -> Result<()>
+fn push_after(out: &mut String, core: Core) -> Result<(), Memory> {
+    let title = push_word(out, "the first seven at once\n");
+    let told = push_core(out, &core);
+    drop(core);
+    title?;
+    told
+}
+
+/// Adds what the first seven of them make of the base at once.
+pub(crate) fn push_first(out: &mut String, base: &Core) -> Result<(), Memory>
     requires { base.now ≡ worked_base }
 {
     let entries = first_entries(base.free.allocator())?;
-    println!(rt; "the first seven at once")?;
-    tell_core(rt, &run_events(base, entries.as_slice())?)
+    let core = run_events(base, entries.as_slice());
+    drop(entries);
+    push_after(out, core?)
 }

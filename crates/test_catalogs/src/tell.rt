@@ -1,100 +1,167 @@
-//! What is printed of a core.
+//! What is told of a core.
 
-use anyhow::Result;
-use cell_values::List;
+use cell_values::{List, Memory};
 use event_core::{Core, CorePin, VersionPages};
 use logical_plan::{NameEntry, Names};
 use std::str::from_utf8;
-use version_reaper::live;
+use test_kit::{push_count, push_word, push_words};
+use version_reaper::{PageSet, live};
 
-pub(crate) fn tell_numbers(rt: &impl Print, title: &str, numbers: &List<u32>) -> Result<()> {
-    print!(rt; "{title}:")?;
+/// Adds numbers, each behind a space.
+pub(crate) fn push_listed(out: &mut String, numbers: &[u32]) -> Result<(), Memory> {
     for number in numbers {
-        print!(rt; " {number}")?;
-    }
-    println!(rt; "")?;
-    Ok(())
-}
-
-fn tell_array(rt: &impl Print, array: &NameEntry) -> Result<()> {
-    let name = from_utf8(array.name.as_slice()).unwrap_or("no text");
-    print!(rt; "  array {name}, next {}, ", array.next)?;
-    tell_numbers(rt, "versions", &array.versions)
-}
-
-pub(crate) fn tell_names(rt: &impl Print, names: &Names) -> Result<()> {
-    for array in &names.arrays {
-        tell_array(rt, array)?;
+        push_word(out, " ")?;
+        push_count(out, u64::from(*number))?;
     }
     Ok(())
 }
 
-fn tell_version(rt: &impl Print, version: &VersionPages) -> Result<()> {
-    let name = from_utf8(version.name.as_slice()).unwrap_or("no text");
-    print!(rt; "  version {name}@{}, ", version.version)?;
-    tell_numbers(rt, "pages", &version.pages)
+pub(crate) fn push_numbers(
+    out: &mut String,
+    title: &str,
+    numbers: &List<u32>,
+) -> Result<(), Memory> {
+    push_words(out, &[title, ":"])?;
+    push_listed(out, numbers.as_slice())?;
+    push_word(out, "\n")
 }
 
-fn tell_versions(rt: &impl Print, versions: &List<VersionPages>) -> Result<()> {
-    for version in versions {
-        tell_version(rt, version)?;
-    }
-    Ok(())
+/// Adds a name between two words, a number and a comma.
+fn push_named(
+    out: &mut String,
+    before: &str,
+    name: &[u8],
+    behind: &str,
+    number: u32,
+) -> Result<(), Memory> {
+    push_words(out, &[before, from_utf8(name).unwrap_or("no text"), behind])?;
+    push_count(out, u64::from(number))?;
+    push_word(out, ", ")
 }
 
-fn tell_pin(rt: &impl Print, pin: &CorePin) -> Result<()> {
-    println!(rt;
-        "pin of session {} at place {}, which keeps",
-        pin.session, pin.place
+fn push_array(out: &mut String, array: &NameEntry) -> Result<(), Memory> {
+    push_named(
+        out,
+        "  array ",
+        array.name.as_slice(),
+        ", next ",
+        array.next,
     )?;
-    tell_names(rt, &pin.names)?;
-    tell_versions(rt, &pin.pages)
+    push_numbers(out, "versions", &array.versions)
 }
 
-fn tell_pins(rt: &impl Print, pins: &List<CorePin>) -> Result<()> {
-    for pin in pins {
-        tell_pin(rt, pin)?;
+pub(crate) fn push_names(out: &mut String, names: &Names) -> Result<(), Memory> {
+    for array in names.arrays.as_slice() {
+        push_array(out, array)?;
     }
     Ok(())
+}
+
+fn push_version(out: &mut String, version: &VersionPages) -> Result<(), Memory> {
+    push_named(
+        out,
+        "  version ",
+        version.name.as_slice(),
+        "@",
+        version.version,
+    )?;
+    push_numbers(out, "pages", &version.pages)
+}
+
+fn push_versions(out: &mut String, versions: &[VersionPages]) -> Result<(), Memory> {
+    for version in versions {
+        push_version(out, version)?;
+    }
+    Ok(())
+}
+
+fn push_place(out: &mut String, session: u64, place: u64) -> Result<(), Memory> {
+    push_word(out, "pin of session ")?;
+    push_count(out, session)?;
+    push_word(out, " at place ")?;
+    push_count(out, place)?;
+    push_word(out, ", which keeps\n")
+}
+
+fn push_pin(out: &mut String, pin: &CorePin) -> Result<(), Memory> {
+    push_place(out, u64::from(pin.session), pin.place)?;
+    push_names(out, &pin.names)?;
+    push_versions(out, pin.pages.as_slice())
+}
+
+fn push_pins(out: &mut String, pins: &[CorePin]) -> Result<(), Memory> {
+    for pin in pins {
+        push_pin(out, pin)?;
+    }
+    Ok(())
+}
+
+/// Adds a copy of pages to some lists.
+fn keep(lists: &mut Vec<List<u32>>, pages: &List<u32>) -> Result<(), Memory> {
+    Ok(lists.push(pages.copy()?)?)
 }
 
 /// Adds the pages of versions to some lists.
-fn push_versions(lists: &mut Vec<List<u32>>, versions: &List<VersionPages>) -> Result<()> {
+fn keep_versions(lists: &mut Vec<List<u32>>, versions: &[VersionPages]) -> Result<(), Memory> {
     for version in versions {
-        lists.push(version.pages.copy()?)?;
+        keep(lists, &version.pages)?;
     }
     Ok(())
 }
 
-/// The pages of the catalogue, of the versions that can be named, and of those that could be when a pin began.
-fn named_pages(core: &Core) -> Result<Vec<List<u32>>> {
-    let mut lists = Vec::new(core.catalogue.allocator());
-    lists.push(core.catalogue.copy()?)?;
-    push_versions(&mut lists, &core.pages)?;
-    for pin in &core.pins {
-        push_versions(&mut lists, &pin.pages)?;
+/// Adds the pages of the catalogue, of the versions that can be named, and of those that could be when a pin began.
+fn keep_named(lists: &mut Vec<List<u32>>, core: &Core) -> Result<(), Memory> {
+    keep(lists, &core.catalogue)?;
+    keep_versions(lists, core.pages.as_slice())?;
+    for pin in core.pins.as_slice() {
+        keep_versions(lists, pin.pages.as_slice())?;
     }
-    Ok(lists)
+    Ok(())
 }
 
-fn tell_live(rt: &impl Print, core: &Core) -> Result<()> {
-    let lists = named_pages(core)?;
-    let set = live(core.catalogue.allocator(), lists.as_slice(), core.limit)?;
-    print!(rt; "live:")?;
-    for page in 1..core.limit {
+/// The pages that are live.
+fn live_in(core: &Core) -> Result<PageSet, Memory> {
+    let alloc = core.catalogue.allocator();
+    let mut lists = Vec::new(alloc);
+    let set = match keep_named(&mut lists, core) {
+        Ok(()) => live(alloc, lists.as_slice(), core.limit),
+        Err(Memory) => Err(Memory),
+    };
+    drop(lists);
+    set
+}
+
+/// Adds the pages of a set that stand below a limit.
+fn push_set(out: &mut String, set: &PageSet, limit: u32) -> Result<(), Memory> {
+    push_word(out, "live:")?;
+    for page in 1..limit {
         if set.has(page) {
-            print!(rt; " {page}")?;
+            push_listed(out, &[page])?;
         }
     }
-    println!(rt; "")?;
-    Ok(())
+    push_word(out, "\n")
 }
 
-pub(crate) fn tell_core(rt: &impl Print, core: &Core) -> Result<()> {
-    println!(rt; "entries {}, limit {}", core.entries, core.limit)?;
-    tell_names(rt, &core.names)?;
-    tell_versions(rt, &core.pages)?;
-    tell_pins(rt, &core.pins)?;
-    tell_live(rt, core)?;
-    tell_numbers(rt, "free", &core.free)
+fn push_live(out: &mut String, core: &Core) -> Result<(), Memory> {
+    let set = live_in(core)?;
+    let told = push_set(out, &set, core.limit);
+    drop(set);
+    told
+}
+
+fn push_counts(out: &mut String, core: &Core) -> Result<(), Memory> {
+    push_word(out, "entries ")?;
+    push_count(out, core.entries)?;
+    push_word(out, ", limit ")?;
+    push_count(out, u64::from(core.limit))?;
+    push_word(out, "\n")
+}
+
+pub(crate) fn push_core(out: &mut String, core: &Core) -> Result<(), Memory> {
+    push_counts(out, core)?;
+    push_names(out, &core.names)?;
+    push_versions(out, core.pages.as_slice())?;
+    push_pins(out, core.pins.as_slice())?;
+    push_live(out, core)?;
+    push_numbers(out, "free", &core.free)
 }

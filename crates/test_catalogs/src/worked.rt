@@ -13,25 +13,7 @@ use expr_nulls::TypedExpr;
 use logical_plan::{Names, Plan};
 use plan_changes::Change;
 use std::alloc::Global;
-
-/// Some items, and one behind them.
-pub(crate) fn one_more<T: Drop>(items: List<T>, item: T) -> Result<List<T>, Memory>
-    ensures { IfOk result (λ more. more ≡ items ++ item ∷ []) }
-{
-    let mut more = items;
-    more.push(item)?;
-    Ok(more)
-}
-
-/// A text that is no name counts as want of memory: the texts here are names.
-fn name(alloc: Global, bytes: &[u8]) -> Result<Name, Memory>
-    ensures { IfOk result (λ name. name ≡ bytes.now) }
-{
-    match Name::new(List::from_slice(alloc, bytes)?) {
-        Some(name) => Ok(name),
-        None => Err(Memory),
-    }
-}
+use test_kit::{name_of, one_more};
 
 /// No arrays, 16 pages, page 1 as the catalogue.
 pub(crate) fn start(alloc: Global) -> Result<Core, Memory>
@@ -56,7 +38,7 @@ fn attributes(alloc: Global) -> Result<List<Attribute>, Memory>
     ensures { IfOk result (λ attributes. attributes ≡ worked_schema.attributes) }
 {
     let attribute = Attribute {
-        name: name(alloc, b"v")?,
+        name: name_of(alloc, b"v")?,
         kind: Kind::Int64,
         nullable: true,
     };
@@ -67,7 +49,7 @@ fn dimensions(alloc: Global) -> Result<List<Dimension>, Memory>
     ensures { IfOk result (λ dimensions. dimensions ≡ worked_schema.dimensions) }
 {
     let dimension = Dimension {
-        name: name(alloc, b"i")?,
+        name: name_of(alloc, b"i")?,
         lo: 0,
         hi: 1,
         chunk: 2,
@@ -113,7 +95,7 @@ fn commit_of_sevens(name: Name, schema: Schema, places: Schema, used: Used) -> E
 pub(crate) fn stored(alloc: Global) -> Result<Entry, Memory>
     ensures { IfOk result (λ entry. entry ≡ Commit 0 worked_store (record { version = 2 ∷ 3 ∷ []; catalogue = 4 ∷ [] })) }
 {
-    let name = name(alloc, b"A")?;
+    let name = name_of(alloc, b"A")?;
     let used = used(alloc, &[2, 3], &[4])?;
     let places = schema(alloc)?;
     Ok(commit_of_sevens(name, schema(alloc)?, places, used))
@@ -123,7 +105,7 @@ pub(crate) fn stored(alloc: Global) -> Result<Entry, Memory>
 pub(crate) fn removed(alloc: Global) -> Result<Entry, Memory>
     ensures { IfOk result (λ entry. entry ≡ Commit 0 (Remove (codes "A")) (record { version = []; catalogue = 5 ∷ [] })) }
 {
-    let name = name(alloc, b"A")?;
+    let name = name_of(alloc, b"A")?;
     let used = used(alloc, &[], &[5])?;
     Ok(Entry::Commit {
         session: 0,

@@ -1,12 +1,18 @@
 //! What the programs over data share: the texts and values that words stand for, and the words for values.
 #![tactic(auto)]
 
+mod known;
 mod lines;
 mod shown;
 mod transcript;
 mod words;
 
-pub use lines::{bytes_of, text_of};
-pub use shown::{push_cell, push_chunk, push_coord, push_datum, push_number, push_text};
+pub use known::{name_of, one_more};
+pub use lines::{bytes_in, bytes_of, text_of};
+pub use shown::{
+    push_cell, push_chunk, push_code, push_coord, push_count, push_counts, push_datum, push_given,
+    push_hex, push_integer, push_number, push_quoted, push_range, push_text, push_word, push_words,
+    truth_word,
+};
 pub use transcript::{begin_answer, input};
-pub use words::{cell_of, coord_in, datum_of, fault_of, number_in, place_in};
+pub use words::{cell_of, coord_in, datum_of, fault_of, number_in, place_in, words_of};

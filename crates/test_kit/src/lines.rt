@@ -3,6 +3,7 @@ ghost use Rattle.std.specs.Prelude.{◌<◌};
 
 use cell_values::{Bytes, Memory};
 use std::alloc::Global;
+use std::str::from_utf8;
 
 fn number_of(digits: &[u8]) -> u32 {
     let mut number = 0u32;
@@ -76,6 +77,16 @@ pub fn bytes_of(alloc: Global, text: &str) -> Result<Bytes, Memory> {
         } else {
             write_numbered(&mut bytes, part)?;
         }
+    }
+    Ok(bytes)
+}
+
+/// The bytes that pairs of hexadecimal digits stand for.
+pub fn bytes_in(alloc: Global, digits: &str) -> Result<Bytes, Memory> {
+    let mut bytes = Bytes::new(alloc);
+    for pair in digits.as_bytes().chunks(2) {
+        let pair = from_utf8(pair).unwrap_or("");
+        bytes.push(u8::from_str_radix(pair, 16).unwrap_or(0))?;
     }
     Ok(bytes)
 }

@@ -1,7 +1,6 @@
 //! The words for values.
 
-use cell_values::{Cell, ChunkAt, Coord, Datum, FaultKind};
-use std::alloc::AllocError;
+use cell_values::{Bytes, Cell, ChunkAt, Coord, Datum, FaultKind, Memory};
 
 /// How many bytes of one kind are written as such.
 const LONGEST_ROW: usize = 64;
@@ -16,25 +15,92 @@ fn repeated(bytes: &[u8]) -> Option<u8> {
     }
 }
 
+/// Adds a text as it is.
+pub fn push_word(out: &mut String, word: &str) -> Result<(), Memory> {
+    Ok(out.push_str(word)?)
+}
+
+/// Adds texts, one behind the other.
+pub fn push_words(out: &mut String, words: &[&str]) -> Result<(), Memory> {
+    for word in words {
+        out.push_str(word)?;
+    }
+    Ok(())
+}
+
+/// Adds a number that counts something.
+pub fn push_count(out: &mut String, number: u64) -> Result<(), Memory> {
+    Ok(write!(out, "{number}")?)
+}
+
+/// Adds a number, which may be below 0.
+pub fn push_integer(out: &mut String, number: i64) -> Result<(), Memory> {
+    Ok(write!(out, "{number}")?)
+}
+
+/// Adds a byte as two hexadecimal digits.
+fn push_digits(out: &mut String, byte: u8) -> Result<(), Memory> {
+    Ok(write!(out, "{byte:02x}")?)
+}
+
+/// Adds bytes, each as two hexadecimal digits.
+pub fn push_hex(out: &mut String, bytes: &[u8]) -> Result<(), Memory> {
+    for byte in bytes {
+        push_digits(out, *byte)?;
+    }
+    Ok(())
+}
+
 /// Adds a byte: one that is not printed as `^0a`.
-fn push_byte(out: &mut String, byte: u8) -> Result<(), AllocError> {
+fn push_byte(out: &mut String, byte: u8) -> Result<(), Memory> {
     match byte {
-        b' '..=b'~' => out.push(byte as char),
-        _ => write!(out, "^{byte:02x}"),
+        b' '..=b'~' => Ok(out.push(byte as char)?),
+        _ => {
+            push_word(out, "^")?;
+            push_digits(out, byte)
+        }
     }
 }
 
+/// Adds a byte that a text has so often.
+fn push_repeated(out: &mut String, count: usize, byte: u8) -> Result<(), Memory> {
+    push_word(out, "{")?;
+    push_count(out, count as u64)?;
+    push_word(out, " ")?;
+    push_byte(out, byte)?;
+    push_word(out, "}")
+}
+
 /// Adds a text: more than 64 bytes of one kind as `{127 x}`.
-pub fn push_text(out: &mut String, bytes: &[u8]) -> Result<(), AllocError> {
+pub fn push_text(out: &mut String, bytes: &[u8]) -> Result<(), Memory> {
     if let Some(byte) = repeated(bytes) {
-        write!(out, "{{{} ", bytes.len())?;
-        push_byte(out, byte)?;
-        return out.push('}');
+        return push_repeated(out, bytes.len(), byte);
     }
     for byte in bytes {
         push_byte(out, *byte)?;
     }
     Ok(())
+}
+
+/// Adds a text, and lets it go.
+pub fn push_given(out: &mut String, text: Bytes) -> Result<(), Memory> {
+    let told = push_text(out, text.as_slice());
+    drop(text);
+    told
+}
+
+/// Adds two numbers, as `3-5`.
+pub fn push_range(out: &mut String, start: u64, end: u64) -> Result<(), Memory> {
+    push_count(out, start)?;
+    push_word(out, "-")?;
+    push_count(out, end)
+}
+
+/// Adds a text in quotes.
+pub fn push_quoted(out: &mut String, bytes: &[u8]) -> Result<(), Memory> {
+    push_word(out, "'")?;
+    push_text(out, bytes)?;
+    push_word(out, "'")
 }
 
 fn fault_word(kind: FaultKind) -> &'static str {
@@ -47,54 +113,80 @@ fn fault_word(kind: FaultKind) -> &'static str {
     }
 }
 
+/// The word for a truth.
+pub fn truth_word(truth: bool) -> &'static str {
+    if truth { "true" } else { "false" }
+}
+
+/// Adds a code, as `?7`.
+pub fn push_code(out: &mut String, number: u8) -> Result<(), Memory> {
+    push_word(out, "?")?;
+    push_count(out, u64::from(number))
+}
+
 /// Adds a value: a text in quotes, else the word that stands for it.
-pub fn push_datum(out: &mut String, value: &Datum) -> Result<(), AllocError> {
+pub fn push_datum(out: &mut String, value: &Datum) -> Result<(), Memory> {
     match value {
-        Datum::Null => out.push_str("null"),
-        Datum::Missing(code) => write!(out, "?{}", code.number()),
-        Datum::Int(number) => write!(out, "{number}"),
-        Datum::Truth(truth) => write!(out, "{truth}"),
-        Datum::Bad(kind) => out.push_str(fault_word(*kind)),
-        Datum::Text(bytes) => {
-            out.push('\'')?;
-            push_text(out, bytes.as_slice())?;
-            out.push('\'')
-        }
+        Datum::Null => push_word(out, "null"),
+        Datum::Missing(code) => push_code(out, code.number()),
+        Datum::Int(number) => push_integer(out, *number),
+        Datum::Truth(truth) => push_word(out, truth_word(*truth)),
+        Datum::Bad(kind) => push_word(out, fault_word(*kind)),
+        Datum::Text(bytes) => push_quoted(out, bytes.as_slice()),
     }
 }
 
 /// Adds a coordinate, as `(-1,2)`.
-pub fn push_coord(out: &mut String, at: &Coord) -> Result<(), AllocError> {
+pub fn push_coord(out: &mut String, at: &Coord) -> Result<(), Memory> {
     let mut comma = "(";
     for number in at.as_slice() {
-        write!(out, "{comma}{number}")?;
+        push_word(out, comma)?;
+        push_integer(out, *number)?;
         comma = ",";
     }
-    out.push(')')
+    push_word(out, ")")
+}
+
+/// Adds values, each behind a space.
+fn push_values(out: &mut String, values: &[Datum]) -> Result<(), Memory> {
+    for value in values {
+        push_word(out, " ")?;
+        push_datum(out, value)?;
+    }
+    Ok(())
 }
 
 /// Adds the values of a cell, each behind a space, or its doubt.
-pub fn push_cell(out: &mut String, cell: &Cell) -> Result<(), AllocError> {
+pub fn push_cell(out: &mut String, cell: &Cell) -> Result<(), Memory> {
     match cell {
-        Cell::Full(values) => {
-            for value in values.as_slice() {
-                out.push(' ')?;
-                push_datum(out, value)?;
-            }
-            Ok(())
-        }
-        Cell::Doubt(kind) => write!(out, " doubt({})", fault_word(*kind)),
+        Cell::Full(values) => push_values(out, values.as_slice()),
+        Cell::Doubt(kind) => push_words(out, &[" doubt(", fault_word(*kind), ")"]),
     }
 }
 
-/// Adds the number of a chunk, as `[1,0]`.
-pub fn push_number(out: &mut String, at: &ChunkAt) -> Result<(), AllocError> {
-    let mut comma = "[";
-    for number in at.as_slice() {
-        write!(out, "{comma}{number}")?;
+/// Adds numbers, with a comma between.
+pub fn push_counts(out: &mut String, numbers: &[u64]) -> Result<(), Memory> {
+    let mut comma = "";
+    for number in numbers {
+        push_word(out, comma)?;
+        push_count(out, *number)?;
         comma = ",";
     }
-    out.push(']')
+    Ok(())
+}
+
+/// Adds the number of a chunk, as `[1,0]`.
+pub fn push_number(out: &mut String, at: &ChunkAt) -> Result<(), Memory> {
+    push_word(out, "[")?;
+    push_counts(out, at.as_slice())?;
+    push_word(out, "]")
+}
+
+/// Adds the cell at a position.
+fn push_placed(out: &mut String, position: u64, cell: &Cell) -> Result<(), Memory> {
+    push_word(out, ", at ")?;
+    push_count(out, position)?;
+    push_cell(out, cell)
 }
 
 /// Adds the number of a chunk, and the cell at each of its positions.
@@ -103,12 +195,11 @@ pub fn push_chunk(
     at: &ChunkAt,
     positions: &[u64],
     cells: &[Cell],
-) -> Result<(), AllocError> {
-    out.push_str("chunk ")?;
+) -> Result<(), Memory> {
+    push_word(out, "chunk ")?;
     push_number(out, at)?;
     for (position, cell) in positions.iter().zip(cells) {
-        write!(out, ", at {position}")?;
-        push_cell(out, cell)?;
+        push_placed(out, *position, cell)?;
     }
-    out.push('\n')
+    push_word(out, "\n")
 }

@@ -1,6 +1,7 @@
 //! The lines that a program is given, and the transcript of its answers.
 
-use std::alloc::AllocError;
+use crate::shown::push_words;
+use cell_values::Memory;
 use std::io;
 
 /// All of standard input.
@@ -10,12 +11,8 @@ pub fn input(rt: &(impl Input + AllocGlobal)) -> io::Result<String> {
 
 /// Adds a line behind `> `, and tells that its answer follows; a title, which begins with `##`, is added as it is, and has
 /// no answer.
-pub fn begin_answer(out: &mut String, line: &str) -> Result<bool, AllocError> {
-    if line.starts_with("##") {
-        writeln!(out, "{line}")?;
-        Ok(false)
-    } else {
-        writeln!(out, "> {line}")?;
-        Ok(true)
-    }
+pub fn begin_answer(out: &mut String, line: &str) -> Result<bool, Memory> {
+    let is_title = line.starts_with("##");
+    push_words(out, &[if is_title { "" } else { "> " }, line, "\n"])?;
+    Ok(!is_title)
 }

@@ -3,6 +3,11 @@
 use cell_values::{Bytes, Cell, Code, Coord, Datum, FaultKind, List, Memory};
 use std::alloc::Global;
 
+/// The words of a line.
+pub fn words_of<'a>(alloc: Global, line: &'a str) -> Result<Vec<&'a str>, Memory> {
+    Ok(line.split_whitespace().collect(alloc)?)
+}
+
 /// The number of a word; 0 where it is none.
 pub fn number_in(word: &str) -> i64 {
     word.parse::<i64>().unwrap_or(0)

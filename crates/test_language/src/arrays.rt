@@ -1,39 +1,58 @@
 //! The texts of an array.
 
 use crate::schemas::schema_in;
-use cell_values::{Bytes, Cell, Datum, List, Memory, Row, coord_of};
+use cell_values::{Bytes, Cell, Datum, List, Memory, Row, Schema, coord_of};
 use result_print::{csv_plus, dcsv};
 use std::alloc::Global;
-use test_kit::push_text;
+use test_kit::{one_more, push_given};
 
 /// A cell that holds this text.
 fn row_at(alloc: Global, at: i64, text: &[u8]) -> Result<Row, Memory> {
-    let mut values = List::new(alloc);
-    values.push(Datum::Text(Bytes::from_slice(alloc, text)?))?;
+    let text = Bytes::from_slice(alloc, text)?;
     Ok(Row {
         at: coord_of(&[at]),
-        cell: Cell::Full(values),
+        cell: Cell::Full(one_more(List::new(alloc), Datum::Text(text))?),
     })
 }
 
-/// Cells with the parts of a text between each `|`, from coordinate 0 on.
-fn rows_in(alloc: Global, text: &str) -> Result<List<Row>, Memory> {
-    let mut rows = List::new(alloc);
-    for part in text.split('|') {
-        let at = i64::try_from(rows.len()).unwrap_or(0);
-        rows.push(row_at(alloc, at, part.as_bytes())?)?;
-    }
-    Ok(rows)
+fn push_row(rows: &mut List<Row>, text: &str) -> Result<(), Memory> {
+    let at = i64::try_from(rows.len()).unwrap_or(0);
+    let row = row_at(rows.allocator(), at, text.as_bytes())?;
+    rows.push(row)
 }
 
-/// Adds both texts of the array of these cells.
-pub(crate) fn push_cells(out: &mut String, text: &str) -> Result<(), Memory> {
-    let alloc = *out.allocator();
-    let Some(schema) = schema_in(alloc, b"<v:string>[i=0:*,10,0]") else {
-        return Ok(());
-    };
-    let rows = rows_in(alloc, text)?;
-    push_text(out, dcsv(alloc, &schema, rows.as_slice())?.as_slice())?;
-    push_text(out, csv_plus(alloc, &schema, rows.as_slice())?.as_slice())?;
+/// Adds cells with the parts of a text between each `|`.
+fn push_rows(rows: &mut List<Row>, text: &str) -> Result<(), Memory> {
+    for part in text.split('|') {
+        push_row(rows, part)?;
+    }
     Ok(())
+}
+
+fn push_array(out: &mut String, schema: &Schema, rows: &[Row]) -> Result<(), Memory> {
+    let alloc = *out.allocator();
+    push_given(out, dcsv(alloc, schema, rows)?)?;
+    push_given(out, csv_plus(alloc, schema, rows)?)
+}
+
+fn push_parts(out: &mut String, schema: &Schema, text: &str) -> Result<(), Memory> {
+    let mut rows = List::new(*out.allocator());
+    let told = match push_rows(&mut rows, text) {
+        Ok(()) => push_array(out, schema, rows.as_slice()),
+        Err(Memory) => Err(Memory),
+    };
+    drop(rows);
+    told
+}
+
+/// Adds both texts of the array of these cells, from coordinate 0 on.
+pub(crate) fn push_cells(out: &mut String, text: &str) -> Result<(), Memory> {
+    match schema_in(*out.allocator(), b"<v:string>[i=0:*,10,0]") {
+        Some(schema) => {
+            let told = push_parts(out, &schema, text);
+            drop(schema);
+            told
+        }
+        None => Ok(()),
+    }
 }

@@ -15,6 +15,7 @@ use logical_plan::Names;
 use result_print::{Refusal, refusal_line};
 use schema_grammar::TypeKind;
 use std::str::from_utf8;
+use test_kit::push_word;
 
 /// How many bytes a statement may have.
 const LIMIT: usize = 1_048_576;
@@ -26,9 +27,9 @@ fn push_fault(out: &mut String, span: Span, kind: TypeKind) -> Result<(), Memory
         [text @ .., b'\n'] => text,
         text => text,
     };
-    let told = out.push_str(from_utf8(text).unwrap_or("no text"));
+    let told = push_word(out, from_utf8(text).unwrap_or("no text"));
     drop(line);
-    Ok(told?)
+    told
 }
 
 /// Adds what checking answers to a tree.
@@ -42,7 +43,7 @@ fn push_checked(out: &mut String, text: &[u8], tree: &Tree, names: &Names) -> Re
             told
         }
         Err(TypeFault::Rule { span, kind }) => push_fault(out, span, kind),
-        Err(TypeFault::Memory) => Ok(out.push_str("no memory")?),
+        Err(TypeFault::Memory) => push_word(out, "no memory"),
     }
 }
 
@@ -51,7 +52,7 @@ fn push_statement(out: &mut String, text: &[u8], names: &Names) -> Result<(), Me
     requires { AreValid names.now.arrays }
 {
     if text.len() > LIMIT {
-        return Ok(out.push_str("too long")?);
+        return push_word(out, "too long");
     }
     match parse(*out.allocator(), text) {
         Ok(tree) => {
@@ -59,7 +60,7 @@ fn push_statement(out: &mut String, text: &[u8], names: &Names) -> Result<(), Me
             let_go_tree(tree);
             told
         }
-        Err(_) => Ok(out.push_str("no statement")?),
+        Err(_) => push_word(out, "no statement"),
     }
 }
 
@@ -71,7 +72,7 @@ fn push_over(out: &mut String, text: &[u8], arrays: Arrays) -> Result<(), Memory
             drop(names);
             told
         }
-        None => Ok(out.push_str("no arrays")?),
+        None => push_word(out, "no arrays"),
     }
 }
 
@@ -92,5 +93,5 @@ fn statement_in(line: &[u8]) -> (Arrays, &[u8]) {
 pub(crate) fn push_checked_line(out: &mut String, line: &[u8]) -> Result<(), Memory> {
     let (arrays, text) = statement_in(line);
     push_over(out, text, arrays)?;
-    Ok(out.push('\n')?)
+    push_word(out, "\n")
 }

@@ -20,9 +20,9 @@ use anyhow::Result;
 use cell_values::Memory;
 use checking::push_checked_line;
 use parsing::push_parsed_line;
-use std::alloc::AllocError;
 use std::io::BufRead;
 use std::str::from_utf8;
+use test_kit::push_words;
 use texts::push_text_line;
 
 /// What the lines of a table are.
@@ -44,8 +44,8 @@ fn table_behind(table: Table, title: &str) -> Table {
 }
 
 /// Adds a title. The table behind it is the answer.
-fn push_title(out: &mut String, table: Table, title: &str) -> Result<Table, AllocError> {
-    writeln!(out, "{title}")?;
+fn push_title(out: &mut String, table: Table, title: &str) -> Result<Table, Memory> {
+    push_words(out, &[title, "\n"])?;
     Ok(table_behind(table, title))
 }
 
@@ -61,7 +61,7 @@ fn push_answer(out: &mut String, table: Table, line: &[u8]) -> Result<(), Memory
 /// Adds what is told of a line. The table behind it is the answer.
 fn push_line(out: &mut String, table: Table, line: &[u8]) -> Result<Table, Memory> {
     if line.starts_with(b"##".as_slice()) {
-        return Ok(push_title(out, table, from_utf8(line).unwrap_or("##"))?);
+        return push_title(out, table, from_utf8(line).unwrap_or("##"));
     }
     push_answer(out, table, line)?;
     Ok(table)

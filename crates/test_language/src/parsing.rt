@@ -7,9 +7,9 @@ use crate::outline::write_outline;
 use afl_parser::{ParseFault, parse};
 use afl_trees::{Tree, let_go_tree, print};
 use cell_values::Memory;
-use std::alloc::{AllocError, Global};
+use std::alloc::Global;
 use std::str::from_utf8;
-use test_kit::text_of;
+use test_kit::{push_word, text_of};
 
 /// How many bytes a statement may have.
 const LIMIT: usize = 1_048_576;
@@ -43,9 +43,9 @@ fn is_copied(alloc: Global, tree: &Tree, printed: &[u8]) -> Result<bool, Memory>
 
 fn push_copied(out: &mut String, tree: &Tree, printed: &[u8]) -> Result<(), Memory> {
     if is_copied(*out.allocator(), tree, printed)? {
-        Ok(out.push_str(from_utf8(printed).unwrap_or("no text"))?)
+        push_word(out, from_utf8(printed).unwrap_or("no text"))
     } else {
-        Ok(out.push_str("another copy")?)
+        push_word(out, "another copy")
     }
 }
 
@@ -58,23 +58,23 @@ fn push_printed(out: &mut String, tree: &Tree) -> Result<(), Memory> {
 
 fn push_tree(out: &mut String, form: Form, tree: &Tree) -> Result<(), Memory> {
     match form {
-        Form::Word => Ok(out.push_str("ok")?),
-        Form::Outline => Ok(write_outline(tree, out)?),
+        Form::Word => push_word(out, "ok"),
+        Form::Outline => write_outline("", tree, out),
         Form::Print => push_printed(out, tree),
     }
 }
 
-fn push_fault(out: &mut String, fault: ParseFault) -> Result<(), AllocError> {
+fn push_fault(out: &mut String, fault: ParseFault) -> Result<(), Memory> {
     match fault {
-        ParseFault::At { at, kind } => write!(out, "at {at}: {kind:?}"),
-        ParseFault::Memory => out.push_str("no memory"),
+        ParseFault::At { at, kind } => Ok(write!(out, "at {at}: {kind:?}")?),
+        ParseFault::Memory => push_word(out, "no memory"),
     }
 }
 
 /// Adds what the parser answers to a text.
 fn push_parsed(out: &mut String, form: Form, text: &[u8]) -> Result<(), Memory> {
     if text.len() > LIMIT {
-        return Ok(out.push_str("too long")?);
+        return push_word(out, "too long");
     }
     match parse(*out.allocator(), text) {
         Ok(tree) => {
@@ -82,7 +82,7 @@ fn push_parsed(out: &mut String, form: Form, text: &[u8]) -> Result<(), Memory> 
             let_go_tree(tree);
             told
         }
-        Err(fault) => Ok(push_fault(out, fault)?),
+        Err(fault) => push_fault(out, fault),
     }
 }
 
@@ -93,5 +93,5 @@ pub(crate) fn push_parsed_line(out: &mut String, line: &[u8]) -> Result<(), Memo
     let told = push_parsed(out, form, text.as_slice());
     drop(text);
     told?;
-    Ok(out.push('\n')?)
+    push_word(out, "\n")
 }

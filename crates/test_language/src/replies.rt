@@ -1,13 +1,13 @@
 //! The texts of changes, listings and refusals.
 
 use crate::schemas::schema_in;
-use cell_values::{Bytes, List, Memory, Name};
+use cell_values::{Bytes, List, Memory, Name, Schema};
 use logical_plan::{NameEntry, Names};
 use result_print::{
     Refusal, list_text, ok_line, refusal_line, show_text, stored_line, versions_text,
 };
 use std::alloc::Global;
-use test_kit::push_text;
+use test_kit::{push_given, push_word};
 
 /// The numbers of a word such as `1,3`, and none of `-`.
 fn numbers_in(alloc: Global, word: &str) -> Result<List<u32>, Memory> {
@@ -24,62 +24,112 @@ fn name_in(alloc: Global, word: &str) -> Option<Name> {
     Name::new(Bytes::from_slice(alloc, word.as_bytes()).ok()?)
 }
 
+/// The array of these words.
+fn entry_in(
+    alloc: Global,
+    name: &str,
+    next: &str,
+    versions: &str,
+    schema: Schema,
+) -> Option<NameEntry> {
+    let name = name_in(alloc, name)?;
+    let versions = numbers_in(alloc, versions).ok()?;
+    Some(NameEntry {
+        name,
+        schema,
+        next: next.parse::<u32>().unwrap_or(0),
+        versions,
+    })
+}
+
 /// The array of a text such as `A 4 1,3 <v:int64>[i=0:3,2,0]`: its name, its next number, its versions and its schema.
 fn array_in(alloc: Global, text: &str) -> Option<NameEntry> {
     let (name, rest) = text.split_once(' ')?;
     let (next, rest) = rest.split_once(' ')?;
     let (versions, schema) = rest.split_once(' ')?;
-    Some(NameEntry {
-        name: name_in(alloc, name)?,
-        schema: schema_in(alloc, schema.as_bytes())?,
-        next: next.parse::<u32>().unwrap_or(0),
-        versions: numbers_in(alloc, versions).ok()?,
-    })
+    entry_in(
+        alloc,
+        name,
+        next,
+        versions,
+        schema_in(alloc, schema.as_bytes())?,
+    )
 }
 
 fn push_entry(out: &mut String, entry: &NameEntry) -> Result<(), Memory> {
     let alloc = *out.allocator();
-    push_text(out, show_text(alloc, entry)?.as_slice())?;
-    push_text(out, versions_text(alloc, entry)?.as_slice())?;
-    push_text(out, stored_line(alloc, &entry.name, entry.next)?.as_slice())?;
-    push_text(out, ok_line(alloc)?.as_slice())?;
-    Ok(())
+    push_given(out, show_text(alloc, entry)?)?;
+    push_given(out, versions_text(alloc, entry)?)?;
+    push_given(out, stored_line(alloc, &entry.name, entry.next)?)?;
+    push_given(out, ok_line(alloc)?)
 }
 
 /// Adds what is told of the array of a text.
 pub(crate) fn push_array(out: &mut String, text: &str) -> Result<(), Memory> {
     match array_in(*out.allocator(), text) {
-        Some(entry) => push_entry(out, &entry),
-        None => {
-            out.push_str("no array")?;
-            Ok(())
+        Some(entry) => {
+            let told = push_entry(out, &entry);
+            drop(entry);
+            told
         }
+        None => push_word(out, "no array"),
     }
 }
 
-/// The arrays of a text, with a `|` between.
-fn arrays_in(alloc: Global, text: &str) -> Result<List<NameEntry>, Memory> {
-    let mut arrays = List::new(alloc);
-    for part in text.split('|') {
-        if let Some(entry) = array_in(alloc, part) {
-            arrays.push(entry)?;
-        }
+/// Adds the array of a text to others.
+fn push_array_in(arrays: &mut List<NameEntry>, text: &str) -> Result<(), Memory> {
+    match array_in(arrays.allocator(), text) {
+        Some(entry) => arrays.push(entry),
+        None => Ok(()),
     }
-    Ok(arrays)
+}
+
+/// Adds the arrays of a text, with a `|` between.
+fn push_arrays_in(arrays: &mut List<NameEntry>, text: &str) -> Result<(), Memory> {
+    for part in text.split('|') {
+        push_array_in(arrays, part)?;
+    }
+    Ok(())
+}
+
+fn push_names(out: &mut String, names: &Names) -> Result<(), Memory> {
+    let text = list_text(*out.allocator(), names)?;
+    push_given(out, text)
 }
 
 /// Adds the list of the arrays of a text.
 pub(crate) fn push_list(out: &mut String, text: &str) -> Result<(), Memory> {
-    let alloc = *out.allocator();
-    let names = Names {
-        arrays: arrays_in(alloc, text)?,
+    let mut names = Names {
+        arrays: List::new(*out.allocator()),
     };
-    push_text(out, list_text(alloc, &names)?.as_slice())?;
-    Ok(())
+    let told = match push_arrays_in(&mut names.arrays, text) {
+        Ok(()) => push_names(out, &names),
+        Err(Memory) => Err(Memory),
+    };
+    drop(names);
+    told
 }
 
 fn number_of(word: &str) -> u32 {
     word.parse::<u32>().unwrap_or(0)
+}
+
+/// The refusal of a word without a number.
+fn plain_refusal(word: &str) -> Refusal {
+    match word {
+        "disk" => Refusal::Disk,
+        "history" => Refusal::HistoryFull,
+        "sequence" => Refusal::SequenceEnd,
+        _ => Refusal::Memory,
+    }
+}
+
+fn full(counts: &str) -> Refusal {
+    let (needed, free) = counts.split_once(' ').unwrap_or((counts, ""));
+    Refusal::Full {
+        needed: number_of(needed),
+        free: number_of(free),
+    }
 }
 
 /// The refusal of a text such as `full 3 1`.
@@ -88,25 +138,13 @@ fn refusal_in(text: &str) -> Refusal {
         Some(("damaged", page)) => Refusal::Damaged {
             page: number_of(page),
         },
-        Some(("full", counts)) => {
-            let (needed, free) = counts.split_once(' ').unwrap_or((counts, ""));
-            Refusal::Full {
-                needed: number_of(needed),
-                free: number_of(free),
-            }
-        }
-        _ => match text {
-            "disk" => Refusal::Disk,
-            "history" => Refusal::HistoryFull,
-            "sequence" => Refusal::SequenceEnd,
-            _ => Refusal::Memory,
-        },
+        Some(("full", counts)) => full(counts),
+        _ => plain_refusal(text),
     }
 }
 
 /// Adds the line of the refusal of a text.
 pub(crate) fn push_refusal(out: &mut String, text: &str) -> Result<(), Memory> {
     let line = refusal_line(*out.allocator(), &refusal_in(text))?;
-    push_text(out, line.as_slice())?;
-    Ok(())
+    push_given(out, line)
 }

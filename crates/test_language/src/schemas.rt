@@ -2,12 +2,12 @@
 ghost use Rattle.std.specs.Prelude.{◌≤◌, length};
 
 use afl_lexer::tokens;
-use cell_values::{Bytes, Memory, Schema};
+use cell_values::{Bytes, Memory, Schema, Span};
 use schema_grammar::{
     SchemaFault, SchemaText, ShapeFault, TypeKind, meaning, print_shape, schema_text, shape,
 };
 use std::alloc::Global;
-use test_kit::push_text;
+use test_kit::{push_count, push_given, push_range, push_word, push_words};
 
 /// The syntax tree of a text's tokens from one on, and the token behind it.
 fn read(alloc: Global, text: &[u8], from: usize) -> Result<(SchemaText, usize), ShapeFault>
@@ -25,7 +25,9 @@ pub(crate) fn schema_in(alloc: Global, text: &[u8]) -> Option<Schema> {
         return None;
     }
     let (shape, _) = read(alloc, text, 0).ok()?;
-    meaning(alloc, text, &shape).ok()
+    let schema = meaning(alloc, text, &shape);
+    drop(shape);
+    schema.ok()
 }
 
 fn rule_text(kind: TypeKind) -> &'static str {
@@ -44,12 +46,16 @@ fn rule_text(kind: TypeKind) -> &'static str {
     }
 }
 
+fn push_token(out: &mut String, front: &str, token: usize) -> Result<(), Memory> {
+    push_word(out, front)?;
+    push_count(out, token as u64)
+}
+
 fn push_stop(out: &mut String, fault: ShapeFault) -> Result<(), Memory> {
     match fault {
-        ShapeFault::Unexpected { token } => write!(out, "stop at token {token}")?,
-        ShapeFault::Memory => out.push_str("no tokens")?,
+        ShapeFault::Unexpected { token } => push_token(out, "stop at token ", token),
+        ShapeFault::Memory => push_word(out, "no tokens"),
     }
-    Ok(())
 }
 
 /// The text of a copy of a schema.
@@ -63,22 +69,26 @@ fn copied_text(alloc: Global, schema: &Schema) -> Result<Bytes, Memory> {
 /// Adds a copy of a schema.
 fn push_copied(out: &mut String, schema: &Schema) -> Result<(), Memory> {
     let text = copied_text(*out.allocator(), schema)?;
-    push_text(out, text.as_slice())?;
-    Ok(())
+    push_given(out, text)
+}
+
+/// Adds a rule that a schema breaks, with the place.
+fn push_rule(out: &mut String, span: Span, kind: TypeKind) -> Result<(), Memory> {
+    push_word(out, "at ")?;
+    push_range(out, u64::from(span.start), u64::from(span.end))?;
+    push_words(out, &[": ", rule_text(kind)])
 }
 
 /// Adds the schema that a syntax tree means, or the first rule that it breaks with the place.
 fn push_meaning(out: &mut String, text: &[u8], shape: &SchemaText) -> Result<(), Memory> {
     match meaning(*out.allocator(), text, shape) {
-        Ok(schema) => push_copied(out, &schema),
-        Err(SchemaFault::Rule { span, kind }) => {
-            write!(out, "at {}-{}: {}", span.start, span.end, rule_text(kind))?;
-            Ok(())
+        Ok(schema) => {
+            let told = push_copied(out, &schema);
+            drop(schema);
+            told
         }
-        Err(SchemaFault::Memory) => {
-            out.push_str("no memory")?;
-            Ok(())
-        }
+        Err(SchemaFault::Rule { span, kind }) => push_rule(out, span, kind),
+        Err(SchemaFault::Memory) => push_word(out, "no memory"),
     }
 }
 
@@ -88,19 +98,27 @@ pub(crate) fn push_schema(out: &mut String, text: &[u8], from: usize) -> Result<
 {
     match read(*out.allocator(), text, from) {
         Ok((shape, next)) => {
-            push_meaning(out, text, &shape)?;
-            write!(out, " before token {next}")?;
-            Ok(())
+            let told = push_meaning(out, text, &shape);
+            drop(shape);
+            told?;
+            push_token(out, " before token ", next)
         }
         Err(fault) => push_stop(out, fault),
     }
 }
 
+/// The text of a copy of a syntax tree.
+fn shape_text(alloc: Global, shape: &SchemaText) -> Result<Bytes, Memory> {
+    let copy = shape.copy()?;
+    let text = print_shape(alloc, &copy);
+    drop(copy);
+    text
+}
+
 /// Adds a copy of a syntax tree.
 fn push_shape(out: &mut String, shape: &SchemaText) -> Result<(), Memory> {
-    let copy = shape.copy()?;
-    push_text(out, print_shape(*out.allocator(), &copy)?.as_slice())?;
-    Ok(())
+    let text = shape_text(*out.allocator(), shape)?;
+    push_given(out, text)
 }
 
 /// Adds the schema as a text writes it.
@@ -108,7 +126,11 @@ pub(crate) fn push_tree(out: &mut String, text: &[u8]) -> Result<(), Memory>
     requires { length text.now ≤ 1048576 }
 {
     match read(*out.allocator(), text, 0) {
-        Ok((shape, _)) => push_shape(out, &shape),
+        Ok((shape, _)) => {
+            let told = push_shape(out, &shape);
+            drop(shape);
+            told
+        }
         Err(fault) => push_stop(out, fault),
     }
 }

@@ -15,7 +15,7 @@ use crate::tokens::push_tokens;
 use cell_values::{Bytes, Memory};
 use std::alloc::Global;
 use std::str::from_utf8;
-use test_kit::{bytes_of, text_of};
+use test_kit::{bytes_of, push_word, push_words, text_of};
 
 /// How many bytes a statement may have.
 const LIMIT: usize = 1_048_576;
@@ -36,8 +36,7 @@ fn script_of(alloc: Global, line: &str) -> Result<Bytes, Memory> {
 /// Adds the tokens or the schema of a text.
 fn push_read(out: &mut String, word: &str, text: &[u8]) -> Result<(), Memory> {
     if text.len() > LIMIT {
-        out.push_str("too long")?;
-        return Ok(());
+        return push_word(out, "too long");
     }
     match word {
         "tokens" => push_tokens(out, text),
@@ -74,9 +73,9 @@ fn push_named(out: &mut String, word: &str, rest: &str) -> Result<(), Memory> {
 
 /// Adds a line and its answer.
 pub(crate) fn push_text_line(out: &mut String, line: &str) -> Result<(), Memory> {
-    writeln!(out, "> {line}")?;
+    push_words(out, &["> ", line, "\n"])?;
     if let Some((word, rest)) = line.split_once(' ') {
         push_named(out, word, rest)?;
     }
-    Ok(out.push('\n')?)
+    push_word(out, "\n")
 }

@@ -5,8 +5,8 @@ ghost use Rattle.afl_lexer.specs.Tokens.{IsTokenOf};
 use afl_lexer::{
     LexFault, LexKind, Symbol, Token, TokenKind, Word, name_value, text_value, tokens,
 };
-use cell_values::Memory;
-use test_kit::push_text;
+use cell_values::{Bytes, Memory, Name};
+use test_kit::{push_code, push_count, push_integer, push_range, push_text, push_word, push_words};
 
 fn word_text(word: Word) -> &'static str {
     match word {
@@ -57,24 +57,49 @@ fn fault_text(kind: LexKind) -> &'static str {
     }
 }
 
+/// Adds a text in quotes, and lets it go.
+fn push_quoted(out: &mut String, text: Bytes) -> Result<(), Memory> {
+    let told = test_kit::push_quoted(out, text.as_slice());
+    drop(text);
+    told
+}
+
+/// Adds a name, and lets it go.
+fn push_name(out: &mut String, name: Name) -> Result<(), Memory> {
+    let told = push_text(out, name.as_slice());
+    drop(name);
+    told
+}
+
 /// Adds what a token stands for.
 fn push_meaning(out: &mut String, text: &[u8], token: &Token) -> Result<(), Memory>
     requires { IsTokenOf text.now token.now }
 {
     let alloc = *out.allocator();
     match token.kind {
-        TokenKind::Name => push_text(out, name_value(alloc, text, token)?.as_slice())?,
-        TokenKind::Int(number) => write!(out, "{number}")?,
-        TokenKind::Code(code) => write!(out, "?{code}")?,
-        TokenKind::Word(word) => write!(out, "word {}", word_text(word))?,
-        TokenKind::Symbol(symbol) => out.push_str(symbol_text(symbol))?,
-        TokenKind::Text => {
-            out.push('\'')?;
-            push_text(out, text_value(alloc, text, token)?.as_slice())?;
-            out.push('\'')?;
-        }
+        TokenKind::Name => push_name(out, name_value(alloc, text, token)?),
+        TokenKind::Int(number) => push_integer(out, number),
+        TokenKind::Code(code) => push_code(out, code),
+        TokenKind::Word(word) => push_words(out, &["word ", word_text(word)]),
+        TokenKind::Symbol(symbol) => push_word(out, symbol_text(symbol)),
+        TokenKind::Text => push_quoted(out, text_value(alloc, text, token)?),
     }
-    Ok(())
+}
+
+/// Adds a token behind a bar, with its place.
+fn push_token(out: &mut String, bar: &str, text: &[u8], token: &Token) -> Result<(), Memory>
+    requires { IsTokenOf text.now token.now }
+{
+    push_word(out, bar)?;
+    push_meaning(out, text, token)?;
+    push_word(out, " ")?;
+    push_range(out, u64::from(token.span.start), u64::from(token.span.end))
+}
+
+fn push_fault(out: &mut String, at: u32, kind: LexKind) -> Result<(), Memory> {
+    push_word(out, "at ")?;
+    push_count(out, u64::from(at))?;
+    push_words(out, &[": ", fault_text(kind)])
 }
 
 /// Adds the tokens of a text, each with its place, or where and why it stops to have any.
@@ -85,14 +110,12 @@ pub(crate) fn push_tokens(out: &mut String, text: &[u8]) -> Result<(), Memory>
         Ok(found) => {
             let mut bar = "";
             for token in found.as_slice() {
-                out.push_str(bar)?;
-                push_meaning(out, text, token)?;
-                write!(out, " {}-{}", token.span.start, token.span.end)?;
+                push_token(out, bar, text, token)?;
                 bar = " | ";
             }
+            Ok(())
         }
-        Err(LexFault::At { at, kind }) => write!(out, "at {at}: {}", fault_text(kind))?,
-        Err(LexFault::Memory) => out.push_str("no memory")?,
+        Err(LexFault::At { at, kind }) => push_fault(out, at, kind),
+        Err(LexFault::Memory) => push_word(out, "no memory"),
     }
-    Ok(())
 }

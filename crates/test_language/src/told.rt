@@ -5,17 +5,17 @@ use logical_plan::{Leaf, Plan, reads};
 use plan_changes::Change;
 use plan_schemas::schema_of;
 use schema_grammar::schema_text;
-use std::alloc::AllocError;
 use std::str::from_utf8;
+use test_kit::{push_count, push_word};
 
-fn push_bytes(out: &mut String, bytes: &[u8]) -> Result<(), AllocError> {
-    out.push_str(from_utf8(bytes).unwrap_or("no text"))
+fn push_bytes(out: &mut String, bytes: &[u8]) -> Result<(), Memory> {
+    push_word(out, from_utf8(bytes).unwrap_or("no text"))
 }
 
 /// Adds a word and a name, with a space between.
-fn push_named(out: &mut String, word: &str, name: &Name) -> Result<(), AllocError> {
-    out.push_str(word)?;
-    out.push(' ')?;
+fn push_named(out: &mut String, word: &str, name: &Name) -> Result<(), Memory> {
+    push_word(out, word)?;
+    push_word(out, " ")?;
     push_bytes(out, name.as_slice())
 }
 
@@ -23,12 +23,13 @@ fn push_schema(out: &mut String, schema: &Schema) -> Result<(), Memory> {
     let text = schema_text(*out.allocator(), schema)?;
     let told = push_bytes(out, text.as_slice());
     drop(text);
-    Ok(told?)
+    told
 }
 
-fn push_leaf(out: &mut String, leaf: &Leaf) -> Result<(), AllocError> {
+fn push_leaf(out: &mut String, leaf: &Leaf) -> Result<(), Memory> {
     push_bytes(out, leaf.name.as_slice())?;
-    write!(out, "@{}", leaf.version)
+    push_word(out, "@")?;
+    push_count(out, u64::from(leaf.version))
 }
 
 /// Adds versions that are read, each between these words.
@@ -37,11 +38,11 @@ fn push_leaves(
     before: &str,
     leaves: &[Leaf],
     behind: &str,
-) -> Result<(), AllocError> {
+) -> Result<(), Memory> {
     for leaf in leaves {
-        out.push_str(before)?;
+        push_word(out, before)?;
         push_leaf(out, leaf)?;
-        out.push_str(behind)?;
+        push_word(out, behind)?;
     }
     Ok(())
 }
@@ -51,7 +52,7 @@ fn push_reads(out: &mut String, before: &str, plan: &Plan, behind: &str) -> Resu
     let leaves = reads(*out.allocator(), plan)?;
     let told = push_leaves(out, before, leaves.as_slice(), behind);
     drop(leaves);
-    Ok(told?)
+    told
 }
 
 /// Adds the versions that a plan reads, and its schema.
@@ -66,7 +67,7 @@ fn push_plan(out: &mut String, plan: &Plan) -> Result<(), Memory> {
 /// Adds an array that is made, under its schema.
 fn push_array(out: &mut String, word: &str, name: &Name, schema: &Schema) -> Result<(), Memory> {
     push_named(out, word, name)?;
-    out.push(' ')?;
+    push_word(out, " ")?;
     push_schema(out, schema)
 }
 
@@ -79,13 +80,14 @@ fn push_version(
     plan: &Plan,
 ) -> Result<(), Memory> {
     push_array(out, word, name, schema)?;
-    out.push_str(" reads")?;
+    push_word(out, " reads")?;
     push_reads(out, " ", plan, "")
 }
 
-fn push_below(out: &mut String, name: &Name, below: u32) -> Result<(), AllocError> {
+fn push_below(out: &mut String, name: &Name, below: u32) -> Result<(), Memory> {
     push_named(out, "remove", name)?;
-    write!(out, " below {below}")
+    push_word(out, " below ")?;
+    push_count(out, u64::from(below))
 }
 
 fn push_change(out: &mut String, change: &Change) -> Result<(), Memory> {
@@ -93,8 +95,8 @@ fn push_change(out: &mut String, change: &Change) -> Result<(), Memory> {
         Change::Create { name, schema } => push_array(out, "create", name, schema),
         Change::Store { name, schema, plan } => push_version(out, "store", name, schema, plan),
         Change::Insert { name, schema, plan } => push_version(out, "insert", name, schema, plan),
-        Change::Remove { name } => Ok(push_named(out, "remove", name)?),
-        Change::RemoveVersions { name, below } => Ok(push_below(out, name, *below)?),
+        Change::Remove { name } => push_named(out, "remove", name),
+        Change::RemoveVersions { name, below } => push_below(out, name, *below),
     }
 }
 
@@ -103,8 +105,8 @@ pub(crate) fn push_typed(out: &mut String, typed: &Typed) -> Result<(), Memory> 
     match typed {
         Typed::Query(plan) => push_plan(out, plan),
         Typed::Change(change) => push_change(out, change),
-        Typed::Versions(name) => Ok(push_named(out, "versions", name)?),
-        Typed::Show(name) => Ok(push_named(out, "show", name)?),
-        Typed::ListArrays => Ok(out.push_str("list")?),
+        Typed::Versions(name) => push_named(out, "versions", name),
+        Typed::Show(name) => push_named(out, "show", name),
+        Typed::ListArrays => push_word(out, "list"),
     }
 }

@@ -4,10 +4,10 @@
 ghost use Rattle.std.specs.Prelude.{◌+◌, ◌≤◌, length, IfOk};
 
 use agg_states::AggState;
-use cell_values::{Memory, coord_of};
+use cell_values::{Datum, Memory, coord_of};
 use logical_plan::AggFunction;
 use std::alloc::Global;
-use test_kit::{cell_of, place_in, push_datum};
+use test_kit::{cell_of, place_in, push_datum, push_word, words_of};
 
 /// How many places a part has at most.
 const LIMIT: usize = 100;
@@ -37,7 +37,9 @@ fn take_place(state: &mut AggState, alloc: Global, word: &str) -> Result<(), Mem
 {
     let (at, held) = place_in(word);
     let cell = cell_of(alloc, &["true"], held)?;
-    state.take(&coord_of(&[at]), &cell, 1)
+    let taken = state.take(&coord_of(&[at]), &cell, 1);
+    drop(cell);
+    taken
 }
 
 fn taken(alloc: Global, function: AggFunction, words: &[&str]) -> Result<AggState, Memory>
@@ -51,17 +53,49 @@ fn taken(alloc: Global, function: AggFunction, words: &[&str]) -> Result<AggStat
     Ok(state)
 }
 
-/// Adds the aggregate of two parts, the first of which is taken first.
+/// The aggregate of two parts, the first of which is taken first.
+fn merged(
+    alloc: Global,
+    function: AggFunction,
+    first: &[&str],
+    second: &[&str],
+) -> Result<Datum, Memory>
+    requires first { length first.now ≤ 100 }
+    requires second { length second.now ≤ 100 }
+{
+    let first = taken(alloc, function, first)?;
+    match taken(alloc, function, second) {
+        Ok(second) => Ok(first.merge(second).finish()),
+        Err(Memory) => {
+            drop(first);
+            Err(Memory)
+        }
+    }
+}
+
+/// Adds the aggregate of two parts.
+fn push_merged(
+    out: &mut String,
+    function: AggFunction,
+    first: &[&str],
+    second: &[&str],
+) -> Result<(), Memory>
+    requires first { length first.now ≤ 100 }
+    requires second { length second.now ≤ 100 }
+{
+    let value = merged(*out.allocator(), function, first, second)?;
+    let told = push_datum(out, &value);
+    drop(value);
+    told
+}
+
+/// Adds the aggregate of the parts of some words, unless one has too many.
 fn push_aggregate(out: &mut String, function: &str, words: &[&str]) -> Result<(), Memory> {
-    let alloc = *out.allocator();
     let (first, second) = parts_of(words);
     if first.len() <= LIMIT && second.len() <= LIMIT {
-        let first = taken(alloc, function_of(function), first)?;
-        let second = taken(alloc, function_of(function), second)?;
-        push_datum(out, &first.merge(second).finish())?;
+        push_merged(out, function_of(function), first, second)?;
     }
-    out.push('\n')?;
-    Ok(())
+    push_word(out, "\n")
 }
 
 /// Adds the answer to the words of a line.
@@ -74,7 +108,7 @@ fn push_words(out: &mut String, words: &[&str]) -> Result<(), Memory> {
 
 /// Adds the answer to a line.
 pub(crate) fn push_aggregate_line(out: &mut String, line: &str) -> Result<(), Memory> {
-    let words: Vec<&str> = line.split_whitespace().collect(*out.allocator())?;
+    let words = words_of(*out.allocator(), line)?;
     let told = push_words(out, words.as_slice());
     drop(words);
     told

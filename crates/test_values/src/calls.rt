@@ -44,14 +44,14 @@ pub(crate) fn push_one(out: &mut String, op: &str, a: &str) -> Result<(), Memory
     drop(a);
     let told = push_datum(out, &value);
     drop(value);
-    Ok(told?)
+    told
 }
 
 fn push_given(out: &mut String, op: &str, a: &Datum, b: &Datum) -> Result<(), Memory> {
     let value = of_two(*out.allocator(), op, a, b)?;
     let told = push_datum(out, &value);
     drop(value);
-    Ok(told?)
+    told
 }
 
 /// Adds what a call with two operands gives.

@@ -7,6 +7,7 @@
 use crate::payloads::{push_read, push_spelled};
 use crate::places::{push_boxes, push_chunks, push_copies, push_frame, push_place};
 use cell_values::Memory;
+use test_kit::words_of;
 
 /// Adds what a call on the array gives.
 fn push_called(out: &mut String, word: &str) -> Result<(), Memory> {
@@ -32,7 +33,7 @@ fn push_words(out: &mut String, words: &[&str]) -> Result<(), Memory> {
 
 /// Adds the answer to a line.
 pub(crate) fn push_chunk_line(out: &mut String, line: &str) -> Result<(), Memory> {
-    let words: Vec<&str> = line.split_whitespace().collect(*out.allocator())?;
+    let words = words_of(*out.allocator(), line)?;
     let told = push_words(out, words.as_slice());
     drop(words);
     told

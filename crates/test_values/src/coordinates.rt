@@ -4,9 +4,9 @@ use array_rows::is_in_box;
 use cell_values::{
     Bounds, Broken, Cell, Coord, Datum, FaultKind, List, Memory, Row, row_major, same_place,
 };
-use std::alloc::{AllocError, Global};
+use std::alloc::Global;
 use std::cmp::Ordering;
-use test_kit::{coord_in, datum_of, fault_of, push_cell, push_coord, push_datum};
+use test_kit::{coord_in, datum_of, fault_of, push_cell, push_coord, push_datum, push_word};
 
 fn bounds_of(lo: &str, hi: &str) -> Bounds {
     Bounds {
@@ -15,20 +15,20 @@ fn bounds_of(lo: &str, hi: &str) -> Bounds {
     }
 }
 
-fn push_corners(out: &mut String, area: &Bounds) -> Result<(), AllocError> {
+fn push_corners(out: &mut String, area: &Bounds) -> Result<(), Memory> {
     push_coord(out, &area.lo)?;
-    out.push_str(" to ")?;
+    push_word(out, " to ")?;
     push_coord(out, &area.hi)
 }
 
 /// Adds a copy of a box.
 pub(crate) fn push_bounds(out: &mut String, lo: &str, hi: &str) -> Result<(), Memory> {
-    Ok(push_corners(out, &bounds_of(lo, hi).copy()?)?)
+    push_corners(out, &bounds_of(lo, hi).copy()?)
 }
 
-fn push_place(out: &mut String, broken: &Broken) -> Result<(), AllocError> {
+fn push_place(out: &mut String, broken: &Broken) -> Result<(), Memory> {
     push_coord(out, &broken.at)?;
-    out.push(' ')?;
+    push_word(out, " ")?;
     push_datum(out, &Datum::Bad(broken.kind))
 }
 
@@ -38,10 +38,10 @@ pub(crate) fn push_broken(out: &mut String, at: &str, kind: &str) -> Result<(), 
         at: coord_in(at),
         kind: fault_of(kind).unwrap_or(FaultKind::Overflow),
     };
-    Ok(push_place(out, &broken.copy()?)?)
+    push_place(out, &broken.copy()?)
 }
 
-fn push_shown(out: &mut String, row: &Row) -> Result<(), AllocError> {
+fn push_shown(out: &mut String, row: &Row) -> Result<(), Memory> {
     push_coord(out, &row.at)?;
     push_cell(out, &row.cell)
 }
@@ -50,7 +50,7 @@ fn push_copied(out: &mut String, row: &Row) -> Result<(), Memory> {
     let copy = row.copy()?;
     let told = push_shown(out, &copy);
     drop(copy);
-    Ok(told?)
+    told
 }
 
 /// The values of these words.
@@ -64,9 +64,10 @@ fn values_of(alloc: Global, words: &[&str]) -> Result<List<Datum>, Memory> {
 
 /// Adds a copy of a row.
 pub(crate) fn push_row(out: &mut String, at: &str, words: &[&str]) -> Result<(), Memory> {
+    let values = values_of(*out.allocator(), words)?;
     let row = Row {
         at: coord_in(at),
-        cell: Cell::Full(values_of(*out.allocator(), words)?),
+        cell: Cell::Full(values),
     };
     let told = push_copied(out, &row);
     drop(row);
@@ -85,18 +86,18 @@ fn order_of(one: &Coord, other: &Coord) -> &'static str {
 }
 
 /// Adds how two coordinates stand to each other in an array.
-pub(crate) fn push_order(out: &mut String, one: &str, other: &str) -> Result<(), AllocError> {
-    out.push_str(order_of(&coord_in(one), &coord_in(other)))
+pub(crate) fn push_order(out: &mut String, one: &str, other: &str) -> Result<(), Memory> {
+    push_word(out, order_of(&coord_in(one), &coord_in(other)))
 }
 
 /// Adds whether two coordinates are the same.
-pub(crate) fn push_same(out: &mut String, one: &str, other: &str) -> Result<(), AllocError> {
+pub(crate) fn push_same(out: &mut String, one: &str, other: &str) -> Result<(), Memory> {
     let is_same = same_place(&coord_in(one), &coord_in(other));
-    out.push_str(if is_same { "the same" } else { "another" })
+    push_word(out, if is_same { "the same" } else { "another" })
 }
 
 /// Adds whether a coordinate lies in a box.
-pub(crate) fn push_box(out: &mut String, lo: &str, hi: &str, at: &str) -> Result<(), AllocError> {
+pub(crate) fn push_box(out: &mut String, lo: &str, hi: &str, at: &str) -> Result<(), Memory> {
     let is_inside = is_in_box(&bounds_of(lo, hi), &coord_in(at));
-    out.push_str(if is_inside { "inside" } else { "outside" })
+    push_word(out, if is_inside { "inside" } else { "outside" })
 }

@@ -1,10 +1,11 @@
 //! Disks.
 
-use crate::streams::push_call;
+use crate::streams::{push_call, push_faults};
 use afl_in_memory::{DeviceCall, MemDisk, SureDisk};
 use afl_outside::{Disk, Failed};
 use cell_values::{Bytes, List, Memory};
-use test_kit::push_text;
+use std::alloc::Global;
+use test_kit::{push_count, push_text, push_word, words_of};
 
 /// The number of a word; 0 where it is none.
 pub(crate) fn number_in(word: &str) -> u64 {
@@ -12,19 +13,14 @@ pub(crate) fn number_in(word: &str) -> u64 {
 }
 
 fn push_done(out: &mut String, done: Result<(), Failed>) -> Result<(), Memory> {
-    match done {
-        Ok(()) => out.push_str("done")?,
-        Err(Failed) => out.push_str("failed")?,
-    }
-    Ok(())
+    push_word(out, if done.is_ok() { "done" } else { "failed" })
 }
 
 fn push_length<D: Disk>(out: &mut String, disk: &mut D) -> Result<(), Memory> {
     match disk.len() {
-        Ok(length) => write!(out, "{length}")?,
-        Err(Failed) => out.push_str("failed")?,
+        Ok(length) => push_count(out, length),
+        Err(Failed) => push_word(out, "failed"),
     }
-    Ok(())
 }
 
 /// Adds how many bytes a read gives, and the piece that it was read into, which has eight bytes at most.
@@ -33,61 +29,126 @@ fn push_read<D: Disk>(out: &mut String, disk: &mut D, at: &str, count: &str) -> 
     let count = (number_in(count) as usize).min(8);
     match disk.read_at(number_in(at), &mut piece[..count]) {
         Ok(given) => {
-            write!(out, "{given} of ")?;
-            push_text(out, &piece[..count])?;
+            push_count(out, given as u64)?;
+            push_word(out, " of ")?;
+            push_text(out, &piece[..count])
         }
-        Err(Failed) => out.push_str("failed")?,
+        Err(Failed) => push_word(out, "failed"),
     }
-    Ok(())
+}
+
+/// Adds what a disk answers to a call without operands.
+pub(crate) fn push_plain<D: Disk>(
+    out: &mut String,
+    disk: &mut D,
+    word: &str,
+) -> Result<(), Memory> {
+    match word {
+        "sync" => push_done(out, disk.sync()),
+        _ => push_length(out, disk),
+    }
 }
 
 /// Adds what a disk answers to a call.
-pub(crate) fn push_answer<D: Disk>(
-    out: &mut String,
-    disk: &mut D,
-    words: &[&str],
-) -> Result<(), Memory> {
+fn push_answer<D: Disk>(out: &mut String, disk: &mut D, words: &[&str]) -> Result<(), Memory> {
     match words {
+        [word] => push_plain(out, disk, word),
         ["write", at, bytes] => push_done(out, disk.write_at(number_in(at), bytes.as_bytes())),
-        ["read", at, count] => push_read(out, disk, at, count),
-        ["sync"] => push_done(out, disk.sync()),
-        ["length"] => push_length(out, disk),
+        [_, at, count] => push_read(out, disk, at, count),
         _ => Ok(()),
     }
 }
 
-/// Adds the image after so many calls, with the writes at a `+` kept and dots for those at a `-`.
-fn push_image(out: &mut String, disk: &MemDisk, calls: u64, signs: &str) -> Result<(), Memory> {
-    let mut kept = Vec::new(*out.allocator());
-    for sign in signs.as_bytes() {
-        kept.push(*sign == b'+')?;
-    }
-    if calls <= disk.calls().len() as u64 {
-        push_text(out, disk.image(calls, &kept, b'.')?.as_slice())?;
+fn push_answer_line<D: Disk>(out: &mut String, disk: &mut D, call: &str) -> Result<(), Memory> {
+    let words = words_of(*out.allocator(), call)?;
+    let told = push_answer(out, disk, words.as_slice());
+    drop(words);
+    told?;
+    push_word(out, "\n")
+}
+
+/// Adds what a disk answers to calls.
+pub(crate) fn push_answers<D: Disk>(
+    out: &mut String,
+    disk: &mut D,
+    calls: &[&str],
+) -> Result<(), Memory> {
+    for call in calls {
+        push_call(out, call)?;
+        push_answer_line(out, disk, call)?;
     }
     Ok(())
 }
 
-fn push_recorded(out: &mut String, call: &DeviceCall) -> Result<(), Memory> {
-    match call {
-        DeviceCall::Length => out.push_str("length")?,
-        DeviceCall::Read { at, length } => write!(out, "read {at} {length}")?,
-        DeviceCall::Sync { done: true } => out.push_str("sync")?,
-        DeviceCall::Sync { done: false } => out.push_str("sync that failed")?,
-        DeviceCall::Write { at, bytes } => {
-            write!(out, "write {at} ")?;
-            push_text(out, bytes.as_slice())?;
-        }
+/// Which writes are kept: those at a `+`.
+fn kept_in(alloc: Global, signs: &str) -> Result<Vec<bool>, Memory> {
+    let mut kept = Vec::new(alloc);
+    for sign in signs.as_bytes() {
+        kept.push(*sign == b'+')?;
+    }
+    Ok(kept)
+}
+
+fn push_image_of(
+    out: &mut String,
+    disk: &MemDisk,
+    calls: u64,
+    kept: &[bool],
+) -> Result<(), Memory> {
+    if calls <= disk.calls().len() as u64 {
+        let image = disk.image(calls, kept, b'.')?;
+        let told = push_text(out, image.as_slice());
+        drop(image);
+        return told;
     }
     Ok(())
+}
+
+/// Adds the image after so many calls, with the writes at a `+` kept and dots for those at a `-`.
+fn push_image(out: &mut String, disk: &MemDisk, calls: u64, signs: &str) -> Result<(), Memory> {
+    let kept = kept_in(*out.allocator(), signs)?;
+    let told = push_image_of(out, disk, calls, kept.as_slice());
+    drop(kept);
+    told
+}
+
+fn push_read_call(out: &mut String, at: u64, length: u64) -> Result<(), Memory> {
+    push_word(out, "read ")?;
+    push_count(out, at)?;
+    push_word(out, " ")?;
+    push_count(out, length)
+}
+
+fn push_write_call(out: &mut String, at: u64, bytes: &[u8]) -> Result<(), Memory> {
+    push_word(out, "write ")?;
+    push_count(out, at)?;
+    push_word(out, " ")?;
+    push_text(out, bytes)
+}
+
+fn push_recorded(out: &mut String, call: &DeviceCall) -> Result<(), Memory> {
+    match call {
+        DeviceCall::Length => push_word(out, "length"),
+        DeviceCall::Read { at, length } => push_read_call(out, *at, *length),
+        DeviceCall::Sync { done: true } => push_word(out, "sync"),
+        DeviceCall::Sync { done: false } => push_word(out, "sync that failed"),
+        DeviceCall::Write { at, bytes } => push_write_call(out, *at, bytes.as_slice()),
+    }
+}
+
+fn push_copied(out: &mut String, call: &DeviceCall) -> Result<(), Memory> {
+    let copy = call.copy()?;
+    let told = push_recorded(out, &copy);
+    drop(copy);
+    told
 }
 
 /// Adds copies of the calls that a disk has recorded.
 fn push_calls(out: &mut String, disk: &MemDisk) -> Result<(), Memory> {
     let mut comma = "";
     for call in disk.calls() {
-        out.push_str(comma)?;
-        push_recorded(out, &call.copy()?)?;
+        push_word(out, comma)?;
+        push_copied(out, call)?;
         comma = ", ";
     }
     Ok(())
@@ -103,24 +164,19 @@ fn push_recording(out: &mut String, disk: &mut MemDisk, words: &[&str]) -> Resul
 }
 
 fn push_line(out: &mut String, disk: &mut MemDisk, call: &str) -> Result<(), Memory> {
-    let words: Vec<&str> = call.split_whitespace().collect(*out.allocator())?;
-    push_call(out, call)?;
-    push_recording(out, disk, words.as_slice())?;
-    out.push('\n')?;
-    Ok(())
+    let words = words_of(*out.allocator(), call)?;
+    let told = push_recording(out, disk, words.as_slice());
+    drop(words);
+    told?;
+    push_word(out, "\n")
 }
 
 fn push_lines(out: &mut String, disk: &mut MemDisk, calls: &[&str]) -> Result<(), Memory> {
     for call in calls {
+        push_call(out, call)?;
         push_line(out, disk, call)?;
     }
-    writeln!(
-        out,
-        "{} failed, {} without memory",
-        disk.faults(),
-        disk.wants()
-    )?;
-    Ok(())
+    push_faults(out, disk.faults(), disk.wants())
 }
 
 /// Adds what a disk in memory answers to calls.
@@ -134,23 +190,8 @@ pub(crate) fn push_disk(
     push_lines(out, &mut MemDisk::new(content, fails), calls)
 }
 
-fn push_sure_line(out: &mut String, disk: &mut SureDisk, call: &str) -> Result<(), Memory> {
-    let words: Vec<&str> = call.split_whitespace().collect(*out.allocator())?;
-    push_call(out, call)?;
-    push_answer(out, disk, words.as_slice())?;
-    out.push('\n')?;
-    Ok(())
-}
-
-fn push_sure_lines(out: &mut String, disk: &mut SureDisk, calls: &[&str]) -> Result<(), Memory> {
-    for call in calls {
-        push_sure_line(out, disk, call)?;
-    }
-    Ok(())
-}
-
 /// Adds what an empty disk that never fails answers to calls.
 pub(crate) fn push_sure_disk(out: &mut String, calls: &[&str]) -> Result<(), Memory> {
     let empty = Bytes::new(*out.allocator());
-    push_sure_lines(out, &mut SureDisk::new(empty), calls)
+    push_answers(out, &mut SureDisk::new(empty), calls)
 }

@@ -1,9 +1,9 @@
 //! A list, its calls, and what was taken from it.
 
 use cell_values::{Bytes, Memory};
-use std::alloc::{AllocError, Global};
+use std::alloc::Global;
 use std::cmp::Ordering;
-use test_kit::{number_in, push_text};
+use test_kit::{push_count, push_quoted, push_text, push_word};
 
 /// A list, and what was last copied or taken from it.
 #[derive(Drop)]
@@ -54,31 +54,58 @@ impl Lists {
         }
     }
 
+    /// Adds a copy of what was taken.
+    fn append(&mut self) -> Result<(), Memory> {
+        let more = self.taken.copy()?;
+        self.list.append(more)
+    }
+
+    fn copy(&mut self) -> Result<(), Memory> {
+        self.taken = self.list.copy()?;
+        Ok(())
+    }
+
     /// Does a call without operands, and adds the item that it gives, if it gives one.
     fn call_plain(&mut self, out: &mut String, word: &str) -> Result<(), Memory> {
         match word {
-            "append" => self.list.append(self.taken.copy()?)?,
-            "clear" => self.list.clear(),
-            "copy" => self.taken = self.list.copy()?,
-            "take" => self.taken = self.list.take(),
-            "pop" => push_item(out, self.list.pop())?,
-            _ => {}
+            "append" => self.append(),
+            "clear" => {
+                self.list.clear();
+                Ok(())
+            }
+            "copy" => self.copy(),
+            "take" => {
+                self.taken = self.list.take();
+                Ok(())
+            }
+            "pop" => push_item(out, self.list.pop()),
+            _ => Ok(()),
         }
-        Ok(())
+    }
+
+    /// Does a call with one operand that gives no item.
+    fn change_with(&mut self, word: &str, operand: &str) -> Result<(), Memory> {
+        match word {
+            "extend" => self.list.extend(operand.as_bytes()),
+            "push" => self.list.push(byte_of(operand)),
+            "remove" => {
+                self.remove(place_in(operand));
+                Ok(())
+            }
+            _ => {
+                self.list.truncate(place_in(operand));
+                Ok(())
+            }
+        }
     }
 
     /// Does a call with one operand, and adds the item that it gives, if it gives one.
     fn call_with(&mut self, out: &mut String, word: &str, operand: &str) -> Result<(), Memory> {
         match word {
-            "begin" => self.begin(place_in(operand))?,
-            "extend" => self.list.extend(operand.as_bytes())?,
-            "push" => self.list.push(byte_of(operand))?,
-            "remove" => self.remove(place_in(operand)),
-            "truncate" => self.list.truncate(place_in(operand)),
-            "get" => push_item(out, self.list.get(place_in(operand)).copied())?,
-            _ => {}
+            "begin" => self.begin(place_in(operand)),
+            "get" => push_item(out, self.list.get(place_in(operand)).copied()),
+            word => self.change_with(word, operand),
         }
-        Ok(())
     }
 
     /// Does a call with a place and a byte.
@@ -103,45 +130,46 @@ impl Lists {
     }
 
     /// Adds the list, how many bytes it has and the largest, and how it stands to what was taken.
-    fn push_state(&self, out: &mut String) -> Result<(), AllocError> {
+    fn push_state(&self, out: &mut String) -> Result<(), Memory> {
         push_list(out, self.list.as_slice())?;
-        out.push_str(standing(self.list.cmp(&self.taken)))?;
-        push_text(out, self.taken.as_slice())?;
-        out.push('\'')
+        push_word(out, standing(self.list.cmp(&self.taken)))?;
+        push_quoted(out, self.taken.as_slice())
     }
 
     /// Does a call, and adds what it gives and leaves.
     pub(crate) fn push_call(&mut self, out: &mut String, words: &[&str]) -> Result<(), Memory> {
         self.call(out, words)?;
-        Ok(self.push_state(out)?)
+        self.push_state(out)
     }
 }
 
 /// Adds bytes, how many there are and the largest.
-fn push_list(out: &mut String, list: &[u8]) -> Result<(), AllocError> {
-    out.push('\'')?;
-    push_text(out, list)?;
-    write!(out, "' of {}", list.len())?;
-    if let Some(most) = list.iter().copied().max() {
-        out.push_str(", largest ")?;
-        push_text(out, &[most])?;
+fn push_list(out: &mut String, list: &[u8]) -> Result<(), Memory> {
+    push_quoted(out, list)?;
+    push_word(out, " of ")?;
+    push_count(out, list.len() as u64)?;
+    match list.iter().copied().max() {
+        Some(most) => {
+            push_word(out, ", largest ")?;
+            push_text(out, &[most])
+        }
+        None => Ok(()),
     }
-    Ok(())
 }
 
 fn standing(order: Ordering) -> &'static str {
     match order {
-        Ordering::Less => ", less than '",
-        Ordering::Equal => ", equal to '",
-        Ordering::Greater => ", more than '",
+        Ordering::Less => ", less than ",
+        Ordering::Equal => ", equal to ",
+        Ordering::Greater => ", more than ",
     }
 }
 
 /// Adds an item of a list.
-fn push_item(out: &mut String, item: Option<u8>) -> Result<(), AllocError> {
+fn push_item(out: &mut String, item: Option<u8>) -> Result<(), Memory> {
     match item {
         Some(byte) => push_text(out, &[byte])?,
-        None => out.push_str("nothing")?,
+        None => push_word(out, "nothing")?,
     }
-    out.push_str(" from ")
+    push_word(out, " from ")
 }

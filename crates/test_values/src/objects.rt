@@ -1,14 +1,16 @@
 //! Calls on objects in memory, and what these hold after them.
 //!
 //! A line has the object first, with what it holds and the numbers, from 0, of the calls that are to fail; then, each
-//! behind a `|`, the calls. A `sure` object has no failing calls.
+//! behind a `|`, the calls. A `sure` object has no failing calls, and a `real` one is a stream or a file of the system.
 
 use crate::disks::{number_in, push_disk, push_sure_disk};
+use crate::real::push_real;
 use crate::shelves::push_shelf;
 use crate::streams::{push_sink, push_source, push_sure_sink, push_sure_source};
-use afl_outside::has_risen;
+use afl_outside::{Shelf, has_risen};
 use cell_values::{List, Memory};
 use std::alloc::Global;
+use test_kit::{push_word, words_of};
 
 /// The numbers of the calls that are to fail.
 fn numbers_in(alloc: Global, words: &[&str]) -> Result<List<u64>, Memory> {
@@ -23,12 +25,8 @@ fn numbers_in(alloc: Global, words: &[&str]) -> Result<List<u64>, Memory> {
 fn push_risen(out: &mut String, before: &str, now: &str) -> Result<(), Memory> {
     let before = number_in(before);
     let now = number_in(now);
-    if before <= now && has_risen(before, now) {
-        out.push_str("risen\n")?;
-    } else {
-        out.push_str("not risen\n")?;
-    }
-    Ok(())
+    let has_risen = before <= now && has_risen(before, now);
+    push_word(out, if has_risen { "risen\n" } else { "not risen\n" })
 }
 
 /// Adds what an object that never fails answers to calls.
@@ -56,38 +54,67 @@ fn push_failing(
     }
 }
 
+fn push_failing_shelf(out: &mut String, fails: &[&str], calls: &[&str]) -> Result<(), Memory> {
+    let fails = numbers_in(*out.allocator(), fails)?;
+    push_shelf(out, fails, calls)
+}
+
+/// Adds what an object that fails at the calls of these numbers answers to calls.
+fn push_numbered(
+    out: &mut String,
+    object: &str,
+    content: &str,
+    fails: &[&str],
+    calls: &[&str],
+) -> Result<(), Memory> {
+    let fails = numbers_in(*out.allocator(), fails)?;
+    push_failing(out, object, content, fails, calls)
+}
+
 /// Adds what an object answers to calls.
-fn push_answers(out: &mut String, object: &[&str], calls: &[&str]) -> Result<(), Memory> {
-    let alloc = *out.allocator();
+fn push_answers<S: Shelf>(
+    out: &mut String,
+    shelf: &mut S,
+    object: &[&str],
+    calls: &[&str],
+) -> Result<(), Memory> {
     match object {
         ["count", before, now] => push_risen(out, before, now),
         ["sure", object @ ..] => push_sure(out, object, calls),
-        ["shelf", fails @ ..] => push_shelf(out, numbers_in(alloc, fails)?, calls),
-        [object, content, fails @ ..] => {
-            push_failing(out, object, content, numbers_in(alloc, fails)?, calls)
-        }
+        ["real", object @ ..] => push_real(out, shelf, object, calls),
+        ["shelf", fails @ ..] => push_failing_shelf(out, fails, calls),
+        [object, content, fails @ ..] => push_numbered(out, object, content, fails, calls),
         _ => Ok(()),
     }
 }
 
-fn push_object(out: &mut String, object: &str, calls: &[&str]) -> Result<(), Memory> {
-    let words: Vec<&str> = object.split_whitespace().collect(*out.allocator())?;
-    let told = push_answers(out, words.as_slice(), calls);
+fn push_object<S: Shelf>(
+    out: &mut String,
+    shelf: &mut S,
+    object: &str,
+    calls: &[&str],
+) -> Result<(), Memory> {
+    let words = words_of(*out.allocator(), object)?;
+    let told = push_answers(out, shelf, words.as_slice(), calls);
     drop(words);
     told
 }
 
-fn push_parts(out: &mut String, parts: &[&str]) -> Result<(), Memory> {
+fn push_parts<S: Shelf>(out: &mut String, shelf: &mut S, parts: &[&str]) -> Result<(), Memory> {
     match parts {
-        [object, calls @ ..] => push_object(out, object, calls),
+        [object, calls @ ..] => push_object(out, shelf, object, calls),
         [] => Ok(()),
     }
 }
 
 /// Adds the answer to a line.
-pub(crate) fn push_object_line(out: &mut String, line: &str) -> Result<(), Memory> {
+pub(crate) fn push_object_line<S: Shelf>(
+    out: &mut String,
+    shelf: &mut S,
+    line: &str,
+) -> Result<(), Memory> {
     let parts: Vec<&str> = line.split('|').collect(*out.allocator())?;
-    let told = push_parts(out, parts.as_slice());
+    let told = push_parts(out, shelf, parts.as_slice());
     drop(parts);
     told
 }

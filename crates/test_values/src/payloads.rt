@@ -5,42 +5,44 @@ ghost use Rattle.chunk_rle.specs.Inner.Example.{example};
 use crate::show::push_chunk;
 use array_geom::Chunk;
 use array_rows::Cells;
-use cell_values::{Attribute, Bytes, ChunkAt, Dimension, Kind, List, Memory, Name, Schema};
+use cell_values::{Attribute, Bytes, ChunkAt, Dimension, Kind, List, Memory, Schema};
 use chunk_rle::{BadPayload, decode, encode};
 use std::alloc::Global;
-use std::str::from_utf8;
-use test_kit::{cell_of, place_in};
+use test_kit::{bytes_in, cell_of, name_of, one_more, place_in, push_count, push_hex, push_word};
 
-fn name(alloc: Global, bytes: &[u8]) -> Result<Name, Memory>
-    ensures { IfOk result (λ name. name ≡ bytes.now) }
+fn attributes(alloc: Global) -> Result<List<Attribute>, Memory>
+    ensures { IfOk result (λ attributes. attributes ≡ example.attributes) }
 {
-    match Name::new(List::from_slice(alloc, bytes)?) {
-        Some(name) => Ok(name),
-        None => Err(Memory),
-    }
+    let name = name_of(alloc, b"v")?;
+    let attribute = Attribute {
+        name,
+        kind: Kind::Int64,
+        nullable: true,
+    };
+    one_more(List::new(alloc), attribute)
+}
+
+fn dimensions(alloc: Global) -> Result<List<Dimension>, Memory>
+    ensures { IfOk result (λ dimensions. dimensions ≡ example.dimensions) }
+{
+    let name = name_of(alloc, b"i")?;
+    let dimension = Dimension {
+        name,
+        lo: 0,
+        hi: 1,
+        chunk: 2,
+        overlap: 0,
+    };
+    one_more(List::new(alloc), dimension)
 }
 
 /// Places 0 and 1 in one chunk, with a number each.
 fn schema(alloc: Global) -> Result<Schema, Memory>
     ensures { IfOk result (λ schema. schema ≡ example) }
 {
-    let mut attributes = List::new(alloc);
-    attributes.push(Attribute {
-        name: name(alloc, b"v")?,
-        kind: Kind::Int64,
-        nullable: true,
-    })?;
-    let mut dimensions = List::new(alloc);
-    dimensions.push(Dimension {
-        name: name(alloc, b"i")?,
-        lo: 0,
-        hi: 1,
-        chunk: 2,
-        overlap: 0,
-    })?;
     Ok(Schema {
-        attributes,
-        dimensions,
+        attributes: attributes(alloc)?,
+        dimensions: dimensions(alloc)?,
     })
 }
 
@@ -52,29 +54,54 @@ fn first() -> ChunkAt
     at
 }
 
-fn chunk_of(alloc: Global, words: &[&str]) -> Result<Chunk, Memory> {
-    let mut chunk = Chunk {
+/// No cells yet.
+fn empty(alloc: Global) -> Chunk {
+    Chunk {
         at: first(),
         positions: List::new(alloc),
         cells: Cells::new(alloc),
-    };
-    for word in words {
-        let (place, held) = place_in(word);
-        chunk.positions.push(place.unsigned_abs())?;
-        chunk.cells.push(cell_of(alloc, &[], held)?)?;
     }
-    Ok(chunk)
+}
+
+/// Adds the cell of a word.
+fn push_placed(chunk: &mut Chunk, word: &str) -> Result<(), Memory> {
+    let (place, held) = place_in(word);
+    chunk.positions.push(place.unsigned_abs())?;
+    let cell = cell_of(chunk.positions.allocator(), &[], held)?;
+    chunk.cells.push(cell)
+}
+
+fn push_all(chunk: &mut Chunk, words: &[&str]) -> Result<(), Memory> {
+    for word in words {
+        push_placed(chunk, word)?;
+    }
+    Ok(())
+}
+
+fn push_payload(out: &mut String, chunk: &Chunk) -> Result<(), Memory> {
+    let alloc = *out.allocator();
+    let schema = schema(alloc)?;
+    let payload = encode(alloc, &schema, chunk);
+    drop(schema);
+    push_bytes(out, payload?)
+}
+
+fn push_bytes(out: &mut String, bytes: Bytes) -> Result<(), Memory> {
+    let told = push_hex(out, bytes.as_slice());
+    drop(bytes);
+    told
 }
 
 /// Adds the payload of a chunk with these cells.
 pub(crate) fn push_spelled(out: &mut String, words: &[&str]) -> Result<(), Memory> {
-    let alloc = *out.allocator();
-    let chunk = chunk_of(alloc, words)?;
-    for byte in encode(alloc, &schema(alloc)?, &chunk)?.as_slice() {
-        write!(out, "{byte:02x}")?;
-    }
-    out.push('\n')?;
-    Ok(())
+    let mut chunk = empty(*out.allocator());
+    let told = match push_all(&mut chunk, words) {
+        Ok(()) => push_payload(out, &chunk),
+        Err(Memory) => Err(Memory),
+    };
+    drop(chunk);
+    told?;
+    push_word(out, "\n")
 }
 
 fn decoded(alloc: Global, bytes: &[u8]) -> Result<Chunk, BadPayload> {
@@ -87,24 +114,28 @@ fn decoded(alloc: Global, bytes: &[u8]) -> Result<Chunk, BadPayload> {
     }
 }
 
-/// The bytes that pairs of hexadecimal digits stand for.
-fn bytes_in(alloc: Global, digits: &str) -> Result<Bytes, Memory> {
-    let mut bytes = Bytes::new(alloc);
-    for pair in digits.as_bytes().chunks(2) {
-        let pair = from_utf8(pair).unwrap_or("");
-        bytes.push(u8::from_str_radix(pair, 16).unwrap_or(0))?;
+fn push_wrong(out: &mut String, at: u64) -> Result<(), Memory> {
+    push_word(out, "wrong at ")?;
+    push_count(out, at)?;
+    push_word(out, "\n")
+}
+
+fn push_decoded(out: &mut String, bytes: &[u8]) -> Result<(), Memory> {
+    match decoded(*out.allocator(), bytes) {
+        Ok(chunk) => {
+            let told = push_chunk(out, &chunk);
+            drop(chunk);
+            told
+        }
+        Err(BadPayload::At { at }) => push_wrong(out, at),
+        Err(BadPayload::Memory) => push_word(out, "no memory\n"),
     }
-    Ok(bytes)
 }
 
 /// Adds the chunk of a payload, or the place of its first wrong item.
 pub(crate) fn push_read(out: &mut String, digits: &str) -> Result<(), Memory> {
-    let alloc = *out.allocator();
-    let bytes = bytes_in(alloc, digits)?;
-    match decoded(alloc, bytes.as_slice()) {
-        Ok(chunk) => push_chunk(out, &chunk)?,
-        Err(BadPayload::At { at }) => writeln!(out, "wrong at {at}")?,
-        Err(BadPayload::Memory) => out.push_str("no memory\n")?,
-    }
-    Ok(())
+    let bytes = bytes_in(*out.allocator(), digits)?;
+    let told = push_decoded(out, bytes.as_slice());
+    drop(bytes);
+    told
 }

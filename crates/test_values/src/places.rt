@@ -12,16 +12,9 @@ use cell_values::{
     Attribute, Bounds, ChunkAt, Coord, Datum, Dimension, Kind, List, Memory, Name, Schema, coord_of,
 };
 use std::alloc::Global;
-use test_kit::{push_coord, push_number};
-
-fn name(alloc: Global, bytes: &[u8]) -> Result<Name, Memory>
-    ensures { IfOk result (λ name. name ≡ bytes.now) }
-{
-    match Name::new(List::from_slice(alloc, bytes)?) {
-        Some(name) => Ok(name),
-        None => Err(Memory),
-    }
-}
+use test_kit::{
+    name_of, one_more, push_coord, push_count, push_number, push_word, push_words, truth_word,
+};
 
 fn dimension(name: Name, lo: i64, hi: i64, chunk: u64) -> Dimension
     ensures { result ≡ dimension name lo hi chunk 1 }
@@ -35,22 +28,34 @@ fn dimension(name: Name, lo: i64, hi: i64, chunk: u64) -> Dimension
     }
 }
 
+fn attributes(alloc: Global) -> Result<List<Attribute>, Memory>
+    ensures { IfOk result (λ attributes. attributes ≡ example.attributes) }
+{
+    let name = name_of(alloc, b"v")?;
+    let attribute = Attribute {
+        name,
+        kind: Kind::Int64,
+        nullable: true,
+    };
+    one_more(List::new(alloc), attribute)
+}
+
+fn dimensions(alloc: Global) -> Result<List<Dimension>, Memory>
+    ensures { IfOk result (λ dimensions. dimensions ≡ example.dimensions) }
+{
+    let x = dimension(name_of(alloc, b"x")?, -1, 2, 2);
+    let dimensions = one_more(List::new(alloc), x)?;
+    let y = dimension(name_of(alloc, b"y")?, 0, 4, 3);
+    one_more(dimensions, y)
+}
+
 /// Places from -1 to 2 and from 0 to 4, in chunks of two and three.
 fn schema(alloc: Global) -> Result<Schema, Memory>
     ensures { IfOk result (λ schema. schema ≡ example) }
 {
-    let mut attributes = List::new(alloc);
-    attributes.push(Attribute {
-        name: name(alloc, b"v")?,
-        kind: Kind::Int64,
-        nullable: true,
-    })?;
-    let mut dimensions = List::new(alloc);
-    dimensions.push(dimension(name(alloc, b"x")?, -1, 2, 2))?;
-    dimensions.push(dimension(name(alloc, b"y")?, 0, 4, 3))?;
     Ok(Schema {
-        attributes,
-        dimensions,
+        attributes: attributes(alloc)?,
+        dimensions: dimensions(alloc)?,
     })
 }
 
@@ -69,47 +74,101 @@ fn at(x: i64, y: i64) -> Coord
     coord_of(&[x, y])
 }
 
-/// Adds the chunk of a coordinate, its place in the frame, and the coordinate of that place.
-pub(crate) fn push_place(out: &mut String) -> Result<(), Memory> {
-    let schema = schema(*out.allocator())?;
+fn push_found(out: &mut String, found: &ChunkAt, number: u64, back: &Coord) -> Result<(), Memory> {
+    push_number(out, found)?;
+    push_word(out, " place ")?;
+    push_count(out, number)?;
+    push_word(out, " ")?;
+    push_coord(out, back)?;
+    push_word(out, "\n")
+}
+
+fn push_place_in(out: &mut String, schema: &Schema) -> Result<(), Memory>
+    requires { schema.now ≡ example }
+{
     let cell = at(1, 4);
     let chunk = numbers(1, 1);
     let margins = numbers(1, 1);
-    let found = chunk_of(&schema, &cell);
-    push_number(out, &found)?;
-    let number = position(&schema, &margins, &chunk, &cell);
-    write!(out, " place {number} ")?;
-    let back = place(&schema, &margins, &chunk, number);
-    push_coord(out, &back)?;
-    out.push('\n')?;
-    Ok(())
+    let found = chunk_of(schema, &cell);
+    let number = position(schema, &margins, &chunk, &cell);
+    let back = place(schema, &margins, &chunk, number);
+    push_found(out, &found, number, &back)
+}
+
+/// Adds the chunk of a coordinate, its place in the frame, and the coordinate of that place.
+pub(crate) fn push_place(out: &mut String) -> Result<(), Memory> {
+    let schema = schema(*out.allocator())?;
+    let told = push_place_in(out, &schema);
+    drop(schema);
+    told
+}
+
+fn push_frame_in(out: &mut String, schema: &Schema) -> Result<(), Memory>
+    requires { schema.now ≡ example }
+{
+    let chunk = numbers(1, 1);
+    let margins = numbers(1, 1);
+    let core = core_box(schema, &chunk);
+    push_box(out, "core", &core)?;
+    let frame = frame(schema, &margins, &chunk);
+    push_box(out, "frame", &frame)
 }
 
 /// Adds the core of the last chunk, which the bounds cut, and its frame.
 pub(crate) fn push_frame(out: &mut String) -> Result<(), Memory> {
     let schema = schema(*out.allocator())?;
-    let chunk = numbers(1, 1);
-    let margins = numbers(1, 1);
-    let core = core_box(&schema, &chunk);
-    push_box(out, "core", &core)?;
-    let frame = frame(&schema, &margins, &chunk);
-    push_box(out, "frame", &frame)
+    let told = push_frame_in(out, &schema);
+    drop(schema);
+    told
 }
 
-/// Adds those of four chunks whose cores meet a box.
-pub(crate) fn push_chunks(out: &mut String) -> Result<(), Memory> {
-    let schema = schema(*out.allocator())?;
+fn meeting(alloc: Global, schema: &Schema) -> Result<List<ChunkAt>, Memory>
+    requires { schema.now ≡ example }
+{
     let area = Bounds {
         lo: at(-1, 3),
         hi: at(0, 9),
     };
     let listed = [numbers(0, 0), numbers(0, 1), numbers(1, 1), numbers(9, 1)];
-    let found = chunks_meeting(*out.allocator(), &schema, &area, &listed)?;
-    for number in found.as_slice() {
+    chunks_meeting(alloc, schema, &area, &listed)
+}
+
+fn push_numbers(out: &mut String, numbers: &[ChunkAt]) -> Result<(), Memory> {
+    for number in numbers {
         push_number(out, number)?;
     }
-    out.push('\n')?;
-    Ok(())
+    push_word(out, "\n")
+}
+
+fn push_meeting(out: &mut String, schema: &Schema) -> Result<(), Memory>
+    requires { schema.now ≡ example }
+{
+    let found = meeting(*out.allocator(), schema)?;
+    let told = push_numbers(out, found.as_slice());
+    drop(found);
+    told
+}
+
+/// Adds those of four chunks whose cores meet a box.
+pub(crate) fn push_chunks(out: &mut String) -> Result<(), Memory> {
+    let schema = schema(*out.allocator())?;
+    let told = push_meeting(out, &schema);
+    drop(schema);
+    told
+}
+
+fn push_held(out: &mut String, area: &Bounds) -> Result<(), Memory> {
+    let last = truth_word(area.holds(&at(3, 2)));
+    let behind = truth_word(area.holds(&at(3, 3)));
+    push_words(out, &[last, " ", behind, "\n"])
+}
+
+fn push_shared(out: &mut String, area: &Bounds) -> Result<(), Memory> {
+    let other = Bounds {
+        lo: at(0, 1),
+        hi: at(2, 9),
+    };
+    push_box(out, "shared", &area.meet(&other))
 }
 
 /// Adds whether a box holds a coordinate, the box moved, and what it shares with another.
@@ -118,53 +177,100 @@ pub(crate) fn push_boxes(out: &mut String) -> Result<(), Memory> {
     let hi = at(3, 2);
     let by = at(-2, 5);
     let area = Bounds { lo, hi };
-    writeln!(out, "{} {}", area.holds(&at(3, 2)), area.holds(&at(3, 3)))?;
+    push_held(out, &area)?;
     let moved = area.shift(&by);
     push_box(out, "moved", &moved)?;
-    let other = Bounds {
-        lo: at(0, 1),
-        hi: at(2, 9),
-    };
-    push_box(out, "shared", &area.meet(&other))
+    push_shared(out, &area)
+}
+
+fn fives(alloc: Global) -> Result<Cells, Memory> {
+    let mut cells = Cells::new(alloc);
+    match cells.push_values(&[Datum::Int(5)]) {
+        Ok(()) => Ok(cells),
+        Err(Memory) => {
+            drop(cells);
+            Err(Memory)
+        }
+    }
 }
 
 /// One cell at place 7 of the last chunk.
 fn last(alloc: Global) -> Result<Chunk, Memory> {
-    let mut cells = Cells::new(alloc);
-    cells.push_values(&[Datum::Int(5)])?;
+    let positions = List::from_slice(alloc, &[7])?;
     Ok(Chunk {
         at: numbers(1, 1),
-        positions: List::from_slice(alloc, &[7])?,
-        cells,
+        positions,
+        cells: fives(alloc)?,
     })
 }
 
-fn array(alloc: Global) -> Result<ChunkedArray, Memory> {
-    let mut chunks = List::new(alloc);
-    chunks.push(last(alloc)?)?;
-    Ok(ChunkedArray {
-        schema: schema(alloc)?,
+fn chunks(alloc: Global) -> Result<List<Chunk>, Memory> {
+    let chunk = last(alloc)?;
+    one_more(List::new(alloc), chunk)
+}
+
+fn array_of(schema: Schema, chunks: List<Chunk>) -> ChunkedArray {
+    ChunkedArray {
+        schema,
         margins: numbers(1, 1),
         chunks,
         broken: None,
-    })
+    }
+}
+
+fn array(alloc: Global) -> Result<ChunkedArray, Memory> {
+    let chunks = chunks(alloc)?;
+    match schema(alloc) {
+        Ok(schema) => Ok(array_of(schema, chunks)),
+        Err(Memory) => {
+            drop(chunks);
+            Err(Memory)
+        }
+    }
+}
+
+fn push_listed(out: &mut String, chunks: &[Chunk]) -> Result<(), Memory> {
+    for chunk in chunks {
+        push_chunk(out, chunk)?;
+    }
+    Ok(())
+}
+
+fn copied_array(alloc: Global) -> Result<ChunkedArray, Memory> {
+    let array = array(alloc)?;
+    let copy = array.copy();
+    drop(array);
+    copy
+}
+
+/// A change of all chunks that are written.
+fn changed(array: ChunkedArray) -> Changed {
+    Changed {
+        schema: array.schema,
+        whole: true,
+        chunks: array.chunks,
+    }
+}
+
+fn push_changed(out: &mut String, changed: &Changed) -> Result<(), Memory> {
+    push_words(out, &["whole ", truth_word(changed.whole), "\n"])?;
+    push_listed(out, changed.chunks.as_slice())
+}
+
+fn push_copied(out: &mut String, changed: &Changed) -> Result<(), Memory> {
+    let copy = changed.copy()?;
+    let told = push_changed(out, &copy);
+    drop(copy);
+    told
 }
 
 /// Adds the chunks of copies of an array and of a change.
 pub(crate) fn push_copies(out: &mut String) -> Result<(), Memory> {
-    let copy = array(*out.allocator())?.copy()?;
-    for chunk in copy.chunks.as_slice() {
-        push_chunk(out, chunk)?;
-    }
-    let changed = Changed {
-        schema: copy.schema,
-        whole: true,
-        chunks: copy.chunks,
-    };
-    let copy = changed.copy()?;
-    writeln!(out, "whole {}", copy.whole)?;
-    for chunk in copy.chunks.as_slice() {
-        push_chunk(out, chunk)?;
-    }
-    Ok(())
+    let copy = copied_array(*out.allocator())?;
+    let of_array = push_listed(out, copy.chunks.as_slice());
+    let changed = changed(copy);
+    let of_change = push_copied(out, &changed);
+    drop(changed);
+    of_array?;
+    of_change
 }

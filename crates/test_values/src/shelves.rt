@@ -1,19 +1,19 @@
 //! Shelves.
 
-use crate::disks::push_answer;
-use crate::streams::{push_call, push_held, push_read, push_write};
+use crate::disks::push_plain;
+use crate::streams::{push_call, push_faults, push_held, push_read, push_write};
 use afl_in_memory::{MemFile, MemShelf, MemSink};
 use afl_outside::{Disk, Failed, Shelf, Source};
 use cell_values::{List, Memory};
 use std::alloc::Global;
+use test_kit::{push_word, words_of};
 
 fn file(alloc: Global, name: &[u8], content: &[u8], fails: &[u64]) -> Result<MemFile, Memory> {
-    let file = MemFile {
+    Ok(MemFile {
         name: List::from_slice(alloc, name)?,
         content: List::from_slice(alloc, content)?,
         fails: List::from_slice(alloc, fails)?,
-    };
-    file.copy()
+    })
 }
 
 fn push_file(
@@ -23,7 +23,9 @@ fn push_file(
     fails: &[u64],
 ) -> Result<(), Memory> {
     let file = file(files.allocator(), name, content, fails)?;
-    files.push(file)
+    let copy = file.copy();
+    drop(file);
+    files.push(copy?)
 }
 
 fn push_files(files: &mut List<MemFile>) -> Result<(), Memory> {
@@ -31,45 +33,58 @@ fn push_files(files: &mut List<MemFile>) -> Result<(), Memory> {
     push_file(files, b"s", b"a;", &[0])
 }
 
-/// `db` with the bytes `page`, whose call 1 fails, `s` with `a;`, whose call 0 fails, and the reply file `s.out` with
-/// `old:`, whose call 1 fails.
-fn shelf(alloc: Global, fails: List<u64>) -> Result<MemShelf, Memory> {
+fn push_replies(replies: &mut List<MemFile>) -> Result<(), Memory> {
+    push_file(replies, b"s.out", b"old:", &[1])
+}
+
+/// `db` with the bytes `page`, whose call 1 fails, and `s` with `a;`, whose call 0 fails.
+fn files(alloc: Global) -> Result<List<MemFile>, Memory> {
     let mut files = List::new(alloc);
-    push_files(&mut files)?;
+    match push_files(&mut files) {
+        Ok(()) => Ok(files),
+        Err(Memory) => {
+            drop(files);
+            Err(Memory)
+        }
+    }
+}
+
+/// The reply file `s.out` with `old:`, whose call 1 fails.
+fn replies(alloc: Global) -> Result<List<MemFile>, Memory> {
     let mut replies = List::new(alloc);
-    push_file(&mut replies, b"s.out", b"old:", &[1])?;
-    Ok(MemShelf::new(files, replies, fails))
+    match push_replies(&mut replies) {
+        Ok(()) => Ok(replies),
+        Err(Memory) => {
+            drop(replies);
+            Err(Memory)
+        }
+    }
 }
 
 fn push_reads<S: Source>(out: &mut String, source: &mut S, counts: &[&str]) -> Result<(), Memory> {
-    out.push_str("opened")?;
+    push_word(out, "opened")?;
     for count in counts {
-        out.push_str(", ")?;
+        push_word(out, ", ")?;
         push_read(out, source, count)?;
     }
     Ok(())
 }
 
 fn push_writes(out: &mut String, sink: &mut MemSink, pieces: &[&str]) -> Result<(), Memory> {
-    out.push_str("opened, ")?;
+    push_word(out, "opened, ")?;
     for piece in pieces {
         push_write(out, sink, piece)?;
-        out.push_str(", ")?;
+        push_word(out, ", ")?;
     }
     push_held(out, sink.bytes())
 }
 
 fn push_answers<D: Disk>(out: &mut String, disk: &mut D, calls: &[&str]) -> Result<(), Memory> {
-    out.push_str("opened")?;
+    push_word(out, "opened")?;
     for call in calls {
-        out.push_str(", ")?;
-        push_answer(out, disk, &[*call])?;
+        push_word(out, ", ")?;
+        push_plain(out, disk, call)?;
     }
-    Ok(())
-}
-
-fn push_failed(out: &mut String) -> Result<(), Memory> {
-    out.push_str("failed")?;
     Ok(())
 }
 
@@ -80,8 +95,12 @@ fn push_script(
     counts: &[&str],
 ) -> Result<(), Memory> {
     match shelf.script(name) {
-        Ok(mut source) => push_reads(out, &mut source, counts),
-        Err(Failed) => push_failed(out),
+        Ok(mut source) => {
+            let told = push_reads(out, &mut source, counts);
+            drop(source);
+            told
+        }
+        Err(Failed) => push_word(out, "failed"),
     }
 }
 
@@ -92,8 +111,12 @@ fn push_reply(
     pieces: &[&str],
 ) -> Result<(), Memory> {
     match shelf.reply(name) {
-        Ok(mut sink) => push_writes(out, &mut sink, pieces),
-        Err(Failed) => push_failed(out),
+        Ok(mut sink) => {
+            let told = push_writes(out, &mut sink, pieces);
+            drop(sink);
+            told
+        }
+        Err(Failed) => push_word(out, "failed"),
     }
 }
 
@@ -104,8 +127,12 @@ fn push_device(
     calls: &[&str],
 ) -> Result<(), Memory> {
     match shelf.device(name) {
-        Ok(mut device) => push_answers(out, &mut device, calls),
-        Err(Failed) => push_failed(out),
+        Ok(mut device) => {
+            let told = push_answers(out, &mut device, calls);
+            drop(device);
+            told
+        }
+        Err(Failed) => push_word(out, "failed"),
     }
 }
 
@@ -121,27 +148,27 @@ fn push_opened(out: &mut String, shelf: &mut MemShelf, words: &[&str]) -> Result
 }
 
 fn push_line(out: &mut String, shelf: &mut MemShelf, call: &str) -> Result<(), Memory> {
-    let words: Vec<&str> = call.split_whitespace().collect(*out.allocator())?;
-    push_call(out, call)?;
-    push_opened(out, shelf, words.as_slice())?;
-    out.push('\n')?;
-    Ok(())
+    let words = words_of(*out.allocator(), call)?;
+    let told = push_opened(out, shelf, words.as_slice());
+    drop(words);
+    told?;
+    push_word(out, "\n")
 }
 
 fn push_lines(out: &mut String, shelf: &mut MemShelf, calls: &[&str]) -> Result<(), Memory> {
     for call in calls {
+        push_call(out, call)?;
         push_line(out, shelf, call)?;
     }
-    writeln!(
-        out,
-        "{} failed, {} without memory",
-        shelf.faults(),
-        shelf.wants()
-    )?;
-    Ok(())
+    push_faults(out, shelf.faults(), shelf.wants())
 }
 
 /// Adds what a shelf of three files answers to calls.
 pub(crate) fn push_shelf(out: &mut String, fails: List<u64>, calls: &[&str]) -> Result<(), Memory> {
-    push_lines(out, &mut shelf(*out.allocator(), fails)?, calls)
+    let files = files(*out.allocator())?;
+    let replies = replies(*out.allocator())?;
+    let mut shelf = MemShelf::new(files, replies, fails);
+    let told = push_lines(out, &mut shelf, calls);
+    drop(shelf);
+    told
 }

@@ -3,13 +3,19 @@
 use afl_in_memory::{MemSink, MemSource, SureSink, SureSource};
 use afl_outside::{Failed, Sink, Source};
 use cell_values::{Bytes, List, Memory};
-use test_kit::push_text;
+use test_kit::{push_count, push_quoted, push_text, push_word, push_words};
 
 /// Adds the call that an answer belongs to.
 pub(crate) fn push_call(out: &mut String, call: &str) -> Result<(), Memory> {
-    out.push_str(call.trim())?;
-    out.push_str(": ")?;
-    Ok(())
+    push_words(out, &[call.trim(), ": "])
+}
+
+/// Adds how often calls failed, and how often there was no memory for one.
+pub(crate) fn push_faults(out: &mut String, faults: u64, wants: u64) -> Result<(), Memory> {
+    push_count(out, faults)?;
+    push_word(out, " failed, ")?;
+    push_count(out, wants)?;
+    push_word(out, " without memory\n")
 }
 
 /// Adds what a read of so many bytes gives, eight at most.
@@ -21,10 +27,9 @@ pub(crate) fn push_read<S: Source>(
     let mut piece = [0u8; 8];
     let count = count.trim().parse::<usize>().unwrap_or(0).min(8);
     match source.read(&mut piece[..count]) {
-        Ok(given) => push_text(out, &piece[..given])?,
-        Err(Failed) => out.push_str("failed")?,
+        Ok(given) => push_text(out, &piece[..given]),
+        Err(Failed) => push_word(out, "failed"),
     }
-    Ok(())
 }
 
 /// Adds how many bytes of a piece a sink takes.
@@ -34,50 +39,55 @@ pub(crate) fn push_write<S: Sink>(
     bytes: &str,
 ) -> Result<(), Memory> {
     match sink.write(bytes.trim().as_bytes()) {
-        Ok(taken) => write!(out, "{taken} taken")?,
-        Err(Failed) => out.push_str("failed")?,
+        Ok(taken) => {
+            push_count(out, taken as u64)?;
+            push_word(out, " taken")
+        }
+        Err(Failed) => push_word(out, "failed"),
     }
-    Ok(())
 }
 
-fn push_reads<S: Source>(out: &mut String, source: &mut S, calls: &[&str]) -> Result<(), Memory> {
-    for call in calls {
-        push_call(out, call)?;
-        push_read(out, source, call.trim().strip_prefix("read").unwrap_or(""))?;
-        out.push('\n')?;
-    }
-    writeln!(out, "{} failed", source.faults())?;
-    Ok(())
+fn push_read_line<S: Source>(out: &mut String, source: &mut S, call: &str) -> Result<(), Memory> {
+    push_call(out, call)?;
+    push_read(out, source, call.trim().strip_prefix("read").unwrap_or(""))?;
+    push_word(out, "\n")
 }
 
-fn push_writes<S: Sink>(out: &mut String, sink: &mut S, calls: &[&str]) -> Result<(), Memory> {
+/// Adds what a source answers to calls.
+pub(crate) fn push_reads<S: Source>(
+    out: &mut String,
+    source: &mut S,
+    calls: &[&str],
+) -> Result<(), Memory> {
     for call in calls {
-        push_call(out, call)?;
-        push_write(out, sink, call.trim().strip_prefix("write").unwrap_or(""))?;
-        out.push('\n')?;
+        push_read_line(out, source, call)?;
     }
-    writeln!(
-        out,
-        "{} failed, {} without memory",
-        sink.faults(),
-        sink.wants()
-    )?;
-    Ok(())
+    push_count(out, source.faults())?;
+    push_word(out, " failed\n")
+}
+
+fn push_write_line<S: Sink>(out: &mut String, sink: &mut S, call: &str) -> Result<(), Memory> {
+    push_call(out, call)?;
+    push_write(out, sink, call.trim().strip_prefix("write").unwrap_or(""))?;
+    push_word(out, "\n")
+}
+
+/// Adds what a sink answers to calls.
+pub(crate) fn push_writes<S: Sink>(
+    out: &mut String,
+    sink: &mut S,
+    calls: &[&str],
+) -> Result<(), Memory> {
+    for call in calls {
+        push_write_line(out, sink, call)?;
+    }
+    push_faults(out, sink.faults(), sink.wants())
 }
 
 /// Adds the bytes that a sink holds.
 pub(crate) fn push_held(out: &mut String, bytes: &[u8]) -> Result<(), Memory> {
-    out.push_str("holds '")?;
-    push_text(out, bytes)?;
-    out.push('\'')?;
-    Ok(())
-}
-
-/// Adds a line that tells the bytes that a sink holds.
-fn push_held_line(out: &mut String, bytes: &[u8]) -> Result<(), Memory> {
-    push_held(out, bytes)?;
-    out.push('\n')?;
-    Ok(())
+    push_word(out, "holds ")?;
+    push_quoted(out, bytes)
 }
 
 /// Adds what a source in memory answers to calls.
@@ -103,7 +113,8 @@ pub(crate) fn push_sure_source(
 
 fn push_sink_calls(out: &mut String, sink: &mut MemSink, calls: &[&str]) -> Result<(), Memory> {
     push_writes(out, sink, calls)?;
-    push_held_line(out, sink.bytes())
+    push_held(out, sink.bytes())?;
+    push_word(out, "\n")
 }
 
 /// Adds what a sink in memory answers to calls, and what it holds.
@@ -119,7 +130,8 @@ pub(crate) fn push_sink(
 
 fn push_sure_calls(out: &mut String, sink: &mut SureSink, calls: &[&str]) -> Result<(), Memory> {
     push_writes(out, sink, calls)?;
-    push_held_line(out, sink.bytes())
+    push_held(out, sink.bytes())?;
+    push_word(out, "\n")
 }
 
 /// Adds what a sink that never fails answers to calls, and what it holds.

@@ -8,9 +8,8 @@ use crate::calls::{push_one, push_two};
 use crate::coordinates::{push_bounds, push_box, push_broken, push_order, push_row, push_same};
 use crate::lists::Lists;
 use cell_values::{Bytes, Code, Memory, Name};
-use std::alloc::AllocError;
 use std::str::from_utf8;
-use test_kit::{push_text, text_of};
+use test_kit::{push_count, push_text, push_word, text_of, words_of};
 
 /// Adds the name that a text is.
 fn push_name(out: &mut String, text: &str) -> Result<(), Memory> {
@@ -18,17 +17,20 @@ fn push_name(out: &mut String, text: &str) -> Result<(), Memory> {
         Some(name) => {
             let told = push_text(out, name.as_slice());
             drop(name);
-            Ok(told?)
+            told
         }
-        None => Ok(out.push_str("no name")?),
+        None => push_word(out, "no name"),
     }
 }
 
 /// Adds the code of a number.
-fn push_code(out: &mut String, digits: &str) -> Result<(), AllocError> {
+fn push_code(out: &mut String, digits: &str) -> Result<(), Memory> {
     match Code::new(digits.parse::<u8>().unwrap_or(0)) {
-        Some(code) => write!(out, "code {}", code.number()),
-        None => out.push_str("no code"),
+        Some(code) => {
+            push_word(out, "code ")?;
+            push_count(out, u64::from(code.number()))
+        }
+        None => push_word(out, "no code"),
     }
 }
 
@@ -36,7 +38,7 @@ fn push_code(out: &mut String, digits: &str) -> Result<(), AllocError> {
 fn push_with_one(out: &mut String, word: &str, operand: &str) -> Result<(), Memory> {
     match word {
         "name" => push_name(out, operand),
-        "code" => Ok(push_code(out, operand)?),
+        "code" => push_code(out, operand),
         op => push_one(out, op, operand),
     }
 }
@@ -46,8 +48,8 @@ fn push_with_two(out: &mut String, word: &str, a: &str, b: &str) -> Result<(), M
     match word {
         "bounds" => push_bounds(out, a, b),
         "broken" => push_broken(out, a, b),
-        "order" => Ok(push_order(out, a, b)?),
-        "same" => Ok(push_same(out, a, b)?),
+        "order" => push_order(out, a, b),
+        "same" => push_same(out, a, b),
         one => push_two(out, one, a, b),
     }
 }
@@ -58,7 +60,7 @@ fn push_call(out: &mut String, words: &[&str]) -> Result<(), Memory> {
         [word] => push_with_one(out, word, ""),
         [word, a] => push_with_one(out, word, a),
         [word, a, b] => push_with_two(out, word, a, b),
-        [_, lo, hi, at] => Ok(push_box(out, lo, hi, at)?),
+        [_, lo, hi, at] => push_box(out, lo, hi, at),
         _ => Ok(()),
     }
 }
@@ -74,7 +76,7 @@ fn push_words(out: &mut String, lists: &mut Lists, words: &[&str]) -> Result<(),
 
 /// Adds the answer to a text.
 fn push_text_answer(out: &mut String, lists: &mut Lists, text: &str) -> Result<(), Memory> {
-    let words: Vec<&str> = text.split_whitespace().collect(*out.allocator())?;
+    let words = words_of(*out.allocator(), text)?;
     let told = push_words(out, lists, words.as_slice());
     drop(words);
     told
@@ -90,5 +92,5 @@ pub(crate) fn push_value_line(
     let told = push_text_answer(out, lists, from_utf8(text.as_slice()).unwrap_or(""));
     drop(text);
     told?;
-    Ok(out.push('\n')?)
+    push_word(out, "\n")
 }

@@ -1,14 +1,14 @@
 use Rattle.event_core.proofs.Runs.{step_allowed, step_core}
-use Rattle.test_catalogs.proofs.steps.tell_steps.Goals as goal
+use Rattle.test_catalogs.proofs.steps.push_steps.Goals as goal
 
-pub tell_entry-requires : goal.tell_entry-requires
-tell_entry-requires g c =
+pub push_entry-requires : goal.push_entry-requires
+push_entry-requires c =
     step_allowed c.args.base.now c.loop-entry.core c.args.entries.now c.loop-entry.entry-index c.entry-item.result c.loop-entry-test.true c.entry-item.is c.loop-entry.invariant c.requires.allowed
 
 pub step-requires-clause-allowed : goal.step-requires-clause-allowed
-step-requires-clause-allowed g c =
+step-requires-clause-allowed c =
     step_allowed c.args.base.now c.loop-entry.core c.args.entries.now c.loop-entry.entry-index c.entry-item.result c.loop-entry-test.true c.entry-item.is c.loop-entry.invariant c.requires.allowed
 
 pub loop-entry-preserved : goal.loop-entry-preserved
-loop-entry-preserved g c =
+loop-entry-preserved c =
     step_core c.args.base.now c.loop-entry.core c.args.entries.now c.loop-entry.entry-index c.entry-item.result c.loop-entry-test.true c.entry-item.is c.loop-entry.invariant _ c.in_ok-core-2.ensures.after

@@ -1,5 +1,0 @@
-use Rattle.array_geom.proofs.ExampleLaws.{valid_example}
-use Rattle.test_values.proofs.places.push_chunks.Goals as goal
-
-pub chunks_meeting-requires : goal.chunks_meeting-requires
-chunks_meeting-requires c = valid_example c.in_ok-schema.schema c.in_ok-schema.ensures

@@ -1,0 +1,78 @@
+//! Real streams and files.
+//!
+//! `sink said`, `source said` and `disk page` open a reply, a script and a device of that name; the calls stand behind, each behind
+//! a `|`. `shelf` is answered by how many of them could not be opened.
+
+use crate::disks::push_answers;
+use crate::streams::{push_faults, push_reads, push_writes};
+use afl_outside::{Disk, Failed, Shelf};
+use cell_values::Memory;
+use test_kit::push_word;
+
+fn push_source<S: Shelf>(
+    out: &mut String,
+    shelf: &mut S,
+    name: &str,
+    calls: &[&str],
+) -> Result<(), Memory> {
+    match shelf.script(name) {
+        Ok(mut source) => {
+            let told = push_reads(out, &mut source, calls);
+            drop(source);
+            told
+        }
+        Err(Failed) => push_word(out, "failed\n"),
+    }
+}
+
+fn push_sink<S: Shelf>(
+    out: &mut String,
+    shelf: &mut S,
+    name: &str,
+    calls: &[&str],
+) -> Result<(), Memory> {
+    match shelf.reply(name) {
+        Ok(mut sink) => {
+            let told = push_writes(out, &mut sink, calls);
+            drop(sink);
+            told
+        }
+        Err(Failed) => push_word(out, "failed\n"),
+    }
+}
+
+fn push_calls<D: Disk>(out: &mut String, disk: &mut D, calls: &[&str]) -> Result<(), Memory> {
+    push_answers(out, disk, calls)?;
+    push_faults(out, disk.faults(), disk.wants())
+}
+
+fn push_disk<S: Shelf>(
+    out: &mut String,
+    shelf: &mut S,
+    name: &str,
+    calls: &[&str],
+) -> Result<(), Memory> {
+    match shelf.device(name) {
+        Ok(mut disk) => {
+            let told = push_calls(out, &mut disk, calls);
+            drop(disk);
+            told
+        }
+        Err(Failed) => push_word(out, "failed\n"),
+    }
+}
+
+/// Adds what the stream or file of a shelf answers to calls.
+pub(crate) fn push_real<S: Shelf>(
+    out: &mut String,
+    shelf: &mut S,
+    object: &[&str],
+    calls: &[&str],
+) -> Result<(), Memory> {
+    match object {
+        ["source", name] => push_source(out, shelf, name, calls),
+        ["sink", name] => push_sink(out, shelf, name, calls),
+        ["disk", name] => push_disk(out, shelf, name, calls),
+        _ => push_faults(out, shelf.faults(), shelf.wants()),
+    }
+}
