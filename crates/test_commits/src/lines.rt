@@ -190,7 +190,7 @@ pub(crate) fn tell_store(
     match run_over(rt.alloc(), bench) {
         Ok(mut run) => {
             let next = tell_run(rt, bench, &mut run, lines, from, line);
-            drop(run);
+            run.let_go();
             next
         }
         Err(answer) => {

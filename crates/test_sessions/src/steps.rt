@@ -18,7 +18,7 @@ use test_shared::{
     Answer, Run, SilentDisk, Step, Store, answer_to, finished, opened_over, push_tally, reaped,
     shared_by_three, with_change,
 };
-use test_stores::Answer as StoreAnswer;
+use test_stores::{Answer as StoreAnswer, let_go_entries};
 
 /// The array A at version 1: its first chunk has cells, and its second one has none.
 const FIRST: &str = "store(filter(build(<v:int64>[i=0:3,2,0], i), i < 2), A)";
@@ -119,7 +119,9 @@ fn tell_end(rt: &(impl Print + AllocGlobal), store: Store<SilentDisk>) -> Result
     let (disk, entries) = store.close();
     drop(disk);
     let mut out = String::new(rt.alloc());
-    push_tally(&mut out, entries.as_slice(), 3)?;
+    let told = push_tally(&mut out, entries.as_slice(), 3);
+    let_go_entries(entries);
+    told?;
     print!(rt; "> finish\n{out}")?;
     Ok(())
 }

@@ -7,6 +7,7 @@ mod streams;
 
 use crate::reports::{report_of, tell_replies};
 use afl_outside::OpenGate;
+use afl_run::let_go_report;
 use anyhow::Result;
 use std::sync::Wait;
 use std::thread::Threads;
@@ -25,7 +26,7 @@ fn tell_script(
     drop(script);
     let report = report_of(rt, "try", shelf?, &OpenGate)?;
     let told = tell_replies(rt, &report);
-    drop(report);
+    let_go_report(report);
     told
 }
 

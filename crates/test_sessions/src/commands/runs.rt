@@ -4,7 +4,7 @@ use crate::commands::files::{database_of, device_of, empty_script};
 use crate::reports::{file_behind, report_of, tell, tell_replies};
 use afl_in_memory::MemShelf;
 use afl_outside::OpenGate;
-use afl_run::Report;
+use afl_run::{Report, let_go_report};
 use anyhow::Result;
 use cell_values::{Bytes, Memory};
 use std::sync::Wait;
@@ -19,7 +19,7 @@ fn tell_over(
 ) -> Result<()> {
     let report = report_of(rt, line, shelf, &OpenGate)?;
     let told = tell(rt, &report);
-    drop(report);
+    let_go_report(report);
     told
 }
 
@@ -71,6 +71,6 @@ pub(crate) fn tell_script(
     drop(script);
     let report = report?;
     let told = tell_replies(rt, &report);
-    drop(report);
+    let_go_report(report);
     told
 }

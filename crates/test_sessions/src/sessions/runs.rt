@@ -5,7 +5,7 @@ use crate::sessions::order::Ordered;
 use crate::sessions::scripts::script_of;
 use afl_in_memory::{MemFile, MemShelf};
 use afl_outside::OpenGate;
-use afl_run::{Report, SessionEnd};
+use afl_run::{Report, SessionEnd, let_go_report};
 use anyhow::Result;
 use cell_values::{Bytes, List, Memory};
 use std::alloc::{AllocError, Global};
@@ -129,7 +129,7 @@ fn tell_after<R: Print + AllocGlobal + Threads + Wait + Sync>(
     let shelf = shelf_of(rt.alloc(), file, &[script])?;
     let report = report_of(rt, "run db 0", shelf, &OpenGate)?;
     let told = tell_texts(rt, &report);
-    drop(report);
+    let_go_report(report);
     told
 }
 
@@ -143,7 +143,7 @@ fn tell_beside<R: Print + AllocGlobal + Threads + Wait + Clock + Sync>(
     let report = report_of(rt, line, shelf, gate)?;
     let told = tell_report(rt, &report, gate.is_kept());
     let left = file_left(rt.alloc(), &report);
-    drop(report);
+    let_go_report(report);
     match told {
         Ok(()) => Ok(left?),
         Err(cause) => {
