@@ -10,6 +10,6 @@ mod standard;
 mod top;
 
 pub use command_words::Arg;
-pub use report::Report;
+pub use report::{Report, let_go_report};
 pub use session_reports::{Mark, Notice, Refusal, SessionEnd, SessionReport, notice_line};
 pub use top::run;

@@ -28,6 +28,11 @@ pub struct Report<F: Shelf> {
     pub shelf: F,
 }
 
+/// Lets a report go. That its entries can be let go is proved here once, and not again in each program.
+pub fn let_go_report<F: Shelf + Drop>(report: Report<F>) {
+    drop(report);
+}
+
 /// A report of a run in which no session ran.
 pub(crate) fn unrun<F: Shelf>(
     alloc: Global,

@@ -6,7 +6,7 @@ mod words;
 
 use afl_host::HostShelf;
 use afl_outside::OpenGate;
-use afl_run::{Notice, notice_line, run};
+use afl_run::{Notice, let_go_report, notice_line, run};
 use help::own_answer;
 use std::alloc::Global;
 use std::io::{Eprint, Print};
@@ -48,5 +48,7 @@ fn main(rt: HostRuntime) -> ExitCode {
     }
     let report = run(&rt, alloc, &words, HostShelf::new(rt), &OpenGate);
     print_notice(&rt, alloc, &report.notice);
-    ExitCode::from(report.status)
+    let status = report.status;
+    let_go_report(report);
+    ExitCode::from(status)
 }

@@ -12,7 +12,9 @@ use afl_outside::Disk;
 use cell_values::List;
 use event_core::Entry;
 use logical_plan::Names;
+use prepared_commits::{let_go_catalog, let_go_doubt, let_go_table};
 use std::marker::Model;
+use std::snapshot::Snapshot;
 use store_ledger::Ledger;
 use store_opening::{Event, StoreParts};
 use turn_lock::History;
@@ -58,6 +60,16 @@ impl<D: Disk> History for Store<D> {
     fn count(&self) -> u64 {
         self.parts.ledger.entries().len() as u64 + self.parts.ledger.notes().len() as u64
     }
+}
+
+/// Lets go what was seen. It may be anything, so that nothing of a store has to be let go for it.
+fn let_go_seen<T>(seen: Snapshot<T>) {
+    drop(seen);
+}
+
+/// Lets all that go that was seen.
+fn let_go_all_seen<T>(seen: Vec<Snapshot<T>>) {
+    drop(seen);
 }
 
 /// Entries and notes are those of a ledger.
@@ -126,16 +138,18 @@ impl<D: Disk> Store<D> {
             catalog,
             table,
             doubt,
-            opened: _,
-            first: _,
+            opened,
+            first,
             acked,
             made,
         } = self.parts;
-        drop(catalog);
-        drop(table);
-        drop(doubt);
-        drop(acked);
-        drop(made);
+        let_go_catalog(catalog);
+        let_go_table(table);
+        let_go_doubt(doubt);
+        let_go_seen(opened);
+        let_go_seen(first);
+        let_go_all_seen(acked);
+        let_go_all_seen(made);
         (file.close(), ledger.into_entries())
     }
 }

@@ -1,7 +1,12 @@
 //! A commit with all memory that it needs, and what it is prepared for.
 
 mod fault;
+mod letting;
 mod prepared;
 
 pub use fault::PrepareFault;
+pub use letting::{
+    let_go_catalog, let_go_changed, let_go_doubt, let_go_pages, let_go_table, let_go_version,
+    let_go_written,
+};
 pub use prepared::{NewBase, Prepared};

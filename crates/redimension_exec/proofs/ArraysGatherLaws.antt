@@ -121,7 +121,7 @@ pub gathered_breaks : (source target : Schema) (gs : List Aggregate) (rows : Lis
 gathered_breaks source target gs rows broken land = ap (if_whole (λ all. in_order (gathered_of target.attributes gs all))) (sym land)
 
 pub land_of : (source target : Schema) (gs named_by asked : List Aggregate) (rows : List Row) (found : Result (Result Groups Broken) Memory) → asked ≡ named_by → named_by ≡ ordered target.attributes gs
-    → IfOk found (AreGroupsLanded asked (map (origin_of source) target.dimensions) (bounds_of target.dimensions) rows) → IfOk found (AreLanded source target gs rows)
+    → IfOk found (AreGroupsLanded asked (map (origin_of source) target.dimensions) (bounds_of target.dimensions) rows) → IfOk found (λ some. AreLanded source target gs rows some)
 land_of source target gs named_by asked rows found same by are =
     subst (λ (those : List Aggregate). IfOk found (AreGroupsLanded those (map (origin_of source) target.dimensions) (bounds_of target.dimensions) rows)) (same ∙ by) are
 
@@ -130,7 +130,7 @@ few_in rows groups fewer few = omega (arith, fewer, few)
 
 -- what is told of the groups that were found
 module _ (source target : Schema) (gs : List Aggregate) (rows : List Row) (are : AreRowsOf source rows) (valid : IsValid target) (typed : Gathers source target gs) where
-  pub told_values : (found : Result (Result Groups Broken) Memory) (made : Result (Result (List Row) Broken) Memory) → IfOk found (AreLanded source target gs rows) → IfOk made (AreRowsTold found)
+  pub told_values : (found : Result (Result Groups Broken) Memory) (made : Result (Result (List Row) Broken) Memory) → IfOk found (λ some. AreLanded source target gs rows some) → IfOk made (AreRowsTold found)
       → IfOk made (λ some. some ≡ made_of source target gs rows)
   told_values found (Err memory) land tell = tt
   told_values (Ok (Ok groups)) (Ok (Ok told)) land tell = gathered_values source target gs rows groups told are valid typed land tell
@@ -139,7 +139,7 @@ module _ (source target : Schema) (gs : List Aggregate) (rows : List Row) (are :
   told_values (Ok (Err broken)) (Ok (Ok told)) land tell = absurd tell
   told_values (Err memory) (Ok some) land tell = absurd tell
 
-  pub told_are : (found : Result (Result Groups Broken) Memory) (made : Result (Result (List Row) Broken) Memory) → IfOk found (AreLanded source target gs rows)
+  pub told_are : (found : Result (Result Groups Broken) Memory) (made : Result (Result (List Row) Broken) Memory) → IfOk found (λ some. AreLanded source target gs rows some)
       → IfOk found (λ some. IfOk some (λ groups. cells_in groups.groups ≤ length rows)) → length rows < 2 ^ 63 → IfOk made (AreRowsTold found) → IfOk made (λ some. IfOk some (AreRowsOf target))
   told_are found (Err memory) land cells few tell = tt
   told_are (Ok (Ok groups)) (Ok (Ok told)) land cells few tell = gathered_are source target gs rows groups told are valid typed land tell (few_in rows groups cells few)

@@ -68,12 +68,18 @@ impl<D: Disk> HeldSource<D> {
             alloc: _,
             session: _,
             turn,
-            lent: _,
+            lent,
             marks,
         } = self;
+        let_go_lent(lent);
         drop(marks);
         turn
     }
+}
+
+/// Lets go what a source was made with. It may be anything, so that nothing of a store has to be let go for it.
+fn let_go_lent<T>(lent: Snapshot<T>) {
+    drop(lent);
 }
 
 impl<D: Disk> ChunkSource for HeldSource<D> {

@@ -1,5 +1,5 @@
 //! How a store is shared.
-ghost use Rattle.std.specs.Prelude.{◌≡◌, ◌+◌, ◌≤◌, [], length, IfOk, IfErr, vec_capacity};
+ghost use Rattle.std.specs.Prelude.{◌≡◌, ◌+◌, ◌≤◌, ◌<◌, [], length, remove, slice_get, IfOk, IfErr, Some, vec_capacity};
 ghost use Rattle.turn_lock.specs.Seats.{AreNewSeats as AreNewTurnSeats};
 ghost use Rattle.snapshot_manager.specs.Seats.{first_store, seats_in_all, AreNewSeats};
 
@@ -9,7 +9,7 @@ use afl_outside::Disk;
 use cell_values::{List, Memory};
 use std::alloc::Global;
 use told_stores::{Store, let_go_all};
-use turn_lock::{Bell, TurnLock, TurnSeat};
+use turn_lock::{Bell, LockSeat, TurnLock, TurnSeat};
 
 impl<D: Disk> Shared<D> {
     /// Shares a store in which nothing was done yet among so many sessions, 1 to 16. The seats are theirs in order, and the last one is
@@ -60,12 +60,21 @@ impl<D: Disk> Shared<D> {
     {
         let count = turn_seats.len();
         for _ in 0..count {
-            let turn_seat = turn_seats.remove(0);
+            let turn_seat = take_first(&mut turn_seats);
             room.push_reserved(first_seat(turn_seat));
         }
         let_go_all(turn_seats);
         List::from_vec(room)
     }
+}
+
+/// Takes the first seat out. It may be one of any value, so that nothing of a store has to be let go for it.
+fn take_first<V, E>(seats: &mut List<LockSeat<V, E>>) -> LockSeat<V, E>
+    requires { 0 < length seats.old }
+    ensures item { slice_get seats.old 0 ≡ Some result }
+    ensures rest { seats.new ≡ remove seats.old 0 }
+{
+    seats.remove(0)
 }
 
 /// The seat of a session that has done nothing yet.

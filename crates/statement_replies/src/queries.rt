@@ -29,7 +29,7 @@ use array_geom::ChunkedArray;
 use cell_values::{Broken, Bytes, Memory, copy_coord};
 use check_rules::TypeFault;
 use chunk_source::{ChunkSource, ExecFault};
-use logical_plan::{Names, Plan};
+use logical_plan::{Names, Plan, let_go};
 use plan_rows::{PlanArray, array_of};
 use result_print::Refusal;
 use std::alloc::Global;
@@ -68,7 +68,7 @@ pub fn reply_to_query<S: ChunkSource, R: Threads + Sync, G: Gate>(
     match query_plan(alloc, tree, text, names) {
         Ok(plan) => {
             let answer = answer_query(rt, alloc, &plan, source, style, workers, session, gate);
-            drop(plan);
+            let_go(plan);
             answer
         }
         Err(TypeFault::Rule { span, kind }) => Ok(refuse(alloc, Refusal::Typing { span, kind })?),

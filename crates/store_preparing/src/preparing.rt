@@ -22,9 +22,10 @@ use afl_outside::Disk;
 use array_geom::Changed;
 use cell_values::Memory;
 use page_file::PageFile;
-use plan_changes::Change;
+use plan_changes::{Change, let_go_change};
 use prepared_commits::{
-    PrepareFault, Prepared, StoreParts, Written, commits_need_what_they_cost, draft, prepared_over,
+    PrepareFault, Prepared, StoreParts, Written, commits_need_what_they_cost, draft,
+    let_go_changed, let_go_written, prepared_over,
 };
 use std::alloc::Global;
 use std::snapshot::Snapshot;
@@ -43,7 +44,7 @@ fn written_of(
         → CanBeListed (length some.schema.dimensions) (draft sequence some))) }
 {
     let written = draft(alloc, &changed, sequence);
-    drop(changed);
+    let_go_changed(changed);
     written
 }
 
@@ -102,8 +103,8 @@ fn prepared_of<D: Disk>(
             )
         }
         Err(Memory) => {
-            drop(change);
-            drop(written);
+            let_go_change(change);
+            let_go_written(written);
             Err(PrepareFault::Memory)
         }
     }
@@ -138,13 +139,13 @@ pub fn prepare<D: Disk>(
         Some(sequence) => match written_of(alloc, changed, sequence) {
             Ok(written) => prepared_of(alloc, parts, session, change, written, sequence),
             Err(Memory) => {
-                drop(change);
+                let_go_change(change);
                 Err(PrepareFault::Memory)
             }
         },
         None => {
-            drop(change);
-            drop(changed);
+            let_go_change(change);
+            let_go_changed(changed);
             Err(PrepareFault::SequenceEnd)
         }
     }

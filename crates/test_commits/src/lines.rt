@@ -218,7 +218,7 @@ pub(crate) fn push_store<R: Threads + Sync>(
     match run_over(*out.allocator(), bench) {
         Ok(mut run) => {
             let next = push_run(rt, out, bench, &mut run, lines, from, line);
-            drop(run);
+            run.let_go();
             next
         }
         Err(answer) => {

@@ -15,7 +15,7 @@ use std::mem::replace;
 use std::thread::Threads;
 use store_ledger::Pinned;
 use test_stores::{
-    Answer, Hold, QuietDisk, Store, cells, changed, leaf_of, once, pinned, unpinned,
+    Answer, Hold, QuietDisk, Store, cells, changed, leaf_of, let_go_store, once, pinned, unpinned,
 };
 
 /// A store, and what two sessions have of it.
@@ -47,6 +47,18 @@ impl Run {
             first: Hold::Free,
             second: Hold::Free,
         }
+    }
+
+    /// Lets it go.
+    pub(crate) fn let_go(self) {
+        let Run {
+            store,
+            first,
+            second,
+        } = self;
+        let_go_store(store);
+        drop(first);
+        drop(second);
     }
 }
 

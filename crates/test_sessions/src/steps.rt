@@ -17,7 +17,7 @@ use test_shared::{
     Answer, Run, SilentDisk, Step, Store, answer_to, finished, opened_over, push_tally, reaped,
     shared_by_three, with_change,
 };
-use test_stores::Answer as StoreAnswer;
+use test_stores::{Answer as StoreAnswer, let_go_entries};
 
 /// The array A at version 1: its first chunk has cells, and its second one has none.
 const FIRST: &str = "store(filter(build(<v:int64>[i=0:3,2,0], i), i < 2), A)";
@@ -136,7 +136,7 @@ fn push_end(out: &mut String, store: Store<SilentDisk>) -> Result<(), Memory> {
     drop(disk);
     let begun = push_word(out, "> finish\n");
     let told = push_tally(out, entries.as_slice(), 3);
-    drop(entries);
+    let_go_entries(entries);
     begun?;
     Ok(told?)
 }

@@ -7,6 +7,7 @@ mod streams;
 
 use crate::reports::{push_replies, report_of};
 use afl_outside::OpenGate;
+use afl_run::let_go_report;
 use cell_values::Memory;
 use std::sync::Wait;
 use std::thread::Threads;
@@ -27,7 +28,7 @@ fn push_script<R: AllocGlobal + Threads + Wait + Sync>(
     drop(script);
     let report = report_of(rt, "try", shelf?, &OpenGate)?;
     let told = push_replies(out, &report);
-    drop(report);
+    let_go_report(report);
     told
 }
 

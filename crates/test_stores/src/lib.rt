@@ -9,6 +9,6 @@ pub use array_store::Store;
 pub use disks::{QuietDisk, Watch, push_costs};
 pub use readings::{add_rows, cells, held_in, leaf_of, push_answered, whole};
 pub use stores::{
-    Answer, Hold, Offer, Refused, changed, offer_over, once, opened, pinned, reaped, statement,
-    unpinned,
+    Answer, Hold, Offer, Refused, changed, let_go_entries, let_go_store, offer_over, once, opened,
+    pinned, reaped, statement, unpinned,
 };

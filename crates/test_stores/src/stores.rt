@@ -13,6 +13,6 @@ pub use answers::Answer;
 pub use changes::{Offer, offer_over};
 pub use commits::{changed, once};
 pub use holds::Hold;
-pub use opening::opened;
+pub use opening::{let_go_entries, let_go_store, opened};
 pub use pins::{pinned, reaped, unpinned};
 pub use statements::{Refused, statement};

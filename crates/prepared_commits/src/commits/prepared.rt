@@ -1,7 +1,9 @@
 //! Prepared commits.
 
+use crate::commits::{let_go_catalog, let_go_pages, let_go_version};
 use cell_values::List;
 use commit_writes::Placed;
+use plan_changes::let_go_change;
 use store_state::ReadyCommit;
 use store_versions::ReadyVersion;
 use version_catalog::Catalog;
@@ -41,10 +43,9 @@ impl Prepared {
             commit,
             version,
         } = self;
-        drop(blobs);
-        drop(chain);
-        drop(catalog);
-        drop(commit);
-        drop(version);
+        let_go_pages(blobs, chain);
+        let_go_catalog(catalog);
+        let_go_change(commit.into_change());
+        let_go_version(version);
     }
 }

@@ -12,7 +12,9 @@ ghost use Rattle.prepared_commits.specs.Needs.{needs_by};
 ghost use Rattle.prepared_commits.specs.Layouts.{IsLayout};
 ghost use Rattle.prepared_commits.specs.Parts.{IsFullFor, IsLeft, IsPreparedAs, IsReadyAs, free_pages, newest_at};
 
-use crate::commits::{NewBase, PrepareFault, Prepared};
+use crate::commits::{
+    NewBase, PrepareFault, Prepared, let_go_catalog, let_go_pages, let_go_written,
+};
 use crate::parts::Layout;
 use crate::parts::counting::{needed_over, newest_at};
 use crate::parts::laying::layout_over;
@@ -23,7 +25,7 @@ use chunk_map::Directory;
 use commit_writes::Placed;
 use event_core::Used;
 use page_slots::Target;
-use plan_changes::Change;
+use plan_changes::{Change, let_go_change};
 use std::alloc::Global;
 use store_ledger::{Ledger, ReadyCommit};
 use store_state::{Laid, Written};
@@ -31,7 +33,6 @@ use store_versions::{ReadyVersion, VersionTable};
 use version_catalog::Catalog;
 
 /// What is written, and the next catalogue.
-#[derive(Drop)]
 struct Parts {
     blobs: List<Placed>,
     chain: Placed,
@@ -70,6 +71,18 @@ fn assembled(
         commit,
         version,
     }
+}
+
+/// Lets the parts go.
+fn let_go_parts(parts: Parts) {
+    let Parts {
+        blobs,
+        chain,
+        catalog,
+        base: _,
+    } = parts;
+    let_go_pages(blobs, chain);
+    let_go_catalog(catalog);
 }
 
 /// What is laid, in the parts that go their own ways.
@@ -118,7 +131,7 @@ fn prepared_by(
     match ready_both(ledger, table, change, directory, used) {
         Ok((commit, version)) => Ok(assembled(session, parts, commit, version)),
         Err(Memory) => {
-            drop(parts);
+            let_go_parts(parts);
             Err(Memory)
         }
     }
@@ -149,7 +162,7 @@ fn laid_over(
 {
     // A file has no more pages than 32 bits count.
     if needed > u64::from(u32::MAX) {
-        drop(written);
+        let_go_written(written);
         return Err(Memory);
     }
     let newest = newest_at(table, ledger.names(), place, change);
@@ -196,7 +209,7 @@ fn made_over(
     ) {
         Ok(layout) => prepared_by(ledger, table, session, change, layout),
         Err(Memory) => {
-            drop(change);
+            let_go_change(change);
             Err(Memory)
         }
     }
@@ -238,8 +251,8 @@ fn roomed_over(
             Err(Memory) => Err(PrepareFault::Memory),
         },
         Err(fault) => {
-            drop(change);
-            drop(written);
+            let_go_change(change);
+            let_go_written(written);
             Err(fault)
         }
     }
@@ -303,8 +316,8 @@ pub fn prepared_over(
             needed,
         ),
         Err(Memory) => {
-            drop(change);
-            drop(written);
+            let_go_change(change);
+            let_go_written(written);
             Err(PrepareFault::Memory)
         }
     }

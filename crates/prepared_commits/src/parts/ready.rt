@@ -8,11 +8,12 @@ ghost use Rattle.event_core.specs.Replay.{core_at};
 ghost use Rattle.store_ledger.specs.Ledger.{history};
 ghost use Rattle.store_versions.specs.Rows.{IsReadyFor};
 
+use crate::commits::let_go_version;
 use cell_values::Memory;
 use chunk_map::Directory;
 use event_core::Used;
 use logical_plan::Names;
-use plan_changes::{Change, changed_name, next_of};
+use plan_changes::{Change, changed_name, let_go_change, next_of};
 use store_ledger::{Ledger, ReadyCommit};
 use store_versions::{ReadyVersion, VersionTable};
 
@@ -55,12 +56,12 @@ pub(crate) fn ready_both(
         Ok(version) => match ledger.ready(change, used) {
             Ok(commit) => Ok((commit, version)),
             Err(Memory) => {
-                drop(version);
+                let_go_version(version);
                 Err(Memory)
             }
         },
         Err(Memory) => {
-            drop(change);
+            let_go_change(change);
             drop(used);
             Err(Memory)
         }

@@ -11,7 +11,8 @@ ghost use Rattle.store_versions.specs.Rows.{IsReadyFor, directory_in, needed_row
 ghost use Rattle.store_sealing.specs.Inner.Ends.{held_of, held_sealed, noted_if};
 
 use plan_changes::Change;
-use prepared_commits::Prepared;
+use prepared_commits::{Prepared, let_go_catalog, let_go_doubt, let_go_pages};
+use std::mem::replace;
 use std::snapshot::Snapshot;
 use store_ledger::{Ledger, ReadyCommit};
 use store_versions::{ReadyVersion, VersionTable};
@@ -34,6 +35,13 @@ fn keep_version(made: &mut Vec<Snapshot<Option<ReadyVersion>>>, version: &Option
         ≡ map (λ ready. directory_in ready.value) made.old.items ++ directory_in version.now ∷ [] }
 {
     made.push_reserved(Snapshot::of(version));
+}
+
+/// Puts the next catalogue in the place of the one before.
+fn put_catalog(catalog: &mut Catalog, next: Catalog)
+    ensures { catalog.new ≡ next }
+{
+    let_go_catalog(replace(catalog, next));
 }
 
 /// The entry of a commit, with its version in the table. The answer is the entry's place.
@@ -91,10 +99,9 @@ pub(crate) fn settle(
         commit,
         version,
     } = prepared;
-    drop(blobs);
-    drop(chain);
-    *catalog = next;
-    drop(doubt.take());
+    let_go_pages(blobs, chain);
+    put_catalog(catalog, next);
+    let_go_doubt(doubt.take());
     keep_version(made, &version);
     let place = enter(ledger, table, session, commit, version);
     note_if(ledger, session, rose);

@@ -7,8 +7,8 @@ ghost use Rattle.store_sealing.specs.Inner.Ends.{noted_if};
 
 use crate::sealing::settling::note_if;
 use commit_writes::Stopped;
-use plan_changes::Change;
-use prepared_commits::Prepared;
+use plan_changes::{Change, let_go_change};
+use prepared_commits::{Prepared, let_go_catalog, let_go_doubt, let_go_pages, let_go_version};
 use store_ledger::Ledger;
 
 /// The change in doubt: that of an earlier commit, none, or this one.
@@ -16,12 +16,12 @@ fn put_doubt(doubt: &mut Option<Change>, change: Change, stage: Stopped)
     ensures { doubt.new ≡ doubt_after stage doubt.old change }
 {
     match stage {
-        Stopped::Closing => drop(change),
+        Stopped::Closing => let_go_change(change),
         Stopped::Filling => {
-            drop(change);
-            drop(doubt.take());
+            let_go_change(change);
+            let_go_doubt(doubt.take());
         }
-        Stopped::Opening => drop(doubt.replace(change)),
+        Stopped::Opening => let_go_doubt(doubt.replace(change)),
     }
 }
 
@@ -38,10 +38,9 @@ fn change_of(prepared: Prepared) -> Change
         commit,
         version,
     } = prepared;
-    drop(blobs);
-    drop(chain);
-    drop(catalog);
-    drop(version);
+    let_go_pages(blobs, chain);
+    let_go_catalog(catalog);
+    let_go_version(version);
     commit.into_change()
 }
 

@@ -4,7 +4,7 @@ use crate::commands::files::{database_of, device_of, empty_script};
 use crate::reports::{file_behind, push_replies, push_report, report_of};
 use afl_in_memory::MemShelf;
 use afl_outside::OpenGate;
-use afl_run::Report;
+use afl_run::{Report, let_go_report};
 use cell_values::{Bytes, Memory};
 use std::sync::Wait;
 use std::thread::Threads;
@@ -19,7 +19,7 @@ fn push_over<R: AllocGlobal + Threads + Wait + Sync>(
 ) -> Result<(), Memory> {
     let report = report_of(rt, line, shelf, &OpenGate)?;
     let told = push_report(out, &report);
-    drop(report);
+    let_go_report(report);
     told
 }
 
@@ -74,6 +74,6 @@ pub(crate) fn push_script<R: AllocGlobal + Threads + Wait + Sync>(
     drop(script);
     let report = report?;
     let told = push_replies(out, &report);
-    drop(report);
+    let_go_report(report);
     told
 }

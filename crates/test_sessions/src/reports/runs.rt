@@ -3,7 +3,7 @@
 use crate::reports::files::file_left;
 use afl_in_memory::MemShelf;
 use afl_outside::{Gate, OpenGate};
-use afl_run::{Arg, Report, run};
+use afl_run::{Arg, Report, let_go_report, run};
 use cell_values::{Bytes, Memory};
 use std::alloc::{AllocError, Global};
 use std::sync::Wait;
@@ -46,6 +46,6 @@ pub(crate) fn file_behind<R: AllocGlobal + Threads + Wait + Sync>(
 ) -> Result<Bytes, Memory> {
     let report = report_of(rt, line, shelf, &OpenGate)?;
     let left = file_left(rt.alloc(), &report);
-    drop(report);
+    let_go_report(report);
     left
 }

@@ -8,7 +8,7 @@ use std::thread::Threads;
 use store_opening::Limits;
 use test_files::made;
 use test_shared::{SilentDisk, Store, opened_over, push_tally, stored_by_two, with_change};
-use test_stores::{Answer, whole};
+use test_stores::{Answer, let_go_entries, let_go_store, whole};
 
 fn held_in(alloc: Global, store: &mut Store<SilentDisk>) -> Answer
     requires { HasNoPins store.old.ledger }
@@ -24,7 +24,7 @@ fn push_held(out: &mut String, disk: SilentDisk, limits: Limits) -> Result<(), M
     match opened_over(*out.allocator(), disk, limits) {
         Ok(mut store) => {
             let held = held_in(*out.allocator(), &mut store);
-            drop(store);
+            let_go_store(store);
             held.push(out)
         }
         Err(cause) => Answer::Unopened(cause).push(out),
@@ -35,7 +35,7 @@ fn push_held(out: &mut String, disk: SilentDisk, limits: Limits) -> Result<(), M
 fn push_store(out: &mut String, store: Store<SilentDisk>, limits: Limits) -> Result<(), Memory> {
     let (disk, entries) = store.close();
     let told = push_tally(out, entries.as_slice(), 2);
-    drop(entries);
+    let_go_entries(entries);
     match told {
         Ok(()) => push_held(out, disk, limits),
         Err(AllocError) => {

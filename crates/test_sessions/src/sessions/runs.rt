@@ -5,7 +5,7 @@ use crate::sessions::order::Ordered;
 use crate::sessions::scripts::script_of;
 use afl_in_memory::{MemFile, MemShelf};
 use afl_outside::OpenGate;
-use afl_run::{Report, SessionEnd};
+use afl_run::{Report, SessionEnd, let_go_report};
 use cell_values::{Bytes, List, Memory};
 use std::alloc::{AllocError, Global};
 use std::sync::Wait;
@@ -142,7 +142,7 @@ fn push_after<R: AllocGlobal + Threads + Wait + Sync>(
     let shelf = shelf_of(rt.alloc(), file, &[script])?;
     let report = report_of(rt, "run db 0", shelf, &OpenGate)?;
     let told = push_texts(out, &report);
-    drop(report);
+    let_go_report(report);
     told
 }
 
@@ -157,7 +157,7 @@ fn push_beside<R: AllocGlobal + Threads + Wait + Clock + Sync>(
     let report = report_of(rt, line, shelf, gate)?;
     let told = push_report(out, &report, gate.is_kept());
     let left = file_left(rt.alloc(), &report);
-    drop(report);
+    let_go_report(report);
     match told {
         Ok(()) => left,
         Err(Memory) => {

@@ -13,7 +13,7 @@ use snapshot_manager::{Seat, Shared};
 use std::alloc::Global;
 use std::sync::Wait;
 use std::thread::Threads;
-use test_stores::{Answer as StoreAnswer, Store};
+use test_stores::{Answer as StoreAnswer, Store, let_go_store};
 
 /// A store that three sessions share.
 pub struct Run {
@@ -94,14 +94,14 @@ pub fn shared_by_three(alloc: Global, store: Store<SilentDisk>) -> Result<Run, M
     ensures { IfOk result IsRun }
 {
     let Ok(room) = Vec::with_capacity(alloc, 4) else {
-        drop(store);
+        let_go_store(store);
         return Err(Memory);
     };
     match Shared::new(alloc, store, 3) {
         Ok((shared, seats)) => Ok(seated(shared, seats, room)),
         Err((Memory, store)) => {
             drop(room);
-            drop(store);
+            let_go_store(store);
             Err(Memory)
         }
     }

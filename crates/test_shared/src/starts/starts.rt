@@ -9,7 +9,7 @@ use std::alloc::Global;
 use std::thread::Threads;
 use store_opening::Limits;
 use test_files::disk_of;
-use test_stores::{QuietDisk, Store, once, opened};
+use test_stores::{QuietDisk, Store, let_go_store, once, opened};
 
 /// How much the store may use that makes a database.
 const LIMITS: Limits = Limits {
@@ -29,7 +29,7 @@ pub fn with_change<R: Threads + Sync>(
         Ok(mut store) => {
             let answer = once(rt, alloc, &mut store, 0, change.as_bytes());
             drop(answer);
-            drop(store);
+            let_go_store(store);
             watch.bytes()
         }
         Err(_) => Err(Memory),

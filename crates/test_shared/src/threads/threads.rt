@@ -12,6 +12,7 @@ use std::snapshot::Snapshot;
 use std::sync::Wait;
 use std::thread;
 use std::thread::{Promise, Threads};
+use test_stores::let_go_store;
 use turn_lock::Ring;
 
 /// The name of the array that a session stores.
@@ -104,9 +105,20 @@ fn keep<D: Disk, R: Wait>(rt: &R, shared: &Shared<D>, mut seat: Seat<D>) -> Seat
 }
 
 /// The seat that the reaper gives back is one of this store, and has no turn.
-#[derive(Drop)]
 struct SeatBack<D: Disk> {
     shared: Snapshot<Shared<D>>,
+}
+
+impl<D: Disk> Drop for SeatBack<D> {
+    fn drop(self) {
+        let SeatBack { shared } = self;
+        let_go_seen(shared);
+    }
+}
+
+/// Lets go what was seen. It may be anything, so that nothing of a store has to be let go for it.
+fn let_go_seen<T>(seen: Snapshot<T>) {
+    drop(seen);
 }
 
 impl<D: Disk> Promise<Seat<D>> for SeatBack<D> {
@@ -198,14 +210,14 @@ pub fn stored_by_two<D: Disk + Send + Drop, R: Threads + Wait + Sync>(
     requires untold { (D.moment store.opened.value.disk).state.honest ≡ false }
 {
     let Ok(room) = Vec::with_capacity(alloc, 3) else {
-        drop(store);
+        let_go_store(store);
         return Err(Memory);
     };
     match Shared::new(alloc, store, 2) {
         Ok((shared, seats)) => Ok(stored_by(rt, alloc, shared, seats, room, count)),
         Err((Memory, store)) => {
             drop(room);
-            drop(store);
+            let_go_store(store);
             Err(Memory)
         }
     }

@@ -3,7 +3,7 @@ ghost use Rattle.test_stores.specs.Holds.{HasNoPins};
 
 use crate::disks::QuietDisk;
 use crate::readings::versions::whole;
-use crate::stores::{Answer, once, opened};
+use crate::stores::{Answer, let_go_store, once, opened};
 use array_store::Store;
 use cell_values::{Bytes, Memory};
 use std::alloc::Global;
@@ -21,7 +21,7 @@ fn answered<R: Threads + Sync>(
     match opened(alloc, disk, limits) {
         Ok(mut store) => {
             let answer = once(rt, alloc, &mut store, 0, change);
-            drop(store);
+            let_go_store(store);
             answer
         }
         Err(cause) => Answer::Unopened(cause),
@@ -57,7 +57,7 @@ pub fn held_in(alloc: Global, disk: QuietDisk, limits: Limits) -> Result<Option<
     match opened(alloc, disk, limits) {
         Ok(mut store) => {
             let text = read_whole(alloc, &mut store);
-            drop(store);
+            let_go_store(store);
             text
         }
         Err(_) => Ok(None),

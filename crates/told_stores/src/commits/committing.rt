@@ -21,8 +21,8 @@ use crate::commits::fault::CommitFault;
 use afl_outside::Disk;
 use array_geom::Changed;
 use array_store::{Store, commits_need_what_they_cost};
-use plan_changes::Change;
-use prepared_commits::{PrepareFault, Prepared};
+use plan_changes::{Change, let_go_change};
+use prepared_commits::{PrepareFault, Prepared, let_go_changed};
 use std::alloc::Global;
 
 /// Commits a change under a session's pin, with the chunks that it writes. It is the first that is tried under the pin. The answer is the
@@ -58,8 +58,8 @@ pub fn commit<D: Disk>(
 
 /// Lets a change go that isn't committed, with the chunks that it writes.
 pub fn give_up(change: Change, changed: Option<Changed>) {
-    drop(change);
-    drop(changed);
+    let_go_change(change);
+    let_go_changed(changed);
 }
 
 /// Why a commit wasn't prepared, with the number of entries.

@@ -6,8 +6,8 @@ use Rattle.array_geom.proofs.TestLaws.{and_parts}
 use Rattle.exec_group.proofs.CornerLaws.{has_all}
 use Rattle.exec_group.proofs.parts.columns.is_whole.Goals as goal
 
-pub overflow_sub-place : goal.overflow_sub-place
-overflow_sub-place c =
+pub overflow_sub-count : goal.overflow_sub-count
+overflow_sub-count c =
     let positive : 0 < volume c.args.grid.now.lengths.items = some c.args.grid.now.lengths.items c.requires.lengths in
     omega (arith, positive, c.volume-count.ensures)
 

@@ -5,10 +5,10 @@ use Rattle.snapshot_manager.proofs.shared.Shared.seated.Goals as goal
 pub loop-preserved : goal.loop-preserved
 loop-preserved g c =
     let i = c.loop.invariant in
-    let at = first_of_rest c.args.turn_seats c.loop.turn_seats c.loop.counter c.remove-turn_seat.result i.seats c.remove-turn_seat.ensures.item in record {
-      seats = less_one c.args.turn_seats c.loop.turn_seats c.remove-turn_seat.new.self c.loop.counter i.seats c.remove-turn_seat.ensures.rest;
+    let at = first_of_rest c.args.turn_seats c.loop.turn_seats c.loop.counter c.take_first-turn_seat.result i.seats c.take_first-turn_seat.ensures.item in record {
+      seats = less_one c.args.turn_seats c.loop.turn_seats c.take_first-turn_seat.new.seats c.loop.counter i.seats c.take_first-turn_seat.ensures.rest;
       count = search rules;
       room = search rules;
-      made = seated_more c.args.self.now c.args.turn_seats c.loop.room.items c.push_reserved.new.self.items c.loop.counter c.remove-turn_seat.result c.requires.seats at i.count i.made
+      made = seated_more c.args.self.now c.args.turn_seats c.loop.room.items c.push_reserved.new.self.items c.loop.counter c.take_first-turn_seat.result c.requires.seats at i.count i.made
           (c.push_reserved.ensures.items ∙ ap (λ seat. c.loop.room.items ++ seat ∷ []) c.first_seat.ensures);
     }
