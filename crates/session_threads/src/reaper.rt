@@ -37,10 +37,22 @@ fn keep<D: Disk, R: Wait>(rt: &R, shared: &Shared<D>, mut seat: Seat<D>) -> Seat
 }
 
 /// The seat that the reaper gives back is that of the same session, and has done nothing but reap.
-#[derive(Drop)]
 struct SeatBack<D: Disk> {
     shared: Snapshot<Shared<D>>,
     seat: Snapshot<Seat<D>>,
+}
+
+impl<D: Disk> Drop for SeatBack<D> {
+    fn drop(self) {
+        let SeatBack { shared, seat } = self;
+        let_go_seen(shared);
+        let_go_seen(seat);
+    }
+}
+
+/// Lets go what was seen. It may be anything, so that nothing of a store has to be let go for it.
+fn let_go_seen<T>(seen: Snapshot<T>) {
+    drop(seen);
 }
 
 impl<D: Disk> Promise<Seat<D>> for SeatBack<D> {
