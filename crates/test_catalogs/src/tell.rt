@@ -26,27 +26,22 @@ pub(crate) fn push_numbers(
     push_word(out, "\n")
 }
 
-/// Adds a name between two words, a number and a comma.
-fn push_named(
-    out: &mut String,
-    before: &str,
-    name: &[u8],
-    behind: &str,
-    number: u32,
-) -> Result<(), Memory> {
-    push_words(out, &[before, from_utf8(name).unwrap_or("no text"), behind])?;
+/// Adds a name behind a word.
+fn push_named(out: &mut String, word: &str, name: &[u8]) -> Result<(), Memory> {
+    push_word(out, word)?;
+    push_word(out, from_utf8(name).unwrap_or("no text"))
+}
+
+/// Adds a number between a word and a comma.
+fn push_behind(out: &mut String, word: &str, number: u32) -> Result<(), Memory> {
+    push_word(out, word)?;
     push_count(out, u64::from(number))?;
     push_word(out, ", ")
 }
 
 fn push_array(out: &mut String, array: &NameEntry) -> Result<(), Memory> {
-    push_named(
-        out,
-        "  array ",
-        array.name.as_slice(),
-        ", next ",
-        array.next,
-    )?;
+    push_named(out, "  array ", array.name.as_slice())?;
+    push_behind(out, ", next ", array.next)?;
     push_numbers(out, "versions", &array.versions)
 }
 
@@ -58,13 +53,8 @@ pub(crate) fn push_names(out: &mut String, names: &Names) -> Result<(), Memory> 
 }
 
 fn push_version(out: &mut String, version: &VersionPages) -> Result<(), Memory> {
-    push_named(
-        out,
-        "  version ",
-        version.name.as_slice(),
-        "@",
-        version.version,
-    )?;
+    push_named(out, "  version ", version.name.as_slice())?;
+    push_behind(out, "@", version.version)?;
     push_numbers(out, "pages", &version.pages)
 }
 
