@@ -1,6 +1,6 @@
 pub use Rattle.fresh_changes.specs.Fresh
-pub use Rattle.store_preparing.specs.Left
-pub use Rattle.store_preparing.specs.Parts
+pub use Rattle.store_sealing.specs.Left
+pub use Rattle.store_sealing.specs.Parts
 pub use Rattle.store_sealing.specs.Steps
 pub mod Growth
 pub mod Kept

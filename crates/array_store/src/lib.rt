@@ -16,4 +16,4 @@ pub use laws::events_grow;
 pub use start::{FirstVersion, Start};
 pub use store::Store;
 pub use store_opening::Limits;
-pub use store_preparing::commits_need_what_they_cost;
+pub use store_sealing::commits_need_what_they_cost;

@@ -7,7 +7,7 @@ ghost use Rattle.store_opening.specs.At.{keeping, standing};
 ghost use Rattle.store_opening.specs.Standings.{base_of};
 ghost use Rattle.prepared_commits.specs.Needs.{needs};
 ghost use Rattle.prepared_commits.specs.Prepared.{IsAsked, IsPreparedFor};
-ghost use Rattle.store_preparing.specs.Left.{FitsIn, HasNext, IsLeft, reaped_if, tried_now};
+ghost use Rattle.store_sealing.specs.Left.{FitsIn, HasNext, IsLeft, reaped_if, tried_now};
 ghost use Rattle.array_store.specs.Growth.{AddsEvents, tried_events};
 
 use crate::Store;
@@ -17,7 +17,7 @@ use array_geom::Changed;
 use plan_changes::Change;
 use prepared_commits::{PrepareFault, Prepared};
 use std::alloc::Global;
-use store_preparing::prepare;
+use store_sealing::prepare;
 
 impl<D: Disk> Store<D> {
     /// A commit under a session's pin, with all memory that it needs, before anything of it is written. It is the first that is tried under

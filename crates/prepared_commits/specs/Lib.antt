@@ -3,10 +3,10 @@ pub use Rattle.commit_pages.specs.Commits
 pub use Rattle.commit_pages.specs.Versions
 pub use Rattle.commit_pages.specs.declared.laid.Laid
 pub use Rattle.commit_pages.specs.declared.written.Written
-pub use Rattle.laid_commits.specs.CostsLaws
 pub use Rattle.store_state.specs.At
 pub use Rattle.store_state.specs.Calls
 pub use Rattle.store_state.specs.Cells
+pub use Rattle.store_state.specs.CostsLaws
 pub use Rattle.store_state.specs.Events
 pub use Rattle.store_state.specs.Inner.Keeping
 pub use Rattle.store_state.specs.Inner.Sights
@@ -14,9 +14,9 @@ pub use Rattle.store_state.specs.Kept
 pub use Rattle.store_state.specs.Payloads
 pub use Rattle.store_state.specs.Standings
 pub use Rattle.store_state.specs.Worked
-pub use Rattle.store_state.specs.declared.event.Event
-pub use Rattle.store_state.specs.declared.fault.ReadFault
-pub use Rattle.store_state.specs.declared.parts.StoreParts
+pub use Rattle.store_state.specs.declared.state.event.Event
+pub use Rattle.store_state.specs.declared.state.fault.ReadFault
+pub use Rattle.store_state.specs.declared.state.parts.StoreParts
 pub mod Layouts
 pub mod Needs
 pub mod Parts

@@ -26,7 +26,7 @@ use Rattle.statement_replies.specs.Reply.{traced}
 use Rattle.statement_replies.specs.StatementKinds.{IsAccepted}
 use Rattle.statement_replies.specs.Statements.{Accepted, change_text, text_alone}
 use Rattle.statement_replies.specs.Traces.{IsTracedIn, askings_by, change_askings_over, change_lines, change_lines_over, newest_leaf, read_by}
-use Rattle.statement_replies.specs.declared.style.Style.{Style}
+use Rattle.statement_replies.specs.declared.replies.style.Style.{Style}
 
 -- ---- lines that are wanted, or not
 

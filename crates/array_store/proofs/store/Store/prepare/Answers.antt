@@ -6,7 +6,7 @@ use Rattle.store_opening.specs.At.{keeping, standing}
 use Rattle.store_opening.specs.Standings.{base_of, with_entries}
 use Rattle.prepared_commits.specs.Needs.{needs}
 use Rattle.prepared_commits.specs.Prepared.{IsAsked}
-use Rattle.store_preparing.specs.Left.{FitsIn, HasNext, IsLeft, reaped_if, tried_now}
+use Rattle.store_sealing.specs.Left.{FitsIn, HasNext, IsLeft, reaped_if, tried_now}
 use Rattle.array_store.specs.Growth.{AddsEvents, tried_events}
 use Rattle.array_store.proofs.Added.{is_counted}
 use Rattle.array_store.proofs.Tried.{left_adds}
