@@ -3,9 +3,9 @@ use Rattle.std.proofs.Common.{[], ◌∷◌, Some, refl}
 use Rattle.array_rows.specs.Arrays.{AreRowsOf}
 use Rattle.event_core.specs.Cells.{at}
 use Rattle.fresh_changes.specs.FreshLaws.{AreLeft}
-use Rattle.commit_costs.specs.Inner.Examples.{cell_at, insert_at, schema, stored}
+use Rattle.commit_pages.specs.Inner.Examples.{cell_at, insert_at, schema, stored}
 use Rattle.commit_pages.specs.Inner.Example.{changed as the_chunk}
-use Rattle.commit_pages.proofs.Worked.{laid}
+use Rattle.commit_pages.proofs.PagesWorked.{laid}
 use Rattle.prepared_commits.specs.Prepared.{MayBeMade}
 use Rattle.fresh_changes.specs.Laws.{AFreshInsertMayBeMade, a_new_array, a_pin}
 use Rattle.fresh_changes.proofs.Made.{may_be_made}

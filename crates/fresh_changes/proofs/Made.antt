@@ -26,7 +26,7 @@ use Rattle.fresh_changes.specs.Left.{IsLeft}
 use Rattle.fresh_changes.specs.FreshLaws.{AreLeft}
 use Rattle.fresh_changes.proofs.Left.{plans_stay}
 use Rattle.fresh_changes.proofs.Fresh.{changes_mean_the_same}
-use Rattle.commit_costs.specs.Lengths.{meets}
+use Rattle.commit_pages.specs.Lengths.{meets}
 use Rattle.commit_pages.specs.Changes.{IsChangeOf, is_written}
 use Rattle.fresh_changes.specs.Laws.{FreshChangesMayBeMade}
 

@@ -8,7 +8,7 @@ use Rattle.event_core.specs.declared.entry.Entry.TheVariants.{Commit, Pin}
 use Rattle.event_core.specs.Cells.{at}
 use Rattle.event_core.specs.History.{History}
 use Rattle.fresh_changes.specs.FreshLaws.{AreLeft}
-use Rattle.commit_costs.specs.Inner.Examples.{insert_at, schema, stored}
+use Rattle.commit_pages.specs.Inner.Examples.{insert_at, schema, stored}
 use Rattle.commit_pages.specs.Inner.Example.{changed as the_chunk}
 use Rattle.prepared_commits.specs.Prepared.{MayBeMade}
 

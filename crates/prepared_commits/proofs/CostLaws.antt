@@ -24,7 +24,7 @@ use Rattle.event_core.specs.Cells.{at}
 use Rattle.event_core.specs.History.{History, names_at}
 use Rattle.file_meaning.specs.declared.meaning.found.Found.{Found}
 use Rattle.store_state.specs.Premises.{StandsBy, row_of}
-use Rattle.commit_costs.specs.Costs.{cost_from, has_log_room}
+use Rattle.commit_pages.specs.Costs.{cost_from, has_log_room}
 use Rattle.commit_pages.specs.Changes.{ComesWith}
 use Rattle.commit_pages.specs.Versions.{draft_of}
 use Rattle.commit_pages.specs.Laws.{IsOver, RecordsCostTheirPages, BasesCostTheirPages}

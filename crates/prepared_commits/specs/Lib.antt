@@ -1,8 +1,8 @@
 pub use Rattle.commit_pages.specs.Changes
 pub use Rattle.commit_pages.specs.Commits
 pub use Rattle.commit_pages.specs.Versions
-pub use Rattle.commit_pages.specs.declared.laid.Laid
-pub use Rattle.commit_pages.specs.declared.written.Written
+pub use Rattle.commit_pages.specs.declared.pages.laid.Laid
+pub use Rattle.commit_pages.specs.declared.pages.written.Written
 pub use Rattle.store_state.specs.At
 pub use Rattle.store_state.specs.Calls
 pub use Rattle.store_state.specs.Cells

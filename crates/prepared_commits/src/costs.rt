@@ -5,7 +5,7 @@ ghost use Rattle.array_geom.specs.declared.chunk.Changed.{Changed};
 ghost use Rattle.plan_changes.specs.declared.change.Change.{Change};
 ghost use Rattle.plan_changes.specs.Databases.{Database};
 ghost use Rattle.event_core.specs.Cells.{at};
-ghost use Rattle.commit_costs.specs.Costs.{cost_from};
+ghost use Rattle.commit_pages.specs.Costs.{cost_from};
 ghost use Rattle.store_ledger.specs.Ledger.{history};
 ghost use Rattle.store_state.specs.At.{IsAt};
 ghost use Rattle.store_state.specs.Standings.{Standing, BeganAs, base_of};

@@ -26,7 +26,7 @@ use Rattle.lean_core.proofs.Cells.{names_are_of_the_database}
 use Rattle.file_meaning.specs.Opening.{found_in, pages_of, sequence_of}
 use Rattle.file_meaning.specs.Standing.{HoldsDatabase}
 use Rattle.file_meaning.specs.Premises.{StandsBy, row_of}
-use Rattle.commit_costs.specs.Costs.{cost_from}
+use Rattle.commit_pages.specs.Costs.{cost_from}
 use Rattle.store_state.specs.Laid.{Laid}
 use Rattle.store_state.specs.Changes.{ComesWith}
 use Rattle.store_state.specs.Commits.{base_laid, base_needs, record_laid, record_needs}

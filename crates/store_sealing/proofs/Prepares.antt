@@ -30,7 +30,7 @@ use Rattle.event_core.specs.Pages.{free_at, fresh_at}
 use Rattle.event_core.specs.Ready.{IsReadyOver, ReadyFor}
 use Rattle.event_core.specs.Replay.{core_at}
 use Rattle.lean_core.proofs.Legal.{ordered_is_allowed}
-use Rattle.commit_costs.specs.Costs.{cost_from}
+use Rattle.commit_pages.specs.Costs.{cost_from}
 use Rattle.prepared_commits.specs.Laid.{Laid}
 use Rattle.prepared_commits.specs.Written.{Written}
 use Rattle.prepared_commits.specs.Changes.{AreValid, ComesWith}

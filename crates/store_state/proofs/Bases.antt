@@ -20,7 +20,7 @@ use Rattle.file_meaning.specs.Next.{Made, with_base}
 use Rattle.file_meaning.specs.NextLaws.{BasesMakeNext, FreePagesTurn}
 use Rattle.file_meaning.specs.Premises.{StandsBy, HasChain, HoldsBase, root_at, slots_of}
 use Rattle.commit_writes.specs.Commits.{base_pages, HoldsAll, root_of}
-use Rattle.commit_pages.specs.declared.laid.Laid.{Laid}
+use Rattle.commit_pages.specs.declared.pages.laid.Laid.{Laid}
 use Rattle.commit_pages.specs.Versions.{draft_of, new_version}
 use Rattle.commit_pages.specs.Commits.{chain_in, catalog_bytes, rest_of, base_needs, base_laid}
 use Rattle.commit_pages.proofs.Chains.{base_fills, version_has_its}

@@ -21,9 +21,9 @@ use Rattle.file_meaning.proofs.FileStored.{is_stored_chunk}
 use Rattle.file_meaning.proofs.WorkedFiles.{found_is, database_is, version_is}
 use Rattle.file_meaning.specs.Inner.NextExample.{found, slots}
 use Rattle.file_meaning.specs.Premises.{StandsBy}
-use Rattle.commit_costs.specs.Costs.{catalog_of}
-use Rattle.commit_costs.specs.Lengths.{AreAlikeCatalogs, meets}
-use Rattle.commit_costs.proofs.Orders.{numbers_listed}
+use Rattle.commit_pages.specs.Costs.{catalog_of}
+use Rattle.commit_pages.specs.Lengths.{AreAlikeCatalogs, meets}
+use Rattle.commit_pages.proofs.Orders.{numbers_listed}
 use Rattle.commit_pages.specs.Changes.{AreValid, IsChangeOf}
 use Rattle.commit_pages.specs.Laws.{IsOfRows, IsOver}
 use Rattle.store_state.specs.LaidPremises.{IsNewestIn}

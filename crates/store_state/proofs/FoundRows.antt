@@ -28,9 +28,9 @@ use Rattle.file_meaning.specs.Standing.{stored_chunk, HoldsPart, HoldsVersion, H
 use Rattle.file_meaning.proofs.Steps.{blamed_ok}
 use Rattle.file_meaning.proofs.Parts.{both_true, pages_there, claimed_there}
 use Rattle.file_meaning.proofs.Elsewhere.{entry_steps, entry_pages, directory_steps, row_steps, rows_steps}
-use Rattle.commit_costs.specs.Costs.{directory_of}
-use Rattle.commit_costs.specs.Lengths.{AreListed, HasItsLength, AreAlike, AreAlikeArrays}
-use Rattle.commit_costs.proofs.Lengths.{directories_are_alike}
+use Rattle.commit_pages.specs.Costs.{directory_of}
+use Rattle.commit_pages.specs.Lengths.{AreListed, HasItsLength, AreAlike, AreAlikeArrays}
+use Rattle.commit_pages.proofs.CountingLengths.{directories_are_alike}
 use Rattle.commit_pages.specs.Laws.{IsOfRows}
 use Rattle.store_state.proofs.CostsBlobs.{blob_size}
 use Rattle.store_state.specs.SizesLaws.{IsListedEntry}

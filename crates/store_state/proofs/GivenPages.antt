@@ -21,7 +21,7 @@ use Rattle.lean_core.proofs.Free.{dead, no_free_page_is_live, not_newest}
 use Rattle.file_meaning.proofs.Apart.{both_all}
 use Rattle.file_meaning.proofs.Parts.{front_all, rest_all}
 use Rattle.commit_writes.specs.Commits.{pages_of}
-use Rattle.commit_pages.specs.declared.written.Written.{Written}
+use Rattle.commit_pages.specs.declared.pages.written.Written.{Written}
 use Rattle.commit_pages.specs.Commits.{chain_in, rest_of, record_bytes, catalog_bytes, record_laid, base_laid}
 use Rattle.commit_pages.specs.Laws.{is_known, IsApart, AreSamePages}
 use Rattle.commit_pages.specs.Versions.{new_version}

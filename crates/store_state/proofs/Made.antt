@@ -30,8 +30,8 @@ use Rattle.file_meaning.specs.Next.{Made, blob_of}
 use Rattle.file_meaning.specs.NextLaws.{HadEntriesAreSeen, LaterEntriesAreUnseen, ReplacingEntriesAreUnseen}
 use Rattle.file_meaning.specs.Premises.{StandsBy, HoldsEntry, IsWritten as IsEarly, HoldsMade, OfVersion, made_pages, row_of, seen_before}
 use Rattle.commit_writes.specs.Commits.{pages_of, HoldsBlobs}
-use Rattle.commit_pages.specs.declared.version.NewVersion.{NewVersion}
-use Rattle.commit_pages.specs.declared.written.Written.{Written}
+use Rattle.commit_pages.specs.declared.pages.version.NewVersion.{NewVersion}
+use Rattle.commit_pages.specs.declared.pages.written.Written.{Written}
 use Rattle.commit_pages.specs.Versions.{blob_count, placed, all_placed, blob_at, draft, draft_of, settled, entries_of, directory_of, directory_bytes, version_in, new_version, version_needs, put_entries, HasRisingNumbers}
 use Rattle.commit_pages.specs.Laws.{IsOver, IsHeld, HoldsNew}
 use Rattle.commit_pages.proofs.Blobs.{length_placed, pages_more}
@@ -39,7 +39,7 @@ use Rattle.commit_pages.proofs.Costs.{map_all, found_has}
 use Rattle.commit_pages.proofs.Directories.{entries_rise, inserts_replace, stores_list_theirs}
 use Rattle.commit_pages.proofs.Drafts.{is_written}
 use Rattle.commit_pages.proofs.Held.{versions_are_held}
-use Rattle.commit_pages.proofs.Lengths.{settled_bytes}
+use Rattle.commit_pages.proofs.PagesLengths.{settled_bytes}
 use Rattle.commit_pages.proofs.Rules.{behind_fit, can_be_listed, version_spelled}
 use Rattle.store_state.specs.LaidPremises.{last_of_row, newest_in, IsCommit, made_by}
 use Rattle.store_state.proofs.LaidNewest.{newest_held}

@@ -29,7 +29,7 @@ use Rattle.file_meaning.specs.Next.{Made, with_record}
 use Rattle.file_meaning.specs.NextLaws.{RecordsMakeNext, FreePagesTurn}
 use Rattle.file_meaning.specs.Premises.{StandsBy, HasChain, HoldsRecord, seen_before, record_at, slots_with}
 use Rattle.commit_writes.specs.Commits.{commit_pages, HoldsAll, record_of}
-use Rattle.commit_pages.specs.declared.laid.Laid.{Laid}
+use Rattle.commit_pages.specs.declared.pages.laid.Laid.{Laid}
 use Rattle.commit_pages.specs.Versions.{draft_of, new_version, IsWritten}
 use Rattle.commit_pages.specs.Changes.{AreValid, ComesWith}
 use Rattle.commit_pages.specs.Commits.{chain_in, spelled, record_bytes, rest_of, record_needs, record_laid}

@@ -5,9 +5,9 @@ use Rattle.chunk_map.specs.declared.directory.Directory.{Directory}
 use Rattle.file_meaning.specs.Changed.{after_change}
 use Rattle.file_meaning.specs.Opening.{all_of, sequence_of}
 use Rattle.file_meaning.specs.Next.{blob_of, with_record, with_base}
-use Rattle.commit_pages.specs.declared.laid.Laid.{Laid}
-use Rattle.commit_pages.specs.declared.version.NewVersion.{NewVersion}
-use Rattle.commit_pages.specs.declared.written.Written.{Written}
+use Rattle.commit_pages.specs.declared.pages.laid.Laid.{Laid}
+use Rattle.commit_pages.specs.declared.pages.version.NewVersion.{NewVersion}
+use Rattle.commit_pages.specs.declared.pages.written.Written.{Written}
 use Rattle.commit_pages.specs.Versions.{draft_of, version_in, new_version}
 use Rattle.commit_pages.specs.Commits.{record_laid, base_laid}
 use Rattle.store_state.specs.LaidLaws.{HasRecordPages, HasBasePages, LaidRecordsHaveTheirPages, LaidBasesHaveTheirPages}

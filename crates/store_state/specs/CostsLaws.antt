@@ -12,8 +12,8 @@ use Rattle.version_catalog.specs.Catalogs.{IsCatalog}
 use Rattle.file_meaning.specs.Slots.{Slots}
 use Rattle.file_meaning.specs.declared.meaning.found.Found.{Found}
 use Rattle.file_meaning.specs.Premises.{StandsBy}
-use Rattle.commit_costs.specs.Costs.{catalog_of}
-use Rattle.commit_costs.specs.Lengths.{AreAlikeCatalogs}
+use Rattle.commit_pages.specs.Costs.{catalog_of}
+use Rattle.commit_pages.specs.Lengths.{AreAlikeCatalogs}
 use Rattle.commit_pages.specs.Changes.{ComesWith, AreValid, IsChangeOf}
 use Rattle.commit_pages.specs.Laws.{IsOfRows, IsOver}
 use Rattle.store_state.specs.LaidPremises.{IsNewestIn, newest_in}

@@ -16,7 +16,7 @@ use Rattle.event_core.specs.Allowed.{IsBase, allows, are_different, is_allowed, 
 use Rattle.event_core.specs.Apart.{makes_version, SharesOwn}
 use Rattle.event_core.specs.History.{History, catalogue_at, names_at, pages_at}
 use Rattle.event_core.specs.Pages.{free_at, fresh_at, is_newest}
-use Rattle.commit_pages.specs.declared.written.Written.{Written}
+use Rattle.commit_pages.specs.declared.pages.written.Written.{Written}
 use Rattle.commit_pages.specs.Commits.{record_needs, base_needs, record_laid, base_laid}
 use Rattle.commit_pages.specs.Versions.{IsWritten}
 

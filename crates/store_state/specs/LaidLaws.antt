@@ -20,7 +20,7 @@ use Rattle.file_meaning.specs.declared.meaning.found.Found.{Found}
 use Rattle.file_meaning.specs.Next.{with_record, with_base}
 use Rattle.file_meaning.specs.Premises.{StandsBy, slots_with, slots_of}
 use Rattle.commit_writes.specs.Commits.{HoldsAll, record_of, root_of, commit_pages, base_pages}
-use Rattle.commit_pages.specs.declared.laid.Laid.{Laid}
+use Rattle.commit_pages.specs.declared.pages.laid.Laid.{Laid}
 use Rattle.commit_pages.specs.Changes.{AreValid}
 use Rattle.commit_pages.specs.Versions.{draft, settled, directory_of}
 use Rattle.store_state.specs.LaidPremises.{IsCommit, IsLaidRecord, IsLaidBase, made_of, pages_made}

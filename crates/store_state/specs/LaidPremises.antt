@@ -17,7 +17,7 @@ use Rattle.file_meaning.specs.Opening.{pages_of, sequence_of, version_pages}
 use Rattle.file_meaning.specs.declared.meaning.found.Found.{Found}
 use Rattle.file_meaning.specs.Next.{Made}
 use Rattle.file_meaning.specs.Premises.{StandsBy, MayChange, row_of}
-use Rattle.commit_pages.specs.declared.laid.Laid.{Laid}
+use Rattle.commit_pages.specs.declared.pages.laid.Laid.{Laid}
 use Rattle.commit_pages.specs.Commits.{record_needs, base_needs, record_laid, base_laid}
 use Rattle.commit_pages.specs.Laws.{IsOver}
 use Rattle.commit_pages.specs.Versions.{draft_of}

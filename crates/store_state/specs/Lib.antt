@@ -2,9 +2,9 @@ pub use Rattle.commit_pages.specs.Changes
 pub use Rattle.commit_pages.specs.Commits
 pub use Rattle.commit_pages.specs.Costs
 pub use Rattle.commit_pages.specs.Versions
-pub use Rattle.commit_pages.specs.declared.laid.Laid
-pub use Rattle.commit_pages.specs.declared.version.NewVersion
-pub use Rattle.commit_pages.specs.declared.written.Written
+pub use Rattle.commit_pages.specs.declared.pages.laid.Laid
+pub use Rattle.commit_pages.specs.declared.pages.version.NewVersion
+pub use Rattle.commit_pages.specs.declared.pages.written.Written
 pub use Rattle.file_meaning.specs.Premises
 pub use Rattle.store_ledger.specs.Ledger
 pub mod At

@@ -11,7 +11,7 @@ use Rattle.event_core.specs.Bases.{sequence_at}
 use Rattle.event_core.specs.Cells.{at}
 use Rattle.event_core.specs.History.{History}
 use Rattle.event_core.specs.Pages.{is_live}
-use Rattle.commit_costs.specs.Costs.{cost_from}
+use Rattle.commit_pages.specs.Costs.{cost_from}
 use Rattle.store_ledger.specs.Ledger.{history, is_fault, is_noted}
 use Rattle.prepared_commits.specs.Standings.{Standing, BeganAs, base_of}
 use Rattle.prepared_commits.specs.declared.commits.fault.PrepareFault.{PrepareFault}

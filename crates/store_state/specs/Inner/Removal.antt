@@ -2,7 +2,7 @@
 use Rattle.std.specs.Prelude.{[], ◌∷◌, None}
 use Rattle.page_slots.specs.Places.{KeepsPages}
 use Rattle.chunk_map.specs.declared.directory.Directory.{Directory}
-use Rattle.commit_pages.specs.declared.laid.Laid.{Laid}
+use Rattle.commit_pages.specs.declared.pages.laid.Laid.{Laid}
 use Rattle.commit_pages.specs.Commits.{base_laid}
 use Rattle.commit_writes.specs.Commits.{base_pages, HoldsAll}
 use Rattle.file_meaning.specs.Inner.FileExample.{database, file}
