@@ -14,7 +14,7 @@ use Rattle.event_core.specs.declared.state.Core.{Core}
 use Rattle.event_core.specs.Cells.{at}
 use Rattle.event_core.specs.History.{History, names_at, up_to}
 use Rattle.lean_core.proofs.Pins.{all_entries_are_the_history}
-use Rattle.fresh_changes.specs.FreshLaws.{AreLeft, SameRoom}
+use Rattle.array_store.specs.FreshLaws.{AreLeft, SameRoom}
 use Rattle.statement_replies.specs.declared.replies.replies.Reply.{Reply as Told}
 use Rattle.statement_replies.specs.Statements.{Accepted}
 use Rattle.statement_replies.specs.declared.replies.style.Style.{Style}

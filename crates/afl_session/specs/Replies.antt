@@ -34,11 +34,11 @@ use Rattle.store_state.specs.declared.state.event.Event.TheVariants.{Noted}
 use Rattle.store_state.specs.Calls.{database_with, history_at, payload_at, IsLeafOf}
 use Rattle.store_state.specs.Payloads.{HasTold, WasDamagedAt}
 use Rattle.store_state.specs.Standings.{base_of, BeganAs}
-use Rattle.told_stores.specs.Start.{Start}
-use Rattle.told_stores.specs.declared.commits.fault.CommitFault.{CommitFault}
-use Rattle.told_stores.specs.declared.commits.fault.CommitFault.TheVariants as faults
-use Rattle.told_stores.specs.Causes.{FitsAfter, IsUncommitted}
-use Rattle.told_stores.specs.Told.{entries_in, ledger_of, told}
+use Rattle.array_store.specs.declared.store.start.Start.{Start}
+use Rattle.array_store.specs.declared.told.commits.fault.CommitFault.{CommitFault}
+use Rattle.array_store.specs.declared.told.commits.fault.CommitFault.TheVariants as faults
+use Rattle.array_store.specs.Causes.{FitsAfter, IsUncommitted}
+use Rattle.array_store.specs.Told.{entries_in, ledger_of, told}
 use Rattle.afl_session.specs.Acts.{Course, nothing, looking, trying, making}
 use Rattle.afl_session.specs.declared.replies.reply.Reply.{Reply}
 

@@ -13,8 +13,8 @@ use Rattle.store_ledger.specs.declared.pinned.Pinned.{Pinned}
 use Rattle.store_ledger.specs.Ledger.{IsOpenPin}
 use Rattle.store_state.specs.declared.state.event.Event.{Event}
 use Rattle.store_state.specs.Calls.{database_with, payload_at}
-use Rattle.told_stores.specs.Start.{Start}
-use Rattle.told_stores.specs.Told.{entries_in, is_sealed, ledger_of, told}
+use Rattle.array_store.specs.declared.store.start.Start.{Start}
+use Rattle.array_store.specs.Told.{entries_in, is_sealed, ledger_of, told}
 use Rattle.afl_session.specs.Acts.{acts_in, Course}
 use Rattle.afl_session.specs.Replies.{names_before, IsToldFor}
 use Rattle.afl_session.specs.declared.replies.reply.Reply.{Reply}

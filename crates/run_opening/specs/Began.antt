@@ -2,7 +2,7 @@
 use Rattle.std.specs.Prelude.{◌≡◌, ℕ, List, map, IfSome}
 use Rattle.afl_outside.specs.Counts.{Rose}
 use Rattle.afl_outside.specs.Disk.{DiskState, Moment}
-use Rattle.array_store.specs.declared.start.Start.{Start}
+use Rattle.array_store.specs.declared.store.start.Start.{Start}
 use Rattle.array_store.specs.Starts.{first_of}
 use Rattle.file_meaning.specs.Opening.{IsWrongAt, Opens}
 use Rattle.file_meaning.specs.declared.meaning.found.Found.{Found}

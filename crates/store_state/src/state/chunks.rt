@@ -17,8 +17,8 @@ ghost use Rattle.store_state.specs.Standings.{database_at, BeganAs};
 ghost use Rattle.store_state.specs.Inner.Sights.{Sees, SeesCells, SeesPayloads};
 ghost use Rattle.store_state.specs.declared.state.fault.ReadFault.TheVariants.{Damaged};
 
-use crate::state::{ReadFault, StoreParts};
 use crate::state::reading::{entry_at, read_entry};
+use crate::state::{ReadFault, StoreParts};
 use afl_outside::{Disk, has_risen};
 use array_geom::Chunk;
 use cell_values::ChunkAt;
