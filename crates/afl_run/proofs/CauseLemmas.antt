@@ -13,12 +13,12 @@ use Rattle.afl_trees.specs.Term.{Term}
 use Rattle.turn_lock.specs.Owners.{is_owned_by}
 use Rattle.result_print.specs.declared.refusal.Refusal.{Refusal}
 use Rattle.result_print.specs.declared.refusal.Refusal.TheVariants as refusals
-use Rattle.statement_replies.specs.declared.replies.Reply.{Reply as Words}
+use Rattle.statement_replies.specs.declared.replies.replies.Reply.{Reply as Words}
 use Rattle.store_ledger.specs.declared.note.Note.{Note}
 use Rattle.store_ledger.specs.declared.note.NoteKind.TheVariants.{Fault}
 use Rattle.store_ledger.specs.Ledger.{IsLedger, is_fault}
-use Rattle.store_state.specs.declared.event.Event.{Event}
-use Rattle.store_state.specs.declared.event.Event.TheVariants.{Entered, Acknowledged, Noted}
+use Rattle.store_state.specs.declared.state.event.Event.{Event}
+use Rattle.store_state.specs.declared.state.event.Event.TheVariants.{Entered, Acknowledged, Noted}
 use Rattle.store_state.specs.Events.{events, owner_of}
 use Rattle.store_state.specs.Inner.Keeping.{AreCounted}
 use Rattle.store_state.specs.Standings.{Standing}
@@ -27,7 +27,7 @@ use Rattle.session_threads.specs.Told.{notes_in}
 use Rattle.session_threads.specs.Acts.{Course, nothing, looking, trying, making}
 use Rattle.session_threads.specs.Replies.{BeganAsNone, HasFault, IsToldFor}
 use Rattle.session_threads.specs.Reply.{Reply}
-use Rattle.run_stores.specs.Start.{Start}
+use Rattle.run_opening.specs.Start.{Start}
 use Rattle.session_reports.specs.Outcomes.{notice_of}
 use Rattle.session_reports.specs.declared.notices.Notice.{Notice}
 use Rattle.session_reports.specs.declared.notices.Notice.TheVariants as notices

@@ -7,9 +7,9 @@ use Rattle.afl_outside.specs.Shelf.{LeavesOthers, ShelfState}
 use Rattle.afl_in_memory.specs.InMemory.{Reading, sure_source_state, unread}
 use Rattle.afl_in_memory.specs.Inner.Records.{SureBytes, sure_disk_moment}
 use Rattle.afl_lexer.specs.Inner.Standing.{StandsAfter}
-use Rattle.run_stores.specs.Starts.{start_of}
-use Rattle.run_stores.specs.Began.{IsOpenedFrom}
-use Rattle.run_stores.specs.declared.closing.StoreRun.{StoreRun}
+use Rattle.run_opening.specs.Starts.{start_of}
+use Rattle.run_opening.specs.Began.{IsOpenedFrom}
+use Rattle.run_opening.specs.declared.stores.closing.StoreRun.{StoreRun}
 use Rattle.run_opening.specs.Names.{standard}
 use Rattle.run_opening.specs.Opened.{FailsFor}
 use Rattle.event_core.specs.declared.entry.Entry.{Entry}

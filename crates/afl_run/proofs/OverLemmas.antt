@@ -7,13 +7,13 @@ use Rattle.afl_outside.specs.Disk.{DiskGoesOn, Moment}
 use Rattle.afl_outside.specs.Source.{SourceState}
 use Rattle.afl_outside.specs.Sink.{SinkState}
 use Rattle.afl_parser.specs.Outcome.{HasTreeOrStop}
-use Rattle.run_stores.specs.Start.{Start}
-use Rattle.run_stores.specs.Starts.{start_of}
+use Rattle.run_opening.specs.Start.{Start}
+use Rattle.run_opening.specs.Starts.{start_of}
 use Rattle.page_chain.proofs.RunLemmas.{goes}
 use Rattle.page_slots.specs.Puts.{OnlySyncs}
 use Rattle.turn_lock.specs.Owners.{AreOwnedBelow, ExtendsByOthers, is_owned_below, none_of}
 use Rattle.store_opening.specs.declared.opening.opening.Limits.{Limits}
-use Rattle.store_state.specs.declared.event.Event.{Event}
+use Rattle.store_state.specs.declared.state.event.Event.{Event}
 use Rattle.store_state.specs.Events.{events, owner_of}
 use Rattle.store_state.specs.Standings.{BeganAs, Standing}
 use Rattle.session_reports.specs.Outcomes.{notice_of}
@@ -23,9 +23,9 @@ use Rattle.session_reports.specs.declared.reports.SessionReport.{SessionReport}
 use Rattle.session_reports.specs.declared.reports.Streams.{Streams}
 use Rattle.session_threads.specs.Sessions.{AreSessionsOf}
 use Rattle.session_threads.specs.Style.{Style}
-use Rattle.run_stores.specs.Began.{BeganOver, TellsUnopened}
-use Rattle.run_stores.specs.Ends.{IsClosed, IsReap}
-use Rattle.run_stores.specs.declared.closing.StoreRun.{StoreRun}
+use Rattle.run_opening.specs.Began.{BeganOver, TellsUnopened}
+use Rattle.run_opening.specs.Ends.{IsClosed, IsReap}
+use Rattle.run_opening.specs.declared.stores.closing.StoreRun.{StoreRun}
 use Rattle.afl_run.specs.Inner.Over.{IsUnrun, LacksMemory, RunsOver, RunsTo}
 use Rattle.afl_run.proofs.CauseLemmas.{rose_for, tells_damage, tells_disk}
 

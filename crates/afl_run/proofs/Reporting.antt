@@ -8,7 +8,7 @@ use Rattle.afl_outside.specs.Sink.{SinkState, IsNewSink}
 use Rattle.afl_outside.specs.Shelf.{ShelfState}
 use Rattle.afl_outside.proofs.Streams.{wrote_all}
 use Rattle.session_threads.specs.Session.{AnswerRule, Serves}
-use Rattle.store_state.specs.declared.event.Event.{Event}
+use Rattle.store_state.specs.declared.state.event.Event.{Event}
 use Rattle.run_opening.specs.Names.{Word, reply_name}
 use Rattle.run_opening.specs.Opened.{IsSinkOf, IsSourceOf}
 use Rattle.session_reports.specs.declared.reports.Mark.{Mark}

@@ -6,7 +6,7 @@ use Rattle.afl_outside.specs.Source.{SourceState}
 use Rattle.afl_outside.specs.Sink.{SinkState}
 use Rattle.afl_outside.specs.Shelf.{ShelfState}
 use Rattle.afl_in_memory.specs.Inner.Records.{SureBytes, sure_disk_moment}
-use Rattle.run_stores.specs.Starts.{start_of}
+use Rattle.run_opening.specs.Starts.{start_of}
 use Rattle.file_meaning.proofs.Made.{made_stands, opened_is}
 use Rattle.file_meaning.specs.Opening.{IsWrongAt}
 use Rattle.page_file.specs.Start.{IsEmptyDatabase}
@@ -15,8 +15,8 @@ use Rattle.store_opening.specs.declared.opening.opening.Limits.{Limits}
 use Rattle.store_state.specs.Standings.{BeganAs, Standing}
 use Rattle.run_opening.specs.Names.{Word, reply_name, standard, stream_names}
 use Rattle.run_opening.specs.Opened.{AreOpenedFor, FailsToOpen, HandsOut, HandsOutSome, IsOpenedFor, IsUnopened, LeavesUnasked, StopsAt}
-use Rattle.run_stores.specs.Began.{BeganOver, IsOpenedFrom, TellsUnopened}
-use Rattle.run_stores.specs.declared.closing.StoreRun.{StoreRun}
+use Rattle.run_opening.specs.Began.{BeganOver, IsOpenedFrom, TellsUnopened}
+use Rattle.run_opening.specs.declared.stores.closing.StoreRun.{StoreRun}
 use Rattle.session_reports.specs.declared.notices.Notice.{Notice}
 use Rattle.session_reports.specs.declared.notices.Notice.TheVariants as notices
 use Rattle.session_reports.specs.Outcomes.{notice_by as told_by, notice_of}

@@ -7,8 +7,8 @@ use Rattle.afl_outside.specs.Disk.{DiskGoesOn, DiskState, IsNewDisk, Moment}
 use Rattle.afl_outside.specs.Source.{IsNewSource, SourceState}
 use Rattle.afl_outside.specs.Sink.{IsNewSink, SinkState}
 use Rattle.afl_outside.specs.Shelf.{LeavesOthers, ShelfState}
-use Rattle.run_stores.specs.Start.{Start}
-use Rattle.run_stores.specs.Starts.{start_of}
+use Rattle.run_opening.specs.Start.{Start}
+use Rattle.run_opening.specs.Starts.{start_of}
 use Rattle.event_core.specs.declared.entry.Entry.{Entry}
 use Rattle.file_meaning.specs.Opening.{IsWrongAt}
 use Rattle.turn_lock.specs.Owners.{AreOwnedBelow}
@@ -18,8 +18,8 @@ use Rattle.store_state.specs.Events.{events, owner_of}
 use Rattle.run_opening.specs.Names.{Word, reply_name, stream_names}
 use Rattle.run_opening.specs.Opened.{AreOpenedFor, FailsToOpen, FailsToOpenDevice, HandsOut, HandsOutSome, IsOpenedFor, IsUnopened, LeavesUnasked, StopsAt}
 use Rattle.run_opening.proofs.OpeningLemmas.{back_all, front_all}
-use Rattle.run_stores.specs.Began.{IsOpenedFrom, TellsUnopened}
-use Rattle.run_stores.specs.declared.closing.StoreRun.{StoreRun}
+use Rattle.run_opening.specs.Began.{IsOpenedFrom, TellsUnopened}
+use Rattle.run_opening.specs.declared.stores.closing.StoreRun.{StoreRun}
 use Rattle.session_reports.proofs.OutcomeLemmas.{is_stream}
 use Rattle.session_reports.specs.Outcomes.{IsFirst}
 use Rattle.session_reports.specs.declared.reports.SessionEnd.TheVariants as ends
@@ -33,7 +33,7 @@ use Rattle.afl_run.specs.OneHistory.{IsOneHistory, IsReportOf}
 use Rattle.afl_run.specs.Printed.{IsOpenedAs, Prints}
 use Rattle.session_threads.proofs.InHistories.{sessions_stay}
 use Rattle.session_threads.specs.Histories.{IsMarkedIn}
-use Rattle.store_state.specs.declared.event.Event.{Event}
+use Rattle.store_state.specs.declared.state.event.Event.{Event}
 use Rattle.afl_run.specs.Run.{AreOfScripts, BeganFrom, HandsOutStreams, IsOfStore, RunsScripts, TellsUnrun}
 use Rattle.afl_run.specs.Inner.Over.{IsUnrun, RunsOver}
 use Rattle.afl_run.specs.Inner.Streams.{IsAsBegun, RunsOn}

@@ -5,14 +5,14 @@ use Rattle.afl_outside.specs.Counts.{Rose}
 use Rattle.afl_outside.specs.Disk.{Moment}
 use Rattle.afl_outside.specs.Source.{SourceState}
 use Rattle.afl_outside.specs.Sink.{SinkState}
-use Rattle.run_stores.specs.Start.{Start}
-use Rattle.run_stores.specs.Starts.{start_of}
+use Rattle.run_opening.specs.Start.{Start}
+use Rattle.run_opening.specs.Starts.{start_of}
 use Rattle.turn_lock.specs.Owners.{AreOwnedBelow, ExtendsByOthers}
 use Rattle.event_core.specs.declared.entry.Entry.{Entry}
 use Rattle.event_core.specs.Legal.{IsOrdered}
 use Rattle.plan_changes.specs.Databases.{Database}
 use Rattle.store_ledger.specs.Ledger.{IsLedger, history as history_of, reap_comes, unused_pages}
-use Rattle.store_state.specs.declared.event.Event.{Event}
+use Rattle.store_state.specs.declared.state.event.Event.{Event}
 use Rattle.store_state.specs.Events.{events, owner_of}
 use Rattle.store_state.specs.Payloads.{HasPayloads, HasTold}
 use Rattle.store_state.specs.Standings.{BeganAs, Standing, given_of}
@@ -24,7 +24,7 @@ use Rattle.session_reports.specs.declared.notices.Notice.TheVariants.{Damaged, D
 use Rattle.session_threads.specs.Histories.{IsMarkedIn}
 use Rattle.session_threads.specs.Marked.{IsMarked}
 use Rattle.session_threads.specs.Style.{Style}
-use Rattle.run_stores.specs.Held.{HoldsHistory}
+use Rattle.run_opening.specs.Held.{HoldsHistory}
 use Rattle.afl_run.specs.Printed.{Prints}
 
 module _ {D S K : Type 0} (moment : D → Moment) (source_state : S → SourceState) (sink_state : K → SinkState) where

@@ -15,8 +15,8 @@ use Rattle.session_reports.specs.Outcomes.{notice_of}
 use Rattle.session_reports.specs.declared.reports.SessionReport.{SessionReport}
 use Rattle.session_reports.specs.declared.notices.Notice.{Notice}
 use Rattle.session_reports.specs.declared.notices.Notice.TheVariants as notices
-use Rattle.run_stores.specs.Began.{IsOpenedFrom}
-use Rattle.run_stores.specs.Starts.{start_of}
+use Rattle.run_opening.specs.Began.{IsOpenedFrom}
+use Rattle.run_opening.specs.Starts.{start_of}
 use Rattle.session_threads.specs.Style.{Style}
 use Rattle.afl_run.specs.Init.{TellsDevice, notice_by}
 use Rattle.afl_run.specs.OneHistory.{IsOneHistory}

@@ -2,7 +2,7 @@
 ghost use Rattle.std.specs.Prelude.{◌≡◌, ◌≤◌, ◌⊎◌, [], All, length};
 ghost use Rattle.afl_lexer.specs.Inner.Standing.{StandsAfter};
 ghost use Rattle.afl_outside.specs.Disk.{DiskGoesOn};
-ghost use Rattle.run_stores.specs.Starts.{start_of};
+ghost use Rattle.run_opening.specs.Starts.{start_of};
 ghost use Rattle.store_state.specs.At.{standing};
 ghost use Rattle.store_state.specs.Standings.{Standing};
 ghost use Rattle.afl_run.specs.Inner.Over.{IsUnrun, LacksMemory, RunsOver, RunsTo};
@@ -10,7 +10,7 @@ ghost use Rattle.afl_run.specs.Inner.Over.{IsUnrun, LacksMemory, RunsOver, RunsT
 use afl_outside::{Disk, Gate, Sink, Source};
 use afl_parser::texts_have_tree_or_stop;
 use cell_values::{List, Memory};
-use run_stores::{Limits, Store, StoreRun, close_store, open_store};
+use run_opening::{Limits, Store, StoreRun, close_store, open_store};
 use session_reports::{Notice, Streams};
 use session_threads::{Options, run_sessions};
 use std::alloc::Global;

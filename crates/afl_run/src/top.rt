@@ -17,7 +17,7 @@ use crate::scripts::run_scripts;
 use crate::standard::run_try;
 use afl_outside::{Gate, Shelf};
 use command_words::{Arg, Form, Printing, form_of};
-use run_stores::Limits;
+use run_opening::Limits;
 use session_reports::Notice;
 use session_threads::{Options, Style};
 use std::alloc::Global;

@@ -8,8 +8,8 @@ use Rattle.store_ledger.specs.declared.note.Note.{Note}
 use Rattle.store_ledger.specs.declared.note.NoteKind.{NoteKind}
 use Rattle.store_ledger.specs.declared.note.NoteKind.TheVariants.{Fault, Tried}
 use Rattle.store_ledger.specs.Ledger.{is_fault, is_noted}
-use Rattle.store_state.specs.declared.event.Event.{Event}
-use Rattle.store_state.specs.declared.event.Event.TheVariants.{Entered, Acknowledged, Noted}
+use Rattle.store_state.specs.declared.state.event.Event.{Event}
+use Rattle.store_state.specs.declared.state.event.Event.TheVariants.{Entered, Acknowledged, Noted}
 use Rattle.session_sources.specs.Turns.{leaves_notes_of, leaves_pin_of}
 use Rattle.afl_session.specs.Acts.{Act, Course, acts_for, acts_in, acts_of_note, begins, ends, tries, makes, nothing, looking, trying, making}
 use Rattle.afl_session.specs.Replies.{HasFault}

@@ -1,6 +1,6 @@
 -- The acts among events, by their parts.
 use Rattle.std.proofs.Common.{◌≡◌, ◌∙◌, List, [], ◌∷◌, ◌++◌, refl, ap, sym, append_assoc}
-use Rattle.store_state.specs.declared.event.Event.TheVariants.{Entered, Acknowledged, Noted}
+use Rattle.store_state.specs.declared.state.event.Event.TheVariants.{Entered, Acknowledged, Noted}
 use Rattle.afl_session.specs.Acts.{Act, acts_in, acts_of_entry, acts_of_note}
 use Rattle.afl_session.specs.RepliesLaws.{ActsJoin}
 

@@ -9,8 +9,8 @@ use Rattle.event_core.specs.declared.entry.Entry.TheVariants.{Pin, Unpin, Commit
 use Rattle.event_core.proofs.Tests.{both_not}
 use Rattle.session_sources.specs.Owners.{only_of}
 use Rattle.store_ledger.specs.Ledger.{LedgerState}
-use Rattle.store_state.specs.declared.event.Event.{Event}
-use Rattle.store_state.specs.declared.event.Event.TheVariants.{Entered, Acknowledged, Noted}
+use Rattle.store_state.specs.declared.state.event.Event.{Event}
+use Rattle.store_state.specs.declared.state.event.Event.TheVariants.{Entered, Acknowledged, Noted}
 use Rattle.store_state.specs.Events.{owner_of}
 use Rattle.session_sources.specs.Growth.{tried_events}
 use Rattle.session_sources.specs.Tried.{IsFaultOrNone}

@@ -11,15 +11,15 @@ use Rattle.event_core.specs.declared.state.Core.{Core}
 use Rattle.event_core.specs.History.{History, names_at, up_to}
 use Rattle.event_core.proofs.Tests.{both_not}
 use Rattle.store_versions.specs.Versions.{Directories, MadeVersion, directory_of, versions_after as versions_behind, versions_at}
-use Rattle.store_state.specs.declared.event.Event.{Event}
-use Rattle.store_state.specs.declared.event.Event.TheVariants.{Entered, Acknowledged, Noted}
+use Rattle.store_state.specs.declared.state.event.Event.{Event}
+use Rattle.store_state.specs.declared.state.event.Event.TheVariants.{Entered, Acknowledged, Noted}
 use Rattle.store_state.specs.Calls.{entry_in, history_at, numbers_in}
 use Rattle.store_state.specs.Standings.{commit_places, given_of, made_at, versions_after}
-use Rattle.told_stores.specs.Start.{Start}
-use Rattle.told_stores.specs.Laws.{SeesTheSame}
-use Rattle.told_stores.specs.Told.{directories_in, entries_in, is_sealed, told}
-use Rattle.told_stores.proofs.Sights.{more_history}
-use Rattle.told_stores.proofs.Telling.{directories_in-append, entries_in-append}
+use Rattle.array_store.specs.declared.store.start.Start.{Start}
+use Rattle.array_store.specs.ToldLaws.{SeesTheSame}
+use Rattle.array_store.specs.Told.{directories_in, entries_in, is_sealed, told}
+use Rattle.array_store.proofs.Sights.{more_history}
+use Rattle.array_store.proofs.Telling.{directories_in-append, entries_in-append}
 
 -- ---- places
 

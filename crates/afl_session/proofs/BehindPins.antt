@@ -9,7 +9,7 @@ use Rattle.event_core.specs.History.{History, names_at, up_to}
 use Rattle.store_versions.specs.Versions.{directory_of}
 use Rattle.store_state.specs.Calls.{entry_in, history_at}
 use Rattle.store_state.specs.Standings.{versions_after}
-use Rattle.told_stores.specs.Told.{entries_in, told}
+use Rattle.array_store.specs.Told.{entries_in, told}
 use Rattle.afl_session.specs.RepliesLaws.{PinsChangeNothing}
 use Rattle.afl_session.proofs.Beginnings.{beginning_stays}
 

@@ -14,15 +14,15 @@ use Rattle.event_core.specs.declared.entry.Entry.{Entry}
 use Rattle.event_core.specs.declared.entry.Entry.TheVariants.{Commit}
 use Rattle.result_print.specs.declared.refusal.Refusal.{Refusal}
 use Rattle.result_print.specs.declared.refusal.Refusal.TheVariants.{Disk, SequenceEnd, Full, Memory}
-use Rattle.statement_replies.specs.declared.replies.Reply.{Reply as Told}
+use Rattle.statement_replies.specs.declared.replies.replies.Reply.{Reply as Told}
 use Rattle.statement_replies.specs.Reply.{refused}
 use Rattle.statement_replies.specs.StatementKinds.{HasChangeKind, HasStatementKind, IsAccepted, MayBreak}
 use Rattle.statement_replies.specs.Statements.{Accepted}
-use Rattle.statement_replies.specs.declared.style.Style.{Style}
+use Rattle.statement_replies.specs.declared.replies.style.Style.{Style}
 use Rattle.store_ledger.specs.declared.pinned.Pinned.{Pinned}
 use Rattle.store_ledger.specs.Ledger.{IsOpenPin, is_noted, is_tried}
-use Rattle.store_state.specs.declared.event.Event.{Event}
-use Rattle.store_state.specs.declared.event.Event.TheVariants.{Acknowledged}
+use Rattle.store_state.specs.declared.state.event.Event.{Event}
+use Rattle.store_state.specs.declared.state.event.Event.TheVariants.{Acknowledged}
 use Rattle.store_state.specs.Calls.{history_at}
 use Rattle.store_state.specs.Standings.{base_of}
 use Rattle.session_sources.specs.Causes.{FitsAfter, IsUncommitted}

@@ -23,16 +23,16 @@ use Rattle.plan_changes.specs.declared.change.Change.{Change}
 use Rattle.plan_changes.specs.declared.change.Change.TheVariants.{Create, Store, Insert, Remove, RemoveVersions}
 use Rattle.result_print.specs.declared.refusal.Refusal.{Refusal}
 use Rattle.result_print.specs.declared.refusal.Refusal.TheVariants.{Disk, Damaged, Memory}
-use Rattle.statement_answers.specs.declared.outcome.Outcome.{Outcome}
-use Rattle.statement_answers.specs.declared.outcome.Outcome.TheVariants.{Replied, Changes}
-use Rattle.statement_answers.specs.Outcomes.{all_asked, asked_for, rows_put_by}
-use Rattle.statement_replies.specs.declared.replies.Reply.{Reply as Told}
+use Rattle.statement_replies.specs.declared.answers.outcome.Outcome.{Outcome}
+use Rattle.statement_replies.specs.declared.answers.outcome.Outcome.TheVariants.{Replied, Changes}
+use Rattle.statement_replies.specs.Outcomes.{all_asked, asked_for, rows_put_by}
+use Rattle.statement_replies.specs.declared.replies.replies.Reply.{Reply as Told}
 use Rattle.statement_replies.specs.StatementKinds.{HasChangeKind, HasStatementKind, MayBreak}
 use Rattle.statement_replies.specs.Statements.{Accepted, without_change}
-use Rattle.statement_replies.specs.declared.style.Style.{Style}
+use Rattle.statement_replies.specs.declared.replies.style.Style.{Style}
 use Rattle.store_ledger.specs.declared.pinned.Pinned.{Pinned}
 use Rattle.store_ledger.specs.Ledger.{IsOpenPin}
-use Rattle.store_state.specs.declared.event.Event.{Event}
+use Rattle.store_state.specs.declared.state.event.Event.{Event}
 use Rattle.store_state.specs.Calls.{chunks_at, database_with}
 use Rattle.session_sources.specs.Seat.{Seat}
 use Rattle.session_sources.specs.Shared.{Shared}
@@ -42,7 +42,7 @@ use Rattle.afl_session.specs.Replies.{names_before}
 use Rattle.afl_session.specs.BehindPins.{HasDatabaseAt}
 use Rattle.afl_session.proofs.Beginnings.{history_stays, places_see_the_same}
 use Rattle.afl_session.proofs.Behind.{source_tells}
-use Rattle.statement_answers.proofs.Listed.{listed_decide}
+use Rattle.statement_replies.proofs.Listed.{listed_decide}
 use Rattle.afl_session.proofs.PinPlaces.{open_pins_are_entered}
 use Rattle.session_sources.specs.Courses.{AddsOwn}
 use Rattle.session_sources.specs.Pinned.{pinned_state, unread}

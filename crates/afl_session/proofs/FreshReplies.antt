@@ -20,23 +20,23 @@ use Rattle.afl_types.specs.NamesLaws.{leaf_names}
 use Rattle.event_core.specs.Cells.{at}
 use Rattle.event_core.specs.declared.state.Core.{Core}
 use Rattle.event_core.specs.History.{History, names_at}
-use Rattle.fresh_changes.specs.FreshLaws.{AreLeft, SameRoom}
-use Rattle.fresh_changes.specs.Left.{IsLeft}
-use Rattle.fresh_changes.proofs.Fresh.{changes_mean_the_same, checks_stay}
-use Rattle.fresh_changes.proofs.Left.{array_stays, names_stay, rows_stay}
+use Rattle.array_store.specs.FreshLaws.{AreLeft, SameRoom}
+use Rattle.array_store.specs.ChangesLeft.{IsLeft}
+use Rattle.array_store.proofs.Fresh.{changes_mean_the_same, checks_stay}
+use Rattle.array_store.proofs.Left.{array_stays, names_stay, rows_stay}
 use Rattle.result_print.specs.Listings.{stored_line}
-use Rattle.statement_replies.specs.declared.replies.Reply.{Reply as Told}
+use Rattle.statement_replies.specs.declared.replies.replies.Reply.{Reply as Told}
 use Rattle.statement_replies.specs.Reply.{traced}
 use Rattle.statement_replies.specs.StatementKinds.{HasChangeKind, HasStatementKind, MayBreak}
 use Rattle.statement_replies.specs.Statements.{Accepted, accepted, change_text, changed_or_broken, reply_to, reply_to_checked, text_alone}
 use Rattle.statement_replies.specs.Traces.{change_lines, read_by}
 use Rattle.statement_replies.proofs.Lines.{AreReadAlike, accepted_stays, change_lines_stay}
-use Rattle.statement_replies.specs.declared.style.Style.{Style}
-use Rattle.store_state.specs.declared.event.Event.{Event}
+use Rattle.statement_replies.specs.declared.replies.style.Style.{Style}
+use Rattle.store_state.specs.declared.state.event.Event.{Event}
 use Rattle.store_state.specs.Calls.{history_at}
 use Rattle.store_state.specs.Standings.{BeganAs}
-use Rattle.told_stores.specs.Start.{Start}
-use Rattle.told_stores.specs.Told.{told}
+use Rattle.array_store.specs.declared.store.start.Start.{Start}
+use Rattle.array_store.specs.Told.{told}
 use Rattle.afl_session.specs.Fresh.{AreLeftSince, FreshChangesAreSaid, IsNamedAt}
 use Rattle.afl_session.specs.Replies.{Says, SaysChange}
 

@@ -10,11 +10,11 @@ use Rattle.afl_outside.specs.Sink.{SinkState}
 use Rattle.event_core.specs.declared.entry.Entry.TheVariants.{Pin}
 use Rattle.afl_session.specs.Acts.{Course, nothing, looking, trying, making}
 use Rattle.afl_session.specs.Answered.{BeganAt, IsAnswered}
-use Rattle.store_state.specs.declared.event.Event.{Event}
+use Rattle.store_state.specs.declared.state.event.Event.{Event}
 use Rattle.afl_session.specs.Replies.{IsToldFor}
 use Rattle.afl_session.specs.declared.replies.reply.Reply.{Reply}
 use Rattle.session_sources.specs.Start.{Start}
-use Rattle.statement_replies.specs.declared.style.Style.{Style}
+use Rattle.statement_replies.specs.declared.replies.style.Style.{Style}
 use Rattle.session_sources.specs.Told.{entries_in, is_sealed}
 use Rattle.afl_session.proofs.Staying.{entered_later, no_room_later, replies_stay}
 use Rattle.session_reports.specs.declared.reports.Mark.{Mark}

@@ -2,8 +2,8 @@
 use Rattle.std.proofs.Common.{◌≡◌, ℕ, List, sym, subst}
 use Rattle.afl_outside.specs.Disk.{Moment}
 use Rattle.afl_trees.specs.Term.{Term}
-use Rattle.statement_replies.specs.declared.style.Style.{Style}
-use Rattle.store_state.specs.declared.event.Event.{Event}
+use Rattle.statement_replies.specs.declared.replies.style.Style.{Style}
+use Rattle.store_state.specs.declared.state.event.Event.{Event}
 use Rattle.session_sources.specs.Seat.{Seat}
 use Rattle.session_sources.specs.Shared.{Shared}
 use Rattle.afl_session.specs.declared.replies.reply.Reply.{Reply}

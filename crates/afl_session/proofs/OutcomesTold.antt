@@ -18,13 +18,13 @@ use Rattle.chunk_source.specs.declared.reading.fault.ExecFault.{ExecFault}
 use Rattle.chunk_source.specs.declared.reading.fault.ExecFault.TheVariants.{Source, Damaged as Spoiled, Memory as Wanting}
 use Rattle.result_print.specs.declared.refusal.Refusal.{Refusal}
 use Rattle.result_print.specs.declared.refusal.Refusal.TheVariants.{Typing, Cell, Disk, Damaged, Memory}
-use Rattle.statement_replies.specs.declared.replies.Reply.{Reply as Told}
+use Rattle.statement_replies.specs.declared.replies.replies.Reply.{Reply as Told}
 use Rattle.statement_replies.specs.Kinds.{IsRowsReply, IsTextOrRefusal}
 use Rattle.statement_replies.specs.Reply.{cell_reply, refused, traced}
 use Rattle.statement_replies.specs.StatementKinds.{HasChangeKind, HasStatementKind, IsAccepted, MayBreak}
 use Rattle.statement_replies.specs.Statements.{Accepted, without_change}
-use Rattle.statement_replies.specs.declared.style.Style.{Style}
-use Rattle.store_state.specs.declared.event.Event.{Event}
+use Rattle.statement_replies.specs.declared.replies.style.Style.{Style}
+use Rattle.store_state.specs.declared.state.event.Event.{Event}
 use Rattle.session_sources.specs.Start.{Start}
 use Rattle.afl_session.specs.Acts.{looking}
 use Rattle.afl_session.specs.Refusals.{IsWant, Refuses}

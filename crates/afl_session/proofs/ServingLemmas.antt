@@ -14,12 +14,12 @@ use Rattle.afl_outside.proofs.Streams.{Takes-more}
 use Rattle.result_print.specs.declared.refusal.Refusal.{Refusal}
 use Rattle.result_print.specs.declared.refusal.Refusal.TheVariants as refusals
 use Rattle.statement_replies.specs.Reply.{memory_line}
-use Rattle.statement_replies.specs.declared.replies.Reply.{Reply as Words}
-use Rattle.store_state.specs.declared.event.Event.{Event}
+use Rattle.statement_replies.specs.declared.replies.replies.Reply.{Reply as Words}
+use Rattle.store_state.specs.declared.state.event.Event.{Event}
 use Rattle.afl_session.specs.Replies.{HasLine}
 use Rattle.afl_session.specs.declared.replies.reply.Reply.{Reply}
 use Rattle.session_sources.specs.Start.{Start}
-use Rattle.statement_replies.specs.declared.style.Style.{Style}
+use Rattle.statement_replies.specs.declared.replies.style.Style.{Style}
 use Rattle.session_reports.specs.Outcomes.{is_want}
 use Rattle.afl_session.specs.Inner.Serving.{GoesOn, HasAnswered, HasStopped, Reached, mark_at, place_after, statement_at}
 use Rattle.afl_session.specs.Marked.{AnswersText, IsMarked, IsReplyOf, reply_told, written_for}

@@ -19,18 +19,18 @@ use Rattle.result_print.specs.declared.refusal.Refusal.{Refusal}
 use Rattle.result_print.specs.declared.refusal.Refusal.TheVariants.{TooLong, Parse, HistoryFull, Typing, Cell, Disk, Damaged, SequenceEnd, Full, Memory}
 use Rattle.statement_replies.specs.Statements.{Accepted, reply_to}
 use Rattle.statement_replies.specs.StatementKinds.{HasStatementKind}
-use Rattle.statement_replies.specs.declared.style.Style.{Style}
+use Rattle.statement_replies.specs.declared.replies.style.Style.{Style}
 use Rattle.store_ledger.specs.declared.note.NoteKind.TheVariants.{Fault}
-use Rattle.store_state.specs.declared.event.Event.{Event}
-use Rattle.store_state.specs.declared.event.Event.TheVariants.{Noted}
+use Rattle.store_state.specs.declared.state.event.Event.{Event}
+use Rattle.store_state.specs.declared.state.event.Event.TheVariants.{Noted}
 use Rattle.store_state.specs.Calls.{history_at, IsLeafOf}
 use Rattle.store_state.specs.Standings.{base_of}
-use Rattle.told_stores.specs.Causes.{FitsAfter}
-use Rattle.told_stores.specs.Start.{Start}
-use Rattle.told_stores.specs.declared.commits.fault.CommitFault.{CommitFault}
-use Rattle.told_stores.specs.declared.commits.fault.CommitFault.TheVariants as faults
-use Rattle.told_stores.specs.Told.{entries_in, is_sealed, told}
-use Rattle.told_stores.proofs.Telling.{entries_in-append}
+use Rattle.array_store.specs.Causes.{FitsAfter}
+use Rattle.array_store.specs.declared.store.start.Start.{Start}
+use Rattle.array_store.specs.declared.told.commits.fault.CommitFault.{CommitFault}
+use Rattle.array_store.specs.declared.told.commits.fault.CommitFault.TheVariants as faults
+use Rattle.array_store.specs.Told.{entries_in, is_sealed, told}
+use Rattle.array_store.proofs.Telling.{entries_in-append}
 use Rattle.afl_session.specs.Acts.{Course, nothing, looking, trying, making}
 use Rattle.afl_session.specs.RepliesLaws.{RepliesStay}
 use Rattle.afl_session.specs.Replies.{names_before, EnteredAt, HadNoRoom, HadRoomFor, HasFault, HoldsSincePin, HoldsWhereRefused, IsAllowedAt, IsChangeAt, IsDamagedPage, IsToldFor, Says, SaysChange, WasAt, WasUncommitted}

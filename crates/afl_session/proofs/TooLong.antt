@@ -2,7 +2,7 @@
 use Rattle.std.proofs.Common.{◌≡◌, ◌∙◌, ◌≤◌, ℕ, List, length, inl, inr, ap, sym, subst, arith}
 use Rattle.result_print.specs.declared.refusal.Refusal.TheVariants.{TooLong}
 use Rattle.statement_replies.specs.Reply.{too_long}
-use Rattle.store_state.specs.declared.event.Event.{Event}
+use Rattle.store_state.specs.declared.state.event.Event.{Event}
 use Rattle.afl_session.specs.Refusals.{RefusesAt}
 use Rattle.afl_session.specs.declared.replies.reply.Reply.{Reply}
 use Rattle.session_sources.specs.Told.{entries_in}

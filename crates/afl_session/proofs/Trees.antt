@@ -8,13 +8,13 @@ use Rattle.event_core.specs.declared.entry.Entry.TheVariants.{Pin, Unpin}
 use Rattle.logical_plan.specs.declared.names.Names.{Names}
 use Rattle.result_print.specs.declared.refusal.Refusal.{Refusal}
 use Rattle.result_print.specs.declared.refusal.Refusal.TheVariants as refusals
-use Rattle.statement_replies.specs.declared.replies.Reply.{Reply as Told}
-use Rattle.statement_replies.specs.declared.style.Style.{Style}
+use Rattle.statement_replies.specs.declared.replies.replies.Reply.{Reply as Told}
+use Rattle.statement_replies.specs.declared.replies.style.Style.{Style}
 use Rattle.store_ledger.specs.declared.pinned.PinFault.TheVariants.{HistoryFull}
 use Rattle.store_ledger.specs.declared.pinned.Pinned.{Pinned}
 use Rattle.store_ledger.specs.Ledger.{IsOpenPin, IsRefused}
-use Rattle.store_state.specs.declared.event.Event.{Event}
-use Rattle.store_state.specs.declared.event.Event.TheVariants.{Entered}
+use Rattle.store_state.specs.declared.state.event.Event.{Event}
+use Rattle.store_state.specs.declared.state.event.Event.TheVariants.{Entered}
 use Rattle.session_sources.specs.Turns.{found_before, own_events, pin_event, Adds}
 use Rattle.session_sources.proofs.Turning.{turns_find}
 use Rattle.afl_session.specs.Acts.{Act, Course, acts_for, acts_in, begins, ends, nothing, looking, trying, making}

@@ -14,16 +14,16 @@ use Rattle.event_core.specs.declared.state.Core.{Core}
 use Rattle.event_core.specs.Cells.{at}
 use Rattle.event_core.specs.History.{History, names_at, up_to}
 use Rattle.lean_core.proofs.Pins.{all_entries_are_the_history}
-use Rattle.fresh_changes.specs.FreshLaws.{AreLeft, SameRoom}
-use Rattle.statement_replies.specs.declared.replies.Reply.{Reply as Told}
+use Rattle.array_store.specs.FreshLaws.{AreLeft, SameRoom}
+use Rattle.statement_replies.specs.declared.replies.replies.Reply.{Reply as Told}
 use Rattle.statement_replies.specs.Statements.{Accepted}
-use Rattle.statement_replies.specs.declared.style.Style.{Style}
+use Rattle.statement_replies.specs.declared.replies.style.Style.{Style}
 use Rattle.store_ledger.specs.declared.note.NoteKind.TheVariants.{Fault}
 use Rattle.session_sources.specs.Owners.{is_owned_by}
 use Rattle.store_ledger.specs.declared.pinned.Pinned.{Pinned}
 use Rattle.store_ledger.specs.Ledger.{IsOpenPin, LedgerState, attempt, note_now}
-use Rattle.store_state.specs.declared.event.Event.{Event}
-use Rattle.store_state.specs.declared.event.Event.TheVariants.{Entered, Noted}
+use Rattle.store_state.specs.declared.state.event.Event.{Event}
+use Rattle.store_state.specs.declared.state.event.Event.TheVariants.{Entered, Noted}
 use Rattle.store_state.specs.Calls.{history_at}
 use Rattle.store_state.specs.Events.{owner_of}
 use Rattle.session_sources.specs.Tried.{IsFaultOrNone}

@@ -7,20 +7,20 @@ use Rattle.plan_changes.specs.declared.change.Change.{Change}
 use Rattle.afl_types.specs.Checking.{check_of}
 use Rattle.afl_types.specs.declared.types.statements.checking.Typed.TheVariants.{Change as AChange}
 use Rattle.event_core.specs.Allowed.{is_pinned}
-use Rattle.statement_answers.specs.Forms.{a_change, form_said}
-use Rattle.statement_answers.proofs.Saying.{forms_said}
+use Rattle.statement_replies.specs.Forms.{a_change, form_said}
+use Rattle.statement_replies.proofs.Saying.{forms_said}
 use Rattle.session_sources.specs.Owners.{ExtendsByOwn}
 use Rattle.session_sources.specs.Lent.{turn_with}
 use Rattle.session_sources.specs.Turn.{Turn}
 use Rattle.store_ledger.specs.declared.pinned.Pinned.{Pinned}
 use Rattle.store_ledger.specs.Ledger.{LedgerState, IsLedger, IsOpenPin, history, is_noted, is_tried}
 use Rattle.store_ledger.proofs.Keeping.{pinned_of}
-use Rattle.store_state.specs.declared.event.Event.{Event}
-use Rattle.store_state.specs.declared.parts.StoreParts.{StoreParts}
+use Rattle.store_state.specs.declared.state.event.Event.{Event}
+use Rattle.store_state.specs.declared.state.parts.StoreParts.{StoreParts}
 use Rattle.store_state.specs.At.{standing, AreParts}
 use Rattle.store_state.specs.Events.{events, owner_of}
 use Rattle.store_state.specs.Standings.{Standing}
-use Rattle.statement_replies.specs.declared.style.Style.{Style}
+use Rattle.statement_replies.specs.declared.replies.style.Style.{Style}
 use Rattle.session_sources.specs.Growth.{IsCounted}
 use Rattle.session_sources.specs.Starts.{start_of}
 use Rattle.session_sources.proofs.Databases.{stores_have_databases}

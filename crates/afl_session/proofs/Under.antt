@@ -10,12 +10,12 @@ use Rattle.chunk_source.specs.declared.reading.fault.ExecFault.{ExecFault}
 use Rattle.chunk_source.specs.declared.reading.fault.ExecFault.TheVariants.{Source, Damaged, Memory}
 use Rattle.event_core.specs.declared.entry.Entry.TheVariants.{Pin}
 use Rattle.afl_types.specs.Checking.{check_of}
-use Rattle.statement_answers.specs.declared.outcome.Outcome.TheVariants.{Replied}
-use Rattle.statement_answers.specs.Outcomes.{MayFail}
-use Rattle.statement_replies.specs.declared.style.Style.{Style}
+use Rattle.statement_replies.specs.declared.answers.outcome.Outcome.TheVariants.{Replied}
+use Rattle.statement_replies.specs.Outcomes.{MayFail}
+use Rattle.statement_replies.specs.declared.replies.style.Style.{Style}
 use Rattle.store_ledger.specs.declared.pinned.Pinned.{Pinned}
 use Rattle.store_ledger.specs.Ledger.{IsOpenPin}
-use Rattle.store_state.specs.declared.event.Event.{Event}
+use Rattle.store_state.specs.declared.state.event.Event.{Event}
 use Rattle.store_state.specs.Calls.{IsLeafOf}
 use Rattle.session_sources.specs.Start.{Start}
 use Rattle.session_sources.specs.Told.{entries_in, is_sealed, ledger_of, told}

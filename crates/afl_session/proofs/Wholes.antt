@@ -8,10 +8,10 @@ use Rattle.afl_trees.specs.Term.{Term}
 use Rattle.afl_trees.specs.declared.kind.ParseKind.{ParseKind}
 use Rattle.result_print.specs.declared.refusal.Refusal.{Refusal}
 use Rattle.result_print.specs.declared.refusal.Refusal.TheVariants.{Memory, Parse}
-use Rattle.statement_replies.specs.declared.replies.Reply.{Reply as Told}
+use Rattle.statement_replies.specs.declared.replies.replies.Reply.{Reply as Told}
 use Rattle.statement_replies.specs.Reply.{refused}
-use Rattle.statement_replies.specs.declared.style.Style.{Style}
-use Rattle.store_state.specs.declared.event.Event.{Event}
+use Rattle.statement_replies.specs.declared.replies.style.Style.{Style}
+use Rattle.store_state.specs.declared.state.event.Event.{Event}
 use Rattle.afl_session.specs.Acts.{nothing}
 use Rattle.afl_session.specs.Refusals.{IsWant, RefusesAt}
 use Rattle.afl_session.specs.Replies.{words_of, HasLine, IsToldFor}

@@ -5,8 +5,8 @@ use Rattle.event_core.specs.declared.entry.Entry.{Entry}
 use Rattle.event_core.specs.declared.entry.Entry.TheVariants.{Pin, Unpin, Commit, Reap}
 use Rattle.store_ledger.specs.declared.note.NoteKind.{NoteKind}
 use Rattle.store_ledger.specs.declared.note.NoteKind.TheVariants.{Fault, Tried}
-use Rattle.store_state.specs.declared.event.Event.{Event}
-use Rattle.store_state.specs.declared.event.Event.TheVariants.{Entered, Acknowledged, Noted}
+use Rattle.store_state.specs.declared.state.event.Event.{Event}
+use Rattle.store_state.specs.declared.state.event.Event.TheVariants.{Entered, Acknowledged, Noted}
 
 -- a pin begins, or ends; a commit of a change is tried, or made
 pub data Act : Type 0 where

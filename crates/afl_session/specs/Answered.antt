@@ -7,8 +7,8 @@ use Rattle.afl_trees.specs.declared.kind.ParseKind.{ParseKind}
 use Rattle.event_core.specs.declared.entry.Entry.TheVariants.{Pin}
 use Rattle.result_print.specs.declared.refusal.Refusal.TheVariants.{HistoryFull, Parse}
 use Rattle.statement_replies.specs.Reply.{refused}
-use Rattle.statement_replies.specs.declared.style.Style.{Style}
-use Rattle.store_state.specs.declared.event.Event.{Event}
+use Rattle.statement_replies.specs.declared.replies.style.Style.{Style}
+use Rattle.store_state.specs.declared.state.event.Event.{Event}
 use Rattle.session_sources.specs.Start.{Start}
 use Rattle.session_sources.specs.Told.{entries_in}
 use Rattle.session_sources.specs.Courses.{AddsOwn}

@@ -6,12 +6,12 @@ use Rattle.logical_plan.specs.declared.names.Names.{Names}
 use Rattle.plan_changes.specs.Databases.{Database}
 use Rattle.afl_types.specs.Checking.{check_of}
 use Rattle.chunk_source.specs.Source.{SourceState}
-use Rattle.statement_answers.specs.declared.outcome.Outcome.{Outcome}
-use Rattle.statement_answers.specs.Outcomes.{HasOutcomeKind, IsOutcomeOf, IsToldBy}
+use Rattle.statement_replies.specs.declared.answers.outcome.Outcome.{Outcome}
+use Rattle.statement_replies.specs.Outcomes.{HasOutcomeKind, IsOutcomeOf, IsToldBy}
 use Rattle.statement_replies.specs.Statements.{reply_to}
-use Rattle.statement_replies.specs.declared.style.Style.{Style}
+use Rattle.statement_replies.specs.declared.replies.style.Style.{Style}
 use Rattle.store_ledger.specs.Ledger.{IsOpenPin}
-use Rattle.store_state.specs.declared.event.Event.{Event}
+use Rattle.store_state.specs.declared.state.event.Event.{Event}
 use Rattle.store_state.specs.Calls.{database_with}
 use Rattle.store_state.specs.Standings.{BeganAs}
 use Rattle.session_sources.specs.Start.{Start}

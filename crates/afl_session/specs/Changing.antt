@@ -6,10 +6,10 @@ use Rattle.array_geom.specs.declared.chunk.Changed.{Changed}
 use Rattle.plan_changes.specs.declared.change.Change.{Change}
 use Rattle.plan_changes.specs.Databases.{Database}
 use Rattle.session_sources.specs.Prepared.{MayBeMade}
-use Rattle.statement_answers.specs.declared.outcome.Outcome.TheVariants.{Changes}
-use Rattle.statement_answers.specs.Outcomes.{MayBeCommitted}
-use Rattle.statement_replies.specs.declared.replies.Reply.{Reply as Told}
-use Rattle.statement_replies.specs.declared.style.Style.{Style}
+use Rattle.statement_replies.specs.declared.answers.outcome.Outcome.TheVariants.{Changes}
+use Rattle.statement_replies.specs.Outcomes.{MayBeCommitted}
+use Rattle.statement_replies.specs.declared.replies.replies.Reply.{Reply as Told}
+use Rattle.statement_replies.specs.declared.replies.style.Style.{Style}
 use Rattle.store_ledger.specs.Ledger.{is_noted, is_tried}
 use Rattle.store_state.specs.Calls.{database_with}
 use Rattle.store_state.specs.Standings.{BeganAs}

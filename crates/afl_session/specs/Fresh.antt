@@ -5,14 +5,14 @@ use Rattle.afl_trees.specs.Term.{Term}
 use Rattle.plan_changes.specs.declared.change.Change.{Change}
 use Rattle.plan_changes.specs.Databases.{Database, names_of}
 use Rattle.event_core.specs.History.{History}
-use Rattle.fresh_changes.specs.FreshLaws.{AreLeft, SameRoom}
-use Rattle.statement_replies.specs.declared.replies.Reply.{Reply as Told}
-use Rattle.statement_replies.specs.declared.style.Style.{Style}
-use Rattle.store_state.specs.declared.event.Event.{Event}
+use Rattle.array_store.specs.FreshLaws.{AreLeft, SameRoom}
+use Rattle.statement_replies.specs.declared.replies.replies.Reply.{Reply as Told}
+use Rattle.statement_replies.specs.declared.replies.style.Style.{Style}
+use Rattle.store_state.specs.declared.state.event.Event.{Event}
 use Rattle.store_state.specs.Calls.{database_with, history_at}
 use Rattle.store_state.specs.Standings.{BeganAs}
-use Rattle.told_stores.specs.Start.{Start}
-use Rattle.told_stores.specs.Told.{told}
+use Rattle.array_store.specs.declared.store.start.Start.{Start}
+use Rattle.array_store.specs.Told.{told}
 use Rattle.afl_session.specs.Replies.{names_before, Says, SaysChange}
 
 -- the database at a place, where the file began as one, has the names there

@@ -3,7 +3,7 @@ use Rattle.std.specs.Prelude.{◌+◌, List, length, IsTrue}
 use Rattle.plan_changes.specs.declared.change.Change.{Change}
 use Rattle.store_ledger.specs.declared.pinned.Pinned.{Pinned}
 use Rattle.store_ledger.specs.Ledger.{IsOpenPin}
-use Rattle.store_state.specs.declared.event.Event.{Event}
+use Rattle.store_state.specs.declared.state.event.Event.{Event}
 use Rattle.session_sources.specs.Start.{Start}
 use Rattle.session_sources.specs.Told.{entries_in, ledger_of}
 use Rattle.session_sources.specs.Tries.{is_fresh_since}

@@ -1,4 +1,4 @@
-pub use Rattle.statement_replies.specs.declared.style.Style
+pub use Rattle.statement_replies.specs.declared.replies.style.Style
 pub mod Acts
 pub mod Answered
 pub mod AnsweredUnder

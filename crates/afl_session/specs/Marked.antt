@@ -9,12 +9,12 @@ use Rattle.afl_outside.specs.Disk.{Moment}
 use Rattle.result_print.specs.declared.refusal.Refusal.TheVariants.{Memory}
 use Rattle.statement_replies.specs.Reply.{memory_line, too_long}
 use Rattle.afl_session.specs.Answered.{IsAnswered}
-use Rattle.store_state.specs.declared.event.Event.{Event}
+use Rattle.store_state.specs.declared.state.event.Event.{Event}
 use Rattle.afl_session.specs.Refusals.{IsWantBetween}
 use Rattle.afl_session.specs.Replies.{words_of}
 use Rattle.afl_session.specs.declared.replies.reply.Reply.{Reply}
 use Rattle.session_sources.specs.Start.{Start}
-use Rattle.statement_replies.specs.declared.style.Style.{Style}
+use Rattle.statement_replies.specs.declared.replies.style.Style.{Style}
 use Rattle.session_reports.specs.declared.reports.Mark.{Mark}
 use Rattle.session_reports.specs.Outcomes.{is_want}
 use Rattle.afl_session.specs.Session.{AnswerRule}

@@ -5,10 +5,10 @@ use Rattle.chunk_source.specs.declared.reading.fault.ExecFault.TheVariants as re
 use Rattle.result_print.specs.declared.refusal.Refusal.{Refusal}
 use Rattle.result_print.specs.declared.refusal.Refusal.TheVariants.{Disk, Damaged, SequenceEnd, Full, Memory}
 use Rattle.statement_replies.specs.Reply.{refused}
-use Rattle.store_state.specs.declared.event.Event.{Event}
-use Rattle.told_stores.specs.declared.commits.fault.CommitFault.{CommitFault}
-use Rattle.told_stores.specs.declared.commits.fault.CommitFault.TheVariants as commits
-use Rattle.told_stores.specs.Told.{entries_in}
+use Rattle.store_state.specs.declared.state.event.Event.{Event}
+use Rattle.array_store.specs.declared.told.commits.fault.CommitFault.{CommitFault}
+use Rattle.array_store.specs.declared.told.commits.fault.CommitFault.TheVariants as commits
+use Rattle.array_store.specs.Told.{entries_in}
 use Rattle.afl_session.specs.Replies.{words_of}
 use Rattle.afl_session.specs.declared.replies.reply.Reply.{Reply}
 

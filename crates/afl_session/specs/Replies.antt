@@ -23,22 +23,22 @@ use Rattle.event_core.specs.History.{names_at}
 use Rattle.result_print.specs.declared.refusal.Refusal.{Refusal}
 use Rattle.result_print.specs.declared.refusal.Refusal.TheVariants.{HistoryFull, Typing, Cell, Disk, Damaged, SequenceEnd, Full, Memory}
 use Rattle.result_print.specs.Lines.{line_of_refusal}
-use Rattle.statement_replies.specs.declared.replies.Reply.{Reply as Told}
+use Rattle.statement_replies.specs.declared.replies.replies.Reply.{Reply as Told}
 use Rattle.statement_replies.specs.Statements.{Accepted, reply_to}
 use Rattle.statement_replies.specs.StatementKinds.{HasStatementKind}
-use Rattle.statement_replies.specs.declared.style.Style.{Style}
+use Rattle.statement_replies.specs.declared.replies.style.Style.{Style}
 use Rattle.store_ledger.specs.declared.note.NoteKind.TheVariants.{Fault}
 use Rattle.store_ledger.specs.Ledger.{has_room}
-use Rattle.store_state.specs.declared.event.Event.{Event}
-use Rattle.store_state.specs.declared.event.Event.TheVariants.{Noted}
+use Rattle.store_state.specs.declared.state.event.Event.{Event}
+use Rattle.store_state.specs.declared.state.event.Event.TheVariants.{Noted}
 use Rattle.store_state.specs.Calls.{database_with, history_at, payload_at, IsLeafOf}
 use Rattle.store_state.specs.Payloads.{HasTold, WasDamagedAt}
 use Rattle.store_state.specs.Standings.{base_of, BeganAs}
-use Rattle.told_stores.specs.Start.{Start}
-use Rattle.told_stores.specs.declared.commits.fault.CommitFault.{CommitFault}
-use Rattle.told_stores.specs.declared.commits.fault.CommitFault.TheVariants as faults
-use Rattle.told_stores.specs.Causes.{FitsAfter, IsUncommitted}
-use Rattle.told_stores.specs.Told.{entries_in, ledger_of, told}
+use Rattle.array_store.specs.declared.store.start.Start.{Start}
+use Rattle.array_store.specs.declared.told.commits.fault.CommitFault.{CommitFault}
+use Rattle.array_store.specs.declared.told.commits.fault.CommitFault.TheVariants as faults
+use Rattle.array_store.specs.Causes.{FitsAfter, IsUncommitted}
+use Rattle.array_store.specs.Told.{entries_in, ledger_of, told}
 use Rattle.afl_session.specs.Acts.{Course, nothing, looking, trying, making}
 use Rattle.afl_session.specs.declared.replies.reply.Reply.{Reply}
 

@@ -8,13 +8,13 @@ use Rattle.logical_plan.specs.declared.parts.Leaf.{Leaf}
 use Rattle.plan_changes.specs.Databases.{Database}
 use Rattle.event_core.specs.declared.entry.Entry.TheVariants.{Pin}
 use Rattle.result_print.specs.declared.refusal.Refusal.{Refusal}
-use Rattle.statement_replies.specs.declared.style.Style.{Style}
+use Rattle.statement_replies.specs.declared.replies.style.Style.{Style}
 use Rattle.store_ledger.specs.declared.pinned.Pinned.{Pinned}
 use Rattle.store_ledger.specs.Ledger.{IsOpenPin}
-use Rattle.store_state.specs.declared.event.Event.{Event}
+use Rattle.store_state.specs.declared.state.event.Event.{Event}
 use Rattle.store_state.specs.Calls.{database_with, payload_at}
-use Rattle.told_stores.specs.Start.{Start}
-use Rattle.told_stores.specs.Told.{entries_in, is_sealed, ledger_of, told}
+use Rattle.array_store.specs.declared.store.start.Start.{Start}
+use Rattle.array_store.specs.Told.{entries_in, is_sealed, ledger_of, told}
 use Rattle.afl_session.specs.Acts.{acts_in, Course}
 use Rattle.afl_session.specs.Replies.{names_before, IsToldFor}
 use Rattle.afl_session.specs.declared.replies.reply.Reply.{Reply}

@@ -2,7 +2,7 @@
 use Rattle.std.specs.Prelude.{◌≡◌, ◌++◌, true, [], codes, None, Some}
 use Rattle.afl_outside.specs.Disk.{Moment}
 use Rattle.plan_changes.specs.declared.change.Change.TheVariants.{Remove}
-use Rattle.told_stores.specs.Worked.{worked_before, worked_others, worked_own, worked_seen, worked_start}
+use Rattle.array_store.specs.Worked.{worked_before, worked_others, worked_own, worked_seen, worked_start}
 use Rattle.afl_session.specs.Acts.{acts_for, acts_in, looking, making}
 use Rattle.afl_session.specs.Fresh.{AreLeftSince}
 use Rattle.afl_session.specs.Replies.{IsDamagedPage}

@@ -4,12 +4,12 @@ use Rattle.afl_outside.specs.Disk.{Moment}
 use Rattle.afl_trees.specs.Term.{Term}
 use Rattle.plan_changes.specs.Databases.{Database}
 use Rattle.afl_types.specs.Checking.{check_of}
-use Rattle.statement_answers.specs.declared.outcome.Outcome.{Outcome}
-use Rattle.statement_answers.specs.declared.outcome.Outcome.TheVariants.{Replied, Changes}
-use Rattle.statement_answers.specs.Outcomes.{HasOutcomeKind, IsOutcomeOf}
+use Rattle.statement_replies.specs.declared.answers.outcome.Outcome.{Outcome}
+use Rattle.statement_replies.specs.declared.answers.outcome.Outcome.TheVariants.{Replied, Changes}
+use Rattle.statement_replies.specs.Outcomes.{HasOutcomeKind, IsOutcomeOf}
 use Rattle.statement_replies.specs.Statements.{reply_to, without_change}
-use Rattle.statement_replies.specs.declared.style.Style.{Style}
-use Rattle.store_state.specs.declared.event.Event.{Event}
+use Rattle.statement_replies.specs.declared.replies.style.Style.{Style}
+use Rattle.store_state.specs.declared.state.event.Event.{Event}
 use Rattle.store_state.specs.Calls.{database_with}
 use Rattle.store_state.specs.Standings.{BeganAs}
 use Rattle.session_sources.specs.Start.{Start}

@@ -4,9 +4,9 @@ use Rattle.afl_outside.specs.Disk.{Moment}
 use Rattle.afl_lexer.specs.Split.{Statement}
 use Rattle.result_print.specs.declared.refusal.Refusal.TheVariants.{TooLong, Memory}
 use Rattle.statement_replies.specs.Reply.{memory_line}
-use Rattle.store_state.specs.declared.event.Event.{Event}
+use Rattle.store_state.specs.declared.state.event.Event.{Event}
 use Rattle.session_sources.specs.Start.{Start}
-use Rattle.statement_replies.specs.declared.style.Style.{Style}
+use Rattle.statement_replies.specs.declared.replies.style.Style.{Style}
 use Rattle.session_sources.specs.Told.{entries_in}
 use Rattle.session_reports.specs.declared.reports.Mark.{Mark}
 use Rattle.afl_session.specs.Marked.{IsMarked}

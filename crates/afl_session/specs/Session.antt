@@ -11,7 +11,7 @@ use Rattle.afl_lexer.specs.Split.{Statement, statements, closed_statements}
 use Rattle.afl_outside.specs.Counts.{Rose}
 use Rattle.afl_outside.specs.Source.{SourceState, Gives}
 use Rattle.afl_outside.specs.Sink.{SinkState, Takes}
-use Rattle.store_state.specs.declared.event.Event.{Event}
+use Rattle.store_state.specs.declared.state.event.Event.{Event}
 use Rattle.session_reports.specs.declared.reports.Mark.{Mark}
 use Rattle.session_reports.specs.declared.reports.SessionEnd.{SessionEnd}
 use Rattle.session_reports.specs.declared.reports.SessionEnd.TheVariants.{Whole, Source, Sink, Memory}

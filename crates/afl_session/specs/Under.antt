@@ -5,9 +5,9 @@ use Rattle.afl_trees.specs.Term.{Term}
 use Rattle.chunk_source.specs.declared.reading.fault.ExecFault.{ExecFault}
 use Rattle.chunk_source.specs.declared.reading.fault.ExecFault.TheVariants.{Source, Damaged, Memory}
 use Rattle.afl_types.specs.Checking.{check_of}
-use Rattle.statement_answers.specs.declared.outcome.Outcome.TheVariants.{Replied}
-use Rattle.statement_answers.specs.Outcomes.{MayFail}
-use Rattle.statement_replies.specs.declared.style.Style.{Style}
+use Rattle.statement_replies.specs.declared.answers.outcome.Outcome.TheVariants.{Replied}
+use Rattle.statement_replies.specs.Outcomes.{MayFail}
+use Rattle.statement_replies.specs.declared.replies.style.Style.{Style}
 use Rattle.store_ledger.specs.declared.note.NoteKind.{NoteKind}
 use Rattle.store_ledger.specs.Ledger.{is_noted}
 use Rattle.session_sources.specs.Seats.{ledger_seen, seen, session_of, start}

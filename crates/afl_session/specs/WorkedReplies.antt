@@ -8,9 +8,9 @@ use Rattle.plan_changes.specs.declared.change.Change.TheVariants.{Remove}
 use Rattle.result_print.specs.declared.refusal.Refusal.{Refusal}
 use Rattle.result_print.specs.declared.refusal.Refusal.TheVariants.{Typing, Damaged}
 use Rattle.result_print.specs.Lines.{line_of_refusal}
-use Rattle.statement_replies.specs.declared.style.Style.{Style}
-use Rattle.store_state.specs.declared.event.Event.{Event}
-use Rattle.told_stores.specs.Worked.{worked_others, worked_own, worked_seen, worked_start}
+use Rattle.statement_replies.specs.declared.replies.style.Style.{Style}
+use Rattle.store_state.specs.declared.state.event.Event.{Event}
+use Rattle.array_store.specs.Worked.{worked_others, worked_own, worked_seen, worked_start}
 use Rattle.afl_session.specs.Acts.{looking, making}
 use Rattle.afl_session.specs.Replies.{HadNoRoom, IsToldFor}
 use Rattle.afl_session.specs.declared.replies.reply.Reply.{Reply}

@@ -25,7 +25,7 @@ use Rattle.store_opening.specs.Calls.{NotesFault}
 use Rattle.store_opening.specs.Events.{Seal, events, sealed}
 use Rattle.store_opening.specs.Standings.{Standing, with_entries}
 use Rattle.array_store.specs.Growth.{AddsEvents, AddsFault, IsCounted, fault_events, is_plain}
-use Rattle.array_store.specs.Laws.{EntriesAddEvents, CommitsAddEvents, NotesAddEvents, FaultsAddEvents}
+use Rattle.array_store.specs.StoreLaws.{EntriesAddEvents, CommitsAddEvents, NotesAddEvents, FaultsAddEvents}
 
 -- ---- an entry that is no commit, or a note
 

@@ -9,8 +9,8 @@ use Rattle.event_core.specs.declared.entry.Entry.TheVariants.{Pin}
 use Rattle.event_core.specs.History.{History, names_at, up_to}
 use Rattle.lean_core.specs.Pins.{PlaceTells}
 use Rattle.lean_core.proofs.Pins.{beginnings_are_kept, places_tell_pins}
-use Rattle.fresh_changes.specs.Fresh.{IsFresh, is_fresh}
-use Rattle.fresh_changes.proofs.FreshLaws.{fresh_are_left}
+use Rattle.array_store.specs.Fresh.{IsFresh, is_fresh}
+use Rattle.array_store.proofs.FreshLaws.{fresh_are_left}
 use Rattle.store_ledger.specs.declared.pinned.Pinned.{Pinned}
 use Rattle.store_ledger.specs.Ledger.{LedgerState, IsOpenPin, history}
 

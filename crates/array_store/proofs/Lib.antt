@@ -1,7 +1,23 @@
 pub mod Added
+pub mod CommitsWorked
 pub mod Counted
+pub mod Databases
+pub mod Ended
+pub mod Fresh
 pub mod FreshChanges
+pub mod FreshLaws
 pub mod Going
+pub mod InTurn
+mod LawsWorked
+pub mod Left
+pub mod Made
+pub mod Notes
+pub mod PinReads
 pub mod Sealed
+pub mod Sights
 pub mod Stands
+pub mod Telling
 pub mod Tried
+pub mod TriedTurns
+pub mod Trying
+pub mod Turning

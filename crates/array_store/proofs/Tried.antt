@@ -13,8 +13,8 @@ use Rattle.store_opening.specs.Events.{events}
 use Rattle.store_opening.specs.Standings.{Standing, with_notes}
 use Rattle.prepared_commits.specs.declared.commits.fault.PrepareFault.{PrepareFault}
 use Rattle.prepared_commits.specs.declared.commits.fault.PrepareFault.TheVariants.{SequenceEnd, Full, Memory}
-use Rattle.store_preparing.specs.Parts.{is_short}
-use Rattle.store_preparing.specs.Left.{IsLeft, reaped_if, tried_now}
+use Rattle.store_sealing.specs.Parts.{is_short}
+use Rattle.store_sealing.specs.Left.{IsLeft, reaped_if, tried_now}
 use Rattle.array_store.specs.Growth.{AddsEvents, IsCounted, tried_events}
 use Rattle.array_store.proofs.Added.{entries_add_events, notes_add_events}
 

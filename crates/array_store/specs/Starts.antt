@@ -2,8 +2,8 @@
 use Rattle.std.specs.Prelude.{map}
 use Rattle.store_versions.specs.Versions.{MadeVersion}
 use Rattle.store_opening.specs.Standings.{Standing}
-use Rattle.array_store.specs.declared.start.FirstVersion.{FirstVersion}
-use Rattle.array_store.specs.declared.start.Start.{Start}
+use Rattle.array_store.specs.declared.store.start.FirstVersion.{FirstVersion}
+use Rattle.array_store.specs.declared.store.start.Start.{Start}
 
 abbrev pub first_of : MadeVersion → FirstVersion
 first_of made = record { name = made.name; version = made.version; directory = made.directory }

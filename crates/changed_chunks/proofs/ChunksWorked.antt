@@ -15,8 +15,8 @@ use Rattle.plan_changes.specs.declared.change.Change.TheVariants.{Insert}
 use Rattle.plan_changes.specs.Databases.{rows_of}
 use Rattle.plan_changes.specs.Stored.{IsDatabase}
 use Rattle.chunk_source.specs.Source.{SourceState}
-use Rattle.commit_costs.specs.Inner.Examples.{schema, cell_at, stored, insert_at, rows_at}
-use Rattle.commit_costs.proofs.Sharing.{four_rows}
+use Rattle.commit_pages.specs.Inner.Examples.{schema, cell_at, stored, insert_at, rows_at}
+use Rattle.commit_pages.proofs.Sharing.{four_rows}
 use Rattle.commit_pages.specs.Inner.Example.{four, changed}
 use Rattle.changed_chunks.specs.Changing.{CanChange, IsToldOf, asked_for, asked_of_all}
 use Rattle.changed_chunks.specs.Wanted.{target_wanted}

@@ -13,8 +13,8 @@ use Rattle.array_geom.specs.Geometry.{ChunkNumber, core_meets}
 use Rattle.array_geom.specs.Link.{NumbersRise, is_listed, number_order}
 use Rattle.array_geom.proofs.NearLemmas.{valid_placed}
 use Rattle.array_geom.proofs.NumberLaws.{is_equal, same_number}
-use Rattle.commit_costs.specs.Costs.{numbers_of}
-use Rattle.commit_costs.proofs.Orders.{AreSized, NoneTwice, all_sized, each_once, none_twice, numbers_listed, same_total, total}
+use Rattle.commit_pages.specs.Costs.{numbers_of}
+use Rattle.commit_pages.proofs.Orders.{AreSized, NoneTwice, all_sized, each_once, none_twice, numbers_listed, same_total, total}
 use Rattle.logical_plan.specs.declared.parts.Leaf.{Leaf}
 use Rattle.logical_plan.specs.Meaning.{Database, version_rows}
 use Rattle.chunk_source.specs.Source.{AreNumbersIn, HasArray, numbers_of as items_of}

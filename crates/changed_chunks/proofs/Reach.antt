@@ -21,7 +21,7 @@ use Rattle.array_geom.proofs.CoreLaws.{chunk_has_core, up_to_the_end}
 use Rattle.array_geom.proofs.NearLemmas.{valid_placed}
 use Rattle.array_geom.proofs.PlaceLaws.{above}
 use Rattle.array_geom.proofs.TestLaws.{and_both, and_parts, le_from_test, le_test}
-use Rattle.commit_costs.specs.Lengths.{meets}
+use Rattle.commit_pages.specs.Lengths.{meets}
 use Rattle.changed_chunks.specs.Inner.Reach.{places_near, reach}
 use Rattle.changed_chunks.specs.Wanted.{all_numbers, below, count_along, touched}
 

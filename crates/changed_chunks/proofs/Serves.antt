@@ -29,7 +29,7 @@ use Rattle.array_parts.proofs.CoreLaws.{cores_are_rows}
 use Rattle.array_parts.proofs.PartLemmas.{each_listed}
 use Rattle.std.specs.Option.{option_or}
 use Rattle.chunk_rle.specs.Stored.{IsStored}
-use Rattle.commit_costs.specs.Lengths.{meets}
+use Rattle.commit_pages.specs.Lengths.{meets}
 use Rattle.logical_plan.specs.declared.parts.Leaf.{Leaf}
 use Rattle.logical_plan.specs.Meaning.{Database, version_rows}
 use Rattle.plan_changes.proofs.NamesOf.{map_filter}

@@ -33,7 +33,7 @@ use Rattle.chunk_source.proofs.ReadingLeafLaws.{each_overlap}
 use Rattle.chunk_source.proofs.ValidLaws.{sound_chunks, valid_chunks}
 use Rattle.logical_plan.specs.Meaning.{whole}
 use Rattle.logical_plan.specs.Typing.{AreSound}
-use Rattle.commit_costs.specs.Lengths.{meets}
+use Rattle.commit_pages.specs.Lengths.{meets}
 use Rattle.changed_chunks.specs.Inner.Input.{AreStoredChunks, CanBeStored, MayBeStored, stored_rows}
 use Rattle.changed_chunks.specs.Inner.Reach.{reach}
 use Rattle.changed_chunks.specs.Inner.Writes.{IsInsertOf, IsStoreOf, Serves}

@@ -3,7 +3,7 @@ use Rattle.std.specs.Prelude.{◌≡◌, ℕ, Bool, List, [], ◌∷◌, ◌++�
 use Rattle.cell_values.specs.declared.schema.Bounds.{Bounds}
 use Rattle.array_rows.specs.Boxes.{by_pairs}
 use Rattle.array_geom.specs.Geometry.{ChunkNumber, core_meets}
-use Rattle.commit_costs.specs.Costs.{numbers_of}
+use Rattle.commit_pages.specs.Costs.{numbers_of}
 use Rattle.logical_plan.specs.declared.parts.Leaf.{Leaf}
 use Rattle.logical_plan.specs.Leaves.{leaves}
 use Rattle.logical_plan.specs.Meaning.{Database, version_rows}

@@ -5,7 +5,7 @@ use Rattle.arrayvec.specs.ArrayVec.{ArrayVec}
 use Rattle.cell_values.specs.declared.datum.Row.{Row}
 use Rattle.cell_values.specs.declared.schema.Dimension.{Dimension}
 use Rattle.array_geom.specs.Geometry.{ChunkNumber, core_meets, frame, has_core, overlaps}
-use Rattle.commit_costs.specs.Lengths.{meets}
+use Rattle.commit_pages.specs.Lengths.{meets}
 
 -- the numbers below one
 abbrev pub below : ℕ → List ℕ

@@ -1,4 +1,14 @@
 mod ComputedLaws
+pub mod DatabasePlans
 mod ExecutedLaws
+pub mod FaultLaws
+pub mod GroupedRows
+mod Held
+pub mod KeptPlaces
 mod OperatorLaws
+pub mod PlanArrays
+pub mod RedimensionedRows
 mod SourceLaws
+pub mod Steps
+pub mod WholeRows
+mod Worked

@@ -1,14 +1,12 @@
-//! Plans, executed over a source of chunks.
+//! Plans, executed over a source of chunks; what a plan gives over it, its rows or its first fault; and which plans mean arrays.
 #![tactic(auto)]
 
-mod compute;
-mod given;
-mod leaf;
-mod needed;
-mod operators;
-mod running;
-mod sources;
-mod steps;
+mod plans;
+mod rows;
 
 pub use chunk_source::ExecFault;
-pub use running::execute;
+pub use plans::execute;
+pub use rows::{
+    PlanArray, PlanRows, array_of, computed_plans_mean_arrays, first_fault, rows_of,
+    typed_plans_mean_arrays,
+};

@@ -18,18 +18,18 @@ use Rattle.file_meaning.specs.CatalogRecord.TheVariants as entries
 use Rattle.file_meaning.specs.Spelling.{spell_record, spell_array, spelling}
 use Rattle.file_meaning.specs.Changed.{has_its_directory, record_for, after_change}
 use Rattle.file_meaning.specs.Records.{entries_of}
-use Rattle.commit_costs.specs.Apart.{makes_version}
-use Rattle.commit_costs.specs.Lengths.{AreAlike, AreAlikeArrays, AreBothAlike}
-use Rattle.commit_costs.proofs.Lengths.{records_read_no_page, catalogs_read_no_page, changes_keep_alike}
-use Rattle.commit_costs.specs.Costs.{record_length}
+use Rattle.event_core.specs.Apart.{makes_version}
+use Rattle.commit_pages.specs.Lengths.{AreAlike, AreAlikeArrays, AreBothAlike}
+use Rattle.commit_pages.proofs.CountingLengths.{records_read_no_page, catalogs_read_no_page, changes_keep_alike}
+use Rattle.commit_pages.specs.Costs.{record_length}
 use Rattle.commit_writes.specs.Commits.{pages_of, commit_pages, IsBlobSized, IsChainSized}
-use Rattle.commit_pages.specs.declared.written.Written.{Written}
-use Rattle.commit_pages.specs.declared.version.NewVersion.{NewVersion}
+use Rattle.commit_pages.specs.declared.pages.written.Written.{Written}
+use Rattle.commit_pages.specs.declared.pages.version.NewVersion.{NewVersion}
 use Rattle.commit_pages.specs.Versions.{version_in, new_version, version_needs, draft_at, IsWritten}
 use Rattle.commit_pages.specs.Commits.{chain_count, chain_in, spelled, record_bytes, catalog_bytes, record_needs, base_needs, rest_of, with_record, with_base}
-use Rattle.commit_pages.specs.declared.laid.Laid.{Laid}
+use Rattle.commit_pages.specs.declared.pages.laid.Laid.{Laid}
 use Rattle.commit_pages.proofs.Blobs.{all_left}
-use Rattle.commit_pages.proofs.Lengths.{takes}
+use Rattle.commit_pages.proofs.PagesLengths.{takes}
 
 -- ---- a directory comes where a version is made
 

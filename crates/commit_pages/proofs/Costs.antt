@@ -17,8 +17,8 @@ use Rattle.array_geom.specs.declared.chunk.Chunk.{Chunk}
 use Rattle.array_geom.specs.Geometry.{ChunkNumber, frame, has_core, overlaps}
 use Rattle.array_geom.specs.Link.{IsPart, NumbersRise, number_order, is_listed, has_cell}
 use Rattle.array_geom.specs.Link as link
-use Rattle.commit_costs.specs.Chunks.{spelling as payload_spelling}
-use Rattle.commit_costs.specs.Stored.{IsStored}
+use Rattle.chunk_rle.specs.Chunks.{spelling as payload_spelling}
+use Rattle.chunk_rle.specs.Stored.{IsStored}
 use Rattle.chunk_map.specs.declared.directory.DirEntry.{DirEntry}
 use Rattle.chunk_map.specs.declared.directory.Directory.{Directory}
 use Rattle.chunk_map.specs.Entries.{AreRising, entry_at, numbers}
@@ -35,12 +35,12 @@ use Rattle.file_meaning.specs.Standing.{stored_chunk}
 use Rattle.file_meaning.proofs.Counts.{counts_agree}
 use Rattle.file_meaning.proofs.Payloads.{part_stored}
 use Rattle.file_meaning.proofs.FileStored.{beside_stay}
-use Rattle.commit_costs.specs.Costs.{payload_length, payload_pages, directory_for, new_version_pages, record_pages, catalogue_pages}
-use Rattle.commit_costs.specs.Costs.{directory_of as cost_directory}
-use Rattle.commit_costs.specs.Lengths.{AreAlike, AreBothAlike, AreListed, HasItsLength, meets}
-use Rattle.commit_costs.proofs.Catalogs.{record_pages_are_told, catalogue_pages_are_told}
-use Rattle.commit_costs.proofs.Lengths.{directory_bytes as cost_bytes}
-use Rattle.commit_costs.proofs.Orders.{stored_pages, written_pages}
+use Rattle.commit_pages.specs.Costs.{payload_length, payload_pages, directory_for, new_version_pages, record_pages, catalogue_pages}
+use Rattle.commit_pages.specs.Costs.{directory_of as cost_directory}
+use Rattle.commit_pages.specs.Lengths.{AreAlike, AreBothAlike, AreListed, HasItsLength, meets}
+use Rattle.commit_pages.proofs.Catalogs.{record_pages_are_told, catalogue_pages_are_told}
+use Rattle.commit_pages.proofs.CountingLengths.{directory_bytes as cost_bytes}
+use Rattle.commit_pages.proofs.Orders.{stored_pages, written_pages}
 use Rattle.commit_writes.specs.Commits.{pages_of}
 use Rattle.commit_pages.specs.Versions.{blob_count, blob_at, drafted, draft, draft_of, draft_at, entry_of, entries_of, directory_of, directory_bytes, version_needs}
 use Rattle.commit_pages.specs.Changes.{AreValid, IsChangeOf}

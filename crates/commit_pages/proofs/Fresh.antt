@@ -18,13 +18,13 @@ use Rattle.chunk_map.proofs.Moves.{IsBefore}
 use Rattle.plan_changes.specs.Names.{Names}
 use Rattle.plan_changes.specs.declared.change.Change.{Change}
 use Rattle.version_reaper.specs.PageSets.{holds}
-use Rattle.commit_costs.specs.VersionPages.{VersionPages}
-use Rattle.commit_costs.specs.Pages.{is_newest}
+use Rattle.event_core.specs.declared.state.VersionPages.{VersionPages}
+use Rattle.event_core.specs.Pages.{is_newest}
 use Rattle.plan_changes.specs.Changes.{name_of}
 use Rattle.commit_writes.specs.declared.placed.Placed.{Placed}
 use Rattle.commit_writes.specs.Commits.{pages_of}
-use Rattle.commit_pages.specs.declared.written.Written.{Written}
-use Rattle.commit_pages.specs.declared.version.NewVersion.{NewVersion}
+use Rattle.commit_pages.specs.declared.pages.written.Written.{Written}
+use Rattle.commit_pages.specs.declared.pages.version.NewVersion.{NewVersion}
 use Rattle.commit_pages.specs.Versions.{placed, all_placed, settled, entry_of, entries_of, put_by, put_entry, put_entries, directory_of, directory_bytes, version_in, new_version, IsWritten}
 use Rattle.commit_pages.specs.Commits.{chain_in, rest_of, record_bytes, catalog_bytes, record_laid, base_laid}
 use Rattle.commit_pages.specs.Laws.{is_known, AreSamePages, RecordsUseTheGiven, BasesUseTheGiven}

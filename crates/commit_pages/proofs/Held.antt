@@ -17,21 +17,21 @@ use Rattle.chunk_map.specs.declared.directory.Directory.{Directory}
 use Rattle.chunk_map.specs.Entries.{numbers}
 use Rattle.chunk_map.specs.Replacing.{AreReplaced}
 use Rattle.page_chain.specs.Pages.{page_size, HoldsBlob}
-use Rattle.commit_costs.specs.Chunks.{spelling as payload_spelling}
+use Rattle.chunk_rle.specs.Chunks.{spelling as payload_spelling}
 use Rattle.plan_changes.specs.Query.{Query}
 use Rattle.plan_changes.specs.declared.change.Change.TheVariants.{Create, Store, Insert, Remove, RemoveVersions}
 use Rattle.plan_changes.specs.Databases.{Database, fitted, new_rows, newest_rows, rows_if_whole}
 use Rattle.file_meaning.specs.Standing.{HoldsPart, HoldsVersion}
 use Rattle.commit_writes.specs.declared.placed.Placed.{Placed}
 use Rattle.commit_writes.specs.Commits.{pages_of, HoldsBlobs}
-use Rattle.commit_pages.specs.declared.written.Written.{Written}
+use Rattle.commit_pages.specs.declared.pages.written.Written.{Written}
 use Rattle.commit_pages.specs.Versions.{blob_count, placed, all_placed, drafted, draft, settled, entry_of, entries_of, directory_of, directory_bytes, version_in, new_version, version_needs}
 use Rattle.commit_pages.specs.Changes.{AreValid, IsChangeOf}
 use Rattle.commit_pages.specs.Laws.{IsOfRows, IsThere, IsHeld, HoldsVersionOf, VersionsAreHeld}
 use Rattle.commit_pages.proofs.Costs.{IsPutOver, insert_lists, insert_keeps, replaced_has, found_has, map_all, of_entries}
 use Rattle.commit_pages.proofs.Directories.{stores_list_theirs, inserts_replace, draft_rises}
 use Rattle.commit_pages.proofs.Drafts.{is_written}
-use Rattle.commit_pages.proofs.Lengths.{settled_bytes}
+use Rattle.commit_pages.proofs.PagesLengths.{settled_bytes}
 use Rattle.commit_pages.proofs.Blobs.{length_placed}
 use Rattle.commit_pages.proofs.Parts.{all_there}
 use Rattle.commit_pages.proofs.Rules.{behind_fit}

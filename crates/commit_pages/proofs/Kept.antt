@@ -10,7 +10,7 @@ use Rattle.array_rows.proofs.RowSets.{rows_where-put_all}
 use Rattle.array_geom.specs.Geometry.{ChunkNumber, core, frame, overlaps}
 use Rattle.array_geom.specs.Link.{is_not_empty, has_cell}
 use Rattle.array_geom.proofs.CoreLaws.{core_in_frame}
-use Rattle.commit_costs.specs.Lengths.{meets}
+use Rattle.commit_pages.specs.Lengths.{meets}
 
 put_is_some : (x : Row) (rows : List Row) → is_not_empty (put_row x rows) ≡ true
 put_is_some x [] = refl

@@ -1,16 +1,24 @@
 pub mod Blobs
+pub mod Catalogs
 pub mod Chains
 pub mod Costs
+pub mod CountingLengths
+pub mod CountingWorked
 pub mod Directories
 pub mod Drafts
 pub mod Fresh
 pub mod Held
 pub mod Kept
-pub mod Lengths
+pub mod Legal
+pub mod Logs
 pub mod Loops
 pub mod Needs
+pub mod Orders
+pub mod PagesLengths
+pub mod PagesWorked
 pub mod Parts
 pub mod Results
 pub mod Rules
 pub mod Same
-pub mod Worked
+pub mod Sharing
+mod WorkedLengths

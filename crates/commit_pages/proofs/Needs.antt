@@ -3,7 +3,7 @@ use Rattle.std.proofs.Common.{◌≡◌, ◌∙◌, ℕ, ◌+◌, Option, Some, 
 use Rattle.std.proofs.lemmas.List.{length-replicate}
 use Rattle.chunk_map.specs.declared.directory.Directory.{Directory}
 use Rattle.file_meaning.specs.BlobAt.{BlobAt}
-use Rattle.commit_pages.specs.declared.written.Written.{Written}
+use Rattle.commit_pages.specs.declared.pages.written.Written.{Written}
 use Rattle.commit_pages.specs.Versions.{blob_count, directory_bytes, draft_at, count_at, payload_count, version_needs}
 
 needs : (written : Option Written) (newest : Directory) → payload_count written + count_at (draft_at written newest) ≡ version_needs written newest

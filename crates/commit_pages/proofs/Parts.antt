@@ -8,8 +8,8 @@ use Rattle.array_rows.specs.Boxes.{by_pairs}
 use Rattle.array_geom.specs.declared.chunk.Chunk.{Chunk}
 use Rattle.array_geom.specs.Geometry.{overlaps}
 use Rattle.array_geom.specs.Link.{IsPart}
-use Rattle.commit_costs.specs.Chunks.{spelling}
-use Rattle.commit_costs.specs.Stored.{IsStored}
+use Rattle.chunk_rle.specs.Chunks.{spelling}
+use Rattle.chunk_rle.specs.Stored.{IsStored}
 use Rattle.page_chain.specs.Pages.{page_size, blob}
 use Rattle.page_chain.proofs.PageLaws.{blob_read}
 use Rattle.file_meaning.proofs.Payloads.{part_stored, spelled_is_read}

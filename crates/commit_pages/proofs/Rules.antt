@@ -21,28 +21,28 @@ use Rattle.chunk_map.specs.declared.directory.Directory.{Directory}
 use Rattle.chunk_map.specs.Entries.{AreRising}
 use Rattle.chunk_map.specs.Spelling.{spelling as directory_spelling, spell_entry, IsEntry, IsDirectory}
 use Rattle.chunk_map.proofs.Replacements.{are_directories}
-use Rattle.commit_costs.specs.Chunks.{spelling as payload_spelling, as_runs}
-use Rattle.commit_costs.specs.Spelling.{spell_runs, spell_position_run, spell_column}
-use Rattle.commit_costs.specs.Stored.{IsStored}
+use Rattle.chunk_rle.specs.Chunks.{spelling as payload_spelling, as_runs}
+use Rattle.chunk_rle.specs.Spelling.{spell_runs, spell_position_run, spell_column}
+use Rattle.chunk_rle.specs.Stored.{IsStored}
 use Rattle.file_items.specs.Pages.{LieIn}
 use Rattle.file_meaning.proofs.Counts.{counts_agree}
 use Rattle.file_meaning.specs.BlobAt.{BlobAt}
 use Rattle.file_meaning.specs.Changed.{IsItsBlob}
 use Rattle.commit_writes.specs.declared.placed.Placed.{Placed}
 use Rattle.commit_writes.specs.Commits.{pages_of, IsBlobSized}
-use Rattle.commit_pages.specs.declared.written.Written.{Written}
+use Rattle.commit_pages.specs.declared.pages.written.Written.{Written}
 use Rattle.commit_pages.specs.Versions.{blob_count, all_placed, drafted, draft, settled, entry_of, entries_of, directory_of, directory_bytes, version_in, new_version, version_needs, IsWritten, CanBeListed}
 use Rattle.commit_pages.specs.Changes.{AreValid}
 use Rattle.commit_pages.specs.Commits.{record_needs, base_needs, with_record, with_base}
-use Rattle.commit_pages.specs.declared.laid.Laid.{Laid}
-use Rattle.commit_pages.specs.declared.version.NewVersion.{NewVersion}
+use Rattle.commit_pages.specs.declared.pages.laid.Laid.{Laid}
+use Rattle.commit_pages.specs.declared.pages.version.NewVersion.{NewVersion}
 use Rattle.page_chain.specs.Pages.{page_size, pages_for}
 use Rattle.plan_changes.specs.declared.change.Change.{Change}
 use Rattle.file_meaning.specs.Catalog.{Catalog}
 use Rattle.commit_pages.proofs.Blobs.{both_fit, length_placed, sized_placed}
 use Rattle.commit_pages.proofs.Costs.{core_length}
 use Rattle.commit_pages.proofs.Directories.{entries_rise, stores_list_theirs, inserts_replace}
-use Rattle.commit_pages.proofs.Lengths.{settled_bytes}
+use Rattle.commit_pages.proofs.PagesLengths.{settled_bytes}
 
 -- ---- pages that four bytes name
 

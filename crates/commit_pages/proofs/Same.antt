@@ -3,8 +3,8 @@ use Rattle.std.proofs.Common.{◌≡◌, ◌∙◌, ℕ, ◌+◌, Bool, true, fa
 use Rattle.std.specs.Prelude.{nat_eq}
 use Rattle.std.proofs.lemmas.List.{length-append}
 use Rattle.version_reaper.specs.PageSets.{holds}
-use Rattle.commit_costs.specs.Allowed.{are_different}
-use Rattle.commit_costs.proofs.Tests.{eq_sym}
+use Rattle.event_core.specs.Allowed.{are_different}
+use Rattle.event_core.proofs.Tests.{eq_sym}
 use Rattle.commit_pages.specs.Laws.{AreSamePages}
 
 or_assoc : (a b c : Bool) → (a || (b || c)) ≡ ((a || b) || c)

@@ -6,11 +6,11 @@ use Rattle.array_rows.specs.Arrays.{AreRowsOf}
 use Rattle.array_geom.specs.declared.chunk.Changed.{Changed}
 use Rattle.array_geom.specs.Geometry.{ChunkNumber, overlaps}
 use Rattle.array_geom.specs.Link.{IsPart, NumbersRise, numbers, is_listed, has_cell}
-use Rattle.commit_costs.specs.Stored.{IsStored}
+use Rattle.chunk_rle.specs.Stored.{IsStored}
 use Rattle.plan_changes.specs.declared.change.Change.{Change}
 use Rattle.plan_changes.specs.declared.change.Change.TheVariants.{Create, Store, Insert, Remove, RemoveVersions}
 use Rattle.plan_changes.specs.Databases.{Database, fitted, fault_of_change, new_rows, rows_if_whole}
-use Rattle.commit_costs.specs.Lengths.{meets}
+use Rattle.commit_pages.specs.Lengths.{meets}
 
 -- the schema of the array of which a change makes a version, and whether it is the whole version that comes
 abbrev pub IsOf : Schema → Bool → Changed → Type 0

@@ -23,18 +23,18 @@ use Rattle.plan_changes.specs.Typed.{IsTypedFor}
 use Rattle.file_meaning.specs.BlobAt.{BlobAt}
 use Rattle.file_meaning.specs.Catalog.{Catalog}
 use Rattle.version_reaper.specs.PageSets.{holds}
-use Rattle.commit_costs.specs.VersionPages.{VersionPages}
-use Rattle.commit_costs.specs.Allowed.{are_different}
-use Rattle.commit_costs.specs.Apart.{makes_version}
-use Rattle.commit_costs.specs.Bases.{records_at}
-use Rattle.commit_costs.specs.History.{History}
-use Rattle.commit_costs.specs.Pages.{fresh_of, is_newest}
+use Rattle.event_core.specs.declared.state.VersionPages.{VersionPages}
+use Rattle.event_core.specs.Allowed.{are_different}
+use Rattle.event_core.specs.Apart.{makes_version}
+use Rattle.event_core.specs.Bases.{records_at}
+use Rattle.event_core.specs.History.{History}
+use Rattle.event_core.specs.Pages.{fresh_of, is_newest}
 use Rattle.file_meaning.specs.Standing.{HoldsPart, HoldsVersion}
-use Rattle.commit_costs.specs.Costs.{catalog_of, has_log_room, cost_from}
-use Rattle.commit_costs.specs.Lengths.{AreAlikeCatalogs, AreListed, HasItsLength}
+use Rattle.commit_pages.specs.Costs.{catalog_of, has_log_room, cost_from}
+use Rattle.commit_pages.specs.Lengths.{AreAlikeCatalogs, AreListed, HasItsLength}
 use Rattle.commit_writes.specs.Commits.{pages_of, HoldsBlobs}
-use Rattle.commit_pages.specs.declared.version.NewVersion.{NewVersion}
-use Rattle.commit_pages.specs.declared.written.Written.{Written}
+use Rattle.commit_pages.specs.declared.pages.version.NewVersion.{NewVersion}
+use Rattle.commit_pages.specs.declared.pages.written.Written.{Written}
 use Rattle.commit_pages.specs.Versions.{draft, draft_of, settled, entries_of, directory_of, new_version, version_needs, HasRisingNumbers, IsWritten}
 use Rattle.commit_pages.specs.Changes.{ComesWith, AreValid, IsChangeOf}
 use Rattle.commit_pages.specs.Commits.{record_needs, base_needs, record_laid, base_laid}

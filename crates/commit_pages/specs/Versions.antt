@@ -7,7 +7,7 @@ use Rattle.arrayvec.specs.ArrayVec.{ArrayVec}
 use Rattle.array_rows.specs.Boxes.{by_pairs}
 use Rattle.array_geom.specs.declared.chunk.Changed.{Changed}
 use Rattle.array_geom.specs.Link.{number_order, NumbersRise}
-use Rattle.commit_costs.specs.Chunks.{spelling as payload_spelling}
+use Rattle.chunk_rle.specs.Chunks.{spelling as payload_spelling}
 use Rattle.chunk_map.specs.declared.directory.DirEntry.{DirEntry}
 use Rattle.chunk_map.specs.declared.directory.Directory.{Directory}
 use Rattle.chunk_map.specs.Spelling.{spelling as directory_spelling}
@@ -16,8 +16,8 @@ use Rattle.file_meaning.specs.BlobAt.{BlobAt}
 use Rattle.file_meaning.specs.Opening.{version_pages}
 use Rattle.commit_writes.specs.declared.placed.Placed.{Placed}
 use Rattle.commit_writes.specs.Commits.{pages_of, IsBlobSized}
-use Rattle.commit_pages.specs.declared.written.Written.{Written}
-use Rattle.commit_pages.specs.declared.version.NewVersion.{NewVersion}
+use Rattle.commit_pages.specs.declared.pages.written.Written.{Written}
+use Rattle.commit_pages.specs.declared.pages.version.NewVersion.{NewVersion}
 
 -- ---- blobs
 

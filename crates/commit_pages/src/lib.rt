@@ -1,17 +1,16 @@
-//! What a commit of a change writes, and the pages that it takes, as many as it costs. It knows no disk and no history.
+//! What a commit of a change writes, and the pages that it takes, as many as it costs.
 #![tactic(auto)]
 
-mod laid;
-mod laws;
-mod needed;
-mod version;
-mod written;
+mod counting;
+mod pages;
 
-pub use laid::{Laid, lay_base, lay_record};
-pub use laws::{
-    an_insert_is_laid, commits_take_what_they_cost, commits_use_the_given_pages,
-    directories_take_entries, new_versions_are_held, written_chunks_are_there,
+pub use counting::{
+    a_history_is_legal_at_its_costs, commits_cost_their_pages, costs_follow_the_catalogue,
+    lengths_hang_on_no_page, logs_come_round, payloads_cost_the_same_in_any_order,
+    versions_share_pages_legally,
 };
-pub use needed::{needed_for_base, needed_for_record};
-pub use version::NewVersion;
-pub use written::{Written, draft};
+pub use pages::{
+    Laid, NewVersion, Written, an_insert_is_laid, commits_take_what_they_cost,
+    commits_use_the_given_pages, directories_take_entries, draft, lay_base, lay_record,
+    needed_for_base, needed_for_record, new_versions_are_held, written_chunks_are_there,
+};

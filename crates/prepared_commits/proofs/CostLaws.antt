@@ -23,15 +23,15 @@ use Rattle.event_core.specs.Bases.{records_at}
 use Rattle.event_core.specs.Cells.{at}
 use Rattle.event_core.specs.History.{History, names_at}
 use Rattle.file_meaning.specs.declared.meaning.found.Found.{Found}
-use Rattle.laid_commits.specs.Premises.{StandsBy, row_of}
-use Rattle.commit_costs.specs.Costs.{cost_from, has_log_room}
+use Rattle.store_state.specs.Premises.{StandsBy, row_of}
+use Rattle.commit_pages.specs.Costs.{cost_from, has_log_room}
 use Rattle.commit_pages.specs.Changes.{ComesWith}
 use Rattle.commit_pages.specs.Versions.{draft_of}
 use Rattle.commit_pages.specs.Laws.{IsOver, RecordsCostTheirPages, BasesCostTheirPages}
-use Rattle.laid_commits.specs.LaidPremises.{IsNewestIn, last_of_row, newest_in}
-use Rattle.laid_commits.specs.CostsLaws.{FoundFilesAreOver}
-use Rattle.laid_commits.specs.RowsLaws.{NewestAreLast, StandInOrder}
-use Rattle.laid_commits.specs.Rows.{AreInOrder, directories_in}
+use Rattle.store_state.specs.LaidPremises.{IsNewestIn, last_of_row, newest_in}
+use Rattle.store_state.specs.CostsLaws.{FoundFilesAreOver}
+use Rattle.store_state.specs.RowsLaws.{NewestAreLast, StandInOrder}
+use Rattle.store_state.specs.Rows.{AreInOrder, directories_in}
 use Rattle.store_ledger.specs.Ledger.{history}
 use Rattle.store_versions.specs.Versions.{HaveDirectories, MadeVersion, directory_of}
 use Rattle.store_versions.proofs.Made.{named_versions_have_directories}

@@ -1,6 +1,6 @@
-pub use Rattle.laid_commits.proofs.Cores
 pub use Rattle.store_state.proofs.AtOn
 pub use Rattle.store_state.proofs.Attempts
+pub use Rattle.store_state.proofs.Cores
 pub use Rattle.store_state.proofs.Decodes
 pub use Rattle.store_state.proofs.KeptOn
 pub use Rattle.store_state.proofs.Lists

@@ -22,12 +22,12 @@ use Rattle.event_core.specs.Agree.{can_name}
 use Rattle.event_core.specs.History.{is_pages_of}
 use Rattle.event_core.specs.Pages.{is_newest}
 use Rattle.event_core.proofs.Tests.{any_weaker}
-use Rattle.laid_commits.proofs.Parts.{front_all, rest_all}
-use Rattle.laid_commits.specs.Premises.{row_of}
-use Rattle.laid_commits.specs.LaidPremises.{last_of_row}
+use Rattle.store_state.proofs.Parts.{front_all, rest_all}
+use Rattle.store_state.specs.Premises.{row_of}
+use Rattle.store_state.specs.LaidPremises.{last_of_row}
 use Rattle.store_versions.specs.Versions.{HaveDirectories, MadeVersion, directory_of, is_numbered, is_of}
-use Rattle.laid_commits.specs.RowsLaws.{NewestAreLast, StandInOrder}
-use Rattle.laid_commits.specs.Rows.{directories_in}
+use Rattle.store_state.specs.RowsLaws.{NewestAreLast, StandInOrder}
+use Rattle.store_state.specs.Rows.{directories_in}
 use Rattle.store_state.specs.Inner.Keeping.{AreDirectoriesOf, HasItsPages, IsDirectoryOf}
 use Rattle.store_state.proofs.Finds.{any_found, found_in_all}
 use Rattle.prepared_commits.specs.Needs.{or_empty}

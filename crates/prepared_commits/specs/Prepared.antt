@@ -27,7 +27,7 @@ use Rattle.store_state.specs.Costs.{cost_from}
 use Rattle.commit_writes.specs.Commits.{IsBlobSized, IsChainSized}
 use Rattle.store_state.specs.Laid.{Laid}
 use Rattle.store_state.specs.Changes.{ComesWith, AreValid, IsChangeOf}
-use Rattle.store_state.specs.declared.parts.StoreParts.{StoreParts}
+use Rattle.store_state.specs.declared.state.parts.StoreParts.{StoreParts}
 use Rattle.store_state.specs.At.{keeping, standing}
 use Rattle.store_state.specs.Standings.{Standing, BeganAs, WasTriedBy, base_of}
 use Rattle.store_state.specs.Inner.Keeping.{Keeping, IsDirectoryOf}

@@ -5,7 +5,7 @@ ghost use Rattle.array_geom.specs.declared.chunk.Changed.{Changed};
 ghost use Rattle.plan_changes.specs.declared.change.Change.{Change};
 ghost use Rattle.plan_changes.specs.Databases.{Database};
 ghost use Rattle.event_core.specs.Cells.{at};
-ghost use Rattle.commit_costs.specs.Costs.{cost_from};
+ghost use Rattle.commit_pages.specs.Costs.{cost_from};
 ghost use Rattle.store_ledger.specs.Ledger.{history};
 ghost use Rattle.store_state.specs.At.{IsAt};
 ghost use Rattle.store_state.specs.Standings.{Standing, BeganAs, base_of};
@@ -15,7 +15,7 @@ ghost use Rattle.prepared_commits.specs.Prepared.{IsAsked};
 
 use afl_outside::Disk;
 use commit_pages::commits_take_what_they_cost;
-use laid_commits::{found_files_are_over, newest_are_last};
+use store_state::{found_files_are_over, newest_are_last};
 
 /// On an honest disk that began as a database, a commit needs as many pages as its change costs over the database of now.
 pub fn commits_need_what_they_cost<D: Disk>()

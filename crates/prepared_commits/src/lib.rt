@@ -11,6 +11,5 @@ pub use commits::{
     let_go_table, let_go_version, let_go_written,
 };
 pub use costs::commits_need_what_they_cost;
-pub use laid_commits::found_files_are_over;
 pub use parts::{Layout, prepared_over};
-pub use store_state::{ReadFault, StoreParts, Written, a_store_is_kept};
+pub use store_state::{ReadFault, StoreParts, Written, a_store_is_kept, found_files_are_over};

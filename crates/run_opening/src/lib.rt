@@ -1,13 +1,10 @@
-//! How a run opens what its words name.
+//! How a run opens what its words name: the device, its store, and the streams of each script; and how it closes the store after its sessions.
 #![tactic(auto)]
 
-mod causes;
-mod device;
 mod opening;
-mod replies;
-mod room;
-mod scripts;
+mod stores;
 
-pub use device::open_device;
-pub use opening::open_streams;
-pub use replies::open_reply;
+pub use array_store::Store;
+pub use opening::{open_device, open_reply, open_streams};
+pub use store_opening::Limits;
+pub use stores::{StoreRun, close_store, open_store};

@@ -22,7 +22,7 @@ use Rattle.snapshot_manager.specs.Start.{Start}
 use Rattle.snapshot_manager.specs.declared.seat.Seat.{Seat}
 use Rattle.snapshot_manager.specs.declared.shared.Shared.{Shared}
 use Rattle.snapshot_manager.specs.Faults.{IsUnreadUnder}
-use Rattle.snapshot_manager.specs.Laws.{SeesTheSame}
+use Rattle.snapshot_manager.specs.ToldLaws.{SeesTheSame}
 use Rattle.snapshot_manager.specs.Seats.{ledger_seen, read_count, seen, session_of, start, store_seen, HoldsPin, IsIdle, IsSameSeat, IsSeatOf}
 use Rattle.snapshot_manager.specs.Told.{told}
 use Rattle.snapshot_manager.specs.Turns.{Adds, AddsAtMostNote}

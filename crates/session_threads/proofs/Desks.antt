@@ -13,7 +13,7 @@ use Rattle.turn_lock.proofs.Gathering.{all_last, all_left, places_more}
 use Rattle.turn_lock.proofs.Lists.{below_one_less, none_append}
 use Rattle.event_core.specs.Allowed.{is_pinned}
 use Rattle.store_ledger.specs.Ledger.{history}
-use Rattle.store_state.specs.declared.event.Event.{Event}
+use Rattle.store_state.specs.declared.state.event.Event.{Event}
 use Rattle.store_state.specs.Events.{owner_of}
 use Rattle.snapshot_manager.specs.Seats.{seen, session_of, start, AreIdleSeats, AreNewSeats, ExtendEach, HoldsNone, IsIdle, IsNewSeat, IsSeatOf}
 use Rattle.snapshot_manager.specs.Told.{ledger_of}

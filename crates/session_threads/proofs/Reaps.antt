@@ -3,7 +3,7 @@ use Rattle.std.proofs.Common.{◌≡◌, ℕ, List, [], ◌++◌, Bool, true, fa
 use Rattle.std.specs.Prelude.{IfOk, OnErr}
 use Rattle.turn_lock.specs.Owners.{none_of}
 use Rattle.turn_lock.proofs.Lists.{none_append}
-use Rattle.store_state.specs.declared.event.Event.{Event}
+use Rattle.store_state.specs.declared.state.event.Event.{Event}
 use Rattle.store_state.specs.Events.{owner_of}
 use Rattle.snapshot_manager.specs.Seats.{seen, session_of, IsIdle, IsSameSeat, IsSeatOf}
 use Rattle.snapshot_manager.specs.Turns.{reap_events, Adds}

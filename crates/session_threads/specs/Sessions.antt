@@ -5,7 +5,7 @@ use Rattle.afl_outside.specs.Disk.{Moment}
 use Rattle.afl_outside.specs.Sink.{SinkState}
 use Rattle.afl_outside.specs.Source.{SourceState}
 use Rattle.turn_lock.specs.Owners.{AreOwnedBelow, ExtendsByOthers}
-use Rattle.store_state.specs.declared.event.Event.{Event}
+use Rattle.store_state.specs.declared.state.event.Event.{Event}
 use Rattle.store_state.specs.Events.{owner_of}
 use Rattle.snapshot_manager.specs.Start.{Start}
 use Rattle.snapshot_manager.specs.Told.{is_sealed}

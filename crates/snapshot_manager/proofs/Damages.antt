@@ -2,13 +2,13 @@
 use Rattle.std.proofs.Common.{◌≡◌, ◌∙◌, ℕ, List, ap, subst, sym}
 use Rattle.afl_outside.specs.Disk.{Moment}
 use Rattle.cell_values.specs.declared.schema.Schema.{Schema}
-use Rattle.told_stores.specs.Event.{Event}
-use Rattle.told_stores.specs.StoreParts.{StoreParts}
-use Rattle.told_stores.specs.At.{standing}
+use Rattle.array_store.specs.Event.{Event}
+use Rattle.array_store.specs.StoreParts.{StoreParts}
+use Rattle.array_store.specs.At.{standing}
 use Rattle.store_state.specs.Payloads.{HasTold, WasDamagedAt}
-use Rattle.told_stores.specs.Standings.{Standing}
-use Rattle.told_stores.specs.Start.{Start}
-use Rattle.told_stores.specs.Told.{IsTold, told}
+use Rattle.array_store.specs.Standings.{Standing}
+use Rattle.array_store.specs.declared.store.start.Start.{Start}
+use Rattle.array_store.specs.Told.{IsTold, told}
 
 -- what a turn's store says of its first versions holds of those that any events of the same start tell
 pub damaged_was : {D : Type 0} (moment : D → Moment) (start : Start D) (old seen : List Event) (parts value : StoreParts D) → parts ≡ value → IsTold start seen (standing moment value) →

@@ -6,12 +6,12 @@ use Rattle.turn_lock.specs.Seats.{AreNewSeats as AreNewTurnSeats, IsNewSeat as I
 use Rattle.turn_lock.specs.declared.turns.view.Claim.{Claim}
 use Rattle.turn_lock.specs.declared.turns.seat.LockSeat.{LockSeat}
 use Rattle.turn_lock.proofs.Gathering.{places_more}
-use Rattle.told_stores.specs.Event.{Event}
-use Rattle.told_stores.specs.StoreParts.{StoreParts}
+use Rattle.array_store.specs.Event.{Event}
+use Rattle.array_store.specs.StoreParts.{StoreParts}
 use Rattle.snapshot_manager.specs.declared.seat.Seat.{Seat}
 use Rattle.snapshot_manager.specs.declared.shared.Shared.{Shared}
 use Rattle.snapshot_manager.specs.Seats.{AreNewSeats, IsNewSeat}
-use Rattle.told_stores.specs.Told.{entries_in, is_sealed}
+use Rattle.array_store.specs.Told.{entries_in, is_sealed}
 
 module _ {A : Type 0} where
   get_dropped : (xs : List A) (n : ℕ) → slice_get (drop n xs) 0 ≡ slice_get xs n

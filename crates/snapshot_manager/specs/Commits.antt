@@ -1,8 +1,8 @@
 -- What is said of each answer of a commit.
 use Rattle.std.specs.Prelude.{ℕ, Result, Ok, Err}
 use Rattle.turn_lock.specs.declared.turns.seat.Turn.{Turn}
-use Rattle.told_stores.specs.StoreParts.{StoreParts}
-use Rattle.told_stores.specs.declared.commits.fault.CommitFault.{CommitFault}
+use Rattle.array_store.specs.StoreParts.{StoreParts}
+use Rattle.array_store.specs.declared.told.commits.fault.CommitFault.{CommitFault}
 use Rattle.snapshot_manager.specs.declared.committing.Commit.{Commit}
 use Rattle.snapshot_manager.specs.declared.committing.Commit.TheVariants.{Done, Stale}
 

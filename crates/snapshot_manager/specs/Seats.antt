@@ -9,17 +9,17 @@ use Rattle.turn_lock.specs.declared.turns.seat.Turn.{Turn}
 use Rattle.event_core.specs.Allowed.{is_pinned}
 use Rattle.store_ledger.specs.declared.pinned.Pinned.{Pinned}
 use Rattle.store_ledger.specs.Ledger.{LedgerState, history, IsOpenPin}
-use Rattle.told_stores.specs.Event.{Event}
-use Rattle.told_stores.specs.StoreParts.{StoreParts}
-use Rattle.told_stores.specs.At.{standing}
-use Rattle.told_stores.specs.Events.{owner_of}
-use Rattle.told_stores.specs.Standings.{Standing}
-use Rattle.told_stores.specs.Start.{Start}
-use Rattle.told_stores.specs.Starts.{start_of}
+use Rattle.array_store.specs.Event.{Event}
+use Rattle.array_store.specs.StoreParts.{StoreParts}
+use Rattle.array_store.specs.At.{standing}
+use Rattle.array_store.specs.Events.{owner_of}
+use Rattle.array_store.specs.Standings.{Standing}
+use Rattle.array_store.specs.declared.store.start.Start.{Start}
+use Rattle.array_store.specs.Starts.{start_of}
 use Rattle.snapshot_manager.specs.declared.shared.Shared.{Shared}
 use Rattle.snapshot_manager.specs.declared.seat.Seat.{Seat}
-use Rattle.told_stores.specs.Told.{entries_in, is_sealed, ledger_of, told}
-use Rattle.told_stores.specs.Turns.{found_before}
+use Rattle.array_store.specs.Told.{entries_in, is_sealed, ledger_of, told}
+use Rattle.array_store.specs.Turns.{found_before}
 
 module _ {D : Type 0} where
   -- ---- a shared store

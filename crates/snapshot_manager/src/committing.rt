@@ -1,6 +1,6 @@
 //! Commits of a store that is shared.
 ghost use Rattle.std.specs.Prelude.{◌≡◌, ◌+◌, ◌-◌, ◌^◌, ◌<◌, [], false, length, IfErr, IfOk, IfSome, OnErr, OnOk, IsTrue};
-ghost use Rattle.told_stores.specs.Changes.{AreValid, ComesWith};
+ghost use Rattle.array_store.specs.Changes.{AreValid, ComesWith};
 ghost use Rattle.plan_changes.specs.Databases.{Database};
 ghost use Rattle.plan_changes.specs.Stored.{HasItsNames};
 ghost use Rattle.plan_changes.specs.Typed.{IsTypedFor};
@@ -8,29 +8,29 @@ ghost use Rattle.event_core.specs.Allowed.{is_pinned};
 ghost use Rattle.event_core.specs.Bases.{sequence_at};
 ghost use Rattle.event_core.specs.History.{names_at};
 ghost use Rattle.store_ledger.specs.Ledger.{history, is_noted, is_tried};
-ghost use Rattle.told_stores.specs.At.{standing};
-ghost use Rattle.told_stores.specs.Calls.{database_with, history_at};
-ghost use Rattle.told_stores.specs.Events.{events};
-ghost use Rattle.told_stores.specs.Standings.{base_of, BeganAs};
-ghost use Rattle.told_stores.specs.Prepared.{IsAsked, MayBeMade};
-ghost use Rattle.told_stores.specs.Starts.{start_of};
-ghost use Rattle.told_stores.specs.Causes.{FitsAfter, IsUncommitted};
+ghost use Rattle.array_store.specs.At.{standing};
+ghost use Rattle.array_store.specs.Calls.{database_with, history_at};
+ghost use Rattle.array_store.specs.Events.{events};
+ghost use Rattle.array_store.specs.Standings.{base_of, BeganAs};
+ghost use Rattle.array_store.specs.Prepared.{IsAsked, MayBeMade};
+ghost use Rattle.array_store.specs.Starts.{start_of};
+ghost use Rattle.array_store.specs.Causes.{FitsAfter, IsUncommitted};
 ghost use Rattle.snapshot_manager.specs.Commits.{IfDone, IfStale, OnEnd};
-ghost use Rattle.told_stores.specs.Tries.{is_fresh_since, MakesCommit, MakesHere, TriesCommit, TriesHere};
+ghost use Rattle.array_store.specs.Tries.{is_fresh_since, MakesCommit, MakesHere, TriesCommit, TriesHere};
 ghost use Rattle.snapshot_manager.specs.Seats.{ledger_seen, read_count, seen, session_of, start, store_of};
 ghost use Rattle.snapshot_manager.specs.Seats.{store_seen, HasTurn, HoldsPin, IsIdle, IsSameSeat, IsSeatOf};
-ghost use Rattle.told_stores.specs.Told.{IsTold};
-ghost use Rattle.told_stores.specs.Turns.{Adds};
+ghost use Rattle.array_store.specs.Told.{IsTold};
+ghost use Rattle.array_store.specs.Turns.{Adds};
 
 use crate::seat::Seat;
 use crate::shared::{Shared, StoreTurn};
 use afl_outside::Disk;
 use array_geom::Changed;
+use array_store::{CommitFault, commit, fresh_changes_may_be_made, fresh_changes_stay, give_up};
 use plan_changes::Change;
 use std::alloc::Global;
 use std::sync::Wait;
 use store_ledger::Pinned;
-use told_stores::{CommitFault, commit, fresh_changes_may_be_made, fresh_changes_stay, give_up};
 
 /// What came of a commit that wasn't refused.
 pub enum Commit<D: Disk> {

@@ -6,9 +6,9 @@ ghost use Rattle.snapshot_manager.specs.Seats.{first_store, seats_in_all, AreNew
 use crate::seat::Seat;
 use crate::shared::Shared;
 use afl_outside::Disk;
+use array_store::{Store, let_go_all};
 use cell_values::{List, Memory};
 use std::alloc::Global;
-use told_stores::{Store, let_go_all};
 use turn_lock::{Bell, LockSeat, TurnLock, TurnSeat};
 
 impl<D: Disk> Shared<D> {

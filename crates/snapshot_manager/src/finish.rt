@@ -1,16 +1,16 @@
 //! How a store is taken back from its sessions.
 ghost use Rattle.std.specs.Prelude.{◌≡◌, length};
 ghost use Rattle.turn_lock.specs.Owners.{AreOwnedBelow};
-ghost use Rattle.told_stores.specs.At.{standing};
-ghost use Rattle.told_stores.specs.Events.{events, owner_of};
-ghost use Rattle.told_stores.specs.Starts.{start_of};
+ghost use Rattle.array_store.specs.At.{standing};
+ghost use Rattle.array_store.specs.Events.{events, owner_of};
+ghost use Rattle.array_store.specs.Starts.{start_of};
 ghost use Rattle.snapshot_manager.specs.Seats.{seats_in_all, start, AreIdleSeats, ExtendEach};
 
 use crate::seat::Seat;
 use crate::shared::Shared;
 use afl_outside::Disk;
+use array_store::Store;
 use cell_values::List;
-use told_stores::Store;
 
 impl<D: Disk> Shared<D> {
     /// Hands the store back, once all its seats are. This takes no memory.

@@ -10,7 +10,7 @@ mod seat;
 mod shared;
 mod turns;
 
+pub use array_store::{CommitFault, ReadFault, Store, commit};
 pub use committing::Commit;
 pub use seat::Seat;
 pub use shared::{Shared, StoreTurn};
-pub use told_stores::{CommitFault, ReadFault, Store, commit};

@@ -6,13 +6,13 @@ ghost use Rattle.event_core.specs.declared.entry.Entry.TheVariants.{Pin, Unpin};
 ghost use Rattle.event_core.specs.History.{names_at};
 ghost use Rattle.store_ledger.specs.declared.note.NoteKind.{NoteKind};
 ghost use Rattle.store_ledger.specs.Ledger.{has_room, history, is_noted, reap_comes, IsRefused};
-ghost use Rattle.told_stores.specs.Event.TheVariants.{Entered};
-ghost use Rattle.told_stores.specs.Calls.{database_with};
-ghost use Rattle.told_stores.specs.Standings.{BeganAs};
-ghost use Rattle.told_stores.specs.Databases.{IsDatabaseOf};
+ghost use Rattle.array_store.specs.Event.TheVariants.{Entered};
+ghost use Rattle.array_store.specs.Calls.{database_with};
+ghost use Rattle.array_store.specs.Standings.{BeganAs};
+ghost use Rattle.array_store.specs.Databases.{IsDatabaseOf};
 ghost use Rattle.snapshot_manager.specs.Seats.{ledger_found, ledger_seen, read_count, seen, session_of, start};
 ghost use Rattle.snapshot_manager.specs.Seats.{store_seen, HoldsNone, HoldsPin, IsIdle, IsSameSeat, IsSeatOf};
-ghost use Rattle.told_stores.specs.Turns.{pin_event, reap_events, Adds};
+ghost use Rattle.array_store.specs.Turns.{pin_event, reap_events, Adds};
 
 use crate::seat::Seat;
 use crate::shared::Shared;

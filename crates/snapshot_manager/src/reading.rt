@@ -4,24 +4,24 @@ ghost use Rattle.afl_outside.specs.Counts.{risen};
 ghost use Rattle.array_geom.specs.Link.{NumbersRise};
 ghost use Rattle.chunk_source.specs.Source.{numbers_of, is_among, AreNumbersIn, IsChunkIn, IsStored};
 ghost use Rattle.plan_changes.specs.Databases.{Database, rows_of};
-ghost use Rattle.told_stores.specs.Calls.{chunks_at, database_with, payload_at, IsLeafOf};
+ghost use Rattle.array_store.specs.Calls.{chunks_at, database_with, payload_at, IsLeafOf};
 ghost use Rattle.store_state.specs.Payloads.{HasTold, WasDamagedAt};
-ghost use Rattle.told_stores.specs.Standings.{BeganAs};
-ghost use Rattle.told_stores.specs.ReadFault.TheVariants.{Damaged};
-ghost use Rattle.told_stores.specs.Faults.{IsUnreadUnder};
+ghost use Rattle.array_store.specs.Standings.{BeganAs};
+ghost use Rattle.array_store.specs.ReadFault.TheVariants.{Damaged};
+ghost use Rattle.array_store.specs.Faults.{IsUnreadUnder};
 ghost use Rattle.snapshot_manager.specs.Seats.{ledger_seen, read_count, seen, session_of, start, store_seen, HoldsPin, IsIdle, IsSameSeat, IsSeatOf};
-ghost use Rattle.told_stores.specs.Turns.{Adds, AddsAtMostNote};
+ghost use Rattle.array_store.specs.Turns.{Adds, AddsAtMostNote};
 
 use crate::seat::Seat;
 use crate::shared::Shared;
 use afl_outside::Disk;
 use array_geom::Chunk;
+use array_store::ReadFault;
 use cell_values::{ChunkAt, List, Memory};
 use logical_plan::Leaf;
 use std::alloc::Global;
 use std::sync::Wait;
 use store_ledger::Pinned;
-use told_stores::ReadFault;
 
 impl<D: Disk> Shared<D> {
     /// The numbers of a leaf's chunks under the session's pin, rising.

@@ -3,7 +3,7 @@ ghost use Rattle.std.specs.Prelude.{◌≡◌};
 ghost use Rattle.snapshot_manager.specs.Seats.{entry_count, last_place, read_count, session_of, with_last};
 
 use afl_outside::Disk;
-use told_stores::{Store, let_go};
+use array_store::{Store, let_go};
 use turn_lock::TurnSeat;
 
 /// A seat, for one thread at a time.

@@ -1,7 +1,7 @@
 //! A store that several threads share.
 
 use afl_outside::Disk;
-use told_stores::Store;
+use array_store::Store;
 use turn_lock::{Bell, Turn, TurnLock};
 
 /// A store behind a turn lock, and the bell of its reaper. It can't be dropped: `finish` hands the store back.

@@ -1,12 +1,12 @@
 //! Turns of the store.
 ghost use Rattle.std.specs.Prelude.{◌≡◌, []};
 ghost use Rattle.turn_lock.specs.Owners.{ExtendsByOwn};
-ghost use Rattle.told_stores.specs.At.{AreParts, standing};
-ghost use Rattle.told_stores.specs.Events.{events, owner_of};
-ghost use Rattle.told_stores.specs.Starts.{start_of};
+ghost use Rattle.array_store.specs.At.{AreParts, standing};
+ghost use Rattle.array_store.specs.Events.{events, owner_of};
+ghost use Rattle.array_store.specs.Starts.{start_of};
 ghost use Rattle.snapshot_manager.specs.Seats.{read_count, seen, session_of, start, store_of, HasTurn, IsIdle, IsSameSeat, IsSeatOf};
-ghost use Rattle.told_stores.specs.Told.{IsTold};
-ghost use Rattle.told_stores.specs.Turns.{Adds};
+ghost use Rattle.array_store.specs.Told.{IsTold};
+ghost use Rattle.array_store.specs.Turns.{Adds};
 
 use crate::seat::Seat;
 use crate::shared::{Shared, StoreTurn};

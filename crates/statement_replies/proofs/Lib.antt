@@ -1,8 +1,15 @@
+pub mod Answering
+mod AnswersWorked
+pub mod Asking
 pub mod Lines
+pub mod Listed
+pub mod Offers
 pub mod PlanReplies
 pub mod QueryReplies
+mod RepliesWorked
+pub mod Saying
 pub mod Standing
 pub mod StatementReplies
+pub mod Targets
 pub mod TextLaws
 pub mod TracedReplies
-mod Worked

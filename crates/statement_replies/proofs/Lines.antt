@@ -4,7 +4,7 @@ use Rattle.std.specs.List.{AllByRecursion}
 use Rattle.cell_values.specs.declared.schema.Bounds.{Bounds}
 use Rattle.cell_values.specs.declared.schema.Schema.{Schema}
 use Rattle.array_geom.specs.Geometry.{core_meets}
-use Rattle.commit_costs.specs.Costs.{numbers_of}
+use Rattle.commit_pages.specs.Costs.{numbers_of}
 use Rattle.logical_plan.specs.declared.names.Names.{Names}
 use Rattle.logical_plan.specs.declared.parts.Leaf.{Leaf}
 use Rattle.logical_plan.specs.Leaves.{leaves}
@@ -26,7 +26,7 @@ use Rattle.statement_replies.specs.Reply.{traced}
 use Rattle.statement_replies.specs.StatementKinds.{IsAccepted}
 use Rattle.statement_replies.specs.Statements.{Accepted, change_text, text_alone}
 use Rattle.statement_replies.specs.Traces.{IsTracedIn, askings_by, change_askings_over, change_lines, change_lines_over, newest_leaf, read_by}
-use Rattle.statement_replies.specs.declared.style.Style.{Style}
+use Rattle.statement_replies.specs.declared.replies.style.Style.{Style}
 
 -- ---- lines that are wanted, or not
 

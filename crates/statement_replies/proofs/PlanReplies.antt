@@ -8,8 +8,8 @@ use Rattle.logical_plan.specs.Meaning.{Database, Meant, meaning}
 use Rattle.logical_plan.specs.PlanSchema.{schema_of}
 use Rattle.logical_plan.specs.Query.{Query}
 use Rattle.logical_plan.proofs.SchemaLaws.{meaning_schema}
-use Rattle.plan_rows.specs.declared.rows.answers.rows.PlanRows.TheVariants.{Fault, Rows}
-use Rattle.plan_rows.specs.Found.{IsFound}
+use Rattle.chunk_exec.specs.declared.rows.rows.answers.rows.PlanRows.TheVariants.{Fault, Rows}
+use Rattle.chunk_exec.specs.Found.{IsFound}
 use Rattle.chunk_source.specs.Source.{SourceState}
 use Rattle.changed_chunks.specs.Traced.{lines_over, plan_lines}
 use Rattle.changed_chunks.proofs.Tracing.{lines_over_are, plan_lines_are}
@@ -17,8 +17,8 @@ use Rattle.check_rules.specs.Checked.{Checked}
 use Rattle.afl_types.specs.Queries.{query_of}
 use Rattle.statement_replies.specs.Kinds.{HasKind, IsRowsOver, IsRowsReply, IsTextOrRefusal, RepliesHaveKinds}
 use Rattle.statement_replies.specs.Reply.{array_reply, cell_reply, checked_reply, fault_or_text, meant_reply, text_reply, traced}
-use Rattle.statement_replies.specs.declared.replies.Reply.{Reply}
-use Rattle.statement_replies.specs.declared.style.Style.{Style}
+use Rattle.statement_replies.specs.declared.replies.replies.Reply.{Reply}
+use Rattle.statement_replies.specs.declared.replies.style.Style.{Style}
 
 faulty : (style : Style) (lines : List ℕ) (schema : Schema) (rows : Result (List Row) Broken) (broken : Broken) → fault_of rows ≡ Some broken → array_reply style lines schema rows ≡ cell_reply broken
 faulty style lines schema (Ok rows) broken e = ap (λ (o : Option Broken). fault_or_text style lines o schema rows) e

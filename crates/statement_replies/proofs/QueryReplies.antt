@@ -20,12 +20,12 @@ use Rattle.afl_types.specs.Arrays.{AreValid}
 use Rattle.afl_types.specs.Queries.{query_of}
 use Rattle.result_print.specs.declared.refusal.Refusal.TheVariants.{Typing}
 use Rattle.chunk_source.specs.Source.{SourceState, AsksFront, Reads}
-use Rattle.plan_rows.specs.Computed.{CanCompute, asked_for_plan}
+use Rattle.chunk_exec.specs.Computed.{CanCompute, asked_for_plan}
 use Rattle.statement_replies.specs.Kinds.{HasKindOver, IsQueryReply, IsRowsOver}
 use Rattle.statement_replies.specs.Reading.{HoldsVersions, asked_for}
 use Rattle.statement_replies.specs.Reply.{checked_reply, plan_reply, refused}
-use Rattle.statement_replies.specs.declared.replies.Reply.{Reply}
-use Rattle.statement_replies.specs.declared.style.Style.{Style}
+use Rattle.statement_replies.specs.declared.replies.replies.Reply.{Reply}
+use Rattle.statement_replies.specs.declared.replies.style.Style.{Style}
 
 -- a checked plan can be computed over a source that has the versions of its names
 module _ (names : Names) (source : SourceState) (holds : HoldsVersions names source) where

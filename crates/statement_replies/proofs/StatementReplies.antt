@@ -20,9 +20,9 @@ use Rattle.statement_replies.specs.Kinds.{IsRowsReply}
 use Rattle.statement_replies.specs.Reply.{checked_reply, plan_reply, refused, traced}
 use Rattle.statement_replies.specs.StatementKinds.{HasChangeKind, HasStatementKind, HasTypedKind, IsAccepted, IsStatementReply, MayBreak, QueriesHaveTheirReplies, RepliesHaveStatementKinds}
 use Rattle.statement_replies.specs.Statements.{Accepted, accepted, changed_or_broken, list_reply, reply_to_checked, reply_to_typed, show_reply, versions_reply, without_change}
-use Rattle.statement_replies.specs.declared.replies.Reply.{Reply}
+use Rattle.statement_replies.specs.declared.replies.replies.Reply.{Reply}
 use Rattle.statement_replies.specs.Traces.{change_lines}
-use Rattle.statement_replies.specs.declared.style.Style.{Style}
+use Rattle.statement_replies.specs.declared.replies.style.Style.{Style}
 use Rattle.statement_replies.proofs.Lines.{change_lines_are}
 use Rattle.statement_replies.proofs.PlanReplies.{checked_kind}
 

@@ -4,15 +4,15 @@ use Rattle.logical_plan.specs.Leaves.{leaves}
 use Rattle.logical_plan.specs.Meaning.{Database, meaning}
 use Rattle.logical_plan.specs.Query.{Query}
 use Rattle.chunk_source.specs.Source.{Keeps, SourceState}
-use Rattle.plan_rows.specs.Computed.{CanCompute}
-use Rattle.plan_rows.specs.Found.{IsFound}
-use Rattle.plan_rows.specs.declared.rows.answers.rows.PlanRows.{PlanRows}
+use Rattle.chunk_exec.specs.Computed.{CanCompute}
+use Rattle.chunk_exec.specs.Found.{IsFound}
+use Rattle.chunk_exec.specs.declared.rows.rows.answers.rows.PlanRows.{PlanRows}
 use Rattle.logical_plan.specs.PlanSchema.{schema_of}
 use Rattle.changed_chunks.proofs.Tracing.{all_read, lines_still}
 use Rattle.statement_replies.specs.Kinds.{IsRowsOver, IsTextOrRefusal}
 use Rattle.statement_replies.specs.Reply.{plan_reply, traced}
-use Rattle.statement_replies.specs.declared.replies.Reply.{Reply}
-use Rattle.statement_replies.specs.declared.style.Style.{Style}
+use Rattle.statement_replies.specs.declared.replies.replies.Reply.{Reply}
+use Rattle.statement_replies.specs.declared.replies.style.Style.{Style}
 
 -- a plan can be computed as before
 pub can_still : (old mid : SourceState) (plan : Query) → Keeps old mid → CanCompute old plan → CanCompute mid plan

@@ -15,8 +15,8 @@ use Rattle.check_rules.specs.Checked.{Checked}
 use Rattle.afl_types.specs.Queries.{query_of}
 use Rattle.result_print.specs.declared.refusal.Refusal.TheVariants.{Typing}
 use Rattle.statement_replies.specs.Reply.{cell_reply, query_reply, refused, text_reply, traced}
-use Rattle.statement_replies.specs.declared.replies.Reply.{Reply}
-use Rattle.statement_replies.specs.declared.style.Style.{Style}
+use Rattle.statement_replies.specs.declared.replies.replies.Reply.{Reply}
+use Rattle.statement_replies.specs.declared.replies.style.Style.{Style}
 
 -- the text of some rows of this schema with these lines behind it, or the refusal that tells of some cell
 abbrev pub IsTextOrRefusal : Style → List ℕ → Schema → Reply → Type 0

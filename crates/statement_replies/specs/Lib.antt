@@ -1,9 +1,10 @@
+pub mod Forms
 pub mod Inner
 pub mod Kinds
+pub mod Outcomes
 pub mod Printed
 pub mod Reading
 pub mod Reply
 pub mod StatementKinds
 pub mod Statements
 pub mod Traces
-pub use Rattle.statement_replies.specs.declared.style.Style

@@ -4,7 +4,7 @@ use Rattle.cell_values.specs.declared.datum.Row.{Row}
 use Rattle.cell_values.specs.declared.schema.Schema.{Schema}
 use Rattle.result_print.specs.Records.{csv_text}
 use Rattle.result_print.specs.Texts.{array_text}
-use Rattle.statement_replies.specs.declared.style.Style.{Style}
+use Rattle.statement_replies.specs.declared.replies.style.Style.{Style}
 
 abbrev pub text_form : Bool → Schema → List Row → List ℕ
 text_form true = csv_text

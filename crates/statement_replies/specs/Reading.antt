@@ -8,7 +8,7 @@ use Rattle.check_rules.specs.Checked.{Checked}
 use Rattle.check_sources.specs.Stored.{entry_named}
 use Rattle.chunk_source.specs.declared.sources.asked.Asked.{Asked}
 use Rattle.chunk_source.specs.Source.{SourceState, Reads}
-use Rattle.plan_rows.specs.Computed.{asked_for_plan}
+use Rattle.chunk_exec.specs.Computed.{asked_for_plan}
 
 -- the source has the versions that stand under these names
 abbrev pub HoldsVersions : Names → SourceState → Type 0

@@ -22,8 +22,8 @@ use Rattle.result_print.specs.Lines.{line_of_refusal}
 use Rattle.result_print.specs.declared.refusal.Refusal.{Refusal}
 use Rattle.result_print.specs.declared.refusal.Refusal.TheVariants.{TooLong, Parse, Typing, Cell, Memory}
 use Rattle.statement_replies.specs.Printed.{printed}
-use Rattle.statement_replies.specs.declared.replies.Reply.{Reply}
-use Rattle.statement_replies.specs.declared.style.Style.{Style}
+use Rattle.statement_replies.specs.declared.replies.replies.Reply.{Reply}
+use Rattle.statement_replies.specs.declared.replies.style.Style.{Style}
 
 -- a refusal, told by its line
 abbrev pub refused : Refusal → Reply

@@ -19,8 +19,8 @@ use Rattle.statement_replies.specs.Kinds.{IsRowsReply}
 use Rattle.statement_replies.specs.Reply.{cell_reply, query_reply, refused, traced}
 use Rattle.statement_replies.specs.Statements.{Accepted, change_reply, list_reply, reply_to, show_reply, versions_reply, without_change}
 use Rattle.statement_replies.specs.Traces.{read_by}
-use Rattle.statement_replies.specs.declared.replies.Reply.{Reply}
-use Rattle.statement_replies.specs.declared.style.Style.{Style}
+use Rattle.statement_replies.specs.declared.replies.replies.Reply.{Reply}
+use Rattle.statement_replies.specs.declared.replies.style.Style.{Style}
 
 -- the text of a change, and where lines of what was read are wanted, one for each array that it reads, with some numbers
 abbrev pub IsChangeReply : Style → Names → Change → Reply → Type 0

@@ -20,8 +20,8 @@ use Rattle.result_print.specs.Listings.{list_text, ok_line, show_text, stored_li
 use Rattle.result_print.specs.declared.refusal.Refusal.TheVariants.{Typing}
 use Rattle.statement_replies.specs.Reply.{cell_reply, plan_reply, refused, traced}
 use Rattle.statement_replies.specs.Traces.{change_lines}
-use Rattle.statement_replies.specs.declared.replies.Reply.{Reply}
-use Rattle.statement_replies.specs.declared.style.Style.{Style}
+use Rattle.statement_replies.specs.declared.replies.replies.Reply.{Reply}
+use Rattle.statement_replies.specs.declared.replies.style.Style.{Style}
 
 -- the reply, and the change where the statement is accepted as one
 pub record Accepted : Type 0 where

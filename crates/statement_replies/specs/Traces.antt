@@ -12,7 +12,7 @@ use Rattle.changed_chunks.specs.declared.traces.asking.Asking.{Asking}
 use Rattle.changed_chunks.specs.Traced.{askings_over, lines_of, plan_askings}
 use Rattle.changed_chunks.specs.Targets.{IsTargetAsking, target_asking}
 use Rattle.chunk_source.specs.Source.{SourceState}
-use Rattle.plan_rows.specs.Computed.{CanCompute}
+use Rattle.chunk_exec.specs.Computed.{CanCompute}
 
 -- the newest version of an array by these names, version 0 where there is none
 abbrev pub newest_leaf : Names → List ℕ → Schema → Leaf

@@ -1,20 +1,12 @@
-//! Replies to statements: a refusal's line, what a query gives over the arrays of a source, or the text of a change or a listing.
+//! Replies to statements, and answers to them over the arrays of a source: a refusal's line, what a query gives, the text of a change or a listing, or a change that may be committed.
 #![tactic(auto)]
 
-mod laws;
-mod listings;
-mod queries;
+mod answers;
 mod replies;
-mod style;
-mod texts;
-mod traces;
 
-pub use laws::{
-    listed_arrays_stand, queries_have_their_replies, replies_have_kinds,
-    replies_have_statement_kinds,
+pub use answers::{Outcome, forms_are_said, outcome_of};
+pub use replies::{
+    Reply, Style, accepted_reply, answer_query, change_lines, list_reply, listed_arrays_stand,
+    queries_have_their_replies, refuse, replies_have_kinds, replies_have_statement_kinds,
+    reply_to_query, show_reply, versions_reply,
 };
-pub use listings::{accepted_reply, list_reply, show_reply, versions_reply};
-pub use queries::{answer_query, reply_to_query};
-pub use replies::{Reply, refuse};
-pub use style::Style;
-pub use traces::change_lines;

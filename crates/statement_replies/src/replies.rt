@@ -1,25 +1,19 @@
-//! A reply, and the reply that refuses.
-ghost use Rattle.std.specs.Prelude.{◌≡◌, IfOk};
-ghost use Rattle.statement_replies.specs.Reply.{refused};
+//! Replies to statements: a refusal's line, what a query gives over the arrays of a source, or the text of a change or a listing.
 
-use cell_values::{Bytes, Memory};
-use result_print::{Refusal, refusal_line};
-use std::alloc::Global;
+mod laws;
+mod listings;
+mod queries;
+mod replies;
+mod style;
+mod texts;
+mod traces;
 
-/// What a statement is answered.
-#[derive(Debug, Drop)]
-pub struct Reply {
-    pub text: Bytes,
-    pub refusal: Option<Refusal>,
-}
-
-/// The reply that refuses.
-pub fn refuse(alloc: Global, refusal: Refusal) -> Result<Reply, Memory>
-    ensures { IfOk result (λ reply. reply ≡ refused refusal) }
-{
-    let text = refusal_line(alloc, &refusal)?;
-    Ok(Reply {
-        text,
-        refusal: Some(refusal),
-    })
-}
+pub use laws::{
+    listed_arrays_stand, queries_have_their_replies, replies_have_kinds,
+    replies_have_statement_kinds,
+};
+pub use listings::{accepted_reply, list_reply, show_reply, versions_reply};
+pub use queries::{answer_query, reply_to_query};
+pub use replies::{Reply, refuse};
+pub use style::Style;
+pub use traces::change_lines;

@@ -22,8 +22,8 @@ use Rattle.file_reading.specs.Reading.{IsFound, LieApart, slots_of}
 use Rattle.file_reading.proofs.Steps.{at_some}
 use Rattle.event_core.specs.declared.state.Core.{Core}
 use Rattle.event_core.specs.Legal.{BeginsWithNames}
-use Rattle.laid_commits.specs.RowsLaws.{AreFirst}
-use Rattle.laid_commits.proofs.Opening.{first_rows_are_in_order}
+use Rattle.store_state.specs.RowsLaws.{AreFirst}
+use Rattle.store_state.proofs.Opening.{first_rows_are_in_order}
 use Rattle.store_opening.specs.Bases.{base_core}
 use Rattle.store_opening.proofs.ApartLaws.{bases_lie_apart, log_held}
 use Rattle.store_opening.proofs.NamedLaws.{bases_begin, directories_are_counted}

@@ -16,7 +16,7 @@ use Rattle.lean_core.proofs.Agree.{name_refl}
 use Rattle.file_meaning.specs.Opening.{all_of, version_pages}
 use Rattle.file_meaning.specs.declared.meaning.found.Found.{Found}
 use Rattle.file_reading.specs.Reading.{AreDirectories, IsFound}
-use Rattle.laid_commits.specs.Rows.{pages_in, pages_of_rows}
+use Rattle.store_state.specs.Rows.{pages_in, pages_of_rows}
 use Rattle.store_opening.specs.Bases.{array_pages, pages_named, versions_pages}
 use Rattle.store_opening.proofs.NamedLaws.{pairs_length}
 use Rattle.store_opening.proofs.Names.{all_apart, name_sym, of_map}

@@ -14,7 +14,7 @@ use Rattle.page_file.specs.FilesOpened.{OpenFile}
 use Rattle.file_meaning.specs.Opening.{found_in}
 use Rattle.file_reading.specs.Reading.{slots_of}
 use Rattle.store_versions.specs.Seen.{version_of}
-use Rattle.store_state.specs.declared.parts.StoreParts.{StoreParts}
+use Rattle.store_state.specs.declared.state.parts.StoreParts.{StoreParts}
 use Rattle.store_state.specs.Standings.{Standing}
 use Rattle.store_state.specs.Inner.Keeping.{Keeping}
 use Rattle.store_state.specs.At.{AreParts, IsAt, keeping, standing}

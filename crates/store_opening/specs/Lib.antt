@@ -3,9 +3,9 @@ pub use Rattle.store_state.specs.Calls
 pub use Rattle.store_state.specs.Events
 pub use Rattle.store_state.specs.Payloads
 pub use Rattle.store_state.specs.Standings
-pub use Rattle.store_state.specs.declared.event.Event
-pub use Rattle.store_state.specs.declared.fault.ReadFault
-pub use Rattle.store_state.specs.declared.parts.StoreParts
+pub use Rattle.store_state.specs.declared.state.event.Event
+pub use Rattle.store_state.specs.declared.state.fault.ReadFault
+pub use Rattle.store_state.specs.declared.state.parts.StoreParts
 pub mod Bases
 pub mod Inner
 pub mod Laws

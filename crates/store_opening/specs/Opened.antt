@@ -14,7 +14,7 @@ use Rattle.store_opening.specs.Bases.{base_core}
 use Rattle.store_versions.specs.Rows.{first_rows}
 use Rattle.store_versions.specs.Seen.{version_of}
 use Rattle.store_versions.specs.Versions.{MadeVersion}
-use Rattle.store_state.specs.declared.parts.StoreParts.{StoreParts}
+use Rattle.store_state.specs.declared.state.parts.StoreParts.{StoreParts}
 use Rattle.store_state.specs.At.{standing}
 use Rattle.store_state.specs.Standings.{Standing}
 use Rattle.store_opening.specs.declared.opening.opening.Limits.{Limits}

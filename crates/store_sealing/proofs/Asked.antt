@@ -4,7 +4,7 @@ use Rattle.plan_changes.specs.Databases.{Database, after}
 use Rattle.array_geom.specs.Geometry.{overlaps}
 use Rattle.array_geom.specs.Link.{IsPart}
 use Rattle.chunk_rle.specs.Stored.{IsStored}
-use Rattle.laid_commits.specs.Changes.{AreValid, IsChangeOf}
+use Rattle.store_state.specs.Changes.{AreValid, IsChangeOf}
 use Rattle.file_meaning.specs.Inner.FileExample.{database, file, rows, schema}
 use Rattle.file_meaning.specs.FileLaws.{OneDatabase, SoundRowsAreStored}
 use Rattle.file_meaning.proofs.Payloads.{stored_part}

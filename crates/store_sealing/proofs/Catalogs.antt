@@ -12,12 +12,12 @@ use Rattle.version_catalog.specs.declared.rules.catalog.Catalog.{Catalog}
 use Rattle.catalog_changes.specs.Changed.{after_change, has_its_directory}
 use Rattle.file_meaning.specs.Opening.{version_pages}
 use Rattle.commit_writes.specs.Commits.{pages_of}
-use Rattle.laid_commits.specs.Laid.{Laid}
-use Rattle.laid_commits.specs.NewVersion.{NewVersion}
-use Rattle.laid_commits.specs.Written.{Written}
-use Rattle.laid_commits.specs.Changes.{ComesWith}
-use Rattle.laid_commits.specs.Commits.{record_laid, base_laid}
-use Rattle.laid_commits.specs.Versions.{draft, draft_of, settled, placed, blob_at, directory_of, directory_bytes, version_in, new_version}
+use Rattle.store_state.specs.Laid.{Laid}
+use Rattle.store_state.specs.NewVersion.{NewVersion}
+use Rattle.store_state.specs.Written.{Written}
+use Rattle.store_state.specs.Changes.{ComesWith}
+use Rattle.store_state.specs.Commits.{record_laid, base_laid}
+use Rattle.store_state.specs.Versions.{draft, draft_of, settled, placed, blob_at, directory_of, directory_bytes, version_in, new_version}
 use Rattle.store_versions.specs.declared.ready.ReadyVersion.{ReadyVersion}
 use Rattle.store_versions.specs.Rows.{directory_in}
 use Rattle.prepared_commits.specs.Keeping.{IsDirectoryOf}

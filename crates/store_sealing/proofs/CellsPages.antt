@@ -16,12 +16,12 @@ use Rattle.event_core.specs.Pages.{free_at, has_page, is_live, pin_names}
 use Rattle.lean_core.proofs.Free.{free_pages_are_within, no_free_page_is_live}
 use Rattle.file_meaning.proofs.Free.{weaker}
 use Rattle.commit_writes.specs.Commits.{commit_pages}
-use Rattle.laid_commits.specs.Laid.{Laid}
-use Rattle.laid_commits.specs.Changes.{AreValid, ComesWith}
-use Rattle.laid_commits.specs.Commits.{base_laid, base_needs, record_laid, record_needs}
-use Rattle.laid_commits.specs.Versions.{draft_of, new_version}
-use Rattle.laid_commits.proofs.Chains.{base_lies, record_lies}
-use Rattle.laid_commits.proofs.Records.{draft_comes, draft_written}
+use Rattle.store_state.specs.Laid.{Laid}
+use Rattle.store_state.specs.Changes.{AreValid, ComesWith}
+use Rattle.store_state.specs.Commits.{base_laid, base_needs, record_laid, record_needs}
+use Rattle.store_state.specs.Versions.{draft_of, new_version}
+use Rattle.store_state.proofs.Chains.{base_lies, record_lies}
+use Rattle.store_state.proofs.Records.{draft_comes, draft_written}
 use Rattle.store_sealing.proofs.Live.{none_by}
 
 each_index : (P : ℕ → Type 0) (pages : List ℕ) → AllByRecursion P pages → (k : ℕ) → k < length pages → P (slice_index pages k)

@@ -18,10 +18,10 @@ use Rattle.event_core.specs.Pages.{free_at}
 use Rattle.file_meaning.proofs.Parts.{rest_all}
 use Rattle.version_reaper.specs.PageSets.{holds}
 use Rattle.commit_writes.specs.Moments.{IsKnown, IsOpened}
-use Rattle.laid_commits.specs.Laid.{Laid}
-use Rattle.laid_commits.specs.LaidPremises.{made_of}
-use Rattle.laid_commits.proofs.Used.{bases_have, records_have}
-use Rattle.laid_commits.specs.Rows.{IsMadeWith}
+use Rattle.store_state.specs.Laid.{Laid}
+use Rattle.store_state.specs.LaidPremises.{made_of}
+use Rattle.store_state.proofs.Used.{bases_have, records_have}
+use Rattle.store_state.specs.Rows.{IsMadeWith}
 use Rattle.store_ledger.specs.declared.note.Note.{Note}
 use Rattle.store_ledger.specs.Ledger.{LedgerState, history}
 use Rattle.store_ledger.proofs.Pins.{one_more}

@@ -26,15 +26,15 @@ use Rattle.lean_core.proofs.Cells.{names_are_of_the_database}
 use Rattle.file_meaning.specs.Opening.{found_in, pages_of, sequence_of}
 use Rattle.file_meaning.specs.Standing.{HoldsDatabase}
 use Rattle.file_meaning.specs.Premises.{StandsBy, row_of}
-use Rattle.commit_costs.specs.Costs.{cost_from}
-use Rattle.laid_commits.specs.Laid.{Laid}
-use Rattle.laid_commits.specs.Changes.{ComesWith}
-use Rattle.laid_commits.specs.Commits.{base_laid, base_needs, record_laid, record_needs}
-use Rattle.laid_commits.specs.Versions.{draft_of}
-use Rattle.laid_commits.specs.LaidPremises.{IsCommit, IsNewestIn, last_of_row, newest_in}
-use Rattle.laid_commits.specs.RowsLaws.{StandInOrder}
-use Rattle.laid_commits.specs.Rows.{AreInOrder, IsPagesOf, directories_in}
-use Rattle.laid_commits.proofs.RowsNewest.{newest_are_last}
+use Rattle.commit_pages.specs.Costs.{cost_from}
+use Rattle.store_state.specs.Laid.{Laid}
+use Rattle.store_state.specs.Changes.{ComesWith}
+use Rattle.store_state.specs.Commits.{base_laid, base_needs, record_laid, record_needs}
+use Rattle.store_state.specs.Versions.{draft_of}
+use Rattle.store_state.specs.LaidPremises.{IsCommit, IsNewestIn, last_of_row, newest_in}
+use Rattle.store_state.specs.RowsLaws.{StandInOrder}
+use Rattle.store_state.specs.Rows.{AreInOrder, IsPagesOf, directories_in}
+use Rattle.store_state.proofs.RowsNewest.{newest_are_last}
 use Rattle.store_ledger.specs.Ledger.{history}
 use Rattle.store_versions.specs.Versions.{Directories, HaveDirectories, MadeVersion, directory_of, versions_at}
 use Rattle.store_versions.proofs.Made.{named_versions_have_directories}

@@ -21,12 +21,12 @@ use Rattle.event_core.specs.History.{History, names_at, pages_after, pages_at}
 use Rattle.file_meaning.specs.Opening.{all_of}
 use Rattle.file_meaning.specs.declared.meaning.found.Found.{Found}
 use Rattle.file_meaning.specs.Next.{Made, Rows, blob_of, rows_after}
-use Rattle.laid_commits.specs.Changes.{ComesWith}
-use Rattle.laid_commits.specs.LaidPremises.{made_by as placed_by, pages_made}
-use Rattle.laid_commits.specs.RowsLaws.{StandInOrder}
-use Rattle.laid_commits.specs.Rows.{IsMadeWith, IsPagesOf, directories_in, pages_in, pages_of_rows}
-use Rattle.laid_commits.proofs.RowsDirectories.{directories_follow}
-use Rattle.laid_commits.proofs.RowsPages.{pages_follow}
+use Rattle.store_state.specs.Changes.{ComesWith}
+use Rattle.store_state.specs.LaidPremises.{made_by as placed_by, pages_made}
+use Rattle.store_state.specs.RowsLaws.{StandInOrder}
+use Rattle.store_state.specs.Rows.{IsMadeWith, IsPagesOf, directories_in, pages_in, pages_of_rows}
+use Rattle.store_state.proofs.RowsDirectories.{directories_follow}
+use Rattle.store_state.proofs.RowsPages.{pages_follow}
 use Rattle.store_versions.specs.declared.ready.ReadyVersion.{ReadyVersion}
 use Rattle.store_versions.specs.Rows.{directory_in}
 use Rattle.store_versions.specs.Versions.{Directories, MadeVersion, versions_after, versions_at}

@@ -10,7 +10,7 @@ use Rattle.file_meaning.specs.declared.meaning.found.Found.{Found}
 use Rattle.event_core.specs.declared.state.Core.{Core}
 use Rattle.event_core.specs.Cells.{at}
 use Rattle.event_core.specs.History.{History, OpenPin, names_at, open_pins, pages_at}
-use Rattle.laid_commits.specs.Rows.{AreInOrder, directories_in}
+use Rattle.store_state.specs.Rows.{AreInOrder, directories_in}
 use Rattle.store_versions.specs.declared.row.VersionRow.{VersionRow}
 use Rattle.store_versions.specs.Laws.{with_made}
 use Rattle.store_versions.specs.Seen.{seen, AreSeen}

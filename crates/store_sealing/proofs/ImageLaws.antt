@@ -17,7 +17,7 @@ use Rattle.file_meaning.specs.Opening.{found_in, pages_of}
 use Rattle.file_meaning.specs.Slots.{Slots as FoundSlots}
 use Rattle.event_core.specs.declared.entry.Entry.TheVariants.{Commit}
 use Rattle.event_core.specs.Cells.{at}
-use Rattle.laid_commits.specs.LaidLaws.{OpenedFilesStand, OpenedRootsStand}
+use Rattle.store_state.specs.LaidLaws.{OpenedFilesStand, OpenedRootsStand}
 use Rattle.file_meaning.specs.NextLaws.{WritesLeaveStanding}
 use Rattle.file_meaning.specs.Premises.{slots_of, slots_with}
 use Rattle.store_state.specs.Cells.{ByEntry, ByRoot, IsImage, StandsByOpening, StandsBySome}

@@ -16,8 +16,8 @@ use Rattle.event_core.specs.Bases.{commits}
 use Rattle.event_core.specs.History.{History, catalogue_at, names_at}
 use Rattle.lean_core.proofs.Legal.{ordered_is_allowed}
 use Rattle.commit_writes.specs.declared.placed.Placed.{Placed}
-use Rattle.laid_commits.specs.RowsLaws.{OrdersFollow}
-use Rattle.laid_commits.specs.Laid.{Laid}
+use Rattle.store_state.specs.RowsLaws.{OrdersFollow}
+use Rattle.store_state.specs.Laid.{Laid}
 use Rattle.store_ledger.specs.Ledger.{history}
 use Rattle.store_ledger.proofs.Pins.{one_more}
 use Rattle.store_versions.specs.Laws.{with_made}

@@ -10,8 +10,8 @@ use Rattle.file_meaning.specs.declared.meaning.found.Found.{Found}
 use Rattle.event_core.specs.Bases.{Base}
 use Rattle.event_core.specs.Cells.{at}
 use Rattle.event_core.specs.History.{History}
-use Rattle.laid_commits.specs.LaidLaws.{LaidRecordsMakeNext, LaidBasesMakeNext}
-use Rattle.laid_commits.specs.LaidPremises.{IsCommit}
+use Rattle.store_state.specs.LaidLaws.{LaidRecordsMakeNext, LaidBasesMakeNext}
+use Rattle.store_state.specs.LaidPremises.{IsCommit}
 use Rattle.store_versions.specs.Versions.{Directories}
 use Rattle.store_state.specs.Cells.{IsImage}
 use Rattle.store_state.specs.Standings.{current_slots}

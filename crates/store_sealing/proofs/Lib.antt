@@ -1,4 +1,5 @@
 mod Asked
+pub mod Before
 pub mod Came
 pub mod Carried
 pub mod Catalogs
@@ -7,6 +8,7 @@ mod CellsSealed
 mod CellsStopped
 mod CellsWorked
 mod Commit
+pub mod Fits
 mod Found
 mod Given
 pub mod Givens
@@ -20,11 +22,15 @@ pub mod Lists
 pub mod Live
 pub mod Moments
 mod NewPayloads
+pub mod Noted
 mod Notes
 mod Over
 mod Own
+pub mod Parts
 mod Pass
 mod Payloads
+pub mod Prepares
+pub mod Reaped
 mod Rest
 pub mod Schemas
 pub mod SealingPages
@@ -34,4 +40,5 @@ pub mod Stand
 mod StepsStopped
 mod StepsWorked
 mod Tried
+pub mod Uses
 mod Versions

@@ -11,8 +11,8 @@ use Rattle.event_core.specs.Cells.{at}
 use Rattle.event_core.specs.History.{History}
 use Rattle.file_meaning.specs.Opening.{sequence_of}
 use Rattle.file_meaning.specs.Standing.{Stands}
-use Rattle.laid_commits.specs.LaidLaws.{LaidRecordsMakeNext, LaidBasesMakeNext, OpenedFilesStand, OpenedRootsStand}
-use Rattle.laid_commits.specs.LaidPremises.{made_of}
+use Rattle.store_state.specs.LaidLaws.{LaidRecordsMakeNext, LaidBasesMakeNext, OpenedFilesStand, OpenedRootsStand}
+use Rattle.store_state.specs.LaidPremises.{made_of}
 use Rattle.file_meaning.specs.NextLaws.{WritesLeaveStanding}
 use Rattle.file_meaning.specs.Next.{with_base, with_record}
 use Rattle.file_meaning.specs.Premises.{MayChange, slots_with}

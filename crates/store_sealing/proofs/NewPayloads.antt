@@ -23,15 +23,15 @@ use Rattle.file_meaning.specs.Opening.{are_pages}
 use Rattle.file_meaning.proofs.Parts.{front_all}
 use Rattle.file_meaning.proofs.Payloads.{spelled_is_read}
 use Rattle.commit_writes.specs.Commits.{pages_of, HoldsBlobs}
-use Rattle.laid_commits.specs.Laid.{Laid}
-use Rattle.laid_commits.specs.NewVersion.{NewVersion}
-use Rattle.laid_commits.specs.Written.{Written}
-use Rattle.laid_commits.specs.Changes.{AreValid, ComesWith}
-use Rattle.laid_commits.specs.Commits.{base_laid, base_needs, record_laid, record_needs}
-use Rattle.laid_commits.specs.Versions.{all_placed, blob_count, directory_bytes, directory_of, draft, drafted, entries_of, entry_of, new_version, placed, settled, version_in, version_needs}
-use Rattle.laid_commits.proofs.Blobs.{both_fit, drafted_is_sized}
-use Rattle.laid_commits.proofs.Costs.{found_has, replaced_has}
-use Rattle.laid_commits.proofs.Directories.{draft_rises, inserts_replace, stores_list_theirs}
+use Rattle.store_state.specs.Laid.{Laid}
+use Rattle.store_state.specs.NewVersion.{NewVersion}
+use Rattle.store_state.specs.Written.{Written}
+use Rattle.store_state.specs.Changes.{AreValid, ComesWith}
+use Rattle.store_state.specs.Commits.{base_laid, base_needs, record_laid, record_needs}
+use Rattle.store_state.specs.Versions.{all_placed, blob_count, directory_bytes, directory_of, draft, drafted, entries_of, entry_of, new_version, placed, settled, version_in, version_needs}
+use Rattle.store_state.proofs.Blobs.{both_fit, drafted_is_sized}
+use Rattle.store_state.proofs.Costs.{found_has, replaced_has}
+use Rattle.store_state.proofs.Directories.{draft_rises, inserts_replace, stores_list_theirs}
 use Rattle.store_versions.specs.declared.ready.ReadyVersion.{ReadyVersion}
 use Rattle.store_versions.specs.Rows.{directory_in}
 use Rattle.store_versions.specs.Versions.{MadeVersion}

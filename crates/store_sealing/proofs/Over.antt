@@ -24,13 +24,13 @@ use Rattle.commit_writes.specs.declared.stopped.Stopped.{Stopped}
 use Rattle.commit_writes.specs.declared.stopped.Stopped.TheVariants as stages
 use Rattle.commit_writes.specs.Commits.{HoldsAll, record_of, root_of}
 use Rattle.commit_writes.specs.Moments.{HasBase, HasRecord, IsOpened, IsUnopened, IsUntouched, MayBe}
-use Rattle.laid_commits.specs.Laid.{Laid}
+use Rattle.store_state.specs.Laid.{Laid}
 use Rattle.event_core.specs.declared.entry.Entry.TheVariants.{Commit}
 use Rattle.event_core.specs.declared.entry.Used.{Used}
 use Rattle.event_core.specs.Bases.{Base}
 use Rattle.event_core.specs.Cells.{at}
 use Rattle.event_core.specs.History.{History}
-use Rattle.laid_commits.specs.LaidPremises.{IsCommit, IsLaidBase, IsLaidRecord, made_of}
+use Rattle.store_state.specs.LaidPremises.{IsCommit, IsLaidBase, IsLaidRecord, made_of}
 use Rattle.store_ledger.specs.declared.note.Note.{Note}
 use Rattle.store_versions.specs.Versions.{Directories}
 use Rattle.prepared_commits.specs.Cells.{IsImage}

@@ -18,8 +18,8 @@ use Rattle.event_core.specs.Pages.{free_at, is_live}
 use Rattle.lean_core.proofs.Legal.{ordered_is_allowed}
 use Rattle.file_meaning.proofs.Parts.{front_all}
 use Rattle.file_meaning.proofs.Free.{weaker}
-use Rattle.laid_commits.specs.Laid.{Laid}
-use Rattle.laid_commits.specs.Changes.{ComesWith}
+use Rattle.store_state.specs.Laid.{Laid}
+use Rattle.store_state.specs.Changes.{ComesWith}
 use Rattle.store_ledger.specs.Ledger.{history}
 use Rattle.prepared_commits.specs.Standings.{Standing}
 use Rattle.prepared_commits.specs.Keeping.{Keeping}

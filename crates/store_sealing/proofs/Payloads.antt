@@ -21,11 +21,11 @@ use Rattle.event_core.specs.declared.entry.Entry.{Entry}
 use Rattle.event_core.specs.declared.state.Core.{Core}
 use Rattle.event_core.specs.History.{History, catalogue_at, names_at}
 use Rattle.event_core.specs.Pages.{is_live}
-use Rattle.laid_commits.specs.Laid.{Laid}
-use Rattle.laid_commits.specs.NewVersion.{NewVersion}
-use Rattle.laid_commits.specs.Written.{Written}
-use Rattle.laid_commits.specs.Changes.{AreValid, ComesWith}
-use Rattle.laid_commits.specs.Versions.{draft, draft_of, new_version, version_needs}
+use Rattle.store_state.specs.Laid.{Laid}
+use Rattle.store_state.specs.NewVersion.{NewVersion}
+use Rattle.store_state.specs.Written.{Written}
+use Rattle.store_state.specs.Changes.{AreValid, ComesWith}
+use Rattle.store_state.specs.Versions.{draft, draft_of, new_version, version_needs}
 use Rattle.store_ledger.specs.declared.note.Note.{Note}
 use Rattle.store_ledger.specs.Ledger.{LedgerState, history}
 use Rattle.store_ledger.proofs.Pins.{one_more}

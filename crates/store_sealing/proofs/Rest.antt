@@ -1,6 +1,6 @@
 -- The laws on which those of a store's cells rest.
 use Rattle.prepared_commits.specs.CostsLaws.{FoundFilesAreOver}
-use Rattle.laid_commits.specs.LaidLaws.{OpenedFilesStand, OpenedRootsStand}
+use Rattle.store_state.specs.LaidLaws.{OpenedFilesStand, OpenedRootsStand}
 use Rattle.store_sealing.specs.ImagesLaws.{UntouchedImages, UnopenedImages, OpeningRecords, OpeningRoots, NextImages, LaidRecordsStand, LaidBasesStand, ImagesHaveStood}
 
 pub record Rest : Type 0 where

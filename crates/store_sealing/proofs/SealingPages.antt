@@ -26,12 +26,12 @@ use Rattle.lean_core.proofs.Free.{no_free_page_is_live}
 use Rattle.lean_core.proofs.Legal.{ordered_is_allowed}
 use Rattle.commit_writes.specs.declared.placed.Placed.{Placed}
 use Rattle.commit_writes.specs.Commits.{base_pages, commit_pages, IsBlobSized, IsChainSized}
-use Rattle.laid_commits.specs.Written.{Written}
-use Rattle.laid_commits.specs.Laid.{Laid}
-use Rattle.laid_commits.specs.Commits.{record_needs, base_needs, record_laid, base_laid}
-use Rattle.laid_commits.specs.Versions.{IsWritten, new_version}
-use Rattle.laid_commits.proofs.Chains.{record_lies, base_lies}
-use Rattle.laid_commits.proofs.Records.{draft_comes, draft_written}
+use Rattle.store_state.specs.Written.{Written}
+use Rattle.store_state.specs.Laid.{Laid}
+use Rattle.store_state.specs.Commits.{record_needs, base_needs, record_laid, base_laid}
+use Rattle.store_state.specs.Versions.{IsWritten, new_version}
+use Rattle.store_state.proofs.Chains.{record_lies, base_lies}
+use Rattle.store_state.proofs.Records.{draft_comes, draft_written}
 use Rattle.file_meaning.proofs.Free.{none_cons}
 use Rattle.store_ledger.specs.Ledger.{history}
 use Rattle.prepared_commits.specs.Standings.{Standing}

@@ -13,7 +13,7 @@ use Rattle.plan_changes.specs.Databases.{Database, after}
 use Rattle.file_meaning.specs.Slots.{Slots as FoundSlots}
 use Rattle.file_meaning.specs.Standing.{Stands}
 use Rattle.file_meaning.specs.Premises.{slots_with}
-use Rattle.laid_commits.specs.LaidLaws.{OpenedFilesStand, OpenedRootsStand}
+use Rattle.store_state.specs.LaidLaws.{OpenedFilesStand, OpenedRootsStand}
 use Rattle.store_state.specs.Cells.{ByRoot, ByEntry, StandsBySome}
 use Rattle.store_state.specs.Inner.Keeping.{is_opening_root, is_opening_entry}
 use Rattle.store_state.specs.Standings.{current_slots}

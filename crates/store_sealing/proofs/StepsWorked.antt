@@ -6,7 +6,7 @@ use Rattle.file_items.specs.Spelling.{spell_name}
 use Rattle.version_catalog.specs.Spelling.{spell_record}
 use Rattle.file_meaning.proofs.WorkedFiles.{file_stands}
 use Rattle.event_core.specs.declared.entry.Entry.TheVariants.{Pin}
-use Rattle.laid_commits.specs.Commits.{record_laid, record_needs}
+use Rattle.store_state.specs.Commits.{record_laid, record_needs}
 use Rattle.store_ledger.specs.Ledger.{attempt, history}
 use Rattle.prepared_commits.specs.Standings.{given_of}
 use Rattle.prepared_commits.specs.Kept.{IsKept}

@@ -17,8 +17,8 @@ use Rattle.event_core.specs.declared.state.Core.{Core}
 use Rattle.event_core.specs.History.{History, OpenPin, names_at, open_pins, pages_at}
 use Rattle.event_core.specs.Legal.{IsOrdered}
 use Rattle.lean_core.proofs.Legal.{ordered_names_are_stored}
-use Rattle.laid_commits.specs.RowsLaws.{OrdersFollow}
-use Rattle.laid_commits.specs.Rows.{AreInOrder}
+use Rattle.store_state.specs.RowsLaws.{OrdersFollow}
+use Rattle.store_state.specs.Rows.{AreInOrder}
 use Rattle.store_versions.specs.declared.row.VersionRow.{VersionRow}
 use Rattle.store_versions.specs.Laws.{with_made}
 use Rattle.store_versions.specs.Rows.{needed_rows, places_at, rows_after}

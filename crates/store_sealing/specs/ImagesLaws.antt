@@ -27,8 +27,8 @@ use Rattle.file_meaning.specs.Next.{with_base, with_record}
 use Rattle.file_meaning.specs.Premises.{StandsBy, slots_of, slots_with}
 use Rattle.commit_writes.specs.Commits.{HoldsAll, base_pages, commit_pages, record_of, root_of}
 use Rattle.commit_writes.specs.Moments.{HasRecord, MayBe, MayHaveBase, cleared}
-use Rattle.laid_commits.specs.Laid.{Laid}
-use Rattle.laid_commits.specs.LaidPremises.{IsCommit, IsLaidBase, IsLaidRecord, made_of}
+use Rattle.store_state.specs.Laid.{Laid}
+use Rattle.store_state.specs.LaidPremises.{IsCommit, IsLaidBase, IsLaidRecord, made_of}
 use Rattle.store_ledger.specs.declared.note.Note.{Note}
 use Rattle.store_versions.specs.Versions.{Directories, versions_at}
 use Rattle.store_state.specs.Cells.{IsImage, StandsByOpening}

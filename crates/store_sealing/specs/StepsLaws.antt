@@ -4,7 +4,7 @@ use Rattle.afl_outside.specs.Disk.{DiskGoesOn, Moment}
 use Rattle.array_geom.specs.declared.chunk.Changed.{Changed}
 use Rattle.page_slots.specs.declared.slots.slots.Slots.{Slots}
 use Rattle.commit_writes.specs.declared.stopped.Stopped.{Stopped}
-use Rattle.laid_commits.specs.Laid.{Laid}
+use Rattle.store_state.specs.Laid.{Laid}
 use Rattle.store_ledger.specs.Ledger.{LedgerState, history}
 use Rattle.prepared_commits.specs.Calls.{NotesFault}
 use Rattle.prepared_commits.specs.Standings.{Standing, given_of}

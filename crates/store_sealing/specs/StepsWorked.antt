@@ -4,8 +4,8 @@ use Rattle.plan_changes.specs.declared.change.Change.{Change}
 use Rattle.plan_changes.specs.declared.change.Change.TheVariants.{Remove}
 use Rattle.event_core.specs.declared.entry.Entry.TheVariants.{Pin}
 use Rattle.event_core.specs.Replay.{core_at}
-use Rattle.laid_commits.specs.Laid.{Laid}
-use Rattle.laid_commits.specs.Commits.{record_laid}
+use Rattle.store_state.specs.Laid.{Laid}
+use Rattle.store_state.specs.Commits.{record_laid}
 use Rattle.store_ledger.specs.Ledger.{attempt}
 use Rattle.prepared_commits.specs.Standings.{Standing}
 use Rattle.prepared_commits.specs.Worked.{worked_base, worked_catalog, worked_directory, worked_store}

@@ -10,7 +10,7 @@ use Rattle.afl_outside.specs.Disk.{LeavesOnly, Moment}
 use Rattle.page_chain.specs.Inner.Runs.{OnlyReads}
 use Rattle.page_slots.specs.Standing.{IsSound as AreSound}
 use Rattle.plan_changes.specs.Databases.{Database}
-use Rattle.laid_commits.specs.Moments.{IsKnown}
+use Rattle.commit_writes.specs.Moments.{IsKnown}
 use Rattle.event_core.specs.declared.entry.Entry.{Entry}
 use Rattle.event_core.specs.declared.entry.Entry.TheVariants.{Pin, Unpin, Commit, Reap}
 use Rattle.event_core.specs.declared.state.Core.{Core}

@@ -10,8 +10,8 @@ use Rattle.chunk_rle.specs.declared.decoding.BadPayload.{BadPayload}
 use Rattle.chunk_rle.specs.declared.decoding.BadPayload.TheVariants.{At, Memory as OutOfMemory}
 use Rattle.store_state.specs.Calls.{payload_in, spelled_by, IsRead, IsWhole}
 use Rattle.store_state.specs.Inner.Decoded.{IsDecoded, IsToldBy}
-use Rattle.store_state.specs.declared.fault.ReadFault.{ReadFault}
-use Rattle.store_state.specs.declared.fault.ReadFault.TheVariants.{Disk, Damaged, Memory}
+use Rattle.store_state.specs.declared.state.fault.ReadFault.{ReadFault}
+use Rattle.store_state.specs.declared.state.fault.ReadFault.TheVariants.{Disk, Damaged, Memory}
 
 pub if_some : {A : Type 0} (P Q : A → Type 0) (o : Option A) → ((x : A) → P x → Q x) → IfSome o P → IfSome o Q
 if_some P Q None f h = tt

@@ -47,8 +47,8 @@ use Rattle.store_state.specs.At.{IsAt}
 use Rattle.store_state.specs.Standings.{Standing, BeganAs, versions_after}
 use Rattle.store_state.specs.Inner.Sights.{Sees, SeesCells, SeesPayloads}
 use Rattle.store_state.specs.Payloads.{HasItsPayloads, HasPayload, HasTold, HavePayloads, IsAsOpened, WasDamagedAt}
-use Rattle.store_state.specs.declared.fault.ReadFault.{ReadFault}
-use Rattle.store_state.specs.declared.fault.ReadFault.TheVariants.{Damaged}
+use Rattle.store_state.specs.declared.state.fault.ReadFault.{ReadFault}
+use Rattle.store_state.specs.declared.state.fault.ReadFault.TheVariants.{Damaged}
 use Rattle.store_state.proofs.AtOn.{at_fault, at_read, with_ledger}
 use Rattle.store_state.proofs.Listings.{as_it_reads}
 use Rattle.store_state.specs.Calls.{entry_in, numbers_in, payload_in, spelled_by, IsLeafOf, IsRead, IsWhole}

@@ -8,7 +8,7 @@ use Rattle.logical_plan.specs.declared.parts.Leaf.{Leaf}
 use Rattle.plan_changes.specs.Databases.{Database}
 use Rattle.plan_changes.specs.Stored.{IsDatabase}
 use Rattle.plan_changes.proofs.NamesOf.{names_depend_on_no_row}
-use Rattle.laid_commits.specs.Costs.{cost_from}
+use Rattle.commit_pages.specs.Costs.{cost_from}
 use Rattle.event_core.specs.declared.entry.Entry.TheVariants.{Pin, Unpin, Commit, Reap}
 use Rattle.event_core.specs.declared.state.Core.{Core}
 use Rattle.event_core.specs.Allowed.{is_allowed}

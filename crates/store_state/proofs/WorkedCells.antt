@@ -13,7 +13,7 @@ use Rattle.page_slots.specs.declared.layout.sides.Side.TheVariants.{A, B}
 use Rattle.page_chain.specs.Pages.{page_size}
 use Rattle.page_slots.specs.Standing.{Holds}
 use Rattle.plan_changes.specs.Databases.{Database, rows_of}
-use Rattle.laid_commits.specs.Moments.{IsKnown}
+use Rattle.commit_writes.specs.Moments.{IsKnown}
 use Rattle.file_meaning.specs.Slots.{slots_in}
 use Rattle.file_meaning.specs.Opening.{are_pages, found_in, opened}
 use Rattle.file_meaning.specs.Standing.{HoldsDatabase, HoldsFound, Stands}

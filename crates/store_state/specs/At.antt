@@ -5,7 +5,7 @@ use Rattle.plan_changes.specs.Databases.{Database}
 use Rattle.store_ledger.specs.Ledger.{history}
 use Rattle.store_versions.specs.Rows.{directory_in}
 use Rattle.store_versions.specs.Seen.{version_of}
-use Rattle.store_state.specs.declared.parts.StoreParts.{StoreParts}
+use Rattle.store_state.specs.declared.state.parts.StoreParts.{StoreParts}
 use Rattle.store_state.specs.Standings.{Standing, commit_places, given_of, BeganAs}
 use Rattle.store_state.specs.Kept.{IsKept}
 use Rattle.store_state.specs.Payloads.{HasTold, HoldsPayloads}

@@ -22,8 +22,8 @@ use Rattle.event_core.specs.History.{History, up_to}
 use Rattle.store_ledger.specs.Ledger.{LedgerState, history, with_fault}
 use Rattle.store_versions.specs.Versions.{directory_of}
 use Rattle.store_state.specs.Standings.{Standing, versions_after}
-use Rattle.store_state.specs.declared.fault.ReadFault.{ReadFault}
-use Rattle.store_state.specs.declared.fault.ReadFault.TheVariants.{Disk, Damaged, Memory}
+use Rattle.store_state.specs.declared.state.fault.ReadFault.{ReadFault}
+use Rattle.store_state.specs.declared.state.fault.ReadFault.TheVariants.{Disk, Damaged, Memory}
 
 -- the history when it had so many entries
 abbrev pub history_at : {D : Type 0} → Standing D → ℕ → History

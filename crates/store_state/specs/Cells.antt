@@ -13,8 +13,8 @@ use Rattle.plan_changes.specs.declared.change.Change.{Change}
 use Rattle.plan_changes.specs.Databases.{Database, after}
 use Rattle.plan_changes.specs.Stored.{IsDatabase}
 use Rattle.version_catalog.specs.declared.rules.catalog.Catalog.{Catalog}
-use Rattle.laid_commits.specs.Costs.{cost_from}
-use Rattle.laid_commits.specs.Moments.{IsKnown}
+use Rattle.commit_pages.specs.Costs.{cost_from}
+use Rattle.commit_writes.specs.Moments.{IsKnown}
 use Rattle.file_meaning.specs.Opening.{found_in}
 use Rattle.file_meaning.specs.Slots.{Slots as FoundSlots}
 use Rattle.file_meaning.specs.Standing.{HoldsDatabase}
@@ -23,8 +23,8 @@ use Rattle.event_core.specs.declared.state.Core.{Core}
 use Rattle.event_core.specs.Cells.{at}
 use Rattle.event_core.specs.History.{History, catalogue_at, open_pins, pages_at}
 use Rattle.event_core.specs.Legal.{IsLegal}
-use Rattle.laid_commits.specs.Premises.{StandsBy, slots_of, slots_with}
-use Rattle.laid_commits.specs.Rows.{directories_in, pages_in, pages_of_rows}
+use Rattle.file_meaning.specs.Premises.{StandsBy, slots_of, slots_with}
+use Rattle.store_state.specs.Rows.{directories_in, pages_in, pages_of_rows}
 use Rattle.store_versions.specs.Versions.{Directories, versions_at}
 use Rattle.store_state.specs.Standings.{Standing, base_of, current_slots, HaveStood, IsAttempt, StandsFor}
 use Rattle.store_state.specs.Inner.Keeping.{Keeping, LieIn, pages_of_catalogue}

@@ -5,8 +5,8 @@ use Rattle.array_rows.specs.Boxes.{by_pairs}
 use Rattle.chunk_map.specs.declared.directory.Directory.{Directory}
 use Rattle.event_core.specs.declared.entry.Entry.TheVariants.{Pin, Unpin, Commit, Reap}
 use Rattle.store_ledger.specs.Ledger.{Event as LedgerEvent, entered, noted, events as ledger_events, owner_of as ledger_owner}
-use Rattle.store_state.specs.declared.event.Event.{Event}
-use Rattle.store_state.specs.declared.event.Event.TheVariants.{Entered, Acknowledged, Noted}
+use Rattle.store_state.specs.declared.state.event.Event.{Event}
+use Rattle.store_state.specs.declared.state.event.Event.TheVariants.{Entered, Acknowledged, Noted}
 use Rattle.store_state.specs.Standings.{Standing}
 
 -- a commit's moment and its directory

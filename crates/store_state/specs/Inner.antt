@@ -1,3 +1,5 @@
 pub mod Decoded
+pub mod Insert
 pub mod Keeping
+pub mod Removal
 pub mod Sights

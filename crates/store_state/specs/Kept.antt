@@ -13,7 +13,7 @@ use Rattle.event_core.specs.Apart.{AllShareOwn, AreApart}
 use Rattle.event_core.specs.Bases.{Base, commits, sequence_at, records_at}
 use Rattle.event_core.specs.History.{History, catalogue_at, names_at, open_pins, pages_at}
 use Rattle.event_core.specs.Legal.{IsOrdered}
-use Rattle.laid_commits.specs.Rows.{AreInOrder}
+use Rattle.store_state.specs.Rows.{AreInOrder}
 use Rattle.store_versions.specs.declared.row.VersionRow.{VersionRow}
 use Rattle.store_versions.specs.Seen.{AreSeen}
 use Rattle.store_versions.specs.Versions.{Directories, HaveDirectories, versions_at}

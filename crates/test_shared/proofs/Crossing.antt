@@ -27,7 +27,7 @@ use Rattle.lean_core.proofs.lean.row.Row.TheSendSync as lean_way
 use Rattle.version_reaper.proofs.page_set.PageSet.TheSendSync as set_way
 use Rattle.store_ledger.specs.contracts.ledger.Ledger as ledger
 use Rattle.store_ledger.specs.contracts.note.Note as note
-use Rattle.array_store.specs.contracts.store.Store as store
+use Rattle.array_store.specs.contracts.store.store.Store as store
 use Rattle.turn_lock.proofs.turns.lock.TurnLock.TheSendSync as lock_way
 use Rattle.atomic_table.proofs.shared.Seat.TheSendSync as table_seat
 use Rattle.turn_lock.proofs.bell.Bell.TheSendSync as bell_way

@@ -3,7 +3,7 @@ use Rattle.std.proofs.Common.{arith, ◌≡◌, ℕ, not, List, [], ◌∷◌, �
 use Rattle.afl_outside.specs.Disk.{Moment}
 use Rattle.turn_lock.proofs.Gathering.{places_more}
 use Rattle.event_core.specs.Allowed.{is_pinned}
-use Rattle.store_state.specs.declared.event.Event.{Event}
+use Rattle.store_state.specs.declared.state.event.Event.{Event}
 use Rattle.snapshot_manager.specs.Told.{entries_in}
 use Rattle.snapshot_manager.specs.declared.seat.Seat.{Seat}
 use Rattle.snapshot_manager.specs.declared.shared.Shared.{Shared}

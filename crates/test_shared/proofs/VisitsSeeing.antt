@@ -3,7 +3,7 @@ use Rattle.std.proofs.Common.{◌≡◌, ◌∙◌, List, [], ◌++◌, ap, appe
 use Rattle.afl_outside.specs.Disk.{Moment}
 use Rattle.logical_plan.specs.declared.parts.Leaf.{Leaf}
 use Rattle.store_ledger.specs.declared.pinned.Pinned.{Pinned}
-use Rattle.store_state.specs.declared.event.Event.{Event}
+use Rattle.store_state.specs.declared.state.event.Event.{Event}
 use Rattle.store_state.specs.Calls.{chunks_at}
 use Rattle.snapshot_manager.specs.Told.{told}
 use Rattle.snapshot_manager.specs.Turns.{Adds}

@@ -5,11 +5,11 @@ use Rattle.afl_outside.specs.Disk.{Moment}
 use Rattle.afl_outside.specs.Source.{SourceState}
 use Rattle.afl_outside.specs.Sink.{SinkState}
 use Rattle.plan_changes.specs.Databases.{Database}
-use Rattle.run_stores.specs.Start.{Start}
-use Rattle.run_stores.specs.Starts.{start_of}
-use Rattle.run_stores.specs.Began.{BeganOver, TellsUnopened}
-use Rattle.run_stores.specs.Ends.{EndsWith}
-use Rattle.run_stores.specs.declared.closing.StoreRun.{StoreRun}
+use Rattle.run_opening.specs.Start.{Start}
+use Rattle.run_opening.specs.Starts.{start_of}
+use Rattle.run_opening.specs.Began.{BeganOver, TellsUnopened}
+use Rattle.run_opening.specs.Ends.{EndsWith}
+use Rattle.run_opening.specs.declared.stores.closing.StoreRun.{StoreRun}
 use Rattle.session_reports.specs.Outcomes.{notice_of}
 use Rattle.session_reports.specs.declared.notices.Notice.TheVariants.{Damaged, Disk, Memory}
 use Rattle.session_reports.specs.declared.reports.Streams.{Streams}

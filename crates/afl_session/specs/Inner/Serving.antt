@@ -4,7 +4,7 @@ use Rattle.afl_lexer.specs.Split.{Statement, closed_statements, statements as al
 use Rattle.afl_lexer.specs.Inner.Standing.{Splitting, StandsAfter}
 use Rattle.afl_outside.specs.Counts.{Rose}
 use Rattle.afl_outside.specs.Sink.{SinkState, Takes}
-use Rattle.store_state.specs.declared.event.Event.{Event}
+use Rattle.store_state.specs.declared.state.event.Event.{Event}
 use Rattle.afl_session.specs.declared.replies.reply.Reply.{Reply}
 use Rattle.afl_session.specs.Session.{AnswerRule, AnswersAll, AnswersFront, LeavesOne, Replies}
 use Rattle.session_reports.specs.declared.reports.Mark.{Mark}

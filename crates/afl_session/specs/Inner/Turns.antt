@@ -6,15 +6,15 @@ use Rattle.array_geom.specs.declared.chunk.Changed.{Changed}
 use Rattle.chunk_source.specs.declared.reading.fault.ExecFault.{ExecFault}
 use Rattle.chunk_source.specs.declared.reading.fault.ExecFault.TheVariants.{Source, Damaged, Memory}
 use Rattle.plan_changes.specs.declared.change.Change.{Change}
-use Rattle.statement_answers.specs.declared.outcome.Outcome.{Outcome}
+use Rattle.statement_replies.specs.declared.answers.outcome.Outcome.{Outcome}
 use Rattle.afl_types.specs.Checking.{check_of}
-use Rattle.statement_answers.specs.declared.outcome.Outcome.TheVariants.{Replied, Changes}
-use Rattle.statement_answers.specs.Outcomes.{MayFail}
-use Rattle.statement_replies.specs.declared.replies.Reply.{Reply as Told}
-use Rattle.statement_replies.specs.declared.style.Style.{Style}
+use Rattle.statement_replies.specs.declared.answers.outcome.Outcome.TheVariants.{Replied, Changes}
+use Rattle.statement_replies.specs.Outcomes.{MayFail}
+use Rattle.statement_replies.specs.declared.replies.replies.Reply.{Reply as Told}
+use Rattle.statement_replies.specs.declared.replies.style.Style.{Style}
 use Rattle.session_sources.specs.Owners.{ExtendsByOwn}
 use Rattle.session_sources.specs.Turn.{Turn}
-use Rattle.store_state.specs.declared.parts.StoreParts.{StoreParts}
+use Rattle.store_state.specs.declared.state.parts.StoreParts.{StoreParts}
 use Rattle.store_state.specs.At.{standing}
 use Rattle.event_core.specs.Bases.{sequence_at}
 use Rattle.store_state.specs.Calls.{history_at}

@@ -2,9 +2,9 @@
 ghost use Rattle.std.specs.Prelude.{◌≡◌, ◌+◌, ◌≤◌, false, IsTrue, List, Some};
 ghost use Rattle.check_exprs.specs.Laws.{leaves_fit};
 ghost use Rattle.plan_changes.specs.Databases.{Database};
-ghost use Rattle.statement_answers.specs.Outcomes.{MayBeCommitted};
+ghost use Rattle.statement_replies.specs.Outcomes.{MayBeCommitted};
 ghost use Rattle.store_ledger.specs.Ledger.{is_noted, is_tried};
-ghost use Rattle.store_state.specs.declared.event.Event.{Event};
+ghost use Rattle.store_state.specs.declared.state.event.Event.{Event};
 ghost use Rattle.store_state.specs.Calls.{database_with};
 ghost use Rattle.store_state.specs.Standings.{BeganAs};
 ghost use Rattle.afl_session.specs.Replies.{Says, SaysChange};

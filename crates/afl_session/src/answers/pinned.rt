@@ -20,7 +20,7 @@ use afl_outside::{Disk, Gate, Point};
 use afl_trees::Tree;
 use chunk_source::ExecFault;
 use session_sources::{PinnedSource, Seat, Shared, sources_hold_their_versions};
-use statement_answers::{Outcome, outcome_of};
+use statement_replies::{Outcome, outcome_of};
 use std::alloc::Global;
 use std::sync::Wait;
 use std::thread::Threads;

@@ -3,7 +3,7 @@ ghost use Rattle.afl_session.specs.Fresh.{FreshChangesAreSaid};
 ghost use Rattle.afl_session.specs.RepliesLaws.{ActsJoin, OpenPinsAreEntered, PinsChangeNothing, RepliesStay};
 ghost use Rattle.afl_session.specs.RepliesWorked.{IsWorked};
 ghost use Rattle.afl_session.specs.WorkedReplies.{AreWorked};
-ghost use Rattle.statement_replies.specs.declared.style.Style.{Style};
+ghost use Rattle.statement_replies.specs.declared.replies.style.Style.{Style};
 
 use afl_outside::Disk;
 

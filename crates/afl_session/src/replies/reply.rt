@@ -3,12 +3,12 @@ ghost use Rattle.std.specs.Prelude.{◌≡◌};
 ghost use Rattle.afl_session.specs.Refusals.{IsUncommittedReply, IsUnreadReply, IsWant, Refuses, RefusesAt};
 ghost use Rattle.afl_session.specs.Replies.{words_of};
 
+use array_store::CommitFault;
 use cell_values::{Bytes, Memory};
 use chunk_source::ExecFault;
 use result_print::Refusal;
 use statement_replies::{Reply as Words, refuse};
 use std::alloc::Global;
-use told_stores::CommitFault;
 
 /// What a statement is answered.
 #[derive(Debug, Drop)]

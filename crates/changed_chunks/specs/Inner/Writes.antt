@@ -9,7 +9,7 @@ use Rattle.array_rows.specs.Rows.{put_all}
 use Rattle.array_geom.specs.declared.chunk.Changed.{Changed}
 use Rattle.array_geom.specs.Geometry.{ChunkNumber, frame, has_core, overlaps}
 use Rattle.array_geom.specs.Link.{IsPart, has_cell, is_listed, numbers}
-use Rattle.commit_costs.specs.Lengths.{meets}
+use Rattle.commit_pages.specs.Lengths.{meets}
 use Rattle.commit_pages.specs.Changes.{AreValid, IsOf}
 
 -- the chunks of a version with these rows that a test chooses

@@ -7,7 +7,7 @@ ghost use Rattle.array_geom.specs.Geometry.{HasFrame};
 ghost use Rattle.array_geom.specs.Link.{is_not_empty};
 ghost use Rattle.array_parts.specs.Cores.{cores_of};
 ghost use Rattle.array_parts.specs.Placed.{HavePlaces};
-ghost use Rattle.commit_costs.specs.Lengths.{meets};
+ghost use Rattle.commit_pages.specs.Lengths.{meets};
 ghost use Rattle.changed_chunks.specs.Inner.Input.{AreStoredChunks, CanBeStored, MayBeStored, stored_rows};
 ghost use Rattle.changed_chunks.specs.Inner.Writes.{IsInsertOf, IsStoreOf};
 

@@ -4,7 +4,7 @@ use Rattle.std.specs.List.{AllByRecursion}
 use Rattle.afl_lexer.specs.Inner.Standing.{Splitting, StandsAfter}
 use Rattle.session_reports.specs.declared.reports.Streams.{Streams}
 use Rattle.run_opening.specs.Names.{Word, reply_name}
-use Rattle.run_opening.specs.declared.room.Room.{Room}
+use Rattle.run_opening.specs.declared.opening.room.Room.{Room}
 
 -- it has room for the streams of so many scripts, the names of their replies, and fresh splitters
 pub record HasRoom {S K : Type 0} (scripts : List Word) (room : Room S K) : Type 0 where

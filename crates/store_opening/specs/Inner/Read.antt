@@ -16,7 +16,7 @@ use Rattle.store_opening.specs.Bases.{base_core}
 use Rattle.store_ledger.specs.Ledger.{LedgerState}
 use Rattle.store_versions.specs.Rows.{first_rows}
 use Rattle.store_versions.specs.Seen.{version_of}
-use Rattle.store_state.specs.declared.parts.StoreParts.{StoreParts}
+use Rattle.store_state.specs.declared.state.parts.StoreParts.{StoreParts}
 use Rattle.store_state.specs.At.{keeping, standing}
 use Rattle.store_state.specs.Standings.{Standing}
 use Rattle.store_state.specs.Inner.Keeping.{Keeping}

@@ -4,8 +4,8 @@ use Rattle.cell_values.specs.declared.schema.Schema.{Schema}
 use Rattle.array_geom.specs.declared.chunk.Chunk.{Chunk}
 use Rattle.chunk_map.specs.declared.directory.DirEntry.{DirEntry}
 use Rattle.store_state.specs.Calls.{spelled_by}
-use Rattle.store_state.specs.declared.fault.ReadFault.{ReadFault}
-use Rattle.store_state.specs.declared.fault.ReadFault.TheVariants.{Disk, Damaged, Memory}
+use Rattle.store_state.specs.declared.state.fault.ReadFault.{ReadFault}
+use Rattle.store_state.specs.declared.state.fault.ReadFault.TheVariants.{Disk, Damaged, Memory}
 
 -- the chunk that the bytes spell; or the payload's first page, where they spell none
 abbrev pub IsDecoded : Schema → DirEntry → List ℕ → Result Chunk ReadFault → Type 0

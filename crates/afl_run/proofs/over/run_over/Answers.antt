@@ -1,7 +1,7 @@
 use Rattle.std.proofs.Common.{inl, sym, subst}
 use Rattle.afl_outside.specs.Disk.{DiskGoesOn}
 use Rattle.store_state.specs.At.{standing}
-use Rattle.run_stores.specs.declared.closing.StoreRun.{StoreRun}
+use Rattle.run_opening.specs.declared.stores.closing.StoreRun.{StoreRun}
 use Rattle.afl_run.proofs.OverLemmas.{disk_goes_on, over, unopened_as}
 use Rattle.afl_run.proofs.over.run_over.Goals as goal
 

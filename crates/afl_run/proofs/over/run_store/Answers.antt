@@ -1,7 +1,7 @@
 use Rattle.std.proofs.Common.{◌∙◌, ap, inl, inr, refl}
-use Rattle.run_stores.specs.Starts.{start_of}
+use Rattle.run_opening.specs.Starts.{start_of}
 use Rattle.store_state.specs.At.{standing}
-use Rattle.store_state.specs.declared.parts.StoreParts.{StoreParts}
+use Rattle.store_state.specs.declared.state.parts.StoreParts.{StoreParts}
 use Rattle.afl_run.proofs.OverLemmas.{runs_to, unrun_as}
 use Rattle.afl_run.proofs.over.run_store.Goals as goal
 

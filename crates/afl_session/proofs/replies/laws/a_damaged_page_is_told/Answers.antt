@@ -7,8 +7,8 @@ use Rattle.store_versions.specs.Versions.{MadeVersion}
 use Rattle.store_state.specs.Payloads.{HasTold, WasDamagedAt}
 use Rattle.store_state.specs.Worked.{worked_directory}
 use Rattle.event_core.specs.declared.entry.Entry.TheVariants.{Pin}
-use Rattle.told_stores.specs.Told.{told}
-use Rattle.told_stores.specs.Worked.{worked_leaf, worked_seen, worked_start}
+use Rattle.array_store.specs.Told.{told}
+use Rattle.array_store.specs.Worked.{worked_leaf, worked_seen, worked_start}
 use Rattle.afl_session.specs.RepliesWorked.{empty_moment}
 use Rattle.afl_session.proofs.replies.laws.a_damaged_page_is_told.Goals as goal
 

@@ -7,9 +7,9 @@ use Rattle.plan_changes.specs.declared.change.Change.TheVariants.{Remove}
 use Rattle.plan_changes.specs.Databases.{Database}
 use Rattle.statement_replies.specs.Reply.{traced}
 use Rattle.statement_replies.specs.Statements.{text_alone}
-use Rattle.statement_replies.specs.declared.style.Style.{Style}
+use Rattle.statement_replies.specs.declared.replies.style.Style.{Style}
 use Rattle.store_state.specs.Standings.{BeganAs}
-use Rattle.told_stores.specs.Worked.{worked_leaf}
+use Rattle.array_store.specs.Worked.{worked_leaf}
 use Rattle.afl_session.specs.WorkedReplies.{unknown_moment}
 use Rattle.afl_session.proofs.replies.laws.some_replies_are_told.Goals as goal
 

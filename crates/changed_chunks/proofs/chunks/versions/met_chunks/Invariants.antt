@@ -3,7 +3,7 @@ use Rattle.std.specs.List.{AllByRecursion}
 use Rattle.std.specs.Vec.Iter.{into_iter_items}
 use Rattle.array_parts.specs.Cores.{cores_of}
 use Rattle.array_parts.specs.Placed.{HasPlaces}
-use Rattle.commit_costs.specs.Lengths.{meets}
+use Rattle.commit_pages.specs.Lengths.{meets}
 use Rattle.changed_chunks.proofs.chunks.versions.met_chunks.Given as goal
 
 abbrev pub invariant-loop-chunk : goal.invariant-loop-chunk

@@ -1,12 +1,12 @@
 use Rattle.std.proofs.Common.{◌∙◌, ap, length, refl, subst, sym}
-use Rattle.told_stores.specs.At.{standing}
-use Rattle.told_stores.specs.Events.{events}
-use Rattle.told_stores.specs.Starts.{start_of}
+use Rattle.array_store.specs.At.{standing}
+use Rattle.array_store.specs.Events.{events}
+use Rattle.array_store.specs.Starts.{start_of}
 use Rattle.turn_lock.specs.Inner.Lent.{value_of}
 use Rattle.turn_lock.specs.Seats.{seen_by}
-use Rattle.told_stores.specs.Told.{IsTold}
-use Rattle.told_stores.proofs.InTurn.{tells}
-use Rattle.told_stores.proofs.Turning.{begun}
+use Rattle.array_store.specs.Told.{IsTold}
+use Rattle.array_store.proofs.InTurn.{tells}
+use Rattle.array_store.proofs.Turning.{begun}
 use Rattle.snapshot_manager.specs.Seats.{seen, session_of}
 use Rattle.snapshot_manager.proofs.shared.Shared.begin.Goals as goal
 

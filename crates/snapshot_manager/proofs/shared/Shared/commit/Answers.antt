@@ -1,10 +1,10 @@
 use Rattle.std.proofs.Common.{◌∙◌, ap, sym}
-use Rattle.told_stores.specs.At.{standing}
-use Rattle.told_stores.specs.Events.{events}
-use Rattle.told_stores.specs.Starts.{start_of}
-use Rattle.told_stores.specs.Tries.{is_fresh_since}
-use Rattle.told_stores.proofs.InTurn.{is_now, ledger_is, open_left, open_pin_now, pinned_now}
-use Rattle.told_stores.proofs.TriedTurns.{asked_in_turn, open_made, open_tried, turn_makes, turn_tries, untried_in_turn}
+use Rattle.array_store.specs.At.{standing}
+use Rattle.array_store.specs.Events.{events}
+use Rattle.array_store.specs.Starts.{start_of}
+use Rattle.array_store.specs.Tries.{is_fresh_since}
+use Rattle.array_store.proofs.InTurn.{is_now, ledger_is, open_left, open_pin_now, pinned_now}
+use Rattle.array_store.proofs.TriedTurns.{asked_in_turn, open_made, open_tried, turn_makes, turn_tries, untried_in_turn}
 use Rattle.snapshot_manager.specs.Seats.{seen, session_of, start}
 use Rattle.snapshot_manager.proofs.shared.Shared.commit.Goals as goal
 

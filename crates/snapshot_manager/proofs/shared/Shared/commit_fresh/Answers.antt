@@ -1,12 +1,12 @@
 use Rattle.std.proofs.Common.{◌≡◌, ◌∙◌, [], ap, sym, subst}
 use Rattle.turn_lock.specs.Owners.{ExtendsByOwn}
-use Rattle.told_stores.specs.At.{standing}
-use Rattle.told_stores.specs.Events.{events, owner_of}
-use Rattle.told_stores.specs.Starts.{start_of}
-use Rattle.told_stores.proofs.Added.{if_ok, on_ok}
-use Rattle.told_stores.specs.Told.{IsTold}
-use Rattle.told_stores.proofs.TriedTurns.{cause_told, commit_extends, commit_start, fits_told, makes_here, may_told, next_told, place_told, tries_here, typed_told}
-use Rattle.told_stores.proofs.Turning.{if_err, on_err}
+use Rattle.array_store.specs.At.{standing}
+use Rattle.array_store.specs.Events.{events, owner_of}
+use Rattle.array_store.specs.Starts.{start_of}
+use Rattle.array_store.proofs.Added.{if_ok, on_ok}
+use Rattle.array_store.specs.Told.{IsTold}
+use Rattle.array_store.proofs.TriedTurns.{cause_told, commit_extends, commit_start, fits_told, makes_here, may_told, next_told, place_told, tries_here, typed_told}
+use Rattle.array_store.proofs.Turning.{if_err, on_err}
 use Rattle.snapshot_manager.specs.Seats.{seen, start}
 use Rattle.snapshot_manager.proofs.shared.Shared.commit_fresh.Goals as goal
 

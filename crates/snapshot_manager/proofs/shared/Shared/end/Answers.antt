@@ -1,11 +1,11 @@
 use Rattle.std.proofs.Common.{◌≡◌, ◌∙◌, ap, length, refl, subst, sym}
-use Rattle.told_stores.specs.At.{AreParts, standing}
-use Rattle.told_stores.specs.Events.{events, owner_of}
-use Rattle.told_stores.specs.Starts.{start_of}
+use Rattle.array_store.specs.At.{AreParts, standing}
+use Rattle.array_store.specs.Events.{events, owner_of}
+use Rattle.array_store.specs.Starts.{start_of}
 use Rattle.turn_lock.specs.Owners.{ExtendsByOwn}
 use Rattle.turn_lock.specs.Seats.{seen_by}
-use Rattle.told_stores.specs.Told.{IsTold}
-use Rattle.told_stores.proofs.InTurn.{tells}
+use Rattle.array_store.specs.Told.{IsTold}
+use Rattle.array_store.proofs.InTurn.{tells}
 use Rattle.snapshot_manager.specs.Seats.{seen, session_of, start}
 use Rattle.snapshot_manager.proofs.shared.Shared.end.Goals as goal
 

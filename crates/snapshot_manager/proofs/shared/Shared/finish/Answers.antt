@@ -5,9 +5,9 @@ use Rattle.turn_lock.specs.Owners.{AreOwnedBelow, ExtendsByOthers}
 use Rattle.turn_lock.specs.Seats.{claim_of, seat_count, IsSeatOf as IsLockSeatOf, IsIdle as HasNoTurn}
 use Rattle.turn_lock.specs.declared.turns.view.Claim.{Claim}
 use Rattle.turn_lock.proofs.Gathering.{all_left, all_last, all_unmapped, gathered}
-use Rattle.told_stores.specs.Event.{Event}
-use Rattle.told_stores.specs.At.{standing}
-use Rattle.told_stores.specs.Events.{events, owner_of}
+use Rattle.array_store.specs.Event.{Event}
+use Rattle.array_store.specs.At.{standing}
+use Rattle.array_store.specs.Events.{events, owner_of}
 use Rattle.snapshot_manager.specs.Seats.{AreIdleSeats, IsIdle, IsSeatOf}
 use Rattle.snapshot_manager.proofs.Seating.{seat_claim}
 use Rattle.snapshot_manager.proofs.shared.Shared.finish.Goals as goal

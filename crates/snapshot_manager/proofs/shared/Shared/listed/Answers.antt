@@ -1,7 +1,7 @@
 use Rattle.std.proofs.Common.{◌∙◌, sym}
 use Rattle.chunk_source.specs.Source.{AreNumbersIn}
 use Rattle.plan_changes.specs.Databases.{rows_of}
-use Rattle.told_stores.proofs.InTurn.{adds_none, listed_ok, open_left, open_pin_now, over_ok}
+use Rattle.array_store.proofs.InTurn.{adds_none, listed_ok, open_left, open_pin_now, over_ok}
 use Rattle.snapshot_manager.specs.Seats.{seen, session_of, start}
 use Rattle.snapshot_manager.proofs.shared.Shared.listed.Goals as goal
 

@@ -2,12 +2,12 @@ use Rattle.std.proofs.Common.{◌≡◌, ◌∙◌, [], ◌∷◌, ap, length, s
 use Rattle.event_core.specs.declared.entry.Entry.TheVariants.{Pin}
 use Rattle.event_core.specs.History.{names_at}
 use Rattle.store_ledger.specs.Ledger.{IsOpenPin, history}
-use Rattle.told_stores.specs.Event.TheVariants.{Entered}
-use Rattle.told_stores.specs.At.{standing}
-use Rattle.told_stores.specs.Starts.{start_of}
-use Rattle.told_stores.proofs.Databases.{pin_database, pin_stored}
-use Rattle.told_stores.proofs.InTurn.{extends_now, pin_cause, pin_done, pin_err, pin_is, pin_none, pin_ok, pin_only, pin_open, pin_room, pin_untried, unpinned_now}
-use Rattle.told_stores.proofs.Turning.{done_events, if_both}
+use Rattle.array_store.specs.Event.TheVariants.{Entered}
+use Rattle.array_store.specs.At.{standing}
+use Rattle.array_store.specs.Starts.{start_of}
+use Rattle.array_store.proofs.Databases.{pin_database, pin_stored}
+use Rattle.array_store.proofs.InTurn.{extends_now, pin_cause, pin_done, pin_err, pin_is, pin_none, pin_ok, pin_only, pin_open, pin_room, pin_untried, unpinned_now}
+use Rattle.array_store.proofs.Turning.{done_events, if_both}
 use Rattle.snapshot_manager.specs.Seats.{HoldsPin, ledger_seen, seen, session_of, start}
 use Rattle.snapshot_manager.proofs.shared.Shared.pin.Goals as goal
 

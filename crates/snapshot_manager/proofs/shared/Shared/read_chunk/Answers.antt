@@ -1,7 +1,7 @@
 use Rattle.std.proofs.Common.{◌∙◌, IsTrue, rules, subst, sym}
 use Rattle.chunk_source.specs.Source.{IsChunkIn, is_among}
 use Rattle.plan_changes.specs.Databases.{rows_of}
-use Rattle.told_stores.proofs.InTurn.{began_in_turn, chunks_in_turn, open_pin_now, over_ok, read_adds, read_causes, read_extends, read_open}
+use Rattle.array_store.proofs.InTurn.{began_in_turn, chunks_in_turn, open_pin_now, over_ok, read_adds, read_causes, read_extends, read_open}
 use Rattle.snapshot_manager.specs.Seats.{seen, session_of, start}
 use Rattle.snapshot_manager.proofs.Damages.{damaged_was}
 use Rattle.snapshot_manager.proofs.shared.Shared.read_chunk.Goals as goal

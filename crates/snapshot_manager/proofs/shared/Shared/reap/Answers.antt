@@ -1,8 +1,8 @@
 use Rattle.std.proofs.Common.{◌∙◌, ap}
-use Rattle.told_stores.specs.At.{standing}
-use Rattle.told_stores.specs.Starts.{start_of}
-use Rattle.told_stores.proofs.InTurn.{adds_now, extends_now, reap_is}
-use Rattle.told_stores.proofs.Turning.{reap_adds, reap_err, reap_ok, reap_only, reaped}
+use Rattle.array_store.specs.At.{standing}
+use Rattle.array_store.specs.Starts.{start_of}
+use Rattle.array_store.proofs.InTurn.{adds_now, extends_now, reap_is}
+use Rattle.array_store.proofs.Turning.{reap_adds, reap_err, reap_ok, reap_only, reaped}
 use Rattle.snapshot_manager.specs.Seats.{seen, session_of, start}
 use Rattle.snapshot_manager.proofs.shared.Shared.reap.Goals as goal
 

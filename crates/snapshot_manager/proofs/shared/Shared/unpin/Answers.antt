@@ -1,9 +1,9 @@
 use Rattle.std.proofs.Common.{◌∙◌, [], ◌∷◌, ap, sym}
 use Rattle.event_core.specs.declared.entry.Entry.TheVariants.{Unpin}
-use Rattle.told_stores.specs.Event.TheVariants.{Entered}
-use Rattle.told_stores.specs.At.{standing}
-use Rattle.told_stores.specs.Starts.{start_of}
-use Rattle.told_stores.proofs.InTurn.{extends_now, open_pin_now, unpin_adds, unpin_none, unpin_only}
+use Rattle.array_store.specs.Event.TheVariants.{Entered}
+use Rattle.array_store.specs.At.{standing}
+use Rattle.array_store.specs.Starts.{start_of}
+use Rattle.array_store.proofs.InTurn.{extends_now, open_pin_now, unpin_adds, unpin_none, unpin_only}
 use Rattle.snapshot_manager.specs.Seats.{seen, session_of, start}
 use Rattle.snapshot_manager.proofs.shared.Shared.unpin.Goals as goal
 

@@ -1,5 +1,5 @@
 use Rattle.std.proofs.Common.{◌∙◌, [], ap, refl, sym, append-nil}
-use Rattle.store_state.specs.declared.parts.StoreParts.{StoreParts}
+use Rattle.store_state.specs.declared.state.parts.StoreParts.{StoreParts}
 use Rattle.store_state.specs.At.{standing}
 use Rattle.store_state.specs.Events.{events}
 use Rattle.snapshot_manager.specs.Seats.{seen}

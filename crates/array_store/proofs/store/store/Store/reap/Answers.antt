@@ -1,0 +1,22 @@
+use Rattle.store_opening.specs.At.{standing}
+use Rattle.array_store.proofs.Added.{adds_reap, if_ok}
+use Rattle.std.proofs.Common.{[], ◌∷◌, refl}
+use Rattle.event_core.specs.declared.entry.Entry.TheVariants.{Reap}
+use Rattle.store_opening.specs.Standings.{with_entries}
+use Rattle.array_store.proofs.Going.{by_choice, stays, unmoved}
+use Rattle.array_store.proofs.store.store.Store.reap.Goals as goal
+
+pub returns-clause-adds : goal.returns-clause-adds
+returns-clause-adds g c =
+    let moment = g.D.Disk.moment in
+    if_ok _ _ c.reap.result (adds_reap moment c.self.inside.parts c.args.self.now c.self.view_is (standing moment c.reap.new.parts) c.self.invariant.at c.is_ledger.ensures)
+    c.reap.ensures.ok
+
+pub invariant_of-self : goal.invariant_of-self
+invariant_of-self g c =
+    let moment = g.D.Disk.moment in
+    let parts = c.self.inside.parts in
+    let s = standing moment parts in
+    stays moment parts c.reap.new.parts c.self.invariant c.reap.ensures.at
+    (by_choice s (with_entries (Reap ∷ []) s) s s (standing moment c.reap.new.parts) c.reap.result (record { opened = refl; disk = refl }) (unmoved s) (unmoved s)
+    c.reap.ensures.ok c.reap.ensures.err)

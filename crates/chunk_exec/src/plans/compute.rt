@@ -1,0 +1,100 @@
+//! The arrays of plans, operator by operator.
+ghost use Rattle.std.specs.Prelude.{◌≡◌, ◌+◌, ◌≤◌, [], ◌∷◌, length, drop, IfOk, OnOk, OnErr};
+ghost use Rattle.chunk_source.specs.Source.{AsksFront, Keeps};
+ghost use Rattle.chunk_source.specs.Faults.{Answers};
+ghost use Rattle.logical_plan.specs.Leaves.{leaves};
+ghost use Rattle.chunk_exec.specs.Computed.{CanCompute, IsComputed, asked_in_boxes};
+ghost use Rattle.chunk_exec.specs.Inner.Operated.{sources};
+
+use crate::plans::leaf::given_array;
+use crate::plans::operators::{of_one, of_two};
+use crate::plans::sources::{Sources, sources_of};
+use afl_outside::Gate;
+use array_geom::ChunkedArray;
+use cell_values::Bounds;
+use chunk_source::{ChunkSource, ExecFault};
+use chunk_workers::Crew;
+use logical_plan::Plan;
+use std::alloc::Global;
+use std::thread::Threads;
+
+/// The array of a plan, whose leaves have the next numbers. Each is read for the box of its number.
+#[cycle(compute)]
+pub(crate) fn compute<S: ChunkSource, R: Threads + Sync, G: Gate>(
+    crew: &mut Crew<'_, R, G>,
+    alloc: Global,
+    plan: &Plan,
+    source: &mut S,
+    next: &mut u32,
+    boxes: &[Bounds],
+) -> Result<ChunkedArray, ExecFault>
+    requires can { CanCompute (S.state source.old) plan.now }
+    requires enough { next.old + length (leaves plan.now) ≤ length boxes.now }
+    ensures computed { IfOk result (IsComputed next.old (drop next.old boxes.now) (S.state source.old) (S.state source.new) plan.now) }
+    ensures next { OnOk result (next.new ≡ next.old + length (leaves plan.now)) }
+    ensures front { let old = S.state source.old in
+        OnErr result (AsksFront (asked_in_boxes old next.old (leaves plan.now) (drop next.old boxes.now)) old (S.state source.new)) }
+    ensures kept { Keeps (S.state source.old) (S.state source.new) }
+    ensures cause { Answers (S.state source.old) (S.state source.new) result }
+    ensures start { S.start source.new ≡ S.start source.old }
+{
+    match sources_of(plan) {
+        Sources::Given => given_array(alloc, plan, source, next, boxes),
+        Sources::One(from) => over_one(crew, alloc, plan, from, source, next, boxes),
+        Sources::Two(left, right) => over_two(crew, alloc, plan, left, right, source, next, boxes),
+    }
+}
+
+/// The array of a plan of one source.
+#[cycle(compute)]
+fn over_one<S: ChunkSource, R: Threads + Sync, G: Gate>(
+    crew: &mut Crew<'_, R, G>,
+    alloc: Global,
+    plan: &Plan,
+    from: &Plan,
+    source: &mut S,
+    next: &mut u32,
+    boxes: &[Bounds],
+) -> Result<ChunkedArray, ExecFault>
+    requires can { CanCompute (S.state source.old) plan.now }
+    requires from { from.now ∷ [] ≡ sources plan.now }
+    requires enough { next.old + length (leaves plan.now) ≤ length boxes.now }
+    ensures computed { IfOk result (IsComputed next.old (drop next.old boxes.now) (S.state source.old) (S.state source.new) plan.now) }
+    ensures next { OnOk result (next.new ≡ next.old + length (leaves plan.now)) }
+    ensures front { let old = S.state source.old in
+        OnErr result (AsksFront (asked_in_boxes old next.old (leaves plan.now) (drop next.old boxes.now)) old (S.state source.new)) }
+    ensures kept { Keeps (S.state source.old) (S.state source.new) }
+    ensures cause { Answers (S.state source.old) (S.state source.new) result }
+    ensures start { S.start source.new ≡ S.start source.old }
+{
+    let array = compute(crew, alloc, from, source, next, boxes)?;
+    Ok(of_one(crew, alloc, plan, array)?)
+}
+
+/// The array of a plan of two sources.
+#[cycle(compute)]
+fn over_two<S: ChunkSource, R: Threads + Sync, G: Gate>(
+    crew: &mut Crew<'_, R, G>,
+    alloc: Global,
+    plan: &Plan,
+    left: &Plan,
+    right: &Plan,
+    source: &mut S,
+    next: &mut u32,
+    boxes: &[Bounds],
+) -> Result<ChunkedArray, ExecFault>
+    requires can { CanCompute (S.state source.old) plan.now }
+    requires both { left.now ∷ right.now ∷ [] ≡ sources plan.now }
+    requires enough { next.old + length (leaves plan.now) ≤ length boxes.now }
+    ensures computed { IfOk result (IsComputed next.old (drop next.old boxes.now) (S.state source.old) (S.state source.new) plan.now) }
+    ensures next { OnOk result (next.new ≡ next.old + length (leaves plan.now)) }
+    ensures front { let old = S.state source.old in
+        OnErr result (AsksFront (asked_in_boxes old next.old (leaves plan.now) (drop next.old boxes.now)) old (S.state source.new)) }
+    ensures kept { Keeps (S.state source.old) (S.state source.new) }
+    ensures cause { Answers (S.state source.old) (S.state source.new) result }
+    ensures start { S.start source.new ≡ S.start source.old }
+{
+    let left = compute(crew, alloc, left, source, next, boxes)?;
+    let right = compute(crew, alloc, right, source, next, boxes)?;
+    Ok(of_two(crew, plan, left, right)?)
+}

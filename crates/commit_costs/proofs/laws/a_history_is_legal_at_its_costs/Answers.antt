@@ -1,5 +1,0 @@
-use Rattle.commit_costs.proofs.Legal.{legal}
-use Rattle.commit_costs.proofs.laws.a_history_is_legal_at_its_costs.Goals as goal
-
-pub returns : goal.returns
-returns c = legal

@@ -1,5 +1,0 @@
-use Rattle.commit_costs.proofs.Catalogs.{catalogs_of_databases, record_pages_are_told, catalogue_pages_are_told}
-use Rattle.commit_costs.proofs.laws.costs_follow_the_catalogue.Goals as goal
-
-pub returns : goal.returns
-returns c = record { next = catalogs_of_databases; records = record_pages_are_told; catalogs = catalogue_pages_are_told }

@@ -1,5 +1,0 @@
-use Rattle.commit_pages.proofs.Costs.{records_cost, bases_cost}
-use Rattle.commit_pages.proofs.laws.commits_take_what_they_cost.Goals as goal
-
-pub returns : goal.returns
-returns c = record { records = records_cost; bases = bases_cost }

@@ -1,7 +1,0 @@
-use Rattle.commit_pages.proofs.Loops.{count_step}
-use Rattle.commit_pages.proofs.needed.count_pages.Goals as goal
-
-pub loop-blob-preserved : goal.loop-blob-preserved
-loop-blob-preserved c =
-    count_step c.args.blobs.now c.loop-blob.blob-index c.blob-item.result c.loop-blob.count c.len.result c.in_ok-count.count c.loop-blob-test.true c.blob-item.is c.len.ensures c.loop-blob.invariant
-    c.in_ok-count.ensures

@@ -1,0 +1,6 @@
+use Rattle.std.proofs.Common.{◌≡◌, length, take}
+use Rattle.commit_writes.specs.Commits.{pages_of}
+use Rattle.commit_pages.proofs.pages.needed.count_pages.Given as goal
+
+abbrev pub invariant-loop-blob : goal.invariant-loop-blob
+invariant-loop-blob l = l.count ≡ length (pages_of (take l.blob-index l.blobs))

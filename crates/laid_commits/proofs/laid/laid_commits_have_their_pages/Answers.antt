@@ -1,5 +1,0 @@
-use Rattle.laid_commits.proofs.Used.{records_have, bases_have}
-use Rattle.laid_commits.proofs.laid.laid_commits_have_their_pages.Goals as goal
-
-pub returns : goal.returns
-returns c = record { records = records_have; bases = bases_have }

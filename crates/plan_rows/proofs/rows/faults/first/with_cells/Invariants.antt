@@ -1,5 +1,0 @@
-use Rattle.plan_rows.proofs.Steps.{CellsLeft}
-use Rattle.plan_rows.proofs.rows.faults.first.with_cells.Given as goal
-
-abbrev pub invariant-loop-i : goal.invariant-loop-i
-invariant-loop-i l = CellsLeft l.grid l.positions l.cells l.i l.fn.first l.least

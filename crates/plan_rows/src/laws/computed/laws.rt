@@ -1,7 +1,0 @@
-//! Laws of plans that are computed.
-ghost use Rattle.plan_rows.specs.ComputedLaws.{ComputedPlansMeanArrays};
-
-/// A plan, of whose meaning over a database an array was computed, means an array of its schema over that database.
-pub fn computed_plans_mean_arrays()
-    ensures { ComputedPlansMeanArrays }
-{}

@@ -1,8 +1,0 @@
-//! What a plan gives over a source of chunks: its rows, or its first fault; and which plans mean arrays.
-#![tactic(auto)]
-
-mod laws;
-mod rows;
-
-pub use laws::{computed_plans_mean_arrays, typed_plans_mean_arrays};
-pub use rows::{PlanArray, PlanRows, array_of, first_fault, rows_of};

@@ -1,3 +1,0 @@
-pub mod Closed
-pub mod Opened
-pub mod Reaped

@@ -1,5 +1,0 @@
-pub use Rattle.array_store.specs.Starts
-pub use Rattle.array_store.specs.declared.start.Start
-pub mod Began
-pub mod Ends
-pub mod Held

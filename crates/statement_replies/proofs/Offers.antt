@@ -1,0 +1,75 @@
+-- Changes that are offered or refused.
+use Rattle.std.proofs.Common.{◌≡◌, inr, Option, Some, Ok, IfSome, refl, sym, ap, subst, ◌∙◌}
+use Rattle.cell_values.specs.declared.datum.Broken.{Broken}
+use Rattle.array_geom.specs.declared.chunk.Changed.{Changed}
+use Rattle.logical_plan.specs.declared.names.Names.{Names}
+use Rattle.plan_changes.specs.declared.change.Change.{Change}
+use Rattle.plan_changes.specs.declared.change.Change.TheVariants.{Create, Store, Insert, Remove, RemoveVersions}
+use Rattle.plan_changes.specs.Databases.{Database, fault_of_change, names_of, rows_of}
+use Rattle.plan_changes.specs.Stored.{HasItsNames}
+use Rattle.plan_changes.specs.Typed.{IsTypedFor}
+use Rattle.afl_types.specs.declared.types.statements.checking.Typed.TheVariants.{Change as AChange}
+use Rattle.chunk_source.specs.Source.{Keeps, SourceState}
+use Rattle.commit_pages.specs.Changes.{AreValid, ComesWith}
+use Rattle.changed_chunks.specs.declared.traces.asking.Asking.{Asking}
+use Rattle.changed_chunks.specs.Changing.{IsAnswerOver}
+use Rattle.changed_chunks.specs.Targets.{IsTargetAsking}
+use Rattle.statement_replies.specs.Reply.{cell_reply, traced}
+use Rattle.statement_replies.specs.StatementKinds.{IsChangeReply}
+use Rattle.statement_replies.specs.Statements.{Accepted, accepted, change_reply, changed_or_broken, reply_to_typed, without_change}
+use Rattle.statement_replies.specs.Traces.{IsTracedIn, change_lines}
+use Rattle.statement_replies.specs.declared.replies.replies.Reply.{Reply}
+use Rattle.statement_replies.specs.declared.replies.style.Style.{Style}
+use Rattle.statement_replies.specs.declared.answers.outcome.Offer.{Offer}
+use Rattle.statement_replies.specs.declared.answers.outcome.Outcome.TheVariants.{Replied}
+use Rattle.statement_replies.specs.Inner.Made.{HasChunks, HasPlan, IsMadeIn, outcome_with}
+use Rattle.statement_replies.specs.Outcomes.{HasOutcomeKind, IsMadeOf, IsOutcomeOf, IsToldBy}
+
+-- ---- the chunks of a change
+
+pub some_made : (db : Database) (change : Change) (changed : Changed) → IsAnswerOver db change (Ok changed) → IsMadeIn db change (Ok (Some changed))
+some_made db change changed is = record { stores = is.stores; whole = is.answer.fault; chunks = is.answer }
+
+-- ---- an offer
+
+pub offer_kind : (style : Style) (names : Names) (change : Change) (changed : Option Changed) (offer : Offer) → HasItsNames change → IsTypedFor names change → HasChunks change (Ok changed) → offer.changed ≡ changed
+    → IsChangeReply style names change offer.reply → HasOutcomeKind style names (Ok (AChange change)) (outcome_with change (Ok offer))
+offer_kind style names change changed offer named typed has same reply = (
+  refl,
+  record {
+    named = named;
+    typed = typed;
+    comes = subst (ComesWith change) (sym same) has.0;
+    valid = subst (λ (o : Option Changed). IfSome o AreValid) (sym same) has.1;
+  },
+  reply,
+)
+
+abbrev with_reply : Change → Reply → Accepted
+with_reply change reply = record { reply = reply; change = Some change }
+
+pub offer_told : (style : Style) (names : Names) (db : Database) (change : Change) (changed : Option Changed) (offer : Offer) → names_of db ≡ names → IsMadeIn db change (Ok changed) → offer.changed ≡ changed
+    → offer.reply ≡ change_reply names (traced style (change_lines db change)) change → IsOutcomeOf db (reply_to_typed style db (AChange change)) (outcome_with change (Ok offer))
+offer_told style names db change changed offer named made same reply =
+    let lines = traced style (change_lines db change) in (
+      ap (changed_or_broken (names_of db) lines change) made.whole ∙ ap (λ (n : Names). accepted n lines change) named ∙ ap (with_reply change) (sym reply),
+      subst (IsMadeOf db change) (sym same) made,
+    )
+
+-- what is told of the target in a database
+pub is_traced : (names : Names) (old mid : SourceState) (change : Change) (target : Asking) (db : Database) → Keeps old mid → IsToldBy names old db → IsTargetAsking db change target
+    → IsTracedIn names mid change target db
+is_traced names old mid change target db kept there counted = record { named = there.named; tells = (kept.tells (rows_of db)).1 there.tells; counted = counted }
+
+-- ---- a refusal
+
+pub fault_kind : (style : Style) (names : Names) (change : Change) (broken : Broken) (reply : Reply) → HasPlan change → reply ≡ cell_reply broken → HasOutcomeKind style names (Ok (AChange change)) (Replied reply)
+fault_kind style names (Create name schema) broken reply has e = absurd has
+fault_kind style names (Store name schema plan) broken reply has e = inr (broken, ap without_change e)
+fault_kind style names (Insert name schema plan) broken reply has e = inr (broken, ap without_change e)
+fault_kind style names (Remove name) broken reply has e = absurd has
+fault_kind style names (RemoveVersions name below) broken reply has e = absurd has
+
+pub fault_told : (style : Style) (db : Database) (change : Change) (broken : Broken) (reply : Reply) → fault_of_change db change ≡ Some broken → reply ≡ cell_reply broken
+    → reply_to_typed style db (AChange change) ≡ without_change reply
+fault_told style db change broken reply fault e = ap (changed_or_broken (names_of db) (traced style (change_lines db change)) change) fault ∙ ap without_change (sym e)

@@ -1,5 +1,0 @@
-use Rattle.statement_replies.proofs.Standing.{stand}
-use Rattle.statement_replies.proofs.laws.listed_arrays_stand.Goals as goal
-
-pub returns : goal.returns
-returns c = stand

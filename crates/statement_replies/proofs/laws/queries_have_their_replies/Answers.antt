@@ -1,5 +1,0 @@
-use Rattle.statement_replies.proofs.StatementReplies.{queries_replied}
-use Rattle.statement_replies.proofs.laws.queries_have_their_replies.Goals as goal
-
-pub returns : goal.returns
-returns c = queries_replied

@@ -1,0 +1,47 @@
+use Rattle.std.proofs.Common.{◌≡◌, ◌∙◌, Err, refl, subst}
+use Rattle.logical_plan.specs.Query.{Query}
+use Rattle.check_rules.specs.Checked.{Answers, refused}
+use Rattle.check_rules.specs.declared.rules.fault.TypeFault.{TypeFault}
+use Rattle.afl_types.specs.Queries.{query_of}
+use Rattle.chunk_source.proofs.ReadLemmas.{asked_none, on_err}
+use Rattle.result_print.specs.declared.refusal.Refusal.TheVariants.{Typing}
+use Rattle.statement_replies.specs.Reply.{refused as told}
+use Rattle.statement_replies.proofs.QueryReplies.{asked_of_breach, asked_of_plan, can_compute, front_of_plan, of_breach, plan_answer}
+use Rattle.statement_replies.proofs.replies.queries.reply_to_query.Goals as goal
+
+pub answer_query-answer-requires-clause-can : goal.answer_query-answer-requires-clause-can
+answer_query-answer-requires-clause-can g c κs within =
+    can_compute c.args.names.now (g.S.ChunkSource.state c.args.source.now) c.requires.holds c.args.tree.now c.in-Ok.plan c.requires.valid c.requires.fit c.in-Ok.ensures
+
+pub returns-in-Ok-clause-reply : goal.returns-in-Ok-clause-reply
+returns-in-Ok-clause-reply g c =
+    plan_answer c.args.style c.args.names.now (g.S.ChunkSource.state c.args.source.now) c.args.tree.now c.answer_query-answer.result c.in-Ok.plan c.in-Ok.ensures c.answer_query-answer.ensures.kind c.answer_query-answer.ensures.told
+
+pub returns-in-Ok-clause-asked : goal.returns-in-Ok-clause-asked
+returns-in-Ok-clause-asked g c =
+    asked_of_plan (g.S.ChunkSource.state c.args.source.now) (g.S.ChunkSource.state c.answer_query-answer.new.source) (query_of c.args.names.now.arrays c.args.tree.now) c.answer_query-answer.result c.in-Ok.plan c.in-Ok.ensures
+    c.answer_query-answer.ensures.asked
+
+pub returns-in-Ok-clause-front : goal.returns-in-Ok-clause-front
+returns-in-Ok-clause-front g c =
+    front_of_plan (g.S.ChunkSource.state c.args.source.now) (g.S.ChunkSource.state c.answer_query-answer.new.source) (query_of c.args.names.now.arrays c.args.tree.now) c.answer_query-answer.result c.in-Ok.plan c.in-Ok.ensures
+    c.answer_query-answer.ensures.front
+
+pub returns-in_ok-refuse-in-Err-Rule-clause-reply : goal.returns-in_ok-refuse-in-Err-Rule-clause-reply
+returns-in_ok-refuse-in-Err-Rule-clause-reply g c =
+    let checked = query_of c.args.names.now.arrays c.args.tree.now in
+    let rule = c.in-Err-Rule in
+    let is : checked ≡ refused rule.span rule.kind = subst (λ (f : TypeFault). Answers {A = Query} (Err f) checked) rule.field-0-is rule.ensures in
+    of_breach c.args.style c.args.names.now (g.S.ChunkSource.state c.args.source.now) c.args.tree.now rule.span rule.kind c.in_ok-refuse-in-Err-Rule.field-0 is
+    (c.in_ok-refuse-in-Err-Rule.ensures ∙ (λ i. told (Typing (rule.span-is i) (rule.kind-is i))))
+
+pub returns-in_ok-refuse-in-Err-Rule-clause-asked : goal.returns-in_ok-refuse-in-Err-Rule-clause-asked
+returns-in_ok-refuse-in-Err-Rule-clause-asked g c =
+    let checked = query_of c.args.names.now.arrays c.args.tree.now in
+    let rule = c.in-Err-Rule in
+    let is : checked ≡ refused rule.span rule.kind = subst (λ (f : TypeFault). Answers {A = Query} (Err f) checked) rule.field-0-is rule.ensures in
+    let source = g.S.ChunkSource.state c.args.source.now in
+    asked_of_breach source source checked rule.span rule.kind is refl
+
+pub returns-in_err-refuse-in-Err-Rule-clause-front : goal.returns-in_err-refuse-in-Err-Rule-clause-front
+returns-in_err-refuse-in-Err-Rule-clause-front g c = on_err _ _ (asked_none _ _ _ refl)

@@ -1,0 +1,21 @@
+use Rattle.plan_changes.specs.Databases.{Database}
+use Rattle.statement_replies.specs.Traces.{IsTracedIn, change_lines, change_lines_over}
+use Rattle.statement_replies.proofs.Lines.{unwanted, wanted, wanted_told}
+use Rattle.statement_replies.proofs.replies.traces.change_lines.Goals as goal
+
+pub returns-then-style-clause-over : goal.returns-then-style-clause-over
+returns-then-style-clause-over g c =
+    wanted c.lines_of_change.result c.args.style c.if-style.true (change_lines_over c.args.names.now (g.S.ChunkSource.state c.args.source.now) c.args.target c.args.change.now)
+    c.lines_of_change.ensures.over
+
+pub returns-then-style-clause-told : goal.returns-then-style-clause-told
+returns-then-style-clause-told g c =
+    wanted_told c.lines_of_change.result c.args.style c.if-style.true (IsTracedIn c.args.names.now (g.S.ChunkSource.state c.args.source.now) c.args.change.now c.args.target)
+    (λ (db : Database). change_lines db c.args.change.now) c.lines_of_change.ensures.told
+
+pub returns-else-style-clause-over : goal.returns-else-style-clause-over
+returns-else-style-clause-over g c =
+    unwanted c.args.style (change_lines_over c.args.names.now (g.S.ChunkSource.state c.args.source.now) c.args.target c.args.change.now) c.new.result c.if-style.false c.new.ensures
+
+pub returns-else-style-clause-told : goal.returns-else-style-clause-told
+returns-else-style-clause-told g c db there = unwanted c.args.style (change_lines db c.args.change.now) c.new.result c.if-style.false c.new.ensures

@@ -1,0 +1,43 @@
+//! What comes of a statement.
+ghost use Rattle.std.specs.Prelude.{◌≡◌};
+ghost use Rattle.statement_replies.specs.Inner.Made.{outcome_with};
+
+use crate::replies::Reply;
+use array_geom::Changed;
+use plan_changes::{Change, let_go_change};
+
+/// What comes of a statement.
+#[derive(Drop)]
+pub enum Outcome {
+    /// Its reply, where nothing changes: that of a query, a listing, or a refusal.
+    Replied(Reply),
+    /// A change that may be committed, the chunks that it writes, and its reply once it is.
+    Changes {
+        change: Change,
+        changed: Option<Changed>,
+        reply: Reply,
+    },
+}
+
+/// The chunks that come with a change that has no fault, and its reply once it is committed.
+pub(crate) struct Offer {
+    pub(crate) changed: Option<Changed>,
+    pub(crate) reply: Reply,
+}
+
+/// The outcome of a change that is offered or refused.
+pub(crate) fn outcome_with(change: Change, offer: Result<Offer, Reply>) -> Outcome
+    ensures { result ≡ outcome_with change offer }
+{
+    match offer {
+        Ok(Offer { changed, reply }) => Outcome::Changes {
+            change,
+            changed,
+            reply,
+        },
+        Err(reply) => {
+            let_go_change(change);
+            Outcome::Replied(reply)
+        }
+    }
+}

@@ -1,0 +1,173 @@
+//! Replies to queries.
+ghost use Rattle.std.specs.Prelude.{◌≡◌, ◌≤◌, ◌++◌, None, IfOk, OnOk, OnErr, IsTrue};
+ghost use Rattle.cell_values.specs.declared.schema.Schema.{Schema};
+ghost use Rattle.array_parts.specs.Cores.{HaveCells, cores_of};
+ghost use Rattle.check_exprs.specs.Laws.{leaves_fit};
+ghost use Rattle.afl_types.specs.Arrays.{AreValid};
+ghost use Rattle.afl_types.specs.Queries.{query_of};
+ghost use Rattle.logical_plan.specs.Meaning.{Database, Meant, meaning};
+ghost use Rattle.logical_plan.specs.PlanSchema.{schema_of};
+ghost use Rattle.chunk_source.specs.Faults.{Answers};
+ghost use Rattle.chunk_source.specs.Source.{AsksFront, Keeps};
+ghost use Rattle.chunk_exec.specs.Computed.{CanCompute, asked_for_plan};
+ghost use Rattle.chunk_exec.specs.Found.{HasSchema, IsFound};
+ghost use Rattle.chunk_exec.specs.Held.{HoldsCells, rows_held};
+ghost use Rattle.result_print.specs.declared.refusal.Refusal.TheVariants.{Cell};
+ghost use Rattle.statement_replies.specs.Kinds.{IsQueryReply, IsRowsOver, IsTextOrRefusal};
+ghost use Rattle.statement_replies.specs.Printed.{printed};
+ghost use Rattle.statement_replies.specs.Reading.{HoldsVersions, asked_for};
+ghost use Rattle.statement_replies.specs.Reply.{meant_reply, plan_reply};
+
+use crate::replies::replies::{Reply, refuse};
+use crate::replies::style::Style;
+use crate::replies::texts::text_of;
+use crate::replies::traces::lines_wanted;
+use afl_outside::Gate;
+use afl_trees::Tree;
+use afl_types::query_plan;
+use array_geom::ChunkedArray;
+use cell_values::{Broken, Bytes, Memory, copy_coord};
+use check_rules::TypeFault;
+use chunk_exec::{PlanArray, array_of};
+use chunk_source::{ChunkSource, ExecFault};
+use logical_plan::{Names, Plan, let_go};
+use result_print::Refusal;
+use std::alloc::Global;
+use std::thread::Threads;
+
+/// The reply to the tree of a query, over the arrays of a source that has the versions of these names: the first rule that it
+/// breaks, else its array's first fault, else its array's text in this style.
+pub fn reply_to_query<S: ChunkSource, R: Threads + Sync, G: Gate>(
+    rt: &R,
+    alloc: Global,
+    text: &[u8],
+    tree: &Tree,
+    names: &Names,
+    source: &mut S,
+    style: Style,
+    workers: u32,
+    session: u32,
+    gate: &G,
+) -> Result<Reply, ExecFault>
+    requires undamaged { (S.state source.old).damaged ≡ None }
+    requires fit { IsTrue (leaves_fit tree.now) }
+    requires valid { AreValid names.now.arrays }
+    requires holds { HoldsVersions names.now (S.state source.old) }
+    requires workers { (1 ≤ workers) × (workers ≤ 64) }
+    ensures reply { IfOk result (IsQueryReply style names.now (S.state source.old) tree.now) }
+    ensures asked { let old = S.state source.old in
+        let all = asked_for old (query_of names.now.arrays tree.now) in
+        OnOk result ((S.state source.new).asked ≡ old.asked ++ all) }
+    ensures front { let old = S.state source.old in
+        let all = asked_for old (query_of names.now.arrays tree.now) in
+        OnErr result (AsksFront all old (S.state source.new)) }
+    ensures kept { Keeps (S.state source.old) (S.state source.new) }
+    ensures cause { Answers (S.state source.old) (S.state source.new) result }
+    ensures start { S.start source.new ≡ S.start source.old }
+{
+    match query_plan(alloc, tree, text, names) {
+        Ok(plan) => {
+            let answer = answer_query(rt, alloc, &plan, source, style, workers, session, gate);
+            let_go(plan);
+            answer
+        }
+        Err(TypeFault::Rule { span, kind }) => Ok(refuse(alloc, Refusal::Typing { span, kind })?),
+        Err(TypeFault::Memory) => Err(ExecFault::Memory),
+    }
+}
+
+/// The reply to a query's plan, over the arrays of a source that has the versions which it reads: its array's first fault, or else
+/// its array's text in this style, and behind it a line for each leaf where the style wants them.
+pub fn answer_query<S: ChunkSource, R: Threads + Sync, G: Gate>(
+    rt: &R,
+    alloc: Global,
+    plan: &Plan,
+    source: &mut S,
+    style: Style,
+    workers: u32,
+    session: u32,
+    gate: &G,
+) -> Result<Reply, ExecFault>
+    requires undamaged { (S.state source.old).damaged ≡ None }
+    requires can { CanCompute (S.state source.old) plan.now }
+    requires workers { (1 ≤ workers) × (workers ≤ 64) }
+    ensures kind { IfOk result (IsRowsOver (S.state source.old) style plan.now) }
+    ensures told { IfOk result (λ reply. (db : Database) → (S.state source.old).tells db → reply ≡ plan_reply style db plan.now) }
+    ensures asked { OnOk result ((S.state source.new).asked ≡ (S.state source.old).asked ++ asked_for_plan (S.state source.old) plan.now) }
+    ensures front { let old = S.state source.old in OnErr result (AsksFront (asked_for_plan old plan.now) old (S.state source.new)) }
+    ensures kept { Keeps (S.state source.old) (S.state source.new) }
+    ensures cause { Answers (S.state source.old) (S.state source.new) result }
+    ensures start { S.start source.new ≡ S.start source.old }
+{
+    match array_of(rt, alloc, plan, source, workers, session, gate) {
+        Ok(found) => {
+            let answer = reply_with_lines(alloc, style, plan, source, &found);
+            drop(found);
+            answer
+        }
+        Err(fault) => Err(fault),
+    }
+}
+
+/// The reply that tells what a plan gives, and what it reads where the style wants that.
+fn reply_with_lines<S: ChunkSource>(
+    alloc: Global,
+    style: Style,
+    plan: &Plan,
+    source: &mut S,
+    found: &PlanArray,
+) -> Result<Reply, ExecFault>
+    requires can { CanCompute (S.state source.old) plan.now }
+    requires cells { HoldsCells found.now }
+    ensures kind { HasSchema (schema_of plan.now) (rows_held found.now) → IfOk result (IsRowsOver (S.state source.old) style plan.now) }
+    ensures told { IfOk result (λ reply. (db : Database) → (S.state source.old).tells db → IsFound (meaning db plan.now) (rows_held found.now)
+        → reply ≡ plan_reply style db plan.now) }
+    ensures asked { (S.state source.new).asked ≡ (S.state source.old).asked }
+    ensures kept { Keeps (S.state source.old) (S.state source.new) }
+    ensures cause { Answers (S.state source.old) (S.state source.new) result }
+    ensures start { S.start source.new ≡ S.start source.old }
+{
+    let lines = lines_wanted(alloc, style, plan, source)?;
+    Ok(reply_of(alloc, style, &lines, found)?)
+}
+
+/// The text of an array, and these lines behind it.
+fn text_with(
+    alloc: Global,
+    style: Style,
+    lines: &Bytes,
+    array: &ChunkedArray,
+) -> Result<Bytes, Memory>
+    requires { HaveCells array.now.schema array.now.margins.items array.now.chunks }
+    ensures { IfOk result (λ text. text ≡ printed style array.now.schema (cores_of array.now) ++ lines.now) }
+{
+    let mut text = text_of(alloc, style, array)?;
+    text.extend(lines.as_slice())?;
+    Ok(text)
+}
+
+/// Why an array that is broken is refused.
+fn cell_refusal(broken: &Broken) -> Refusal
+    ensures { result ≡ Cell broken.now.at broken.now.kind }
+{
+    Refusal::Cell {
+        at: copy_coord(&broken.at),
+        kind: broken.kind,
+    }
+}
+
+/// The reply that tells what a plan gives, with these lines behind a text.
+#[tactic(auto, using(crate::proofs::PlanReplies::fault_reply, crate::proofs::PlanReplies::rows_reply))]
+fn reply_of(alloc: Global, style: Style, lines: &Bytes, found: &PlanArray) -> Result<Reply, Memory>
+    requires { HoldsCells found.now }
+    ensures kind { (schema : Schema) → HasSchema schema (rows_held found.now) → IfOk result (IsTextOrRefusal style lines.now schema) }
+    ensures told { (meant : Meant) → IsFound meant (rows_held found.now) → IfOk result (λ reply. reply ≡ meant_reply style lines.now meant) }
+{
+    match found {
+        PlanArray::Fault(broken) => refuse(alloc, cell_refusal(broken)),
+        PlanArray::Whole(array) => Ok(Reply {
+            text: text_with(alloc, style, lines, array)?,
+            refusal: None,
+        }),
+    }
+}

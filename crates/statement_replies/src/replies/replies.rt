@@ -1,0 +1,25 @@
+//! A reply, and the reply that refuses.
+ghost use Rattle.std.specs.Prelude.{◌≡◌, IfOk};
+ghost use Rattle.statement_replies.specs.Reply.{refused};
+
+use cell_values::{Bytes, Memory};
+use result_print::{Refusal, refusal_line};
+use std::alloc::Global;
+
+/// What a statement is answered.
+#[derive(Debug, Drop)]
+pub struct Reply {
+    pub text: Bytes,
+    pub refusal: Option<Refusal>,
+}
+
+/// The reply that refuses.
+pub fn refuse(alloc: Global, refusal: Refusal) -> Result<Reply, Memory>
+    ensures { IfOk result (λ reply. reply ≡ refused refusal) }
+{
+    let text = refusal_line(alloc, &refusal)?;
+    Ok(Reply {
+        text,
+        refusal: Some(refusal),
+    })
+}

@@ -1,2 +1,0 @@
-pub use Rattle.prepared_commits.specs.Parts
-pub mod Left

@@ -1,5 +1,0 @@
-use Rattle.store_sealing.proofs.Lies.{found_versions_lie}
-use Rattle.store_sealing.proofs.images.found_versions_lie.Goals as goal
-
-pub returns : goal.returns
-returns c = found_versions_lie

@@ -1,0 +1,45 @@
+use Rattle.std.proofs.Common.{◌≡◌, ℕ, List, length, map, IfOk, sym, subst}
+use Rattle.chunk_map.specs.declared.directory.Directory.{Directory}
+use Rattle.page_slots.specs.declared.slots.slots.Target.{Target}
+use Rattle.store_versions.specs.Rows.{directory_in}
+use Rattle.prepared_commits.specs.At.{IsAt, keeping, standing}
+use Rattle.prepared_commits.specs.Needs.{needs_by, newest_now}
+use Rattle.prepared_commits.specs.Parts.{IsPreparedAs, IsLeft as IsLeftBy, newest_at}
+use Rattle.version_catalog.specs.Catalogs.{names_in}
+use Rattle.store_sealing.specs.Left.{IsLeft}
+use Rattle.store_sealing.proofs.Parts.{at_left, left_of, newest_rise, newest_same, two_lists}
+use Rattle.store_sealing.proofs.preparing.preparing.prepared_of.Goals as goal
+
+pub prepared_over-requires-clause-newest : goal.prepared_over-requires-clause-newest
+prepared_over-requires-clause-newest g c = newest_rise g.D.Disk.moment (standing g.D.Disk.moment c.args.parts.now) (keeping c.args.parts.now) c.args.change c.requires.at
+
+pub returns-in-Ok-clause-at : goal.returns-in-Ok-clause-at
+returns-in-Ok-clause-at g c =
+    two_lists c.args.parts.now.acked.items c.reserve_one.new.acked.items c.args.parts.now.made.items c.reserve_one.new.made.items
+    (λ fs ms. IsAt g.D.Disk.moment (record (standing g.D.Disk.moment c.args.parts.now) { ledger = c.prepared_over.new.ledger; acked = map (λ file. (g.D.Disk.moment file.value.disk).state.moment) fs; made = map (λ ready. directory_in ready.value) ms }) (keeping c.args.parts.now))
+    c.reserve_one.ensures.acked c.reserve_one.ensures.made
+    (at_left g.D.Disk.moment (needs_by c.target_of-target.result c.args.parts.now.catalog (newest_at (names_in c.args.parts.now.catalog) c.args.parts.now.table.rows (length c.args.parts.now.ledger.entries) c.args.change) c.args.change c.args.written)
+    (standing g.D.Disk.moment c.args.parts.now) (keeping c.args.parts.now) c.prepared_over.result c.prepared_over.new.ledger c.requires.at c.prepared_over.ensures.left)
+
+pub returns-in-Ok-clause-left : goal.returns-in-Ok-clause-left
+returns-in-Ok-clause-left g c =
+    let s = standing g.D.Disk.moment c.args.parts.now in
+    let newest : newest_at (names_in c.args.parts.now.catalog) c.args.parts.now.table.rows (length c.args.parts.now.ledger.entries) c.args.change ≡ newest_now s c.args.change
+    = newest_same g.D.Disk.moment s (keeping c.args.parts.now) c.args.change c.requires.at in
+    let left = subst (λ (d : Directory). IsLeftBy (needs_by c.args.parts.now.file.slots.target c.args.parts.now.catalog d c.args.change c.args.written) c.args.parts.now.ledger c.prepared_over.result c.prepared_over.new.ledger) newest
+    (subst (λ (t : Target). IsLeftBy (needs_by t c.args.parts.now.catalog (newest_at (names_in c.args.parts.now.catalog) c.args.parts.now.table.rows (length c.args.parts.now.ledger.entries) c.args.change) c.args.change c.args.written)
+    c.args.parts.now.ledger c.prepared_over.result c.prepared_over.new.ledger) c.target_of-target.ensures c.prepared_over.ensures.left) in
+    two_lists c.args.parts.now.acked.items c.reserve_one.new.acked.items c.args.parts.now.made.items c.reserve_one.new.made.items
+    (λ fs ms. IsLeft (needs_by c.args.parts.now.file.slots.target c.args.parts.now.catalog (newest_now s c.args.change) c.args.change c.args.written) s c.prepared_over.result
+    (record (standing g.D.Disk.moment c.args.parts.now) { ledger = c.prepared_over.new.ledger; acked = map (λ file. (g.D.Disk.moment file.value.disk).state.moment) fs; made = map (λ ready. directory_in ready.value) ms }))
+    c.reserve_one.ensures.acked c.reserve_one.ensures.made
+    (left_of (needs_by c.args.parts.now.file.slots.target c.args.parts.now.catalog (newest_now s c.args.change) c.args.change c.args.written) s c.prepared_over.result c.prepared_over.new.ledger left)
+
+pub returns-in-Ok-clause-ok : goal.returns-in-Ok-clause-ok
+returns-in-Ok-clause-ok g c =
+    let s = standing g.D.Disk.moment c.args.parts.now in
+    let newest : newest_at (names_in c.args.parts.now.catalog) c.args.parts.now.table.rows (length c.args.parts.now.ledger.entries) c.args.change ≡ newest_now s c.args.change
+    = newest_same g.D.Disk.moment s (keeping c.args.parts.now) c.args.change c.requires.at in
+    subst (λ (d : Directory). IfOk c.prepared_over.result (IsPreparedAs c.args.parts.now.file.slots.target c.args.sequence c.args.parts.now.catalog d (length c.args.parts.now.table.rows) c.args.change c.args.written c.args.session c.prepared_over.new.ledger)) newest
+    (subst (λ (t : Target). IfOk c.prepared_over.result (IsPreparedAs t c.args.sequence c.args.parts.now.catalog (newest_at (names_in c.args.parts.now.catalog) c.args.parts.now.table.rows (length c.args.parts.now.ledger.entries) c.args.change)
+    (length c.args.parts.now.table.rows) c.args.change c.args.written c.args.session c.prepared_over.new.ledger)) c.target_of-target.ensures c.prepared_over.ensures.ok)

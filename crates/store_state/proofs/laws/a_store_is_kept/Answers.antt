@@ -1,5 +1,0 @@
-use Rattle.store_state.proofs.WorkedCells.{store_is_at}
-use Rattle.store_state.proofs.laws.a_store_is_kept.Goals as goal
-
-pub returns : goal.returns
-returns c = store_is_at

@@ -1,0 +1,26 @@
+use Rattle.std.proofs.Common.{if◌then◌else◌, [], ◌∷◌}
+use Rattle.event_core.specs.declared.entry.Entry.TheVariants.{Reap}
+use Rattle.store_ledger.specs.Ledger.{with_entries}
+use Rattle.store_state.specs.At.{standing, keeping}
+use Rattle.store_state.proofs.AtOn.{at_reap_if, reaped_if, with_ledger}
+use Rattle.store_state.proofs.state.reaping.reap.Goals as goal
+
+pub returns-in-Ok-clause-at : goal.returns-in-Ok-clause-at
+returns-in-Ok-clause-at g c =
+    let moment = g.D.Disk.moment in
+    let old = c.args.parts.now in
+    let s = standing moment old in
+    with_ledger moment s (keeping old) c.reap.new.self (if c.in-Ok.comes then with_entries (Reap ∷ []) s.ledger else s.ledger) c.in-Ok.ensures.ok (at_reap_if moment s (keeping old) c.requires c.in-Ok.comes)
+
+pub returns-in-Ok-clause-ok : goal.returns-in-Ok-clause-ok
+returns-in-Ok-clause-ok g c =
+    let moment = g.D.Disk.moment in
+    let old = c.args.parts.now in
+    reaped_if (standing moment old) c.reap.new.self c.in-Ok.comes c.in-Ok.ensures.ok
+
+pub returns-in-Err-clause-at : goal.returns-in-Err-clause-at
+returns-in-Err-clause-at g c =
+    let moment = g.D.Disk.moment in
+    let old = c.args.parts.now in
+    let s = standing moment old in
+    with_ledger moment s (keeping old) c.reap.new.self s.ledger c.in-Err.ensures.err c.requires

@@ -1,5 +1,0 @@
-use Rattle.told_stores.proofs.Databases.{stores_have_databases}
-use Rattle.told_stores.proofs.told.laws.stores_have_databases.Goals as goal
-
-pub returns : goal.returns
-returns g c = stores_have_databases g.D.Disk.moment
